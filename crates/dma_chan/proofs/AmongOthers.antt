@@ -1,5 +1,5 @@
 -- A program that copies, over a memory that others write between its steps.
-use Rattle.std.proofs.Common.{◌≡◌, ℕ, zero, suc, ◌+◌, ◌≤◌, ◌<◌, true, List, [], ◌∷◌, length, get_or, refl, sym, ap, ◌∙◌, subst, arith, length-append, inl, inr, Option, Some, None, Result, Ok}
+use Rattle.std.proofs.Common.{◌≡◌, ℕ, zero, suc, ◌+◌, ◌≤◌, ◌<◌, true, List, [], ◌∷◌, length, get_or, refl, sym, ap, ◌∙◌, subst, arith, length-append, inl, inr, Bool, None, Result, Ok}
 use Rattle.std.specs.Prelude.{IsSomeAnd, slice_index_or}
 use Rattle.std.specs.List.{AllByRecursion}
 use Rattle.std.proofs.lemmas.Bool.{and_parts}
@@ -16,13 +16,14 @@ use Rattle.dma_chan.specs.declared.turn.FaultKind.{FaultKind}
 use Rattle.dma_chan.specs.Bursts.{touched}
 use Rattle.dma_chan.specs.Exec.{State, destination_of, state, act}
 use Rattle.dma_chan.specs.Channel.{ChannelValue, ahead_of, step_of, stepped, stored_by}
-use Rattle.dma_chan.specs.Explains.{Explains, GoesOn, IsIn, IsLoadedWith, StartsWith, Trace, after_insn, next_in, traced}
+use Rattle.dma_chan.specs.Explains.{Explains, IsIn, IsLoadedWith, IsWait, StartsWith, Trace, after_insn, next_in, traced}
 use Rattle.dma_chan.specs.Others.{Misses, Touches, CopiesAmongOthers}
 use Rattle.dma_chan.specs.Stepping.{Machine, answer_at, after_step}
 use Rattle.dma_chan.proofs.CallWrites.{Nexts, Goes, Ends, ahead_at, does_next, ends_then, inside, nexts, traced_next, turned}
 use Rattle.dma_chan.proofs.LayerLaws.{below_places, below_sources}
 use Rattle.dma_chan.proofs.CopyAlone.{laid_none}
-use Rattle.dma_chan.proofs.Traced.{Answers, Inside, Mirrors, answers, length_up}
+use Rattle.dma_chan.proofs.GoingOn.{Can, length_up}
+use Rattle.dma_chan.proofs.Traced.{Answers, Inside, Mirrors, answers}
 
 -- ---- what a transfer touches, in a memory that has its ranges
 
@@ -80,18 +81,18 @@ kept bus program t n first k image other c d w same unchanged fits =
     })
 
 -- how many bytes an instruction stores
-stored_insn : (wait signal : Option ℕ) (size : ℕ) (i : Insn) (x : Trace) → GoesOn wait signal size i x → length (after_insn i x).stores ≡ length x.stores + stored_by (Ok i) x.registers
-stored_insn wait signal size St x c = let b = destination_of x.registers in omega (arith, length-append x.stores (touched b), length_up b c.1)
-stored_insn wait signal size Ld x c = omega arith
-stored_insn wait signal size (Mov r v) x c = omega arith
-stored_insn wait signal size Rmb x c = omega arith
-stored_insn wait signal size Wmb x c = omega arith
-stored_insn wait signal size Nop x c = omega arith
-stored_insn wait signal size End x c = omega arith
-stored_insn wait signal size (Lp k n) x c = omega arith
-stored_insn wait signal size (LpEnd k b) x c = omega arith
-stored_insn wait signal size (Sev e) x c = omega arith
-stored_insn wait signal size (Wfe e v) x c = omega arith
+stored_insn : (i : Insn) (x : Trace) → Can i x → length (after_insn i x).stores ≡ length x.stores + stored_by (Ok i) x.registers
+stored_insn St x c = let b = destination_of x.registers in omega (arith, length-append x.stores (touched b), length_up b c.1)
+stored_insn Ld x c = omega arith
+stored_insn (Mov r v) x c = omega arith
+stored_insn Rmb x c = omega arith
+stored_insn Wmb x c = omega arith
+stored_insn Nop x c = omega arith
+stored_insn End x c = omega arith
+stored_insn (Lp k n) x c = omega arith
+stored_insn (LpEnd k b) x c = omega arith
+stored_insn (Sev e) x c = omega arith
+stored_insn (Wfe e v) x c = omega arith
 
 module _ (bus : Bus) (program : List ℕ) (t : Descriptor) (n : ℕ) (marks : MarkList) (first : List ℕ) (h : Explains bus program t n) (low : Fits t (length first)) where
   -- the program has ended, and all bytes are copied
@@ -103,7 +104,7 @@ module _ (bus : Bus) (program : List ℕ) (t : Descriptor) (n : ℕ) (marks : Ma
   -- what the answer of a step says
   abbrev pub After : ℕ → Machine → ChanTurn → Type 0
   After k u Moved = Among bus program t n first (suc k) (after_step marks u).image (after_step marks u).channel
-  After k u (Waiting e) = t.wait ≡ Some e
+  After k u (Waiting e) = IsWait bus program n e
   After k u Ended = Over (after_step marks u)
   After k u (Fault kind) = ¬ Misses marks t
 
@@ -111,14 +112,18 @@ module _ (bus : Bus) (program : List ℕ) (t : Descriptor) (n : ℕ) (marks : Ma
   pub stored_all : length (traced bus program n).stores ≡ size_of t
   stored_all = ap length h.stores
 
-  to : (k : ℕ) (u : Machine) (i : Insn) (turn : ChanTurn) → answer_at marks u ≡ turn → Among bus program t n first k u.image u.channel → k < n → next_in program (traced bus program k) ≡ Ok i → GoesOn t.wait t.signal (size_of t) i (traced bus program k) → Answers t first marks (traced bus program (suc k)) (turn, (step_of marks u.channel u.image u.flags).1) → After k u turn
+  waits_at : (k : ℕ) (i : Insn) (x : ℕ) → k < n → next_in program (traced bus program k) ≡ Ok i → (v : Bool) × (i ≡ Wfe x v) → IsWait bus program n x
+  waits_at k i x less next a =
+      record { step = k; within = less; invalid = a.0; waits = next ∙ ap (λ (j : Insn). Ok j) a.1 }
+
+  to : (k : ℕ) (u : Machine) (i : Insn) (turn : ChanTurn) → answer_at marks u ≡ turn → Among bus program t n first k u.image u.channel → k < n → next_in program (traced bus program k) ≡ Ok i → Can i (traced bus program k) → Answers t first marks i (traced bus program (suc k)) (turn, (step_of marks u.channel u.image u.flags).1) → After k u turn
   to k u i Moved e w less next go a =
       let c = u.channel in
       let ahead = ahead_at bus program k i c w.begins w.mirrors.registers_are next in
       let count : stored_by (ahead_of c) c.registers ≡ stored_by (Ok i) (traced bus program k).registers =
       ap (λ (r : Result Insn FaultKind). stored_by r c.registers) ahead ∙ ap (stored_by (Ok i)) w.mirrors.registers_are in
       let more : length (traced bus program (suc k)).stores ≡ length (traced bus program k).stores + stored_by (Ok i) (traced bus program k).registers =
-      ap (λ (y : Trace). length y.stores) (traced_next bus program t n h k i next) ∙ stored_insn t.wait t.signal (size_of t) i (traced bus program k) go in
+      ap (λ (y : Trace). length y.stores) (traced_next bus program t n h k i next) ∙ stored_insn i (traced bus program k) go in
       subst (Among bus program t n first (suc k) (after_step marks u).image) (sym (turned marks u Moved e)) (record {
         begins = w.begins;
         within = omega (arith, less);
@@ -126,11 +131,11 @@ module _ (bus : Bus) (program : List ℕ) (t : Descriptor) (n : ℕ) (marks : Ma
         stored = omega (arith, w.stored, count, more);
         mirrors = a;
       })
-  to k u i (Waiting x) e w less next go a = a
+  to k u i (Waiting x) e w less next go a = waits_at k i x less next a
   to k u i Ended e w less next go a = absurd a
   to k u i (Fault kind) e w less next go a = a
 
-  answers_at : (k : ℕ) (u : Machine) (i : Insn) → Among bus program t n first k u.image u.channel → k < n → next_in program (traced bus program k) ≡ Ok i → GoesOn t.wait t.signal (size_of t) i (traced bus program k) → Answers t first marks (traced bus program (suc k)) (step_of marks u.channel u.image u.flags)
+  answers_at : (k : ℕ) (u : Machine) (i : Insn) → Among bus program t n first k u.image u.channel → k < n → next_in program (traced bus program k) ≡ Ok i → Can i (traced bus program k) → Answers t first marks i (traced bus program (suc k)) (step_of marks u.channel u.image u.flags)
   answers_at k u i w less next go =
       let c = u.channel in
       let x = traced bus program k in
@@ -139,26 +144,26 @@ module _ (bus : Bus) (program : List ℕ) (t : Descriptor) (n : ℕ) (marks : Ma
       let m : Mirrors t first x x.registers c.buffer u.image = record { registers_are = refl; buffer_is = w.mirrors.buffer_is; few = w.mirrors.few; same = w.mirrors.same; fits = w.mirrors.fits } in
       let same = traced_next bus program t n h k i next in
       let all = answers t first marks h.copy low x c.buffer u.image u.flags m i (subst (Inside t) same (inside bus program t n h (suc k) (omega (arith, less)))) (inside bus program t n h k w.within) go in
-      subst (λ (y : Trace). Answers t first marks y (step_of marks c u.image u.flags)) (sym same) (subst (Answers t first marks (after_insn i x)) (sym does) all)
+      subst (λ (y : Trace). Answers t first marks i y (step_of marks c u.image u.flags)) (sym same) (subst (Answers t first marks i (after_insn i x)) (sym does) all)
 
   -- what the answer of a step before DMAEND says
   abbrev pub Before : ChanTurn → Type 0
   Before Moved = Unit {0}
-  Before (Waiting e) = t.wait ≡ Some e
+  Before (Waiting e) = IsWait bus program n e
   Before Ended = ⊥
   Before (Fault kind) = ¬ Misses marks t
 
-  went : (x : Trace) (turn : ChanTurn) (s : State) → Answers t first marks x (turn, s) → Before turn
-  went x Moved s a = tt
-  went x (Waiting e) s a = a
-  went x Ended s a = a
-  went x (Fault kind) s a = a
+  went : (k : ℕ) (i : Insn) (x : Trace) (turn : ChanTurn) (s : State) → k < n → next_in program (traced bus program k) ≡ Ok i → Answers t first marks i x (turn, s) → Before turn
+  went k i x Moved s less next a = tt
+  went k i x (Waiting e) s less next a = waits_at k i e less next a
+  went k i x Ended s less next a = a
+  went k i x (Fault kind) s less next a = a
 
   before_by : (k : ℕ) (u : Machine) (turn : ChanTurn) → answer_at marks u ≡ turn → Among bus program t n first k u.image u.channel → k < n → Nexts bus program t n k → Before turn
   before_by k u turn e w l (Ends last next) = absurd (omega (arith, l, last))
   before_by k u turn e w l (Goes i less next go) =
       let s = (step_of marks u.channel u.image u.flags).1 in
-      went (traced bus program (suc k)) turn s (subst (λ (v : ChanTurn). Answers t first marks (traced bus program (suc k)) (v, s)) e (answers_at k u i w less next go))
+      went k i (traced bus program (suc k)) turn s less next (subst (λ (v : ChanTurn). Answers t first marks i (traced bus program (suc k)) (v, s)) e (answers_at k u i w less next go))
 
   pub goes_on_at : (k : ℕ) (u : Machine) (turn : ChanTurn) → answer_at marks u ≡ turn → Among bus program t n first k u.image u.channel → k < n → Before turn
   goes_on_at k u turn e w l = before_by k u turn e w l (nexts bus program t n h k w.within)
@@ -166,7 +171,7 @@ module _ (bus : Bus) (program : List ℕ) (t : Descriptor) (n : ℕ) (marks : Ma
   by_next : (k : ℕ) (u : Machine) (turn : ChanTurn) → answer_at marks u ≡ turn → Among bus program t n first k u.image u.channel → Nexts bus program t n k → After k u turn
   by_next k u turn e w (Goes i less next go) =
       let s = (step_of marks u.channel u.image u.flags).1 in
-      to k u i turn e w less next go (subst (λ (v : ChanTurn). Answers t first marks (traced bus program (suc k)) (v, s)) e (answers_at k u i w less next go))
+      to k u i turn e w less next go (subst (λ (v : ChanTurn). Answers t first marks i (traced bus program (suc k)) (v, s)) e (answers_at k u i w less next go))
   by_next k u turn e w (Ends last next) =
       let c = u.channel in
       let ahead = ahead_at bus program k End c w.begins w.mirrors.registers_are next in

@@ -7,7 +7,7 @@ use Rattle.std.proofs.lemmas.List.Elements.{Contains-append_left, Contains-appen
 use Rattle.dma_insn.specs.declared.insn.Insn.{Insn}
 use Rattle.dma_insn.specs.declared.insn.Insn.TheVariants.{Mov, Ld, St, Rmb, Wmb, Nop, End, Lp, LpEnd, Sev, Wfe}
 use Rattle.dma_insn.specs.declared.insn.Reg.TheVariants.{Sar, Ccr, Dar}
-use Rattle.dma_mem.specs.Places.{Descriptor, destinations, size_of}
+use Rattle.dma_mem.specs.Places.{Descriptor, destinations}
 use Rattle.dma_mem.specs.Marking.{MarkList}
 use Rattle.dma_mem.specs.declared.marks.MarkKind.TheVariants.{Reading, Writing}
 use Rattle.dma_chan.specs.declared.bus.Bus.{Bus}
@@ -16,16 +16,16 @@ use Rattle.dma_chan.specs.declared.turn.ChanTurn.{ChanTurn}
 use Rattle.dma_chan.specs.declared.turn.ChanTurn.TheVariants.{Moved, Waiting, Ended, Fault}
 use Rattle.dma_chan.specs.declared.turn.FaultKind.{FaultKind}
 use Rattle.dma_chan.specs.Bursts.{burst_len, touched, reaches}
-use Rattle.dma_chan.specs.Exec.{State, source_of, destination_of, counter_of, act, exec_fetched, buffer_size}
+use Rattle.dma_chan.specs.Exec.{State, source_of, destination_of, counter_of, act, exec_fetched, buffer_size, moved}
 use Rattle.dma_chan.specs.Channel.{ChannelValue, ahead_of, bytes_of_program, state_of, step_of, after_turn, stored_by}
-use Rattle.dma_chan.specs.Explains.{Executes, Explains, GoesOn, IsIn, Proceeds, StartsWith, Trace, after_fetch, after_insn, next_in, traced}
+use Rattle.dma_chan.specs.Explains.{Executes, Explains, GoesOn, IsIn, StartsWith, Trace, after_fetch, after_insn, next_in, traced}
 use Rattle.dma_chan.specs.Bus.{accepts}
 use Rattle.dma_chan.specs.Next.{next_of}
 use Rattle.dma_chan.specs.NextWrites.{written_by, written_next}
 use Rattle.dma_chan.specs.Programs.{ProgramValue}
 use Rattle.dma_chan.specs.Stepping.{Machine, answer_at, after_step, after_steps, goes_on_after, written_after}
-use Rattle.dma_chan.specs.inner.At.{moved}
 use Rattle.dma_chan.specs.CallWrites.{CallWritesNoOther, LoadExecutes, CallStaysIn}
+use Rattle.dma_chan.proofs.GoingOn.{Can, can_next, few_at}
 use Rattle.dma_chan.proofs.Longer.{next-longer}
 use Rattle.dma_chan.proofs.ShapeLaws.{is_store}
 use Rattle.dma_chan.proofs.SteppedOver.{kept_outside, was_moved, went_before, writes_each}
@@ -66,7 +66,7 @@ act_leads marks End s = λ e. absurd (cc)
 
 -- the instruction after k others: it goes on, or it is DMAEND after all n
 pub data Nexts (bus : Bus) (program : List ℕ) (t : Descriptor) (n k : ℕ) : Type 0 where
-  Goes : (i : Insn) → k < n → next_in program (traced bus program k) ≡ Ok i → GoesOn t.wait t.signal (size_of t) i (traced bus program k) → Nexts bus program t n k
+  Goes : (i : Insn) → k < n → next_in program (traced bus program k) ≡ Ok i → Can i (traced bus program k) → Nexts bus program t n k
   Ends : k ≡ n → next_in program (traced bus program k) ≡ Ok End → Nexts bus program t n k
 
 next_alike : (program : List ℕ) (o : Option ProgramValue) (pc : ℕ) (i : Insn) → IsSomeAnd o (λ p. StartsWith p program) → next_of program pc ≡ Ok i → next_of (bytes_of_program o) pc ≡ Ok i
@@ -108,9 +108,9 @@ none_written (Sev e) r a ne w = omega (arith, w.1)
 none_written (Wfe e v) r a ne w = omega (arith, w.1)
 
 module _ (bus : Bus) (program : List ℕ) (t : Descriptor) (n : ℕ) (h : Explains bus program t n) where
-  fetched : (k : ℕ) → k < n → (r : Result Insn FaultKind) → next_in program (traced bus program k) ≡ r → Proceeds t.wait t.signal (size_of t) r (traced bus program k) → Nexts bus program t n k
-  fetched k l (Ok i) e go = Goes i l e go
-  fetched k l (Err kind) e go = absurd go
+  fetched : (k : ℕ) → k < n → (r : Result Insn FaultKind) → next_in program (traced bus program k) ≡ r → GoesOn r (traced bus program k) → Nexts bus program t n k
+  fetched k l (Ok i) e go = Goes i l e (can_next i (traced bus program k) (few_at bus program k (λ j m. h.goes j (omega arith))) go)
+  fetched k l (Err kind) e go = absurd (let bad = go.1 in cc)
 
   pub nexts : (k : ℕ) → k ≤ n → Nexts bus program t n k
   nexts k l =
@@ -175,7 +175,7 @@ module _ (bus : Bus) (program : List ℕ) (t : Descriptor) (n : ℕ) (h : Explai
   after_one marks k u Ended w e = inr (ap (λ (c : ChannelValue). c.program) (turned marks u Ended e))
 
   -- steps that all moved
-  many_in : (marks : MarkList) (s : Machine) (j : ℕ) → Executes bus program n s.channel → ((k : ℕ) → k < suc j → goes_on_after marks s k ≡ true) → Executes bus program n (after_steps marks s j).channel
+  pub many_in : (marks : MarkList) (s : Machine) (j : ℕ) → Executes bus program n s.channel → ((k : ℕ) → k < suc j → goes_on_after marks s k ≡ true) → Executes bus program n (after_steps marks s j).channel
   many_in marks s zero w moves = w
   many_in marks s (suc j) w moves =
       let u = after_steps marks s j in

@@ -17,7 +17,7 @@ use Rattle.dma_chan.specs.declared.turn.ChanTurn.TheVariants.{Moved, Waiting, En
 use Rattle.dma_chan.specs.declared.turn.FaultKind.{FaultKind}
 use Rattle.dma_chan.specs.Exec.{ChangesNothing, State}
 use Rattle.dma_chan.specs.Channel.{ChannelValue, ahead_of}
-use Rattle.dma_chan.specs.Explains.{Explains, GoesOn, IsLoadedWith, Trace, after_insn, next_in, traced}
+use Rattle.dma_chan.specs.Explains.{Explains, IsLoadedWith, IsSignal, IsWait, Trace, after_insn, next_in, traced}
 use Rattle.dma_chan.specs.Programs.{ProgramValue}
 use Rattle.dma_chan.specs.Stepping.{Machine, answer_at, after_step, after_steps, goes_on_after, signal_of, signal_after, TakesSteps}
 use Rattle.dma_chan.proofs.SteppedOver.{is_still, was_moved, went_before}
@@ -146,8 +146,8 @@ module _ (bus : Bus) (program : List ℕ) (t : Descriptor) (n : ℕ) (marks : Ma
       let turn : answer_at marks u ≡ Fault kind = cc in
       after w.0 u (Fault kind) turn w.1 none
 
-  -- a call that waits does so for the transfer's event
-  pub call_waits : (s v : Machine) (most taken e : ℕ) (last : Option ChanTurn) → Runs bus program t n first s → TakesSteps marks s most taken last v → last ≡ Some (Waiting e) → t.wait ≡ Some e
+  -- a call waits only for an event of the program
+  pub call_waits : (s v : Machine) (most taken e : ℕ) (last : Option ChanTurn) → Runs bus program t n first s → TakesSteps marks s most taken last v → last ≡ Some (Waiting e) → IsWait bus program n e
   call_waits s v most zero e last r steps is = absurd (let bad = sym steps.answer ∙ is in cc)
   call_waits s v most (suc p) e last r steps is =
       let u = after_steps marks s p in
@@ -173,25 +173,24 @@ module _ (bus : Bus) (program : List ℕ) (t : Descriptor) (n : ℕ) (marks : Ma
         ]
       ]
 
-  -- at the signal all bytes are stored
-  at_signal : (k : ℕ) (u : Machine) (e : ℕ) → ahead_of u.channel ≡ Ok (Sev e) → Among bus program t n first k u.image u.channel → Nexts bus program t n k → (t.signal ≡ Some e) × ((after_step marks u).channel.stored ≡ size_of t)
+  -- a signal comes after the bytes that are stored
+  at_signal : (k : ℕ) (u : Machine) (e : ℕ) → ahead_of u.channel ≡ Ok (Sev e) → Among bus program t n first k u.image u.channel → Nexts bus program t n k → IsSignal bus program n e (after_step marks u).channel.stored
   at_signal k u e sev w (Ends last next) =
       let bad : End ≡ Sev e = let same = sym (ahead_at bus program k End u.channel w.begins w.mirrors.registers_are next) ∙ sev in cc in absurd (cc)
   at_signal k u e sev w (Goes i less next go) =
       let is : i ≡ Sev e = let same = sym (ahead_at bus program k i u.channel w.begins w.mirrors.registers_are next) ∙ sev in cc in
-      let mine : GoesOn t.wait t.signal (size_of t) (Sev e) (traced bus program k) = subst (λ (j : Insn). GoesOn t.wait t.signal (size_of t) j (traced bus program k)) is go in
       let moves : answer_at marks u ≡ Moved = ap (λ (x : ChanTurn × State). x.0) (does_next marks (Sev e) u sev) in
       let later = moved_on k u w moves in
       let same : (traced bus program (suc k)).stores ≡ (traced bus program k).stores = ap (λ (x : Trace). x.stores) (traced_next bus program t n h k i next ∙ ap (λ (j : Insn). after_insn j (traced bus program k)) is) in
-      (mine.0, later.stored ∙ ap length same ∙ mine.1)
+      record { step = k; within = less; signals = next ∙ ap (λ (j : Insn). Ok j) is; after = sym (later.stored ∙ ap length same) }
 
-  pub signalled : (s v : Machine) (most taken : ℕ) (last : Option ChanTurn) (e : ℕ) → Runs bus program t n first s → TakesSteps marks s most taken last v → signal_after marks s taken ≡ Some e → (t.signal ≡ Some e) × (v.channel.stored ≡ size_of t)
+  pub signalled : (s v : Machine) (most taken : ℕ) (last : Option ChanTurn) (e : ℕ) → Runs bus program t n first s → TakesSteps marks s most taken last v → signal_after marks s taken ≡ Some e → IsSignal bus program n e v.channel.stored
   signalled s v most zero last e r steps signal = absurd (cc)
   signalled s v most (suc p) last e r steps signal =
       let u = after_steps marks s p in
       let w = many p s r steps.moves in
       let at = at_signal w.0 u e (is_signal (ahead_of u.channel) e signal) w.1 (nexts bus program t n h w.0 w.1.within) in
-      (at.0, ap (λ (x : Machine). x.channel.stored) steps.ends_at ∙ at.1)
+      subst (λ (x : Machine). IsSignal bus program n e x.channel.stored) (sym steps.ends_at) at
 
 -- ---- along the calls
 

@@ -1,5 +1,7 @@
--- A transfer explains its compiled program, on each bus that the program's beats fit.
-use Rattle.std.proofs.Common.{◌≡◌, ◌≢◌, ℕ, zero, suc, ◌+◌, ◌-◌, ◌≤◌, ◌<◌, List, ◌++◌, length, take, refl, sym, ap, ◌∙◌, subst, arith, Ok}
+-- On each bus a transfer explains its program that was compiled for that bus, which has its events.
+use Rattle.std.proofs.Common.{◌≡◌, ℕ, zero, suc, ◌+◌, ◌-◌, ◌≤◌, ◌<◌, List, ◌++◌, length, take, refl, sym, ap, ◌∙◌, subst, arith, Ok, ◌≢◌, Bool, true, false, cond, ◌&&◌, Option, Some, None, inl, inr}
+use Rattle.std.specs.Prelude.{IfSome, nat_lt}
+use Rattle.std.proofs.lemmas.Bool.{cases_lt, le-ltb}
 use Rattle.std.proofs.lemmas.List.{length-take-le, take_all}
 use Rattle.std.proofs.Math.Seq.{take-add}
 use Rattle.dma_insn.specs.declared.insn.Reg.TheVariants.{Sar, Dar, Ccr}
@@ -10,21 +12,24 @@ use Rattle.dma_mem.specs.Rules.{IsTransfer}
 use Rattle.dma_chan.specs.declared.bus.Bus.{Bus}
 use Rattle.dma_chan.specs.declared.bus.Bus.TheVariants.{Ideal}
 use Rattle.dma_chan.specs.declared.exec.Registers.{Registers}
+use Rattle.dma_chan.specs.declared.explain.Cause.TheVariants.{Fails, LoadsPast, StoresPast, StoresFixed}
+use Rattle.dma_chan.specs.declared.turn.FaultKind.TheVariants.{OperandInvalid, MfifoErr, StDataUnavailable, InstrFetchErr}
 use Rattle.dma_chan.specs.Bursts.{burst_len, touched}
 use Rattle.dma_chan.specs.Bus.{accepts}
-use Rattle.dma_chan.specs.Compiled.{compiled, cost, members}
-use Rattle.dma_chan.specs.Exec.{start, counter_of, source_of, destination_of}
-use Rattle.dma_chan.specs.Explains.{CompiledExplained, CompiledOnBus, GoesOn, IsAlignedTo, MovesAligned, Proceeds, Trace, after_fetch, after_insn, next_in, traced, untraced}
+use Rattle.dma_chan.specs.Compiled.{compiled, compiled_on, cost, cost_on, members_on, tree_on}
+use Rattle.dma_chan.specs.Exec.{buffer_size, start_on, counter_of, source_of, destination_of, moved}
+use Rattle.dma_chan.specs.Explains.{CompiledEvents, CompiledExplained, CompiledOnBus, GoesOn, Trace, held, passes, stop_of, stop_of_insn, stop_of_mov, after_fetch, after_insn, next_in, traced, untraced}
 use Rattle.dma_chan.specs.Next.{next_of}
-use Rattle.dma_chan.specs.Traffic.{member, read_len, write_len, stored_after}
-use Rattle.dma_chan.specs.inner.At.{moved, moved_by}
+use Rattle.dma_chan.specs.Tree.{bytes_of}
+use Rattle.dma_chan.specs.Traffic.{read_len, write_len}
+use Rattle.dma_chan.specs.inner.At.{moved_by}
 use Rattle.dma_chan.proofs.BurstsInTurn.{Progress, advanced, CarriesOne}
 use Rattle.dma_chan.proofs.ControlWords.{aligned_len, touched_from}
-use Rattle.dma_chan.proofs.LayerLaws.{bytes_compiled}
-use Rattle.dma_chan.proofs.MembersByNumber.{at, at_begin, at_bus, at_next, at_registers, at_stored, carries_next, next_at}
-use Rattle.dma_chan.proofs.OnBuses.{explained_on_bus}
-use Rattle.dma_chan.proofs.ShapeLaws.{shape_is, stored_is}
-use Rattle.dma_chan.proofs.TreeCosts.{cost_is}
+use Rattle.dma_chan.proofs.GoingOn.{ends_low, mov_empty, passed}
+use Rattle.dma_chan.proofs.MemberActs.{cannot_jump}
+use Rattle.dma_chan.proofs.MembersByNumber.{at_on, begin_on, bus_on, carries_on, fetches_on, member_on, next_on, registers_on}
+use Rattle.dma_chan.proofs.ShapeLaws.{all_stored, end_last, end_only, signal_last, signal_only, wait_first, wait_only}
+use Rattle.dma_chan.proofs.TreeCosts.{cost_below, some_on}
 use Rattle.dma_chan.proofs.TreeWalk.{CanJump}
 
 -- a trace of a part of a copy, by the bytes stored and those in the buffer
@@ -35,7 +40,7 @@ pub record Traces (src dst : List ℕ) (p : Progress) (x : Trace) : Type 0 where
   pub in_src : p.stored + p.held ≤ length src
   pub in_dst : p.stored ≤ length dst
 
-module _ (src dst : List ℕ) (p : Progress) (x : Trace) (w : Traces src dst p x) where
+module _ (bus : Bus) (src dst : List ℕ) (p : Progress) (x : Trace) (w : Traces src dst p x) where
   all_loads : length x.loads ≡ p.stored + p.held
   all_loads = ap length w.loads ∙ length-take-le (p.stored + p.held) src w.in_src
 
@@ -49,7 +54,7 @@ module _ (src dst : List ℕ) (p : Progress) (x : Trace) (w : Traces src dst p x
   same_insn : (i : Insn) → Traces src dst (record p { registers = moved i p.registers }) (record { registers = moved i x.registers; loads = x.loads; stores = x.stores })
   same_insn i = record { registers = ap (moved i) w.registers; loads = w.loads; stores = w.stores; in_src = w.in_src; in_dst = w.in_dst }
 
-  load : CarriesOne src dst Ld p → Traces src dst (advanced Ld p) (after_insn Ld x)
+  load : CarriesOne bus src dst Ld p → Traces src dst (advanced Ld p) (after_insn Ld x)
   load c =
       let k = read_len p.registers.ccr in
       let e : p.stored ≡ p.stored + p.held = omega (arith, c.empty) in
@@ -66,7 +71,7 @@ module _ (src dst : List ℕ) (p : Progress) (x : Trace) (w : Traces src dst p x
         in_dst = w.in_dst;
       }
 
-  store : CarriesOne src dst St p → Traces src dst (advanced St p) (after_insn St x)
+  store : CarriesOne bus src dst St p → Traces src dst (advanced St p) (after_insn St x)
   store c =
       let k = write_len p.registers.ccr in
       let len : burst_len (destination_of p.registers) ≡ k = aligned_len p.registers.bus 14 p.registers.dar p.registers.ccr c.aligned in
@@ -82,7 +87,7 @@ module _ (src dst : List ℕ) (p : Progress) (x : Trace) (w : Traces src dst p x
         in_dst = c.whole;
       }
 
-  advances : (i : Insn) → CarriesOne src dst i p → Traces src dst (advanced i p) (after_insn i x)
+  advances : (i : Insn) → CarriesOne bus src dst i p → Traces src dst (advanced i p) (after_insn i x)
   advances Ld c = load c
   advances St c = store c
   advances (Mov r v) c = same_insn (Mov r v)
@@ -95,107 +100,146 @@ module _ (src dst : List ℕ) (p : Progress) (x : Trace) (w : Traces src dst p x
   advances (Sev e) c = same_insn (Sev e)
   advances (Wfe e v) c = same_insn (Wfe e v)
 
-module _ (t : Descriptor) (h : IsTransfer t) where
+-- an instruction that is carried is part of a copy, unless it is DMAEND
+module _ (bus : Bus) (src dst : List ℕ) (p : Progress) (loads stores : List ℕ) (full : length loads - length stores ≡ p.held) (on : p.registers.bus ≡ bus) where
+  abbrev here : Trace
+  here = record { registers = p.registers; loads = loads; stores = stores }
+
+  passes_on : (i : Insn) → i ≢ End → CarriesOne bus src dst i p → CanJump i p.registers → stop_of_insn i here ≡ None
+  passes_on Ld ne c j =
+      let b = source_of p.registers in
+      let len : burst_len b ≡ read_len p.registers.ccr = aligned_len p.registers.bus 0 p.registers.sar p.registers.ccr c.aligned in
+      passed (nat_lt buffer_size (held here + burst_len b)) (Fails MfifoErr) _ (le-ltb buffer_size (held here + burst_len b) (omega (arith, full, len, c.room, c.empty)))
+      (passed (passes b) LoadsPast None (ends_low b c.ends) refl)
+  passes_on St ne c j =
+      let b = destination_of p.registers in
+      let len : burst_len b ≡ write_len p.registers.ccr = aligned_len p.registers.bus 14 p.registers.dar p.registers.ccr c.aligned in
+      passed (nat_lt (held here) (burst_len b)) (Fails StDataUnavailable) _ (le-ltb (held here) (burst_len b) (omega (arith, full, len, c.held)))
+      (passed (passes b) StoresPast _ (ends_low b c.ends) (ap (λ (up : Bool). cond up None (Some StoresFixed)) c.rises))
+  passes_on (Mov Ccr v) ne c j =
+      let taken : accepts p.registers.bus v ≡ true = ap (λ (b : Bus). accepts b v) on ∙ c.0 in
+      ap (λ (b : Bool). cond b (stop_of_mov (Mov Ccr v) here) (Some (Fails OperandInvalid))) taken ∙ mov_empty (Mov Ccr v) here (full ∙ c.1)
+  passes_on (Mov Dar v) ne c j = mov_empty (Mov Dar v) here (full ∙ c)
+  passes_on (Mov Sar v) ne c j = refl
+  passes_on (LpEnd d back) ne c j =
+      let n = counter_of d p.registers in
+      passed (nat_lt 0 n && nat_lt p.registers.pc back) (Fails InstrFetchErr) None (cannot_jump n p.registers.pc back j) refl
+  passes_on End ne c j = absurd (ne refl)
+  passes_on i ne c j = refl
+
+module _ (bus : Bus) (t : Descriptor) (h : IsTransfer t) where
   abbrev pub program : List ℕ
-  program = (compiled t).bytes
+  program = (compiled_on bus t).bytes
+
+  bytes_are : program ≡ bytes_of (tree_on bus t)
+  unfolding compiled_on
+  bytes_are = refl
 
   -- how far the trace is
   abbrev pub TracesAt : ℕ → Type 0
-  TracesAt k = Traces (sources t) (destinations t) (at t k) (traced Ideal program k)
+  TracesAt k = Traces (sources t) (destinations t) (at_on bus t k) (traced bus program k)
 
-  pub next : (k : ℕ) → k < cost t → TracesAt k → next_in program (traced Ideal program k) ≡ Ok (member t k)
+  pub next : (k : ℕ) → k < cost_on bus t → TracesAt k → next_in program (traced bus program k) ≡ Ok (member_on bus t k)
   next k l w =
-      ap (λ (r : Registers). next_of program r.pc) (w.registers ∙ at_registers t k)
-      ∙ ap (λ (xs : List ℕ). next_of xs (moved_by (take k (members t)) start).pc) (bytes_compiled t)
-      ∙ (next_at t k h l).next
+      ap (λ (r : Registers). next_of program r.pc) (w.registers ∙ registers_on bus t k)
+      ∙ ap (λ (xs : List ℕ). next_of xs (moved_by (take k (members_on bus t)) (start_on bus)).pc) bytes_are
+      ∙ (fetches_on bus t k h l).next
 
   begins : TracesAt 0
-  begins = subst (λ (p : Progress). Traces (sources t) (destinations t) p (untraced Ideal)) (sym (at_begin t)) (record { registers = refl; loads = refl; stores = refl; in_src = omega arith; in_dst = omega arith })
+  begins = subst (λ (p : Progress). Traces (sources t) (destinations t) p (untraced bus)) (sym (begin_on bus t)) (record { registers = refl; loads = refl; stores = refl; in_src = omega arith; in_dst = omega arith })
 
-  pub along : (k : ℕ) → k < cost t → TracesAt k
+  pub along : (k : ℕ) → k < cost_on bus t → TracesAt k
   along zero l = begins
   along (suc k) l =
-      let less : k < cost t = omega arith in
+      let less : k < cost_on bus t = omega arith in
       let w = along k less in
+      let i = member_on bus t k in
       let e : k + 1 ≡ suc k = omega arith in
-      let is : at t (suc k) ≡ advanced (member t k) (at t k) = ap (at t) (sym e) ∙ at_next t k less in
-      let to : traced Ideal program (suc k) ≡ after_insn (member t k) (traced Ideal program k) = ap (λ r. after_fetch r (traced Ideal program k)) (next k less w) in
-      subst (λ (p : Progress). Traces (sources t) (destinations t) p (traced Ideal program (suc k))) (sym is)
-      (subst (λ (x : Trace). Traces (sources t) (destinations t) (advanced (member t k) (at t k)) x) (sym to)
-      (advances (sources t) (destinations t) (at t k) (traced Ideal program k) w (member t k) (carries_next t k h less)))
+      let is : at_on bus t (suc k) ≡ advanced i (at_on bus t k) = ap (at_on bus t) (sym e) ∙ next_on bus t k less in
+      let to : traced bus program (suc k) ≡ after_insn i (traced bus program k) = ap (λ r. after_fetch r (traced bus program k)) (next k less w) in
+      subst (λ (p : Progress). Traces (sources t) (destinations t) p (traced bus program (suc k))) (sym is)
+      (subst (λ (x : Trace). Traces (sources t) (destinations t) (advanced i (at_on bus t k)) x) (sym to)
+      (advances bus (sources t) (destinations t) (at_on bus t k) (traced bus program k) w i (carries_on bus t k h less)))
 
-  -- each member goes on
-  goes : (k : ℕ) → (l : k + 1 < cost t) → (i : Insn) → member t k ≡ i → CarriesOne (sources t) (destinations t) i (at t k) → CanJump i (at t k).registers → GoesOn t.wait t.signal (size_of t) i (traced Ideal program k)
-  goes k l Ld e c j =
-      let w = along k (omega arith) in
-      let p = at t k in
-      let len : burst_len (source_of (traced Ideal program k).registers) ≡ read_len p.registers.ccr =
-      ap (λ (r : Registers). burst_len (source_of r)) w.registers ∙ aligned_len p.registers.bus 0 p.registers.sar p.registers.ccr c.aligned in
-      omega (arith, len, c.room, c.empty, all_loads (sources t) (destinations t) p (traced Ideal program k) w, all_stores (sources t) (destinations t) p (traced Ideal program k) w)
-  goes k l St e c j =
-      let w = along k (omega arith) in
-      let p = at t k in
-      let len : burst_len (destination_of (traced Ideal program k).registers) ≡ write_len p.registers.ccr =
-      ap (λ (r : Registers). burst_len (destination_of r)) w.registers ∙ aligned_len p.registers.bus 14 p.registers.dar p.registers.ccr c.aligned in (
-        omega (arith, len, c.held, all_loads (sources t) (destinations t) p (traced Ideal program k) w, all_stores (sources t) (destinations t) p (traced Ideal program k) w),
-        ap (λ (r : Registers). (destination_of r).increments) w.registers ∙ c.rises,
-      )
-  goes k l (Mov Ccr v) e c j =
-      let w = along k (omega arith) in
-      ap (λ (r : Registers). accepts r.bus v) w.registers ∙ ap (λ (b : Bus). accepts b v) (at_bus t k) ∙ c
-  goes k l (Mov Sar v) e c j = tt
-  goes k l (Mov Dar v) e c j = tt
-  goes k l (LpEnd d back) e c j =
-      let w = along k (omega arith) in
-      subst (λ (r : Registers). 0 < counter_of d r → back ≤ r.pc) (sym w.registers) (λ some. j (λ none. omega (arith, some, none)))
-  goes k l (Wfe v inv) e c j =
-      let only = (shape_is t h).wait_only k v inv e in
-      (only.1, ap (λ (n : ℕ). length (traced Ideal program n).loads) only.0)
-  goes k l (Sev v) e c j =
-      let only = (shape_is t h).signal_only k v e in
-      let w = along k (omega arith) in
-      let last : k + 1 ≡ cost t - 1 = omega (arith, only.0) in
-      let no_store : member t k ≢ St = λ f. let bad : Sev v ≡ St = sym e ∙ f in cc in (
-        only.1,
-        all_stores (sources t) (destinations t) (at t k) (traced Ideal program k) w ∙ at_stored t k ∙ sym ((stored_is t h).by_other k no_store) ∙ ap (stored_after t) last ∙ (stored_is t h).all,
-      )
-  goes k l End e c j = let last : k + 1 ≡ cost t = (shape_is t h).end_only k (omega arith) e in omega (arith, last)
-  goes k l (Lp d n) e c j = tt
-  goes k l Rmb e c j = tt
-  goes k l Wmb e c j = tt
-  goes k l Nop e c j = tt
+  stored_at : (k : ℕ) → k < cost_on bus t → length (traced bus program k).stores ≡ (at_on bus t k).stored
+  stored_at k l = all_stores bus (sources t) (destinations t) (at_on bus t k) (traced bus program k) (along k l)
 
-pub compiled_explained : CompiledExplained
-compiled_explained t h =
-    let some = (shape_is t h).some in
-    let last = cost t - 1 in
-    let w = along t h last (omega arith) in
-    let stored : (at t last).stored ≡ size_of t = at_stored t last ∙ (stored_is t h).all in
+  held_at : (k : ℕ) → k < cost_on bus t → held (traced bus program k) ≡ (at_on bus t k).held
+  held_at k l = omega (arith, stored_at k l, all_loads bus (sources t) (destinations t) (at_on bus t k) (traced bus program k) (along k l))
+
+  pub fetched : (k : ℕ) → k < cost_on bus t → next_in program (traced bus program k) ≡ Ok (member_on bus t k)
+  fetched k l = next k l (along k l)
+
+  -- each member but the last goes on
+  goes : (k : ℕ) → k + 1 < cost_on bus t → GoesOn (next_in program (traced bus program k)) (traced bus program k)
+  goes k l =
+      let less : k < cost_on bus t = omega arith in
+      let x = traced bus program k in
+      let w = along k less in
+      let p = at_on bus t k in
+      let jump = subst (λ (r : Registers). CanJump (member_on bus t k) r) (sym (registers_on bus t k)) (fetches_on bus t k h less).jump in (
+        λ over.
+            let ended : Ok (member_on bus t k) ≡ Ok End = sym (fetched k less) ∙ over in
+            let is : member_on bus t k ≡ End = cc in
+            omega (arith, end_only bus t k less is),
+        subst (λ next. stop_of next x ≡ None) (sym (fetched k less))
+            (subst (λ (r : Registers). stop_of_insn (member_on bus t k) (record x { registers = r }) ≡ None) (sym w.registers)
+            (passes_on bus (sources t) (destinations t) p x.loads x.stores (held_at k less) (bus_on bus t k) (member_on bus t k) (λ e. let last = end_only bus t k less e in omega (arith, last)) (carries_on bus t k h less) jump)),
+      )
+
+  -- the first instruction waits, and the last before DMAEND signals
+  pub is_member : (k : ℕ) (i : Insn) → k < cost_on bus t → next_in program (traced bus program k) ≡ Ok i → member_on bus t k ≡ i
+  is_member k i l e = let same : Ok (member_on bus t k) ≡ Ok i = sym (fetched k l) ∙ e in cc
+
+  signalled : (k e : ℕ) → k + 2 ≡ cost_on bus t → member_on bus t k ≡ Sev e → length (traced bus program k).stores ≡ size_of t
+  signalled k e last is =
+      let next_last : k + 1 ≡ cost_on bus t - 1 = omega (arith, last) in
+      let still : (at_on bus t (k + 1)).stored ≡ (at_on bus t k).stored =
+      ap (λ (p : Progress). p.stored) (next_on bus t k (omega (arith, last))) ∙ ap (λ (i : Insn). (advanced i (at_on bus t k)).stored) is in
+      stored_at k (omega (arith, last)) ∙ sym still ∙ ap (λ (n : ℕ). (at_on bus t n).stored) next_last ∙ all_stored bus t h
+
+pub compiled_on_bus : CompiledOnBus
+compiled_on_bus bus t h =
+    let some = some_on bus t in
+    let last = cost_on bus t - 1 in
+    let w = along bus t h last (omega arith) in
+    let stored = all_stored bus t h in
     record {
-      goes = λ k l.
-          let here = along t h k (omega arith) in
-          subst (λ r. Proceeds t.wait t.signal (size_of t) r (traced Ideal (compiled t).bytes k)) (sym (next t h k (omega arith) here))
-          (goes t h k (omega arith) (member t k) refl (carries_next t k h (omega arith)) (subst (λ (r : Registers). CanJump (member t k) r) (sym (at_registers t k)) (next_at t k h (omega arith)).jump));
-      ends = next t h last (omega arith) w ∙ ap (λ (i : Insn). Ok i) (shape_is t h).end_last;
+      goes = λ k l. goes bus t h k (omega arith);
+      ends = fetched bus t h last (omega arith) ∙ ap (λ (i : Insn). Ok i) (end_last bus t h);
       loads = w.loads ∙ take_all _ (sources t) (omega (arith, stored, h.same_length));
       stores = w.stores ∙ take_all _ (destinations t) (omega (arith, stored));
-      few = let low = cost_is t h in omega arith;
+      few = let low = cost_below bus t h in omega arith;
       copy = record { same_length = h.same_length; once = h.once; apart = h.apart };
     }
 
--- each burst begins at a multiple of its beat's size
-aligned_insn : (src dst : List ℕ) (i : Insn) (p : Progress) → CarriesOne src dst i p → MovesAligned (Ok i) p.registers
-aligned_insn src dst Ld p c = c.aligned
-aligned_insn src dst St p c = c.aligned
-aligned_insn src dst i p c = tt
+pub compiled_explained : CompiledExplained
+unfolding compiled cost
+compiled_explained t h = compiled_on_bus Ideal t h
 
-pub compiled_aligned : (t : Descriptor) → IsTransfer t → IsAlignedTo (compiled t).bytes (cost t)
-compiled_aligned t h = λ k l.
-    let w = along t h k l in
-    subst (λ r. MovesAligned r (traced Ideal (compiled t).bytes k).registers) (sym (next t h k l w))
-    (subst (λ (r : Registers). MovesAligned (Ok (member t k)) r) (sym w.registers)
-    (aligned_insn (sources t) (destinations t) (member t k) (at t k) (carries_next t k h l)))
-
-pub compiled_on_bus : CompiledOnBus
-compiled_on_bus bus t h fit =
-    explained_on_bus bus (compiled t).bytes t (cost t - 1) (compiled_explained t h) fit (λ k l. compiled_aligned t h k (omega arith))
+pub compiled_events : CompiledEvents
+compiled_events bus t h = record {
+  waits = λ e w. wait_only bus t w.step e w.invalid (is_member bus t h w.step (Wfe e w.invalid) (let l = w.within in omega arith) w.waits);
+  signals = λ e stored s.
+      let is = is_member bus t h s.step (Sev e) (let l = s.within in omega arith) s.signals in
+      let only = signal_only bus t s.step e is in
+      (only.1, sym s.after ∙ signalled bus t h s.step e only.0 is);
+  has_wait = λ e known.
+      let is = subst (λ (o : Option ℕ). IfSome o (λ v. member_on bus t 0 ≡ Wfe v false)) known (wait_first bus t) in
+      let some = some_on bus t in
+      elim (cases_lt 1 (cost_on bus t)) [
+        | inl more ↦ record { step = 0; within = omega arith; invalid = false; waits = fetched bus t h 0 (omega arith) ∙ ap (λ (i : Insn). Ok i) is }
+        | inr one ↦
+            let zero_last : cost_on bus t - 1 ≡ 0 = omega arith in
+            let bad : End ≡ Wfe e false = sym (end_last bus t h) ∙ ap (member_on bus t) zero_last ∙ is in
+            absurd (cc)
+      ];
+  has_signal = λ e known.
+      let last = subst (λ (o : Option ℕ). IfSome o (λ v. (2 ≤ cost_on bus t) × (member_on bus t (cost_on bus t - 2) ≡ Sev v))) known (signal_last bus t) in
+      record {
+        step = cost_on bus t - 2;
+        within = omega (arith, last.0);
+        signals = fetched bus t h (cost_on bus t - 2) (omega (arith, last.0)) ∙ ap (λ (i : Insn). Ok i) last.1;
+        after = signalled bus t h (cost_on bus t - 2) e (omega (arith, last.0)) last.1;
+      };
+}

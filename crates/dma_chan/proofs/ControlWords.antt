@@ -1,9 +1,9 @@
 -- The control words of a compiled program.
-use Rattle.std.proofs.Common.{◌≡◌, ℕ, ◌+◌, ◌-◌, ◌*◌, ◌/◌, ◌%◌, ◌^◌, ◌≤◌, ◌<◌, Bool, true, false, cond, zero, suc, refl, sym, ap, ◌∙◌, arith, Some, List, [], ◌∷◌}
+use Rattle.std.proofs.Common.{◌≡◌, ℕ, ◌+◌, ◌-◌, ◌*◌, ◌/◌, ◌%◌, ◌^◌, ◌≤◌, ◌<◌, Bool, true, false, cond, zero, suc, refl, sym, ap, ◌∙◌, arith, Some, List, [], ◌∷◌, inl, inr}
 use Rattle.std.specs.Prelude.{◌==◌, ◌&&◌, nat_le, not, replicate}
 use Rattle.std.specs.List.{flat_map, range_with_len}
-use Rattle.std.proofs.lemmas.Nat.{mod_below, pow_pos}
-use Rattle.std.proofs.lemmas.Bool.{eqb-true}
+use Rattle.std.proofs.lemmas.Nat.{mod_below, pow_below, pow_pos}
+use Rattle.std.proofs.lemmas.Bool.{cases_lt, eqb-true, le-leb, leb-true}
 use Rattle.std.proofs.Math.Nat.{add-mod-mod, mod-one, mul-mod_left, zero-mod}
 use Rattle.dma_insn.specs.declared.control.BeatSize.{BeatSize}
 use Rattle.dma_insn.specs.declared.control.BeatSize.TheVariants.{One, Two, Four, Eight, Sixteen}
@@ -11,10 +11,11 @@ use Rattle.dma_insn.specs.declared.control.BurstEnd.{BurstEnd}
 use Rattle.dma_insn.specs.ControlWord.{control_of, is_control, end_at, field, size_of, beat_bytes, bits_of, end_bits}
 use Rattle.dma_chan.specs.declared.bus.Bus.{Bus}
 use Rattle.dma_chan.specs.declared.bus.Bus.TheVariants.{Ideal, Chip}
+use Rattle.dma_chan.specs.Bus.{accepts, bus_code, widest_beat}
 use Rattle.dma_chan.specs.declared.pieces.Piece.{Piece}
 use Rattle.dma_chan.specs.Compiled.{beat_of, control_word, fits, size_code}
 use Rattle.dma_chan.specs.declared.bursts.Burst.{Burst}
-use Rattle.dma_chan.specs.Bursts.{IsAligned, burst_at, burst_len, skip_of, touched, advance}
+use Rattle.dma_chan.specs.Bursts.{IsAligned, burst_at, burst_len, skip_of, span_of, touched, advance}
 use Rattle.dma_chan.specs.Traffic.{len_by}
 use Rattle.dma_chan.specs.inner.Spans.{MovesSome}
 use Rattle.dma_chan.proofs.CutPlaces.{run_of, way}
@@ -94,6 +95,17 @@ moves_some bus k a w =
 pub advance_up : (b : Burst) (n : ℕ) → b.increments ≡ true → burst_len b ≡ n → advance b ≡ n
 advance_up b n e len = rw e len
 
+-- how many addresses the source of such a burst touches: one in a fill
+abbrev pub span : Bool → ℕ → ℕ
+span true n = 1
+span false n = n
+
+span_up : (b : Burst) (n : ℕ) → b.increments ≡ true → burst_len b ≡ n → span_of b ≡ n
+span_up b n e len = rw e len
+
+span_fixed : (b : Burst) (n : ℕ) → b.increments ≡ false → b.size ≡ n → span_of b ≡ n
+span_fixed b n e size = rw e size
+
 advance_fixed : (b : Burst) → b.increments ≡ false → advance b ≡ 0
 advance_fixed b e = rw e refl
 
@@ -112,11 +124,13 @@ pub record Moves (fill : Bool) (b w n : ℕ) : Type 0 where
   pub writes : len_by 14 w ≡ n
   pub source : (bus : Bus) (a : ℕ) → a % b ≡ 0 → touched (burst_at bus 0 a w) ≡ run_of fill a n
   pub source_way : (bus : Bus) (a : ℕ) → a % b ≡ 0 → advance (burst_at bus 0 a w) ≡ way fill n
+  pub source_span : (bus : Bus) (a : ℕ) → a % b ≡ 0 → span_of (burst_at bus 0 a w) ≡ span fill n
   pub source_fits : (bus : Bus) (a : ℕ) → a % b ≡ 0 → IsAligned (burst_at bus 0 a w)
+  pub destination_span : (bus : Bus) (a : ℕ) → a % b ≡ 0 → span_of (burst_at bus 14 a w) ≡ n
   pub destination_up : (bus : Bus) (a : ℕ) → (burst_at bus 14 a w).increments ≡ true
   pub destination_fits : (bus : Bus) (a : ℕ) → a % b ≡ 0 → IsAligned (burst_at bus 14 a w)
   pub whole : n % b ≡ 0
-  pub valid : is_control w ≡ true
+  pub accepted : (bus : Bus) → b ≤ widest_beat bus → accepts bus w ≡ true
 
 -- what the words of a size of b bytes a beat say
 pub record IsBeat (fill : Bool) (b : ℕ) : Type 0 where
@@ -137,6 +151,16 @@ valid_word : (w c : ℕ) → w / 2 % 8 ≡ c → w / 2 ^ 15 % 8 ≡ c → w / 2 
 unfolding is_control control_of end_at
 valid_word w c a b d e h = let s = size_there c h in rw (a, b, s.1, d, e) refl
 
+-- a bus that is as wide as its beats accepts it
+accepted_by : (w c : ℕ) → w / 2 % 8 ≡ c → w / 2 ^ 15 % 8 ≡ c → is_control w ≡ true → (bus : Bus) → 2 ^ c ≤ widest_beat bus → accepts bus w ≡ true
+accepted_by w c a b valid Ideal h = valid
+accepted_by w c a b valid (Chip width) h =
+    let low : nat_le c (bus_code width) ≡ true = le-leb c (bus_code width) (elim (cases_lt (bus_code width) c) [
+      | inl less ↦ absurd (omega (arith, h, pow_below (bus_code width) c less))
+      | inr more ↦ more
+    ]) in
+    rw (a, b, low) valid
+
 record Rises (b w n : ℕ) : Type 0 where
   reads : (a : ℕ) → burst_len (burst_at Ideal 0 a w) ≡ n
   writes : (a : ℕ) → burst_len (burst_at Ideal 14 a w) ≡ n
@@ -145,7 +169,7 @@ record Rises (b w n : ℕ) : Type 0 where
   destination_up : (bus : Bus) (a : ℕ) → (burst_at bus 14 a w).increments ≡ true
   destination_size : (a : ℕ) → (burst_at Ideal 14 a w).size ≡ b
   whole : n % b ≡ 0
-  valid : is_control w ≡ true
+  accepted : (bus : Bus) → b ≤ widest_beat bus → accepts bus w ≡ true
 
 rises_moves : (b w n : ℕ) → Rises b w n → Moves false b w n
 rises_moves b w n r =
@@ -155,11 +179,13 @@ rises_moves b w n r =
       writes = sym (len_anywhere 14 0 w) ∙ r.writes 0;
       source = λ bus a at. ap touched (same_burst bus Ideal 0 a w (fits bus a at)) ∙ touched_from Ideal 0 a w n (r.source_up a) (r.reads a);
       source_way = λ bus a at. ap advance (same_burst bus Ideal 0 a w (fits bus a at)) ∙ advance_up (burst_at Ideal 0 a w) n (r.source_up a) (r.reads a);
+      source_span = λ bus a at. ap span_of (same_burst bus Ideal 0 a w (fits bus a at)) ∙ span_up (burst_at Ideal 0 a w) n (r.source_up a) (r.reads a);
       source_fits = fits;
+      destination_span = λ bus a at. ap span_of (same_burst bus Ideal 14 a w (aligned_by 14 w b r.destination_size bus a at)) ∙ span_up (burst_at Ideal 14 a w) n (r.destination_up Ideal a) (r.writes a);
       destination_up = r.destination_up;
       destination_fits = aligned_by 14 w b r.destination_size;
       whole = r.whole;
-      valid = r.valid;
+      accepted = r.accepted;
     }
 
 -- the same without source increment, of beats of one byte
@@ -171,7 +197,7 @@ record Stays (w n : ℕ) : Type 0 where
   beats : (bus : Bus) (a : ℕ) → (burst_at bus 0 a w).beats ≡ n
   destination_up : (bus : Bus) (a : ℕ) → (burst_at bus 14 a w).increments ≡ true
   destination_size : (a : ℕ) → (burst_at Ideal 14 a w).size ≡ 1
-  valid : is_control w ≡ true
+  accepted : (bus : Bus) → 1 ≤ widest_beat bus → accepts bus w ≡ true
 
 stays_moves : (w n : ℕ) → Stays w n → Moves true 1 w n
 stays_moves w n r = record {
@@ -179,11 +205,13 @@ stays_moves w n r = record {
   writes = sym (len_anywhere 14 0 w) ∙ r.writes 0;
   source = λ bus a at. touched_fixed (burst_at bus 0 a w) a n (r.fixed bus a) (r.size bus a) (r.beats bus a) (addr_there bus 0 a w);
   source_way = λ bus a at. advance_fixed (burst_at bus 0 a w) (r.fixed bus a);
+  source_span = λ bus a at. span_fixed (burst_at bus 0 a w) 1 (r.fixed bus a) (r.size bus a);
   source_fits = λ bus a at. aligned_by 0 w 1 (r.size Ideal) bus a at;
+  destination_span = λ bus a at. ap span_of (same_burst bus Ideal 14 a w (aligned_by 14 w 1 r.destination_size bus a at)) ∙ span_up (burst_at Ideal 14 a w) n (r.destination_up Ideal a) (r.writes a);
   destination_up = r.destination_up;
   destination_fits = aligned_by 14 w 1 r.destination_size;
   whole = omega arith;
-  valid = r.valid;
+  accepted = r.accepted;
 }
 
 -- the fields of a word with size code c and length code l
@@ -206,7 +234,7 @@ word_moves w c l beat n e hc hl p h =
       destination_up = λ bus x. rw i refl;
       destination_size = λ x. rw f p;
       whole = ap (λ (k : ℕ). k % beat) (sym h) ∙ mul-mod_left (l + 1) beat;
-      valid = valid_word w c b f (omega arith) (omega arith) hc;
+      accepted = λ bus low. accepted_by w c b f (valid_word w c b f (omega arith) (omega arith) hc) bus (rw p low);
     }
 
 word_stays : (w l n : ℕ) → w ≡ 16 * l + 2 ^ 14 + 2 ^ 18 * l → l ≤ 15 → l + 1 ≡ n → Stays w n
@@ -228,7 +256,7 @@ word_stays w l n e hl h =
       beats = λ bus x. rw a h;
       destination_up = λ bus x. rw i refl;
       destination_size = λ x. rw f refl;
-      valid = valid_word w 0 b f (omega arith) (omega arith) (omega arith);
+      accepted = accepted_by w 0 b f (valid_word w 0 b f (omega arith) (omega arith) (omega arith));
     }
 
 beat : (b c : ℕ) → size_code b ≡ c → c ≤ 4 → 2 ^ c ≡ b → 1 ≤ b → b ≤ 16 → IsBeat false b
@@ -255,9 +283,9 @@ by_fill : (fill : Bool) (y : ℕ) → IsBeat false y → IsBeat fill (cond fill 
 by_fill true y f = filling_beat
 by_fill false y f = f
 
-pub beat_right : (p : Piece) → IsBeat p.fill (beat_of p)
+pub beat_right : (bus : Bus) (p : Piece) → IsBeat p.fill (beat_of bus p)
 unfolding beat_of
-beat_right p =
+beat_right bus p =
     by_fill p.fill _ (
     pick _ 16 _ (beat 16 4 refl (omega arith) refl (omega arith) (omega arith)) (
     pick _ 8 _ (beat 8 3 refl (omega arith) refl (omega arith) (omega arith)) (
@@ -274,33 +302,40 @@ pub mod_way : (fill : Bool) (x c : ℕ) → x % c ≡ 0 → way fill x % c ≡ 0
 mod_way false x c e = e
 mod_way true x c e = zero-mod c
 
--- the beats of a piece divide both addresses
-abbrev Divides : Piece → ℕ → Type 0
-Divides p b = (p.src % b ≡ 0) × (p.dst % b ≡ 0)
+-- the beats of a piece are no wider than the bus, and divide both addresses
+pub record Divides (bus : Bus) (p : Piece) (b : ℕ) : Type 0 where
+  pub narrow : b ≤ widest_beat bus
+  pub src : p.src % b ≡ 0
+  pub dst : p.dst % b ≡ 0
 
-fits_divides : (b : ℕ) (p : Piece) → fits b p ≡ true → Divides p b
-fits_divides b p e = by (p.src % b == 0) (p.dst % b == 0) (nat_le b p.len) refl refl e
+fits_divides : (bus : Bus) (b : ℕ) (p : Piece) → fits bus b p ≡ true → Divides bus p b
+fits_divides bus b p e = by (nat_le b (widest_beat bus)) (p.src % b == 0) (p.dst % b == 0) (nat_le b p.len) refl refl refl e
   where
-    by : (x y z : Bool) → (p.src % b == 0) ≡ x → (p.dst % b == 0) ≡ y → (x && y && z) ≡ true → Divides p b
-    by true true z s d t = (eqb-true (p.src % b) 0 s, eqb-true (p.dst % b) 0 d)
-    by true false z s d t = absurd (cc)
-    by false y z s d t = absurd (cc)
+    by : (w x y z : Bool) → nat_le b (widest_beat bus) ≡ w → (p.src % b == 0) ≡ x → (p.dst % b == 0) ≡ y → (w && x && y && z) ≡ true → Divides bus p b
+    by true true true z n s d t = record { narrow = leb-true b (widest_beat bus) n; src = eqb-true (p.src % b) 0 s; dst = eqb-true (p.dst % b) 0 d }
+    by true true false z n s d t = absurd (cc)
+    by true false y z n s d t = absurd (cc)
+    by false x y z n s d t = absurd (cc)
 
-choose : (p : Piece) (t : Bool) (x y : ℕ) → (t ≡ true → Divides p x) → Divides p y → Divides p (cond t x y)
-choose p true x y f g = f refl
-choose p false x y f g = g
+choose : (bus : Bus) (p : Piece) (t : Bool) (x y : ℕ) → (t ≡ true → Divides bus p x) → Divides bus p y → Divides bus p (cond t x y)
+choose bus p true x y f g = f refl
+choose bus p false x y f g = g
 
-ones : (p : Piece) → Divides p 1
-ones p = (mod-one p.src, mod-one p.dst)
+pub some_beat : (bus : Bus) → 1 ≤ widest_beat bus
+some_beat Ideal = omega arith
+some_beat (Chip width) = pow_pos (bus_code width)
 
-pub beat_divides : (p : Piece) → (p.src % beat_of p ≡ 0) × (p.dst % beat_of p ≡ 0)
+ones : (bus : Bus) (p : Piece) → Divides bus p 1
+ones bus p = record { narrow = some_beat bus; src = mod-one p.src; dst = mod-one p.dst }
+
+pub beat_divides : (bus : Bus) (p : Piece) → Divides bus p (beat_of bus p)
 unfolding beat_of
-beat_divides p =
-    choose p p.fill 1 _ (λ e. ones p)
-    (choose p (fits 16 p) 16 _ (fits_divides 16 p)
-    (choose p (fits 8 p) 8 _ (fits_divides 8 p)
-    (choose p (fits 4 p) 4 _ (fits_divides 4 p)
-    (choose p (fits 2 p) 2 1 (fits_divides 2 p) (ones p)))))
+beat_divides bus p =
+    choose bus p p.fill 1 _ (λ e. ones bus p)
+    (choose bus p (fits bus 16 p) 16 _ (fits_divides bus 16 p)
+    (choose bus p (fits bus 8 p) 8 _ (fits_divides bus 8 p)
+    (choose bus p (fits bus 4 p) 4 _ (fits_divides bus 4 p)
+    (choose bus p (fits bus 2 p) 2 1 (fits_divides bus 2 p) (ones bus p)))))
 
 pub one_beat : (fill : Bool) → IsBeat fill 1
 one_beat true = filling_beat

@@ -1,5 +1,5 @@
 -- A program that copies and doesn't wait, run alone.
-use Rattle.std.proofs.Common.{◌≡◌, ◌≢◌, ℕ, zero, suc, ◌+◌, ◌-◌, ◌≤◌, ◌<◌, ◌⊎◌, List, [], ◌∷◌, length, get_or, append-nil, Option, Some, None, refl, sym, ap, ◌∙◌, subst, arith, inl, inr}
+use Rattle.std.proofs.Common.{◌≡◌, ◌≢◌, ℕ, zero, suc, ◌+◌, ◌≤◌, ◌<◌, ◌⊎◌, List, [], ◌∷◌, length, get_or, append-nil, Option, Some, None, refl, sym, ap, ◌∙◌, subst, arith, inl, inr}
 use Rattle.std.specs.List.{Contains}
 use Rattle.std.proofs.lemmas.Bool.{cases_eq, cases_lt}
 use Rattle.std.proofs.lemmas.List.Elements.{Contains-append_cases, Contains-append_right}
@@ -17,18 +17,14 @@ use Rattle.dma_chan.specs.declared.run.RunEnd.{RunEnd}
 use Rattle.dma_chan.specs.declared.run.RunEnd.TheVariants as ends
 use Rattle.dma_chan.specs.Channel.{ChannelValue, bytes_of_program, loaded, step_of}
 use Rattle.dma_chan.specs.Exec.{State, exec, state}
-use Rattle.dma_chan.specs.Explains.{Explains}
+use Rattle.dma_chan.specs.Explains.{Explains, IsWait}
 use Rattle.dma_chan.specs.Alone.{ExplainedCopiesAlone}
-use Rattle.dma_chan.specs.Compiled.{compiled, cost}
-use Rattle.dma_chan.specs.Layer.{CopiesAlone}
 use Rattle.dma_chan.specs.Others.{Misses}
 use Rattle.dma_chan.specs.Programs.{ProgramValue}
 use Rattle.dma_chan.specs.Run.{opening, state_after, turn_after, StopsAfter, RunsTo}
 use Rattle.dma_chan.specs.Stepping.{Machine, answer_at, after_step, machine}
 use Rattle.dma_chan.proofs.AmongOthers.{Among, Fits, after_next, at_start, goes_on_at, is_in, touched_below}
 use Rattle.dma_chan.proofs.CallWrites.{Nexts, Goes, Ends, ahead_at, ends_then, next_inside, nexts, turned}
-use Rattle.dma_chan.proofs.CompiledExplained.{compiled_explained}
-use Rattle.dma_chan.proofs.ShapeLaws.{shape_is}
 use Rattle.dma_chan.proofs.OthersKept.{writes_no_other}
 use Rattle.dma_chan.proofs.Traced.{length-laid}
 
@@ -63,7 +59,7 @@ record Along (program : List ℕ) (t : Descriptor) (n : ℕ) (image : List ℕ) 
 unmarked : (t : Descriptor) → Misses [] t
 unmarked t = record { reads = λ a i. refl; writes = λ a i. refl }
 
-module _ (program : List ℕ) (t : Descriptor) (n : ℕ) (image : List ℕ) (h : Explains Ideal program t n) (waits : t.wait ≡ None) (low : Fits t (length image)) where
+module _ (program : List ℕ) (t : Descriptor) (n : ℕ) (image : List ℕ) (h : Explains Ideal program t n) (waits : (e : ℕ) → ¬ IsWait Ideal program n e) (low : Fits t (length image)) where
   first : Along program t n image 0 (opening image)
   first = record {
     channel = loaded (record { bytes = program; cost = None });
@@ -91,7 +87,7 @@ module _ (program : List ℕ) (t : Descriptor) (n : ℕ) (image : List ℕ) (h :
     where
       by : (turn : ChanTurn) → answer_at [] (at k s w) ≡ turn → answer_at [] (at k s w) ≡ Moved
       by Moved e = e
-      by (Waiting x) e = absurd (let bad : None ≡ Some x = sym waits ∙ goes_on_at Ideal program t n [] image h low k (at k s w) (Waiting x) e w.among l in cc)
+      by (Waiting x) e = absurd (waits x (goes_on_at Ideal program t n [] image h low k (at k s w) (Waiting x) e w.among l))
       by Ended e = absurd (goes_on_at Ideal program t n [] image h low k (at k s w) Ended e w.among l)
       by (Fault kind) e = absurd (goes_on_at Ideal program t n [] image h low k (at k s w) (Fault kind) e w.among l (unmarked t))
 
@@ -183,11 +179,3 @@ pub explained_copies_alone : ExplainedCopiesAlone
 explained_copies_alone program t n image left limit how h waits below enough run =
     let all = decides program t n image h waits (λ a i. touched_below t (length image) a below i) limit how run.0 enough run.1 in
     (all.0, sym run.2 ∙ all.1)
-
--- the program of a transfer
-pub copies_alone : CopiesAlone
-copies_alone t image left limit how h waits below enough run =
-    let some = (shape_is t h).some in
-    let all = explained_copies_alone (compiled t).bytes t (cost t - 1) image left limit how (compiled_explained t h) waits below (omega arith) run in
-    let last : cost t - 1 + 1 ≡ cost t = omega arith in
-    (all.0 ∙ ap ends.Ended last, all.1)

@@ -30,10 +30,12 @@ pub mod WrittenRanges
 pub mod SteppedOver
 pub mod Longer
 pub mod AmongOthers
+pub mod GoingOn
 pub mod Traced
 pub mod OthersKept
 pub mod CallsAmongOthers
 pub mod CallWrites
+pub mod ReadsOnly
 pub mod SinceLoads
 pub mod LaidPlaces
 pub mod CompiledExplained

@@ -1,22 +1,25 @@
 -- A run without memory is the same on each bus, but for the bus, if its bursts begin at multiples of their beats' sizes.
-use Rattle.std.proofs.Common.{◌≡◌, ℕ, zero, suc, ◌+◌, ◌≤◌, ◌&&◌, Bool, true, false, List, ◌++◌, length, Option, Result, Ok, Err, refl, sym, ap, ◌∙◌, subst, arith}
+use Rattle.std.proofs.Common.{◌≡◌, ℕ, zero, suc, ◌+◌, ◌≤◌, ◌&&◌, Bool, true, false, cond, List, ◌++◌, Some, None, Result, Ok, Err, refl, sym, ap, ◌∙◌, subst, arith}
 use Rattle.dma_insn.specs.ControlWord.{is_control}
 use Rattle.dma_insn.specs.declared.insn.Counter.{Counter}
 use Rattle.dma_insn.specs.declared.insn.Counter.TheVariants.{Lc0, Lc1}
 use Rattle.dma_insn.specs.declared.insn.Reg.TheVariants.{Sar, Dar, Ccr}
 use Rattle.dma_insn.specs.declared.insn.Insn.{Insn}
 use Rattle.dma_insn.specs.declared.insn.Insn.TheVariants.{Mov, Ld, St, Rmb, Wmb, Nop, End, Lp, LpEnd, Sev, Wfe}
-use Rattle.dma_mem.specs.Places.{size_of}
+use Rattle.std.specs.Prelude.{nat_lt}
 use Rattle.dma_chan.specs.declared.bus.Bus.{Bus}
 use Rattle.dma_chan.specs.declared.bus.Bus.TheVariants.{Ideal}
 use Rattle.dma_chan.specs.declared.exec.Registers.{Registers}
+use Rattle.dma_chan.specs.declared.explain.Cause.TheVariants.{Fails, LoadsPast, StoresPast, StoresFixed}
 use Rattle.dma_chan.specs.declared.turn.FaultKind.{FaultKind}
+use Rattle.dma_chan.specs.declared.turn.FaultKind.TheVariants.{OperandInvalid, MfifoErr, StDataUnavailable}
 use Rattle.dma_chan.specs.Bus.{accepts, fits}
 use Rattle.dma_chan.specs.declared.bursts.Burst.{Burst}
 use Rattle.dma_chan.specs.Bursts.{IsAligned, advance, burst_len, touched}
 use Rattle.dma_chan.specs.Exec.{buffer_size, destination_of, looped, past, source_of, wrapped}
-use Rattle.dma_chan.specs.Explains.{ExplainedOnBus, GoesOn, IsAlignedTo, MovesAligned, Proceeds, Trace, after_fetch, after_insn, fits_bus, next_in, traced}
+use Rattle.dma_chan.specs.Explains.{ExplainedOnBus, GoesOn, IsAlignedTo, MovesAligned, SetsEmpty, Trace, after_fetch, after_insn, fits_bus, held, next_in, passes, stop_of_insn, stop_of_mov, traced}
 use Rattle.dma_chan.proofs.ControlWords.{same_burst}
+use Rattle.dma_chan.proofs.GoingOn.{mov_empty, none_second}
 
 module _ (bus : Bus) where
   -- the registers, and a run, on the bus
@@ -79,38 +82,40 @@ module _ (bus : Bus) where
       by false true f = refl
       by false false f = f
 
-  goes_on : (wait signal : Option ℕ) (size : ℕ) (i : Insn) (x : Trace) → fits_bus bus (Ok i) ≡ true → MovesAligned (Ok i) x.registers → GoesOn wait signal size i x → GoesOn wait signal size i (trace_on x)
-  goes_on wait signal size (Mov Ccr v) x f a g = both (fits bus v) (is_control v) f (ideal x.registers.bus v g)
-  goes_on wait signal size (Mov Sar v) x f a g = g
-  goes_on wait signal size (Mov Dar v) x f a g = g
-  goes_on wait signal size Ld x f a g =
-      subst (λ (b : Burst). length x.loads + burst_len b ≤ length x.stores + buffer_size) (sym (source_on x.registers a)) g
-  goes_on wait signal size St x f a g =
-      subst (λ (b : Burst). (length x.stores + burst_len b ≤ length x.loads) × (b.increments ≡ true)) (sym (destination_on x.registers a)) g
-  goes_on wait signal size (Lp c n) x f a g = g
-  goes_on wait signal size (LpEnd Lc0 back) x f a g = g
-  goes_on wait signal size (LpEnd Lc1 back) x f a g = g
-  goes_on wait signal size (Sev e) x f a g = g
-  goes_on wait signal size (Wfe e v) x f a g = g
-  goes_on wait signal size Rmb x f a g = g
-  goes_on wait signal size Wmb x f a g = g
-  goes_on wait signal size Nop x f a g = g
-  goes_on wait signal size End x f a g = g
+  goes_on : (i : Insn) (x : Trace) → fits_bus bus (Ok i) ≡ true → MovesAligned (Ok i) x.registers → SetsEmpty (Ok i) (held x) → stop_of_insn i x ≡ None → stop_of_insn i (trace_on x) ≡ None
+  goes_on (Mov Ccr v) x f a d g =
+      let valid = ideal x.registers.bus v (none_second (accepts x.registers.bus v) (Fails OperandInvalid) _ g).0 in
+      ap (λ (b : Bool). cond b (stop_of_mov (Mov Ccr v) (trace_on x)) (Some (Fails OperandInvalid))) (both (fits bus v) (is_control v) f valid) ∙ mov_empty (Mov Ccr v) (trace_on x) d
+  goes_on (Mov Sar v) x f a d g = refl
+  goes_on (Mov Dar v) x f a d g = mov_empty (Mov Dar v) (trace_on x) d
+  goes_on Ld x f a d g =
+      subst (λ (b : Burst). cond (nat_lt buffer_size (held x + burst_len b)) (Some (Fails MfifoErr)) (cond (passes b) (Some LoadsPast) None) ≡ None) (sym (source_on x.registers a)) g
+  goes_on St x f a d g =
+      subst (λ (b : Burst). cond (nat_lt (held x) (burst_len b)) (Some (Fails StDataUnavailable)) (cond (passes b) (Some StoresPast) (cond b.increments None (Some StoresFixed))) ≡ None) (sym (destination_on x.registers a)) g
+  goes_on (Lp c n) x f a d g = g
+  goes_on (LpEnd Lc0 back) x f a d g = g
+  goes_on (LpEnd Lc1 back) x f a d g = g
+  goes_on (Sev e) x f a d g = g
+  goes_on (Wfe e v) x f a d g = g
+  goes_on Rmb x f a d g = g
+  goes_on Wmb x f a d g = g
+  goes_on Nop x f a d g = g
+  goes_on End x f a d g = g
 
-  proceeds : (wait signal : Option ℕ) (size : ℕ) (r : Result Insn FaultKind) (x : Trace) → fits_bus bus r ≡ true → MovesAligned r x.registers → Proceeds wait signal size r x → Proceeds wait signal size r (trace_on x)
-  proceeds wait signal size (Ok i) x f a g = goes_on wait signal size i x f a g
-  proceeds wait signal size (Err kind) x f a g = g
+  goes_next : (r : Result Insn FaultKind) (x : Trace) → fits_bus bus r ≡ true → MovesAligned r x.registers → SetsEmpty r (held x) → GoesOn r x → GoesOn r (trace_on x)
+  goes_next (Ok i) x f a d g = (g.0, goes_on i x f a d g.1)
+  goes_next (Err kind) x f a d g = absurd (let bad = g.1 in cc)
 
 pub explained_on_bus : ExplainedOnBus
-explained_on_bus bus program t n h fit aligned =
+explained_on_bus bus program t n h fit aligned keeps =
     let same : (k : ℕ) → k ≤ n → traced bus program k ≡ trace_on bus (traced Ideal program k) =
     λ k l. traced_on bus program k (λ j less. aligned j (omega arith)) in
     let last = same n (omega arith) in
     record {
       goes = λ k l.
           let x = traced Ideal program k in
-          subst (λ (y : Trace). Proceeds t.wait t.signal (size_of t) (next_in program y) y) (sym (same k (omega arith)))
-          (proceeds bus t.wait t.signal (size_of t) (next_in program x) x (fit k l) (aligned k l) (h.goes k l));
+          subst (λ (y : Trace). GoesOn (next_in program y) y) (sym (same k (omega arith)))
+          (goes_next bus (next_in program x) x (fit k l) (aligned k l) (keeps k l) (h.goes k l));
       ends = ap (λ (y : Trace). next_in program y) last ∙ h.ends;
       loads = ap (λ (y : Trace). y.loads) last ∙ h.loads;
       stores = ap (λ (y : Trace). y.stores) last ∙ h.stores;

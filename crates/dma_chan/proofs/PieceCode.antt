@@ -7,18 +7,19 @@ use Rattle.std.proofs.lemmas.List.FromFn.{length-range_with_len}
 use Rattle.dma_mem.specs.declared.segment.Segment.{Segment}
 use Rattle.dma_mem.specs.Places.{Descriptor, places, sources, destinations}
 use Rattle.dma_mem.specs.Rules.{IsTransfer, IsSegmentList}
+use Rattle.dma_chan.specs.declared.bus.Bus.{Bus}
 use Rattle.dma_chan.specs.declared.pieces.Piece.{Piece}
-use Rattle.dma_chan.specs.Compiled.{pieces, fill_piece, fill_pieces, pieces_of, piece_tree, beat_of, parts, where_some, under, control_word, bursts, body, wait_tree, signal_tree, tree_of}
+use Rattle.dma_chan.specs.Compiled.{pieces, fill_piece, fill_pieces, pieces_of, piece_tree, beat_of, parts, where_some, under, control_word, bursts, body, wait_tree, signal_tree, tree_on}
 use Rattle.dma_chan.specs.inner.Compiling.{byte_count, IsRange}
 use Rattle.dma_chan.specs.Tree.{Tree, bytes_of, in_order}
 use Rattle.dma_chan.proofs.CutPlaces.{IsPiece, pieces_right, read_by, written_by}
 
 -- what is left to spell, after one more piece
-pub rest_more : (ps : List Piece) (i : ℕ) (d : Piece) (old now new : List ℕ) → i < length ps → new ≡ now ++ bytes_of (piece_tree (get_or ps i d)) → now ++ bytes_of (in_order (map piece_tree (drop i ps))) ≡ old → new ++ bytes_of (in_order (map piece_tree (drop (i + 1) ps))) ≡ old
-rest_more ps i d old now new h e inv =
+pub rest_more : (bus : Bus) (ps : List Piece) (i : ℕ) (d : Piece) (old now new : List ℕ) → i < length ps → new ≡ now ++ bytes_of (piece_tree bus (get_or ps i d)) → now ++ bytes_of (in_order (map (piece_tree bus) (drop i ps))) ≡ old → new ++ bytes_of (in_order (map (piece_tree bus) (drop (i + 1) ps))) ≡ old
+rest_more bus ps i d old now new h e inv =
     let cut : drop i ps ≡ get_or ps i d ∷ drop (i + 1) ps = drop-cons ps i d h ∙ rw add-one refl in
-    let rest = bytes_of (in_order (map piece_tree (drop (i + 1) ps))) in
-    ap (λ (xs : List ℕ). xs ++ rest) e ∙ append_assoc now (bytes_of (piece_tree (get_or ps i d))) rest ∙ ap (λ (xs : List Piece). now ++ bytes_of (in_order (map piece_tree xs))) (sym cut) ∙ inv
+    let rest = bytes_of (in_order (map (piece_tree bus) (drop (i + 1) ps))) in
+    ap (λ (xs : List ℕ). xs ++ rest) e ∙ append_assoc now (bytes_of (piece_tree bus (get_or ps i d))) rest ∙ ap (λ (xs : List Piece). now ++ bytes_of (in_order (map (piece_tree bus) xs))) (sym cut) ∙ inv
 
 -- ---- what holds of a transfer's lists
 
@@ -129,12 +130,12 @@ parts_bytes fill b n =
     (some_bytes (n % (16 * b) / b) 10 (under (control_word fill b (n % (16 * b) / b)) body) (omega arith))
     (some_bytes (n % (16 * b) % b) 10 (under (control_word fill 1 (n % (16 * b) % b)) body) (omega arith))
 
-piece_bytes : (p : Piece) → length (bytes_of (piece_tree p)) ≤ 58
-piece_bytes p = omega (arith, parts_bytes p.fill (beat_of p) p.len)
+piece_bytes : (bus : Bus) (p : Piece) → length (bytes_of (piece_tree bus p)) ≤ 58
+piece_bytes bus p = omega (arith, parts_bytes p.fill (beat_of bus p) p.len)
 
-pub pieces_bytes : (ps : List Piece) → length (bytes_of (in_order (map piece_tree ps))) ≤ 58 * length ps
-pieces_bytes [] = omega arith
-pieces_bytes (p ∷ ps) = omega (arith, length-append (bytes_of (piece_tree p)) (bytes_of (in_order (map piece_tree ps))), piece_bytes p, pieces_bytes ps)
+pub pieces_bytes : (bus : Bus) (ps : List Piece) → length (bytes_of (in_order (map (piece_tree bus) ps))) ≤ 58 * length ps
+pieces_bytes bus [] = omega arith
+pieces_bytes bus (p ∷ ps) = omega (arith, length-append (bytes_of (piece_tree bus p)) (bytes_of (in_order (map (piece_tree bus) ps))), piece_bytes bus p, pieces_bytes bus ps)
 
 wait_bytes : (o : Option ℕ) → length (bytes_of (wait_tree o)) ≤ 2
 wait_bytes None = omega arith
@@ -145,7 +146,7 @@ signal_bytes None = omega arith
 signal_bytes (Some e) = omega arith
 
 -- the program of a transfer has at most 7,371 bytes
-pub compiled_bytes : (t : Descriptor) → IsTransfer t → length (bytes_of (tree_of t)) ≤ 7371
-compiled_bytes t h =
-    let all = four_bytes (bytes_of (wait_tree t.wait)) (bytes_of (in_order (map piece_tree (pieces_of t)))) (bytes_of (signal_tree t.signal)) 2 (58 * length (pieces_of t)) 2 (wait_bytes t.wait) (pieces_bytes (pieces_of t)) (signal_bytes t.signal) in
+pub compiled_bytes : (bus : Bus) (t : Descriptor) → IsTransfer t → length (bytes_of (tree_on bus t)) ≤ 7371
+compiled_bytes bus t h =
+    let all = four_bytes (bytes_of (wait_tree t.wait)) (bytes_of (in_order (map (piece_tree bus) (pieces_of t)))) (bytes_of (signal_tree t.signal)) 2 (58 * length (pieces_of t)) 2 (wait_bytes t.wait) (pieces_bytes bus (pieces_of t)) (signal_bytes t.signal) in
     omega (arith, all, pieces_few t h)

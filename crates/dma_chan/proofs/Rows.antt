@@ -1,6 +1,6 @@
 -- The limits, as numbers, and a program worked out: rows computed from the definitions, and the code's own constants.
 -- And what a law refuses.
-use Rattle.std.proofs.Common.{◌≡◌, ℕ, ◌+◌, ◌*◌, ◌^◌, ◌≤◌, [], ◌∷◌, map, Some, None, true, false, refl, sym, ◌∙◌, arith}
+use Rattle.std.proofs.Common.{◌≡◌, ℕ, ◌+◌, ◌-◌, ◌*◌, ◌^◌, ◌≤◌, [], ◌∷◌, map, Some, None, true, false, refl, sym, ◌∙◌, arith, List, ◌++◌}
 use Rattle.dma_mem.specs.Places.{Descriptor, filling, size_of}
 use Rattle.dma_mem.specs.Rules.{IsTransfer}
 use Rattle.dma_mem.proofs.TransferRules.{size_of-some}
@@ -9,16 +9,17 @@ use Rattle.dma_insn.specs.ControlWord.{control_of, end_at, is_control}
 use Rattle.dma_insn.specs.declared.assembler.TheConstants.{MAX_PROGRAM_BYTES}
 use Rattle.dma_insn.specs.declared.insn.Insn.TheVariants.{Ld}
 use Rattle.dma_chan.specs.declared.bursts.TheConstants.{BUFFER_SIZE}
+use Rattle.dma_chan.specs.declared.bus.Bus.{Bus}
 use Rattle.dma_chan.specs.declared.bus.Bus.TheVariants.{Ideal, Chip}
 use Rattle.dma_chan.specs.declared.bus.BusWidth.TheVariants.{Bits32, Bits64, Bits128}
 use Rattle.dma_chan.specs.Bursts.{burst_at, burst_len, touched}
 use Rattle.dma_chan.specs.Bus.{accepts}
 use Rattle.dma_chan.specs.Changes.{Call, HasCopied}
 use Rattle.dma_chan.specs.Written.{adjoins, range_at}
-use Rattle.dma_chan.specs.Exec.{buffer_size, start, start_on}
-use Rattle.dma_chan.specs.inner.At.{moved}
-use Rattle.dma_chan.specs.Compiled.{beat_of, parts, members, cost, compiled, most_compiled}
+use Rattle.dma_chan.specs.Exec.{buffer_size, start, start_on, moved}
+use Rattle.dma_chan.specs.Compiled.{beat_of, parts, members, cost, compiled, compiled_on, cost_on, most_compiled}
 use Rattle.dma_chan.specs.Traffic.{read_len, write_len}
+use Rattle.dma_chan.proofs.CompiledExplained.{compiled_events}
 
 -- ---- the code's constants
 
@@ -123,11 +124,34 @@ twenty_costs : cost twenty ≡ 15
 unfolding cost members parts beat_of
 twenty_costs = refl
 
+-- 16 bytes from 0x1000 to 0x2000
+abbrev sixteen : Descriptor
+sixteen =
+    record { fill = false; src = record { addr = 4096; len = 16 } ∷ []; dst = record { addr = 8192; len = 16 } ∷ []; wait = None; signal = None }
+
+-- one burst on each bus: of four beats of four bytes under 0x000D4035, of two beats of eight bytes under 0x0005C017,
+-- and of one beat of 16 bytes under 0x00024009
+abbrev under_word : List ℕ → List ℕ
+under_word word = 188 ∷ 0 ∷ 0 ∷ 16 ∷ 0 ∷ 0 ∷ 188 ∷ 2 ∷ 0 ∷ 32 ∷ 0 ∷ 0 ∷ 188 ∷ 1 ∷ [] ++ (word ++ 4 ∷ 18 ∷ 8 ∷ 19 ∷ 0 ∷ [])
+
+sixteen_on_32_bits : (compiled_on (Chip Bits32) sixteen).bytes ≡ under_word (53 ∷ 64 ∷ 13 ∷ 0 ∷ [])
+unfolding compiled_on parts beat_of
+sixteen_on_32_bits = refl
+
+sixteen_on_64_bits : (compiled_on (Chip Bits64) sixteen).bytes ≡ under_word (23 ∷ 192 ∷ 5 ∷ 0 ∷ [])
+unfolding compiled_on parts beat_of
+sixteen_on_64_bits = refl
+
+sixteen_on_128_bits : (compiled_on (Chip Bits128) sixteen).bytes ≡ under_word (9 ∷ 64 ∷ 2 ∷ 0 ∷ [])
+unfolding compiled_on parts beat_of
+sixteen_on_128_bits = refl
+
 -- ---- what a law refuses
 
--- A channel that reports a signal before it has stored anything breaks the law of copies, for every transfer.
-early_signal_is_refused : (t : Descriptor) (first memory : ℕ → ℕ) (call : Call) (e : ℕ) → IsTransfer t → call.signal ≡ Some e → call.left.channel.stored ≡ 0 → ¬ HasCopied t first memory call
-early_signal_is_refused t first memory call e h signals none copied =
-    let all : 0 ≡ size_of t = sym none ∙ (copied.signals e signals).1 in
+-- A channel that reports a signal of a compiled program before it has stored anything breaks the law of copies.
+early_signal_is_refused : (bus : Bus) (t : Descriptor) (first memory : ℕ → ℕ) (call : Call) (e : ℕ) → IsTransfer t → call.signal ≡ Some e → call.left.channel.stored ≡ 0 → ¬ HasCopied bus (compiled_on bus t).bytes t (cost_on bus t - 1) first memory call
+early_signal_is_refused bus t first memory call e h signals none copied =
+    let at = (compiled_events bus t h).signals e call.left.channel.stored (copied.signals e signals) in
+    let all : 0 ≡ size_of t = sym none ∙ at.1 in
     let some : 1 ≤ size_of t = size_of-some t h in
     omega arith

@@ -60,7 +60,7 @@ module _ (bus : Bus) (program : List ℕ) (t : Descriptor) (n : ℕ) (first : Li
   runs_in : (s : Machine) → Runs bus program t n first s → Executes bus program n s.channel
   runs_in s r = (r.0, is_in bus program t n first r.0 s.image s.channel r.1)
 
-  pub has_copied : (c : Call) → Runs bus program t n first c.found → DoesCall c → HasCopied t (bytes_in first) (bytes_in c.left.image) c
+  pub has_copied : (c : Call) → Runs bus program t n first c.found → DoesCall c → HasCopied bus program t n (bytes_in first) (bytes_in c.left.image) c
   has_copied c r does = record {
     bytes = has_first c.last c.left (leads c r does);
     writes = λ a i.
@@ -129,7 +129,7 @@ module _ (bus : Bus) (program : List ℕ) (t : Descriptor) (n : ℕ) (size : ℕ
     | inr ne ↦ kept ch s v (takes.others ch (λ e. ne (sym e))) (alone.1 ne) i
   ]
 
-  copied : (c : Call) (s v : System) → TakesCall c s v → LendsAll t c → Is c.channel s → HasCopied t memory v.memory c
+  copied : (c : Call) (s v : System) → TakesCall c s v → LendsAll t c → Is c.channel s → HasCopied bus program t n memory v.memory c
   copied c s v takes lent i =
       let all = has_copied bus program t n first h (within memory) c (found c s v takes lent i) takes.does in
       record {
@@ -179,7 +179,7 @@ module _ (bus : Bus) (program : List ℕ) (t : Descriptor) (n : ℕ) (changes : 
       let e : load + 1 + (now - (load + 1)) ≡ now = omega arith in
       subst Is_at e (along (now - (load + 1)) (omega arith))
 
-  has_all : HasCopied t (states load).memory (states (now + 1)).memory c
+  has_all : HasCopied bus program t n (states load).memory (states (now + 1)).memory c
   has_all = copied bus program t n size (states load).memory h low c (states now) (states (now + 1)) takes since.lent at_call
 
 pub copies_since_load : CopiesSinceLoad

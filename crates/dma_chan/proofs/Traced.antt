@@ -1,18 +1,17 @@
 -- A run without memory, and one instruction of the machine beside it.
-use Rattle.std.proofs.Common.{◌≡◌, ℕ, zero, suc, ◌+◌, ◌-◌, ◌≤◌, ◌<◌, Bool, true, false, cond, ltb, ◌&&◌, List, [], ◌∷◌, ◌++◌, length, get_or, take, drop, refl, sym, ap, ◌∙◌, subst, arith, append_assoc, append-nil, length-append, inl, inr, Some, Result, Ok, Err}
+use Rattle.std.proofs.Common.{◌≡◌, ℕ, zero, suc, ◌+◌, ◌-◌, ◌≤◌, ◌<◌, Bool, true, false, cond, ltb, ◌&&◌, List, [], ◌∷◌, ◌++◌, length, get_or, take, drop, refl, sym, ap, ◌∙◌, subst, arith, append_assoc, append-nil, length-append, inl, inr, Result, Ok, Err}
 use Rattle.std.specs.Prelude.{not, nat_eq, nat_lt, slice_index, slice_index_or, slice_set, unwrap_or}
 use Rattle.std.specs.List.{Contains, range_with_len, zip}
 use Rattle.std.specs.Map.{keys_of, lookup}
 use Rattle.std.proofs.lemmas.Bool.{le-ltb, lt-ltb, cases_lt, true≢false}
 use Rattle.std.proofs.lemmas.List.{map-append, drop-append-le, take_at, drop_at, drop-drop, length-drop, length-take-le, take-map, drop-map, take-append-le}
 use Rattle.std.proofs.lemmas.List.Elements.{Contains-append_left, Contains-append_right}
-use Rattle.std.proofs.lemmas.List.FromFn.{length-range_with_len}
 use Rattle.std.proofs.Math.Seq.{take-add}
 use Rattle.dma_insn.specs.declared.insn.Reg.TheVariants.{Sar, Dar, Ccr}
 use Rattle.dma_insn.specs.declared.insn.Insn.{Insn}
 use Rattle.dma_insn.specs.declared.insn.Insn.TheVariants.{Mov, Ld, St, Rmb, Wmb, Nop, End, Lp, LpEnd, Sev, Wfe}
 use Rattle.dma_mem.specs.Image.{put, after_moves, carried, laid}
-use Rattle.dma_mem.specs.Places.{Descriptor, Apart, sources, destinations, size_of, moves}
+use Rattle.dma_mem.specs.Places.{Descriptor, Apart, sources, destinations, moves}
 use Rattle.dma_mem.specs.Marking.{MarkList, is_marked}
 use Rattle.dma_mem.specs.declared.marks.MarkKind.{MarkKind}
 use Rattle.dma_mem.specs.declared.marks.MarkKind.TheVariants.{Reading, Writing}
@@ -20,18 +19,17 @@ use Rattle.dma_mem.proofs.ImageOver.{after_moves-more, get_or-after_moves_other,
 use Rattle.dma_mem.proofs.ImagePut.{get_or-put, length-put}
 use Rattle.dma_mem.proofs.OverTransfers.{keys_in, once_parts, moves-writes, drop-zip, take-zip, carried-zip}
 use Rattle.dma_chan.specs.declared.bus.Bus.{Bus}
-use Rattle.dma_chan.specs.declared.bursts.Burst.{Burst}
 use Rattle.dma_chan.specs.declared.exec.Registers.{Registers}
 use Rattle.dma_chan.specs.declared.turn.ChanTurn.{ChanTurn}
 use Rattle.dma_chan.specs.declared.turn.ChanTurn.TheVariants.{Moved, Waiting, Ended, Fault}
 use Rattle.dma_chan.specs.declared.turn.FaultKind.{FaultKind}
 use Rattle.dma_chan.specs.Bursts.{burst_len, reaches, touched, writes_of}
-use Rattle.dma_chan.specs.Exec.{source_of, destination_of, counter_of, State, state, act, read_at}
+use Rattle.dma_chan.specs.Exec.{source_of, destination_of, counter_of, State, state, act, read_at, moved}
 use Rattle.dma_chan.specs.Others.{Misses, Touches}
-use Rattle.dma_chan.specs.Explains.{Trace, after_insn, after_fetch, next_in, traced, GoesOn, IsCopy}
-use Rattle.dma_chan.specs.inner.At.{moved}
+use Rattle.dma_chan.specs.Explains.{Trace, after_insn, after_fetch, next_in, traced, IsCopy}
 use Rattle.dma_chan.proofs.BurstsInTurn.{left_up}
 use Rattle.dma_chan.proofs.ControlWords.{touched_up}
+use Rattle.dma_chan.proofs.GoingOn.{Can, length_up}
 use Rattle.dma_chan.proofs.MemberActs.{cannot_jump, length-read_at}
 
 -- ---- the lists grow
@@ -74,10 +72,6 @@ grows_to bus program k (suc m) l =
           grows_none (traced bus program k) (traced bus program (suc m)) (ap (λ (j : ℕ). (traced bus program j).loads) (sym e)) (ap (λ (j : ℕ). (traced bus program j).stores) (sym e))
       | inr le ↦ grows_on (traced bus program k) (traced bus program m) (traced bus program (suc m)) (grows_to bus program k m le) (grows_fetch (next_in program (traced bus program m)) (traced bus program m))
     ]
-
--- the addresses of a burst that rises, as many as its bytes
-pub length_up : (b : Burst) → b.increments ≡ true → length (touched b) ≡ burst_len b
-length_up b e = ap length (touched_up b e) ∙ length-range_with_len b.addr (burst_len b)
 
 -- ---- images that have the same bytes at some places
 
@@ -162,11 +156,11 @@ pub record Inside (t : Descriptor) (x : Trace) : Type 0 where
   pub stores : destinations t ≡ x.stores ++ stores_rest
 
 -- what each answer of an instruction that goes on says
-abbrev pub Answers : Descriptor → List ℕ → MarkList → Trace → ChanTurn × State → Type 0
-Answers t first marks x (Moved, s) = Mirrors t first x s.registers s.buffer s.image
-Answers t first marks x (Waiting e, s) = t.wait ≡ Some e
-Answers t first marks x (Ended, s) = ⊥
-Answers t first marks x (Fault kind, s) = ¬ Misses marks t
+abbrev pub Answers : Descriptor → List ℕ → MarkList → Insn → Trace → ChanTurn × State → Type 0
+Answers t first marks i x (Moved, s) = Mirrors t first x s.registers s.buffer s.image
+Answers t first marks i x (Waiting e, s) = (v : Bool) × (i ≡ Wfe e v)
+Answers t first marks i x (Ended, s) = ⊥
+Answers t first marks i x (Fault kind, s) = ¬ Misses marks t
 
 module _ (t : Descriptor) (first : List ℕ) (marks : MarkList) (copy : IsCopy t) (low : (a : ℕ) → Touches t a → a < length first) (x : Trace) (buffer image : List ℕ) (flags : List Bool) (m : Mirrors t first x x.registers buffer image) where
   abbrev here : State
@@ -176,10 +170,10 @@ module _ (t : Descriptor) (first : List ℕ) (marks : MarkList) (copy : IsCopy t
   held = ap length m.buffer_is ∙ length-drop (length x.stores) (read_at first x.loads) ∙ ap (λ (n : ℕ). n - length x.stores) (length-read_at first x.loads)
 
   -- an instruction that moves no byte
-  quiet : (r : Registers) (new : List Bool) → Answers t first marks (record { registers = r; loads = x.loads; stores = x.stores }) (Moved, state r buffer image new)
-  quiet r new = record { registers_are = refl; buffer_is = m.buffer_is; few = m.few; same = m.same; fits = m.fits }
+  quiet : (i : Insn) (r : Registers) (new : List Bool) → Answers t first marks i (record { registers = r; loads = x.loads; stores = x.stores }) (Moved, state r buffer image new)
+  quiet i r new = record { registers_are = refl; buffer_is = m.buffer_is; few = m.few; same = m.same; fits = m.fits }
 
-  load_answers : Inside t (after_insn Ld x) → GoesOn t.wait t.signal (size_of t) Ld x → Answers t first marks (after_insn Ld x) (act marks Ld here)
+  load_answers : Inside t (after_insn Ld x) → Can Ld x → Answers t first marks Ld (after_insn Ld x) (act marks Ld here)
   load_answers part c =
       let b = source_of x.registers in
       let new = touched b in
@@ -187,7 +181,7 @@ module _ (t : Descriptor) (first : List ℕ) (marks : MarkList) (copy : IsCopy t
       let source : (a : ℕ) → Contains new a → Contains (sources t) a =
       λ a i. subst (λ (xs : List ℕ). Contains xs a) (sym part.loads) (Contains-append_left (x.loads ++ new) part.loads_rest a (Contains-append_right x.loads new a i)) in
       let bytes : read_at image new ≡ read_at first new = read_at-agrees image first new (λ a i. m.same a (inl (source a i)) ∙ source_kept first t (length x.stores) a copy (source a i)) in
-      rw room (by_test (Answers t first marks (after_insn Ld x)) (reaches Reading marks (length image) new) _ _ (λ e. record {
+      rw room (by_test (Answers t first marks Ld (after_insn Ld x)) (reaches Reading marks (length image) new) _ _ (λ e. record {
         registers_are = refl;
         buffer_is =
             ap (λ (xs : List ℕ). xs ++ read_at image new) m.buffer_is
@@ -199,7 +193,7 @@ module _ (t : Descriptor) (first : List ℕ) (marks : MarkList) (copy : IsCopy t
         fits = m.fits;
       }) (λ e misses. true≢false (sym (reaches_all Reading marks (length image) new (λ a i. m.fits a (inl (source a i))) (λ a i. misses.reads a (source a i))) ∙ e)))
 
-  store_answers : Inside t (after_insn St x) → Inside t x → GoesOn t.wait t.signal (size_of t) St x → Answers t first marks (after_insn St x) (act marks St here)
+  store_answers : Inside t (after_insn St x) → Inside t x → Can St x → Answers t first marks St (after_insn St x) (act marks St here)
   store_answers part before c =
       let b = destination_of x.registers in
       let new = touched b in
@@ -231,7 +225,7 @@ module _ (t : Descriptor) (first : List ℕ) (marks : MarkList) (copy : IsCopy t
       ∙ ap (zip (take n (drop k (destinations t)))) bytes in
       let count : length (x.stores ++ new) ≡ k + n = omega (arith, length-append x.stores new, long) in
       let base = laid first t k in
-      rw whole (by_test (Answers t first marks (after_insn St x)) (reaches Writing marks (length image) new) _ _ (λ e. record {
+      rw whole (by_test (Answers t first marks St (after_insn St x)) (reaches Writing marks (length image) new) _ _ (λ e. record {
         registers_are = refl;
         buffer_is = ap (drop n) m.buffer_is ∙ drop-drop n k (read_at first x.loads) ∙ ap (λ (j : ℕ). drop j (read_at first x.loads)) (sym count);
         few = omega (arith, c.0, count);
@@ -243,17 +237,17 @@ module _ (t : Descriptor) (first : List ℕ) (marks : MarkList) (copy : IsCopy t
         fits = λ a touches. omega (arith, m.fits a touches, length-put image (writes_of b (take n buffer)));
       }) (λ e misses. true≢false (sym (reaches_all Writing marks (length image) new (λ a i. m.fits a (inr (is_in a i))) (λ a i. misses.writes a (is_in a i))) ∙ e)))
 
-  pub answers : (i : Insn) → Inside t (after_insn i x) → Inside t x → GoesOn t.wait t.signal (size_of t) i x → Answers t first marks (after_insn i x) (act marks i here)
+  pub answers : (i : Insn) → Inside t (after_insn i x) → Inside t x → Can i x → Answers t first marks i (after_insn i x) (act marks i here)
   answers Ld part before c = load_answers part c
   answers St part before c = store_answers part before c
-  answers (Mov Ccr v) part before c = rw c (quiet (moved (Mov Ccr v) x.registers) flags)
-  answers (Mov Sar v) part before c = quiet (moved (Mov Sar v) x.registers) flags
-  answers (Mov Dar v) part before c = quiet (moved (Mov Dar v) x.registers) flags
-  answers (Lp k n) part before c = quiet (moved (Lp k n) x.registers) flags
-  answers (LpEnd k back) part before c = rw (cannot_jump (counter_of k x.registers) x.registers.pc back (λ n. c (omega (arith, n)))) (quiet (moved (LpEnd k back) x.registers) flags)
-  answers Rmb part before c = quiet (moved Rmb x.registers) flags
-  answers Wmb part before c = quiet (moved Wmb x.registers) flags
-  answers Nop part before c = quiet (moved Nop x.registers) flags
+  answers (Mov Ccr v) part before c = rw c (quiet (Mov Ccr v) (moved (Mov Ccr v) x.registers) flags)
+  answers (Mov Sar v) part before c = quiet (Mov Sar v) (moved (Mov Sar v) x.registers) flags
+  answers (Mov Dar v) part before c = quiet (Mov Dar v) (moved (Mov Dar v) x.registers) flags
+  answers (Lp k n) part before c = quiet (Lp k n) (moved (Lp k n) x.registers) flags
+  answers (LpEnd k back) part before c = rw (cannot_jump (counter_of k x.registers) x.registers.pc back (λ n. c (omega (arith, n)))) (quiet (LpEnd k back) (moved (LpEnd k back) x.registers) flags)
+  answers Rmb part before c = quiet Rmb (moved Rmb x.registers) flags
+  answers Wmb part before c = quiet Wmb (moved Wmb x.registers) flags
+  answers Nop part before c = quiet Nop (moved Nop x.registers) flags
   answers End part before c = absurd c
-  answers (Sev e) part before c = quiet (moved (Sev e) x.registers) (slice_set flags e true)
-  answers (Wfe e v) part before c = by_test (Answers t first marks (after_insn (Wfe e v) x)) (slice_index_or flags e false) _ _ (λ set. quiet (moved (Wfe e v) x.registers) (slice_set flags e false)) (λ clear. c.0)
+  answers (Sev e) part before c = quiet (Sev e) (moved (Sev e) x.registers) (slice_set flags e true)
+  answers (Wfe e v) part before c = by_test (Answers t first marks (Wfe e v) (after_insn (Wfe e v) x)) (slice_index_or flags e false) _ _ (λ set. quiet (Wfe e v) (moved (Wfe e v) x.registers) (slice_set flags e false)) (λ clear. (v, refl))

@@ -1,199 +1,266 @@
 -- The instructions of a run without memory, as its tracer keeps them.
-use Rattle.std.proofs.Common.{◌≡◌, ◌≢◌, ℕ, zero, suc, ◌+◌, ◌-◌, ◌*◌, ◌≤◌, ◌<◌, ◌⊎◌, Bool, true, false, cond, ◌&&◌, List, [], ◌∷◌, ◌++◌, length, Option, Some, None, Result, Ok, Err, refl, sym, ap, ◌∙◌, subst, arith, inl, inr, append_assoc, append-nil, length-append, IfErr, OnErr, OnOk, All, ◌^◌}
-use Rattle.std.proofs.Math.Nat.{mod-eq_of_lt}
-use Rattle.std.specs.Prelude.{is_err, is_some, nat_lt, replicate}
-use Rattle.std.specs.List.{Contains, flat_map, range_with_len}
+use Rattle.std.proofs.Common.{◌≡◌, ◌≢◌, ℕ, zero, suc, ◌+◌, ◌-◌, ◌*◌, ◌≤◌, Bool, true, false, cond, ◌&&◌, List, [], ◌∷◌, ◌++◌, length, Option, Some, None, Result, Ok, Err, refl, sym, ap, ◌∙◌, subst, arith, append-nil, length-append, inl, inr, IfErr, OnOk, All}
+use Rattle.std.specs.Prelude.{is_err, nat_lt, replicate}
+use Rattle.std.specs.List.{flat_map, range_with_len}
 use Rattle.std.proofs.lemmas.List.FromFn.{length-range_with_len}
-use Rattle.std.proofs.lemmas.List.Elements.{Contains-append_right}
-use Rattle.std.proofs.lemmas.Bool.{lt-ltb, cases_lt, true≢false}
+use Rattle.std.proofs.lemmas.Bool.{cases_Bool, le-ltb}
 use Rattle.dma_insn.specs.declared.insn.Counter.{Counter}
 use Rattle.dma_insn.specs.declared.insn.Reg.{Reg}
 use Rattle.dma_insn.specs.declared.insn.Reg.TheVariants.{Sar, Dar, Ccr}
 use Rattle.dma_insn.specs.declared.insn.Insn.{Insn}
-use Rattle.dma_insn.specs.declared.insn.Insn.TheVariants.{Mov, Ld, St, Rmb, Wmb, Nop, End, Lp, LpEnd, Sev, Wfe}
+use Rattle.dma_insn.specs.declared.insn.Insn.TheVariants.{Mov, Ld, St, Lp, LpEnd, Sev, Wfe}
 use Rattle.dma_mem.specs.declared.segment.Segment.{Segment}
-use Rattle.dma_mem.specs.Places.{Descriptor, places, range_of, size_of}
-use Rattle.dma_mem.proofs.SharedPlaces.{in_range}
+use Rattle.dma_mem.specs.Places.{end_of_addresses, places, range_of}
 use Rattle.dma_chan.specs.Bus.{accepts}
 use Rattle.dma_chan.specs.declared.bursts.Burst.{Burst}
 use Rattle.dma_chan.specs.declared.exec.Registers.{Registers}
 use Rattle.dma_chan.specs.declared.explain.Cause.{Cause}
+use Rattle.dma_chan.specs.declared.explain.Cause.TheVariants.{DropsBytes, Fails, LoadsPast, StoresFixed, StoresPast}
+use Rattle.dma_chan.specs.declared.explain.Happening.{Happening}
+use Rattle.dma_chan.specs.declared.explain.Sync.{Sync}
 use Rattle.dma_chan.specs.declared.explain.tracer.Tracer.{Tracer}
 use Rattle.dma_chan.specs.declared.turn.ChanTurn.{ChanTurn}
-use Rattle.dma_chan.specs.declared.turn.ChanTurn.TheVariants.{Moved}
+use Rattle.dma_chan.specs.declared.turn.ChanTurn.TheVariants.{Moved, Fault}
+use Rattle.dma_chan.specs.declared.turn.FaultKind.{FaultKind}
+use Rattle.dma_chan.specs.declared.turn.FaultKind.TheVariants.{InstrFetchErr, MfifoErr, OperandInvalid, StDataUnavailable}
 use Rattle.dma_chan.specs.Bursts.{advance, burst_len, span_of, touched}
-use Rattle.dma_chan.specs.Exec.{State, source_of, destination_of, counter_of, state, wrapped}
-use Rattle.dma_chan.specs.Explains.{GoesOn, Trace, after_insn}
+use Rattle.dma_chan.specs.Exec.{State, act, buffer_size, source_of, destination_of, counter_of, moved, past, state, wrapped}
+use Rattle.dma_chan.specs.Explains.{IsRead, IsRun, Trace, after_insn, drops, happening_of, held, passes, stop_of_insn, stop_of_mov, unrolled}
 use Rattle.dma_chan.specs.inner.Acts.{SetsRegisters}
-use Rattle.dma_chan.specs.inner.At.{moved}
-use Rattle.dma_chan.specs.inner.Spans.{MovesSome}
-use Rattle.dma_chan.specs.inner.Tracing.{Advances, Agrees, Could, IsRun, IsTracer, IsWait, Passes, Sets, Stops, trace_of}
-use Rattle.dma_chan.proofs.BurstReach.{some_len}
+use Rattle.dma_chan.specs.inner.Spans.{MovesSome, rounds_of}
+use Rattle.dma_chan.specs.inner.Tracing.{Advances, IsTracer, Stops, trace_of}
+use Rattle.dma_chan.proofs.BurstReach.{touched-rounds}
 use Rattle.dma_chan.proofs.CallWrites.{act_leads}
 use Rattle.dma_chan.proofs.ControlWords.{advance_up}
-use Rattle.dma_chan.proofs.MemberActs.{cannot_jump}
-use Rattle.dma_chan.proofs.OthersKept.{in_rounds}
-use Rattle.dma_chan.proofs.Traced.{length_up}
+use Rattle.dma_chan.proofs.GoingOn.{drops_same, length_up, passed}
+use Rattle.dma_chan.proofs.RunLists.{one_read, rounds_read}
 
 -- ---- instructions that change only registers
 
-only_true : (b : Bool) (x y : ChanTurn × State) → y.0 ≢ Moved → (cond b x y).0 ≡ Moved → b ≡ true
-only_true true x y ne e = refl
-only_true false x y ne e = absurd (ne e)
+abbrev IsQuiet : Insn → Type 0
+IsQuiet Ld = ⊥
+IsQuiet St = ⊥
+IsQuiet (Wfe e v) = ⊥
+IsQuiet (Sev e) = ⊥
+IsQuiet i = Unit {0}
 
-only_false : (b : Bool) (x y : ChanTurn × State) → x.0 ≢ Moved → (cond b x y).0 ≡ Moved → b ≡ false
-only_false true x y ne e = absurd (ne e)
-only_false false x y ne e = refl
+quiet_events : (i : Insn) (n : ℕ) → IsQuiet i → happening_of (Ok i) n ≡ []
+quiet_events Ld n q = absurd q
+quiet_events St n q = absurd q
+quiet_events (Wfe e v) n q = absurd q
+quiet_events (Sev e) n q = absurd q
+quiet_events i n q = refl
 
-abbrev plain : Registers → State
-plain r = state r [] [] []
+quiet_trace : (i : Insn) (z : Trace) → IsQuiet i → record { registers = moved i z.registers; loads = z.loads; stores = z.stores } ≡ after_insn i z
+quiet_trace Ld z q = absurd q
+quiet_trace St z q = absurd q
+quiet_trace i z q = refl
 
-pub mov_passes : (reg : Reg) (v : ℕ) (r after : Registers) (turn : ChanTurn) → SetsRegisters (Mov reg v) r turn after → turn ≡ Moved → Passes (Mov reg v) r
-mov_passes Sar v r after turn sets e = tt
-mov_passes Dar v r after turn sets e = tt
-mov_passes Ccr v r after turn sets e = only_true (accepts r.bus v) _ _ (λ f. cc) (ap (λ (x : ChanTurn × State). x.0) (sets [] [] [] []) ∙ e)
+quiet_advances : (i : Insn) (x : Tracer) (after : Registers) → IsQuiet i → IsTracer x → after ≡ moved i x.registers → stop_of_insn i (trace_of x) ≡ None → Advances i x (record x { registers = after })
+quiet_advances i x after q h to goes = record {
+  tracer = record { few = h.few; held = h.held; room = h.room; stored = h.stored; src = h.src; dst = h.dst };
+  goes = goes;
+  trace =
+      ap (λ (r : Registers). record { registers = r; loads = places (unrolled x.src.items); stores = places x.dst.items }) to
+      ∙ quiet_trace i (trace_of x) q;
+  events =
+      sym (append-nil x.events.items)
+      ∙ ap (λ (es : List Happening). x.events.items ++ es) (sym (quiet_events i (length (places x.dst.items)) q));
+}
 
-no_jump : (n pc back : ℕ) → (nat_lt 0 n && nat_lt pc back) ≡ false → 0 < n → back ≤ pc
-no_jump n pc back e some = elim (cases_lt pc back) [
-  | inl low ↦ absurd (true≢false (let f : (nat_lt 0 n && nat_lt pc back) ≡ true = rw (lt-ltb 0 n some, lt-ltb pc back low) refl in sym f ∙ e))
-  | inr le ↦ le
-]
+-- an answer that is no fault
+abbrev pub NoFault : ChanTurn → Type 0
+NoFault turn = (kind : FaultKind) → turn ≢ Fault kind
 
-pub loop_passes : (c : Counter) (back : ℕ) (r after : Registers) (turn : ChanTurn) → SetsRegisters (LpEnd c back) r turn after → turn ≡ Moved → Passes (LpEnd c back) r
-loop_passes c back r after turn sets e =
-    no_jump (counter_of c r) r.pc back (only_false (nat_lt 0 (counter_of c r) && nat_lt r.pc back) _ _ (λ f. cc) (ap (λ (x : ChanTurn × State). x.0) (sets [] [] [] []) ∙ e))
+-- the fault of an answer as a cause
+abbrev pub FaultIs : ChanTurn → Cause → Type 0
+FaultIs turn cause = (kind : FaultKind) × (turn ≡ Fault kind) × (cause ≡ Fails kind)
 
-sets_one : (i : Insn) (r after : Registers) (turn : ChanTurn) → (turn ≡ Moved → Passes i r) → SetsRegisters i r turn after → turn ≡ Moved → Sets i r after
-sets_one i r after turn passes sets e =
+sets_to : (i : Insn) (r after : Registers) (turn : ChanTurn) → SetsRegisters i r turn after → turn ≡ Moved → after ≡ moved i r
+sets_to i r after turn sets moves =
     let same = sets [] [] [] [] in
-    (passes e, sym (ap (λ (x : ChanTurn × State). x.1.registers) same) ∙ act_leads [] i (plain r) (ap (λ (x : ChanTurn × State). x.0) same ∙ e))
+    sym (ap (λ (x : ChanTurn × State). x.1.registers) same) ∙ act_leads [] i (state r [] [] []) (ap (λ (x : ChanTurn × State). x.0) same ∙ moves)
 
-pub sets_by : {X E : Type 0} (done : Result X E) (i : Insn) (r after : Registers) (turn : ChanTurn) → (turn ≡ Moved → Passes i r) → SetsRegisters i r turn after → OnOk done (turn ≡ Moved) → OnOk done (Sets i r after)
-sets_by (Ok x) i r after turn passes sets e = sets_one i r after turn passes sets e
-sets_by (Err x) i r after turn passes sets e = tt
+-- the answer of one of two instructions
+abbrev turn_if : Bool → ChanTurn × State → ChanTurn × State → ChanTurn
+turn_if b x y = (cond b x y).0
 
--- an instruction that isn't a load, a store, a wait or a signal
-pub set_advances : (i : Insn) (x y : Tracer) → IsTracer x → Sets i x.registers y.registers → y.held ≡ x.held → y.src ≡ x.src → y.dst ≡ x.dst → GoesOn y.wait y.signal (length (places y.dst.items)) i (trace_of x) → ((x.wait ≡ None) ⊎ (y.wait ≡ x.wait)) → ((x.signal ≡ None) ⊎ (y.signal ≡ x.signal)) → ((e : ℕ) → y.wait ≡ Some e → (x.wait ≡ Some e) ⊎ IsWait e i) → ((e : ℕ) → y.signal ≡ Some e → (x.signal ≡ Some e) ⊎ (i ≡ Sev e)) → i ≢ Ld → i ≢ St → Advances i x y
-set_advances i x y h sets held src dst goes wait signal waited signalled no_load no_store =
-    let to = ap (λ v. length (places v.items)) dst in
+-- an instruction that moves if a test holds, and else fails so
+module _ (b : Bool) (kind : FaultKind) (turn : ChanTurn) (s t : State) (is : turn_if b (Moved, s) (Fault kind, t) ≡ turn) where
+  moves_if : NoFault turn → (b ≡ true) × (turn ≡ Moved)
+  moves_if none = elim (cases_Bool b) [
+    | inl holds ↦ (holds, sym is ∙ ap (λ (c : Bool). turn_if c (Moved, s) (Fault kind, t)) holds)
+    | inr fails ↦ absurd (none kind (sym is ∙ ap (λ (c : Bool). turn_if c (Moved, s) (Fault kind, t)) fails))
+  ]
+
+  fails_if : (cause : Cause) → FaultIs turn cause → (b ≡ false) × (cause ≡ Fails kind)
+  fails_if cause f = elim (cases_Bool b) [
+    | inl holds ↦
+        let bad : Moved ≡ Fault f.0 = sym (ap (λ (c : Bool). turn_if c (Moved, s) (Fault kind, t)) holds) ∙ is ∙ f.1 in
+        absurd (cc)
+    | inr fails ↦
+        let same : Fault kind ≡ Fault f.0 = sym (ap (λ (c : Bool). turn_if c (Moved, s) (Fault kind, t)) fails) ∙ is ∙ f.1 in
+        let one : kind ≡ f.0 = cc in
+        (fails, f.2 ∙ ap (λ (k : FaultKind). Fails k) (sym one))
+  ]
+
+-- the answer of an instruction that sets registers
+turn_of : (i : Insn) (r after : Registers) (turn : ChanTurn) → SetsRegisters i r turn after → (act [] i (state r [] [] [])).0 ≡ turn
+turn_of i r after turn sets = ap (λ (x : ChanTurn × State). x.0) (sets [] [] [] [])
+
+-- DMAMOV
+mov_moves : (reg : Reg) (v : ℕ) (r after : Registers) (turn : ChanTurn) → SetsRegisters (Mov reg v) r turn after → NoFault turn → turn ≡ Moved
+mov_moves Sar v r after turn sets none = sym (turn_of (Mov Sar v) r after turn sets)
+mov_moves Dar v r after turn sets none = sym (turn_of (Mov Dar v) r after turn sets)
+mov_moves Ccr v r after turn sets none = (moves_if (accepts r.bus v) OperandInvalid turn _ _ (turn_of (Mov Ccr v) r after turn sets) none).1
+
+mov_accepted : (reg : Reg) (v : ℕ) (z : Trace) (after : Registers) (turn : ChanTurn) → SetsRegisters (Mov reg v) z.registers turn after → NoFault turn → stop_of_insn (Mov reg v) z ≡ stop_of_mov (Mov reg v) z
+mov_accepted Sar v z after turn sets none =
+    let b = destination_of z.registers in
+    let same : (nat_lt 0 (held z) && drops z.registers.bus b b) ≡ false = ap (λ (d : Bool). nat_lt 0 (held z) && d) (drops_same z.registers.bus b) ∙ no_test (nat_lt 0 (held z)) in
+    sym (passed (nat_lt 0 (held z) && drops z.registers.bus b b) DropsBytes None same refl)
+  where
+    no_test : (b : Bool) → (b && false) ≡ false
+    no_test true = refl
+    no_test false = refl
+mov_accepted Dar v z after turn sets none = refl
+mov_accepted Ccr v z after turn sets none =
+    ap (λ (b : Bool). cond b (stop_of_mov (Mov Ccr v) z) (Some (Fails OperandInvalid))) (moves_if (accepts z.registers.bus v) OperandInvalid turn _ _ (turn_of (Mov Ccr v) z.registers after turn sets) none).0
+
+mov_fails : (reg : Reg) (v : ℕ) (z : Trace) (after : Registers) (turn : ChanTurn) → SetsRegisters (Mov reg v) z.registers turn after → (cause : Cause) → FaultIs turn cause → stop_of_insn (Mov reg v) z ≡ Some cause
+mov_fails Sar v z after turn sets cause f = absurd (let bad : Moved ≡ Fault f.0 = turn_of (Mov Sar v) z.registers after turn sets ∙ f.1 in cc)
+mov_fails Dar v z after turn sets cause f = absurd (let bad : Moved ≡ Fault f.0 = turn_of (Mov Dar v) z.registers after turn sets ∙ f.1 in cc)
+mov_fails Ccr v z after turn sets cause f =
+    let w = fails_if (accepts z.registers.bus v) OperandInvalid turn _ _ (turn_of (Mov Ccr v) z.registers after turn sets) cause f in
+    ap (λ (b : Bool). cond b (stop_of_mov (Mov Ccr v) z) (Some (Fails OperandInvalid))) w.0 ∙ ap (λ (k : Cause). Some k) (sym w.1)
+
+module _ (reg : Reg) (v : ℕ) (x : Tracer) (after : Registers) (turn : ChanTurn) (h : IsTracer x) (sets : SetsRegisters (Mov reg v) x.registers turn after) where
+  pub set_fails : (kind : FaultKind) → turn ≡ Fault kind → stop_of_insn (Mov reg v) (trace_of x) ≡ Some (Fails kind)
+  set_fails kind e = mov_fails reg v (trace_of x) after turn sets (Fails kind) (kind, e, refl)
+
+  to : NoFault turn → after ≡ moved (Mov reg v) x.registers
+  to none = sets_to (Mov reg v) x.registers after turn sets (mov_moves reg v x.registers after turn sets none)
+
+  abbrev Dropped : ℕ → Registers → Bool
+  Dropped n r = nat_lt 0 n && drops x.registers.bus (destination_of x.registers) (destination_of r)
+
+  tested : (b : Bool) → NoFault turn → Dropped x.held after ≡ b → Dropped (held (trace_of x)) (moved (Mov reg v) x.registers) ≡ b
+  tested b none e = ap (λ (n : ℕ). Dropped n (moved (Mov reg v) x.registers)) (sym h.held) ∙ ap (Dropped x.held) (sym (to none)) ∙ e
+
+  pub set_advances : NoFault turn → Dropped x.held after ≡ false → Advances (Mov reg v) x (record x { registers = after })
+  set_advances none keeps =
+      quiet_advances (Mov reg v) x after tt h (to none)
+      (mov_accepted reg v (trace_of x) after turn sets none ∙ passed (Dropped (held (trace_of x)) (moved (Mov reg v) x.registers)) DropsBytes None (tested false none keeps) refl)
+
+  pub set_drops : NoFault turn → Dropped x.held after ≡ true → stop_of_insn (Mov reg v) (trace_of x) ≡ Some DropsBytes
+  set_drops none drop =
+      mov_accepted reg v (trace_of x) after turn sets none ∙ ap (λ (b : Bool). cond b (Some DropsBytes) None) (tested true none drop)
+
+-- DMALP and DMALPEND
+module _ {X : Type 0} (done : Result X Cause) (x : Tracer) (after : Registers) (turn : ChanTurn) (h : IsTracer x) where
+  answered : (i : Insn) → IsQuiet i → SetsRegisters i x.registers turn after → (NoFault turn → (turn ≡ Moved) × (stop_of_insn i (trace_of x) ≡ None)) → OnOk done (NoFault turn) → OnOk done (Advances i x (record x { registers = after }))
+  answered i q sets moves none = by done none
+    where
+      by : (r : Result X Cause) → OnOk r (NoFault turn) → OnOk r (Advances i x (record x { registers = after }))
+      by (Ok y) ok = let w = moves ok in quiet_advances i x after q h (sets_to i x.registers after turn sets w.0) w.1
+      by (Err cause) ok = tt
+
+  refused : (i : Insn) → ((cause : Cause) → FaultIs turn cause → stop_of_insn i (trace_of x) ≡ Some cause) → IfErr done (λ cause. FaultIs turn cause) → IfErr done (λ cause. Stops i x cause)
+  refused i stops fault = by done fault
+    where
+      by : (r : Result X Cause) → IfErr r (λ cause. FaultIs turn cause) → IfErr r (λ cause. Stops i x cause)
+      by (Ok y) f = tt
+      by (Err cause) f = λ _. stops cause f
+
+  pub lp_advances : (c : Counter) (n : ℕ) → SetsRegisters (Lp c n) x.registers turn after → OnOk done (NoFault turn) → OnOk done (Advances (Lp c n) x (record x { registers = after }))
+  lp_advances c n sets none = answered (Lp c n) tt sets (λ _. (sym (turn_of (Lp c n) x.registers after turn sets), refl)) none
+
+  pub lp_stops : (c : Counter) (n : ℕ) → SetsRegisters (Lp c n) x.registers turn after → IfErr done (λ cause. FaultIs turn cause) → IfErr done (λ cause. Stops (Lp c n) x cause)
+  lp_stops c n sets fault =
+      refused (Lp c n) (λ cause f. absurd (let bad : Moved ≡ Fault f.0 = turn_of (Lp c n) x.registers after turn sets ∙ f.1 in cc)) fault
+
+  module _ (c : Counter) (back : ℕ) (sets : SetsRegisters (LpEnd c back) x.registers turn after) where
+    abbrev before : Bool
+    before = nat_lt 0 (counter_of c x.registers) && nat_lt x.registers.pc back
+
+    is : turn_if before (Fault InstrFetchErr, state x.registers [] [] []) (Moved, record (state x.registers [] [] []) { registers = moved (LpEnd c back) x.registers }) ≡ turn
+    is = turn_of (LpEnd c back) x.registers after turn sets
+
+    loop_moves : NoFault turn → (turn ≡ Moved) × (stop_of_insn (LpEnd c back) (trace_of x) ≡ None)
+    loop_moves none = elim (cases_Bool before) [
+      | inl holds ↦ absurd (none InstrFetchErr (sym is ∙ ap (λ (b : Bool). turn_if b (Fault InstrFetchErr, state x.registers [] [] []) (Moved, record (state x.registers [] [] []) { registers = moved (LpEnd c back) x.registers })) holds))
+      | inr fails ↦ (
+        sym is ∙ ap (λ (b : Bool). turn_if b (Fault InstrFetchErr, state x.registers [] [] []) (Moved, record (state x.registers [] [] []) { registers = moved (LpEnd c back) x.registers })) fails,
+        passed before (Fails InstrFetchErr) None fails refl,
+      )
+    ]
+
+    loop_fails : (cause : Cause) → FaultIs turn cause → stop_of_insn (LpEnd c back) (trace_of x) ≡ Some cause
+    loop_fails cause f = elim (cases_Bool before) [
+      | inl holds ↦
+          let same : Fault InstrFetchErr ≡ Fault f.0 = sym (ap (λ (b : Bool). turn_if b (Fault InstrFetchErr, state x.registers [] [] []) (Moved, record (state x.registers [] [] []) { registers = moved (LpEnd c back) x.registers })) holds) ∙ is ∙ f.1 in
+          let one : InstrFetchErr ≡ f.0 = cc in
+          ap (λ (b : Bool). cond b (Some (Fails InstrFetchErr)) None) holds ∙ ap (λ (k : FaultKind). Some (Fails k)) one ∙ ap (λ (k : Cause). Some k) (sym f.2)
+      | inr fails ↦
+          let bad : Moved ≡ Fault f.0 = sym (ap (λ (b : Bool). turn_if b (Fault InstrFetchErr, state x.registers [] [] []) (Moved, record (state x.registers [] [] []) { registers = moved (LpEnd c back) x.registers })) fails) ∙ is ∙ f.1 in
+          absurd (cc)
+    ]
+
+    pub loop_advances : OnOk done (NoFault turn) → OnOk done (Advances (LpEnd c back) x (record x { registers = after }))
+    loop_advances none = answered (LpEnd c back) tt sets loop_moves none
+
+    pub loop_stops : IfErr done (λ cause. FaultIs turn cause) → IfErr done (λ cause. Stops (LpEnd c back) x cause)
+    loop_stops fault = refused (LpEnd c back) loop_fails fault
+
+-- ---- DMAWFE and DMASEV
+
+-- an instruction is one of them
+record Syncs (i : Insn) (z : Trace) : Type 0 where
+  goes : stop_of_insn i z ≡ None
+  trace : record { registers = past i z.registers; loads = z.loads; stores = z.stores } ≡ after_insn i z
+
+abbrev pub Happens : Insn → Sync → Type 0
+Happens i s = (stored : ℕ) → happening_of (Ok i) stored ≡ record { sync = s; stored = stored } ∷ []
+
+syncs : (i : Insn) (s : Sync) (z : Trace) → Happens i s → Syncs i z
+syncs (Wfe e v) s z h = record { goes = refl; trace = refl }
+syncs (Sev e) s z h = record { goes = refl; trace = refl }
+syncs i s z h = absurd (let bad : [] ≡ record { sync = s; stored = 0 } ∷ [] = h 0 in cc)
+
+pub happen_advances : (i : Insn) (s : Sync) (x y : Tracer) → IsTracer x → Happens i s → y.registers ≡ past i x.registers → y.held ≡ x.held → y.stored ≡ x.stored → y.src ≡ x.src → y.dst ≡ x.dst → y.events.items ≡ x.events.items ++ record { sync = s; stored = x.stored } ∷ [] → Advances i x y
+happen_advances i s x y h is registers held_same stored src dst events =
+    let w = syncs i s (trace_of x) is in
+    let loads = ap (λ v. places (unrolled v.items)) src in
+    let stores = ap (λ v. places v.items) dst in
     record {
       tracer = record {
-        few = subst (λ v. length (places v.items) ≤ length (places y.src.items)) (sym dst) (subst (λ v. length (places x.dst.items) ≤ length (places v.items)) (sym src) h.few);
-        held = held ∙ h.held ∙ ap (λ v. length (places v.items) - length (places x.dst.items)) (sym src) ∙ ap (λ v. length (places y.src.items) - length (places v.items)) (sym dst);
-        room = subst (λ (n : ℕ). n ≤ 256) (sym held) h.room;
-        src = subst (λ v. All IsRun v.items) (sym src) h.src;
+        few = omega (arith, h.few, ap length loads, ap length stores);
+        held = omega (arith, held_same, h.held, ap length loads, ap length stores);
+        room = omega (arith, held_same, h.room);
+        stored = omega (arith, stored, h.stored, ap length stores);
+        src = subst (λ v. All IsRead v.items) (sym src) h.src;
         dst = subst (λ v. All IsRun v.items) (sym dst) h.dst;
       };
-      trace = ap (λ (r : Registers). record { registers = r; loads = places y.src.items; stores = places y.dst.items }) sets.1
-          ∙ ap (λ v. record { registers = moved i x.registers; loads = places v.items; stores = places y.dst.items }) src
-          ∙ ap (λ v. record { registers = moved i x.registers; loads = places x.src.items; stores = places v.items }) dst
-          ∙ quiet i no_load no_store;
-      goes = goes;
-      wait = wait;
-      signal = elim signal [ inl none ↦ inl none | inr same ↦ inr (same, to) ];
-      waited = waited;
-      signalled = λ e is. (to, signalled e is);
+      goes = w.goes;
+      trace =
+          ap (λ (r : Registers). record { registers = r; loads = places (unrolled y.src.items); stores = places y.dst.items }) registers
+          ∙ ap (λ (xs : List ℕ). record { registers = past i x.registers; loads = xs; stores = places y.dst.items }) loads
+          ∙ ap (λ (xs : List ℕ). record { registers = past i x.registers; loads = places (unrolled x.src.items); stores = xs }) stores
+          ∙ w.trace;
+      events = events ∙ ap (λ (n : ℕ). x.events.items ++ record { sync = s; stored = n } ∷ []) h.stored ∙ ap (λ (es : List Happening). x.events.items ++ es) (sym (is (length (places x.dst.items))));
     }
-  where
-    quiet : (j : Insn) → j ≢ Ld → j ≢ St → record { registers = moved j x.registers; loads = places x.src.items; stores = places x.dst.items } ≡ after_insn j (trace_of x)
-    quiet Ld f g = absurd (f refl)
-    quiet St f g = absurd (g refl)
-    quiet (Mov r v) f g = refl
-    quiet (Lp c n) f g = refl
-    quiet (LpEnd c b) f g = refl
-    quiet Rmb f g = refl
-    quiet Wmb f g = refl
-    quiet Nop f g = refl
-    quiet End f g = refl
-    quiet (Sev e) f g = refl
-    quiet (Wfe e v) f g = refl
 
 -- ---- bursts
 
--- the same addresses again
-pub once_more : (n : ℕ) (xs : List ℕ) → flat_map (λ ys. ys) (replicate n xs) ++ xs ≡ flat_map (λ ys. ys) (replicate (suc n) xs)
-once_more zero xs = sym (append-nil xs)
-once_more (suc n) xs = append_assoc xs (flat_map (λ ys. ys) (replicate n xs)) xs ∙ ap (λ (ys : List ℕ). xs ++ ys) (once_more n xs)
-
-pub touched_rising : (b : Burst) → b.increments ≡ true → range_with_len b.addr (burst_len b) ≡ touched b
-touched_rising b e = rw e refl
-
-pub touched_again : (b : Burst) → b.increments ≡ false → flat_map (λ xs. xs) (replicate b.beats (range_with_len b.addr b.size)) ≡ touched b
-touched_again b e = rw e refl
-
--- a trace by its parts
-abbrev parts : Registers → List ℕ → List ℕ → Trace
-parts r loads stores = record { registers = r; loads = loads; stores = stores }
-
-pub load_advances : (x y : Tracer) (b : Burst) → IsTracer x → b ≡ source_of x.registers → y.registers ≡ moved Ld x.registers → y.held ≡ x.held + burst_len b → y.held ≤ 256 → places y.src.items ≡ places x.src.items ++ touched b → length (touched b) ≡ burst_len b → All IsRun y.src.items → y.dst ≡ x.dst → y.wait ≡ x.wait → y.signal ≡ x.signal → Advances Ld x y
-load_advances x y b h is registers held room src long runs dst wait signal =
-    let more : length (places y.src.items) ≡ length (places x.src.items) + burst_len b = omega (arith, ap length src, length-append (places x.src.items) (touched b), long) in
-    let to : length (places y.dst.items) ≡ length (places x.dst.items) = ap (λ v. length (places v.items)) dst in
-    let len : burst_len (source_of x.registers) ≡ burst_len b = ap burst_len (sym is) in
-    record {
-      tracer = record {
-        few = omega (arith, h.few, more, to);
-        held = omega (arith, h.few, h.held, held, more, to);
-        room = room;
-        src = runs;
-        dst = subst (λ v. All IsRun v.items) (sym dst) h.dst;
-      };
-      trace = ap (λ (r : Registers). parts r (places y.src.items) (places y.dst.items)) registers
-          ∙ ap (λ (xs : List ℕ). parts (moved Ld x.registers) xs (places y.dst.items)) (src ∙ ap (λ (c : Burst). places x.src.items ++ touched c) is)
-          ∙ ap (λ v. parts (moved Ld x.registers) (places x.src.items ++ touched (source_of x.registers)) (places v.items)) dst;
-      goes = omega (arith, len, h.held, h.few, held, room);
-      wait = inr wait;
-      signal = inr (signal, to);
-      waited = λ e known. inl (sym wait ∙ known);
-      signalled = λ e known. (to, inl (sym signal ∙ known));
-    }
-
-pub store_advances : (x y : Tracer) (b : Burst) → IsTracer x → b ≡ destination_of x.registers → b.increments ≡ true → burst_len b ≤ x.held → y.registers ≡ moved St x.registers → y.held ≡ x.held - burst_len b → places y.dst.items ≡ places x.dst.items ++ touched b → All IsRun y.dst.items → y.src ≡ x.src → y.wait ≡ x.wait → x.signal ≡ None → y.signal ≡ x.signal → Advances St x y
-store_advances x y b h is up has registers held dst runs src wait signal kept =
-    let more : length (places y.dst.items) ≡ length (places x.dst.items) + burst_len b = omega (arith, ap length dst, length-append (places x.dst.items) (touched b), length_up b up) in
-    let from : length (places y.src.items) ≡ length (places x.src.items) = ap (λ v. length (places v.items)) src in
-    let len : burst_len (destination_of x.registers) ≡ burst_len b = ap burst_len (sym is) in
-    record {
-      tracer = record {
-        few = omega (arith, h.few, h.held, has, more, from);
-        held = omega (arith, h.few, h.held, held, has, more, from);
-        room = omega (arith, h.room, held);
-        src = subst (λ v. All IsRun v.items) (sym src) h.src;
-        dst = runs;
-      };
-      trace = ap (λ (r : Registers). parts r (places y.src.items) (places y.dst.items)) registers
-          ∙ ap (λ (xs : List ℕ). parts (moved St x.registers) (places y.src.items) xs) (dst ∙ ap (λ (c : Burst). places x.dst.items ++ touched c) is)
-          ∙ ap (λ v. parts (moved St x.registers) (places v.items) (places x.dst.items ++ touched (destination_of x.registers))) src;
-      goes = (omega (arith, len, h.held, h.few, has), ap (λ (c : Burst). c.increments) (sym is) ∙ up);
-      wait = inr wait;
-      signal = inl signal;
-      waited = λ e known. inl (sym wait ∙ known);
-      signalled = λ e known. absurd (let bad : None ≡ Some e = sym signal ∙ sym kept ∙ known in cc);
-    }
-
--- ---- what a tracer's instructions know
-
-pub at_ok : {X E : Type 0} (r : Result X E) (P : Type 0) → false ≡ is_err r → OnOk r P → P
-at_ok (Ok x) P e h = h
-at_ok (Err x) P e h = absurd (cc)
-
-pub none_from : (o : Option ℕ) → false ≡ is_some o → o ≡ None
-none_from None e = refl
-none_from (Some x) e = absurd (cc)
-
-pub loaded_registers : (r : Registers) (b : Burst) (n : ℕ) → b ≡ source_of r → n ≡ advance b → r.sar + n < 2 ^ 32 → record r { pc = r.pc + 1; sar = r.sar + n } ≡ moved Ld r
-loaded_registers r b n is e low =
-    ap (λ (a : ℕ). record r { pc = r.pc + 1; sar = a }) (sym (mod-eq_of_lt low) ∙ ap (λ (k : ℕ). wrapped (r.sar + k)) (e ∙ ap advance is))
-
-pub stored_registers : (r : Registers) (b : Burst) (n : ℕ) → b ≡ destination_of r → b.increments ≡ true → n ≡ burst_len b → r.dar + n < 2 ^ 32 → record r { pc = r.pc + 1; dar = r.dar + n } ≡ moved St r
-stored_registers r b n is up e low =
-    ap (λ (a : ℕ). record r { pc = r.pc + 1; dar = a }) (sym (mod-eq_of_lt low) ∙ ap (λ (k : ℕ). wrapped (r.dar + k)) (e ∙ sym (advance_up b (burst_len b) up refl) ∙ ap advance is))
-
--- the range of a burst that rises
-pub touched_span : (b : Burst) (s : Segment) → b.increments ≡ true → s.addr ≡ b.addr → s.len ≡ span_of b → range_of s ≡ touched b
-touched_span b s up at long =
-    let len : span_of b ≡ burst_len b = rw up refl in
-    ap (λ (a : ℕ). range_with_len a s.len) at ∙ ap (range_with_len b.addr) (long ∙ len) ∙ touched_rising b up
+-- what a burst reads
+pub read_touched : (b : Burst) (addr len times : ℕ) → addr ≡ b.addr → len ≡ span_of b → times ≡ rounds_of b → places (unrolled (record { addr = addr; len = len; times = times } ∷ [])) ≡ touched b
+read_touched b addr len times at long often =
+    one_read (record { addr = addr; len = len; times = times })
+    ∙ ap (λ (k : ℕ). places (replicate k (record { addr = addr; len = len }))) often
+    ∙ rounds_read (rounds_of b) (record { addr = addr; len = len })
+    ∙ ap (λ (a : ℕ). flat_map (λ ys. ys) (replicate (rounds_of b) (range_with_len a len))) at
+    ∙ ap (λ (n : ℕ). flat_map (λ ys. ys) (replicate (rounds_of b) (range_with_len b.addr n))) long
+    ∙ sym (touched-rounds b)
 
 fixed_length : (k : ℕ) (xs : List ℕ) → length (flat_map (λ ys. ys) (replicate k xs)) ≡ k * length xs
 fixed_length zero xs = omega arith
@@ -201,97 +268,96 @@ fixed_length (suc k) xs = omega (arith, length-append xs (flat_map (λ ys. ys) (
 
 -- a burst touches as many addresses as it has bytes, each beat of a fixed one the same
 pub length_touched : (b : Burst) → MovesSome b → length (touched b) ≡ burst_len b
-length_touched b some = by b.increments refl
-  where
-    by : (i : Bool) → b.increments ≡ i → length (touched b) ≡ burst_len b
-    by true e = length_up b e
-    by false e = ap length (sym (touched_again b e)) ∙ fixed_length b.beats (range_with_len b.addr b.size) ∙ ap (λ (n : ℕ). b.beats * n) (length-range_with_len b.addr b.size) ∙ omega (arith, some.fixed e)
+length_touched b some = elim (cases_Bool b.increments) [
+  | inl up ↦ length_up b up
+  | inr fixed ↦
+      let again : touched b ≡ flat_map (λ xs. xs) (replicate b.beats (range_with_len b.addr b.size)) = rw fixed refl in
+      ap length again ∙ fixed_length b.beats (range_with_len b.addr b.size) ∙ ap (λ (n : ℕ). b.beats * n) (length-range_with_len b.addr b.size) ∙ omega (arith, some.fixed fixed)
+]
 
--- ---- where no copy goes on
+-- a trace by its parts
+abbrev parts : Registers → List ℕ → List ℕ → Trace
+parts r loads stores = record { registers = r; loads = loads; stores = stores }
 
-pub passes_mov : (reg : Reg) (v : ℕ) (r after : Registers) (turn : ChanTurn) → SetsRegisters (Mov reg v) r turn after → Passes (Mov reg v) r → turn ≡ Moved
-passes_mov Sar v r after turn sets e = sym (ap (λ (x : ChanTurn × State). x.0) (sets [] [] [] []))
-passes_mov Dar v r after turn sets e = sym (ap (λ (x : ChanTurn × State). x.0) (sets [] [] [] []))
-passes_mov Ccr v r after turn sets e = sym (ap (λ (x : ChanTurn × State). x.0) (sets [] [] [] [])) ∙ rw e refl
+-- why a burst of a load, or of a store, stops
+abbrev stop_of_load : Burst → Trace → Option Cause
+stop_of_load b z =
+    cond (nat_lt buffer_size (held z + burst_len b)) (Some (Fails MfifoErr)) (cond (passes b) (Some LoadsPast) None)
 
-pub passes_lp : (c : Counter) (n : ℕ) (r after : Registers) (turn : ChanTurn) → SetsRegisters (Lp c n) r turn after → turn ≡ Moved
-passes_lp c n r after turn sets = sym (ap (λ (x : ChanTurn × State). x.0) (sets [] [] [] []))
+abbrev stop_of_store : Burst → Trace → Option Cause
+stop_of_store b z =
+    cond (nat_lt (held z) (burst_len b)) (Some (Fails StDataUnavailable)) (cond (passes b) (Some StoresPast) (cond b.increments None (Some StoresFixed)))
 
-pub passes_loop : (c : Counter) (back : ℕ) (r after : Registers) (turn : ChanTurn) → SetsRegisters (LpEnd c back) r turn after → Passes (LpEnd c back) r → turn ≡ Moved
-passes_loop c back r after turn sets e =
-    sym (ap (λ (x : ChanTurn × State). x.0) (sets [] [] [] [])) ∙ rw (cannot_jump (counter_of c r) r.pc back (λ n. e (omega (arith, n)))) refl
+module _ (x : Tracer) (b : Burst) (h : IsTracer x) where
+  abbrev z : Trace
+  z = trace_of x
 
-pub refused_by : {X E : Type 0} (done : Result X E) (i : Insn) (r : Registers) (turn : ChanTurn) → (Passes i r → turn ≡ Moved) → OnErr done (turn ≢ Moved) → OnErr done (¬ Passes i r)
-refused_by (Ok x) i r turn moves h = tt
-refused_by (Err x) i r turn moves h = λ passes. h (moves passes)
+  full : (n : ℕ) → n ≡ x.held + burst_len b → n ≤ 256 → nat_lt buffer_size (held z + burst_len b) ≡ false
+  full n is le = le-ltb buffer_size (held z + burst_len b) (omega (arith, is, le, h.held))
 
-goes_passes : (wait signal : Option ℕ) (size : ℕ) (i : Insn) (z : Trace) → GoesOn wait signal size i z → i ≢ Ld → i ≢ St → Passes i z.registers
-goes_passes wait signal size Ld z g f h = f refl
-goes_passes wait signal size St z g f h = h refl
-goes_passes wait signal size End z g f h = g
-goes_passes wait signal size (Mov Ccr v) z g f h = g
-goes_passes wait signal size (Mov Sar v) z g f h = tt
-goes_passes wait signal size (Mov Dar v) z g f h = tt
-goes_passes wait signal size (LpEnd c b) z g f h = g
-goes_passes wait signal size (Lp c n) z g f h = tt
-goes_passes wait signal size Rmb z g f h = tt
-goes_passes wait signal size Wmb z g f h = tt
-goes_passes wait signal size Nop z g f h = tt
-goes_passes wait signal size (Sev e) z g f h = tt
-goes_passes wait signal size (Wfe e v) z g f h = tt
+  enough : burst_len b ≤ x.held → nat_lt (held z) (burst_len b) ≡ false
+  enough has = le-ltb (held z) (burst_len b) (omega (arith, has, h.held))
 
-pub set_stops : {X : Type 0} (r : Result X Cause) (i : Insn) (x : Tracer) → OnErr r (¬ Passes i x.registers) → i ≢ Ld → i ≢ St → IfErr r (λ cause. Stops i x cause)
-set_stops (Ok v) i x h f g = tt
-set_stops (Err cause) i x h f g = λ _ t agrees could. h (goes_passes t.wait t.signal (size_of t) i (trace_of x) could.goes f g)
+  pub load_advances : (y : Tracer) → b ≡ source_of x.registers → y.registers ≡ moved Ld x.registers → y.held ≡ x.held + burst_len b → y.held ≤ 256 → passes b ≡ false → places (unrolled y.src.items) ≡ places (unrolled x.src.items) ++ touched b → length (touched b) ≡ burst_len b → All IsRead y.src.items → y.dst ≡ x.dst → y.stored ≡ x.stored → y.events ≡ x.events → Advances Ld x y
+  load_advances y is registers more room low src long items dst stored events =
+      let grown : length (places (unrolled y.src.items)) ≡ length (places (unrolled x.src.items)) + burst_len b = omega (arith, ap length src, length-append (places (unrolled x.src.items)) (touched b), long) in
+      let to : length (places y.dst.items) ≡ length (places x.dst.items) = ap (λ v. length (places v.items)) dst in
+      record {
+        tracer = record {
+          few = omega (arith, h.few, grown, to);
+          held = omega (arith, h.few, h.held, more, grown, to);
+          room = room;
+          stored = omega (arith, stored, h.stored, to);
+          src = items;
+          dst = subst (λ v. All IsRun v.items) (sym dst) h.dst;
+        };
+        goes = ap (λ (c : Burst). stop_of_load c z) (sym is) ∙ passed (nat_lt buffer_size (held z + burst_len b)) (Fails MfifoErr) _ (full y.held more room) (passed (passes b) LoadsPast None low refl);
+        trace = ap (λ (r : Registers). parts r (places (unrolled y.src.items)) (places y.dst.items)) registers
+            ∙ ap (λ (xs : List ℕ). parts (moved Ld x.registers) xs (places y.dst.items)) (src ∙ ap (λ (c : Burst). places (unrolled x.src.items) ++ touched c) is)
+            ∙ ap (λ v. parts (moved Ld x.registers) (places (unrolled x.src.items) ++ touched (source_of x.registers)) (places v.items)) dst;
+        events = ap (λ v. v.items) events ∙ sym (append-nil x.events.items);
+      }
 
--- a burst that ends above 4,294,967,295 touches an address that no copy has
-pub touches_last : (b : Burst) → MovesSome b → Contains (touched b) (b.addr + span_of b - 1)
-touches_last b h = by b.increments refl
-  where
-    by : (i : Bool) → b.increments ≡ i → Contains (touched b) (b.addr + span_of b - 1)
-    by true e =
-        let some : 1 ≤ burst_len b = some_len b h in
-        let long : span_of b ≡ burst_len b = rw e refl in
-        subst (λ (xs : List ℕ). Contains xs (b.addr + span_of b - 1)) (touched_rising b e)
-        (in_range b.addr (burst_len b) (b.addr + span_of b - 1) (omega (arith, long, some)) (omega (arith, long, some)))
-    by false e =
-        let long : span_of b ≡ b.size = rw e refl in
-        subst (λ (xs : List ℕ). Contains xs (b.addr + span_of b - 1)) (touched_again b e)
-        (in_rounds b.beats (range_with_len b.addr b.size) (b.addr + span_of b - 1) h.beats
-        (in_range b.addr b.size (b.addr + span_of b - 1) (omega (arith, long, h.size)) (omega (arith, long, h.size))))
+  pub store_advances : (y : Tracer) → b ≡ destination_of x.registers → b.increments ≡ true → burst_len b ≤ x.held → passes b ≡ false → y.registers ≡ moved St x.registers → y.held ≡ x.held - burst_len b → y.stored ≡ x.stored + burst_len b → places y.dst.items ≡ places x.dst.items ++ touched b → All IsRun y.dst.items → y.src ≡ x.src → y.events ≡ x.events → Advances St x y
+  store_advances y is up has low registers less more dst runs src events =
+      let grown : length (places y.dst.items) ≡ length (places x.dst.items) + burst_len b = omega (arith, ap length dst, length-append (places x.dst.items) (touched b), length_up b up) in
+      let from : length (places (unrolled y.src.items)) ≡ length (places (unrolled x.src.items)) = ap (λ v. length (places (unrolled v.items))) src in
+      record {
+        tracer = record {
+          few = omega (arith, h.few, h.held, has, grown, from);
+          held = omega (arith, h.few, h.held, less, has, grown, from);
+          room = omega (arith, h.room, less);
+          stored = omega (arith, more, h.stored, grown);
+          src = subst (λ v. All IsRead v.items) (sym src) h.src;
+          dst = runs;
+        };
+        goes = ap (λ (c : Burst). stop_of_store c z) (sym is) ∙ passed (nat_lt (held z) (burst_len b)) (Fails StDataUnavailable) _ (enough has) (passed (passes b) StoresPast _ low (ap (λ (i : Bool). cond i None (Some StoresFixed)) up));
+        trace = ap (λ (r : Registers). parts r (places (unrolled y.src.items)) (places y.dst.items)) registers
+            ∙ ap (λ (xs : List ℕ). parts (moved St x.registers) (places (unrolled y.src.items)) xs) (dst ∙ ap (λ (c : Burst). places x.dst.items ++ touched c) is)
+            ∙ ap (λ v. parts (moved St x.registers) (places (unrolled v.items)) (places x.dst.items ++ touched (destination_of x.registers))) src;
+        events = ap (λ v. v.items) events ∙ sym (append-nil x.events.items);
+      }
 
-pub load_past : (x : Tracer) (b : Burst) (t : Descriptor) → b ≡ source_of x.registers → MovesSome b → 4294967295 < b.addr + span_of b → ¬ Could t Ld (trace_of x)
-load_past x b t is some high could =
-    let a = b.addr + span_of b - 1 in
-    let there = Contains-append_right (places x.src.items) (touched (source_of x.registers)) a (subst (λ (c : Burst). Contains (touched c) a) is (touches_last b some)) in
-    omega (arith, could.low a (inl there), high)
+-- ---- what a tracer's instructions know
 
-pub store_past : (x : Tracer) (b : Burst) (t : Descriptor) → b ≡ destination_of x.registers → MovesSome b → 4294967295 < b.addr + span_of b → ¬ Could t St (trace_of x)
-store_past x b t is some high could =
-    let a = b.addr + span_of b - 1 in
-    let there = Contains-append_right (places x.dst.items) (touched (destination_of x.registers)) a (subst (λ (c : Burst). Contains (touched c) a) is (touches_last b some)) in
-    omega (arith, could.low a (inr there), high)
+pub at_ok : {X E : Type 0} (r : Result X E) (P : Type 0) → false ≡ is_err r → OnOk r P → P
+at_ok (Ok x) P e h = h
+at_ok (Err x) P e h = absurd (cc)
 
-pub overrun : (x : Tracer) (b : Burst) (t : Descriptor) → IsTracer x → b ≡ source_of x.registers → 256 < x.held + burst_len b → ¬ Could t Ld (trace_of x)
-overrun x b t h is full could = omega (arith, ap burst_len is, could.goes, h.held, h.few, full)
+-- whether a burst ends above the last address, by its range
+pub passes_span : (b : Burst) (s : Segment) → s.addr ≡ b.addr → s.len ≡ span_of b → nat_lt end_of_addresses (s.addr + s.len) ≡ passes b
+passes_span b s at long = ap (λ (a : ℕ). nat_lt end_of_addresses (a + s.len)) at ∙ ap (λ (n : ℕ). nat_lt end_of_addresses (b.addr + n)) long
 
-pub underrun : (x : Tracer) (b : Burst) (t : Descriptor) → IsTracer x → b ≡ destination_of x.registers → x.held < burst_len b → ¬ Could t St (trace_of x)
-underrun x b t h is few could = omega (arith, ap burst_len is, could.goes.0, h.held, h.few, few)
+pub loaded_registers : (r : Registers) (b : Burst) (n : ℕ) → b ≡ source_of r → n ≡ advance b → record r { pc = r.pc + 1; sar = wrapped (r.sar + n) } ≡ moved Ld r
+loaded_registers r b n is e = ap (λ (k : ℕ). record r { pc = r.pc + 1; sar = wrapped (r.sar + k) }) (e ∙ ap advance is)
 
-pub stands_still : (x : Tracer) (b : Burst) (t : Descriptor) → b ≡ destination_of x.registers → b.increments ≡ false → ¬ Could t St (trace_of x)
-stands_still x b t is fixed could = true≢false (sym could.goes.1 ∙ sym (ap (λ (c : Burst). c.increments) is) ∙ fixed)
+pub stored_registers : (r : Registers) (b : Burst) (n : ℕ) → b ≡ destination_of r → b.increments ≡ true → n ≡ burst_len b → record r { pc = r.pc + 1; dar = wrapped (r.dar + n) } ≡ moved St r
+stored_registers r b n is up e =
+    ap (λ (k : ℕ). record r { pc = r.pc + 1; dar = wrapped (r.dar + k) }) (e ∙ sym (advance_up b (burst_len b) up refl) ∙ ap advance is)
 
-pub stored_late : (x : Tracer) (b : Burst) (t : Descriptor) → true ≡ is_some x.signal → Agrees t x → b ≡ destination_of x.registers → MovesSome b → ¬ Could t St (trace_of x)
-stored_late x b t known agrees is moves could = by x.signal refl
-  where
-    by : (o : Option ℕ) → x.signal ≡ o → ⊥
-    by None e = true≢false (known ∙ ap is_some e)
-    by (Some v) e =
-        let all = (agrees.signal v e).1 in
-        let some : 1 ≤ burst_len b = some_len b moves in
-        omega (arith, all, some, could.few, length-append (places x.dst.items) (touched (destination_of x.registers)), ap (λ (c : Burst). length (touched c)) is, length_touched b moves)
-
--- a list of ranges has addresses unless it is empty
-pub some_places : (xs : List Segment) → All IsRun xs → length (places xs) ≡ 0 → length xs ≡ 0
-some_places [] h e = refl
-some_places (s ∷ xs) h e = absurd (omega (arith, (h 0 s (omega arith)).0, length-append (range_with_len s.addr s.len) (places xs), length-range_with_len s.addr s.len, e))
+-- the range of a burst that rises
+pub touched_span : (b : Burst) (s : Segment) → b.increments ≡ true → s.addr ≡ b.addr → s.len ≡ span_of b → range_of s ≡ touched b
+touched_span b s up at long =
+    let len : span_of b ≡ burst_len b = rw up refl in
+    let rising : range_with_len b.addr (burst_len b) ≡ touched b = rw up refl in
+    ap (λ (a : ℕ). range_with_len a s.len) at ∙ ap (range_with_len b.addr) (long ∙ len) ∙ rising

@@ -5,11 +5,13 @@ use Rattle.dma_insn.specs.declared.insn.Counter.TheVariants.{Lc0, Lc1}
 use Rattle.dma_insn.specs.declared.insn.Insn.{Insn}
 use Rattle.dma_insn.specs.declared.insn.Insn.TheVariants.{LpEnd}
 use Rattle.dma_mem.specs.Places.{Descriptor}
+use Rattle.dma_chan.specs.declared.bus.Bus.{Bus}
+use Rattle.dma_chan.specs.declared.bus.Bus.TheVariants.{Ideal}
 use Rattle.dma_chan.specs.declared.pieces.Piece.{Piece}
-use Rattle.dma_chan.specs.Compiled.{pieces_of, members, cost, tree_of, piece_tree, parts, where_some, under, bursts, body, beat_of, control_word, wait_tree, signal_tree}
+use Rattle.dma_chan.specs.Compiled.{pieces_of, members_on, cost, cost_on, tree_on, piece_tree, parts, where_some, under, bursts, body, beat_of, control_word, wait_tree, signal_tree}
 use Rattle.dma_chan.specs.Tree.{Tree, One, Then, Nothing, Repeat, bytes_of, unrolled, times, turn_of, in_order}
 use Rattle.dma_chan.specs.inner.Compiling.{cost_of}
-use Rattle.dma_chan.specs.Layer.{CostIs}
+use Rattle.dma_chan.specs.Layer.{CostIs, CostOnBus}
 use Rattle.dma_chan.proofs.CutPlaces.{read_by, run_of, length-run}
 use Rattle.dma_chan.proofs.PieceCode.{cut_well, pieces_few}
 use Rattle.dma_chan.proofs.ControlWords.{beat_right}
@@ -40,13 +42,13 @@ unfolding cost_of
 cost_counted t = length-unrolled t
 
 -- a piece sets two addresses before its bursts
-pub piece_counts : (p : Piece) → cost_of (piece_tree p) ≡ 2 + cost_of (parts p.fill (beat_of p) p.len)
+pub piece_counts : (bus : Bus) (p : Piece) → cost_of (piece_tree bus p) ≡ 2 + cost_of (parts p.fill (beat_of bus p) p.len)
 unfolding cost_of
-piece_counts p = omega arith
+piece_counts bus p = omega arith
 
-pub cost_of_tree : (t : Descriptor) → cost t ≡ counted (tree_of t)
-unfolding cost members
-cost_of_tree t = length-unrolled (tree_of t)
+pub cost_of_tree : (bus : Bus) (t : Descriptor) → cost_on bus t ≡ counted (tree_on bus t)
+unfolding cost_on members_on
+cost_of_tree bus t = length-unrolled (tree_on bus t)
 
 -- ---- the bound
 
@@ -90,14 +92,14 @@ parts_counted fill b n low =
     let whole : 16 * q ≤ n = omega (arith, bursts_below q b low, div-mul-le_self n (16 * b)) in
     omega (arith, all, whole)
 
-piece_counted : (p : Piece) → 16 * counted (piece_tree p) ≤ 240 + 6 * p.len
-piece_counted p = let all = parts_counted p.fill (beat_of p) p.len (beat_right p).low in omega (arith, all)
+piece_counted : (bus : Bus) (p : Piece) → 16 * counted (piece_tree bus p) ≤ 240 + 6 * p.len
+piece_counted bus p = let all = parts_counted p.fill (beat_of bus p) p.len (beat_right bus p).low in omega (arith, all)
 
-pieces_counted : (ps : List Piece) → 16 * counted (in_order (map piece_tree ps)) ≤ 240 * length ps + 6 * length (read_by ps)
-pieces_counted [] = omega arith
-pieces_counted (p ∷ ps) =
-    let one = piece_counted p in
-    let more = pieces_counted ps in
+pieces_counted : (bus : Bus) (ps : List Piece) → 16 * counted (in_order (map (piece_tree bus) ps)) ≤ 240 * length ps + 6 * length (read_by ps)
+pieces_counted bus [] = omega arith
+pieces_counted bus (p ∷ ps) =
+    let one = piece_counted bus p in
+    let more = pieces_counted bus ps in
     let bytes : length (read_by (p ∷ ps)) ≡ p.len + length (read_by ps) = length-append (run_of p.fill p.src p.len) (read_by ps) ∙ omega (arith, length-run p.fill p.src p.len) in
     omega (arith, one, more, bytes)
 
@@ -105,15 +107,23 @@ event_counted : (o : Option ℕ) → (counted (wait_tree o) ≤ 1) × (counted (
 event_counted None = (omega arith, omega arith)
 event_counted (Some e) = (omega arith, omega arith)
 
-pub cost_is : CostIs
-cost_is t h =
+pub cost_below : CostOnBus
+cost_below bus t h =
     let cut = cut_well t h in
     let bytes : length (read_by (pieces_of t)) ≤ 2 ^ 20 = omega (arith, ap length cut.sources, h.same_length, h.short) in
     let w = (event_counted t.wait).0 in
     let s = (event_counted t.signal).1 in
-    let all = pieces_counted (pieces_of t) in
+    let all = pieces_counted bus (pieces_of t) in
     let few = pieces_few t h in
-    omega (arith, cost_of_tree t, w, s, all, few, bytes)
+    omega (arith, cost_of_tree bus t, w, s, all, few, bytes)
+
+pub cost_is : CostIs
+unfolding cost
+cost_is t h = cost_below Ideal t h
+
+pub some_on : (bus : Bus) (t : Descriptor) → 1 ≤ cost_on bus t
+some_on bus t = omega (arith, cost_of_tree bus t)
 
 pub cost_some : (t : Descriptor) → 1 ≤ cost t
-cost_some t = omega (arith, cost_of_tree t)
+unfolding cost
+cost_some t = some_on Ideal t

@@ -1,5 +1,5 @@
 -- What a channel's data bus accepts.
-use Rattle.std.specs.Prelude.{ℕ, Bool, true, ◌&&◌, nat_le}
+use Rattle.std.specs.Prelude.{ℕ, ◌^◌, Bool, true, ◌&&◌, nat_le}
 use Rattle.dma_insn.specs.ControlWord.{field, is_control}
 use Rattle.dma_chan.specs.declared.bus.Bus.{Bus}
 use Rattle.dma_chan.specs.declared.bus.Bus.TheVariants.{Ideal, Chip}
@@ -11,6 +11,11 @@ abbrev pub bus_code : BusWidth → ℕ
 bus_code Bits32 = 2
 bus_code Bits64 = 3
 bus_code Bits128 = 4
+
+-- How many bytes the widest beat of a bus has. On the ideal bus it has 16 (profile).
+abbrev pub widest_beat : Bus → ℕ
+widest_beat Ideal = 16
+widest_beat (Chip width) = 2 ^ bus_code width
 
 -- Whether the beats of a control word are no wider than a bus. The codes of the sizes of its beats are in bits 3:1 and
 -- 17:15 (DMA-330 manual, channel control registers).

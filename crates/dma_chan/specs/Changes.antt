@@ -13,7 +13,7 @@ use Rattle.dma_chan.specs.Channel.{ChannelValue}
 use Rattle.dma_chan.specs.Stepping.{Machine, TakesSteps, signal_after, written_after}
 use Rattle.dma_chan.specs.Written.{LiesIn}
 use Rattle.dma_chan.specs.Others.{Misses, Touches}
-use Rattle.dma_chan.specs.Explains.{Executes, Explains, IsCopy, IsLoadedWith}
+use Rattle.dma_chan.specs.Explains.{Executes, Explains, IsCopy, IsLoadedWith, IsSignal, IsWait}
 
 -- Channels by number, and the memory that they share: the byte at each address.
 pub record System : Type 0 where
@@ -115,18 +115,18 @@ pub record HasFirst (t : Descriptor) (k : ℕ) (first memory : ℕ → ℕ) : Ty
       memory (slice_index (destinations t) p) ≡ first (slice_index (sources t) p)
   pub kept : (a : ℕ) → Touches t a → ¬ Contains (take k (destinations t)) a → memory a ≡ first a
 
--- The result of a call, if `first` is the memory at the load of the transfer, and `memory` the one after the call. As
--- many bytes are copied as the channel counts in `stored`, also if the program is stopped there, waits or has failed.
--- Each address in the range that the call reports as written is a destination. All bytes are copied when the call
--- reports a signal, which is then the transfer's, and when it ends. A call waits only for the transfer's event, and
--- doesn't fail if no mark lies at an address that the transfer touches.
-pub record HasCopied (t : Descriptor) (first memory : ℕ → ℕ) (call : Call) : Type 0 where
+-- The result of a call, if `first` is the memory at the load of a program of which t explains n instructions, and
+-- `memory` the one after the call. As many bytes are copied as the channel counts in `stored`, also if the program is
+-- stopped there, waits or has failed, and all when it ends. Each address in the range that the call reports as written
+-- is a destination. A signal that the call reports is one of the program's DMASEVs, and is set when this number of
+-- bytes is stored. A call waits only for the event of one of the program's DMAWFEs, and doesn't fail if no mark lies at
+-- an address that t touches.
+pub record HasCopied (bus : Bus) (program : List ℕ) (t : Descriptor) (n : ℕ) (first memory : ℕ → ℕ) (call : Call) : Type 0 where
   pub bytes : HasFirst t call.left.channel.stored first memory
   pub writes : (a : ℕ) → LiesIn call.written a → Contains (destinations t) a
-  pub signals : (e : ℕ) → call.signal ≡ Some e →
-      (t.signal ≡ Some e) × (call.left.channel.stored ≡ size_of t)
+  pub signals : (e : ℕ) → call.signal ≡ Some e → IsSignal bus program n e call.left.channel.stored
   pub ends : call.last ≡ Some Ended → call.left.channel.stored ≡ size_of t
-  pub waits : (e : ℕ) → call.last ≡ Some (Waiting e) → t.wait ≡ Some e
+  pub waits : (e : ℕ) → call.last ≡ Some (Waiting e) → IsWait bus program n e
   pub never_fails : (kind : FaultKind) → Misses call.marks t → call.last ≢ Some (Fault kind)
 
 -- Each call on a channel has copied, if a transfer explains its program and was left alone since its load.
@@ -135,7 +135,7 @@ CopiesSinceLoad =
     (bus : Bus) (program : List ℕ) (t : Descriptor) (n : ℕ) (changes : ℕ → Change) (states : ℕ → System) (load now : ℕ)
     (call : Call) → Explains bus program t n → DoesAll changes states load (now + 1) →
     SinceLoad bus program t changes states load now call (λ k. LeavesAlone t call.channel) →
-    HasCopied t (states load).memory (states (now + 1)).memory call
+    HasCopied bus program t n (states load).memory (states (now + 1)).memory call
 
 -- the bytes of an image, by their addresses
 abbrev pub bytes_in : List ℕ → ℕ → ℕ
@@ -191,4 +191,4 @@ ChannelsCopy =
     (states : ℕ → System) (load now : ℕ) (call : Call) → Explains bus program t n →
     DoesAll changes states load (now + 1) → HaveTransfers own changes states load (now + 1) →
     SinceLoad bus program t changes states load now call (λ k. IsApart t call.channel (own k)) →
-    HasCopied t (states load).memory (states (now + 1)).memory call
+    HasCopied bus program t n (states load).memory (states (now + 1)).memory call

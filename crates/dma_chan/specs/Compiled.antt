@@ -1,4 +1,4 @@
--- The compiled form of a transfer (profile; the instructions are the PL330 manual's).
+-- The compiled form of a transfer for a bus (profile; the instructions are the PL330 manual's).
 use Rattle.std.specs.Prelude.{ℕ, zero, suc, ◌+◌, ◌-◌, ◌*◌, ◌/◌, ◌%◌, ◌^◌, Bool, true, false, ◌&&◌, ◌==◌, nat_le, nat_lt, if◌then◌else◌, List, [], ◌∷◌, ◌++◌, map, length, Option, Some, None}
 use Rattle.std.specs.List.{flat_map}
 use Rattle.dma_insn.specs.declared.insn.Reg.TheVariants.{Sar, Ccr, Dar}
@@ -7,7 +7,10 @@ use Rattle.dma_insn.specs.declared.insn.Insn.{Insn}
 use Rattle.dma_insn.specs.declared.insn.Insn.TheVariants.{Mov, Ld, St, Rmb, Wmb, End, Sev, Wfe}
 use Rattle.dma_mem.specs.declared.segment.Segment.{Segment}
 use Rattle.dma_mem.specs.Places.{Descriptor}
+use Rattle.dma_chan.specs.declared.bus.Bus.{Bus}
+use Rattle.dma_chan.specs.declared.bus.Bus.TheVariants.{Ideal}
 use Rattle.dma_chan.specs.declared.pieces.Piece.{Piece}
+use Rattle.dma_chan.specs.Bus.{widest_beat}
 use Rattle.dma_chan.specs.Tree.{Tree, One, Then, Nothing, Repeat, in_order, bytes_of, unrolled}
 use Rattle.dma_chan.specs.Programs.{ProgramValue}
 
@@ -46,15 +49,17 @@ pieces_of t = if t.fill then fill_pieces t.src t.dst else pieces t.src t.dst
 
 -- ---- their code
 
--- whether beats of b bytes fit a piece: b divides both addresses and is at most its length
-abbrev pub fits : ℕ → Piece → Bool
-fits b p = p.src % b == 0 && p.dst % b == 0 && nat_le b p.len
+-- whether beats of b bytes fit a bus and a piece: b is no wider than the bus, divides both addresses and is at most the
+-- piece's length
+abbrev pub fits : Bus → ℕ → Piece → Bool
+fits bus b p = nat_le b (widest_beat bus) && p.src % b == 0 && p.dst % b == 0 && nat_le b p.len
 
--- how many bytes a beat of a piece has: the largest of 16, 8, 4, 2 and 1 that fits, and in a fill 1
-unfoldable pub beat_of : Piece → ℕ
-beat_of p =
+-- how many bytes a beat of a piece has on a bus: the largest of 16, 8, 4, 2 and 1 that fits, and in a fill 1
+unfoldable pub beat_of : Bus → Piece → ℕ
+beat_of bus p =
     if p.fill then 1 else (
-    if fits 16 p then 16 else (if fits 8 p then 8 else (if fits 4 p then 4 else (if fits 2 p then 2 else 1))))
+    if fits bus 16 p then 16 else (
+    if fits bus 8 p then 8 else (if fits bus 4 p then 4 else (if fits bus 2 p then 2 else 1))))
 
 -- the number that encodes a beat's size in the control word (PL330 manual, channel control register)
 abbrev pub size_code : ℕ → ℕ
@@ -100,8 +105,8 @@ parts fill b n =
     ∷ where_some t (under (control_word fill 1 t) body) ∷ [])
 
 -- the code of a piece: it sets both addresses, and then moves the bytes with the beats of `beat_of`
-abbrev pub piece_tree : Piece → Tree
-piece_tree p = Then (One (Mov Sar p.src)) (Then (One (Mov Dar p.dst)) (parts p.fill (beat_of p) p.len))
+abbrev pub piece_tree : Bus → Piece → Tree
+piece_tree bus p = Then (One (Mov Sar p.src)) (Then (One (Mov Dar p.dst)) (parts p.fill (beat_of bus p) p.len))
 
 -- the DMAWFE of an event, with the invalid flag clear, or nothing without an event
 abbrev pub wait_tree : Option ℕ → Tree
@@ -113,21 +118,43 @@ abbrev pub signal_tree : Option ℕ → Tree
 signal_tree None = Nothing
 signal_tree (Some e) = One (Sev e)
 
--- The code of a transfer: the wait, the pieces in order, the signal and the end.
-abbrev pub tree_of : Descriptor → Tree
-tree_of t = in_order (wait_tree t.wait ∷ in_order (map piece_tree (pieces_of t)) ∷ signal_tree t.signal ∷ One End ∷ [])
+-- The code of a transfer for a bus: the wait, the pieces in order, the signal and the end.
+abbrev pub tree_on : Bus → Descriptor → Tree
+tree_on bus t =
+    in_order (
+    wait_tree t.wait
+    ∷ in_order (map (piece_tree bus) (pieces_of t))
+    ∷ signal_tree t.signal
+    ∷ One End ∷ [])
+
+-- the instructions that a transfer's program for a bus executes, in order
+unfoldable pub members_on : Bus → Descriptor → List Insn
+members_on bus t = unrolled (tree_on bus t)
+
+-- how many instructions a transfer's program for a bus executes
+unfoldable pub cost_on : Bus → Descriptor → ℕ
+cost_on bus t = length (members_on bus t)
+
+-- The program of a transfer for a bus.
+unfoldable pub compiled_on : Bus → Descriptor → ProgramValue
+compiled_on bus t = record { bytes = bytes_of (tree_on bus t); cost = Some (cost_on bus t) }
+
+-- ---- on the ideal bus, which is that of the engine's channels
 
 -- the instructions that a transfer's program executes, in order
 unfoldable pub members : Descriptor → List Insn
-members t = unrolled (tree_of t)
+unfolding members_on
+members t = members_on Ideal t
 
 -- how many instructions a transfer's program executes
 unfoldable pub cost : Descriptor → ℕ
-cost t = length (members t)
+unfolding cost_on
+cost t = cost_on Ideal t
 
 -- The program of a transfer.
 unfoldable pub compiled : Descriptor → ProgramValue
-compiled t = record { bytes = bytes_of (tree_of t); cost = Some (cost t) }
+unfolding compiled_on
+compiled t = compiled_on Ideal t
 
 -- the most bytes of a compiled program: 58 for each of 127 pieces, and 5 for the wait, the signal and the end
 abbrev pub most_compiled : ℕ

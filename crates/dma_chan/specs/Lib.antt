@@ -23,6 +23,7 @@ pub mod RunPages
 pub mod Others
 pub mod Alone
 pub mod CallWrites
+pub mod Reads
 pub mod Changes
 pub mod LentRegions
 pub mod inner

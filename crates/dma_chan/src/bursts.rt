@@ -107,7 +107,7 @@ impl Burst {
     }
 
     // Returns how often the burst touches each address of its span.
-    fn rounds(self) -> u32
+    pub(crate) fn rounds(self) -> u32
         requires some { MovesSome self }
         requires limit { (self.size ≤ 16) × (self.beats ≤ 16) }
         ensures value { result ≡ rounds_of self }

@@ -1,7 +1,7 @@
 //! The data bus of a channel.
 
-ghost use Rattle.std.specs.Prelude.{◌≡◌, ◌≤◌};
-ghost use Rattle.dma_chan.specs.Bus.{bus_code, fits};
+ghost use Rattle.std.specs.Prelude.{◌≡◌, ◌≤◌, ◌^◌};
+ghost use Rattle.dma_chan.specs.Bus.{bus_code, fits, widest_beat};
 
 /// The width of a chip's data bus.
 #[derive(Clone, Copy, Debug, PartialEq, Eq)]
@@ -23,6 +23,17 @@ impl BusWidth {
             BusWidth::Bits128 => 4,
         }
     }
+
+    /// Returns how many bytes the bus has.
+    pub fn bytes(self) -> u32
+        ensures { result ≡ 2 ^ bus_code self }
+    {
+        match self {
+            BusWidth::Bits32 => 4,
+            BusWidth::Bits64 => 8,
+            BusWidth::Bits128 => 16,
+        }
+    }
 }
 
 /// What a channel's data bus can do. No instruction changes it, and no save has it.
@@ -36,6 +47,16 @@ pub enum Bus {
 }
 
 impl Bus {
+    /// Returns how many bytes the widest beat of the bus has.
+    pub fn widest_beat(self) -> u32
+        ensures { result ≡ widest_beat self }
+    {
+        match self {
+            Bus::Ideal => 16,
+            Bus::Chip(width) => width.bytes(),
+        }
+    }
+
     /// Returns whether the beats of a control word with these bits fit the bus.
     pub fn fits(self, bits: u32) -> bool
         ensures { result ≡ fits self bits }

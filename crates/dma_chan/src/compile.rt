@@ -4,12 +4,16 @@ ghost use Rattle.std.specs.Prelude.{ℕ, Bool, ◌≡◌, ◌+◌, ◌-◌, ◌*
 ghost use Rattle.dma_insn.specs.Spelling.{spelling};
 ghost use Rattle.dma_insn.specs.ControlWord.{beat_bytes};
 ghost use Rattle.dma_chan.specs.Tree.{bytes_of, in_order, Repeat};
-ghost use Rattle.dma_chan.specs.inner.Compiling.{Appends, cost_of, word_of};
-ghost use Rattle.dma_chan.specs.Compiled.{where_some, body, bursts, under, fits, beat_of, parts, piece_tree, wait_tree, signal_tree, tree_of, cost, compiled, pieces_of, most_compiled};
+ghost use Rattle.dma_chan.specs.inner.Compiling.{Appends, word_of};
+ghost use Rattle.dma_chan.specs.Compiled.{where_some, body, bursts, under, fits, beat_of, parts, piece_tree, wait_tree, signal_tree, tree_on, cost, compiled, compiled_on, pieces_of, most_compiled};
 ghost use Rattle.dma_mem.specs.Limits.{last_event};
 ghost use Rattle.dma_mem.specs.Rules.{IsTransfer};
 
-use crate::pieces::{Piece, Pieces, pieces_of};
+mod counts;
+
+use crate::bus::Bus;
+use crate::compile::counts::cost_on;
+use crate::pieces::{Piece, pieces_of};
 use crate::program::Program;
 use dma_insn::codec::encode;
 use dma_insn::control::{Attribute, BeatSize, Beats, BurstEnd, Control};
@@ -43,31 +47,46 @@ impl From<AllocError> for NoMemory {
     }
 }
 
-/// Returns the program that copies a transfer's sources to its destinations, piece by piece, after its wait and before
-/// its signal. A fill has one piece for each destination segment, with beats of one byte and a source address that
-/// doesn't rise.
-///
-/// It takes time in proportion to the number of pieces. The error is `NoMemory` if an allocation fails.
+/// Returns the program that copies a transfer's sources to its destinations on the engine's bus: what [`compile_on`]
+/// returns for the ideal bus.
 #[tactic(auto, unfolding(crate::specs::Compiled::compiled))]
 pub fn compile(alloc: Global, transfer: &Transfer) -> Result<Program, NoMemory>
     ensures program { IfOk result (λ program. program ≡ compiled transfer.now) }
     ensures limit { IfOk result (λ program. length program.bytes ≤ most_compiled) }
 {
+    compile_on(alloc, Bus::Ideal, transfer)
+}
+
+/// Returns the program that copies a transfer's sources to its destinations, piece by piece, after its wait and before
+/// its signal. No beat is wider than the bus. A fill has one piece for each destination segment, with beats of one byte
+/// and a source address that doesn't rise.
+///
+/// It takes time in proportion to the number of pieces. The error is `NoMemory` if an allocation fails.
+#[tactic(auto, unfolding(crate::specs::Compiled::compiled_on))]
+pub fn compile_on(alloc: Global, bus: Bus, transfer: &Transfer) -> Result<Program, NoMemory>
+    ensures program { IfOk result (λ program. program ≡ compiled_on bus transfer.now) }
+    ensures limit { IfOk result (λ program. length program.bytes ≤ most_compiled) }
+{
     let pieces = pieces_of(alloc, transfer)?;
-    let code = code_of(alloc, transfer, &pieces)?;
-    let cost = cost_of(transfer);
+    let code = code_of(alloc, bus, transfer, &pieces)?;
+    let cost = cost_on(bus, transfer);
     Ok(Program::of_vec(code, Some(cost)))
 }
 
-// Returns the bytes of a transfer's code, from its pieces. Room for all bytes is allocated first.
-fn code_of(alloc: Global, transfer: &Transfer, pieces: &[Piece]) -> Result<Vec<u8>, AllocError>
+// Returns the bytes of a transfer's code for a bus, from its pieces. Room for all bytes is allocated first.
+fn code_of(
+    alloc: Global,
+    bus: Bus,
+    transfer: &Transfer,
+    pieces: &[Piece],
+) -> Result<Vec<u8>, AllocError>
     requires rules { IsTransfer transfer.now }
     requires pieces { pieces.now ≡ pieces_of transfer.now }
-    ensures { IfOk result (λ code. code.items ≡ bytes_of (tree_of transfer.now)) }
+    ensures { IfOk result (λ code. code.items ≡ bytes_of (tree_on bus transfer.now)) }
 {
     let mut code = Vec::with_capacity(alloc, PIECE_BYTES * pieces.len() + OTHER_BYTES)?;
     push_wait(&mut code, transfer.wait())?;
-    push_pieces(&mut code, pieces)?;
+    push_pieces(&mut code, bus, pieces)?;
     push_signal(&mut code, transfer.signal())?;
     push(&mut code, Insn::End)?;
     Ok(code)
@@ -75,30 +94,12 @@ fn code_of(alloc: Global, transfer: &Transfer, pieces: &[Piece]) -> Result<Vec<u
 
 /// Returns how many instructions the program of a transfer executes. It takes time in proportion to the number of
 /// pieces, and allocates nothing.
-#[tactic(auto, using(crate::proofs::TreeCosts::cost_of_tree, crate::proofs::TreeCosts::cost_counted, crate::proofs::TreeCosts::cost_is))]
+#[tactic(auto, unfolding(crate::specs::Compiled::cost))]
 pub fn cost_of(transfer: &Transfer) -> u32
     ensures value { result ≡ cost transfer.now }
     ensures limit { result < 2 ^ 19 }
 {
-    let mut pieces = Pieces::of(transfer);
-    let mut cost = event_cost(transfer.wait()) + event_cost(transfer.signal()) + 1;
-    while let Some(piece) = pieces.next() {
-        cost += piece_cost(piece);
-    }
-    cost
-}
-
-// Returns how many instructions a wait or a signal executes: 1, or 0 if the transfer has none.
-#[tactic(auto, using(crate::proofs::TreeCosts::cost_counted))]
-fn event_cost(event: Option<u8>) -> u32
-    ensures wait { result ≡ cost_of (wait_tree event) }
-    ensures signal { result ≡ cost_of (signal_tree event) }
-    ensures limit { result ≤ 1 }
-{
-    match event {
-        Some(_) => 1,
-        None => 0,
-    }
+    cost_on(Bus::Ideal, transfer)
 }
 
 // Appends the wait, if the transfer has one.
@@ -125,24 +126,24 @@ fn push_signal(code: &mut Vec<u8>, signal: Option<u8>) -> Result<(), AllocError>
 }
 
 // Appends the code of the pieces, in order.
-fn push_pieces(code: &mut Vec<u8>, pieces: &[Piece]) -> Result<(), AllocError>
+fn push_pieces(code: &mut Vec<u8>, bus: Bus, pieces: &[Piece]) -> Result<(), AllocError>
     requires { All (λ p. p.len ≤ 2 ^ 20) pieces.now }
     ensures ok { OnOk result (Appends code.old.items code.new.items
-        (in_order (map piece_tree pieces.now))) }
+        (in_order (map (piece_tree bus) pieces.now))) }
 {
     for piece in pieces {
-        push_piece(code, *piece)?;
+        push_piece(code, bus, *piece)?;
     }
     Ok(())
 }
 
 // Appends the code of a piece.
-fn push_piece(code: &mut Vec<u8>, piece: Piece) -> Result<(), AllocError>
+fn push_piece(code: &mut Vec<u8>, bus: Bus, piece: Piece) -> Result<(), AllocError>
     requires { piece.len ≤ 2 ^ 20 }
-    ensures ok { OnOk result (Appends code.old.items code.new.items (piece_tree piece)) }
+    ensures ok { OnOk result (Appends code.old.items code.new.items (piece_tree bus piece)) }
 {
     let beat = Beat {
-        size: beat_of(piece),
+        size: beat_of(bus, piece),
         source_rises: !piece.fill,
     };
     push(code, Insn::Mov(Reg::Sar, piece.src))?;
@@ -272,28 +273,28 @@ fn push(code: &mut Vec<u8>, insn: Insn) -> Result<(), AllocError>
     Ok(())
 }
 
-// Returns whether beats of this size fit a piece.
-fn fits(size: BeatSize, piece: Piece) -> bool
-    ensures { result ≡ fits (beat_bytes size) piece }
+// Returns whether beats of this size fit a bus and a piece.
+fn fits(bus: Bus, size: BeatSize, piece: Piece) -> bool
+    ensures { result ≡ fits bus (beat_bytes size) piece }
 {
     let beat = size.bytes();
-    piece.src % beat == 0 && piece.dst % beat == 0 && beat <= piece.len
+    beat <= bus.widest_beat() && piece.src % beat == 0 && piece.dst % beat == 0 && beat <= piece.len
 }
 
-// Returns the size of a piece's beats: one byte in a fill, else the largest size that fits.
+// Returns the size of a piece's beats on a bus: one byte in a fill, else the largest size that fits.
 #[tactic(auto, unfolding(crate::specs::Compiled::beat_of))]
-fn beat_of(piece: Piece) -> BeatSize
-    ensures { beat_bytes result ≡ beat_of piece }
+fn beat_of(bus: Bus, piece: Piece) -> BeatSize
+    ensures { beat_bytes result ≡ beat_of bus piece }
 {
     if piece.fill {
         BeatSize::One
-    } else if fits(BeatSize::Sixteen, piece) {
+    } else if fits(bus, BeatSize::Sixteen, piece) {
         BeatSize::Sixteen
-    } else if fits(BeatSize::Eight, piece) {
+    } else if fits(bus, BeatSize::Eight, piece) {
         BeatSize::Eight
-    } else if fits(BeatSize::Four, piece) {
+    } else if fits(bus, BeatSize::Four, piece) {
         BeatSize::Four
-    } else if fits(BeatSize::Two, piece) {
+    } else if fits(bus, BeatSize::Two, piece) {
         BeatSize::Two
     } else {
         BeatSize::One
@@ -320,71 +321,4 @@ fn control_word(beat: Beat, beats: u32) -> u32
         ..dst
     };
     Control { src, dst }.bits()
-}
-
-// Returns how many instructions a piece's code executes.
-#[tactic(auto, using(crate::proofs::TreeCosts::piece_counts))]
-fn piece_cost(piece: Piece) -> u32
-    requires { piece.len ≤ 2 ^ 20 }
-    ensures value { result ≡ cost_of (piece_tree piece) }
-    ensures limit { result ≤ 400000 }
-{
-    2 + beats_cost(piece.len, beat_of(piece))
-}
-
-// Returns how many instructions the bursts of `len` bytes execute, with beats of this size. Each arm divides by
-// constants.
-fn beats_cost(len: u32, beat: BeatSize) -> u32
-    requires { len ≤ 2 ^ 20 }
-    ensures value { (fill : Bool) → result ≡ cost_of (parts fill (beat_bytes beat) len) }
-    ensures limit { result ≤ 390010 }
-{
-    match beat {
-        BeatSize::One => parts_cost(len, 1),
-        BeatSize::Two => parts_cost(len, 2),
-        BeatSize::Four => parts_cost(len, 4),
-        BeatSize::Eight => parts_cost(len, 8),
-        BeatSize::Sixteen => parts_cost(len, 16),
-    }
-}
-
-// The same, with beats of `beat` bytes.
-#[inline(always)]
-#[tactic(auto, unfolding(crate::specs::Compiled::parts), using(crate::proofs::TreeCosts::cost_counted))]
-fn parts_cost(len: u32, beat: u32) -> u32
-    requires len { len ≤ 2 ^ 20 }
-    requires low { 1 ≤ beat }
-    requires high { beat ≤ 16 }
-    ensures value { (fill : Bool) → result ≡ cost_of (parts fill beat len) }
-    ensures limit { result ≤ 390010 }
-{
-    let whole = 16 * beat;
-    let left = len % whole;
-    whole_bursts_cost(len / whole) + burst_cost(left / beat) + burst_cost(left % beat)
-}
-
-// Returns how many instructions `count` bursts of 16 beats execute, including their control word: 0 if there are none.
-#[tactic(auto, using(crate::proofs::TreeCosts::cost_counted))]
-fn whole_bursts_cost(count: u32) -> u32
-    requires { count ≤ 65536 }
-    ensures value { (w : ℕ) → result ≡ cost_of (where_some count (under w (bursts count))) }
-    ensures limit { result ≤ 390000 }
-{
-    if count == 0 {
-        return 0;
-    }
-    let turns = count / 256;
-    let rest = count % 256;
-    let nested = if turns == 0 { 0 } else { 1 + turns * 1282 };
-    let single = if rest == 0 { 0 } else { 1 + rest * 5 };
-    1 + nested + single
-}
-
-// Returns how many instructions one burst executes, including its control word: 0 if it has no beats.
-#[tactic(auto, using(crate::proofs::TreeCosts::cost_counted))]
-fn burst_cost(beats: u32) -> u32
-    ensures value { (w : ℕ) → result ≡ cost_of (where_some beats (under w body)) }
-    ensures limit { result ≤ 5 }
-{
-    if beats == 0 { 0 } else { 5 }
 }

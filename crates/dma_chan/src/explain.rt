@@ -1,9 +1,10 @@
 //! What a program copies, found by one run without memory.
 
-ghost use Rattle.std.specs.Prelude.{◌≡◌, ◌≢◌, ◌+◌, ℕ, IfErr, IfOk};
-ghost use Rattle.dma_mem.specs.Places.{copying};
-ghost use Rattle.dma_chan.specs.Explains.{Explains, NothingExplains, traced};
-ghost use Rattle.dma_chan.specs.inner.Tracing.{IsCopied, IsTracer, NoCopy};
+ghost use Rattle.std.specs.Prelude.{◌≡◌, ◌≢◌, ◌<◌, ◌↔◌, IfErr, IfOk, IsErrAnd, length};
+ghost use Rattle.dma_insn.specs.AssemblyText.{most_program_bytes};
+ghost use Rattle.dma_insn.specs.declared.insn.Insn.TheVariants.{End};
+ghost use Rattle.dma_chan.specs.Explains.{Finds, Refuses};
+ghost use Rattle.dma_chan.specs.inner.Tracing.{IsCopied, IsTracer, Stops};
 
 mod ranges;
 mod tracer;
@@ -18,15 +19,40 @@ use dma_insn::insn::Insn;
 use dma_mem::segment::Segment;
 use std::alloc::Global;
 
+/// A range of addresses that a program reads several times in a row: the `len` bytes from `addr` on, `times` times.
+#[repr(C)]
+#[derive(Clone, Copy, PartialEq, Eq, Debug)]
+pub struct Repeated {
+    pub addr: u32,
+    pub len: u32,
+    pub times: u32,
+}
+
+/// What an instruction does with an event.
+#[derive(Clone, Copy, PartialEq, Eq, Debug)]
+pub enum Sync {
+    /// DMAWFE waits for the event.
+    Waits(u8),
+    /// DMASEV signals the event.
+    Signals(u8),
+}
+
+/// A DMAWFE or DMASEV that a program executes, and how many bytes it has stored before.
+#[derive(Clone, Copy, PartialEq, Eq, Debug)]
+pub struct Happening {
+    pub sync: Sync,
+    pub stored: u64,
+}
+
 /// What a program copies: byte number p of the sources' places to byte number p of the destinations'.
 #[derive(Debug, Drop)]
 pub struct Explained {
-    pub src: Vec<Segment>,
+    pub src: Vec<Repeated>,
     pub dst: Vec<Segment>,
-    /// The event that the program waits for before its first load.
-    pub wait: Option<u8>,
-    /// The event that it signals after its last store.
-    pub signal: Option<u8>,
+    /// How many bytes it copies.
+    pub size: u64,
+    /// The events that it waits for and signals, in order.
+    pub events: Vec<Happening>,
     /// How many instructions it executes, with DMAEND.
     pub steps: u32,
 }
@@ -40,34 +66,30 @@ pub enum Cause {
     /// goes to before the start (`InstrFetchErr`), the buffer has too little room for a load (`MfifoErr`) or too few
     /// bytes for a store (`StDataUnavailable`).
     Fails(FaultKind),
-    /// A load's burst ends above 4,294,967,295.
+    /// A load's burst ends above 2^32.
     LoadsPast,
-    /// A store's burst ends above 4,294,967,295.
+    /// A store's burst ends above 2^32.
     StoresPast,
     /// A store's address doesn't increment.
     StoresFixed,
-    /// A DMAWFE comes after a load.
-    WaitsLate,
-    /// A second DMAWFE is for another event.
-    WaitsAgain,
-    /// A second DMASEV is of another event.
-    SignalsAgain,
-    /// A store comes after a DMASEV.
-    StoresLate,
+    /// Only on a chip's bus: a DMAMOV DAR or DMAMOV CCR after which a chip drops the bytes that are loaded and not stored: it moves the
+    /// destination to other byte lanes of the bus, or changes whether it rises, or the size of beats that don't rise
+    /// (DMA-330 manual, updating DMA channel control registers during a DMA cycle).
+    DropsBytes,
     /// Bytes are left in the buffer at DMAEND.
     BytesLeft,
     /// A byte is stored twice.
     StoresTwice,
     /// A byte is stored where one is loaded.
     StoresSource,
-    /// No DMAEND is among the first `most` instructions.
+    /// No DMAEND is among the first `most` instructions that are executed.
     NoEnd,
     /// Memory ran out.
     NoMemory,
 }
 
 /// Why no copy explains a program, and where: the instruction's offset in the program, and how many instructions are
-/// executed before it.
+/// executed before it. For `TooLong` and `NoMemory` these two mean nothing.
 #[derive(Clone, Copy, PartialEq, Eq, Debug)]
 pub struct Unexplained {
     pub cause: Cause,
@@ -79,7 +101,7 @@ pub struct Unexplained {
 fn finish(alloc: Global, tracer: Tracer, steps: u32) -> Result<Explained, Cause>
     requires { IsTracer tracer }
     ensures ok { IfOk result (λ x. IsCopied tracer steps x) }
-    ensures err { IfErr result (λ cause. NoCopy tracer.src.items tracer.dst.items cause) }
+    ensures err { IfErr result (λ cause. Stops End tracer cause) }
 {
     if tracer.held > 0 {
         return Err(Cause::BytesLeft);
@@ -88,27 +110,27 @@ fn finish(alloc: Global, tracer: Tracer, steps: u32) -> Result<Explained, Cause>
     let Tracer {
         src,
         dst,
-        wait,
-        signal,
+        stored,
+        events,
         ..
     } = tracer;
     Ok(Explained {
         src,
         dst,
-        wait,
-        signal,
+        size: stored,
+        events,
         steps,
     })
 }
 
 /// Explains a program on a bus: runs it without memory for at most `most` instructions, and returns what it copies, or
-/// why no copy explains it.
+/// why and where no copy explains it.
 pub fn explain(alloc: Global, bus: Bus, program: &[u8], most: u32) -> Result<Explained, Unexplained>
-    ensures ok { IfOk result (λ x. (n : ℕ) × (x.steps ≡ n + 1)
-        × Explains bus program.now (copying x.src.items x.dst.items x.wait x.signal) n) }
+    ensures ok { IfOk result (λ x. Finds bus program.now most x) }
     ensures err { IfErr result (λ u. u.cause ≢ Cause.NoMemory → u.cause ≢ Cause.TooLong
-        → NothingExplains bus program.now most) }
-    ensures place { IfErr result (λ u. u.pc ≡ (traced bus program.now u.steps).registers.pc) }
+        → Refuses bus program.now most u) }
+    ensures long { IsErrAnd result (λ u. u.cause ≡ Cause.TooLong)
+        ↔ most_program_bytes < length program.now }
 {
     if program.len() > MAX_PROGRAM_BYTES {
         return Err(Unexplained {
@@ -118,7 +140,7 @@ pub fn explain(alloc: Global, bus: Bus, program: &[u8], most: u32) -> Result<Exp
         });
     }
     let mut tracer = Tracer::new(alloc, bus);
-    for turn in 0..most {
+    for steps in 0..most {
         let pc = tracer.registers.pc;
         let next = match Next::at(program, pc) {
             Ok(next) => next,
@@ -126,28 +148,20 @@ pub fn explain(alloc: Global, bus: Bus, program: &[u8], most: u32) -> Result<Exp
                 return Err(Unexplained {
                     cause: Cause::Fails(kind),
                     pc,
-                    steps: turn,
+                    steps,
                 });
             }
         };
         if let Insn::End = next.insn() {
-            return match finish(alloc, tracer, turn + 1) {
+            return match finish(alloc, tracer, steps + 1) {
                 Ok(explained) => Ok(explained),
-                Err(cause) => Err(Unexplained {
-                    cause,
-                    pc,
-                    steps: turn,
-                }),
+                Err(cause) => Err(Unexplained { cause, pc, steps }),
             };
         }
         match tracer.advance(next) {
             Ok(()) => {}
             Err(cause) => {
-                return Err(Unexplained {
-                    cause,
-                    pc,
-                    steps: turn,
-                });
+                return Err(Unexplained { cause, pc, steps });
             }
         }
     }

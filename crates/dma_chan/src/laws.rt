@@ -1,13 +1,14 @@
 //! Laws of transfers' programs. Each law is the postcondition of a function that does nothing.
 
 ghost use Rattle.dma_chan.specs.Alone.{ExplainedCopiesAlone};
-ghost use Rattle.dma_chan.specs.Layer.{StartsAt, AheadIs, LeftIs, StepIs, TurnReports, Survives, ShapeIs, CostIs, StoredIs, CopiesAlone};
+ghost use Rattle.dma_chan.specs.Layer.{StartsAt, AheadIs, LeftIs, StepIs, TurnReports, Survives, ShapeIs, CostIs, CostOnBus, StoredIs};
 ghost use Rattle.dma_chan.specs.CallWrites.{CallWritesNoOther, LoadExecutes, CallStaysIn};
 ghost use Rattle.dma_chan.specs.Changes.{CopiesSinceLoad, ChannelsCopy, LaidByPlace};
 ghost use Rattle.dma_chan.specs.Aligned.{AddressesAlign};
-ghost use Rattle.dma_chan.specs.Explains.{CompiledExplained, CompiledOnBus, ExplainedOnBus, ExplainedOnce};
-ghost use Rattle.dma_chan.specs.LentRegions.{GapsMiss, LiesInRegions};
+ghost use Rattle.dma_chan.specs.Explains.{CompiledEvents, CompiledExplained, CompiledOnBus, ExplainedOnBus, ExplainedOnce, RefusedUnexplained};
+ghost use Rattle.dma_chan.specs.LentRegions.{GapsMiss};
 ghost use Rattle.dma_chan.specs.Others.{CallsCopyAmongOthers, CopiesAmongOthers, WritesNoOther};
+ghost use Rattle.dma_chan.specs.Reads.{CallReadsIn, CallReadsNoOther, ReadsNoOther};
 ghost use Rattle.dma_chan.specs.Ready.{ReadyIs};
 ghost use Rattle.dma_chan.specs.Stepping.{WritesEach};
 
@@ -35,28 +36,26 @@ pub fn stores_in_turn()
 
 /// The limit on the number of instructions that a transfer costs.
 pub fn costs_little()
-    ensures { CostIs }
+    ensures ideal { CostIs }
+    ensures on_bus { CostOnBus }
 {}
 
-/// A program that a transfer explains that doesn't wait, run alone, makes one simultaneous copy of all its bytes.
+/// A program that a transfer explains on the ideal bus and that has no DMAWFE, run alone over a memory that contains the
+/// transfer's ranges, with a limit above its number of instructions, makes one simultaneous copy of all its bytes.
 pub fn explained_copies_alone()
     ensures { ExplainedCopiesAlone }
 {}
 
-/// The program of a transfer that doesn't wait, run alone, makes one simultaneous copy of all its bytes.
-pub fn copies_alone()
-    ensures { CopiesAlone }
-{}
-
-/// A transfer explains its compiled program, on each bus that the program's beats fit. So all laws of programs that
-/// copy apply to it.
+/// On each bus a transfer explains its program that was compiled for that bus. So all laws of programs that copy apply
+/// to it. A DMAWFE comes only first, and a DMASEV only when all bytes are stored.
 pub fn compiled_is_explained()
     ensures ideal { CompiledExplained }
     ensures on_bus { CompiledOnBus }
+    ensures events { CompiledEvents }
 {}
 
 /// A copy that explains a program on the ideal bus explains it on each bus that the program's beats fit, if each burst
-/// begins at a multiple of its beat's size.
+/// begins at a multiple of its beat's size and no DMAMOV drops bytes.
 pub fn aligned_is_explained()
     ensures { ExplainedOnBus }
 {}
@@ -71,6 +70,11 @@ pub fn addresses_align()
 /// only explanation, up to how its ranges are cut into segments.
 pub fn is_explained_once()
     ensures { ExplainedOnce }
+{}
+
+/// No copy explains a program that `explain::explain` refuses, with fewer instructions before DMAEND than its limit.
+pub fn refused_is_unexplained()
+    ensures { RefusedUnexplained }
 {}
 
 /// A program that a transfer explains, and that runs while others write the memory between its steps, makes one
@@ -90,11 +94,6 @@ pub fn calls_copy_among_others()
 /// [`calls_copy_among_others`] don't fail there.
 pub fn gaps_miss()
     ensures { GapsMiss }
-{}
-
-/// If regions contain all addresses that a transfer touches, their memory contains its ranges.
-pub fn lies_in_regions()
-    ensures { LiesInRegions }
 {}
 
 /// An instruction of any program changes no byte of the memory except those that it writes.
@@ -119,10 +118,23 @@ pub fn writes_its_destinations()
     ensures call { CallStaysIn }
 {}
 
+/// A step of any channel depends on no byte of the memory but those that its instruction reads.
+pub fn reads_no_other()
+    ensures { ReadsNoOther }
+{}
+
+/// From the load of a program that a transfer explains to its end, the steps of a call read only sources of the
+/// transfer, whatever others write. Bytes elsewhere have no effect: after each step of the call the channel, the flags
+/// and what was written are the same. (By `reads_no_other` the answers are.)
+pub fn reads_its_sources()
+    ensures within { CallReadsIn }
+    ensures no_other { CallReadsNoOther }
+{}
+
 /// A program that a transfer explains copies if, between its own load and a call on its channel, nobody else writes
-/// what the transfer reads or writes. After each call the destinations have the bytes that are stored so far, and all
-/// of them when the call reports the transfer's signal or ends. Each call may be lent other regions, and other bytes
-/// may follow the program.
+/// what the transfer reads or writes. After each call the destinations have the bytes that are stored so far: at a
+/// signal as many as the program stores before that DMASEV, and all when the call ends. Each call may be lent other
+/// regions, and other bytes may follow the program.
 pub fn copies_since_load()
     ensures { CopiesSinceLoad }
 {}

@@ -2,7 +2,7 @@
 
 use crate::chan::segment;
 use dma_chan::bus::{Bus, BusWidth};
-use dma_chan::explain::{Cause, Explained, Unexplained, explain};
+use dma_chan::explain::{Cause, Explained, Happening, Repeated, Sync, Unexplained, explain};
 use dma_chan::turn::FaultKind;
 use std::process::Abort;
 use std::test::Fail;
@@ -13,13 +13,32 @@ static COPY_OF_FOUR: [u8; 27] = [
     0x05, 0x40, 0x01, 0x00, 0x04, 0x12, 0x08, 0x13, 0x34, 0x28, 0x00,
 ];
 
+// A range that is read once.
+fn once(addr: u32, len: u32) -> Repeated {
+    Repeated {
+        addr,
+        len,
+        times: 1,
+    }
+}
+
 #[test]
 fn a_compiled_program_is_explained(rt: HostRuntime) -> Result<(), Fail> {
     let explained = explain(rt.alloc(), Bus::Ideal, &COPY_OF_FOUR, 10).map_err(|_| "unexplained")?;
-    assert!(rt; explained.src.as_slice() == [segment(0x1000, 4)].as_slice());
+    assert!(rt; explained.src.as_slice() == [once(0x1000, 4)].as_slice());
     assert!(rt; explained.dst.as_slice() == [segment(0x2000, 4)].as_slice());
-    assert!(rt; explained.wait == Some(3) && explained.signal == Some(5));
-    assert!(rt; explained.steps == 10);
+    let events = [
+        Happening {
+            sync: Sync::Waits(3),
+            stored: 0,
+        },
+        Happening {
+            sync: Sync::Signals(5),
+            stored: 4,
+        },
+    ];
+    assert!(rt; explained.events.as_slice() == events.as_slice());
+    assert!(rt; explained.size == 4 && explained.steps == 10);
     Ok(())
 }
 
@@ -30,9 +49,9 @@ static TWO_LOADS: &[u8] =
 #[test]
 fn loads_may_run_ahead(rt: HostRuntime) -> Result<(), Fail> {
     let explained = explain(rt.alloc(), Bus::Ideal, TWO_LOADS, 100).map_err(|_| "unexplained")?;
-    assert!(rt; explained.src.as_slice() == [segment(0x100, 16)].as_slice());
+    assert!(rt; explained.src.as_slice() == [once(0x100, 16)].as_slice());
     assert!(rt; explained.dst.as_slice() == [segment(0x200, 16)].as_slice());
-    assert!(rt; explained.wait.is_none() && explained.signal.is_none());
+    assert!(rt; explained.events.is_empty());
     assert!(rt; explained.steps == 8);
     Ok(())
 }
@@ -48,19 +67,75 @@ fn a_chip_shortens_the_first_beat(rt: HostRuntime) -> Result<(), Fail> {
         let explained = explain(rt.alloc(), bus, FROM_BETWEEN_WORDS, 100).map_err(
             |_| "unexplained",
         )?;
-        assert!(rt; explained.src.as_slice() == [segment(0x106, len)].as_slice());
+        assert!(rt; explained.src.as_slice() == [once(0x106, len)].as_slice());
         assert!(rt; explained.dst.as_slice() == [segment(0x202, len)].as_slice());
         assert!(rt; explained.steps == 8);
     }
     Ok(())
 }
 
+// Sets the control word to two beats of four bytes whose source doesn't rise, loads at the last four addresses twice,
+// and stores twice, with an event after the first store.
+static REGISTER_AT_THE_END: &[u8] =
+    b"\xbc\x01\x14\x40\x05\0\xbc\0\xfc\xff\xff\xff\x04\x04\x08\x34\x28\x08\0";
+
+#[test]
+fn a_register_is_read_again(rt: HostRuntime) -> Result<(), Fail> {
+    let explained = explain(rt.alloc(), Bus::Ideal, REGISTER_AT_THE_END, 100).map_err(
+        |_| "unexplained",
+    )?;
+    let src = Repeated {
+        addr: 0xffff_fffc,
+        len: 4,
+        times: 4,
+    };
+    assert!(rt; explained.src.as_slice() == [src].as_slice());
+    assert!(rt; explained.dst.as_slice() == [segment(0, 16)].as_slice());
+    let signals = Happening {
+        sync: Sync::Signals(5),
+        stored: 8,
+    };
+    assert!(rt; explained.events.as_slice() == [signals].as_slice());
+    Ok(())
+}
+
+// Stores eight bytes from address 8 at the last eight addresses, in two bursts of one beat.
+static TO_THE_LAST_ADDRESS: &[u8] =
+    b"\xbc\x01\x05\x40\x01\0\xbc\0\x08\0\0\0\xbc\x02\xf8\xff\xff\xff\x04\x08\x04\x08\0";
+
+#[test]
+fn a_copy_may_end_at_the_last_address(rt: HostRuntime) -> Result<(), Fail> {
+    let explained = explain(rt.alloc(), Bus::Ideal, TO_THE_LAST_ADDRESS, 100).map_err(
+        |_| "unexplained",
+    )?;
+    assert!(rt; explained.src.as_slice() == [once(8, 8)].as_slice());
+    assert!(rt; explained.dst.as_slice() == [segment(0xffff_fff8, 8)].as_slice());
+    Ok(())
+}
+
+// Whether explain refuses a program for this cause, at this offset and after this number of instructions.
+fn refuses(rt: &HostRuntime, bus: Bus, bytes: &[u8], cause: Cause, pc: u32, steps: u32) -> bool {
+    match explain(rt.alloc(), bus, bytes, 20) {
+        Ok(explained) => {
+            let Explained { .. } = explained;
+            false
+        }
+        Err(found) => found == Unexplained { cause, pc, steps },
+    }
+}
+
 #[test]
 fn other_programs_are_refused(rt: HostRuntime) -> Result<(), Fail> {
-    let rows: [(&[u8], Cause, u32, u32); 9] = [
+    let rows: [(&[u8], Cause, u32, u32); 10] = [
         (b"\x08\0", Cause::Fails(FaultKind::StDataUnavailable), 0, 0),
         (b"\x18\x05", Cause::Fails(FaultKind::UndefInstr), 1, 1),
         (b"\x18", Cause::Fails(FaultKind::InstrFetchErr), 1, 1),
+        (
+            b"\x18\x38\x04",
+            Cause::Fails(FaultKind::InstrFetchErr),
+            3,
+            2,
+        ),
         (b"\xbc\x01\x07\xc0\x01\0\x04\0", Cause::BytesLeft, 7, 2),
         (
             b"\xbc\x01\x07\xc0\x01\0\x04\x08\0",
@@ -69,28 +144,59 @@ fn other_programs_are_refused(rt: HostRuntime) -> Result<(), Fail> {
             3,
         ),
         (
-            b"\xbc\x01\x07\xc0\x01\0\x04\x36\x18\0",
-            Cause::WaitsLate,
+            b"\xbc\x01\x05\x40\x01\0\x04\x04\xbc\x02\0\x02\0\0\x08\xbc\x02\0\x02\0\0\x08\0",
+            Cause::StoresTwice,
+            22,
             7,
-            2,
         ),
         (b"\x04\x08\0", Cause::StoresFixed, 1, 1),
-        (b"\xbc\0\xff\xff\xff\xff\x04\0", Cause::LoadsPast, 6, 1),
+        (
+            b"\xbc\x01\x05\x40\x01\0\xbc\0\xfd\xff\xff\xff\x04\0",
+            Cause::LoadsPast,
+            12,
+            2,
+        ),
         (b"\x20\xff\x38\0\0", Cause::NoEnd, 2, 20),
     ];
     for (bytes, cause, pc, steps) in &rows {
-        let fault = Unexplained {
-            cause: *cause,
-            pc: *pc,
-            steps: *steps,
-        };
-        match explain(rt.alloc(), Bus::Ideal, bytes, 20) {
-            Ok(explained) => {
-                let Explained { .. } = explained;
-                assert!(rt; false, "{bytes:?}");
-            }
-            Err(found) => assert!(rt; found == fault, "{bytes:?}"),
-        }
+        assert!(rt;
+            refuses(&rt, Bus::Ideal, bytes, *cause, *pc, *steps),
+            "{bytes:?}"
+        );
     }
+    Ok(())
+}
+
+// Sets the control word, loads, and sets the destination's address before it stores: to 0x200, or to 0x204.
+static SETS_LATE: &[u8] = b"\xbc\x01\x05\x40\x01\0\x04\xbc\x02\0\x02\0\0\x08\0";
+
+static SETS_OTHER_LANES: &[u8] = b"\xbc\x01\x05\x40\x01\0\x04\xbc\x02\x04\x02\0\0\x08\0";
+
+// Loads eight bytes as two beats of four, and stores them as one beat of eight: the destination still rises.
+static SETS_WIDER: &[u8] =
+    b"\xbc\x01\x15\x40\x05\0\xbc\x02\0\x02\0\0\x04\xbc\x01\x05\xc0\x01\0\x08\0";
+
+#[test]
+fn a_chip_drops_bytes(rt: HostRuntime) -> Result<(), Fail> {
+    let narrow = Bus::Chip(BusWidth::Bits32);
+    let chip = Bus::Chip(BusWidth::Bits64);
+    let rows: [(&[u8], Bus, u32, u32); 5] = [
+        (SETS_LATE, Bus::Ideal, 0x200, 4),
+        (SETS_LATE, chip, 0x200, 4),
+        (SETS_OTHER_LANES, Bus::Ideal, 0x204, 4),
+        (SETS_OTHER_LANES, narrow, 0x204, 4),
+        (SETS_WIDER, chip, 0x200, 8),
+    ];
+    for (program, bus, addr, len) in &rows {
+        let explained = explain(rt.alloc(), *bus, program, 20).map_err(|_| "unexplained")?;
+        assert!(rt;
+            explained.dst.as_slice() == [segment(*addr, *len)].as_slice(),
+            "{program:?}"
+        );
+    }
+    assert!(rt; refuses(&rt, chip, SETS_OTHER_LANES, Cause::DropsBytes, 7, 2));
+    let wide = b"\xbc\x01\x09\0\0\0\0";
+    let cause = Cause::Fails(FaultKind::OperandInvalid);
+    assert!(rt; refuses(&rt, chip, wide, cause, 0, 0));
     Ok(())
 }

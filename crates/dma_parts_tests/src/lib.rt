@@ -6,6 +6,8 @@
 #[cfg(test)]
 mod chan;
 #[cfg(test)]
+mod chan_compile;
+#[cfg(test)]
 mod chan_explain;
 #[cfg(test)]
 mod chan_pairs;

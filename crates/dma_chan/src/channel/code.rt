@@ -61,11 +61,7 @@ impl Code {
         ensures { let bytes = take most_program_bytes (run_from (pieces_of regions.now) addr) in
             self.new ≡ Some (record { bytes = bytes; cost = None }) }
     {
-        let Ok(()) = self.bytes.resize(MAX_PROGRAM_BYTES, 0) else {
-            unreachable!()
-        };
-        let len = copy_run(regions, addr, &mut self.bytes);
-        self.bytes.truncate(len);
+        copy_run(regions, addr, MAX_PROGRAM_BYTES, &mut self.bytes);
         self.cost = None;
         self.is_loaded = true;
     }

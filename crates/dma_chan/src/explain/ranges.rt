@@ -1,16 +1,34 @@
 //! Lists of ranges that a run reads and writes.
 
-ghost use Rattle.std.specs.Prelude.{◌≡◌, ◌≢◌, ◌+◌, ◌<◌, ◌≤◌, ◌++◌, All, AllPairs, IfErr, IfOk, OnOk};
-ghost use Rattle.std.specs.List.Sorted.{IsNonDecreasingBy};
+ghost use Rattle.std.specs.Prelude.{◌≡◌, ◌≢◌, ◌++◌, ◌∷◌, [], All, IfErr, IfOk, OnOk, OnSome, IfSome, None, Some};
+ghost use Rattle.std.specs.List.{list_any, range_with_len};
+ghost use Rattle.std.specs.List.Sorted.{IsNonDecreasingBy, IsPermutation};
 ghost use Rattle.dma_mem.specs.declared.segment.Segment.{Segment};
-ghost use Rattle.dma_mem.specs.Places.{Apart, places, range_of};
-ghost use Rattle.dma_mem.specs.Refusals.{some_meet};
-ghost use Rattle.dma_chan.specs.inner.Tracing.{IsRun, NoCopy};
+ghost use Rattle.dma_mem.specs.Places.{places, range_of, share};
+ghost use Rattle.dma_mem.specs.inner.RangesInOrder.{IsOrdered};
+ghost use Rattle.dma_chan.specs.Explains.{IsRead, IsRun, stop_of_lists, unrolled};
 
-use crate::explain::Cause;
-use dma_mem::range_set::RangeSet;
-use dma_mem::segment::Segment;
+use crate::explain::{Cause, Repeated};
+use dma_mem::ordered::{meets_ordered, sort_by_address};
+use dma_mem::segment::{Segment, neighbours_meet};
 use std::alloc::{AllocError, Global};
+
+// Returns the two ranges as one, if the second continues the first.
+fn joined(run: Segment, next: Segment) -> Option<Segment>
+    requires run { IsRun run }
+    requires next { IsRun next }
+    ensures same { IfSome result (λ all. range_of all ≡ range_of run ++ range_of next) }
+    ensures run { IfSome result (λ all. IsRun all) }
+{
+    if run.end() != u64::from(next.addr) {
+        return None;
+    }
+    let len = run.len.checked_add(next.len)?;
+    Some(Segment {
+        addr: run.addr,
+        len,
+    })
+}
 
 // Appends a range to a list. Where it continues the last range, that one grows.
 #[inline(always)]
@@ -21,60 +39,113 @@ pub(super) fn push_run(list: &mut Vec<Segment>, run: Segment) -> Result<(), Allo
     ensures runs { OnOk result (All IsRun list.new.items) }
 {
     let n = list.len();
-    if n > 0 && list[n - 1].end() == u64::from(run.addr) {
-        list[n - 1].len += run.len;
-        return Ok(());
+    if n > 0 {
+        if let Some(all) = joined(list[n - 1], run) {
+            list[n - 1] = all;
+            return Ok(());
+        }
     }
     list.push(run)?;
     Ok(())
 }
 
-// Returns whether two of the segments meet. They are sorted by their first addresses, so two neighbours meet then.
-fn neighbours_meet(sorted: &[Segment]) -> bool
-    requires filled { All (λ s. 0 < s.len) sorted.now }
-    requires rising { IsNonDecreasingBy (λ (s : Segment). s.addr) sorted.now }
-    ensures { result ≡ some_meet sorted.now }
-{
-    for next in 1..sorted.len() {
-        if u64::from(sorted[next].addr) < sorted[next - 1].end() {
-            return true;
+impl Repeated {
+    // Returns the range that it reads.
+    fn segment(self) -> Segment
+        ensures { result ≡ record { addr = self.addr; len = self.len } }
+    {
+        Segment {
+            addr: self.addr,
+            len: self.len,
         }
     }
-    false
+
+    // Returns the two items as one, if the second reads the first one's range again or continues it.
+    fn joined(self, next: Repeated) -> Option<Repeated>
+        requires item { IsRead self }
+        requires next { IsRead next }
+        ensures same { IfSome result (λ all.
+            places (unrolled (all ∷ [])) ≡ places (unrolled (self ∷ next ∷ []))) }
+        ensures item { IfSome result (λ all. IsRead all) }
+    {
+        if self.addr == next.addr && self.len == next.len {
+            let times = self.times.checked_add(next.times)?;
+            return Some(Repeated {
+                addr: self.addr,
+                len: self.len,
+                times,
+            });
+        }
+        if self.times != 1 || next.times != 1 {
+            return None;
+        }
+        let all = joined(self.segment(), next.segment())?;
+        Some(Repeated {
+            addr: all.addr,
+            len: all.len,
+            times: 1,
+        })
+    }
 }
 
-// Returns whether an address of a list is in it twice.
-fn any_twice(alloc: Global, list: &[Segment]) -> Result<bool, AllocError>
-    requires filled { All (λ s. 0 < s.len) list.now }
-    ensures { IfOk result (λ twice. twice ≡ some_meet list.now) }
+// Appends an item to a list. Where it reads the last item's range again or continues it, that one grows.
+#[inline(always)]
+pub(super) fn push_read(list: &mut Vec<Repeated>, item: Repeated) -> Result<(), AllocError>
+    requires item { IsRead item }
+    requires items { All IsRead list.old.items }
+    ensures ok { OnOk result (places (unrolled list.new.items)
+        ≡ places (unrolled list.old.items) ++ places (unrolled (item ∷ []))) }
+    ensures items { OnOk result (All IsRead list.new.items) }
 {
-    if list.len() <= 1 {
-        return Ok(false);
+    let n = list.len();
+    if n > 0 {
+        if let Some(all) = list[n - 1].joined(item) {
+            list[n - 1] = all;
+            return Ok(());
+        }
     }
+    list.push(item)?;
+    Ok(())
+}
+
+// Returns the segments, sorted by their first addresses.
+fn sorted(alloc: Global, list: &[Segment]) -> Result<Vec<Segment>, AllocError>
+    ensures same { IfOk result (λ sorted. IsPermutation list.now sorted.items) }
+    ensures rising { IfOk result (λ sorted.
+        IsNonDecreasingBy (λ (s : Segment). s.addr) sorted.items) }
+{
     let mut sorted = Vec::from_slice(alloc, list)?;
-    sorted.sort_unstable_by_key(|segment| segment.addr);
-    Ok(neighbours_meet(&sorted))
+    sort_by_address(&mut sorted);
+    Ok(sorted)
+}
+
+// Returns whether an item reads an address of the ranges.
+fn any_reads(ranges: &[Segment], items: &[Repeated]) -> bool
+    requires { IsOrdered ranges.now }
+    ensures { result
+        ≡ list_any (λ r. share (range_with_len r.addr r.len) (places ranges.now)) items.now }
+{
+    items
+        .iter()
+        .any(|item| meets_ordered(ranges, item.segment()))
 }
 
 // Tests that no address is in `dst` twice, and none in both lists.
-pub(super) fn overlap(alloc: Global, src: &[Segment], dst: &[Segment]) -> Result<(), Cause>
+pub(super) fn overlap(alloc: Global, src: &[Repeated], dst: &[Segment]) -> Result<(), Cause>
+    requires items { All IsRead src.now }
     requires runs { All IsRun dst.now }
-    ensures once { OnOk result (AllPairs (λ a b. a ≢ b) (places dst.now)) }
-    ensures apart { OnOk result (Apart (places src.now) (places dst.now)) }
-    ensures err { IfErr result (λ cause. NoCopy src.now dst.now cause) }
+    ensures ok { OnOk result (stop_of_lists (places (unrolled src.now)) (places dst.now) ≡ None) }
+    ensures err { IfErr result (λ cause. cause ≢ Cause.NoMemory
+        → stop_of_lists (places (unrolled src.now)) (places dst.now) ≡ Some cause) }
 {
-    match any_twice(alloc, dst) {
-        Ok(false) => {}
-        Ok(true) => return Err(Cause::StoresTwice),
-        Err(_) => return Err(Cause::NoMemory),
+    let Ok(ranges) = sorted(alloc, dst) else {
+        return Err(Cause::NoMemory);
+    };
+    if neighbours_meet(&ranges) {
+        return Err(Cause::StoresTwice);
     }
-    match RangeSet::new(alloc, dst) {
-        Ok(set) => {
-            if set.meets_any(src) {
-                return Err(Cause::StoresSource);
-            }
-            Ok(())
-        }
-        Err(_) => Err(Cause::NoMemory),
+    if any_reads(&ranges, src) {
+        return Err(Cause::StoresSource);
     }
+    Ok(())
 }

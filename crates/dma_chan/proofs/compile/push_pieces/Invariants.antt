@@ -4,4 +4,4 @@ use Rattle.dma_chan.specs.Compiled.{piece_tree}
 use Rattle.dma_chan.proofs.compile.push_pieces.Given as goal
 
 abbrev pub invariant-loop-piece : goal.invariant-loop-piece
-invariant-loop-piece l = l.code.items ++ bytes_of (in_order (map piece_tree (drop l.piece-index l.pieces))) ≡ l.fn.code.items ++ bytes_of (in_order (map piece_tree l.pieces))
+invariant-loop-piece l = l.code.items ++ bytes_of (in_order (map (piece_tree l.bus) (drop l.piece-index l.pieces))) ≡ l.fn.code.items ++ bytes_of (in_order (map (piece_tree l.bus) l.pieces))

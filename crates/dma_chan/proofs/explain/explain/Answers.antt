@@ -1,26 +1,20 @@
 use Rattle.std.proofs.Common.{◌+◌, arith, sym, refl, ap, ◌∙◌, Ok}
-use Rattle.dma_chan.specs.Explains.{Trace}
-use Rattle.dma_chan.proofs.Explaining.{follows_all, follows_on, no_copy_left, none_goes}
+use Rattle.dma_chan.proofs.Explaining.{finds, follows_on}
 use Rattle.dma_chan.proofs.NextFits.{next_fits}
 use Rattle.dma_chan.proofs.explain.explain.Goals as goal
 
 pub returns-in-Ok-finish-clause-ok : goal.returns-in-Ok-finish-clause-ok
-returns-in-Ok-finish-clause-ok c = follows_all c.args.bus c.args.program.now c.loop-turn.turn (c.loop-turn.turn + 1) c.loop-turn.tracer c.in-Ok-finish.explained c.loop-turn.invariant (ap Ok c.in-End.ensures ∙ c.in-Ok.ensures) (omega (arith, c.loop-turn-test.true, c.ranges.most.fits)) refl c.in-Ok-finish.ensures.ok
+returns-in-Ok-finish-clause-ok c = finds c.args.bus c.args.program.now c.loop-steps.steps (c.loop-steps.steps + 1) c.loop-steps.tracer c.in-Ok-finish.explained c.loop-steps.invariant (ap Ok c.in-End.ensures ∙ c.in-Ok.ensures) (omega (arith, c.loop-steps-test.true, c.ranges.most.fits)) c.args.most c.loop-steps-test.true refl c.in-Ok-finish.ensures.ok
 
-pub advance-requires-clause-pc : goal.advance-requires-clause-pc
-advance-requires-clause-pc c = omega (arith, next_fits c.args.program.now c.loop-turn.tracer.registers.pc c.in-Ok.next c.loop-turn.invariant.pc (sym c.in-Ok.ensures), c.if-program-gt-MAX_PROGRAM_BYTES.false)
+pub advance-requires : goal.advance-requires
+advance-requires c = record {
+  tracer = c.loop-steps.invariant.tracer;
+  next = λ e. c.in_default.not-End (c.insn.ensures ∙ e);
+  stored = omega (arith, c.loop-steps.invariant.stored, c.loop-steps-test.true, c.ranges.most.fits);
+  pc = omega (arith, next_fits c.args.program.now c.loop-steps.tracer.registers.pc c.in-Ok.next c.loop-steps.invariant.pc (sym c.in-Ok.ensures), c.if-program-gt-MAX_PROGRAM_BYTES.false);
+}
 
-pub loop-turn-preserved : goal.loop-turn-preserved
-loop-turn-preserved c = follows_on c.args.bus c.args.program.now c.loop-turn.turn c.loop-turn.tracer c.advance.new.self c.in-Ok.next c.loop-turn.invariant c.in-Ok.ensures c.in-Ok-advance.ensures.ok c.in-Ok-advance.ensures.pc
-
-pub returns-in-Err-finish-clause-err : goal.returns-in-Err-finish-clause-err
-returns-in-Err-finish-clause-err c = λ memory long t n l low h. no_copy_left c.args.bus c.args.program.now c.loop-turn.turn c.loop-turn.tracer t n c.loop-turn.invariant h c.in-Err-finish.cause memory (ap Ok c.in-End.ensures ∙ c.in-Ok.ensures) c.in-Err-finish.ensures.err
-
-pub returns-in-Err-advance : goal.returns-in-Err-advance
-returns-in-Err-advance c =
-    let w = c.loop-turn.invariant in
-    record {
-      ok = tt;
-      err = λ memory long t n l low h. none_goes c.args.bus c.args.program.now c.loop-turn.turn c.loop-turn.tracer t n w h c.in-Ok.next c.in-Err-advance.cause memory c.in-Ok.ensures (λ e. c.in_default.not-End (c.insn.ensures ∙ e)) low c.in-Err-advance.ensures.err;
-      place = ap (λ (z : Trace). z.registers.pc) w.trace;
-    }
+pub loop-steps-preserved : goal.loop-steps-preserved
+loop-steps-preserved c =
+    let after = c.in-Ok-advance.ensures in
+    follows_on c.args.bus c.args.program.now c.loop-steps.steps c.loop-steps.tracer c.advance.new.self c.in-Ok.next c.loop-steps.invariant c.in-Ok.ensures (λ e. c.in_default.not-End (c.insn.ensures ∙ e)) after.ok after.pc after.stored

@@ -1,4 +1,4 @@
-use Rattle.dma_chan.proofs.CompiledExplained.{compiled_explained, compiled_on_bus}
+use Rattle.dma_chan.proofs.CompiledExplained.{compiled_events, compiled_explained, compiled_on_bus}
 use Rattle.dma_chan.proofs.laws.compiled_is_explained.Goals as goal
 
 pub returns-clause-ideal : goal.returns-clause-ideal
@@ -6,3 +6,6 @@ returns-clause-ideal c = compiled_explained
 
 pub returns-clause-on_bus : goal.returns-clause-on_bus
 returns-clause-on_bus c = compiled_on_bus
+
+pub returns-clause-events : goal.returns-clause-events
+returns-clause-events c = compiled_events

@@ -1,20 +1,33 @@
-use Rattle.std.proofs.Common.{sym, ◌∙◌}
-use Rattle.dma_mem.specs.Places.{places}
-use Rattle.dma_mem.proofs.SharedPlaces.{share-false, shared_by}
-use Rattle.dma_mem.proofs.TransferRules.{once-places}
-use Rattle.dma_chan.proofs.RunLists.{meets_twice}
+use Rattle.std.proofs.Common.{◌<◌, List, All, ap, subst, sym, ◌∙◌}
+use Rattle.std.proofs.lemmas.List.Sorted.{All-permutation}
+use Rattle.dma_mem.specs.declared.segment.Segment.{Segment}
+use Rattle.dma_mem.specs.Refusals.{some_meet}
+use Rattle.dma_mem.specs.inner.RangesInOrder.{IsOrdered}
+use Rattle.dma_mem.proofs.NeighboursMeet.{ordered_apart}
+use Rattle.dma_chan.proofs.RunLists.{stores_source, stores_twice, stores_well}
 use Rattle.dma_chan.proofs.explain.ranges.overlap.Goals as goal
+use Rattle.dma_chan.proofs.explain.ranges.overlap.Goals.{After-deref}
 
-pub returns-else-meets_any-clause-once : goal.returns-else-meets_any-clause-once
-returns-else-meets_any-clause-once c = once-places c.args.dst.now (sym c.in-Ok-false.ensures ∙ c.in-Ok-false.field-0-test)
+filled : (c : After-deref) → All (λ s. 0 < s.len) c.in-Ok.ranges.items
+filled c = All-permutation (λ (s : Segment). 0 < s.len) c.args.dst.now c.in-Ok.ranges.items c.in-Ok.ensures.same (λ k d l. (c.requires.runs k d l).0)
 
-pub returns-else-meets_any-clause-apart : goal.returns-else-meets_any-clause-apart
-returns-else-meets_any-clause-apart c = λ a i j. share-false (places c.args.src.now) (places c.in-Ok.set) (sym c.if-meets_any.ensures) a i ((c.in-Ok.ensures.same a).1 j)
+pub neighbours_meet-requires-clause-filled : goal.neighbours_meet-requires-clause-filled
+neighbours_meet-requires-clause-filled c =
+    subst (λ (xs : List Segment). All (λ s. 0 < s.len) xs) (sym c.deref.ensures.value) (filled (goal.at.neighbours_meet-requires-clause-filled c).After-deref)
 
-pub returns-in-Ok-true-clause-err : goal.returns-in-Ok-true-clause-err
-returns-in-Ok-true-clause-err c = λ _ long once apart. meets_twice c.args.dst.now (sym c.in-Ok-true.ensures ∙ c.in-Ok-true.field-0-test) once
+pub returns-then-neighbours_meet-clause-err : goal.returns-then-neighbours_meet-clause-err
+returns-then-neighbours_meet-clause-err c = λ _.
+    stores_twice c.args.src.now c.args.dst.now c.in-Ok.ranges.items c.requires.items c.in-Ok.ensures.same (ap some_meet (sym c.deref.ensures.value) ∙ sym c.if-neighbours_meet.ensures)
 
-pub returns-then-meets_any-clause-err : goal.returns-then-meets_any-clause-err
-returns-then-meets_any-clause-err c = λ _ long once apart.
-    let w = shared_by (places c.args.src.now) (places c.in-Ok.set) (sym c.if-meets_any.ensures) in
-    apart w.0 w.1 ((c.in-Ok.ensures.same w.0).0 w.2)
+pub any_reads-requires : goal.any_reads-requires
+any_reads-requires c =
+    subst IsOrdered (sym c.deref-2.ensures.value)
+    (ordered_apart c.in-Ok.ranges.items (filled (goal.at.any_reads-requires c).After-deref) c.in-Ok.ensures.rising (ap some_meet (sym c.deref.ensures.value) ∙ sym c.if-neighbours_meet.ensures))
+
+pub returns-then-any_reads-clause-err : goal.returns-then-any_reads-clause-err
+returns-then-any_reads-clause-err c = λ _.
+    stores_source c.args.src.now c.args.dst.now c.in-Ok.ranges.items c.requires.items c.in-Ok.ensures.same (ap some_meet (sym c.deref.ensures.value) ∙ sym c.if-neighbours_meet.ensures) (rw (← c.deref-2.ensures.value) (sym c.if-any_reads.ensures))
+
+pub returns-clause-ok : goal.returns-clause-ok
+returns-clause-ok c =
+    stores_well c.args.src.now c.args.dst.now c.in-Ok.ranges.items c.requires.items c.in-Ok.ensures.same (ap some_meet (sym c.deref.ensures.value) ∙ sym c.if-neighbours_meet.ensures) (rw (← c.deref-2.ensures.value) (sym c.if-any_reads.ensures))

@@ -1,0 +1,136 @@
+-- What it means that an instruction goes on.
+use Rattle.std.proofs.Common.{◌≡◌, ◌≢◌, ℕ, zero, suc, ◌+◌, ◌≤◌, ◌<◌, Bool, true, false, cond, ◌&&◌, ◌||◌, ◌%◌, ◌^◌, eq-eqb, List, length, Option, Some, None, Result, Ok, Err, refl, sym, ap, ◌∙◌, arith, inl, inr, length-append}
+use Rattle.std.specs.Prelude.{◌==◌, if◌then◌else◌, nat_lt, not}
+use Rattle.std.proofs.lemmas.Bool.{le-ltb, lt-ltb, ltb-false, cases_lt, true≢false}
+use Rattle.std.proofs.lemmas.List.FromFn.{length-range_with_len}
+use Rattle.dma_insn.specs.declared.insn.Insn.{Insn}
+use Rattle.dma_insn.specs.declared.insn.Insn.TheVariants.{Mov, Ld, St, Rmb, Wmb, Nop, End, Lp, LpEnd, Sev, Wfe}
+use Rattle.dma_insn.specs.declared.insn.Reg.TheVariants.{Sar, Dar, Ccr}
+use Rattle.dma_mem.specs.Places.{end_of_addresses}
+use Rattle.dma_chan.specs.declared.bursts.Burst.{Burst}
+use Rattle.dma_chan.specs.declared.bus.Bus.{Bus}
+use Rattle.dma_chan.specs.declared.bus.Bus.TheVariants.{Chip, Ideal}
+use Rattle.dma_chan.specs.declared.explain.Cause.{Cause}
+use Rattle.dma_chan.specs.declared.explain.Cause.TheVariants.{Fails, StoresPast, StoresFixed, DropsBytes}
+use Rattle.dma_chan.specs.declared.turn.FaultKind.{FaultKind}
+use Rattle.dma_chan.specs.declared.turn.FaultKind.TheVariants.{OperandInvalid, MfifoErr, StDataUnavailable, InstrFetchErr}
+use Rattle.dma_chan.specs.Bursts.{burst_len, span_of, touched}
+use Rattle.dma_chan.specs.Bus.{accepts, bus_code}
+use Rattle.dma_chan.specs.Exec.{buffer_size, counter_of, destination_of, moved, source_of}
+use Rattle.dma_chan.specs.Explains.{GoesOn, Trace, after_fetch, after_insn, drops, held, next_in, passes, stop_of_insn, stop_of_mov, traced}
+use Rattle.dma_chan.proofs.ControlWords.{touched_up}
+
+-- ---- tests in turn
+
+pub none_first : (b : Bool) (c : Cause) (o : Option Cause) → cond b (Some c) o ≡ None → (b ≡ false) × (o ≡ None)
+none_first true c o e = absurd (cc)
+none_first false c o e = (refl, e)
+
+pub none_second : (b : Bool) (c : Cause) (o : Option Cause) → cond b o (Some c) ≡ None → (b ≡ true) × (o ≡ None)
+none_second true c o e = (refl, e)
+none_second false c o e = absurd (cc)
+
+pub passed : (b : Bool) (c : Cause) (o : Option Cause) → b ≡ false → o ≡ None → cond b (Some c) o ≡ None
+passed b c o e f = ap (λ (x : Bool). cond x (Some c) o) e ∙ f
+
+-- a jump back that is executed stays in the program
+pub no_jump : (n pc back : ℕ) → (nat_lt 0 n && nat_lt pc back) ≡ false → 0 < n → back ≤ pc
+no_jump n pc back e some = elim (cases_lt pc back) [
+  | inl low ↦ absurd (true≢false (let f : (nat_lt 0 n && nat_lt pc back) ≡ true = rw (lt-ltb 0 n some, lt-ltb pc back low) refl in sym f ∙ e))
+  | inr le ↦ le
+]
+
+-- DMAMOV while the buffer is empty
+pub mov_empty : (i : Insn) (x : Trace) → held x ≡ 0 → stop_of_mov i x ≡ None
+mov_empty i x e =
+    let r = x.registers in
+    let dropped = drops r.bus (destination_of r) (destination_of (moved i r)) in
+    passed (nat_lt 0 (held x) && dropped) DropsBytes None (ap (λ (b : Bool). b && dropped) (le-ltb 0 (held x) (omega (arith, e)))) refl
+
+-- a DMAMOV that doesn't change the next store
+pub drops_same : (bus : Bus) (b : Burst) → drops bus b b ≡ false
+drops_same Ideal b = refl
+drops_same (Chip width) b =
+    let lane = b.addr % 2 ^ bus_code width in
+    ap (λ (x : Bool). x || (if b.increments then not b.increments else (b.increments || not (b.size == b.size)))) (ap not (eq-eqb lane lane refl))
+    ∙ by b.increments (not (b.size == b.size)) (ap not (eq-eqb b.size b.size refl))
+  where
+    by : (i m : Bool) → m ≡ false → (if i then not i else (i || m)) ≡ false
+    by true m e = refl
+    by false m e = e
+
+-- a burst that ends at or below the last address
+pub ends_low : (b : Burst) → b.addr + span_of b ≤ end_of_addresses → passes b ≡ false
+ends_low b low = le-ltb end_of_addresses (b.addr + span_of b) low
+
+-- ---- an instruction that goes on
+
+-- the addresses of a burst that rises, as many as its bytes
+pub length_up : (b : Burst) → b.increments ≡ true → length (touched b) ≡ burst_len b
+length_up b e = ap length (touched_up b e) ∙ length-range_with_len b.addr (burst_len b)
+
+abbrev pub Can : Insn → Trace → Type 0
+Can Ld x = length x.loads + burst_len (source_of x.registers) ≤ length x.stores + buffer_size
+Can St x =
+    (length x.stores + burst_len (destination_of x.registers) ≤ length x.loads)
+    × ((destination_of x.registers).increments ≡ true)
+Can (Mov Ccr w) x = accepts x.registers.bus w ≡ true
+Can (LpEnd c back) x = 0 < counter_of c x.registers → back ≤ x.registers.pc
+Can End x = ⊥
+Can i x = Unit {0}
+
+-- no more is stored than loaded
+abbrev pub Few : Trace → Type 0
+Few x = length x.stores ≤ length x.loads
+
+pub can : (i : Insn) (x : Trace) → Few x → i ≢ End → stop_of_insn i x ≡ None → Can i x
+can Ld x few ne e =
+    let b = source_of x.registers in
+    let room = none_first (nat_lt buffer_size (held x + burst_len b)) (Fails MfifoErr) _ e in
+    omega (arith, ltb-false buffer_size (held x + burst_len b) room.0, few)
+can St x few ne e =
+    let b = destination_of x.registers in
+    let has = none_first (nat_lt (held x) (burst_len b)) (Fails StDataUnavailable) _ e in
+    let low = none_first (passes b) StoresPast _ has.1 in
+    let up = none_second b.increments StoresFixed None low.1 in (
+      omega (arith, ltb-false (held x) (burst_len b) has.0, few),
+      up.0,
+    )
+can (Mov Ccr w) x few ne e = (none_second (accepts x.registers.bus w) (Fails OperandInvalid) _ e).0
+can (Mov Sar v) x few ne e = tt
+can (Mov Dar v) x few ne e = tt
+can (LpEnd c back) x few ne e =
+    no_jump (counter_of c x.registers) x.registers.pc back (none_first (nat_lt 0 (counter_of c x.registers) && nat_lt x.registers.pc back) (Fails InstrFetchErr) None e).0
+can End x few ne e = absurd (ne refl)
+can (Lp c n) x few ne e = tt
+can Rmb x few ne e = tt
+can Wmb x few ne e = tt
+can Nop x few ne e = tt
+can (Sev n) x few ne e = tt
+can (Wfe n v) x few ne e = tt
+
+few_insn : (i : Insn) (x : Trace) → Few x → Can i x → Few (after_insn i x)
+few_insn Ld x few c = omega (arith, few, length-append x.loads (touched (source_of x.registers)))
+few_insn St x few c = let b = destination_of x.registers in omega (arith, c.0, length-append x.stores (touched b), length_up b c.1)
+few_insn (Mov r v) x few c = few
+few_insn (Lp k n) x few c = few
+few_insn (LpEnd k b) x few c = few
+few_insn Rmb x few c = few
+few_insn Wmb x few c = few
+few_insn Nop x few c = few
+few_insn End x few c = few
+few_insn (Sev e) x few c = few
+few_insn (Wfe e v) x few c = few
+
+pub can_next : (i : Insn) (x : Trace) → Few x → GoesOn (Ok i) x → Can i x
+can_next i x few go = can i x few (λ e. go.0 (ap (λ (j : Insn). Ok j) e)) go.1
+
+few_next : (r : Result Insn FaultKind) (x : Trace) → Few x → GoesOn r x → Few (after_fetch r x)
+few_next (Ok i) x few go = few_insn i x few (can_next i x few go)
+few_next (Err kind) x few go = absurd (let bad = go.1 in cc)
+
+pub few_at : (bus : Bus) (program : List ℕ) (k : ℕ) → ((j : ℕ) → j < k → GoesOn (next_in program (traced bus program j)) (traced bus program j)) → Few (traced bus program k)
+few_at bus program zero goes = omega arith
+few_at bus program (suc k) goes =
+    let x = traced bus program k in
+    few_next (next_in program x) x (few_at bus program k (λ j l. goes j (omega arith))) (goes k (omega arith))

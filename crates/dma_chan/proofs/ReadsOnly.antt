@@ -1,0 +1,220 @@
+-- A step depends on no byte but those that it reads, and a program that copies reads only its sources.
+use Rattle.std.proofs.Common.{◌≡◌, ◌⊎◌, ℕ, zero, suc, ◌+◌, ◌<◌, Bool, true, false, ◌&&◌, cond, List, [], ◌++◌, length, take, get_or, Option, Some, None, Result, Ok, Err, refl, sym, ap, ◌∙◌, subst, arith, inl, inr}
+use Rattle.std.specs.Prelude.{nat_eq, nat_lt, slice_index_or, unwrap_or}
+use Rattle.std.specs.List.{Contains}
+use Rattle.std.specs.Map.{lookup}
+use Rattle.std.proofs.lemmas.Bool.{cases_lt}
+use Rattle.std.proofs.lemmas.List.{get_or_past}
+use Rattle.std.proofs.lemmas.List.Elements.{Contains-append_left, Contains-append_right}
+use Rattle.dma_insn.specs.declared.insn.Insn.{Insn}
+use Rattle.dma_insn.specs.declared.insn.Insn.TheVariants.{Mov, Ld, St, Rmb, Wmb, Nop, End, Lp, LpEnd, Sev, Wfe}
+use Rattle.dma_insn.specs.declared.insn.Reg.TheVariants.{Sar, Ccr, Dar}
+use Rattle.dma_mem.specs.Image.{put}
+use Rattle.dma_mem.specs.Places.{Descriptor, sources}
+use Rattle.dma_mem.specs.Marking.{MarkList}
+use Rattle.dma_mem.specs.declared.marks.MarkKind.TheVariants.{Reading, Writing}
+use Rattle.dma_mem.proofs.ImagePut.{get_or-put, length-put}
+use Rattle.dma_mem.proofs.PageImages.{put_none}
+use Rattle.dma_chan.specs.declared.bus.Bus.{Bus}
+use Rattle.dma_chan.specs.declared.exec.Registers.{Registers}
+use Rattle.dma_chan.specs.declared.turn.ChanTurn.{ChanTurn}
+use Rattle.dma_chan.specs.declared.turn.ChanTurn.TheVariants.{Moved, Waiting, Ended, Fault}
+use Rattle.dma_chan.specs.declared.turn.FaultKind.{FaultKind}
+use Rattle.dma_chan.specs.Bursts.{burst_len, touched, writes_of, reaches}
+use Rattle.dma_chan.specs.Bus.{accepts}
+use Rattle.dma_chan.specs.Exec.{State, act, buffer_size, counter_of, destination_of, exec_fetched, read_at, source_of, state}
+use Rattle.dma_chan.specs.Channel.{ChannelValue, after_turn, ahead_of, step_of, stored_by}
+use Rattle.dma_chan.specs.Explains.{Executes, Explains, IsIn, Trace, next_in, traced}
+use Rattle.dma_chan.specs.Reads.{AgreeAt, AlikeAt, CallReadsIn, CallReadsNoOther, ReadsNoOther, SameOrKept, read_by, read_next}
+use Rattle.dma_chan.specs.Stepping.{Machine, after_step, after_steps, goes_on_after, machine}
+use Rattle.dma_chan.proofs.CallWrites.{Nexts, Goes, Ends, ahead_at, inside, many_in, nexts, traced_next}
+use Rattle.dma_chan.proofs.Traced.{put-agrees, read_at-agrees}
+
+-- ---- any program
+
+-- two answers of an instruction over two memories
+record Alike (x y : List ℕ) (p q : ChanTurn × State) : Type 0 where
+  turn : p.0 ≡ q.0
+  registers : p.1.registers ≡ q.1.registers
+  buffer : p.1.buffer ≡ q.1.buffer
+  flags : p.1.flags ≡ q.1.flags
+  writes : List (ℕ × ℕ)
+  first : p.1.image ≡ put x writes
+  second : q.1.image ≡ put y writes
+
+-- nothing is written
+same : (turn : ChanTurn) (r : Registers) (buffer : List ℕ) (flags : List Bool) (x y : List ℕ) → Alike x y (turn, state r buffer x flags) (turn, state r buffer y flags)
+same turn r buffer flags x y = record { turn = refl; registers = refl; buffer = refl; flags = refl; writes = []; first = sym (put_none x); second = sym (put_none y) }
+
+either : (b : Bool) (x y : List ℕ) (p q r s : ChanTurn × State) → Alike x y p r → Alike x y q s → Alike x y (cond b p q) (cond b r s)
+either true x y p q r s h k = h
+either false x y p q r s h k = k
+
+act_alike : (marks : MarkList) (i : Insn) (r : Registers) (buffer x y : List ℕ) (flags : List Bool) → AgreeAt (read_by (Ok i) r) x y → Alike x y (act marks i (state r buffer x flags)) (act marks i (state r buffer y flags))
+act_alike marks (Mov Sar v) r buffer x y flags h = same _ _ buffer flags x y
+act_alike marks (Mov Dar v) r buffer x y flags h = same _ _ buffer flags x y
+act_alike marks (Mov Ccr v) r buffer x y flags h = either (accepts r.bus v) x y _ _ _ _ (same _ _ buffer flags x y) (same _ _ buffer flags x y)
+act_alike marks Ld r buffer x y flags h =
+    let places = touched (source_of r) in
+    let bytes : read_at x places ≡ read_at y places = read_at-agrees x y places h.bytes in
+    rw (h.size, bytes)
+    (either (nat_lt buffer_size (length buffer + burst_len (source_of r))) x y _ _ _ _ (same _ _ buffer flags x y)
+    (either (reaches Reading marks (length y) places) x y _ _ _ _ (same _ _ _ flags x y) (same _ _ buffer flags x y)))
+act_alike marks St r buffer x y flags h =
+    let b = destination_of r in
+    rw h.size
+    (either (nat_lt (length buffer) (burst_len b)) x y _ _ _ _ (same _ _ buffer flags x y)
+    (either (reaches Writing marks (length y) (touched b)) x y _ _ _ _
+    (record { turn = refl; registers = refl; buffer = refl; flags = refl; writes = writes_of b (take (burst_len b) buffer); first = refl; second = refl })
+    (same _ _ buffer flags x y)))
+act_alike marks (Lp c n) r buffer x y flags h = same _ _ buffer flags x y
+act_alike marks (LpEnd c back) r buffer x y flags h = either (nat_lt 0 (counter_of c r) && nat_lt r.pc back) x y _ _ _ _ (same _ _ buffer flags x y) (same _ _ buffer flags x y)
+act_alike marks (Sev e) r buffer x y flags h = same _ _ buffer _ x y
+act_alike marks (Wfe e v) r buffer x y flags h = either (slice_index_or flags e false) x y _ _ _ _ (same _ _ buffer _ x y) (same _ _ buffer flags x y)
+act_alike marks Rmb r buffer x y flags h = same _ _ buffer flags x y
+act_alike marks Wmb r buffer x y flags h = same _ _ buffer flags x y
+act_alike marks Nop r buffer x y flags h = same _ _ buffer flags x y
+act_alike marks End r buffer x y flags h = same _ _ buffer flags x y
+
+fetched_alike : (marks : MarkList) (next : Result Insn FaultKind) (r : Registers) (buffer x y : List ℕ) (flags : List Bool) → AgreeAt (read_by next r) x y → Alike x y (exec_fetched marks next (state r buffer x flags)) (exec_fetched marks next (state r buffer y flags))
+fetched_alike marks (Ok i) r buffer x y flags h = act_alike marks i r buffer x y flags h
+fetched_alike marks (Err kind) r buffer x y flags h = same _ _ buffer flags x y
+
+turned_alike : (turn : ChanTurn) (s u : State) (n : ℕ) (c : ChannelValue) → s.registers ≡ u.registers → s.buffer ≡ u.buffer → after_turn turn s n c ≡ after_turn turn u n c
+turned_alike Moved s u n c e f = rw (e, f) refl
+turned_alike Ended s u n c e f = refl
+turned_alike (Waiting x) s u n c e f = refl
+turned_alike (Fault kind) s u n c e f = refl
+
+pub reads_no_other : ReadsNoOther
+reads_no_other marks c x y flags h =
+    let w = fetched_alike marks (ahead_of c) c.registers c.buffer x y flags h in
+    let n = stored_by (ahead_of c) c.registers in
+    let p = step_of marks c x flags in
+    let q = step_of marks c y flags in
+    record {
+      turn = w.turn;
+      channel = ap (λ (turn : ChanTurn). after_turn turn p.1 n c) w.turn ∙ turned_alike q.0 p.1 q.1 n c w.registers w.buffer;
+      events = w.flags;
+      writes = w.writes;
+      first = w.first;
+      second = w.second;
+    }
+
+-- ---- a program that copies
+
+module _ (bus : Bus) (program : List ℕ) (t : Descriptor) (n : ℕ) (h : Explains bus program t n) where
+  -- what a channel reads by an instruction of the program
+  reads_at : (k : ℕ) (c : ChannelValue) (a : ℕ) (i : Insn) → IsIn bus program n k c → next_in program (traced bus program k) ≡ Ok i → Contains (read_next c) a → Contains (read_by (Ok i) (traced bus program k).registers) a
+  reads_at k c a i w next j =
+      let here : read_next c ≡ read_by (Ok i) (traced bus program k).registers =
+      ap (λ (r : Result Insn FaultKind). read_by r c.registers) (ahead_at bus program k i c w.begins w.registers next) ∙ ap (read_by (Ok i)) w.registers in
+      subst (λ (xs : List ℕ). Contains xs a) here j
+
+  load_in : (k : ℕ) (a : ℕ) → k < n → next_in program (traced bus program k) ≡ Ok Ld → Contains (touched (source_of (traced bus program k).registers)) a → Contains (sources t) a
+  load_in k a less next i =
+      let x = traced bus program k in
+      let part = inside bus program t n h (suc k) (omega (arith, less)) in
+      let is_next : (traced bus program (suc k)).loads ≡ x.loads ++ touched (source_of x.registers) = ap (λ (y : Trace). y.loads) (traced_next bus program t n h k Ld next) in
+      subst (λ (xs : List ℕ). Contains xs a) (sym part.loads)
+      (Contains-append_left (traced bus program (suc k)).loads part.loads_rest a
+      (subst (λ (xs : List ℕ). Contains xs a) (sym is_next) (Contains-append_right x.loads (touched (source_of x.registers)) a i)))
+
+  insn_reads : (k a : ℕ) (i : Insn) → k < n → next_in program (traced bus program k) ≡ Ok i → Contains (read_by (Ok i) (traced bus program k).registers) a → Contains (sources t) a
+  insn_reads k a Ld less next j = load_in k a less next j
+  insn_reads k a St less next j = absurd (omega (arith, j.1))
+  insn_reads k a (Mov x v) less next j = absurd (omega (arith, j.1))
+  insn_reads k a Rmb less next j = absurd (omega (arith, j.1))
+  insn_reads k a Wmb less next j = absurd (omega (arith, j.1))
+  insn_reads k a Nop less next j = absurd (omega (arith, j.1))
+  insn_reads k a End less next j = absurd (omega (arith, j.1))
+  insn_reads k a (Lp c m) less next j = absurd (omega (arith, j.1))
+  insn_reads k a (LpEnd c b) less next j = absurd (omega (arith, j.1))
+  insn_reads k a (Sev e) less next j = absurd (omega (arith, j.1))
+  insn_reads k a (Wfe e v) less next j = absurd (omega (arith, j.1))
+
+  next_reads : (k : ℕ) (c : ChannelValue) (a : ℕ) → IsIn bus program n k c → Nexts bus program t n k → Contains (read_next c) a → Contains (sources t) a
+  next_reads k c a w (Ends e next) j = let none : Contains (read_by (Ok End) (traced bus program k).registers) a = reads_at k c a End w next j in absurd (omega (arith, none.1))
+  next_reads k c a w (Goes i less next go) j = insn_reads k a i less next (reads_at k c a i w next j)
+
+  -- the instruction of a channel that executes the program reads only sources
+  pub reads_inside : (k : ℕ) (c : ChannelValue) (a : ℕ) → IsIn bus program n k c → Contains (read_next c) a → Contains (sources t) a
+  reads_inside k c a w j = next_reads k c a w (nexts bus program t n h k w.within) j
+
+pub call_reads_in : CallReadsIn
+call_reads_in bus program t n marks s most taken last after a h w steps reads =
+    let v = many_in bus program t n h marks s reads.0 w (λ k l. steps.moves k (omega (arith, reads.1))) in
+    reads_inside bus program t n h v.0 (after_steps marks s reads.0).channel a v.1 reads.2
+
+-- ---- two memories that agree at the sources
+
+-- after the same bytes are put into both, an address still has the same byte in both
+agree_put : (x y : List ℕ) (ws : List (ℕ × ℕ)) (a : ℕ) → length x ≡ length y → get_or x a 0 ≡ get_or y a 0 → get_or (put x ws) a 0 ≡ get_or (put y ws) a 0
+agree_put x y ws a size same = elim (cases_lt a (length x)) [
+  | inl below ↦ put-agrees x y ws a below (omega (arith, size)) same
+  | inr above ↦ get_or_past (put x ws) a 0 (omega (arith, length-put x ws)) ∙ sym (get_or_past (put y ws) a 0 (omega (arith, length-put y ws, size)))
+]
+
+by_lookup : (o : Option ℕ) (x y v w : ℕ) → v ≡ unwrap_or o x → w ≡ unwrap_or o y → (v ≡ w) ⊎ ((v ≡ x) × (w ≡ y))
+by_lookup None x y v w e f = inr (e, f)
+by_lookup (Some b) x y v w e f = inl (e ∙ sym f)
+
+-- each byte is put, or stays
+put_or_kept : (x y : List ℕ) (ws : List (ℕ × ℕ)) → length x ≡ length y → SameOrKept x y (put x ws) (put y ws)
+put_or_kept x y ws size a = elim (cases_lt a (length x)) [
+  | inl below ↦ by_lookup (lookup (nat_eq a) ws) (get_or x a 0) (get_or y a 0) _ _ (get_or-put x ws a below) (get_or-put y ws a (omega (arith, size)))
+  | inr above ↦ inl (get_or_past (put x ws) a 0 (omega (arith, length-put x ws)) ∙ sym (get_or_past (put y ws) a 0 (omega (arith, length-put y ws, size))))
+]
+
+kept_on : (x y p q v w : List ℕ) → SameOrKept x y p q → ((a : ℕ) → get_or p a 0 ≡ get_or q a 0 → get_or v a 0 ≡ get_or w a 0) → SameOrKept p q v w → SameOrKept x y v w
+kept_on x y p q v w first on then a = elim (then a) [
+  | inl now ↦ inl now
+  | inr kept ↦ elim (first a) [ inl before ↦ inl (on a before) | inr both ↦ inr (kept.0 ∙ both.0, kept.1 ∙ both.1) ]
+]
+
+machine_alike : (s u : Machine) → u.channel ≡ s.channel → u.flags ≡ s.flags → machine s.channel u.image s.flags ≡ u
+machine_alike s u channel flags = rw (← channel, ← flags) refl
+
+module _ (bus : Bus) (program : List ℕ) (t : Descriptor) (n : ℕ) (h : Explains bus program t n) (marks : MarkList) where
+  -- the machine with another memory
+  abbrev over : Machine → List ℕ → Machine
+  over s y = machine s.channel y s.flags
+
+  -- after a step over both memories
+  record After (s : Machine) (y : List ℕ) : Type 0 where
+    alike : AlikeAt (sources t) (after_step marks s) (after_step marks (over s y))
+    kept : SameOrKept s.image y (after_step marks s).image (after_step marks (over s y)).image
+    on : (a : ℕ) → get_or s.image a 0 ≡ get_or y a 0 → get_or (after_step marks s).image a 0 ≡ get_or (after_step marks (over s y)).image a 0
+
+  after : (s : Machine) (y : List ℕ) → Executes bus program n s.channel → AgreeAt (sources t) s.image y → After s y
+  after s y w agree =
+      let x = s.image in
+      let same = reads_no_other marks s.channel x y s.flags (record { size = agree.size; bytes = λ a i. agree.bytes a (reads_inside bus program t n h w.0 s.channel a w.1 i) }) in
+      let ws = same.writes in
+      let on = λ (a : ℕ) (e : get_or x a 0 ≡ get_or y a 0).
+      ap (λ (i : List ℕ). get_or i a 0) same.first ∙ agree_put x y ws a agree.size e ∙ sym (ap (λ (i : List ℕ). get_or i a 0) same.second) in
+      record {
+        alike = record {
+          channel = sym same.channel;
+          flags = sym same.events;
+          image = record { size = ap length same.first ∙ length-put x ws ∙ agree.size ∙ sym (ap length same.second ∙ length-put y ws); bytes = λ a i. on a (agree.bytes a i) };
+        };
+        kept = subst (λ (v : List ℕ). SameOrKept x y v (after_step marks (over s y)).image) (sym same.first)
+            (subst (λ (v : List ℕ). SameOrKept x y (put x ws) v) (sym same.second) (put_or_kept x y ws agree.size));
+        on = on;
+      }
+
+  both : (s u : Machine) (k : ℕ) → Executes bus program n s.channel → ((j : ℕ) → j < k → goes_on_after marks s j ≡ true) → AlikeAt (sources t) s u → AlikeAt (sources t) (after_steps marks s k) (after_steps marks u k) × SameOrKept s.image u.image (after_steps marks s k).image (after_steps marks u k).image
+  both s u zero w moves alike = (alike, λ a. inr (refl, refl))
+  both s u (suc k) w moves alike =
+      let p = after_steps marks s k in
+      let q = after_steps marks u k in
+      let r = both s u k w (λ j l. moves j (omega arith)) alike in
+      let x = after p q.image (many_in bus program t n h marks s k w (λ j l. moves j l)) r.0.image in
+      let is : over p q.image ≡ q = machine_alike p q r.0.channel r.0.flags in
+      subst (λ (v : Machine). AlikeAt (sources t) (after_step marks p) (after_step marks v) × SameOrKept s.image u.image (after_step marks p).image (after_step marks v).image) is
+      (x.alike, kept_on s.image u.image p.image q.image _ _ r.1 x.on x.kept)
+
+pub call_reads_no_other : CallReadsNoOther
+call_reads_no_other bus program t n marks s u most taken last after k h w steps alike few =
+    both bus program t n h marks s u k w (λ j l. steps.moves j (omega (arith, few))) alike

@@ -1,0 +1,86 @@
+-- The addresses that a channel's instructions read, and that nothing else in the memory has any effect on them.
+use Rattle.std.specs.Prelude.{◌≡◌, ◌⊎◌, ℕ, ◌<◌, ◌≤◌, Bool, List, [], length, slice_index, Option, Result, Ok}
+use Rattle.std.specs.List.{Contains}
+use Rattle.dma_insn.specs.declared.insn.Insn.{Insn}
+use Rattle.dma_insn.specs.declared.insn.Insn.TheVariants.{Ld}
+use Rattle.dma_mem.specs.Image.{put}
+use Rattle.dma_mem.specs.Marking.{MarkList}
+use Rattle.dma_mem.specs.Places.{Descriptor, sources}
+use Rattle.dma_chan.specs.declared.bus.Bus.{Bus}
+use Rattle.dma_chan.specs.declared.exec.Registers.{Registers}
+use Rattle.dma_chan.specs.declared.turn.ChanTurn.{ChanTurn}
+use Rattle.dma_chan.specs.declared.turn.FaultKind.{FaultKind}
+use Rattle.dma_chan.specs.Bursts.{touched}
+use Rattle.dma_chan.specs.Channel.{ChannelValue, ahead_of, step_of, stepped}
+use Rattle.dma_chan.specs.Exec.{source_of}
+use Rattle.dma_chan.specs.Explains.{Executes, Explains}
+use Rattle.dma_chan.specs.Stepping.{Machine, TakesSteps, after_steps}
+
+-- the addresses that an instruction reads: those of its burst for a DMALD, and none for any other instruction or a
+-- fault of fetching
+abbrev pub read_by : Result Insn FaultKind → Registers → List ℕ
+read_by (Ok Ld) r = touched (source_of r)
+read_by next r = []
+
+-- the addresses that the next instruction of a channel reads
+abbrev pub read_next : ChannelValue → List ℕ
+read_next c = read_by (ahead_of c) c.registers
+
+-- two images of one size have the same bytes at these addresses
+pub record AgreeAt (places : List ℕ) (x y : List ℕ) : Type 0 where
+  pub size : length x ≡ length y
+  pub bytes : (a : ℕ) → Contains places a → slice_index x a ≡ slice_index y a
+
+-- A step of a channel is the same over two memories: it gives the same answer and leads to the same channel and flags,
+-- and it writes the same bytes to the same addresses.
+pub record SameStep (marks : MarkList) (c : ChannelValue) (x y : List ℕ) (flags : List Bool) : Type 0 where
+  pub turn : (step_of marks c x flags).0 ≡ (step_of marks c y flags).0
+  pub channel : stepped marks c x flags ≡ stepped marks c y flags
+  pub events : (step_of marks c x flags).1.flags ≡ (step_of marks c y flags).1.flags
+  pub writes : List (ℕ × ℕ)
+  pub first : (step_of marks c x flags).1.image ≡ put x writes
+  pub second : (step_of marks c y flags).1.image ≡ put y writes
+
+-- A step of any channel depends on no byte of the memory but those that its instruction reads.
+abbrev pub ReadsNoOther : Type 0
+ReadsNoOther =
+    (marks : MarkList) (c : ChannelValue) (x y : List ℕ) (flags : List Bool) → AgreeAt (read_next c) x y →
+    SameStep marks c x y flags
+
+-- ---- of a program that copies
+
+-- one of this number of steps is of an instruction that reads an address
+abbrev pub Reads : MarkList → Machine → ℕ → ℕ → Type 0
+Reads marks s n a = (k : ℕ) × (k < n) × Contains (read_next (after_steps marks s k).channel) a
+
+-- Each call on a channel that executes a program that copies t reads only sources of t, whatever the memory's size and
+-- bytes, the marks and the flags are, and whatever others wrote before.
+abbrev pub CallReadsIn : Type 0
+CallReadsIn =
+    (bus : Bus) (program : List ℕ) (t : Descriptor) (n : ℕ) (marks : MarkList) (s : Machine) (most taken : ℕ)
+    (last : Option ChanTurn) (after : Machine) (a : ℕ) →
+    Explains bus program t n → Executes bus program n s.channel → TakesSteps marks s most taken last after →
+    Reads marks s taken a → Contains (sources t) a
+
+-- two machines with the same channel and flags, over memories of one size that have the same bytes at these addresses
+pub record AlikeAt (places : List ℕ) (s u : Machine) : Type 0 where
+  pub channel : u.channel ≡ s.channel
+  pub flags : u.flags ≡ s.flags
+  pub image : AgreeAt places s.image u.image
+
+-- Of two memories x and y, which became v and w, each byte is the same in v and w, or has changed in neither.
+abbrev pub SameOrKept : (x y v w : List ℕ) → Type 0
+SameOrKept x y v w =
+    (a : ℕ) → (slice_index v a ≡ slice_index w a)
+    ⊎ ((slice_index v a ≡ slice_index x a) × (slice_index w a ≡ slice_index y a))
+
+-- Bytes outside the sources of t have no effect on the steps of such a call: after each of them, the channel, the flags
+-- and all bytes that were written are the same, whatever bytes the memory had there.
+abbrev pub CallReadsNoOther : Type 0
+CallReadsNoOther =
+    (bus : Bus) (program : List ℕ) (t : Descriptor) (n : ℕ) (marks : MarkList) (s u : Machine) (most taken : ℕ)
+    (last : Option ChanTurn) (after : Machine) (k : ℕ) →
+    Explains bus program t n → Executes bus program n s.channel → TakesSteps marks s most taken last after →
+    AlikeAt (sources t) s u → k ≤ taken →
+    let v = after_steps marks s k in let w = after_steps marks u k in
+    AlikeAt (sources t) v w × SameOrKept s.image u.image v.image w.image
