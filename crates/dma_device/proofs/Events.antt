@@ -28,21 +28,21 @@ use Rattle.dma_device.specs.declared.device.turns.Called.{Called}
 use Rattle.dma_device.specs.declared.device.turns.Turn.{Turn}
 use Rattle.dma_device.specs.declared.thread.Status.TheVariants.{Executing, WaitingForEvent}
 use Rattle.dma_device.specs.declared.thread.Thread.{Thread}
-use Rattle.dma_device.specs.Accesses.{Access, Answer, Does, Happen, Reads, Resets, Restores, Stores, Turns, Writes}
+use Rattle.dma_device.specs.Accesses.{Access, Answer, Does, Reads, Resets, Restores, Stores, Turns, Writes}
 use Rattle.dma_device.specs.CallSteps.{machine_in, marks_in}
 use Rattle.dma_device.specs.Device.{DeviceValue, all_events, is_interrupt, with_thread, written}
-use Rattle.dma_device.specs.Events.{CallTakes, Ends, EventsAreExact, IsSet, NoneEnds, SetSince, Sets, TakenWasSet, WaitsForUnset}
+use Rattle.dma_device.specs.Events.{CallTakes, Ends, EventsAreExact, IsSet, SetSince, Sets, TakenWasSet, WaitsForUnset}
 use Rattle.dma_device.specs.Interrupts.{DebugSignals, HasLine, IsHigh}
 use Rattle.dma_device.specs.Run.{Outcome, called_if}
 use Rattle.dma_device.specs.Thread.{answer, answered, failed, moved, operand_invalid}
 use Rattle.dma_device.specs.Turns.{CallsIf, CallsThread, TakesTurn, begins, follows, is_beside, may_follow, nothing, raises, runs_at, visible_events, with_flags}
-use Rattle.dma_device.proofs.CallKeeps.{if_config}
+use Rattle.dma_device.proofs.CallKeeps.{if_config, if_inten}
 use Rattle.dma_device.proofs.Calls.{call_is}
-use Rattle.dma_device.proofs.Interrupts.{access_has, restored_bit}
+use Rattle.dma_device.proofs.Interrupts.{Exact, all_have, restored_bit, same_exact}
 use Rattle.dma_device.proofs.Runs.{if_is}
 use Rattle.dma_device.proofs.Sound.{step_waits}
 use Rattle.dma_device.proofs.Starts.{set_found}
-use Rattle.dma_device.proofs.TurnRaises.{IsClear, flag_bit, hidden, if_inten, is_signal, no_bit, quiet, step_clear, step_sets}
+use Rattle.dma_device.proofs.TurnRaises.{IsClear, flag_bit, hidden, is_signal, no_bit, quiet, step_clear, step_sets}
 use Rattle.dma_device.proofs.Waits.{is_wfe}
 use Rattle.dma_device.proofs.WriteRaises.{dbgcmd_raises, has_kept, others_keep_lines}
 use Rattle.dma_device.proofs.History as history
@@ -485,16 +485,7 @@ same_calls d regions n most e f left other turn again x y =
 
 -- ---- one access
 
-abbrev Exact : ℕ → DeviceValue → DeviceValue → Type 0 → Type 0 → Type 0
-Exact k d e Up Down = IsSet e k ↔ (Up ⊎ (IsSet d k × ¬ Down))
-
-same_exact : (k : ℕ) (d e : DeviceValue) (Up Down : Type 0) → e.events ≡ d.events → ¬ Up → ¬ Down → Exact k d e Up Down
-same_exact k d e Up Down same no_up no_down = (
-  (λ high. inr (subst (λ (m : ℕ). IsHigh m k) same high, no_down)),
-  (λ why. elim why [ inl up ↦ absurd (no_up up) | inr stays ↦ subst (λ (m : ℕ). IsHigh m k) (sym same) stays.0 ]),
-)
-
-write_exact : (k at value : ℕ) (d : DeviceValue) (regions left : List Region) → HasLine d k → let e = written (pieces_of regions) at value d in Exact k d e (Sets k (Writes at value) d regions e left) (Ends k (Writes at value) d regions e left)
+write_exact : (k at value : ℕ) (d : DeviceValue) (regions left : List Region) → HasLine d k → let e = written (pieces_of regions) at value d in Exact k d.events e.events (Sets k (Writes at value) d regions e left) (Ends k (Writes at value) d regions e left)
 write_exact k at value d regions left has =
     let ram = pieces_of regions in
     let e = written ram at value d in
@@ -508,13 +499,13 @@ write_exact k at value d regions left has =
       | inr not_dbgcmd ↦ elim (cases_eq at 0x02C) [
         | inl intclr ↦
             let same : e.events ≡ d.events = subst (λ (j : ℕ). (written ram j value d).events ≡ d.events) (sym intclr) refl in
-            same_exact k d e Up ⊥ same (λ up. not_dbgcmd up.1.0) (λ down. down)
+            same_exact k d.events e.events Up ⊥ same (λ up. not_dbgcmd up.1.0) (λ down. down)
         | inr not_intclr ↦
-            same_exact k d e Up ⊥ ((others_keep_lines d ram at value k has not_intclr not_dbgcmd).events) (λ up. not_dbgcmd up.1.0) (λ down. down)
+            same_exact k d.events e.events Up ⊥ ((others_keep_lines d ram at value k has not_intclr not_dbgcmd).events) (λ up. not_dbgcmd up.1.0) (λ down. down)
       ]
     ]
 
-turn_exact : (k n most : ℕ) (d e : DeviceValue) (regions left : List Region) (turn : Turn) → HasLine d k → TakesTurn d regions n most e left turn → Exact k d e (Sets k (Turns n most) d regions e left) (Ends k (Turns n most) d regions e left)
+turn_exact : (k n most : ℕ) (d e : DeviceValue) (regions left : List Region) (turn : Turn) → HasLine d k → TakesTurn d regions n most e left turn → Exact k d.events e.events (Sets k (Turns n most) d regions e left) (Ends k (Turns n most) d regions e left)
 turn_exact k n most d e regions left turn has x = (
   (λ high. elim ((turn_sets d regions n most e left turn k has x).0 high) [
     | inl here ↦ inl (here.0, (turn, (x, here.1)))
@@ -550,12 +541,12 @@ turn_exact k n most d e regions left turn has x = (
   ]),
 )
 
-access_exact : (k : ℕ) (a : Access) (d e : DeviceValue) (regions left : List Region) (answer : Answer) → HasLine d k → Does a d regions answer e left → Exact k d e (Sets k a d regions e left) (Ends k a d regions e left)
-access_exact k (Reads at) d e regions left answer has x = same_exact k d e (Sets k (Reads at) d regions e left) ⊥ (ap (λ (v : DeviceValue). v.events) x.1) (λ up. up.1) (λ down. down)
+access_exact : (k : ℕ) (a : Access) (d e : DeviceValue) (regions left : List Region) (answer : Answer) → HasLine d k → Does a d regions answer e left → Exact k d.events e.events (Sets k a d regions e left) (Ends k a d regions e left)
+access_exact k (Reads at) d e regions left answer has x = same_exact k d.events e.events (Sets k (Reads at) d regions e left) ⊥ (ap (λ (v : DeviceValue). v.events) x.1) (λ up. up.1) (λ down. down)
 access_exact k (Writes at value) d e regions left answer has x =
-    subst (λ (v : DeviceValue). Exact k d v (Sets k (Writes at value) d regions v left) (Ends k (Writes at value) d regions v left)) (sym x.1) (write_exact k at value d regions left has)
+    subst (λ (v : DeviceValue). Exact k d.events v.events (Sets k (Writes at value) d regions v left) (Ends k (Writes at value) d regions v left)) (sym x.1) (write_exact k at value d regions left has)
 access_exact k (Turns n most) d e regions left answer has x = turn_exact k n most d e regions left x.0 has x.1.1
-access_exact k (Stores addr byte) d e regions left answer has x = same_exact k d e (Sets k (Stores addr byte) d regions e left) ⊥ (ap (λ (v : DeviceValue). v.events) x.1) (λ up. up.1) (λ down. down)
+access_exact k (Stores addr byte) d e regions left answer has x = same_exact k d.events e.events (Sets k (Stores addr byte) d regions e left) ⊥ (ap (λ (v : DeviceValue). v.events) x.1) (λ up. up.1) (λ down. down)
 access_exact k Resets d e regions left answer has x =
     let low : ¬ IsSet e k = (λ high. let zero_bit = ap (λ (v : DeviceValue). bit_at v.events k) x.1 ∙ bit_at-zero k in omega (arith, zero_bit, high)) in
     ((λ high. absurd (low high)), (λ why. elim why [ inl up ↦ absurd (up.1) | inr stays ↦ absurd (stays.1 tt) ]))
@@ -563,34 +554,11 @@ access_exact k (Restores saved) d e regions left answer has x = restored_bit k s
 
 -- ---- accesses in a row
 
-module _ (access : ℕ → Access) (answer : ℕ → Answer) (before : ℕ → DeviceValue) (lent left : ℕ → List Region) (count k : ℕ) (happen : Happen access answer before lent left count) (has : HasLine (before 0) k) where
-  abbrev Up : ℕ → Type 0
-  Up j = Sets k (access j) (before j) (lent j) (before (j + 1)) (left j)
-
-  abbrev Down : ℕ → Type 0
-  Down j = Ends k (access j) (before j) (lent j) (before (j + 1)) (left j)
-
-  all_have : (n : ℕ) → n ≤ count → HasLine (before n) k
-  all_have zero within = has
-  all_have (suc n) within =
-      let e : n + 1 ≡ suc n = omega arith in
-      subst (λ (m : ℕ). HasLine (before m) k) e (access_has k (access n) (before n) (before (n + 1)) (lent n) (left n) (answer n) (all_have n (omega arith)) (happen n (omega arith)))
-
-  all_hold : (n : ℕ) → n ≤ count → IsSet (before n) k ↔ (SetSince access before lent left k n ⊎ (IsSet (before 0) k × NoneEnds access before lent left k 0 n))
-  all_hold n within =
-      let x = history.held (λ j. IsSet (before j) k) Up Down count (λ j less. access_exact k (access j) (before j) (before (j + 1)) (lent j) (left j) (answer j) (all_have j (omega arith)) (happen j less)) n within in (
-        (λ high. elim (x.0 high) [
-          | inl r ↦ inl (record { at = r.at; below = r.below; sets = r.up; stays = r.stays })
-          | inr first ↦ inr first
-        ]),
-        (λ why. elim why [
-          | inl r ↦ x.1 (inl (record { at = r.at; below = r.below; up = r.sets; stays = r.stays }))
-          | inr first ↦ x.1 (inr first)
-        ]),
-      )
-
 pub events_are_exact : EventsAreExact
-events_are_exact access answer before lent left count k n happen has within = all_hold access answer before lent left count k happen has n within
+events_are_exact access answer before lent left count k n happen has within =
+    history.held_as (λ j. IsSet (before j) k) (λ j. Sets k (access j) (before j) (lent j) (before (j + 1)) (left j)) (λ j. Ends k (access j) (before j) (lent j) (before (j + 1)) (left j))
+    (SetSince access before lent left k n) n (λ r. record { at = r.at; below = r.below; sets = r.up; stays = r.stays }) (λ r. record { at = r.at; below = r.below; up = r.sets; stays = r.stays }) count
+    (λ j less. access_exact k (access j) (before j) (before (j + 1)) (lent j) (left j) (answer j) (all_have access answer before lent left count k happen has j (omega arith)) (happen j less)) within
 
 pub taken_was_set : TakenWasSet
 taken_was_set (Reads at) d e regions left answer k x has w = absurd w

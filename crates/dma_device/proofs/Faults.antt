@@ -24,22 +24,19 @@ use Rattle.dma_device.specs.declared.thread.Status.TheVariants.{Stopped, Executi
 use Rattle.dma_device.specs.declared.thread.Thread.{Thread}
 use Rattle.dma_device.specs.Accesses.{Access, Answer, Does, Reads, Resets, Restores, Stores, Turns, Writes}
 use Rattle.dma_device.specs.CallSteps.{Executes}
-use Rattle.dma_device.specs.Device.{reset_device, DeviceValue, all_events, by_manager, by_thread, debugged, faulting_bits, go, gone, irq_abort, is_event, is_interrupt, manager_failed, program_at, signalled, with_thread, written}
-use Rattle.dma_device.specs.Faults.{EndsFault, EndsAll, AbortIsFaulting, AbortsAreExact, Addresses, CallFails, DebugFails, Fails, FaultsAreExact, Kills, LastFails, TheChannel, TheManager, TurnFails, Who, can_execute, channel_fails, debug_fails, faults_at, faults_if, go_fails, manager_fails}
+use Rattle.dma_device.specs.Device.{reset_device, DeviceValue, all_events, by_manager, by_thread, debugged, faulting_bits, go, irq_abort, is_interrupt, program_at, signalled, with_thread, written}
+use Rattle.dma_device.specs.Faults.{EndsFault, EndsAll, AbortIsFaulting, AbortsAreExact, Addresses, CallFails, DebugFails, FailedSince, Fails, FaultsAreExact, Kills, LastFails, TheChannel, TheManager, TurnFails, Who, can_execute, channel_fails, debug_fails, faults_at, faults_if, go_fails, manager_fails}
 use Rattle.dma_device.specs.Interrupts.{is_fine}
-use Rattle.dma_device.specs.Thread.{answer, answered, dbg_instr, dmago_err, failed, is_faulting, is_faulting_status, is_stopped, is_stopped_status, killed, operand_invalid, reset_thread, started, undef_instr}
+use Rattle.dma_device.specs.Thread.{answer, answered, dbg_instr, failed, is_faulting, is_faulting_status, is_stopped_status, killed, operand_invalid, reset_thread, started, undef_instr}
 use Rattle.dma_device.specs.Turns.{CallsIf, TakesTurn, begins, follows, may_follow, runs_at, runs_if, with_flags}
 use Rattle.dma_device.proofs.Calls.{call_is}
+use Rattle.dma_device.proofs.Cases.{branch, go_cases, manager_cases, thread_cases, write_cases}
 use Rattle.dma_device.proofs.Starts.{set_found}
 use Rattle.dma_device.proofs.History as history
 
 -- ---- a thread is replaced
 
-pick : (f : DeviceValue → Bool) (b : Bool) (x y : DeviceValue) (r : Bool) → (b ≡ true → f x ≡ r) → (b ≡ false → f y ≡ r) → f (if b then x else y) ≡ r
-pick f true x y r p q = p refl
-pick f false x y r p q = q refl
-
-set_other : (ts : List Thread) (n m : ℕ) (u : Thread) → m ≢ n → slice_get (slice_set ts n u) m ≡ slice_get ts m
+pub set_other : (ts : List Thread) (n m : ℕ) (u : Thread) → m ≢ n → slice_get (slice_set ts n u) m ≡ slice_get ts m
 set_other [] n m u other = refl
 set_other (t ∷ ts) zero zero u other = absurd (other refl)
 set_other (t ∷ ts) zero (suc m) u other = refl
@@ -53,8 +50,8 @@ set_elsewhere : (d : DeviceValue) (n m : ℕ) (u : Thread) → m ≢ n → fault
 set_elsewhere d n m u other = ap faults_if (set_other d.threads n m u other)
 
 signal_same : (who : Who) (k : ℕ) (d : DeviceValue) → faults_at who (signalled k d) ≡ faults_at who d
-signal_same TheManager k d = pick (faults_at TheManager) (is_interrupt d k) (record d { interrupts = bit_or d.interrupts (2 ^ k) }) (record d { events = bit_or d.events (2 ^ k) }) d.manager.is_faulting (λ e. refl) (λ e. refl)
-signal_same (TheChannel n) k d = pick (faults_at (TheChannel n)) (is_interrupt d k) (record d { interrupts = bit_or d.interrupts (2 ^ k) }) (record d { events = bit_or d.events (2 ^ k) }) (faults_at (TheChannel n) d) (λ e. refl) (λ e. refl)
+signal_same TheManager k d = branch (λ (e : DeviceValue). faults_at TheManager e ≡ faults_at TheManager d) (is_interrupt d k) (record d { interrupts = bit_or d.interrupts (2 ^ k) }) (record d { events = bit_or d.events (2 ^ k) }) (λ on. refl) (λ off_it. refl)
+signal_same (TheChannel n) k d = branch (λ (e : DeviceValue). faults_at (TheChannel n) e ≡ faults_at (TheChannel n) d) (is_interrupt d k) (record d { interrupts = bit_or d.interrupts (2 ^ k) }) (record d { events = bit_or d.events (2 ^ k) }) (λ on. refl) (λ off_it. refl)
 
 -- ---- the debug instruction by a channel thread
 
@@ -65,75 +62,47 @@ thread_own n None opcode byte d found = ap faults_if found ∙ sym (none (opcode
     none true = refl
     none false = refl
 thread_own n (Some t) opcode byte d found =
-    let f = faults_at (TheChannel n) in
     let r : Bool = if opcode == 0x01 then false else (is_faulting t || (not (is_faulting t) && channel_fails d opcode byte)) in
-    let invalid : DeviceValue = with_thread n (failed (operand_invalid + dbg_instr) t) d in
-    let undefined : DeviceValue = with_thread n (failed (undef_instr + dbg_instr) t) d in
-    let signals : DeviceValue = if is_event d byte then signalled (byte / 8) d else invalid in
-    let acts : DeviceValue = if opcode == 0x34 then signals else undefined in
-    let calm : DeviceValue = if is_faulting t then d else acts in
-    pick f (opcode == 0x01) (with_thread n (killed t) d) calm r
-    (λ kill. let right : r ≡ false = rw kill refl in set_there d n t (killed t) found ∙ sym right)
-    (λ off_it. pick f (is_faulting t) d acts r
-    (λ faulting. let right : r ≡ true = rw (off_it, faulting) refl in ap faults_if found ∙ faulting ∙ sym right)
-    (λ fine. pick f (opcode == 0x34) signals undefined r
-    (λ sev. pick f (is_event d byte) (signalled (byte / 8) d) invalid r
-    (λ event. let right : r ≡ false = rw (off_it, fine, sev, event) refl in signal_same (TheChannel n) (byte / 8) d ∙ ap faults_if found ∙ fine ∙ sym right)
-    (λ none. let right : r ≡ true = rw (off_it, fine, sev, none) refl in set_there d n t (failed (operand_invalid + dbg_instr) t) found ∙ sym right))
-    (λ other. let right : r ≡ true = rw (off_it, fine, other) refl in set_there d n t (failed (undef_instr + dbg_instr) t) found ∙ sym right)))
+    thread_cases (λ (e : DeviceValue). faults_at (TheChannel n) e ≡ r) n t opcode byte d (record {
+      kill = λ one. (let right : r ≡ false = rw one refl in set_there d n t (killed t) found ∙ sym right);
+      faulting = λ no is. (let right : r ≡ true = rw (no, is) refl in ap faults_if found ∙ is ∙ sym right);
+      sev = λ no fine is event. (let right : r ≡ false = rw (no, fine, is, event) refl in signal_same (TheChannel n) (byte / 8) d ∙ ap faults_if found ∙ fine ∙ sym right);
+      no_event = λ no fine is none. (let right : r ≡ true = rw (no, fine, is, none) refl in set_there d n t (failed (operand_invalid + dbg_instr) t) found ∙ sym right);
+      undefined = λ no fine other. (let right : r ≡ true = rw (no, fine, other) refl in set_there d n t (failed (undef_instr + dbg_instr) t) found ∙ sym right);
+    })
 
 -- what it leaves of another thread
 by_other : (who : Who) (n : ℕ) (o : Option Thread) (opcode byte : ℕ) (d : DeviceValue) → ((u : Thread) → faults_at who (with_thread n u d) ≡ faults_at who d) → faults_at who (by_thread n o opcode byte d) ≡ faults_at who d
 by_other who n None opcode byte d keeps = refl
 by_other who n (Some t) opcode byte d keeps =
-    let f = faults_at who in
-    let r = faults_at who d in
-    let invalid : DeviceValue = with_thread n (failed (operand_invalid + dbg_instr) t) d in
-    let undefined : DeviceValue = with_thread n (failed (undef_instr + dbg_instr) t) d in
-    let signals : DeviceValue = if is_event d byte then signalled (byte / 8) d else invalid in
-    let acts : DeviceValue = if opcode == 0x34 then signals else undefined in
-    let calm : DeviceValue = if is_faulting t then d else acts in
-    pick f (opcode == 0x01) (with_thread n (killed t) d) calm r (λ kill. keeps (killed t))
-    (λ off_it. pick f (is_faulting t) d acts r (λ faulting. refl)
-    (λ fine. pick f (opcode == 0x34) signals undefined r
-    (λ sev. pick f (is_event d byte) (signalled (byte / 8) d) invalid r (λ event. signal_same who (byte / 8) d) (λ none. keeps (failed (operand_invalid + dbg_instr) t)))
-    (λ other. keeps (failed (undef_instr + dbg_instr) t))))
+    thread_cases (λ (e : DeviceValue). faults_at who e ≡ faults_at who d) n t opcode byte d (record {
+      kill = λ is. keeps (killed t);
+      faulting = λ no is. refl;
+      sev = λ no fine is event. signal_same who (byte / 8) d;
+      no_event = λ no fine is none. keeps (failed (operand_invalid + dbg_instr) t);
+      undefined = λ no fine other. keeps (failed (undef_instr + dbg_instr) t);
+    })
 
 -- ---- by the manager
 
 go_own : (ram : List Piece) (nonsecure : Bool) (n : ℕ) (o : Option Thread) (d : DeviceValue) → d.manager.is_faulting ≡ false → faults_at TheManager (go ram nonsecure n o d) ≡ go_fails d nonsecure o
 go_own ram nonsecure n None d fine = refl
 go_own ram nonsecure n (Some t) d fine =
-    let f = faults_at TheManager in
-    let r = d.config.nonsecure && not nonsecure in
-    let new : DeviceValue = with_thread n (started d.config.bus nonsecure d.dbginst1 (program_at ram d.dbginst1)) d in
-    pick f (d.config.nonsecure && not nonsecure) (manager_failed dmago_err d) (gone ram nonsecure n t d) r (λ refused. sym refused)
-    (λ allowed. pick f (is_stopped t) new d r (λ stopped. fine ∙ sym allowed) (λ busy. fine ∙ sym allowed))
+    go_cases (λ (e : DeviceValue). faults_at TheManager e ≡ (d.config.nonsecure && not nonsecure)) ram nonsecure n t d
+    (record { refused = λ is. sym is; starts = λ allowed stopped. fine ∙ sym allowed; busy = λ allowed runs. fine ∙ sym allowed })
 
 manager_own : (ram : List Piece) (opcode byte : ℕ) (d : DeviceValue) → faults_at TheManager (by_manager ram opcode byte d) ≡ (if opcode == 0x01 then false else (d.manager.is_faulting || (not d.manager.is_faulting && manager_fails d opcode byte)))
 manager_own ram opcode byte d =
-    let f = faults_at TheManager in
     let r : Bool = if opcode == 0x01 then false else (d.manager.is_faulting || (not d.manager.is_faulting && manager_fails d opcode byte)) in
-    let stopped : DeviceValue = record d { manager = record (d.manager) { is_faulting = false } } in
-    let signals : DeviceValue = if is_event d byte then signalled (byte / 8) d else manager_failed operand_invalid d in
-    let secure : DeviceValue = go ram false byte (slice_get d.threads byte) d in
-    let other : DeviceValue = go ram true byte (slice_get d.threads byte) d in
-    let undefined : DeviceValue = manager_failed undef_instr d in
-    let last : DeviceValue = if opcode == 0xA2 then other else undefined in
-    let goes : DeviceValue = if opcode == 0xA0 then secure else last in
-    let acts : DeviceValue = if opcode == 0x34 then signals else goes in
-    let calm : DeviceValue = if d.manager.is_faulting then d else acts in
-    pick f (opcode == 0x01) stopped calm r (λ kill. let right : r ≡ false = rw kill refl in sym right)
-    (λ off_it. pick f d.manager.is_faulting d acts r (λ faulting. let right : r ≡ true = rw (off_it, faulting) refl in faulting ∙ sym right)
-    (λ fine. pick f (opcode == 0x34) signals goes r
-    (λ sev. pick f (is_event d byte) (signalled (byte / 8) d) (manager_failed operand_invalid d) r
-    (λ event. let right : r ≡ false = rw (off_it, fine, sev, event) refl in signal_same TheManager (byte / 8) d ∙ fine ∙ sym right)
-    (λ none. let right : r ≡ true = rw (off_it, fine, sev, none) refl in sym right))
-    (λ none. pick f (opcode == 0xA0) secure last r
-    (λ is. let right : r ≡ go_fails d false (slice_get d.threads byte) = rw (off_it, fine, none, is) refl in go_own ram false byte (slice_get d.threads byte) d fine ∙ sym right)
-    (λ more. pick f (opcode == 0xA2) other undefined r
-    (λ is. let right : r ≡ go_fails d true (slice_get d.threads byte) = rw (off_it, fine, none, more, is) refl in go_own ram true byte (slice_get d.threads byte) d fine ∙ sym right)
-    (λ rest. let right : r ≡ true = rw (off_it, fine, none, more, rest) refl in sym right)))))
+    manager_cases (λ (e : DeviceValue). faults_at TheManager e ≡ r) ram opcode byte d (record {
+      kill = λ one. (let right : r ≡ false = rw one refl in sym right);
+      faulting = λ no is. (let right : r ≡ true = rw (no, is) refl in is ∙ sym right);
+      sev = λ no fine is event. (let right : r ≡ false = rw (no, fine, is, event) refl in signal_same TheManager (byte / 8) d ∙ fine ∙ sym right);
+      no_event = λ no fine is none. (let right : r ≡ true = rw (no, fine, is, none) refl in sym right);
+      secure = λ no fine other is. (let right : r ≡ go_fails d false (slice_get d.threads byte) = rw (no, fine, other, is) refl in go_own ram false byte (slice_get d.threads byte) d fine ∙ sym right);
+      nonsecure = λ no fine other more is. (let right : r ≡ go_fails d true (slice_get d.threads byte) = rw (no, fine, other, more, is) refl in go_own ram true byte (slice_get d.threads byte) d fine ∙ sym right);
+      undefined = λ no fine other more rest. (let right : r ≡ true = rw (no, fine, other, more, rest) refl in sym right);
+    })
 
 stopped_fine : (s : Status) → is_stopped_status s ≡ true → is_faulting_status s ≡ false
 stopped_fine Stopped is = refl
@@ -144,38 +113,30 @@ stopped_fine Faulting is = absurd (true≢false (sym is))
 go_channel : (ram : List Piece) (nonsecure : Bool) (n m : ℕ) (o : Option Thread) (d : DeviceValue) → slice_get d.threads n ≡ o → faults_at (TheChannel m) (go ram nonsecure n o d) ≡ faults_at (TheChannel m) d
 go_channel ram nonsecure n m None d found = refl
 go_channel ram nonsecure n m (Some t) d found =
-    let f = faults_at (TheChannel m) in
-    let r = faults_at (TheChannel m) d in
     let u = started d.config.bus nonsecure d.dbginst1 (program_at ram d.dbginst1) in
     let new : DeviceValue = with_thread n u d in
-    pick f (d.config.nonsecure && not nonsecure) (manager_failed dmago_err d) (gone ram nonsecure n t d) r (λ refused. refl)
-    (λ allowed. pick f (is_stopped t) new d r
-    (λ stopped. elim (cases_eq m n) [
-      | inl same ↦
-          let here : faults_at (TheChannel n) new ≡ faults_at (TheChannel n) d = set_there d n t u found ∙ sym (ap faults_if found ∙ stopped_fine t.status stopped) in
-          subst (λ (j : ℕ). faults_at (TheChannel j) new ≡ faults_at (TheChannel j) d) (sym same) here
-      | inr other ↦ set_elsewhere d n m u other
-    ]) (λ busy. refl))
+    go_cases (λ (e : DeviceValue). faults_at (TheChannel m) e ≡ faults_at (TheChannel m) d) ram nonsecure n t d (record {
+      refused = λ is. refl;
+      starts = λ allowed stopped. elim (cases_eq m n) [
+        | inl same ↦
+            let here : faults_at (TheChannel n) new ≡ faults_at (TheChannel n) d = set_there d n t u found ∙ sym (ap faults_if found ∙ stopped_fine t.status stopped) in
+            subst (λ (j : ℕ). faults_at (TheChannel j) new ≡ faults_at (TheChannel j) d) (sym same) here
+        | inr other ↦ set_elsewhere d n m u other
+      ];
+      busy = λ allowed runs. refl;
+    })
 
 manager_channel : (ram : List Piece) (m opcode byte : ℕ) (d : DeviceValue) → faults_at (TheChannel m) (by_manager ram opcode byte d) ≡ faults_at (TheChannel m) d
 manager_channel ram m opcode byte d =
-    let f = faults_at (TheChannel m) in
-    let r = faults_at (TheChannel m) d in
-    let stopped : DeviceValue = record d { manager = record (d.manager) { is_faulting = false } } in
-    let signals : DeviceValue = if is_event d byte then signalled (byte / 8) d else manager_failed operand_invalid d in
-    let secure : DeviceValue = go ram false byte (slice_get d.threads byte) d in
-    let other : DeviceValue = go ram true byte (slice_get d.threads byte) d in
-    let undefined : DeviceValue = manager_failed undef_instr d in
-    let last : DeviceValue = if opcode == 0xA2 then other else undefined in
-    let goes : DeviceValue = if opcode == 0xA0 then secure else last in
-    let acts : DeviceValue = if opcode == 0x34 then signals else goes in
-    let calm : DeviceValue = if d.manager.is_faulting then d else acts in
-    pick f (opcode == 0x01) stopped calm r (λ kill. refl)
-    (λ off_it. pick f d.manager.is_faulting d acts r (λ faulting. refl)
-    (λ fine. pick f (opcode == 0x34) signals goes r
-    (λ sev. pick f (is_event d byte) (signalled (byte / 8) d) (manager_failed operand_invalid d) r (λ event. signal_same (TheChannel m) (byte / 8) d) (λ none. refl))
-    (λ none. pick f (opcode == 0xA0) secure last r (λ is. go_channel ram false byte m (slice_get d.threads byte) d refl)
-    (λ more. pick f (opcode == 0xA2) other undefined r (λ is. go_channel ram true byte m (slice_get d.threads byte) d refl) (λ rest. refl)))))
+    manager_cases (λ (e : DeviceValue). faults_at (TheChannel m) e ≡ faults_at (TheChannel m) d) ram opcode byte d (record {
+      kill = λ is. refl;
+      faulting = λ no is. refl;
+      sev = λ no fine is event. signal_same (TheChannel m) (byte / 8) d;
+      no_event = λ no fine is none. refl;
+      secure = λ no fine other is. go_channel ram false byte m (slice_get d.threads byte) d refl;
+      nonsecure = λ no fine other more is. go_channel ram true byte m (slice_get d.threads byte) d refl;
+      undefined = λ no fine other more rest. refl;
+    })
 
 -- ---- by either
 
@@ -241,33 +202,22 @@ decide_addresses (TheChannel m) d = elim (cases_eq (field 0 1 d.dbginst0) 1) [
 -- ---- one write
 
 abbrev Exact : Who → DeviceValue → DeviceValue → Type 0 → Type 0 → Type 0
-Exact who d e Up Down = (faults_at who e ≡ true) ↔ (Up ⊎ ((faults_at who d ≡ true) × ¬ Down))
+Exact who d e Up Down = history.Exact (faults_at who d ≡ true) (faults_at who e ≡ true) Up Down
 
 same_exact : (who : Who) (d e : DeviceValue) (Up Down : Type 0) → faults_at who e ≡ faults_at who d → ¬ Up → ¬ Down → Exact who d e Up Down
-same_exact who d e Up Down same no_up no_down = (
-  (λ high. inr (sym same ∙ high, no_down)),
-  (λ why. elim why [ inl up ↦ absurd (no_up up) | inr stays ↦ same ∙ stays.0 ]),
-)
+same_exact who d e Up Down same = history.same_exact (faults_at who d ≡ true) (faults_at who e ≡ true) Up Down (λ was. same ∙ was) (λ is. sym same ∙ is)
 
 -- a write to any register but DBGCMD leaves the threads
 others_keep : (who : Who) (ram : List Piece) (at value : ℕ) (d : DeviceValue) → at ≢ 0xD04 → faults_at who (written ram at value d) ≡ faults_at who d
 others_keep who ram at value d not_dbgcmd =
-    let f = faults_at who in
-    let r = faults_at who d in
-    let enabled : DeviceValue = record d { inten = bit_and value (all_events d) } in
-    let lowered : DeviceValue = record d { interrupts = bit_and d.interrupts (bit_not w32 (bit_and value d.inten)) } in
-    let executed : DeviceValue = if value % 4 == 0 then debugged ram d else d in
-    let first : DeviceValue = record d { dbginst0 = value } in
-    let second : DeviceValue = record d { dbginst1 = value } in
-    let last : DeviceValue = if at == 0xD0C then second else d in
-    let rest : DeviceValue = if at == 0xD08 then first else last in
-    let below : DeviceValue = if at == 0xD04 then executed else rest in
-    let others : DeviceValue = if at == 0x02C then lowered else below in
-    pick f (at == 0x020) enabled others r (λ is. same who enabled refl refl)
-    (λ more. pick f (at == 0x02C) lowered below r (λ is. same who lowered refl refl)
-    (λ more. pick f (at == 0xD04) executed rest r (λ is. absurd (true≢false (sym is ∙ ne_eqb at 0xD04 not_dbgcmd)))
-    (λ more. pick f (at == 0xD08) first last r (λ is. same who first refl refl)
-    (λ more. pick f (at == 0xD0C) second d r (λ is. same who second refl refl) (λ none. refl)))))
+    write_cases (λ (e : DeviceValue). faults_at who e ≡ faults_at who d) ram at value d (record {
+      inten = same who (record d { inten = bit_and value (all_events d) }) refl refl;
+      intclr = λ is. same who (record d { interrupts = bit_and d.interrupts (bit_not w32 (bit_and value d.inten)) }) refl refl;
+      dbgcmd = λ is. absurd (true≢false (sym is ∙ ne_eqb at 0xD04 not_dbgcmd));
+      dbginst0 = same who (record d { dbginst0 = value }) refl refl;
+      dbginst1 = same who (record d { dbginst1 = value }) refl refl;
+      other = refl;
+    })
   where
     same : (who : Who) (e : DeviceValue) → e.manager ≡ d.manager → e.threads ≡ d.threads → faults_at who e ≡ faults_at who d
     same TheManager e manager threads = ap (λ (m : Manager). m.is_faulting) manager
@@ -503,17 +453,9 @@ access_exact (TheChannel n) (Restores saved) d e regions left answer x = restore
 
 pub faults_are_exact : FaultsAreExact
 faults_are_exact access answer before lent left count n who happen within =
-    let x = history.held (λ j. faults_at who (before j) ≡ true) (λ j. Fails who (access j) (before j) (lent j) (before (j + 1)) (left j)) (λ j. EndsFault who (access j) (before j)) count
-    (λ j less. access_exact who (access j) (before j) (before (j + 1)) (lent j) (left j) (answer j) (happen j less)) n within in (
-      (λ high. elim (x.0 high) [
-        | inl r ↦ inl (record { at = r.at; below = r.below; fails = r.up; stays = r.stays })
-        | inr first ↦ inr first
-      ]),
-      (λ why. elim why [
-        | inl r ↦ x.1 (inl (record { at = r.at; below = r.below; up = r.fails; stays = r.stays }))
-        | inr first ↦ x.1 (inr first)
-      ]),
-    )
+    history.held_as (λ j. faults_at who (before j) ≡ true) (λ j. Fails who (access j) (before j) (lent j) (before (j + 1)) (left j)) (λ j. EndsFault who (access j) (before j))
+    (FailedSince access before lent left who n) n (λ r. record { at = r.at; below = r.below; fails = r.up; stays = r.stays }) (λ r. record { at = r.at; below = r.below; up = r.fails; stays = r.stays }) count
+    (λ j less. access_exact who (access j) (before j) (before (j + 1)) (lent j) (left j) (answer j) (happen j less)) within
 
 -- ---- the line
 

@@ -3,6 +3,14 @@ use Rattle.std.proofs.Common.{◌≡◌, ◌⊎◌, ℕ, zero, suc, ◌+◌, ◌
 use Rattle.std.specs.Prelude.{◌↔◌}
 use Rattle.std.proofs.lemmas.Bool.{cases_eq, cases_lt}
 
+-- it holds after a step exactly if the step makes it hold, or if it held before and the step doesn't end it
+abbrev pub Exact : (before after Up Down : Type 0) → Type 0
+Exact before after Up Down = after ↔ (Up ⊎ (before × ¬ Down))
+
+pub same_exact : (before after Up Down : Type 0) → (before → after) → (after → before) → ¬ Up → ¬ Down → Exact before after Up Down
+same_exact before after Up Down to back no_up no_down =
+    ((λ high. inr (back high, no_down)), (λ why. elim why [ inl up ↦ absurd (no_up up) | inr stays ↦ to stays.0 ]))
+
 module _ (P Up Down : ℕ → Type 0) where
   -- from number i up to, and without, number n nothing ends it
   abbrev pub Stays : ℕ → ℕ → Type 0
@@ -35,7 +43,7 @@ module _ (P Up Down : ℕ → Type 0) where
   since_here : (n : ℕ) → Up n → Since (n + 1)
   since_here n up = record { at = n; below = omega arith; up = up; stays = λ j from less. absurd (omega arith) }
 
-  next_held : (n : ℕ) → P (n + 1) ↔ (Up n ⊎ (P n × ¬ Down n)) → Held n → Held (n + 1)
+  next_held : (n : ℕ) → Exact (P n) (P (n + 1)) (Up n) (Down n) → Held n → Held (n + 1)
   next_held n x held = (
     (λ high. elim (x.0 high) [
       | inl up ↦ inl (since_here n up)
@@ -56,7 +64,7 @@ module _ (P Up Down : ℕ → Type 0) where
     ]),
   )
 
-  pub held : (count : ℕ) → ((n : ℕ) → n < count → P (n + 1) ↔ (Up n ⊎ (P n × ¬ Down n))) → (n : ℕ) → n ≤ count → Held n
+  held : (count : ℕ) → ((n : ℕ) → n < count → Exact (P n) (P (n + 1)) (Up n) (Down n)) → (n : ℕ) → n ≤ count → Held n
   held count steps zero within = (
     (λ high. inr (high, λ j from less. absurd (omega arith))),
     (λ why. elim why [ inl r ↦ absurd (let below = r.below in omega arith) | inr first ↦ first.0 ]),
@@ -64,3 +72,11 @@ module _ (P Up Down : ℕ → Type 0) where
   held count steps (suc n) within =
       let e : n + 1 ≡ suc n = omega arith in
       subst Held e (next_held n (steps n (omega arith)) (held count steps n (omega arith)))
+
+  -- with another record in place of `Since`
+  pub held_as : (Other : Type 0) (n : ℕ) → (Since n → Other) → (Other → Since n) → (count : ℕ) → ((j : ℕ) → j < count → Exact (P j) (P (j + 1)) (Up j) (Down j)) → n ≤ count → P n ↔ (Other ⊎ (P 0 × Stays 0 n))
+  held_as Other n to back count steps within =
+      let x = held count steps n within in (
+        (λ high. elim (x.0 high) [ inl r ↦ inl (to r) | inr first ↦ inr first ]),
+        (λ why. elim why [ inl r ↦ x.1 (inl (back r)) | inr first ↦ x.1 (inr first) ]),
+      )

@@ -1,6 +1,6 @@
 -- Devices stay sound, and a turn of a sound device whose threads can't step does nothing.
 use Rattle.std.proofs.Common.{◌≡◌, ◌∙◌, ℕ, zero, suc, ◌+◌, ◌%◌, ◌/◌, ◌^◌, ◌<◌, ◌≤◌, Bool, true, false, ◌&&◌, List, Option, Some, None, ap, refl, sym, subst, arith, bit_and, bit_or, inl, inr, w32}
-use Rattle.std.specs.Prelude.{◌==◌, if◌then◌else◌, nat_lt, not, slice_get}
+use Rattle.std.specs.Prelude.{◌==◌, nat_lt, slice_get}
 use Rattle.std.specs.Int.{bit_not}
 use Rattle.std.specs.List.{All}
 use borrow.Author.Tests.{ltb-true}
@@ -15,27 +15,24 @@ use Rattle.dma_device.specs.declared.device.turns.Called.{Called}
 use Rattle.dma_device.specs.declared.device.turns.Turn.{Turn}
 use Rattle.dma_device.specs.declared.thread.Thread.{Thread}
 use Rattle.dma_device.specs.Accesses.{Access, Answer, Does, Happen, Reads, Resets, Restores, Stores, Turned, Turns, Writes}
-use Rattle.dma_device.specs.Device.{DeviceValue, all_events, by_manager, by_thread, debugged, go, gone, is_event, is_interrupt, manager_failed, program_at, signalled, with_thread, written}
+use Rattle.dma_device.specs.Device.{DeviceValue, all_events, by_manager, by_thread, debugged, go, is_event, is_interrupt, manager_failed, program_at, signalled, written}
 use Rattle.dma_device.specs.Idle.{IsSoundDevice, NothingHappens, StaySound}
 use Rattle.dma_device.specs.Snapshot.{IsDeviceValue, IsThreadValue}
-use Rattle.dma_device.specs.Thread.{IsSound, answered, dbg_instr, dmago_err, failed, is_faulting, is_stopped, killed, operand_invalid, reset_thread, started, undef_instr}
+use Rattle.dma_device.specs.Thread.{IsSound, answered, dbg_instr, dmago_err, failed, killed, operand_invalid, reset_thread, started, undef_instr}
 use Rattle.dma_device.specs.Turns.{CallsIf, TakesTurn, may_follow, runs_at, with_flags}
 use Rattle.dma_device.proofs.Calls.{call_is}
+use Rattle.dma_device.proofs.Cases.{branch, go_cases, manager_cases, thread_cases, write_cases}
 use Rattle.dma_device.proofs.Sound.{and_fewer, and_known, answered_sound, few_events, same_threads, thread_sound}
 use Rattle.dma_device.proofs.Waits.{turn_rests}
 
 -- ---- parts
-
-branch : (b : Bool) (x y : DeviceValue) → (b ≡ true → IsSoundDevice x) → (b ≡ false → IsSoundDevice y) → IsSoundDevice (if b then x else y)
-branch true x y f g = f refl
-branch false x y f g = g refl
 
 signalled_sound : (d : DeviceValue) (k : ℕ) → IsSoundDevice d → k < d.config.events → IsSoundDevice (signalled k d)
 signalled_sound d k h less =
     let n = d.config.events in
     let raised : DeviceValue = record d { interrupts = bit_or d.interrupts (2 ^ k) } in
     let sent : DeviceValue = record d { events = bit_or d.events (2 ^ k) } in
-    branch (is_interrupt d k) raised sent
+    branch IsSoundDevice (is_interrupt d k) raised sent
     (λ on. same_threads d raised h refl refl h.known.events (or_lt n d.interrupts (2 ^ k) h.known.interrupts (pow-lt {i = k} {j = n} less)) h.known.inten)
     (λ off. same_threads d sent h refl refl (or_lt n d.events (2 ^ k) h.known.events (pow-lt {i = k} {j = n} less)) h.known.interrupts h.known.inten)
 
@@ -49,50 +46,39 @@ manager_sound d why h = same_threads d (manager_failed why d) h refl refl h.know
 
 by_thread_sound : (n : ℕ) (o : Option Thread) (opcode byte : ℕ) (d : DeviceValue) → IsSoundDevice d → IsSoundDevice (by_thread n o opcode byte d)
 by_thread_sound n None opcode byte d h = h
-by_thread_sound n (Some t) opcode byte d h =
-    let invalid : DeviceValue = with_thread n (failed (operand_invalid + dbg_instr) t) d in
-    let undefined : DeviceValue = with_thread n (failed (undef_instr + dbg_instr) t) d in
-    let signals : DeviceValue = if is_event d byte then signalled (byte / 8) d else invalid in
-    let acts : DeviceValue = if opcode == 0x34 then signals else undefined in
-    let calm : DeviceValue = if is_faulting t then d else acts in
-    branch (opcode == 0x01) (with_thread n (killed t) d) calm (λ kill. thread_sound d n (killed t) h refl)
-    (λ no. branch (is_faulting t) d acts (λ faulting. h)
-    (λ fine. branch (opcode == 0x34) signals undefined
-    (λ sev. branch (is_event d byte) (signalled (byte / 8) d) invalid (λ event. signalled_sound d (byte / 8) h (event_known d byte event)) (λ none. thread_sound d n (failed (operand_invalid + dbg_instr) t) h refl))
-    (λ other. thread_sound d n (failed (undef_instr + dbg_instr) t) h refl)))
+by_thread_sound n (Some t) opcode byte d h = thread_cases IsSoundDevice n t opcode byte d (record {
+  kill = λ is. thread_sound d n (killed t) h refl;
+  faulting = λ no is. h;
+  sev = λ no fine is event. signalled_sound d (byte / 8) h (event_known d byte event);
+  no_event = λ no fine is none. thread_sound d n (failed (operand_invalid + dbg_instr) t) h refl;
+  undefined = λ no fine other. thread_sound d n (failed (undef_instr + dbg_instr) t) h refl;
+})
 
 go_sound : (ram : List Piece) (nonsecure : Bool) (n : ℕ) (o : Option Thread) (d : DeviceValue) → IsSoundDevice d → IsSoundDevice (go ram nonsecure n o d)
 go_sound ram nonsecure n None d h = manager_sound d operand_invalid h
-go_sound ram nonsecure n (Some t) d h =
-    let new : DeviceValue = with_thread n (started d.config.bus nonsecure d.dbginst1 (program_at ram d.dbginst1)) d in
-    branch (d.config.nonsecure && not nonsecure) (manager_failed dmago_err d) (gone ram nonsecure n t d)
-    (λ refused. manager_sound d dmago_err h)
-    (λ allowed. branch (is_stopped t) new d (λ stopped. thread_sound d n (started d.config.bus nonsecure d.dbginst1 (program_at ram d.dbginst1)) h refl) (λ busy. h))
+go_sound ram nonsecure n (Some t) d h = go_cases IsSoundDevice ram nonsecure n t d (record {
+  refused = λ is. manager_sound d dmago_err h;
+  starts = λ allowed stopped. thread_sound d n (started d.config.bus nonsecure d.dbginst1 (program_at ram d.dbginst1)) h refl;
+  busy = λ allowed runs. h;
+})
 
 by_manager_sound : (ram : List Piece) (opcode byte : ℕ) (d : DeviceValue) → IsSoundDevice d → IsSoundDevice (by_manager ram opcode byte d)
-by_manager_sound ram opcode byte d h =
-    let stopped : DeviceValue = record d { manager = record (d.manager) { is_faulting = false } } in
-    let signals : DeviceValue = if is_event d byte then signalled (byte / 8) d else manager_failed operand_invalid d in
-    let secure : DeviceValue = go ram false byte (slice_get d.threads byte) d in
-    let other : DeviceValue = go ram true byte (slice_get d.threads byte) d in
-    let undefined : DeviceValue = manager_failed undef_instr d in
-    let last : DeviceValue = if opcode == 0xA2 then other else undefined in
-    let goes : DeviceValue = if opcode == 0xA0 then secure else last in
-    let acts : DeviceValue = if opcode == 0x34 then signals else goes in
-    let calm : DeviceValue = if d.manager.is_faulting then d else acts in
-    branch (opcode == 0x01) stopped calm (λ kill. same_threads d stopped h refl refl h.known.events h.known.interrupts h.known.inten)
-    (λ no. branch (d.manager.is_faulting) d acts (λ faulting. h)
-    (λ fine. branch (opcode == 0x34) signals goes
-    (λ sev. branch (is_event d byte) (signalled (byte / 8) d) (manager_failed operand_invalid d) (λ event. signalled_sound d (byte / 8) h (event_known d byte event)) (λ none. manager_sound d operand_invalid h))
-    (λ none. branch (opcode == 0xA0) secure last (λ is. go_sound ram false byte (slice_get d.threads byte) d h)
-    (λ more. branch (opcode == 0xA2) other undefined (λ is. go_sound ram true byte (slice_get d.threads byte) d h) (λ rest. manager_sound d undef_instr h)))))
+by_manager_sound ram opcode byte d h = manager_cases IsSoundDevice ram opcode byte d (record {
+  kill = λ is. same_threads d (record d { manager = record (d.manager) { is_faulting = false } }) h refl refl h.known.events h.known.interrupts h.known.inten;
+  faulting = λ no is. h;
+  sev = λ no fine is event. signalled_sound d (byte / 8) h (event_known d byte event);
+  no_event = λ no fine is none. manager_sound d operand_invalid h;
+  secure = λ no fine other is. go_sound ram false byte (slice_get d.threads byte) d h;
+  nonsecure = λ no fine other more is. go_sound ram true byte (slice_get d.threads byte) d h;
+  undefined = λ no fine other more rest. manager_sound d undef_instr h;
+})
 
 debugged_sound : (ram : List Piece) (d : DeviceValue) → IsSoundDevice d → IsSoundDevice (debugged ram d)
 debugged_sound ram d h =
     let opcode = field 16 8 d.dbginst0 in
     let byte = field 24 8 d.dbginst0 in
     let n = field 8 3 d.dbginst0 in
-    branch (field 0 1 d.dbginst0 == 1) (by_thread n (slice_get d.threads n) opcode byte d) (by_manager ram opcode byte d)
+    branch IsSoundDevice (field 0 1 d.dbginst0 == 1) (by_thread n (slice_get d.threads n) opcode byte d) (by_manager ram opcode byte d)
     (λ thread. by_thread_sound n (slice_get d.threads n) opcode byte d h) (λ manager. by_manager_sound ram opcode byte d h)
 
 -- ---- a write
@@ -102,19 +88,14 @@ written_sound ram at value d h =
     let n = d.config.events in
     let enabled : DeviceValue = record d { inten = bit_and value (all_events d) } in
     let lowered : DeviceValue = record d { interrupts = bit_and d.interrupts (bit_not w32 (bit_and value d.inten)) } in
-    let executed : DeviceValue = if value % 4 == 0 then debugged ram d else d in
-    let first : DeviceValue = record d { dbginst0 = value } in
-    let second : DeviceValue = record d { dbginst1 = value } in
-    let last : DeviceValue = if at == 0xD0C then second else d in
-    let rest : DeviceValue = if at == 0xD08 then first else last in
-    let below : DeviceValue = if at == 0xD04 then executed else rest in
-    let others : DeviceValue = if at == 0x02C then lowered else below in
-    branch (at == 0x020) enabled others (λ is. same_threads d enabled h refl refl h.known.events h.known.interrupts (and_known value n))
-    (λ more. branch (at == 0x02C) lowered below (λ is. same_threads d lowered h refl refl h.known.events (and_fewer d.interrupts (bit_not w32 (bit_and value d.inten)) n h.known.interrupts) h.known.inten)
-    (λ more. branch (at == 0xD04) executed rest
-    (λ is. branch (value % 4 == 0) (debugged ram d) d (λ zero. debugged_sound ram d h) (λ other. h))
-    (λ more. branch (at == 0xD08) first last (λ is. same_threads d first h refl refl h.known.events h.known.interrupts h.known.inten)
-    (λ more. branch (at == 0xD0C) second d (λ is. same_threads d second h refl refl h.known.events h.known.interrupts h.known.inten) (λ none. h)))))
+    write_cases IsSoundDevice ram at value d (record {
+      inten = same_threads d enabled h refl refl h.known.events h.known.interrupts (and_known value n);
+      intclr = λ is. same_threads d lowered h refl refl h.known.events (and_fewer d.interrupts (bit_not w32 (bit_and value d.inten)) n h.known.interrupts) h.known.inten;
+      dbgcmd = λ is. debugged_sound ram d h;
+      dbginst0 = same_threads d (record d { dbginst0 = value }) h refl refl h.known.events h.known.interrupts h.known.inten;
+      dbginst1 = same_threads d (record d { dbginst1 = value }) h refl refl h.known.events h.known.interrupts h.known.inten;
+      other = h;
+    })
 
 -- ---- a turn
 

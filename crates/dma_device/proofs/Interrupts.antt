@@ -1,7 +1,7 @@
 -- Interrupts along accesses in a row.
 use Rattle.std.proofs.Common.{◌≡◌, ◌∙◌, ◌⊎◌, ℕ, true, zero, suc, ◌+◌, ◌<◌, ◌≤◌, List, ap, refl, sym, subst, arith, inl, inr}
 use Rattle.std.specs.Prelude.{◌↔◌}
-use Rattle.std.proofs.lemmas.Bool.{cases_eq, cases_lt}
+use Rattle.std.proofs.lemmas.Bool.{cases_eq}
 use Rattle.std.proofs.lemmas.Nat.Bits.{bit_at-zero}
 use Rattle.std.specs.Int.{bit_at}
 use Rattle.dma_mem.specs.Regions.{Piece, pieces_of}
@@ -11,38 +11,37 @@ use Rattle.dma_device.specs.Device.{DeviceValue, irqs, written}
 use Rattle.dma_device.specs.Turns.{TakesTurn}
 use Rattle.dma_device.specs.declared.config.Config.{Config}
 use Rattle.dma_device.specs.declared.device.turns.Turn.{Turn}
-use Rattle.dma_device.specs.Interrupts.{Clears, DebugSignals, HasLine, InterruptsAreExact, IsHigh, Raises, RaisedSince, StaysSet}
+use Rattle.dma_device.specs.Interrupts.{Clears, DebugSignals, HasLine, InterruptsAreExact, IsHigh, Raises, RaisedSince}
 use Rattle.dma_device.proofs.Sound.{few_events, fits_word}
 use Rattle.dma_device.proofs.TurnRaises.{turn_config, turn_inten, turn_raises}
 use Rattle.dma_device.proofs.WriteRaises.{dbgcmd_raises, has_kept, intclr_lowers, others_keep_lines}
+use Rattle.dma_device.proofs.History as history
 
 -- ---- one access
 
--- line k is high after exactly if it was high before and wasn't cleared, or if it was raised
-abbrev Exact : ℕ → DeviceValue → DeviceValue → Type 0 → Type 0 → Type 0
-Exact k d e Up Down = IsHigh (irqs e) k ↔ (Up ⊎ (IsHigh (irqs d) k × ¬ Down))
+-- bit k of a word is 1 after exactly if it was 1 before and wasn't cleared, or if it was raised
+abbrev pub Exact : (k old new : ℕ) → Type 0 → Type 0 → Type 0
+Exact k old new Up Down = history.Exact (IsHigh old k) (IsHigh new k) Up Down
 
-same_exact : (k : ℕ) (d e : DeviceValue) (Up Down : Type 0) → irqs e ≡ irqs d → ¬ Up → ¬ Down → Exact k d e Up Down
-same_exact k d e Up Down same no_up no_down = (
-  (λ high. inr (subst (λ (m : ℕ). IsHigh m k) same high, no_down)),
-  (λ why. elim why [ inl up ↦ absurd (no_up up) | inr stays ↦ subst (λ (m : ℕ). IsHigh m k) (sym same) stays.0 ]),
-)
+pub same_exact : (k old new : ℕ) (Up Down : Type 0) → new ≡ old → ¬ Up → ¬ Down → Exact k old new Up Down
+same_exact k old new Up Down same =
+    history.same_exact (IsHigh old k) (IsHigh new k) Up Down (subst (λ (m : ℕ). IsHigh m k) (sym same)) (subst (λ (m : ℕ). IsHigh m k) same)
 
 -- what only raises
-up_exact : (k : ℕ) (d e : DeviceValue) (P Up Down : Type 0) → (P → Up) → (Up → P) → ¬ Down → IsHigh (irqs e) k ↔ (IsHigh (irqs d) k ⊎ P) → Exact k d e Up Down
+up_exact : (k : ℕ) (d e : DeviceValue) (P Up Down : Type 0) → (P → Up) → (Up → P) → ¬ Down → IsHigh (irqs e) k ↔ (IsHigh (irqs d) k ⊎ P) → Exact k (irqs d) (irqs e) Up Down
 up_exact k d e P Up Down to back no_down x = (
   (λ high. elim (x.0 high) [ inl before ↦ inr (before, no_down) | inr here ↦ inl (to here) ]),
   (λ why. elim why [ inl up ↦ x.1 (inr (back up)) | inr stays ↦ x.1 (inl stays.0) ]),
 )
 
 -- what only clears
-down_exact : (k : ℕ) (d e : DeviceValue) (P Up Down : Type 0) → (P → Down) → (Down → P) → ¬ Up → IsHigh (irqs e) k ↔ (IsHigh (irqs d) k × ¬ P) → Exact k d e Up Down
+down_exact : (k : ℕ) (d e : DeviceValue) (P Up Down : Type 0) → (P → Down) → (Down → P) → ¬ Up → IsHigh (irqs e) k ↔ (IsHigh (irqs d) k × ¬ P) → Exact k (irqs d) (irqs e) Up Down
 down_exact k d e P Up Down to back no_up x = (
   (λ high. let w = x.0 high in inr (w.0, λ down. w.1 (back down))),
   (λ why. elim why [ inl up ↦ absurd (no_up up) | inr stays ↦ x.1 (stays.0, λ p. stays.1 (to p)) ]),
 )
 
-write_exact : (k at value : ℕ) (d : DeviceValue) (regions left : List Region) → HasLine d k → let e = written (pieces_of regions) at value d in Exact k d e (Raises k (Writes at value) d regions e left) (Clears k (Writes at value) d)
+write_exact : (k at value : ℕ) (d : DeviceValue) (regions left : List Region) → HasLine d k → let e = written (pieces_of regions) at value d in Exact k (irqs d) (irqs e) (Raises k (Writes at value) d regions e left) (Clears k (Writes at value) d)
 write_exact k at value d regions left has =
     let ram = pieces_of regions in
     let e = written ram at value d in
@@ -60,11 +59,11 @@ write_exact k at value d regions left has =
             (λ down. not_intclr down.0)
             (subst (λ (j : ℕ). IsHigh (irqs (written ram j value d)) k ↔ (IsHigh (irqs d) k ⊎ (IsHigh d.inten k × DebugSignals d value k))) (sym dbgcmd) w)
         | inr not_dbgcmd ↦
-            same_exact k d e Up Down ((others_keep_lines d ram at value k has not_intclr not_dbgcmd).lines) (λ up. not_dbgcmd up.1.0) (λ down. not_intclr down.0)
+            same_exact k (irqs d) (irqs e) Up Down ((others_keep_lines d ram at value k has not_intclr not_dbgcmd).lines) (λ up. not_dbgcmd up.1.0) (λ down. not_intclr down.0)
       ]
     ]
 
-turn_exact : (k n most : ℕ) (d e : DeviceValue) (regions left : List Region) (turn : Turn) → HasLine d k → TakesTurn d regions n most e left turn → Exact k d e (Raises k (Turns n most) d regions e left) (Clears k (Turns n most) d)
+turn_exact : (k n most : ℕ) (d e : DeviceValue) (regions left : List Region) (turn : Turn) → HasLine d k → TakesTurn d regions n most e left turn → Exact k (irqs d) (irqs e) (Raises k (Turns n most) d regions e left) (Clears k (Turns n most) d)
 turn_exact k n most d e regions left turn has x = (
   (λ high. elim ((turn_raises d e regions left n most k turn x has).0 high) [
     | inl before ↦ inr (before, λ down. down)
@@ -88,12 +87,12 @@ restored_bit k bits before after is = (
   ])),
 )
 
-access_exact : (k : ℕ) (a : Access) (d e : DeviceValue) (regions left : List Region) (answer : Answer) → HasLine d k → Does a d regions answer e left → Exact k d e (Raises k a d regions e left) (Clears k a d)
-access_exact k (Reads at) d e regions left answer has x = same_exact k d e (Raises k (Reads at) d regions e left) ⊥ (ap irqs x.1) (λ up. up.1) (λ down. down)
+access_exact : (k : ℕ) (a : Access) (d e : DeviceValue) (regions left : List Region) (answer : Answer) → HasLine d k → Does a d regions answer e left → Exact k (irqs d) (irqs e) (Raises k a d regions e left) (Clears k a d)
+access_exact k (Reads at) d e regions left answer has x = same_exact k (irqs d) (irqs e) (Raises k (Reads at) d regions e left) ⊥ (ap irqs x.1) (λ up. up.1) (λ down. down)
 access_exact k (Writes at value) d e regions left answer has x =
-    subst (λ (v : DeviceValue). Exact k d v (Raises k (Writes at value) d regions v left) (Clears k (Writes at value) d)) (sym x.1) (write_exact k at value d regions left has)
+    subst (λ (v : DeviceValue). Exact k (irqs d) (irqs v) (Raises k (Writes at value) d regions v left) (Clears k (Writes at value) d)) (sym x.1) (write_exact k at value d regions left has)
 access_exact k (Turns n most) d e regions left answer has x = turn_exact k n most d e regions left x.0 has x.1.1
-access_exact k (Stores addr byte) d e regions left answer has x = same_exact k d e (Raises k (Stores addr byte) d regions e left) ⊥ (ap irqs x.1) (λ up. up.1) (λ down. down)
+access_exact k (Stores addr byte) d e regions left answer has x = same_exact k (irqs d) (irqs e) (Raises k (Stores addr byte) d regions e left) ⊥ (ap irqs x.1) (λ up. up.1) (λ down. down)
 access_exact k Resets d e regions left answer has x =
     let low : ¬ IsHigh (irqs e) k = (λ high. let zero_bit = ap (λ (v : DeviceValue). bit_at (irqs v) k) x.1 ∙ bit_at-zero k in omega (arith, zero_bit, high)) in
     ((λ high. absurd (low high)), (λ why. elim why [ inl up ↦ absurd (up.1) | inr stays ↦ absurd (stays.1 tt) ]))
@@ -133,78 +132,14 @@ access_has k (Restores saved) d e regions left answer has x =
 -- ---- accesses in a row
 
 module _ (access : ℕ → Access) (answer : ℕ → Answer) (before : ℕ → DeviceValue) (lent left : ℕ → List Region) (count k : ℕ) (happen : Happen access answer before lent left count) (has : HasLine (before 0) k) where
-  abbrev Stays : ℕ → ℕ → Type 0
-  Stays i n = StaysSet access before k i n
-
-  abbrev Raised : ℕ → Type 0
-  Raised n = RaisedSince access before lent left k n
-
-  abbrev AtFirst : ℕ → Type 0
-  AtFirst n = IsHigh (irqs (before 0)) k × Stays 0 n
-
-  abbrev Down : ℕ → Type 0
-  Down n = Clears k (access n) (before n)
-
-  abbrev Up : ℕ → Type 0
-  Up n = Raises k (access n) (before n) (lent n) (before (n + 1)) (left n)
-
-  fewer : (i n : ℕ) → Stays i (n + 1) → Stays i n
-  fewer i n stays j from less = stays j from (omega arith)
-
-  more : (i n : ℕ) → Stays i n → ¬ Down n → Stays i (n + 1)
-  more i n stays calm j from less =
-      elim (cases_lt j n) [
-        | inl early ↦ stays j from early
-        | inr last ↦
-            let e : n ≡ j = omega arith in
-            subst (λ (m : ℕ). ¬ Down m) e calm
-      ]
-
-  raised_more : (n : ℕ) → Raised n → ¬ Down n → Raised (n + 1)
-  raised_more n r calm = record { at = r.at; below = omega arith; raises = r.raises; stays = more (r.at + 1) n r.stays calm }
-
-  raised_here : (n : ℕ) → Up n → Raised (n + 1)
-  raised_here n up = record { at = n; below = omega arith; raises = up; stays = λ j from less. absurd (omega arith) }
-
-  abbrev Holds : ℕ → Type 0
-  Holds n = IsHigh (irqs (before n)) k ↔ (Raised n ⊎ AtFirst n)
-
-  next_holds : (n : ℕ) → n < count → HasLine (before n) k → Holds n → Holds (n + 1)
-  next_holds n less here held =
-      let x = access_exact k (access n) (before n) (before (n + 1)) (lent n) (left n) (answer n) here (happen n less) in (
-        (λ high. elim (x.0 high) [
-          | inl up ↦ inl (raised_here n up)
-          | inr stays ↦ elim (held.0 stays.0) [
-            | inl r ↦ inl (raised_more n r stays.1)
-            | inr first ↦ inr (first.0, more 0 n first.1 stays.1)
-          ]
-        ]),
-        (λ why. elim why [
-          | inl r ↦ elim (cases_eq r.at n) [
-            | inl last ↦ x.1 (inl (subst Up last r.raises))
-            | inr early ↦
-                let below = r.below in
-                let before_n : Raised n = record { at = r.at; below = omega arith; raises = r.raises; stays = fewer (r.at + 1) n r.stays } in
-                x.1 (inr (held.1 (inl before_n), r.stays n (omega arith) (omega arith)))
-          ]
-          | inr first ↦ x.1 (inr (held.1 (inr (first.0, fewer 0 n first.1)), first.1 n (omega arith) (omega arith)))
-        ]),
-      )
-
-  all_have : (n : ℕ) → n ≤ count → HasLine (before n) k
+  pub all_have : (n : ℕ) → n ≤ count → HasLine (before n) k
   all_have zero within = has
   all_have (suc n) within =
       let e : n + 1 ≡ suc n = omega arith in
       subst (λ (m : ℕ). HasLine (before m) k) e (access_has k (access n) (before n) (before (n + 1)) (lent n) (left n) (answer n) (all_have n (omega arith)) (happen n (omega arith)))
 
-  all_hold : (n : ℕ) → n ≤ count → Holds n
-  all_hold zero within = (
-    (λ high. inr (high, λ j from less. absurd (omega arith))),
-    (λ why. elim why [ inl r ↦ absurd (let below = r.below in omega arith) | inr first ↦ first.0 ]),
-  )
-  all_hold (suc n) within =
-      let e : n + 1 ≡ suc n = omega arith in
-      subst Holds e (next_holds n (omega arith) (all_have n (omega arith)) (all_hold n (omega arith)))
-
 pub interrupts_are_exact : InterruptsAreExact
-interrupts_are_exact access answer before lent left count k n happen has within = all_hold access answer before lent left count k happen has n within
+interrupts_are_exact access answer before lent left count k n happen has within =
+    history.held_as (λ j. IsHigh (irqs (before j)) k) (λ j. Raises k (access j) (before j) (lent j) (before (j + 1)) (left j)) (λ j. Clears k (access j) (before j))
+    (RaisedSince access before lent left k n) n (λ r. record { at = r.at; below = r.below; raises = r.up; stays = r.stays }) (λ r. record { at = r.at; below = r.below; up = r.raises; stays = r.stays }) count
+    (λ j less. access_exact k (access j) (before j) (before (j + 1)) (lent j) (left j) (answer j) (all_have access answer before lent left count k happen has j (omega arith)) (happen j less)) within

@@ -5,6 +5,7 @@ pub mod SavedParts
 pub mod Starts
 pub mod CallKeeps
 pub mod Calls
+pub mod Cases
 pub mod Writes
 pub mod WritesInRegions
 pub mod TurnRaises
@@ -16,6 +17,9 @@ pub mod Sound
 pub mod SavedDevices
 pub mod Damage
 pub mod Stored
+pub mod InMemory
+pub mod WaitSteps
+pub mod Driven
 pub mod Copies
 pub mod Runs
 pub mod Waits
@@ -24,5 +28,6 @@ pub mod TurnChanges
 pub mod History
 pub mod Events
 pub mod Faults
+pub mod Explaining
 pub mod Progress
 pub mod Rows

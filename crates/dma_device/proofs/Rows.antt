@@ -1,8 +1,10 @@
 -- Rows computed from the definitions: values after a reset, a DMAGO of a program with its turns, and INTCLR.
-use Rattle.std.proofs.Common.{◌≡◌, ℕ, true, false, List, [], ◌∷◌, get_or, Some, None, refl}
+use Rattle.std.proofs.Common.{◌≡◌, ℕ, ◌+◌, ◌<◌, zero, suc, arith, sym, true≢false, true, false, List, [], ◌∷◌, get_or, Some, None, refl}
+use Rattle.std.specs.Prelude.{IsTrue, slice_index}
+use Rattle.std.specs.List.{list_any}
 use Rattle.dma_insn.specs.ControlWord.{control_of, end_at, is_control}
 use Rattle.dma_mem.specs.Flags.{flags_of}
-use Rattle.dma_mem.specs.Regions.{Piece}
+use Rattle.dma_mem.specs.Regions.{Piece, has, image_of}
 use Rattle.dma_chan.specs.declared.bus.Bus.TheVariants.{Chip}
 use Rattle.dma_chan.specs.declared.bus.BusWidth.TheVariants.{Bits32, Bits64, Bits128}
 use Rattle.dma_chan.specs.Channel.{loaded_on}
@@ -12,6 +14,7 @@ use Rattle.dma_device.specs.declared.config.Config.{Config}
 use Rattle.dma_device.specs.declared.config.Revision.TheVariants.{R0p0, R1p2}
 use Rattle.dma_device.specs.Config.{is_valid}
 use Rattle.dma_device.specs.Device.{DeviceValue, irq_abort, irqs, read_at, reset_device, written}
+use Rattle.dma_device.specs.Dmago.{HasProgram}
 use Rattle.dma_device.specs.Turns.{raises, runs_at, visible_events, with_flags}
 use Rattle.dma_device.specs.Accesses.{Access, Reads, Turned, Turns, Value, Writes}
 use Rattle.dma_device.specs.Run.{Board, next, run}
@@ -246,3 +249,33 @@ csr-run = refl
 intmis-run : (next (access 7) (run access start 7)).1 ≡ Value 0
 unfolding flags_of
 intmis-run = refl
+
+-- ---- a program in RAM
+
+-- two pieces without a gap between them
+abbrev two_pieces : List Piece
+two_pieces =
+    record { addr = 0x100; bytes = 7 ∷ (0x18 ∷ []) } ∷ (record { addr = 0x102; bytes = 0x18 ∷ (0 ∷ []) } ∷ [])
+
+across-two : HasProgram two_pieces 0x101 (0x18 ∷ (0x18 ∷ (0 ∷ [])))
+across-two = record { order = refl; short = omega arith; lies = lies; bytes = bytes }
+  where
+    lies : (k : ℕ) → k < 3 → IsTrue (list_any (has (0x101 + k)) two_pieces)
+    lies zero less = refl
+    lies (suc zero) less = refl
+    lies (suc (suc zero)) less = refl
+    lies (suc (suc (suc k))) less = absurd (omega arith)
+
+    bytes : (k : ℕ) → k < 3 → slice_index (image_of two_pieces) (0x101 + k) ≡ slice_index (0x18 ∷ (0x18 ∷ (0 ∷ []))) k
+    bytes zero less = refl
+    bytes (suc zero) less = refl
+    bytes (suc (suc zero)) less = refl
+    bytes (suc (suc (suc k))) less = absurd (omega arith)
+
+-- the address after the last piece isn't in RAM, whatever byte the program has there
+past-the_end : (b : ℕ) → ¬ HasProgram two_pieces 0x103 (0 ∷ (b ∷ []))
+past-the_end b h = true≢false (sym (h.lies 1 (omega arith)))
+
+-- another byte
+other-byte : ¬ HasProgram two_pieces 0x100 (8 ∷ [])
+other-byte h = let bad : 7 ≡ 8 = h.bytes 0 (omega arith) in omega (arith, bad)

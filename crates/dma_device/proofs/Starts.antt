@@ -6,8 +6,8 @@ use Rattle.std.proofs.lemmas.List.{get_or-set_same}
 use Rattle.std.proofs.lemmas.Option.{slice_get-get_or, slice_get_within}
 use Rattle.dma_insn.specs.ControlWord.{field, flag}
 use Rattle.dma_mem.specs.Regions.{Piece}
-use Rattle.dma_device.specs.Copies.{MayGo, csr_status, go_written}
-use Rattle.dma_device.specs.Device.{DeviceValue, by_manager, by_thread, csr, go, of_thread, read_at, program_at, with_thread}
+use Rattle.dma_device.specs.Device.{DeviceValue, by_manager, by_thread, csr, go as executes_go, of_thread, read_at, program_at, with_thread}
+use Rattle.dma_device.specs.Dmago.{Go, MayGo, csr_status, started_by}
 use Rattle.dma_device.specs.Thread.{is_faulting, is_faulting_status, is_stopped, is_stopped_status, reset_thread, started, status_bits}
 use Rattle.dma_device.specs.declared.thread.Status.{Status}
 use Rattle.dma_device.specs.declared.thread.Status.TheVariants.{Stopped, Executing, WaitingForEvent, Faulting}
@@ -91,27 +91,31 @@ set_found ts n th new is =
     slice_get-get_or (slice_set ts n new) n th fits ∙ ap Some (get_or-set_same ts n new th within)
 
 -- what the manager does
-by_opcode : (ram : List Piece) (nonsecure : Bool) (n : ℕ) (e : DeviceValue) → e.manager.is_faulting ≡ false → by_manager ram (0xA0 + 2 * flag nonsecure) n e ≡ go ram nonsecure n (slice_get e.threads n) e
+by_opcode : (ram : List Piece) (nonsecure : Bool) (n : ℕ) (e : DeviceValue) → e.manager.is_faulting ≡ false → by_manager ram (0xA0 + 2 * flag nonsecure) n e ≡ executes_go ram nonsecure n (slice_get e.threads n) e
 by_opcode ram true n e calm = rw calm refl
 by_opcode ram false n e calm = rw calm refl
 
-go_starts : (ram : List Piece) (nonsecure : Bool) (n : ℕ) (th : Thread) (e : DeviceValue) → (e.config.nonsecure && not nonsecure) ≡ false → is_stopped th ≡ true → go ram nonsecure n (Some th) e ≡ with_thread n (started e.config.bus nonsecure e.dbginst1 (program_at ram e.dbginst1)) e
+go_starts : (ram : List Piece) (nonsecure : Bool) (n : ℕ) (th : Thread) (e : DeviceValue) → (e.config.nonsecure && not nonsecure) ≡ false → is_stopped th ≡ true → executes_go ram nonsecure n (Some th) e ≡ with_thread n (started e.config.bus nonsecure e.dbginst1 (program_at ram e.dbginst1)) e
 go_starts ram nonsecure n th e allowed stopped = rw (allowed, stopped) refl
 
 -- the thread after a driver's writes of a DMAGO
-pub dmago_starts : (ram : List Piece) (nonsecure : Bool) (n addr : ℕ) (d : DeviceValue) → MayGo d nonsecure n → slice_get (go_written ram nonsecure n addr d).threads n ≡ Some (started d.config.bus nonsecure addr (program_at ram addr))
-dmago_starts ram nonsecure n addr d may =
-    let e = written_both nonsecure n addr d in
+pub dmago_starts : (go : Go) → MayGo go → slice_get (started_by go).threads go.channel ≡ Some (started go.device.config.bus go.nonsecure go.addr (program_at go.ram go.addr))
+dmago_starts go may =
+    let d = go.device in
+    let n = go.channel in
+    let ram = go.ram in
+    let nonsecure = go.nonsecure in
+    let e = written_both nonsecure n go.addr d in
     let w = word nonsecure n in
     let th = get_or d.threads n (reset_thread d.config.bus) in
-    let is = slice_get-get_or d.threads n (reset_thread d.config.bus) may.channel in
+    let is = slice_get-get_or d.threads n (reset_thread d.config.bus) may.there in
     let stopped = reads_stopped d n th may.few is may.stopped in
-    let new = started d.config.bus nonsecure addr (program_at ram addr) in
-    let all : go_written ram nonsecure n addr d ≡ with_thread n new e =
+    let new = started d.config.bus nonsecure go.addr (program_at ram go.addr) in
+    let all : started_by go ≡ with_thread n new e =
     ap (λ (o : ℕ). executed ram e o (field 24 8 w) (field 8 3 w) (field 0 1 w)) (opcode_is nonsecure n)
     ∙ ap (λ (b : ℕ). executed ram e (0xA0 + 2 * flag nonsecure) b (field 8 3 w) (field 0 1 w)) (channel_is nonsecure n may.few)
     ∙ ap (executed ram e (0xA0 + 2 * flag nonsecure) n (field 8 3 w)) (for_manager nonsecure n)
     ∙ by_opcode ram nonsecure n e (flag_clear d.manager.is_faulting may.manager)
-    ∙ ap (λ (o : Option Thread). go ram nonsecure n o e) is
+    ∙ ap (λ (o : Option Thread). executes_go ram nonsecure n o e) is
     ∙ go_starts ram nonsecure n th e may.allowed stopped in
     ap (λ (v : DeviceValue). slice_get v.threads n) all ∙ set_found d.threads n th new is

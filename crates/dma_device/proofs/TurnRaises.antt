@@ -1,6 +1,6 @@
 -- What a turn makes of the lines irq[31:0].
 use Rattle.std.proofs.Common.{◌≡◌, ◌≢◌, ◌∙◌, ◌⊎◌, ℕ, zero, suc, ◌+◌, ◌-◌, ◌^◌, ◌<◌, Bool, true, false, ◌&&◌, List, [], ◌∷◌, length, get_or, set, Option, Some, None, Result, Ok, Err, ap, refl, sym, subst, arith, inl, inr, true≢false, bit_and, w32}
-use Rattle.std.specs.Prelude.{◌↔◌, if◌then◌else◌, min, max, nat_eq, nat_lt, slice_get, slice_index_or}
+use Rattle.std.specs.Prelude.{◌↔◌, if◌then◌else◌, min, max, nat_eq, nat_lt, slice_index_or}
 use Rattle.std.specs.Int.{bit_at, bit_not}
 use Rattle.std.proofs.lemmas.Bool.{cases_eq, ne_eqb}
 use Rattle.std.proofs.lemmas.List.{get_or-set_same, get_or-set_other, length-set}
@@ -29,9 +29,10 @@ use Rattle.dma_device.specs.declared.device.turns.Called.{Called}
 use Rattle.dma_device.specs.declared.thread.Thread.{Thread}
 use Rattle.dma_device.specs.Device.{DeviceValue, all_events, irqs}
 use Rattle.dma_device.specs.Interrupts.{HasLine, IsHigh}
-use Rattle.dma_device.specs.Turns.{CallsIf, CallsOne, CallsThread, TakesTurn, may_follow, runs_at, visible_events, with_flags}
+use Rattle.dma_device.specs.Turns.{CallsIf, CallsThread, TakesTurn, may_follow, runs_at, visible_events, with_flags}
 use Rattle.dma_device.specs.declared.device.turns.Turn.{Turn}
-use Rattle.dma_device.proofs.CallKeeps.{if_config}
+use Rattle.dma_device.proofs.CallKeeps.{if_config, if_inten}
+use Rattle.dma_device.proofs.Calls.{call_is}
 
 -- ---- one step
 
@@ -214,23 +215,13 @@ same_raises d e signal k lines none = (
   (λ why. elim why [ inl high ↦ subst (λ (m : ℕ). IsHigh m k) (sym lines) high | inr here ↦ absurd (let bad = sym none ∙ here.1 in cc) ]),
 )
 
-one_raises : (o : Option Thread) (d : DeviceValue) (regions : List Region) (n most : ℕ) (e : DeviceValue) (left : List Region) (called : Called) (k : ℕ) → HasLine d k → CallsOne o d regions n most e left called → CallRaises d e called.signal k
-one_raises None d regions n most e left called k has x = absurd x
-one_raises (Some t) d regions n most e left called k has x = call_raises d t regions n most e left called k has x
-
 if_raises : (b : Bool) (d : DeviceValue) (regions : List Region) (n most : ℕ) (e : DeviceValue) (left : List Region) (called : Called) (k : ℕ) → HasLine d k → CallsIf b d regions n most e left called → CallRaises d e called.signal k
-if_raises true d regions n most e left called k has x = one_raises (slice_get d.threads n) d regions n most e left called k has x
-if_raises false d regions n most e left called k has x = same_raises d e called.signal k (ap irqs x.0) (ap (λ (c : Called). c.signal) x.2)
+if_raises b d regions n most e left called k has x = elim (call_is b d regions n most e left called x) [
+  | inl idle ↦ same_raises d e called.signal k (ap irqs idle.device) (ap (λ (c : Called). c.signal) idle.none)
+  | inr does ↦ call_raises d does.thread regions n most e left called k has does.call
+]
 
 -- ---- a turn
-
-one_inten : (o : Option Thread) (d : DeviceValue) (regions : List Region) (n most : ℕ) (e : DeviceValue) (left : List Region) (called : Called) → CallsOne o d regions n most e left called → e.inten ≡ d.inten
-one_inten None d regions n most e left called x = absurd x
-one_inten (Some t) d regions n most e left called x = ap (λ (v : DeviceValue). v.inten) x.device
-
-pub if_inten : (b : Bool) (d : DeviceValue) (regions : List Region) (n most : ℕ) (e : DeviceValue) (left : List Region) (called : Called) → CallsIf b d regions n most e left called → e.inten ≡ d.inten
-if_inten true d regions n most e left called x = one_inten (slice_get d.threads n) d regions n most e left called x
-if_inten false d regions n most e left called x = ap (λ (v : DeviceValue). v.inten) x.0
 
 both : (d m e : DeviceValue) (first second : Option ℕ) (k : ℕ) → m.inten ≡ d.inten → CallRaises d m first k → CallRaises m e second k → IsHigh (irqs e) k ↔ (IsHigh (irqs d) k ⊎ (IsHigh d.inten k × ((first ≡ Some k) ⊎ (second ≡ Some k))))
 both d m e first second k same one two = (

@@ -9,9 +9,10 @@ use Rattle.std.proofs.lemmas.Nat.Bits.{bit_at-lt, bit_at_and, bit_at_not, bit_at
 use Rattle.dma_insn.specs.ControlWord.{field}
 use Rattle.dma_mem.specs.Regions.{Piece}
 use Rattle.dma_device.specs.declared.thread.Thread.{Thread}
-use Rattle.dma_device.specs.Device.{DeviceValue, all_events, by_manager, by_thread, debugged, go, gone, irqs, is_event, is_interrupt, manager_failed, program_at, signalled, with_thread, written}
+use Rattle.dma_device.specs.Device.{DeviceValue, all_events, by_manager, by_thread, go, irqs, is_event, is_interrupt, manager_failed, program_at, signalled, with_thread, written}
 use Rattle.dma_device.specs.Interrupts.{DebugSignals, HasLine, IsHigh, can_debug, is_fine}
-use Rattle.dma_device.specs.Thread.{dbg_instr, dmago_err, failed, is_faulting, is_stopped, killed, operand_invalid, started, undef_instr}
+use Rattle.dma_device.specs.Thread.{dbg_instr, dmago_err, failed, is_faulting, killed, operand_invalid, started, undef_instr}
+use Rattle.dma_device.proofs.Cases.{branch, go_cases, manager_cases, thread_cases, write_cases}
 
 -- ---- INTCLR
 
@@ -54,33 +55,19 @@ pub record Keeps (k : ℕ) (d e : DeviceValue) : Type 0 where
 kept : (k : ℕ) (d e : DeviceValue) → HasLine d k → irqs e ≡ irqs d → e.events ≡ d.events → e.config ≡ d.config → e.inten ≡ d.inten → Keeps k d e
 kept k d e has lines events config inten = record { lines = lines; events = events; has = has_kept k d e config inten has }
 
-passed : (k : ℕ) (b : Bool) (d x y : DeviceValue) → b ≡ false → Keeps k d y → Keeps k d (if b then x else y)
-passed k true d x y is h = absurd (true≢false is)
-passed k false d x y is h = h
-
-either : (k : ℕ) (b : Bool) (d x y : DeviceValue) → Keeps k d x → Keeps k d y → Keeps k d (if b then x else y)
-either k true d x y g h = g
-either k false d x y g h = h
-
 -- a write to any register but INTCLR and DBGCMD leaves the lines as they are
 pub others_keep_lines : (d : DeviceValue) (ram : List Piece) (at value k : ℕ) → HasLine d k → at ≢ 0x02C → at ≢ 0xD04 → Keeps k d (written ram at value d)
 others_keep_lines d ram at value k has not_intclr not_dbgcmd =
-    let enabled : DeviceValue = record d { inten = bit_and value (all_events d) } in
-    let lowered : DeviceValue = record d { interrupts = bit_and d.interrupts (bit_not w32 (bit_and value d.inten)) } in
-    let executed : DeviceValue = if value % 4 == 0 then debugged ram d else d in
-    let first : DeviceValue = record d { dbginst0 = value } in
-    let second : DeviceValue = record d { dbginst1 = value } in
-    let last : DeviceValue = if at == 0xD0C then second else d in
-    let rest : DeviceValue = if at == 0xD08 then first else last in
-    let below : DeviceValue = if at == 0xD04 then executed else rest in
-    let others : DeviceValue = if at == 0x02C then lowered else below in
     let all : 2 ^ d.config.events ≤ 2 ^ 32 = pow_mono {i = d.config.events} {j = 32} has.events in
     let few : bit_and value (all_events d) < 2 ^ 32 = omega (arith, and_le_r value (all_events d)) in
-    either k (at == 0x020) d enabled others (record { lines = refl; events = refl; has = record { events = has.events; event = has.event; inten = few } })
-    (passed k (at == 0x02C) d lowered below (ne_eqb at 0x02C not_intclr)
-    (passed k (at == 0xD04) d executed rest (ne_eqb at 0xD04 not_dbgcmd)
-    (either k (at == 0xD08) d first last (kept k d first has refl refl refl refl)
-    (either k (at == 0xD0C) d second d (kept k d second has refl refl refl refl) (kept k d d has refl refl refl refl)))))
+    write_cases (Keeps k d) ram at value d (record {
+      inten = record { lines = refl; events = refl; has = record { events = has.events; event = has.event; inten = few } };
+      intclr = λ is. absurd (true≢false (sym is ∙ ne_eqb at 0x02C not_intclr));
+      dbgcmd = λ is. absurd (true≢false (sym is ∙ ne_eqb at 0xD04 not_dbgcmd));
+      dbginst0 = kept k d (record d { dbginst0 = value }) has refl refl refl refl;
+      dbginst1 = kept k d (record d { dbginst1 = value }) has refl refl refl refl;
+      other = kept k d d has refl refl refl refl;
+    })
 
 -- ---- the debug instruction
 
@@ -105,17 +92,19 @@ pub record Rises (kind : Bool) (d e : DeviceValue) (k : ℕ) (P : Type 0) : Type
   pub inten : e.inten ≡ d.inten
 
 module _ (kind : Bool) where
+  -- the word is the same
+  rises_word : (d e : DeviceValue) (k : ℕ) (P : Type 0) → word_of kind e ≡ word_of kind d → e.config ≡ d.config → e.inten ≡ d.inten → ¬ P → Rises kind d e k P
+  rises_word d e k P same config inten none = record {
+    lines = (
+      (λ high. inl (subst (λ (m : ℕ). IsHigh m k) same high)),
+      (λ why. elim why [ inl high ↦ subst (λ (m : ℕ). IsHigh m k) (sym same) high | inr here ↦ absurd (none here) ]),
+    );
+    config = config;
+    inten = inten;
+  }
+
   rises_same : (d e : DeviceValue) (k : ℕ) (P : Type 0) → irqs e ≡ irqs d → e.events ≡ d.events → e.config ≡ d.config → e.inten ≡ d.inten → ¬ P → Rises kind d e k P
-  rises_same d e k P lines events config inten none =
-      let same = word_same kind d e lines events in
-      record {
-        lines = (
-          (λ high. inl (subst (λ (m : ℕ). IsHigh m k) same high)),
-          (λ why. elim why [ inl high ↦ subst (λ (m : ℕ). IsHigh m k) (sym same) high | inr here ↦ absurd (none here) ]),
-        );
-        config = config;
-        inten = inten;
-      }
+  rises_same d e k P lines events config inten none = rises_word d e k P (word_same kind d e lines events) config inten none
 
   rises_iff : (d e : DeviceValue) (k : ℕ) (P Q : Type 0) → (P → Q) → (Q → P) → Rises kind d e k P → Rises kind d e k Q
   rises_iff d e k P Q to back x = record {
@@ -126,31 +115,6 @@ module _ (kind : Bool) where
     config = x.config;
     inten = x.inten;
   }
-
-  branch : (b : Bool) (d x y : DeviceValue) (k : ℕ) (P : Type 0) → (b ≡ true → Rises kind d x k P) → (b ≡ false → Rises kind d y k P) → Rises kind d (if b then x else y) k P
-  branch true d x y k P f g = f refl
-  branch false d x y k P f g = g refl
-
--- the word alone is the same
-rises_same_lines : (d e : DeviceValue) (k : ℕ) (P : Type 0) → irqs e ≡ irqs d → e.config ≡ d.config → e.inten ≡ d.inten → ¬ P → Rises true d e k P
-rises_same_lines d e k P same config inten none = record {
-  lines = (
-    (λ high. inl (subst (λ (m : ℕ). IsHigh m k) same high)),
-    (λ why. elim why [ inl high ↦ subst (λ (m : ℕ). IsHigh m k) (sym same) high | inr here ↦ absurd (none here) ]),
-  );
-  config = config;
-  inten = inten;
-}
-
-rises_same_events : (d e : DeviceValue) (k : ℕ) (P : Type 0) → e.events ≡ d.events → e.config ≡ d.config → e.inten ≡ d.inten → ¬ P → Rises false d e k P
-rises_same_events d e k P same config inten none = record {
-  lines = (
-    (λ high. inl (subst (λ (m : ℕ). IsHigh m k) same high)),
-    (λ why. elim why [ inl high ↦ subst (λ (m : ℕ). IsHigh m k) (sym same) high | inr here ↦ absurd (none here) ]),
-  );
-  config = config;
-  inten = inten;
-}
 
 by_signal : (r s line : ℕ) → r < 2 → s < 2 → line ≡ max r s → (line ≡ 1) ↔ ((r ≡ 1) ⊎ (s ≡ 1))
 by_signal r s line rb sb is = (
@@ -171,7 +135,7 @@ signal_rises true d n k =
     let raised : DeviceValue = record d { interrupts = bit_or d.interrupts (2 ^ n) } in
     let sent : DeviceValue = record d { events = bit_or d.events (2 ^ n) } in
     let P = IsHigh d.inten k × (n ≡ k) in
-    branch true (is_interrupt d n) d raised sent k P
+    branch (λ (e : DeviceValue). Rises true d e k P) (is_interrupt d n) raised sent
     (λ on.
     let high : IsHigh d.inten n = eqb-true (bit_at d.inten n) 1 on in
     rises_iff true d raised k (IsHigh (2 ^ n) k) P
@@ -182,15 +146,15 @@ signal_rises true d n k =
       config = refl;
       inten = refl;
     }))
-    (λ off. rises_same_lines d sent k P refl refl refl (λ x. eqb-false (bit_at d.inten n) 1 off (subst (λ (m : ℕ). IsHigh d.inten m) (sym x.1) x.0)))
+    (λ off. rises_word true d sent k P refl refl refl (λ x. eqb-false (bit_at d.inten n) 1 off (subst (λ (m : ℕ). IsHigh d.inten m) (sym x.1) x.0)))
 signal_rises false d n k =
     let raised : DeviceValue = record d { interrupts = bit_or d.interrupts (2 ^ n) } in
     let sent : DeviceValue = record d { events = bit_or d.events (2 ^ n) } in
     let P = ¬ IsHigh d.inten k × (n ≡ k) in
-    branch false (is_interrupt d n) d raised sent k P
+    branch (λ (e : DeviceValue). Rises false d e k P) (is_interrupt d n) raised sent
     (λ on.
     let high : IsHigh d.inten n = eqb-true (bit_at d.inten n) 1 on in
-    rises_same_events d raised k P refl refl refl (λ x. x.0 (subst (λ (m : ℕ). IsHigh d.inten m) x.1 high)))
+    rises_word false d raised k P refl refl refl (λ x. x.0 (subst (λ (m : ℕ). IsHigh d.inten m) x.1 high)))
     (λ off.
     let low : ¬ IsHigh d.inten n = eqb-false (bit_at d.inten n) 1 off in
     rises_iff false d sent k (IsHigh (2 ^ n) k) P
@@ -217,18 +181,18 @@ module _ (kind : Bool) where
       let less : nat_lt (byte / 8) d.config.events ≡ true = lt-ltb (byte / 8) d.config.events (omega arith) in
       ap (λ (b : Bool). b && nat_lt (byte / 8) d.config.events) whole ∙ less
 
-  dmasev_rises : (d fails : DeviceValue) (opcode byte k : ℕ) (fine : Bool) → irqs fails ≡ irqs d → fails.events ≡ d.events → fails.config ≡ d.config → fails.inten ≡ d.inten → opcode ≡ 0x34 → fine ≡ true → Rises kind d (if is_event d byte then signalled (byte / 8) d else fails) k (ByDmasev d opcode byte k fine)
-  dmasev_rises d fails opcode byte k fine same events config inten is executes =
+  sev_rises : (d : DeviceValue) (opcode byte k : ℕ) (fine : Bool) → opcode ≡ 0x34 → fine ≡ true → is_event d byte ≡ true → Rises kind d (signalled (byte / 8) d) k (ByDmasev d opcode byte k fine)
+  sev_rises d opcode byte k fine is executes event =
       let P = ByDmasev d opcode byte k fine in
-      branch kind (is_event d byte) d (signalled (byte / 8) d) fails k P
-      (λ event.
       let both = and_parts (byte % 8 == 0) (nat_lt (byte / 8) d.config.events) event in
       let whole : byte % 8 ≡ 0 = eqb-true (byte % 8) 0 both.0 in
       let less : byte / 8 < d.config.events = ltb-true (byte / 8) d.config.events both.1 in
       rises_iff kind d (signalled (byte / 8) d) k (Sets kind d k × (byte / 8 ≡ k)) P
       (λ x. let there = x.1 in record { on = x.0; opcode_is = is; byte_is = omega arith; event = omega arith; executes = executes })
-      (λ x. let there = x.byte_is in (x.on, omega arith)) (signal_rises kind d (byte / 8) k))
-      (λ no_event. rises_same kind d fails k P same events config inten (λ x. true≢false (sym (event_yes d byte k x.byte_is x.event) ∙ no_event)))
+      (λ x. let there = x.byte_is in (x.on, omega arith)) (signal_rises kind d (byte / 8) k)
+
+  no_event : (d : DeviceValue) (opcode byte k : ℕ) (fine : Bool) → is_event d byte ≡ false → ¬ ByDmasev d opcode byte k fine
+  no_event d opcode byte k fine none x = true≢false (sym (event_yes d byte k x.byte_is x.event) ∙ none)
 
   -- another instruction
   no_sev : (d : DeviceValue) (opcode byte k other : ℕ) (fine : Bool) → other ≢ 0x34 → (opcode == other) ≡ true → ¬ ByDmasev d opcode byte k fine
@@ -246,42 +210,38 @@ module _ (kind : Bool) where
   thread_rises n (Some t) opcode byte k d =
       let fine = not (is_faulting t) in
       let P = ByDmasev d opcode byte k fine in
-      let invalid : DeviceValue = with_thread n (failed (operand_invalid + dbg_instr) t) d in
-      let undefined : DeviceValue = with_thread n (failed (undef_instr + dbg_instr) t) d in
-      let signals : DeviceValue = if is_event d byte then signalled (byte / 8) d else invalid in
-      let acts : DeviceValue = if opcode == 0x34 then signals else undefined in
-      let calm : DeviceValue = if is_faulting t then d else acts in
-      branch kind (opcode == 0x01) d (with_thread n (killed t) d) calm k P (λ is. rises_same kind d (with_thread n (killed t) d) k P refl refl refl refl (no_sev d opcode byte k 0x01 fine (λ e. omega (arith, e)) is))
-      (λ is. branch kind (is_faulting t) d d acts k P (λ faulting. rises_same kind d d k P refl refl refl refl (cannot d opcode byte k (is_faulting t) faulting))
-      (λ calm. branch kind (opcode == 0x34) d signals undefined k P (λ sev. dmasev_rises d invalid opcode byte k fine refl refl refl refl (eqb-true opcode 0x34 sev) (ap not calm)) (λ other. rises_same kind d undefined k P refl refl refl refl (not_sev d opcode byte k fine other))))
+      thread_cases (λ (e : DeviceValue). Rises kind d e k P) n t opcode byte d (record {
+        kill = λ is. rises_same kind d (with_thread n (killed t) d) k P refl refl refl refl (no_sev d opcode byte k 0x01 fine (λ e. omega (arith, e)) is);
+        faulting = λ no is. rises_same kind d d k P refl refl refl refl (cannot d opcode byte k (is_faulting t) is);
+        sev = λ no calm is event. sev_rises d opcode byte k fine (eqb-true opcode 0x34 is) (ap not calm) event;
+        no_event = λ no calm is none. rises_same kind d (with_thread n (failed (operand_invalid + dbg_instr) t) d) k P refl refl refl refl (no_event d opcode byte k fine none);
+        undefined = λ no calm other. rises_same kind d (with_thread n (failed (undef_instr + dbg_instr) t) d) k P refl refl refl refl (not_sev d opcode byte k fine other);
+      })
 
   go_rises : (ram : List Piece) (nonsecure : Bool) (n : ℕ) (o : Option Thread) (d : DeviceValue) (k : ℕ) (P : Type 0) → ¬ P → Rises kind d (go ram nonsecure n o d) k P
   go_rises ram nonsecure n None d k P none = rises_same kind d (manager_failed operand_invalid d) k P refl refl refl refl none
   go_rises ram nonsecure n (Some t) d k P none =
       let new : DeviceValue = with_thread n (started d.config.bus nonsecure d.dbginst1 (program_at ram d.dbginst1)) d in
-      branch kind (d.config.nonsecure && not nonsecure) d (manager_failed dmago_err d) (gone ram nonsecure n t d) k P
-      (λ refused. rises_same kind d (manager_failed dmago_err d) k P refl refl refl refl none)
-      (λ allowed. branch kind (is_stopped t) d new d k P (λ stopped. rises_same kind d new k P refl refl refl refl none) (λ busy. rises_same kind d d k P refl refl refl refl none))
+      go_cases (λ (e : DeviceValue). Rises kind d e k P) ram nonsecure n t d (record {
+        refused = λ is. rises_same kind d (manager_failed dmago_err d) k P refl refl refl refl none;
+        starts = λ allowed stopped. rises_same kind d new k P refl refl refl refl none;
+        busy = λ allowed runs. rises_same kind d d k P refl refl refl refl none;
+      })
 
   manager_rises : (ram : List Piece) (opcode byte k : ℕ) (d : DeviceValue) → Rises kind d (by_manager ram opcode byte d) k (ByDmasev d opcode byte k (not d.manager.is_faulting))
   manager_rises ram opcode byte k d =
       let fine = not d.manager.is_faulting in
       let P = ByDmasev d opcode byte k fine in
       let stopped : DeviceValue = record d { manager = record (d.manager) { is_faulting = false } } in
-      let signals : DeviceValue = if is_event d byte then signalled (byte / 8) d else manager_failed operand_invalid d in
-      let secure : DeviceValue = go ram false byte (slice_get d.threads byte) d in
-      let other : DeviceValue = go ram true byte (slice_get d.threads byte) d in
-      let undefined : DeviceValue = manager_failed undef_instr d in
-      let last : DeviceValue = if opcode == 0xA2 then other else undefined in
-      let goes : DeviceValue = if opcode == 0xA0 then secure else last in
-      let acts : DeviceValue = if opcode == 0x34 then signals else goes in
-      let calm : DeviceValue = if d.manager.is_faulting then d else acts in
-      branch kind (opcode == 0x01) d stopped calm k P (λ is. rises_same kind d stopped k P refl refl refl refl (no_sev d opcode byte k 0x01 fine (λ e. omega (arith, e)) is))
-      (λ is. branch kind (d.manager.is_faulting) d d acts k P (λ faulting. rises_same kind d d k P refl refl refl refl (cannot d opcode byte k d.manager.is_faulting faulting))
-      (λ calm. branch kind (opcode == 0x34) d signals goes k P (λ sev. dmasev_rises d (manager_failed operand_invalid d) opcode byte k fine refl refl refl refl (eqb-true opcode 0x34 sev) (ap not calm))
-      (λ none. let no = not_sev d opcode byte k fine none in
-      branch kind (opcode == 0xA0) d secure last k P (λ go_on. go_rises ram false byte (slice_get d.threads byte) d k P no)
-      (λ more. branch kind (opcode == 0xA2) d other undefined k P (λ go_on. go_rises ram true byte (slice_get d.threads byte) d k P no) (λ rest. rises_same kind d undefined k P refl refl refl refl no)))))
+      manager_cases (λ (e : DeviceValue). Rises kind d e k P) ram opcode byte d (record {
+        kill = λ is. rises_same kind d stopped k P refl refl refl refl (no_sev d opcode byte k 0x01 fine (λ e. omega (arith, e)) is);
+        faulting = λ no is. rises_same kind d d k P refl refl refl refl (cannot d opcode byte k d.manager.is_faulting is);
+        sev = λ no calm is event. sev_rises d opcode byte k fine (eqb-true opcode 0x34 is) (ap not calm) event;
+        no_event = λ no calm is none. rises_same kind d (manager_failed operand_invalid d) k P refl refl refl refl (no_event d opcode byte k fine none);
+        secure = λ no calm other is. go_rises ram false byte (slice_get d.threads byte) d k P (not_sev d opcode byte k fine other);
+        nonsecure = λ no calm other more is. go_rises ram true byte (slice_get d.threads byte) d k P (not_sev d opcode byte k fine other);
+        undefined = λ no calm other more rest. rises_same kind d (manager_failed undef_instr d) k P refl refl refl refl (not_sev d opcode byte k fine other);
+      })
 
   -- by a channel thread or the manager
   by_either : (b : Bool) (d threads manager : DeviceValue) (opcode byte k : ℕ) (one other : Bool) → Rises kind d threads k (ByDmasev d opcode byte k one) → Rises kind d manager k (ByDmasev d opcode byte k other) → Rises kind d (if b then threads else manager) k (ByDmasev d opcode byte k (if b then one else other))
@@ -301,7 +261,7 @@ module _ (kind : Bool) where
       let threads : DeviceValue = by_thread n o opcode byte d in
       let manager : DeviceValue = by_manager ram opcode byte d in
       let executed : DeviceValue = if field 0 1 w == 1 then threads else manager in
-      branch kind (value % 4 == 0) d executed d k P
+      branch (λ (e : DeviceValue). Rises kind d e k P) (value % 4 == 0) executed d
       (λ is.
       rises_iff kind d executed k (ByDmasev d opcode byte k (can_debug d)) P
       (λ x. (x.on, record { command = eqb-true (value % 4) 0 is; dmasev = (x.opcode_is, x.byte_is); event = x.event; executes = x.executes }))

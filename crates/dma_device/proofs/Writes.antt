@@ -4,7 +4,7 @@ use Rattle.std.specs.Prelude.{◌==◌, slice_get}
 use Rattle.std.proofs.Math.Bool.{or-true}
 use Rattle.std.proofs.lemmas.Bool.{and_parts, cases_eq}
 use Rattle.dma_mem.specs.Marking.{MarkList}
-use Rattle.dma_mem.specs.Regions.{image_of, names_of, pieces_of}
+use Rattle.dma_mem.specs.Regions.{image_of, pieces_of}
 use Rattle.dma_mem.specs.declared.regions.Region.{Region}
 use Rattle.dma_mem.specs.declared.segment.Segment.{Segment}
 use Rattle.dma_chan.specs.LentRegions.{with_gaps_of}
@@ -22,7 +22,7 @@ use Rattle.dma_device.specs.Thread.{runs}
 use Rattle.dma_device.specs.Turns.{CallsIf, begins, follows, is_beside, may_follow, nothing, raises, runs_at}
 use Rattle.dma_device.specs.CallSteps.{machine_in}
 use Rattle.dma_device.specs.Writes.{CallWrote, TurnWritesEach}
-use Rattle.dma_device.proofs.CallKeeps.{if_places, if_read_only}
+use Rattle.dma_device.proofs.CallKeeps.{if_names, if_places, if_read_only}
 use Rattle.dma_device.proofs.Calls.{call_is}
 
 abbrev image : List Region → List ℕ
@@ -49,12 +49,6 @@ call_writes : (b : Bool) (d : DeviceValue) (regions : List Region) (n most : ℕ
 call_writes b d regions n most e left called a x i = elim (call_is b d regions n most e left called x) [
   | inl idle ↦ absurd (no_address called a idle.none i)
   | inr does ↦ (does, writes_each (with_gaps_of regions []) (machine_in d does.thread regions) does.call.taken a does.call.steps.moves (subst (λ (w : Segment). LiesIn w a) does.call.written i))
-]
-
-call_names : (b : Bool) (d : DeviceValue) (regions : List Region) (n most : ℕ) (e : DeviceValue) (left : List Region) (called : Called) → CallsIf b d regions n most e left called → names_of left ≡ names_of regions
-call_names b d regions n most e left called x = elim (call_is b d regions n most e left called x) [
-  | inl idle ↦ ap names_of idle.same
-  | inr does ↦ does.call.names
 ]
 
 -- ---- the range of one more step
@@ -120,5 +114,5 @@ turn_writes_each d regions n most e left turn x =
       };
       places = if_places second_made x.middle x.lent n 1 e left x.second x.one_more ∙ if_places first_made d regions n most x.middle x.lent x.first x.call;
       read_only = if_read_only second_made x.middle x.lent n 1 e left x.second x.one_more ∙ if_read_only first_made d regions n most x.middle x.lent x.first x.call;
-      names = call_names second_made x.middle x.lent n 1 e left x.second x.one_more ∙ call_names first_made d regions n most x.middle x.lent x.first x.call;
+      names = if_names second_made x.middle x.lent n 1 e left x.second x.one_more ∙ if_names first_made d regions n most x.middle x.lent x.first x.call;
     }

@@ -12,6 +12,8 @@ pub mod Run
 pub mod Interrupts
 pub mod Events
 pub mod Faults
+pub mod Dmago
 pub mod Copies
+pub mod Explaining
 pub mod Progress
 pub mod inner

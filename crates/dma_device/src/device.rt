@@ -16,6 +16,7 @@ use std::alloc::{AllocError, Global};
 use std::marker::Model;
 
 mod debug;
+pub mod explain;
 mod registers;
 mod saving;
 pub mod turns;

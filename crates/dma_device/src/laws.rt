@@ -1,38 +1,57 @@
 //! Laws of devices. Each law is the postcondition of a function that does nothing.
 
-ghost use Rattle.dma_device.specs.Copies.{DmagoCopies, DmagoNeverFails};
+ghost use Rattle.dma_device.specs.Copies.{DmagoCopies, DmagoInterrupts, DmagoNeverFails};
+ghost use Rattle.dma_device.specs.Dmago.{ImageHasBytes};
 ghost use Rattle.dma_device.specs.Events.{EventsAreExact, TakenWasSet, WaitsForUnset};
+ghost use Rattle.dma_device.specs.Explaining.{OnlyDmagoGives, TurnsStayIn};
 ghost use Rattle.dma_device.specs.Faults.{AbortIsFaulting, AbortsAreExact, FaultsAreExact};
 ghost use Rattle.dma_device.specs.Idle.{NothingHappens, StaySound, TurnChanges};
 ghost use Rattle.dma_device.specs.Interrupts.{InterruptsAreExact};
-ghost use Rattle.dma_device.specs.Progress.{CompiledGoesOn, CompiledSignals, DmagoFinishes, DmagoSignals};
+ghost use Rattle.dma_device.specs.Progress.{CompiledGoesOn, CompiledHasEvents, CompiledSignals, DmagoFinishes, DmagoSignals};
 ghost use Rattle.dma_device.specs.Snapshot.{DamageIsRefused};
 ghost use Rattle.dma_device.specs.Run.{RunsStepByStep};
 ghost use Rattle.dma_device.specs.Writes.{TurnWritesEach, TurnWritesInRegions};
 
-/// A program that a transfer explains on the device's bus, put into RAM and started by a DMAGO, makes one simultaneous
-/// copy of all the transfer's bytes, whatever the guest and other channels do meanwhile to other bytes and registers.
-/// It is done once the channel's CSR reads as stopped, or once a line that was low is high after a turn of the channel.
-pub fn a_dmago_copies()
-    ensures { DmagoCopies }
+/// In the memory that regions in order lend, each address of a region has the region's byte.
+pub fn memory_has_bytes()
+    ensures { ImageHasBytes }
 {}
 
-/// Such a program never fails if the regions contain all addresses that the transfer touches, none that it writes is
-/// read-only, and the device has the transfer's events.
+/// A driver puts a program that a copy explains on the device's bus into RAM, and starts it there by a DMAGO. The
+/// program makes one simultaneous copy of all bytes, whatever the guest and other channels do meanwhile to other bytes
+/// and registers. It is done once the channel's CSR reads as stopped. Once a line that was low is high after a turn of
+/// the channel, at least as many bytes are copied as the program stores before each DMASEV of the line's event.
+pub fn a_dmago_copies()
+    ensures copies { DmagoCopies }
+    ensures interrupts { DmagoInterrupts }
+{}
+
+/// Such a program never fails if the regions contain all addresses that the copy touches, none that it writes is
+/// read-only, and the device has the events of the program's DMAWFEs and DMASEVs.
 pub fn a_dmago_never_fails()
     ensures { DmagoNeverFails }
 {}
 
 /// Such a program finishes: CSR reads as stopped after as many turns as the program executes instructions with its
-/// DMAEND, if each turn may take a step, the regions contain what the transfer touches, the device has its events, and
-/// no turn begins at a DMAWFE of an event that isn't set. If the program has a DMASEV of an event that INTEN makes an
-/// interrupt, the event's line was high after one of the turns. For a compiled program the event that it waits for must
-/// be set only at first, and it has a DMASEV of the event that its transfer signals.
+/// DMAEND, if each turn may take a step, the regions and the device are as for `a_dmago_never_fails`, and no turn
+/// begins at a DMAWFE of an event that isn't set. If the program has a DMASEV of an event that INTEN makes an
+/// interrupt, the event's line was high after one of the turns. For a program that is compiled for the device's bus,
+/// the event that its transfer waits for must be set only at first, and it has a DMASEV of the event that its transfer
+/// signals, when all bytes are stored.
 pub fn a_dmago_finishes()
     ensures finishes { DmagoFinishes }
     ensures signals { DmagoSignals }
+    ensures has_events { CompiledHasEvents }
     ensures goes_on { CompiledGoesOn }
     ensures has_sev { CompiledSignals }
+{}
+
+/// While a channel executes the program that a DMAGO gave it, its turns write only destinations of the copy that
+/// [`crate::device::Device::explain`] found, and read only its sources. After an access other than a restore that gives
+/// the channel a program, as a DMAGO does, the channel is underway in that program.
+pub fn turns_stay_in()
+    ensures turns { TurnsStayIn }
+    ensures only { OnlyDmagoGives }
 {}
 
 /// An interrupt is neither lost nor invented. For every list of accesses after a reset, line n, and with it bit n of

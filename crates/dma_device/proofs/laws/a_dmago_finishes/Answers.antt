@@ -1,5 +1,6 @@
-use Rattle.dma_device.proofs.Progress.{compiled_goes_on, compiled_signals, dmago_finishes, dmago_signals}
+use Rattle.dma_device.proofs.Progress.{compiled_goes_on, compiled_has_events, compiled_signals, dmago_finishes, dmago_signals}
 use Rattle.dma_device.proofs.laws.a_dmago_finishes.Goals as goal
 
 pub returns : goal.returns
-returns c = record { finishes = dmago_finishes; signals = dmago_signals; goes_on = compiled_goes_on; has_sev = compiled_signals }
+returns c =
+    record { finishes = dmago_finishes; signals = dmago_signals; has_events = compiled_has_events; goes_on = compiled_goes_on; has_sev = compiled_signals }

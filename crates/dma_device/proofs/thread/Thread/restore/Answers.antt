@@ -10,13 +10,14 @@ use Rattle.dma_chan.specs.declared.bus.Bus.TheVariants.{Chip}
 use Rattle.dma_chan.specs.declared.bus.BusWidth.{BusWidth}
 use Rattle.dma_chan.specs.Channel.{ChannelValue, on_bus}
 use Rattle.dma_chan.specs.Saved.{saved}
-use Rattle.dma_device.specs.Snapshot.{saved_thread, thread_bytes}
+use Rattle.dma_device.specs.Snapshot.{IsThreadValue, saved_thread, thread_bytes}
 use Rattle.dma_device.specs.Thread.{IsOn, IsSound}
 use Rattle.dma_device.specs.declared.thread.Status.{Status}
 use Rattle.dma_device.specs.declared.thread.Thread.{Thread}
 use Rattle.dma_device.proofs.ControlFits.{reset_is_on}
 use Rattle.dma_device.proofs.SavedParts.{bit_back, tail_is, thread_found, thread_length}
 use Rattle.dma_device.proofs.thread.Thread.restore.Goals as goal
+use Rattle.dma_device.proofs.thread.Thread.restore.Goals.{After-is_possible}
 
 -- a thread of what is read
 abbrev read : ChannelValue → Status → ℕ → ℕ → ℕ → ℕ → Thread
@@ -63,17 +64,24 @@ returns-in_default-restore-clause-all c t rest v on e =
     let channel = c.in_default-restore.ensures.all t.channel v.channel (ap (λ (n : ℕ). take n (take (length bytes - 20) (drop 20 bytes))) len ∙ ap (take (length (saved t.channel))) (tail_is 20 bytes) ∙ found.channel) in
     absurd (true≢false (sym channel.0))
 
-pub returns-then-not-is_possible-clause-all : goal.returns-then-not-is_possible-clause-all
-returns-then-not-is_possible-clause-all c t rest v on e =
+-- the thread that is read is the saved one
+was_saved : (c : After-is_possible) (t : Thread) (rest : List ℕ) → IsThreadValue c.args.config.events t → IsOn c.args.config.bus t → c.args.bytes.now ≡ saved_thread t ++ rest → (c.u32_at-len.result ≡ length (saved t.channel)) × (read c.restore.new.self c.in-Some.status c.u32_at-self.result c.u32_at-csr.result c.u32_at-self-2.result c.u32_at-self-3.result ≡ t)
+was_saved c t rest v on e =
     let bytes = c.args.bytes.now in
     let found = thread_found c.args.config.events t rest bytes c.requires.few v e in
     let len = c.u32_at-len.ensures ∙ found.fields.len in
     let channel = c.in-Ok.ensures.all t.channel v.channel (ap (λ (n : ℕ). take n (take (length bytes - 20) (drop 20 bytes))) len ∙ ap (take (length (saved t.channel))) (tail_is 20 bytes) ∙ found.channel) in
     let some = c.in-Some.ensures t.status (ap (λ (n : ℕ). n % 512) c.u32_at-csr.ensures ∙ found.fields.status) in
     let status : c.in-Some.status ≡ t.status = cc some in
-    let word = ap (λ (n : ℕ). n / 2 ^ 21 % 2) c.u32_at-csr.ensures ∙ found.fields.nonsecure in
-    let same = read_is t c.restore.new.self c.in-Some.status c.u32_at-self.result c.u32_at-csr.result c.u32_at-self-2.result c.u32_at-self-3.result
-    (channel.1 ∙ on_bus_same c.args.config.bus t on) status (c.u32_at-self.ensures ∙ found.fields.fault) word (c.u32_at-self-2.ensures ∙ found.fields.base) (c.u32_at-self-3.ensures ∙ found.fields.pc) in
+    let word = ap (λ (n : ℕ). n / 2 ^ 21 % 2) c.u32_at-csr.ensures ∙ found.fields.nonsecure in (
+      len,
+      read_is t c.restore.new.self c.in-Some.status c.u32_at-self.result c.u32_at-csr.result c.u32_at-self-2.result c.u32_at-self-3.result
+          (channel.1 ∙ on_bus_same c.args.config.bus t on) status (c.u32_at-self.ensures ∙ found.fields.fault) word (c.u32_at-self-2.ensures ∙ found.fields.base) (c.u32_at-self-3.ensures ∙ found.fields.pc),
+    )
+
+pub returns-then-not-is_possible-clause-all : goal.returns-then-not-is_possible-clause-all
+returns-then-not-is_possible-clause-all c t rest v on e =
+    let same = (was_saved (goal.at.returns-then-not-is_possible-clause-all c).After-is_possible t rest v on e).1 in
     let possible = c.is_possible.ensures.1 (subst (IsSound c.args.config.events) (sym same) v.sound, subst (IsOn c.args.config.bus) (sym same) on) in
     absurd (cc (possible, c.if-not-is_possible.true))
 
@@ -96,31 +104,15 @@ returns-then-eq-clause-found c =
 
 pub returns-then-eq-clause-all : goal.returns-then-eq-clause-all
 returns-then-eq-clause-all c t rest v on e =
-    let bytes = c.args.bytes.now in
-    let found = thread_found c.args.config.events t rest bytes c.requires.few v e in
-    let len = c.u32_at-len.ensures ∙ found.fields.len in
-    let channel = c.in-Ok.ensures.all t.channel v.channel (ap (λ (n : ℕ). take n (take (length bytes - 20) (drop 20 bytes))) len ∙ ap (take (length (saved t.channel))) (tail_is 20 bytes) ∙ found.channel) in
-    let some = c.in-Some.ensures t.status (ap (λ (n : ℕ). n % 512) c.u32_at-csr.ensures ∙ found.fields.status) in
-    let status : c.in-Some.status ≡ t.status = cc some in
-    let word = ap (λ (n : ℕ). n / 2 ^ 21 % 2) c.u32_at-csr.ensures ∙ found.fields.nonsecure in
-    let total : 20 + c.u32_at-len.result ≡ length (saved_thread t) = omega (arith, len, thread_length t) in (
-      ap (λ (n : ℕ). Some n) total,
-      read_is t c.restore.new.self c.in-Some.status c.u32_at-self.result c.u32_at-csr.result c.u32_at-self-2.result c.u32_at-self-3.result
-          (channel.1 ∙ on_bus_same c.args.config.bus t on) status (c.u32_at-self.ensures ∙ found.fields.fault) word (c.u32_at-self-2.ensures ∙ found.fields.base) (c.u32_at-self-3.ensures ∙ found.fields.pc),
-    )
+    let was = was_saved (goal.at.returns-then-eq-clause-all c).After-is_possible t rest v on e in
+    let total : 20 + c.u32_at-len.result ≡ length (saved_thread t) = omega (arith, was.0, thread_length t) in
+    (ap (λ (n : ℕ). Some n) total, was.1)
 
 pub returns-else-eq-clause-all : goal.returns-else-eq-clause-all
 returns-else-eq-clause-all c t rest v on e =
-    let bytes = c.args.bytes.now in
-    let found = thread_found c.args.config.events t rest bytes c.requires.few v e in
-    let len = c.u32_at-len.ensures ∙ found.fields.len in
-    let channel = c.in-Ok.ensures.all t.channel v.channel (ap (λ (n : ℕ). take n (take (length bytes - 20) (drop 20 bytes))) len ∙ ap (take (length (saved t.channel))) (tail_is 20 bytes) ∙ found.channel) in
-    let some = c.in-Some.ensures t.status (ap (λ (n : ℕ). n % 512) c.u32_at-csr.ensures ∙ found.fields.status) in
-    let status : c.in-Some.status ≡ t.status = cc some in
-    let word = ap (λ (n : ℕ). n / 2 ^ 21 % 2) c.u32_at-csr.ensures ∙ found.fields.nonsecure in
-    let same = read_is t c.restore.new.self c.in-Some.status c.u32_at-self.result c.u32_at-csr.result c.u32_at-self-2.result c.u32_at-self-3.result
-    (channel.1 ∙ on_bus_same c.args.config.bus t on) status (c.u32_at-self.ensures ∙ found.fields.fault) word (c.u32_at-self-2.ensures ∙ found.fields.base) (c.u32_at-self-3.ensures ∙ found.fields.pc) in
-    let again : c.as_slice.result.now ≡ take 20 bytes =
-    c.as_slice.ensures.value ∙ c.head_bytes-again.ensures.bytes ∙ ap (λ (u : Thread). thread_bytes u c.u32_at-len.result) same
-    ∙ ap (λ (n : ℕ). thread_bytes t n) len ∙ sym found.head in
+    let was = was_saved (goal.at.returns-else-eq-clause-all c).After-is_possible t rest v on e in
+    let found = thread_found c.args.config.events t rest c.args.bytes.now c.requires.few v e in
+    let again : c.as_slice.result.now ≡ take 20 c.args.bytes.now =
+    c.as_slice.ensures.value ∙ c.head_bytes-again.ensures.bytes ∙ ap (λ (u : Thread). thread_bytes u c.u32_at-len.result) was.1
+    ∙ ap (λ (n : ℕ). thread_bytes t n) was.0 ∙ sym found.head in
     absurd (cc ((slice_eq-Decides Decides-eqb _ _ _ c.eq.ensures).1 again, c.if-eq.false))

@@ -1,0 +1,287 @@
+-- A channel's turns stay in the copy that explains its program.
+use Rattle.std.proofs.Common.{◌≡◌, ◌≢◌, ◌∙◌, ◌⊎◌, ℕ, zero, suc, ◌+◌, ◌-◌, ◌%◌, ◌/◌, ◌^◌, ◌<◌, Bool, true, false, ◌&&◌, List, [], append-nil, Option, Some, None, ap, refl, sym, subst, arith, inl, inr, true≢false}
+use Rattle.std.specs.Prelude.{◌==◌, IsSomeAnd, is_some, nat_lt, not, replicate, slice_get}
+use Rattle.std.proofs.lemmas.Bool.{and_parts, cases_eq}
+use Rattle.dma_insn.specs.ControlWord.{field}
+use Rattle.dma_mem.specs.Places.{Descriptor}
+use Rattle.dma_mem.specs.Regions.{Piece, pieces_of}
+use Rattle.dma_mem.specs.declared.regions.Region.{Region}
+use Rattle.dma_chan.specs.declared.bus.Bus.{Bus}
+use Rattle.dma_chan.specs.declared.bus.BusWidth.{BusWidth}
+use Rattle.dma_chan.specs.declared.explain.Explained.{Explained}
+use Rattle.dma_chan.specs.Channel.{ChannelValue, bytes_of_program, code_of}
+use Rattle.dma_chan.specs.Explains.{Executes, Explains, Finds}
+use Rattle.dma_chan.specs.Programs.{ProgramValue}
+use Rattle.dma_chan.specs.Stepping.{after_steps}
+use Rattle.dma_chan.proofs.CallWrites.{call_stays_in, load_executes, many_in, next_inside, nexts}
+use Rattle.dma_chan.proofs.ReadsOnly.{reads_inside}
+use Rattle.dma_device.specs.Accesses.{Access, Answer, Does, Happen, Reads, Resets, Restores, Stores, Turns, Writes}
+use Rattle.dma_device.specs.CallSteps.{Executes as Steps, machine_in, marks_in}
+use Rattle.dma_device.specs.Device.{DeviceValue, by_manager, by_thread, go, is_interrupt, program_at, signalled, with_thread, written}
+use Rattle.dma_device.specs.Explaining.{GivesNone, IsUnderway, OnlyDmagoGives, StaysIn, TurnsStayIn, bus_of, channel_if, channel_of, copy_of, program_if, program_of}
+use Rattle.dma_device.specs.Thread.{answered, dbg_instr, failed, is_faulting, killed, operand_invalid, reset_thread, started, undef_instr}
+use Rattle.dma_device.specs.Turns.{CallsIf, TakesTurn, begins, follows, may_follow, runs_at, runs_if}
+use Rattle.dma_device.specs.declared.device.turns.Called.{Called}
+use Rattle.dma_device.specs.declared.device.turns.Turn.{Turn}
+use Rattle.dma_device.specs.declared.thread.Thread.{Thread}
+use Rattle.dma_device.proofs.Answered.{answer_channel}
+use Rattle.dma_device.proofs.Calls.{call_is}
+use Rattle.dma_device.proofs.Cases.{branch, go_cases, manager_cases, thread_cases, write_cases}
+use Rattle.dma_device.proofs.Faults.{set_other}
+use Rattle.dma_device.proofs.Starts.{set_found}
+use Rattle.dma_device.proofs.Writes.{turn_writes_each}
+
+-- ---- a channel that executes a program that copies, or has ended it
+
+module _ (bus : Bus) (program : List ℕ) (t : Descriptor) (count : ℕ) (h : Explains bus program t count) (n : ℕ) where
+  -- the channel still executes the program, or has no program
+  abbrev InCopy : Option ChannelValue → Type 0
+  InCopy None = Unit {0}
+  InCopy (Some c) = Executes bus program count c ⊎ (c.program ≡ None)
+
+  abbrev HasCopy : DeviceValue → Type 0
+  HasCopy d = InCopy (channel_of d n)
+
+  found_copy : (d : DeviceValue) (th : Thread) → slice_get d.threads n ≡ Some th → HasCopy d → Executes bus program count th.channel ⊎ (th.channel.program ≡ None)
+  found_copy d th is g = subst (λ (o : Option Thread). InCopy (channel_if o)) is g
+
+  -- a channel that is called executes the program
+  runs_copy : (d : DeviceValue) (th : Thread) → slice_get d.threads n ≡ Some th → runs_at d n ≡ true → HasCopy d → Executes bus program count th.channel
+  runs_copy d th is on g = elim (found_copy d th is g) [
+    | inl goes ↦ goes
+    | inr none ↦
+        let off : runs_at d n ≡ false = ap runs_if is ∙ ap (λ (p : Option ProgramValue). is_some p && not (is_faulting th)) none in
+        absurd (true≢false (sym on ∙ off))
+  ]
+
+  -- ---- a call
+
+  after_call : (made : Bool) (d : DeviceValue) (regions : List Region) (most : ℕ) (e : DeviceValue) (left : List Region) (called : Called) → (made ≡ true → runs_at d n ≡ true) → HasCopy d → CallsIf made d regions n most e left called → HasCopy e
+  after_call made d regions most e left called on g x = elim (call_is made d regions n most e left called x) [
+    | inl idle ↦ subst HasCopy (sym idle.device) g
+    | inr does ↦
+        let y = does.call in
+        let w = runs_copy d does.thread does.found (on does.on) g in
+        let stays = call_stays_in bus program t count (marks_in regions) (machine_in d does.thread regions) most y.taken y.last _ h w y.steps in
+        let moved : Thread = record (does.thread) { channel = y.channel } in
+        let after = answered d.config.events moved y.last called.signal in
+        let there : slice_get e.threads n ≡ Some after = ap (λ (v : DeviceValue). slice_get v.threads n) y.device ∙ set_found d.threads n does.thread after does.found in
+        let same : after.channel ≡ y.channel = answer_channel d.config.events (record moved { pc = (moved.base + y.channel.registers.pc) % 2 ^ 32 }) y.last called.signal in
+        subst (λ (o : Option Thread). InCopy (channel_if o)) (sym there) (subst (λ (c : ChannelValue). Executes bus program count c ⊎ (c.program ≡ None)) (sym same) stays.channel)
+  ]
+
+  step_at : (d : DeviceValue) (regions : List Region) (most : ℕ) (e : DeviceValue) (left : List Region) (called : Called) (made : Bool) → (made ≡ true → runs_at d n ≡ true) → HasCopy d → (x : Steps made d regions n most e left called) (j : ℕ) → j < x.call.taken → Executes bus program count (after_steps (marks_in regions) (machine_in d x.thread regions) j).channel
+  step_at d regions most e left called made on g x j less =
+      many_in bus program t count h (marks_in regions) (machine_in d x.thread regions) j (runs_copy d x.thread x.found (on x.on) g) (λ k l. x.call.steps.moves k (omega (arith, less)))
+
+  -- ---- a turn
+
+  first_on : (d : DeviceValue) (most : ℕ) → begins d n most ≡ true → runs_at d n ≡ true
+  first_on d most is = (and_parts (nat_lt 0 most) (runs_at d n) is).1
+
+  second_on : (d : DeviceValue) (called : Called) → follows d n called ≡ true → runs_at d n ≡ true
+  second_on d called is = (and_parts (may_follow d n called) (runs_at d n) is).1
+
+  middle_copy : (d : DeviceValue) (regions : List Region) (most : ℕ) (e : DeviceValue) (left : List Region) (turn : Turn) → HasCopy d → (x : TakesTurn d regions n most e left turn) → HasCopy x.middle
+  middle_copy d regions most e left turn g x = after_call (begins d n most) d regions most x.middle x.lent x.first (first_on d most) g x.call
+
+  after_turn : (d : DeviceValue) (regions : List Region) (most : ℕ) (e : DeviceValue) (left : List Region) (turn : Turn) → HasCopy d → TakesTurn d regions n most e left turn → HasCopy e
+  after_turn d regions most e left turn g x =
+      after_call (follows x.middle n x.first) x.middle x.lent 1 e left x.second (second_on x.middle x.first) (middle_copy d regions most e left turn g x) x.one_more
+
+  pub turn_stays : (d : DeviceValue) (regions : List Region) (most : ℕ) (e : DeviceValue) (left : List Region) (turn : Turn) → HasCopy d → TakesTurn d regions n most e left turn → StaysIn t d regions n most e left turn
+  turn_stays d regions most e left turn g x = record {
+    writes = λ a i.
+        let w = (turn_writes_each d regions n most e left turn x).each a i in
+        let y = w.0 in
+        elim w.1 [
+          | inl one ↦
+              let v = step_at d regions most y.middle y.lent y.first (begins d n most) (first_on d most) g one.0 one.1.0 one.1.1 in
+              next_inside bus program t count h v.0 _ a v.1 (nexts bus program t count h v.0 v.1.within) one.1.3
+          | inr two ↦
+              let v = step_at y.middle y.lent 1 e left y.second (follows y.middle n y.first) (second_on y.middle y.first) (middle_copy d regions most e left turn g y) two.0 two.1.0 two.1.1 in
+              next_inside bus program t count h v.0 _ a v.1 (nexts bus program t count h v.0 v.1.within) two.1.3
+        ];
+    reads = λ a w.
+        let y = w.0 in
+        elim w.1 [
+          | inl one ↦
+              let v = step_at d regions most y.middle y.lent y.first (begins d n most) (first_on d most) g one.0 one.1.0 one.1.1 in
+              reads_inside bus program t count h v.0 _ a v.1 one.1.2
+          | inr two ↦
+              let v = step_at y.middle y.lent 1 e left y.second (follows y.middle n y.first) (second_on y.middle y.first) (middle_copy d regions most e left turn g y) two.0 two.1.0 two.1.1 in
+              reads_inside bus program t count h v.0 _ a v.1 two.1.2
+        ];
+  }
+
+  -- ---- an access
+
+  -- a channel that an access gives no program
+  given_none : (c o : Option ChannelValue) → (o ≡ c) ⊎ (program_if o ≡ None) → InCopy c → InCopy o
+  given_none c None how g = tt
+  given_none c (Some x) (inl same) g = subst InCopy (sym same) g
+  given_none c (Some x) (inr none) g = inr none
+
+  one_other : (made : Bool) (m : ℕ) (d : DeviceValue) (regions : List Region) (most : ℕ) (e : DeviceValue) (left : List Region) (called : Called) → n ≢ m → CallsIf made d regions m most e left called → channel_of e n ≡ channel_of d n
+  one_other made m d regions most e left called other x = elim (call_is made d regions m most e left called x) [
+    | inl idle ↦ ap (λ (v : DeviceValue). channel_of v n) idle.device
+    | inr does ↦
+        let y = does.call in
+        ap (λ (v : DeviceValue). channel_of v n) y.device ∙ ap channel_if (set_other d.threads m n (answered d.config.events (record (does.thread) { channel = y.channel }) y.last called.signal) other)
+  ]
+
+  after_access : (a : Access) (d e : DeviceValue) (regions left : List Region) (answer : Answer) → Does a d regions answer e left → GivesNone a n d e → HasCopy d → HasCopy e
+  after_access (Turns m most) d e regions left answer does none g =
+      let x = does.1.1 in
+      elim (cases_eq n m) [
+        | inl own ↦ after_turn d regions most e left does.0 g (subst (λ (j : ℕ). TakesTurn d regions j most e left does.0) (sym own) x)
+        | inr other ↦
+            let same = one_other (follows x.middle m x.first) m x.middle x.lent 1 e left x.second other x.one_more ∙ one_other (begins d m most) m d regions most x.middle x.lent x.first other x.call in
+            subst InCopy (sym same) g
+      ]
+  after_access (Reads at) d e regions left answer does none g = given_none (channel_of d n) (channel_of e n) none g
+  after_access (Writes at value) d e regions left answer does none g = given_none (channel_of d n) (channel_of e n) none g
+  after_access (Stores addr byte) d e regions left answer does none g = given_none (channel_of d n) (channel_of e n) none g
+  after_access Resets d e regions left answer does none g = given_none (channel_of d n) (channel_of e n) none g
+  after_access (Restores saved) d e regions left answer does none g = given_none (channel_of d n) (channel_of e n) none g
+
+  -- the accesses up to number k
+  pub along : (access : ℕ → Access) (answer : ℕ → Answer) (before : ℕ → DeviceValue) (lent left : ℕ → List Region) (all k : ℕ) → Happen access answer before lent left all → ((j : ℕ) → j < k → GivesNone (access j) n (before j) (before (j + 1))) → k < suc all → HasCopy (before 0) → HasCopy (before k)
+  along access answer before lent left all zero happen none less g = g
+  along access answer before lent left all (suc j) happen none less g =
+      let next : j + 1 ≡ suc j = omega arith in
+      let here = along access answer before lent left all j happen (λ i l. none i (omega arith)) (omega arith) g in
+      subst (λ (i : ℕ). HasCopy (before i)) next
+      (after_access (access j) (before j) (before (j + 1)) (lent j) (left j) (answer j) (happen j (omega arith)) (none j (omega arith)) here)
+
+-- ---- from where the copy was found
+
+-- a channel executes a program that the copy explains
+record Starts (bus : Bus) (x : Explained) (o : Option ChannelValue) : Type 0 where
+  channel : ChannelValue
+  is : o ≡ Some channel
+  program : List ℕ
+  count : ℕ
+  explains : Explains bus program (copy_of x) count
+  executes : Executes bus program count channel
+
+starts_with : (bus : Bus) (limit : ℕ) (x : Explained) (c : ChannelValue) (o : Option ProgramValue) → c.program ≡ o → IsSomeAnd o (λ p. Finds bus p.bytes limit x) → Executes bus (code_of c) (x.steps - 1) c → Starts bus x (Some c)
+starts_with bus limit x c None is f w = absurd f
+starts_with bus limit x c (Some p) is f w = record {
+  channel = c;
+  is = refl;
+  program = p.bytes;
+  count = f.before;
+  explains = f.explains;
+  executes =
+      let same : x.steps - 1 ≡ f.before = omega (arith, f.steps) in
+      subst (λ (count : ℕ). Executes bus p.bytes count c) same (subst (λ (program : List ℕ). Executes bus program (x.steps - 1) c) (ap bytes_of_program is) w);
+}
+
+starts_at : (bus : Bus) (limit : ℕ) (x : Explained) (o : Option ChannelValue) → IsSomeAnd (program_if o) (λ p. Finds bus p.bytes limit x) → IsSomeAnd o (λ c. Executes bus (code_of c) (x.steps - 1) c) → Starts bus x o
+starts_at bus limit x None f w = absurd w
+starts_at bus limit x (Some c) f w = starts_with bus limit x c c.program refl f w
+
+pub turns_stay_in : TurnsStayIn
+turns_stay_in access answer before lent left all n k most limit x turn happen finds underway none less is reply =
+    let d = before 0 in
+    let s = starts_at (bus_of d) limit x (channel_of d n) finds underway in
+    let first : InCopy (bus_of d) s.program (copy_of x) s.count s.explains n (channel_of d n) =
+    subst (InCopy (bus_of d) s.program (copy_of x) s.count s.explains n) (sym s.is) (inl s.executes) in
+    let here = along (bus_of d) s.program (copy_of x) s.count s.explains n access answer before lent left all k happen none (omega arith) first in
+    let does = subst (λ (a : Access). Does a (before k) (lent k) (answer k) (before (k + 1)) (left k)) is (happen k less) in
+    let same : does.0 ≡ turn = let given = sym does.1.0 ∙ reply in cc in
+    turn_stays (bus_of d) s.program (copy_of x) s.count s.explains n (before k) (lent k) most (before (k + 1)) (left k) turn here
+    (subst (TakesTurn (before k) (lent k) n most (before (k + 1)) (left k)) same does.1.1)
+
+-- ---- what gives a channel a program
+
+-- the device e is left by an access to d that gives channel n no program, or starts it
+abbrev Gives : ℕ → DeviceValue → DeviceValue → Type 0
+Gives n d e = ((channel_of e n ≡ channel_of d n) ⊎ (program_of e n ≡ None)) ⊎ ((steps : ℕ) → IsUnderway e n steps)
+
+-- a thread is replaced by one with the same channel, or without a program
+set_thread : (n m : ℕ) (d : DeviceValue) (t u : Thread) → slice_get d.threads m ≡ Some t → (u.channel ≡ t.channel) ⊎ (u.channel.program ≡ None) → Gives n d (with_thread m u d)
+set_thread n m d t u found how = elim (cases_eq n m) [
+  | inr other ↦ inl (inl (ap channel_if (set_other d.threads m n u other)))
+  | inl own ↦
+      let there : channel_of (with_thread m u d) n ≡ Some u.channel = ap (λ (j : ℕ). channel_of (with_thread m u d) j) own ∙ ap channel_if (set_found d.threads m t u found) in
+      let was : channel_of d n ≡ Some t.channel = ap (channel_of d) own ∙ ap channel_if found in
+      inl (elim how [ inl same ↦ inl (there ∙ ap Some same ∙ sym was) | inr none ↦ inr (ap program_if there ∙ none) ])
+]
+
+-- a thread is started
+start_thread : (n m : ℕ) (d : DeviceValue) (t : Thread) (nonsecure : Bool) (base : ℕ) (program : List ℕ) → slice_get d.threads m ≡ Some t → Gives n d (with_thread m (started d.config.bus nonsecure base program) d)
+start_thread n m d t nonsecure base program found =
+    let u = started d.config.bus nonsecure base program in
+    let e = with_thread m u d in
+    elim (cases_eq n m) [
+      | inr other ↦ inl (inl (ap channel_if (set_other d.threads m n u other)))
+      | inl own ↦
+          let there : channel_of e n ≡ Some u.channel = ap (channel_of e) own ∙ ap channel_if (set_found d.threads m t u found) in
+          inr (λ steps. subst (λ (o : Option ChannelValue). IsSomeAnd o (λ c. Executes (bus_of d) (code_of c) (steps - 1) c)) (sym there)
+          (load_executes (bus_of d) program (steps - 1) u.channel (record { bytes = program; cost = None }, ([], sym (append-nil program)), refl)))
+    ]
+
+signalled_gives : (n k : ℕ) (d : DeviceValue) → Gives n d (signalled k d)
+signalled_gives n k d = branch (Gives n d) (is_interrupt d k) _ _ (λ on. inl (inl refl)) (λ off. inl (inl refl))
+
+thread_gives : (n m : ℕ) (o : Option Thread) (opcode byte : ℕ) (d : DeviceValue) → slice_get d.threads m ≡ o → Gives n d (by_thread m o opcode byte d)
+thread_gives n m None opcode byte d is = inl (inl refl)
+thread_gives n m (Some t) opcode byte d is = thread_cases (Gives n d) m t opcode byte d (record {
+  kill = λ _. set_thread n m d t (killed t) is (inr refl);
+  faulting = λ _ _. inl (inl refl);
+  sev = λ _ _ _ _. signalled_gives n (byte / 8) d;
+  no_event = λ _ _ _ _. set_thread n m d t (failed (operand_invalid + dbg_instr) t) is (inl refl);
+  undefined = λ _ _ _. set_thread n m d t (failed (undef_instr + dbg_instr) t) is (inl refl);
+})
+
+go_gives : (n m : ℕ) (ram : List Piece) (nonsecure : Bool) (o : Option Thread) (d : DeviceValue) → slice_get d.threads m ≡ o → Gives n d (go ram nonsecure m o d)
+go_gives n m ram nonsecure None d is = inl (inl refl)
+go_gives n m ram nonsecure (Some t) d is = go_cases (Gives n d) ram nonsecure m t d (record {
+  refused = λ _. inl (inl refl);
+  starts = λ _ _. start_thread n m d t nonsecure d.dbginst1 (program_at ram d.dbginst1) is;
+  busy = λ _ _. inl (inl refl);
+})
+
+manager_gives : (n : ℕ) (ram : List Piece) (opcode byte : ℕ) (d : DeviceValue) → Gives n d (by_manager ram opcode byte d)
+manager_gives n ram opcode byte d = manager_cases (Gives n d) ram opcode byte d (record {
+  kill = λ _. inl (inl refl);
+  faulting = λ _ _. inl (inl refl);
+  sev = λ _ _ _ _. signalled_gives n (byte / 8) d;
+  no_event = λ _ _ _ _. inl (inl refl);
+  secure = λ _ _ _ _. go_gives n byte ram false (slice_get d.threads byte) d refl;
+  nonsecure = λ _ _ _ _ _. go_gives n byte ram true (slice_get d.threads byte) d refl;
+  undefined = λ _ _ _ _ _. inl (inl refl);
+})
+
+written_gives : (n : ℕ) (ram : List Piece) (at value : ℕ) (d : DeviceValue) → Gives n d (written ram at value d)
+written_gives n ram at value d = write_cases (Gives n d) ram at value d (record {
+  inten = inl (inl refl);
+  intclr = λ _. inl (inl refl);
+  dbgcmd = λ _.
+      let opcode = field 16 8 d.dbginst0 in
+      let byte = field 24 8 d.dbginst0 in
+      let m = field 8 3 d.dbginst0 in
+      branch (Gives n d) (field 0 1 d.dbginst0 == 1) (by_thread m (slice_get d.threads m) opcode byte d) (by_manager ram opcode byte d)
+      (λ _. thread_gives n m (slice_get d.threads m) opcode byte d refl) (λ _. manager_gives n ram opcode byte d);
+  dbginst0 = inl (inl refl);
+  dbginst1 = inl (inl refl);
+  other = inl (inl refl);
+})
+
+none_after_reset : (bus : BusWidth) (count n : ℕ) → program_if (channel_if (slice_get (replicate count (reset_thread bus)) n)) ≡ None
+none_after_reset bus zero n = refl
+none_after_reset bus (suc count) zero = refl
+none_after_reset bus (suc count) (suc n) = none_after_reset bus count n
+
+same_device : (n : ℕ) (d e : DeviceValue) → e ≡ d → (channel_of e n ≡ channel_of d n) ⊎ (program_of e n ≡ None)
+same_device n d e is = inl (ap (λ (v : DeviceValue). channel_of v n) is)
+
+pub only_dmago_gives : OnlyDmagoGives
+only_dmago_gives (Reads at) d e regions left answer n does fresh = inl (same_device n d e does.1)
+only_dmago_gives (Writes at value) d e regions left answer n does fresh = subst (Gives n d) (sym does.1) (written_gives n (pieces_of regions) at value d)
+only_dmago_gives (Turns m most) d e regions left answer n does fresh = inl tt
+only_dmago_gives (Stores addr byte) d e regions left answer n does fresh = inl (same_device n d e does.1)
+only_dmago_gives Resets d e regions left answer n does fresh = inl (inr (ap (λ (v : DeviceValue). program_of v n) does.1 ∙ none_after_reset d.config.bus d.config.channels n))
+only_dmago_gives (Restores saved) d e regions left answer n does fresh = absurd (fresh saved refl)

@@ -1,0 +1,114 @@
+-- What the program of a channel copies, as the device explains it, and that the channel's turns stay in that copy.
+use Rattle.std.specs.Prelude.{◌≡◌, ◌≢◌, ◌⊎◌, ℕ, ◌+◌, ◌-◌, ◌<◌, ◌≤◌, Bool, List, length, Option, Some, None, slice_get, IsSomeAnd}
+use Rattle.std.specs.List.{Contains}
+use Rattle.dma_mem.specs.Places.{Descriptor, copying, destinations, sources}
+use Rattle.dma_mem.specs.declared.regions.Region.{Region}
+use Rattle.dma_chan.specs.declared.bus.Bus.{Bus}
+use Rattle.dma_chan.specs.declared.bus.Bus.TheVariants.{Chip}
+use Rattle.dma_chan.specs.declared.explain.Cause.TheVariants.{NoMemory, TooLong}
+use Rattle.dma_chan.specs.declared.explain.Explained.{Explained}
+use Rattle.dma_chan.specs.Channel.{ChannelValue, code_of}
+use Rattle.dma_chan.specs.Explains.{Executes, Finds, Refuses, unrolled}
+use Rattle.dma_chan.specs.Programs.{ProgramValue}
+use Rattle.dma_chan.specs.Reads.{Reads}
+use Rattle.dma_chan.specs.Written.{LiesIn}
+use Rattle.dma_device.specs.Accesses.{Access, Answer, Does, Happen, Restores, Turned, Turns}
+use Rattle.dma_device.specs.CallSteps.{Executes as Steps, machine_in, marks_in}
+use Rattle.dma_device.specs.Device.{DeviceValue}
+use Rattle.dma_device.specs.Turns.{TakesTurn, begins, follows}
+use Rattle.dma_device.specs.declared.device.explain.ExplainFault.{ExplainFault}
+use Rattle.dma_device.specs.declared.device.explain.ExplainFault.TheVariants.{NoChannel, NoProgram, Unexplained}
+use Rattle.dma_device.specs.declared.device.turns.Called.{Called}
+use Rattle.dma_device.specs.declared.device.turns.Turn.{Turn}
+use Rattle.dma_device.specs.declared.thread.Thread.{Thread}
+
+-- the channel of a thread, if there is one
+abbrev pub channel_if : Option Thread → Option ChannelValue
+channel_if None = None
+channel_if (Some t) = Some t.channel
+
+-- channel n, if the device has it
+abbrev pub channel_of : DeviceValue → ℕ → Option ChannelValue
+channel_of d n = channel_if (slice_get d.threads n)
+
+-- the program of a channel, if there is one
+abbrev pub program_if : Option ChannelValue → Option ProgramValue
+program_if None = None
+program_if (Some c) = c.program
+
+-- the program of channel n, if the device has the channel and a program is loaded
+abbrev pub program_of : DeviceValue → ℕ → Option ProgramValue
+program_of d n = program_if (channel_of d n)
+
+-- the bus of a device's channels
+abbrev pub bus_of : DeviceValue → Bus
+bus_of d = Chip d.config.bus
+
+-- ---- what the device answers
+
+-- the copy that was found
+abbrev pub copy_of : Explained → Descriptor
+copy_of x = copying (unrolled x.src.items) x.dst.items None None
+
+-- What is found for channel n with a limit of instructions: a copy that explains the channel's program on the device's
+-- bus.
+abbrev pub FindsFor : DeviceValue → ℕ → ℕ → Explained → Type 0
+FindsFor d n limit x = IsSomeAnd (program_of d n) (λ p. Finds (bus_of d) p.bytes limit x)
+
+-- Why nothing is found for channel n: the device doesn't have the channel, the channel has no program, or the program
+-- is refused with this limit of instructions. It is never too long.
+abbrev pub FailsFor : DeviceValue → ℕ → ℕ → ExplainFault → Type 0
+FailsFor d n most NoChannel = length d.threads ≤ n
+FailsFor d n most NoProgram = (n < length d.threads) × (program_of d n ≡ None)
+FailsFor d n most (Unexplained u) =
+    IsSomeAnd (program_of d n) (λ p. (u.cause ≢ TooLong)
+    × (u.cause ≢ NoMemory → Refuses (bus_of d) p.bytes most u))
+
+-- ---- the turns of a channel
+
+-- one of the steps of a call of channel `n` reads an address
+abbrev pub CallReads : Bool → DeviceValue → List Region → ℕ → ℕ → DeviceValue → List Region → Called → ℕ → Type 0
+CallReads made d regions n most e left called a =
+    (x : Steps made d regions n most e left called)
+    × Reads (marks_in regions) (machine_in d x.thread regions) x.call.taken a
+
+-- one of the steps of a turn, in the first of its calls or in the second, reads an address
+abbrev pub TurnReads : DeviceValue → List Region → ℕ → ℕ → DeviceValue → List Region → Turn → ℕ → Type 0
+TurnReads d regions n most e left turn a =
+    (x : TakesTurn d regions n most e left turn)
+    × (CallReads (begins d n most) d regions n most x.middle x.lent x.first a
+    ⊎ CallReads (follows x.middle n x.first) x.middle x.lent n 1 e left x.second a)
+
+-- A turn stays in a copy: it writes only destinations and reads only sources.
+pub record StaysIn (t : Descriptor) (d : DeviceValue) (regions : List Region) (n most : ℕ) (e : DeviceValue)
+    (left : List Region) (turn : Turn) : Type 0 where
+  pub writes : (a : ℕ) → LiesIn turn.written a → Contains (destinations t) a
+  pub reads : (a : ℕ) → TurnReads d regions n most e left turn a → Contains (sources t) a
+
+-- Channel n executes its program from the program's start on: of `steps` instructions, with DMAEND, it has executed
+-- none or some, and not yet all.
+abbrev pub IsUnderway : DeviceValue → ℕ → ℕ → Type 0
+IsUnderway d n steps = IsSomeAnd (channel_of d n) (λ c. Executes (bus_of d) (code_of c) (steps - 1) c)
+
+-- An access gives channel n no program: it is a turn, or the channel is the same after it, or has no program.
+abbrev pub GivesNone : Access → ℕ → DeviceValue → DeviceValue → Type 0
+GivesNone (Turns m most) n d e = Unit {0}
+GivesNone a n d e = (channel_of e n ≡ channel_of d n) ⊎ (program_of e n ≡ None)
+
+-- A copy was found for channel n, which is underway. Until an access gives it a program, each of its turns stays in the
+-- copy, whatever the guest, the processor and other channels do, and whatever regions each access is lent.
+abbrev pub TurnsStayIn : Type 0
+TurnsStayIn =
+    (access : ℕ → Access) (answer : ℕ → Answer) (before : ℕ → DeviceValue) (lent left : ℕ → List Region)
+    (count n k most limit : ℕ) (x : Explained) (turn : Turn) →
+    Happen access answer before lent left count → FindsFor (before 0) n limit x → IsUnderway (before 0) n x.steps →
+    ((j : ℕ) → j < k → GivesNone (access j) n (before j) (before (j + 1))) →
+    k < count → access k ≡ Turns n most → answer k ≡ Turned turn →
+    StaysIn (copy_of x) (before k) (lent k) n most (before (k + 1)) (left k) turn
+
+-- After an access that isn't a restore and gives channel n a program, as a DMAGO does, the channel is underway in it.
+abbrev pub OnlyDmagoGives : Type 0
+OnlyDmagoGives =
+    (a : Access) (d e : DeviceValue) (regions left : List Region) (answer : Answer) (n : ℕ) →
+    Does a d regions answer e left → ((saved : DeviceValue) → a ≢ Restores saved) →
+    GivesNone a n d e ⊎ ((steps : ℕ) → IsUnderway e n steps)

@@ -1,0 +1,48 @@
+//! What the program of a channel copies.
+
+ghost use Rattle.std.specs.Prelude.{IfErr, IfOk};
+ghost use Rattle.dma_device.specs.Explaining.{FailsFor, FindsFor};
+
+use crate::device::Device;
+use dma_chan::bus::Bus;
+use dma_chan::explain::{Explained, Unexplained, explain};
+use std::alloc::Global;
+
+/// Why a device finds no copy that explains a channel's program.
+#[derive(Clone, Copy, Debug, PartialEq, Eq)]
+pub enum ExplainFault {
+    /// The device doesn't have the channel.
+    NoChannel,
+    /// The channel has no program.
+    NoProgram,
+    /// No copy explains the program, or memory ran out.
+    Unexplained(Unexplained),
+}
+
+impl Device {
+    /// Returns what the program of channel `n` copies from its start, wherever the channel is in it, or why no copy
+    /// explains it with at most `most` instructions. A DMAGO has copied the program, so what the guest writes to RAM
+    /// later doesn't change the answer. Until the channel gets another program, its turns stay in the copy
+    /// (`laws::turns_stay_in`). This needs a channel that a DMAGO started: one from a save that isn't trusted may have
+    /// any registers. An event that the device doesn't have is no reason to refuse a program: its DMAWFE or DMASEV fails.
+    pub fn explain(&self, alloc: Global, n: u8, most: u32) -> Result<Explained, ExplainFault>
+        ensures ok { IfOk result (λ x. FindsFor self.now n most x) }
+        ensures err { IfErr result (λ fault. FailsFor self.now n most fault) }
+    {
+        let Some(thread) = self.threads.get(usize::from(n)) else {
+            return Err(ExplainFault::NoChannel);
+        };
+        if !thread.channel.is_loaded() {
+            return Err(ExplainFault::NoProgram);
+        }
+        match explain(
+            alloc,
+            Bus::Chip(self.config.bus),
+            thread.channel.program(),
+            most,
+        ) {
+            Ok(explained) => Ok(explained),
+            Err(unexplained) => Err(ExplainFault::Unexplained(unexplained)),
+        }
+    }
+}
