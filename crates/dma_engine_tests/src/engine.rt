@@ -81,11 +81,23 @@ fn are_as_wanted(host: &[Reply], copy: &[Reply]) -> bool {
     host.len() + copy.len() == wanted.len()
 }
 
+// Aborts a copy on channel 1.
+fn abort_another(alloc: Global, engine: &mut Engine) -> Result<(), Fail> {
+    let transfer = copy(0x10, 0x20).transfer(alloc)?;
+    let calls = [Call::Submit { ch: 1, transfer }, Call::Terminate { ch: 1 }];
+    let replies = run(alloc, engine, &calls).ok().ok_or("no memory")?;
+    drop(replies);
+    Ok(())
+}
+
+// The cookie of channel 0 had finished before the checkpoint, that of channel 1 after it.
 #[test]
 fn lists_of_calls(rt: HostRuntime) -> Result<(), Fail> {
-    let mut engine = Engine::new(rt.alloc(), 64, 1)?;
+    let mut engine = Engine::new(rt.alloc(), 64, 2)?;
     let host = host_replies(rt.alloc(), &mut engine)?;
     let copy = copy_replies(rt.alloc(), &mut engine)?;
     assert!(rt; are_as_wanted(&host, &copy));
+    abort_another(rt.alloc(), &mut engine)?;
+    assert!(rt; engine.finished_all() == 2);
     Ok(())
 }

@@ -1,7 +1,8 @@
-//! Totals of an engine, which help a host to decide when to make a checkpoint.
+//! Totals of an engine: of its channels, and of what a host looks at to decide when to make a checkpoint.
 
 ghost use Rattle.std.specs.Prelude.{◌≡◌, length, min};
 ghost use Rattle.dma_engine.specs.History.{kept_by, kept_bytes};
+ghost use Rattle.dma_engine.specs.Object.{finished_all};
 ghost use Rattle.dma_engine.specs.View.{object_of, running};
 
 use crate::engine::Engine;
@@ -37,6 +38,17 @@ impl Engine {
         ensures { result ≡ min (kept_bytes self.now.view.history) u64.MAX }
     {
         kept_in(self.history())
+    }
+
+    /// Returns how many cookies are finished on all channels together, those before the base included.
+    pub fn finished_all(&self) -> u64
+        ensures { result ≡ finished_all (object_of self.now.view) }
+    {
+        let mut all = 0;
+        for ch in 0..self.channels() {
+            all += u64::from(self.finished(ch));
+        }
+        all
     }
 
     /// Returns how many transfers run.
