@@ -134,7 +134,7 @@ pub fn time_statuses<N: DeskName + Send + Sync, R: Threads + Wait + Clock + CpuC
     times: u32,
     meanwhile: Meanwhile,
 ) -> Option<Measured>
-    requires { Names N.steps N.finished N.size N.channels N.base N.log parts }
+    requires { Names N.opening N.base N.log parts }
 {
     let shared = Shared::<N>::new(parts);
     let asking = readers.len().min(2) as u64;

@@ -70,7 +70,7 @@ pub fn time_workers<N: DeskName + Send + Sync, R: Threads + Wait + Clock + CpuCl
     jobs: &[Job],
 ) -> Option<Measured>
     requires few { length jobs.now < 2 ^ 32 }
-    requires parts { Names N.steps N.finished N.size N.channels N.base N.log parts }
+    requires parts { Names N.opening N.base N.log parts }
 {
     let shared = Shared::<N>::new(parts);
     let watch = Watch::started(rt);

@@ -143,12 +143,12 @@ same_many : (v w : View) → w.base ≡ v.base → channels w ≡ channels v
 same_many v w same =
     many-channels w.base w.history ∙ ap (λ (o : Object). length o.channels) same ∙ sym (many-channels v.base v.history)
 
-module _ (s f bytes many : ℕ) (base : Board) (log : Book) where
+module _ (opening : View) (base : Board) (log : Book) where
   board : List Tick → EditionState
   board ticks = record { base = base; ticks = ticks; log = log }
 
   -- a call that adds ticks, which are published, and counts in the book as it does in the engine
-  kept_by : (old new : EngineState) (p q : PublisherState) (b e : Totals) (more : List Tick) (moves finishes : ℕ) → Adds old.view new.view more moves finishes → new.view.base ≡ old.view.base → q ≡ record p { shown = edition_and p.shown more } → e.steps ≡ b.steps + moves → e.finished + e.terminated ≡ b.finished + b.terminated + finishes → IsKept s f bytes many base log old p b → IsKept s f bytes many base log new q e
+  kept_by : (old new : EngineState) (p q : PublisherState) (b e : Totals) (more : List Tick) (moves finishes : ℕ) → Adds old.view new.view more moves finishes → new.view.base ≡ old.view.base → q ≡ record p { shown = edition_and p.shown more } → e.steps ≡ b.steps + moves → e.finished + e.terminated ≡ b.finished + b.terminated + finishes → IsKept opening base log old p b → IsKept opening base log new q e
   unfolding board
   kept_by old new p q b e more moves finishes a same is steps done k = rw is (record {
     shown = ap (λ (x : EditionState). edition_and x more) k.shown
@@ -156,14 +156,16 @@ module _ (s f bytes many : ℕ) (base : Board) (log : Book) where
     pending = k.pending;
     opens = k.opens ∙ ap (λ o. eight (board_of o)) (sym same);
     small = k.small;
-    counted = omega (arith, k.counted, a.steps, steps);
-    done = omega (arith, k.done, a.finished, done);
+    counts = record {
+      steps = omega (arith, k.counts.steps, a.steps, steps);
+      finished = omega (arith, k.counts.finished, a.finished, done);
+    };
     bytes_are = same_size old.view new.view same ∙ k.bytes_are;
     many_are = same_many old.view new.view same ∙ k.many_are;
   })
 
   -- a call that gives no cookie and finishes none
-  pub kept_quiet : (old new : EngineState) (p : PublisherState) (b : Totals) (call : Call) (reply : Reply) → IsQuiet call → CallAnswers old.view call reply new.view → IsKept s f bytes many base log old p b → IsKept s f bytes many base log new p b
+  pub kept_quiet : (old new : EngineState) (p : PublisherState) (b : Totals) (call : Call) (reply : Reply) → IsQuiet call → CallAnswers old.view call reply new.view → IsKept opening base log old p b → IsKept opening base log new p b
   kept_quiet old new p b call reply q h k =
       let t = quiet_calls_keep_counts old.view new.view call reply q h in
       let a : Adds old.view new.view [] 0 0 = record {
@@ -174,24 +176,24 @@ module _ (s f bytes many : ℕ) (base : Board) (log : Book) where
       kept_by old new p p b b [] 0 0 a (answers-extend old.view new.view call reply (quiet-extends call reply q) h).0 (no_more p) (omega arith) (omega arith) k
 
   -- a step
-  pub kept_step : (old new : EngineState) (p q : PublisherState) (b : Totals) (ch : ℕ) (r : Result Turn EngineFault) → StepAnswers old.view ch r new.view → q ≡ record p { shown = edition_and p.shown (ticks_in ch r) } → IsKept s f bytes many base log old p b → IsKept s f bytes many base log new q (stepped_book b r)
+  pub kept_step : (old new : EngineState) (p q : PublisherState) (b : Totals) (ch : ℕ) (r : Result Turn EngineFault) → StepAnswers old.view ch r new.view → q ≡ record p { shown = edition_and p.shown (ticks_in ch r) } → IsKept opening base log old p b → IsKept opening base log new q (stepped_book b r)
   kept_step old new p q b ch r h is k =
       kept_by old new p q b (stepped_book b r) (ticks_in ch r) (steps_in r) (finishes_in r) (steps_add old.view new.view ch r h) (answers-extend old.view new.view (Step ch) (reply_of Turned r) refl h).0 is refl (omega arith) k
 
   -- a step that finishes no cookie, which publishes nothing
-  pub kept_on : (old new : EngineState) (p : PublisherState) (b : Totals) (ch : ℕ) (r : Result Turn EngineFault) → ends (turn old.view ch).0 ≡ false → StepAnswers old.view ch r new.view → IsKept s f bytes many base log old p b → IsKept s f bytes many base log new p (stepped_book b r)
+  pub kept_on : (old new : EngineState) (p : PublisherState) (b : Totals) (ch : ℕ) (r : Result Turn EngineFault) → ends (turn old.view ch).0 ≡ false → StepAnswers old.view ch r new.view → IsKept opening base log old p b → IsKept opening base log new p (stepped_book b r)
   kept_on old new p b ch r on h k =
       kept_step old new p p b ch r h (no_more p ∙ ap (λ l. record p { shown = edition_and p.shown l }) (sym (goes_on old.view new.view ch r on h))) k
 
   -- one more tick was made ready, the engine added it, and it was published
-  pub kept_next : (old m new : EngineState) (p r q : PublisherState) (b e : Totals) (l : List EditionState) (t u : Tick) (moves finishes : ℕ) → m.view ≡ old.view → Adds m.view new.view (u ∷ []) moves finishes → new.view.base ≡ m.view.base → t ≡ u → r ≡ record p { pending = l } → q ≡ record r { shown = edition_with r.shown t; pending = [] } → e.steps ≡ b.steps + moves → e.finished + e.terminated ≡ b.finished + b.terminated + finishes → IsKept s f bytes many base log old p b → IsKept s f bytes many base log new q e
+  pub kept_next : (old m new : EngineState) (p r q : PublisherState) (b e : Totals) (l : List EditionState) (t u : Tick) (moves finishes : ℕ) → m.view ≡ old.view → Adds m.view new.view (u ∷ []) moves finishes → new.view.base ≡ m.view.base → t ≡ u → r ≡ record p { pending = l } → q ≡ record r { shown = edition_with r.shown t; pending = [] } → e.steps ≡ b.steps + moves → e.finished + e.terminated ≡ b.finished + b.terminated + finishes → IsKept opening base log old p b → IsKept opening base log new q e
   kept_next old m new p r q b e l t u moves finishes same a from is ready published steps done k =
       let all : q ≡ record p { shown = edition_and p.shown (u ∷ []) } =
       published ∙ rw (ready, is) (ap (λ (x : List EditionState). record p { shown = edition_with p.shown u; pending = x }) (sym k.pending)) in
       kept_by old new p q b e (u ∷ []) moves finishes (subst (λ v. Adds v new.view (u ∷ []) moves finishes) same a) (from ∙ ap (λ (v : View). v.base) same) all steps done k
 
   -- a checkpoint: what was published comes before the new history
-  pub kept_checkpoint : (old new : EngineState) (p q : PublisherState) (b : Totals) → IsSound old.view → CallAnswers old.view Checkpoint Done new.view → q ≡ record p { before = p.shown.ticks } → IsKept s f bytes many base log old p b → IsKept s f bytes many base log new q b
+  pub kept_checkpoint : (old new : EngineState) (p q : PublisherState) (b : Totals) → IsSound old.view → CallAnswers old.view Checkpoint Done new.view → q ≡ record p { before = p.shown.ticks } → IsKept opening base log old p b → IsKept opening base log new q b
   unfolding board
   kept_checkpoint old new p q b sound h is k =
       let c = checkpoints_keep old.view new.view sound h in
@@ -208,23 +210,21 @@ module _ (s f bytes many : ℕ) (base : Board) (log : Book) where
             ∙ after-eight (board_of old.view.base) ticks few there
             ∙ ap eight (boards_count old.view sound ∙ sym c.1);
         small = k.small;
-        counted = k.counted ∙ sym c.2;
-        done = k.done ∙ sym c.3;
+        counts = record { steps = k.counts.steps ∙ sym c.2; finished = k.counts.finished ∙ sym c.3 };
         bytes_are = ap size next ∙ k.bytes_are;
         many_are = ap channels next ∙ length-map (object_of old.view).channels forget ∙ k.many_are;
       })
 
 -- The same desk under a new name, with an empty book.
-pub kept_anew : (s f bytes many steps finished size_now many_now : ℕ) (base base_now : Board) (log log_now : Book) (engine : EngineState) (p : PublisherState) (b e : Totals) → IsKept s f bytes many base log engine p b → Names steps finished size_now many_now base_now log_now (record { engine = engine; base = base; log = log }) → (e.steps ≡ 0) × (e.finished ≡ 0) × (e.terminated ≡ 0) → IsKept steps finished size_now many_now base_now log_now engine p e
-kept_anew s f bytes many steps finished size_now many_now base base_now log log_now engine p b e k names none = record {
-  shown = rw (names.4, names.5) k.shown;
+pub kept_anew : (opening opening_now : View) (base base_now : Board) (log log_now : Book) (engine : EngineState) (p : PublisherState) (b e : Totals) → IsKept opening base log engine p b → Names opening_now base_now log_now (record { engine = engine; base = base; log = log }) → (e.steps ≡ 0) × (e.finished ≡ 0) × (e.terminated ≡ 0) → IsKept opening_now base_now log_now engine p e
+kept_anew opening opening_now base base_now log log_now engine p b e k names none = record {
+  shown = rw (names.1, names.2) k.shown;
   pending = k.pending;
-  opens = rw names.4 k.opens;
-  small = rw names.4 k.small;
-  counted = omega (arith, names.0, none.0);
-  done = omega (arith, names.1, none.1, none.2);
-  bytes_are = sym names.2;
-  many_are = sym names.3;
+  opens = rw names.1 k.opens;
+  small = rw names.1 k.small;
+  counts = rw names.0 (record { steps = omega (arith, none.0); finished = omega (arith, none.1, none.2) });
+  bytes_are = ap size (sym names.0);
+  many_are = ap channels (sym names.0);
 }
 
 -- The published board has the engine's own counts of each channel.
@@ -239,9 +239,9 @@ board_counts base before v opens h ch less =
 
 -- ---- what a ticket shows
 
-module _ (s f bytes many : ℕ) (base : Board) (log : Book) where
+module _ (opening : View) (base : Board) (log : Book) where
   -- the cookie of a submit is given in the list that is published then
-  pub given_in : (new : EngineState) (q : PublisherState) (b : Totals) (v : View) (ch cookie : ℕ) (t : Descriptor) (list : List Tick) → CallAnswers v (Submit ch t) (Cookie cookie) new.view → IsSound new.view → IsKept s f bytes many base log new q b → list ≡ q.shown.ticks → IsGiven base list ch cookie
+  pub given_in : (new : EngineState) (q : PublisherState) (b : Totals) (v : View) (ch cookie : ℕ) (t : Descriptor) (list : List Tick) → CallAnswers v (Submit ch t) (Cookie cookie) new.view → IsSound new.view → IsKept opening base log new q b → list ≡ q.shown.ticks → IsGiven base list ch cookie
   given_in new q b v ch cookie t list h sound k is =
       let s = submits_add v new.view ch cookie t h in
       let all = is ∙ ap (λ (x : EditionState). x.ticks) k.shown in
@@ -250,7 +250,7 @@ module _ (s f bytes many : ℕ) (base : Board) (log : Book) where
       (s.2, omega (arith, at, s.3))
 
   -- and after a terminate all cookies of its channel are finished
-  pub finished_in : (new : EngineState) (q : PublisherState) (b : Totals) (v : View) (ch count through : ℕ) (list : List Tick) → CallAnswers v (Terminate ch) (Count count) new.view → IsSound new.view → IsKept s f bytes many base log new q b → list ≡ q.shown.ticks → through ≡ used (channel (object_of new.view) ch) → AreFinished base list ch through
+  pub finished_in : (new : EngineState) (q : PublisherState) (b : Totals) (v : View) (ch count through : ℕ) (list : List Tick) → CallAnswers v (Terminate ch) (Count count) new.view → IsSound new.view → IsKept opening base log new q b → list ≡ q.shown.ticks → through ≡ used (channel (object_of new.view) ch) → AreFinished base list ch through
   finished_in new q b v ch count through list h sound k is through_is =
       let s = terminates_add v new.view ch count h in
       let all = is ∙ ap (λ (x : EditionState). x.ticks) k.shown in

@@ -1,6 +1,6 @@
--- The turns that were taken of a desk with a rota.
+-- The turns that were taken on a shift.
 use Rattle.std.proofs.Common.{◌≡◌, ◌≢◌, ◌==◌, ℕ, zero, suc, ◌+◌, ◌<◌, ◌≤◌, Bool, true, false, List, [], ◌∷◌, ◌++◌, length, take, refl, sym, ap, ◌∙◌, subst, arith, append-nil, add-one, inl, inr}
-use Rattle.std.specs.Prelude.{if◌then◌else◌, IfSome, Option, Some, None, Result, slice_index_or, slice_set}
+use Rattle.std.specs.Prelude.{if◌then◌else◌, Result, slice_index_or, slice_set}
 use Rattle.std.specs.List.{All}
 use Rattle.std.proofs.lemmas.Bool.{cases_eq, eq-eqb, ne_eqb}
 use Rattle.std.proofs.lemmas.List.{get_or-set_other, get_or-set_same, length-map, length-set, map-append, take_more}
@@ -17,7 +17,8 @@ use Rattle.dma_work.specs.declared.worker.Totals.{Totals}
 use Rattle.dma_work.specs.Desk.{stepped_book}
 use Rattle.dma_work.specs.Rotation.{channel_at, rotation}
 use Rattle.dma_work.specs.Taken.{LeadsTo, TakenTurn, TookAllTurns, channels_of, channels_of_job}
-use Rattle.dma_work.specs.inner.InTurn.{AreNewSeats, IsDone, IsInTurn, TakesNext, TakesNextOf, jobs_of}
+use Rattle.dma_work.specs.Shift.{AreNewSeats, HasNoTurn, IsDone, TakesNext, jobs_of}
+use Rattle.dma_work.specs.inner.InTurn.{IsInTurn}
 use Rattle.dma_work.proofs.ItemsOfLists.{some_item}
 
 -- ---- one turn more
@@ -84,12 +85,6 @@ in_turn_more opening jobs v w book worker ch r old new step next h =
       no_others = λ k past. of_other h.turns t k (λ e. omega (arith, past, many, next.there, e)) ∙ h.no_others k (omega (arith, past, many));
     })
 
--- A step of any channel: it is the turn that the rota wants next, or there is no rota afterwards.
-pub in_turn_after : (opening : View) (jobs : List Job) (v w : View) (book : Totals) (worker ch : ℕ) (r : Result Turn EngineFault) (rota after : Option (List Seat)) → StepAnswers v ch r w → IfSome rota (λ s. IsInTurn opening jobs v book s) → IfSome after (λ s. TakesNextOf worker ch rota s) → IfSome after (λ s. IsInTurn opening jobs w (stepped_book book r) s)
-in_turn_after opening jobs v w book worker ch r rota None step h next = tt
-in_turn_after opening jobs v w book worker ch r None (Some new) step h next = absurd next
-in_turn_after opening jobs v w book worker ch r (Some old) (Some new) step h next = in_turn_more opening jobs v w book worker ch r old new step next h
-
 -- ---- a new rota
 
 pub in_turn_new : (opening : View) (jobs : List Job) (v : View) (book : Totals) (seats : List Seat) → opening ≡ v → book.steps ≡ 0 → book.finished ≡ 0 → AreNewSeats jobs seats → IsInTurn opening jobs v book seats
@@ -132,6 +127,11 @@ takes_next worker ch seats now was seat same less at here more =
           sym here ∙ was.there ∙ ap (λ (j : Job). channel_at j.first j.last was.taken) (sym more.0)
           ∙ ap (λ (x : Seat). channel_at seat.job.first seat.job.last x.taken) (item s);
     }
+
+-- a worker whose seat has no turn left
+pub no_turn : (worker : ℕ) (seats now : List Seat) (was : Seat) → seats ≡ now → worker < length seats → was ≡ slice_index_or seats worker was → was.job.turns ≤ was.taken → HasNoTurn worker now
+no_turn worker seats now was same less at past s inside =
+    subst IsDone (at ∙ same_item seats worker was s less ∙ ap (λ l. slice_index_or l worker s) same) (omega (arith, past, was.within))
 
 -- ---- all turns
 

@@ -31,17 +31,20 @@ pub record DeskState : Type 0 where
 abbrev pub published : DeskState → List Tick
 published d = d.before ++ ticks_of d.engine.view.history
 
--- A sound view of an engine with this size of memory and this number of channels.
-pub record IsSoundOf (bytes many : ℕ) (v : View) : Type 0 where
+-- A sound view of an engine with the size of memory and the number of channels of the opening view.
+pub record IsSoundOf (opening v : View) : Type 0 where
   pub sound : IsSound v
-  pub bytes_are : size v ≡ bytes
-  pub many_are : channels v ≡ many
+  pub bytes_are : size v ≡ size opening
+  pub many_are : channels v ≡ channels opening
 
--- These parts have this step count, number of finished cookies, size, number of channels, base and log.
-abbrev pub Names : ℕ → ℕ → ℕ → ℕ → Board → Book → PartsState → Type 0
-Names steps finished bytes many base log p =
-    (steps ≡ p.engine.view.steps) × (finished ≡ finished_all (object_of p.engine.view)) × (bytes ≡ size p.engine.view)
-    × (many ≡ channels p.engine.view) × (base ≡ p.base) × (log ≡ p.log)
+-- The book has what the step count and the number of finished cookies have risen by since the opening view.
+pub record CountsSince (opening v : View) (book : Totals) : Type 0 where
+  pub steps : opening.steps + book.steps ≡ v.steps
+  pub finished : finished_all (object_of opening) + (book.finished + book.terminated) ≡ finished_all (object_of v)
+
+-- These parts have this view, base and log.
+abbrev pub Names : View → Board → Book → PartsState → Type 0
+Names opening base log p = (opening ≡ p.engine.view) × (base ≡ p.base) × (log ≡ p.log)
 
 -- The book is unchanged, and so are the ticks that were published before those of the history.
 abbrev pub SameBook : DeskState → DeskState → Type 0
@@ -87,28 +90,24 @@ AddUp tallies book = (steps_of tallies ≡ book.steps) × (finishes_of tallies �
 abbrev pub Differ : List TallyCounts → Totals → Type 0
 Differ tallies book = (steps_of tallies ≢ book.steps) ⊎ (finishes_of tallies ≢ book.finished)
 
--- A desk has ended with this engine and this book. The tallies add up to the book, which has the increase of the
--- engine's step count and number of finished cookies since these values. The engine has this size and this number of
--- channels.
+-- A desk that was opened with this view has ended with this engine and this book. The tallies add up to the book.
 pub record IsSettled
-    (steps finished bytes many : ℕ) (tallies : List TallyCounts) (engine : EngineState) (book : Totals) : Type 0 where
+    (opening : View) (tallies : List TallyCounts) (engine : EngineState) (book : Totals) : Type 0 where
   pub adds : AddUp tallies book
-  pub counted : engine.view.steps ≡ steps + book.steps
-  pub done : finished_all (object_of engine.view) ≡ finished + (book.finished + book.terminated)
-  pub sound : IsSoundOf bytes many engine.view
+  pub counts : CountsSince opening engine.view book
+  pub sound : IsSoundOf opening engine.view
   pub memory : engine.memory ≡ memory_of engine.view
 
 -- a tally after a step with this answer, which may be a refusal
 abbrev pub counted : Result Turn EngineFault → TallyCounts → TallyCounts
 counted r t = record t { turns = t.turns + 1; steps = t.steps + steps_in r; finishes = t.finishes + finishes_in r }
 
--- A step of a channel, counted, of a sound desk with this size and this number of channels: the engine's step has some
--- answer, which the desk's book and a tally count. The ticks that were published before those of the history are
--- unchanged.
+-- A step of a channel, counted, of a sound desk that was opened with this view: the engine's step has some answer,
+-- which the desk's book and a tally count. The ticks that were published before those of the history are unchanged.
 pub record CountsAStep
-    (bytes many ch : ℕ) (tally : TallyCounts) (old : DeskState) (tally_after : TallyCounts) (new : DeskState)
+    (opening : View) (ch : ℕ) (tally : TallyCounts) (old : DeskState) (tally_after : TallyCounts) (new : DeskState)
     : Type 0 where
-  pub sound : IsSoundOf bytes many old.engine.view
+  pub sound : IsSoundOf opening old.engine.view
   pub answer : Result Turn EngineFault
   pub step : StepAnswers old.engine.view ch answer new.engine.view
   pub book : new.book ≡ stepped_book old.book answer
@@ -124,9 +123,9 @@ pub record WorkerState (L : Type 0) : Type 0 where
 -- `passes` has a worker and the number of its turn; `lends` relates the desk that is lent and the desk that is given
 -- back.
 abbrev pub TakesAStep
-    : {L : Type 0} → ℕ → ℕ → (ℕ → ℕ → Type 0) → (L → DeskState → DeskState → L → Type 0) → WorkerState L → ℕ
+    : {L : Type 0} → View → (ℕ → ℕ → Type 0) → (L → DeskState → DeskState → L → Type 0) → WorkerState L → ℕ
     → WorkerState L → Type 0
-TakesAStep bytes many passes lends old ch new =
+TakesAStep opening passes lends old ch new =
     passes old.tally.worker (old.tally.turns + 1)
     × ((d : DeskState) × (e : DeskState) × lends old.lender d e new.lender
-    × CountsAStep bytes many ch old.tally d new.tally e)
+    × CountsAStep opening ch old.tally d new.tally e)

@@ -1,10 +1,11 @@
 -- Published ticks and the status of a cookie after them; what a reader knows; what contracts see of a desk; the tallies
--- of jobs; the channels that a worker steps; the laws of statuses.
+-- of jobs; the channels that a worker steps; turns that were taken, and shifts; the laws of statuses.
 pub mod Ticks
 pub mod Known
 pub mod Desk
 pub mod Tallies
 pub mod Rotation
 pub mod Taken
+pub mod Shift
 pub mod Laws
 pub mod inner

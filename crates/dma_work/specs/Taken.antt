@@ -45,8 +45,8 @@ pub record Interleaves (jobs : List Job) (turns : List TakenTurn) : Type 0 where
   pub each : (k : ℕ) (j : Job) → k < length jobs → channels_of k turns ≡ channels_of_job (slice_index_or jobs k j)
   pub no_others : (k : ℕ) → length jobs ≤ k → channels_of k turns ≡ []
 
--- From the one view to the other, all turns of these jobs were taken, in some order, and nothing else was done. The book
--- has their steps and finishes.
+-- From the one view to the other, all turns of these jobs were taken, in some order, and nothing else was done. The
+-- book has their steps and finishes.
 pub record TookAllTurns (opening : View) (jobs : List Job) (view : View) (book : Totals) : Type 0 where
   pub turns : List TakenTurn
   pub interleaved : Interleaves jobs turns

@@ -4,13 +4,12 @@ ghost use Rattle.std.specs.Prelude.{◌≡◌, ◌+◌, ◌<◌, [], IfOk, IfErr
 ghost use Rattle.dma_mem.specs.Rules.{IsTransfer};
 ghost use Rattle.dma_engine.specs.Answer.{CallAnswers, StepAnswers, checked, reply_of, submit_fault};
 ghost use Rattle.dma_engine.specs.Laws.{IsQuiet};
-ghost use Rattle.dma_engine.specs.Object.{channel, finished_all, used};
+ghost use Rattle.dma_engine.specs.Object.{channel, used};
 ghost use Rattle.dma_engine.specs.Room.{HasNoSpare};
 ghost use Rattle.dma_engine.specs.View.{memory_of, object_of};
-ghost use Rattle.dma_work.specs.Desk.{Differ, IsSettled, IsSoundOf, Names, SameBook, counted, new_tally, no_totals, published, stepped_book};
+ghost use Rattle.dma_work.specs.Desk.{CountsSince, Differ, IsSettled, IsSoundOf, Names, SameBook, counted, new_tally, no_totals, published, stepped_book};
 ghost use Rattle.dma_work.specs.Known.{knows};
 ghost use Rattle.dma_work.specs.Laws.{AreCounts};
-ghost use Rattle.dma_work.specs.Taken.{TookAllTurns};
 ghost use Rattle.dma_work.specs.Ticks.{base_of, board_from};
 
 mod host_calls;
@@ -18,30 +17,20 @@ mod host_calls;
 use crate::log::{Change, Tick};
 use crate::publisher::{Parts, Publisher};
 use crate::reader::{Closed, Receipt, StatusReader, Ticket};
-use crate::rota::{Rota, Seats};
 use crate::worker::{Tally, Totals};
 use dma_engine::{Call, Engine, EngineFault, Reply, SubmitFault, Turn};
 use dma_mem::transfer::Transfer;
 use std::marker::{Brand, Model, PhantomData};
 use std::sync::Wait;
 
-/// Names a desk by the log of its published list, the counts with which this list begins, and the engine's step count,
-/// number of finished cookies, memory size, number of channels and view when the desk was made, and by the jobs of its
-/// rota, if it has one.
+/// Names a desk by the log of its published list, the counts with which this list begins, the engine's view when the
+/// desk was made, and the jobs of its shift, if it is on one.
 pub trait DeskName {
-    ghost use Rattle.std.specs.Prelude.{ℕ, List};
+    ghost use Rattle.std.specs.Prelude.{List};
     ghost use Rattle.logbook.specs.Pages.{Book};
     ghost use Rattle.dma_engine.specs.Ticks.{Board};
     ghost use Rattle.dma_engine.specs.View.{View};
     ghost use Rattle.dma_work.specs.declared.job.Job.{Job};
-
-    ghost steps: { ℕ };
-
-    ghost finished: { ℕ };
-
-    ghost size: { ℕ };
-
-    ghost channels: { ℕ };
 
     ghost base: { Board };
 
@@ -56,14 +45,6 @@ impl DeskName for Brand {
     ghost use Rattle.std.specs.Prelude.{[]};
     ghost use Rattle.dma_engine.specs.View.{new_view};
 
-    ghost steps = { 0 };
-
-    ghost finished = { 0 };
-
-    ghost size = { 0 };
-
-    ghost channels = { 0 };
-
     ghost base = { [] };
 
     ghost log = { record { number = 0; log_name = 0; cells_name = 0 } };
@@ -75,37 +56,32 @@ impl DeskName for Brand {
 
 /// The value behind the lock: an engine, a book of what was done through it, and the publisher for status readers.
 ///
-/// Its type guarantees five facts. The published list ends with the ticks of the engine's history, and no tick is
-/// pending. The published ticks before those add up to the counts with which the history begins. The book has the
-/// increase of the engine's step count and finished cookies since the values that N names. The engine has N's size and
-/// number of channels. As long as the desk has a rota, nothing was done since N's opening view but the turns that the
-/// rota counts.
+/// Its type guarantees four facts. The published list ends with the ticks of the engine's history, and no tick is
+/// pending. The published ticks before those add up to the counts with which the history begins. The book has what the
+/// step count and the number of finished cookies have risen by since N's opening view. The engine has that view's size
+/// and number of channels.
 pub struct Desk<N: DeskName> {
     engine: Engine,
     publisher: Publisher,
     book: Totals,
-    rota: Option<Seats>,
     of: PhantomData<N>,
 }
 
 impl<N: DeskName> Model for Desk<N> {
     ghost use Rattle.dma_work.specs.Desk.{DeskState};
-    ghost use Rattle.std.specs.Prelude.{IfSome};
     ghost use Rattle.dma_work.specs.inner.DeskKept.{IsKept};
-    ghost use Rattle.dma_work.specs.inner.InTurn.{IsInTurn};
 
     ghost Value = { DeskState };
 
     ghost view = { λ d. record { engine = d.engine; book = d.book; before = d.publisher.before } };
 
-    ghost invariant = { λ d. IsKept N.steps N.finished N.size N.channels N.base N.log d.engine d.publisher d.book
-        × IfSome d.rota (λ r. IsInTurn N.opening N.jobs d.engine.view d.book r) };
+    ghost invariant = { λ d. IsKept N.opening N.base N.log d.engine d.publisher d.book };
 }
 
 impl<N: DeskName> Desk<N> {
     /// Returns a desk of these parts, with an empty book. N names the parts.
     pub fn new(parts: Parts) -> Desk<N>
-        requires { Names N.steps N.finished N.size N.channels N.base N.log parts }
+        requires { Names N.opening N.base N.log parts }
         ensures { result ≡ record { engine = parts.engine; book = no_totals; before = [] } }
     {
         let Parts { engine, publisher } = parts;
@@ -113,26 +89,20 @@ impl<N: DeskName> Desk<N> {
             engine,
             publisher,
             book: Totals::default(),
-            rota: None,
             of: PhantomData,
         }
     }
 
-    /// Names the desk anew and gives it a rota, with an empty book. M names the desk as it is, and the jobs of the rota.
-    /// The rota is dropped by anything but its turns: by each other step, submit, terminate or checkpoint, and by
-    /// [`Desk::carry_out`].
-    pub fn with_rota<M: DeskName>(self, rota: Rota) -> Desk<M>
-        requires names { Names M.steps M.finished M.size M.channels M.base M.log
+    /// Names the desk anew, with an empty book. M names the desk as it is.
+    pub(crate) fn named_anew<M: DeskName>(self) -> Desk<M>
+        requires { Names M.opening M.base M.log
             (record { engine = self.engine; base = N.base; log = N.log }) }
-        requires opening { M.opening ≡ self.engine.view }
-        requires jobs { M.jobs ≡ rota }
         ensures { result ≡ record { engine = self.engine; book = no_totals; before = self.before } }
     {
         let Desk {
             engine,
             publisher,
             book: _,
-            rota: _,
             of: _,
         } = self;
         let book = Totals::default();
@@ -140,20 +110,7 @@ impl<N: DeskName> Desk<N> {
             engine,
             publisher,
             book,
-            rota: Some(rota.into_seats()),
             of: PhantomData,
-        }
-    }
-
-    /// Returns whether the desk has a rota of which all turns were taken. Then they were taken one after another, in
-    /// some order, and nothing else was done since N's opening view.
-    pub fn turns_are_taken(&self) -> bool
-        ensures { IsTrue result
-            → TookAllTurns N.opening N.jobs self.now.engine.view self.now.book }
-    {
-        match &self.rota {
-            Some(seats) => seats.is_done(),
-            None => false,
         }
     }
 
@@ -161,12 +118,10 @@ impl<N: DeskName> Desk<N> {
     /// stored, and the book has the increase of its step count and finished cookies.
     pub fn engine(&self) -> &Engine
         ensures engine { result.now ≡ self.now.engine }
-        ensures counted { N.steps + self.now.book.steps ≡ self.now.engine.view.steps }
-        ensures done { N.finished + (self.now.book.finished + self.now.book.terminated)
-            ≡ finished_all (object_of self.now.engine.view) }
+        ensures counted { CountsSince N.opening self.now.engine.view self.now.book }
         ensures opens { board_from N.base self.now.before ≡ base_of self.now.engine.view }
         ensures counts { AreCounts N.base }
-        ensures sound { IsSoundOf N.size N.channels self.now.engine.view }
+        ensures sound { IsSoundOf N.opening self.now.engine.view }
         ensures memory { self.now.engine.memory ≡ memory_of self.now.engine.view }
     {
         self.engine.facts();
@@ -204,7 +159,6 @@ impl<N: DeskName> Desk<N> {
         ensures answer { CallAnswers self.old.engine.view call.now result self.new.engine.view }
         ensures book { SameBook self.old self.new }
     {
-        self.rota = None;
         self.engine.carry_out(call)
     }
 
@@ -229,7 +183,6 @@ impl<N: DeskName> Desk<N> {
         ensures room { IfOk result (λ _. HasNoSpare self.new.engine) }
         ensures same { OnErr result (self.new ≡ self.old) }
     {
-        self.rota = None;
         self.engine.facts();
         self.engine.checkpoint()?;
         self.publisher.begin_again();
@@ -260,7 +213,6 @@ impl<N: DeskName> Desk<N> {
         self.engine.facts();
         self.book.count(&answer);
         tally.count(&answer);
-        self.rota = Seats::after(self.rota.take(), tally.worker(), ch);
         answer
     }
 
@@ -279,7 +231,6 @@ impl<N: DeskName> Desk<N> {
         ensures back { IfErr result (λ f. f.transfer ≡ transfer) }
         ensures book { SameBook self.old self.new }
     {
-        self.rota = None;
         if let Err(fault) = self.engine.check_submit(ch, &transfer) {
             return Err(SubmitFault { fault, transfer });
         }
@@ -314,7 +265,6 @@ impl<N: DeskName> Desk<N> {
         ensures same { IfErr result (λ _. self.new.book ≡ self.old.book) }
         ensures before { self.new.before ≡ self.old.before }
     {
-        self.rota = None;
         self.engine.make_room(ch)?;
         let tick = Tick::new(ch, Change::Finished(self.engine.unfinished(ch)));
         if !self.publisher.ready(tick) {
@@ -340,17 +290,14 @@ impl<N: DeskName> Desk<N> {
     fn into_parts<R: Wait>(self, rt: &R) -> (Engine, Totals)
         ensures engine { result.0 ≡ self.engine }
         ensures book { result.1 ≡ self.book }
-        ensures steps { result.0.view.steps ≡ N.steps + result.1.steps }
-        ensures finished { finished_all (object_of result.0.view)
-            ≡ N.finished + (result.1.finished + result.1.terminated) }
-        ensures sound { IsSoundOf N.size N.channels result.0.view }
+        ensures counts { CountsSince N.opening result.0.view result.1 }
+        ensures sound { IsSoundOf N.opening result.0.view }
         ensures memory { result.0.memory ≡ memory_of result.0.view }
     {
         let Desk {
             engine,
             publisher,
             book,
-            rota: _,
             of: _,
         } = self;
         publisher.end(rt);
@@ -361,7 +308,7 @@ impl<N: DeskName> Desk<N> {
     /// Ends the desk, and returns its unchanged engine. Readers see nothing from then on.
     pub fn close<R: Wait>(self, rt: &R) -> Engine
         ensures engine { result ≡ self.engine }
-        ensures sound { IsSoundOf N.size N.channels result.view }
+        ensures sound { IsSoundOf N.opening result.view }
         ensures memory { result.memory ≡ memory_of result.view }
     {
         self.into_parts(rt).0
@@ -371,7 +318,7 @@ impl<N: DeskName> Desk<N> {
     /// and its book. Otherwise it returns the desk.
     pub fn settle<R: Wait>(self, rt: &R, tallies: &[Tally<N>]) -> Result<(Engine, Totals), Desk<N>>
         ensures engine { IfOk result (λ r. (r.0 ≡ self.engine) × (r.1 ≡ self.book)) }
-        ensures settled { IfOk result (λ r. IsSettled N.steps N.finished N.size N.channels tallies.now r.0 r.1) }
+        ensures settled { IfOk result (λ r. IsSettled N.opening tallies.now r.0 r.1) }
         ensures missing { IfErr result (λ desk. Differ tallies.now desk.book) }
         ensures back { IfErr result (λ desk. desk ≡ self) }
     {

@@ -6,14 +6,14 @@
 //!
 //! Proved: a method of the desk returns the engine's own answer, and publishes the tick of a finish, a submit or a
 //! terminate after it (`Desk`); a worker passes its gate for each turn, steps the channels of its job in rotation, one
-//! for each turn, and does nothing else ([`work_at`]); the tallies and the book count each step once,
-//! and a desk is settled if their sums agree (`Desk::settle`); from the opening view of a desk with a rota, nothing was
-//! done but the turns of its jobs, all of them, interleaved (`Desk::turns_are_taken`); a status is that of a published list that begins with
-//! all that the reader has seen and learnt (`StatusReader::status`, `laws::statuses_stay_true`).
+//! for each turn, and does nothing else ([`work_at`]); the tallies and the book count each step once, and a desk is
+//! settled if their sums agree (`Desk::settle`, [`settle`]); on a shift all turns of its jobs are taken, interleaved,
+//! and nothing else is done ([`run_shift`]); a status is that of a published list that begins with all that the reader
+//! has seen and learnt (`StatusReader::status`, `laws::statuses_stay_true`).
 //!
 //! Not proved: progress; that workers run at the same time; when a gate is passed; which desk of its name a lock holds
 //! when it is taken, and so that [`work`], which sees the lock, does nothing else with the desk; that each tally of a
-//! settled desk is right, since two wrong ones may have the right sum; that the turns of a rota are ever taken.
+//! settled desk is right, since two wrong ones may have the right sum.
 #![tactic(auto)]
 
 mod desk;
@@ -26,6 +26,7 @@ mod reader;
 mod rota;
 mod seat;
 mod shared;
+mod shift;
 mod worker;
 
 pub use desk::{Desk, DeskName};
@@ -33,7 +34,8 @@ pub use job::Job;
 pub use publisher::{MAX_READERS, Parts, ShareFault, ShareFaultKind};
 pub use reader::{Closed, Receipt, StatusReader, Ticket};
 pub use rota::Rota;
-pub use shared::{Shared, run_workers, work};
+pub use shared::{MissingTally, Shared, run_workers, settle, work};
+pub use shift::{Shift, run_shift};
 pub use worker::{
     Borrower, Gate, Lender, Locked, NoGate, Stepper, Tally, Totals, take_turns, work_at,
 };

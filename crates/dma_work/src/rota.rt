@@ -1,8 +1,8 @@
-//! The rota of a desk, which has the turns of some jobs and counts those that were taken.
+//! The rota of a shift, which has the turns of some jobs and counts those that were taken.
 
-ghost use Rattle.std.specs.Prelude.{◌≡◌, ◌+◌, ◌<◌, IfOk, IfSome, IsTrue};
+ghost use Rattle.std.specs.Prelude.{◌≡◌, ◌+◌, ◌<◌, IfOk, IfSome, IsNone, length};
 ghost use Rattle.std.specs.List.{All};
-ghost use Rattle.dma_work.specs.inner.InTurn.{AreNewSeats, IsDone, TakesNext, TakesNextOf};
+ghost use Rattle.dma_work.specs.Shift.{AreNewSeats, HasNoTurn, IsDone, TakesNext};
 
 use crate::job::Job;
 use crate::seat::Seat;
@@ -36,7 +36,7 @@ impl Model for Rota {
     ghost use Rattle.std.specs.List.{All};
     ghost use Rattle.dma_work.specs.declared.job.Job.{Job};
     ghost use Rattle.dma_work.specs.declared.seat.Seat.{Seat};
-    ghost use Rattle.dma_work.specs.inner.InTurn.{jobs_of};
+    ghost use Rattle.dma_work.specs.Shift.{jobs_of};
 
     ghost Value = { List Job };
 
@@ -102,45 +102,42 @@ impl Seats {
         Ok(Seats { seats })
     }
 
-    // Counts a worker's turn on a channel if it is the next turn of the worker's job, and returns whether it is.
-    fn takes(&mut self, worker: u32, ch: u8) -> bool
-        ensures { IsTrue result → TakesNext worker ch self.old self.new }
+    /// Returns the number of seats.
+    pub fn len(&self) -> usize
+        ensures { result ≡ length self.now }
+    {
+        self.seats.len()
+    }
+
+    /// Counts the next turn of a worker's job, and returns its channel. Returns `None` if the worker has no turn left;
+    /// then nothing changes.
+    pub fn take(&mut self, worker: usize) -> Option<u8>
+        ensures some { IfSome result (λ ch. TakesNext worker ch self.old self.new) }
+        ensures none { IsNone result → HasNoTurn worker self.old }
+        ensures same { IsNone result → self.new ≡ self.old }
     {
         let seats = &mut self.seats;
-        let at = worker as usize;
-        if at >= seats.len() {
-            return false;
+        if worker >= seats.len() {
+            return None;
         }
-        let seat = seats[at];
-        if seat.next != ch || seat.taken >= seat.job.turns {
-            return false;
+        let seat = seats[worker];
+        if seat.taken >= seat.job.turns {
+            return None;
         }
-        seats[at] = seat.after();
-        true
+        seats[worker] = seat.after();
+        Some(seat.next)
     }
 
-    /// Returns the seats after a worker's turn on a channel, or `None` if that isn't the next turn of the worker's job.
-    pub fn after(seats: Option<Seats>, worker: u32, ch: u8) -> Option<Seats>
-        ensures { IfSome result (λ r. TakesNextOf worker ch seats r) }
-    {
-        let mut seats = seats?;
-        if seats.takes(worker, ch) {
-            Some(seats)
-        } else {
-            None
-        }
-    }
-
-    /// Returns whether all turns were taken.
-    pub fn is_done(&self) -> bool
-        ensures { IsTrue result → All IsDone self.now }
+    /// Returns the first worker that has a turn left, or `None` if all turns were taken.
+    pub fn waiting(&self) -> Option<usize>
+        ensures { IsNone result → All IsDone self.now }
     {
         for at in 0..self.seats.len() {
             let seat = self.seats[at];
             if seat.taken < seat.job.turns {
-                return false;
+                return Some(at);
             }
         }
-        true
+        None
     }
 }

@@ -1,16 +1,17 @@
 //! A desk behind a lock, and the workers that share it, each in its own thread.
 
-ghost use Rattle.std.specs.Prelude.{◌≡◌, ◌<◌, ◌≤◌, ◌^◌, ℕ, IfOk, length, vec_capacity, vec_len};
-ghost use Rattle.dma_work.specs.Desk.{Names};
+ghost use Rattle.std.specs.Prelude.{◌≡◌, ◌<◌, ◌≤◌, ◌^◌, ℕ, IfErr, IfOk, length, vec_capacity, vec_len};
+ghost use Rattle.dma_engine.specs.View.{memory_of};
+ghost use Rattle.dma_work.specs.Desk.{Differ, IsSettled, IsSoundOf, Names};
 ghost use Rattle.dma_work.specs.Tallies.{AreTallies, TookTurns};
 ghost use Rattle.dma_work.specs.inner.Begun.{IsBegun, IsOf};
 
 use crate::desk::{Desk, DeskName};
 use crate::job::Job;
 use crate::publisher::Parts;
-use crate::worker::{Gate, Locked, Tally, work_at};
+use crate::worker::{Gate, Locked, Tally, Totals, work_at};
 use core::mem::replace;
-use dma_engine::NoMemory;
+use dma_engine::{Engine, NoMemory};
 use std::alloc::Global;
 use std::marker::PhantomData;
 use std::sync::{Mutex, Wait};
@@ -27,7 +28,7 @@ pub struct Shared<N: DeskName> {
 impl<N: DeskName> Shared<N> {
     /// Returns a desk of these parts behind a lock. N names the parts.
     pub fn new(parts: Parts) -> Shared<N>
-        requires { Names N.steps N.finished N.size N.channels N.base N.log parts }
+        requires { Names N.opening N.base N.log parts }
     {
         Shared::of(Desk::new(parts))
     }
@@ -54,6 +55,45 @@ impl<N: DeskName> Shared<N> {
         let Shared { desk } = self;
         desk.into_inner()
     }
+
+    /// Takes the desk out of its lock, ends it, and returns its unchanged engine. Readers see nothing from then on.
+    pub fn close<R: Wait>(self, rt: &R) -> Engine
+        ensures sound { IsSoundOf N.opening result.view }
+        ensures memory { result.memory ≡ memory_of result.view }
+    {
+        self.into_desk().close(rt)
+    }
+}
+
+/// Tallies whose sums aren't those of a desk's book, with the desk.
+pub struct MissingTally<N: DeskName> {
+    /// The unchanged desk, behind its lock.
+    pub shared: Shared<N>,
+    /// The tallies.
+    pub tallies: Vec<Tally<N>>,
+    /// The desk's book.
+    pub book: Totals,
+}
+
+/// Takes a desk out of its lock, and ends it like [`Desk::settle`] if the sums of the tallies' steps and finishes are
+/// its book's.
+pub fn settle<N: DeskName, R: Wait>(
+    rt: &R,
+    shared: Shared<N>,
+    tallies: Vec<Tally<N>>,
+) -> Result<(Engine, Totals), MissingTally<N>>
+    ensures settled { IfOk result (λ r. IsSettled N.opening tallies.items r.0 r.1) }
+    ensures missing { IfErr result (λ m. Differ m.tallies.items m.book) }
+    ensures back { IfErr result (λ m. m.tallies ≡ tallies) }
+{
+    match shared.into_desk().settle(rt, tallies.as_slice()) {
+        Ok(done) => Ok(done),
+        Err(desk) => Err(MissingTally {
+            book: desk.book(),
+            shared: Shared::of(desk),
+            tallies,
+        }),
+    }
 }
 
 /// Takes the turns of a job like [`work_at`], and returns the tally. The worker passes the gate without the lock, and
@@ -65,7 +105,7 @@ pub fn work<N: DeskName, R: Wait, G: Gate>(
     job: Job,
     gate: &G,
 ) -> Tally<N>
-    ensures { TookTurns N.size N.channels G.passes worker job result }
+    ensures { TookTurns N.opening G.passes worker job result }
 {
     work_at(rt, shared.lent(), worker, job, gate).1
 }
@@ -81,7 +121,7 @@ struct JobPromise<N: DeskName, G: Gate> {
 impl<N: DeskName, G: Gate> Promise<Tally<N>> for JobPromise<N, G> {
     ghost use Rattle.dma_work.specs.Tallies.{TookTurns};
 
-    ghost kept_by = { λ p t. TookTurns N.size N.channels G.passes p.worker p.job t };
+    ghost kept_by = { λ p t. TookTurns N.opening G.passes p.worker p.job t };
 }
 
 // A job that runs in a thread, or one that got no thread.
@@ -94,8 +134,8 @@ enum Begun<N: DeskName, G: Gate> {
 impl<N: DeskName, G: Gate> Begun<N, G> {
     // Returns the tally of the job once it has ended.
     fn end<R: Threads>(&mut self, rt: &R) -> Tally<N>
-        ensures { (worker : ℕ) (job : Job) → IsOf N.size N.channels G.passes self.old worker job
-            → TookTurns N.size N.channels G.passes worker job result }
+        ensures { (worker : ℕ) (job : Job) → IsOf N.opening G.passes self.old worker job
+            → TookTurns N.opening G.passes worker job result }
     {
         match replace(self, Begun::Here(Tally::new(0))) {
             Begun::InThread(thread) => thread.join(rt),
@@ -115,17 +155,17 @@ struct Crew<'a, N: DeskName, R, G> {
 impl<'a, N: DeskName + Send + Sync, R: Threads + Wait + Sync, G: Gate> Crew<'a, N, R, G> {
     // Takes the turns of a job, as a new worker.
     fn work(self, worker: u32, job: Job) -> Tally<N>
-        ensures { TookTurns N.size N.channels G.passes worker job result }
+        ensures { TookTurns N.opening G.passes worker job result }
     {
         work(self.rt, self.shared, worker, job, self.gate)
     }
 
     // Starts a thread for the job, if one can be started.
     fn begin<E>(self, scope: &Scope<'a, E>, worker: u32, job: Job) -> Begun<N, G>
-        ensures { IsBegun N.size N.channels G.passes result worker job }
+        ensures { IsBegun N.opening G.passes result worker job }
     {
         let working = move || -> Tally<N>
-            ensures { TookTurns N.size N.channels G.passes worker job result }
+            ensures { TookTurns N.opening G.passes worker job result }
         { self.work(worker, job) };
         let promise = JobPromise {
             worker,
@@ -140,8 +180,8 @@ impl<'a, N: DeskName + Send + Sync, R: Threads + Wait + Sync, G: Gate> Crew<'a, 
 
     // Does a job on this thread if it got no thread.
     fn work_here(self, begun: &mut Begun<N, G>, worker: u32, job: Job)
-        requires { IsBegun N.size N.channels G.passes begun.old worker job }
-        ensures { IsOf N.size N.channels G.passes begun.new worker job }
+        requires { IsBegun N.opening G.passes begun.old worker job }
+        ensures { IsOf N.opening G.passes begun.new worker job }
     {
         if let Begun::Here(_) = begun {
             *begun = Begun::Here(self.work(worker, job));
@@ -161,7 +201,7 @@ impl<'a, N: DeskName + Send + Sync, R: Threads + Wait + Sync, G: Gate> Crew<'a, 
         requires room { (length jobs.now ≤ vec_capacity begun)
             × (length jobs.now ≤ vec_capacity tallies) }
         ensures count { vec_len result ≡ length jobs.now }
-        ensures each { AreTallies N.size N.channels G.passes result.items jobs.now }
+        ensures each { AreTallies N.opening G.passes result.items jobs.now }
     {
         for start in 0..jobs.len() {
             begun.push_reserved(self.begin(scope, start as u32, jobs[start]));
@@ -191,7 +231,7 @@ pub fn run_workers<N: DeskName + Send + Sync, R: Threads + Wait + Sync, G: Gate>
     requires { length jobs.now < 2 ^ 32 }
     ensures count { IfOk result (λ v. vec_len v ≡ length jobs.now) }
     ensures each { IfOk result
-        (λ v. AreTallies N.size N.channels G.passes v.items jobs.now) }
+        (λ v. AreTallies N.opening G.passes v.items jobs.now) }
 {
     let begun: Vec<Begun<N, G>> = Vec::with_capacity(alloc, jobs.len())?;
     let tallies: Vec<Tally<N>> = Vec::with_capacity(alloc, jobs.len())?;
@@ -204,7 +244,7 @@ pub fn run_workers<N: DeskName + Send + Sync, R: Threads + Wait + Sync, G: Gate>
             requires room { (length jobs.now ≤ vec_capacity begun)
                 × (length jobs.now ≤ vec_capacity tallies) }
             ensures count { vec_len result ≡ length jobs.entry.now }
-            ensures each { AreTallies N.size N.channels G.passes result.items jobs.entry.now }
+            ensures each { AreTallies N.opening G.passes result.items jobs.entry.now }
         { Crew { rt, shared, gate }.work_all(scope, jobs, begun, tallies) },
     ))
 }

@@ -259,7 +259,7 @@ impl<N: DeskName> Borrower<Desk<N>> for StepAt<N> {
 
     ghost can = { λ s. s.tally.turns < 18446744073709551615 };
 
-    ghost does = { λ s d t e. CountsAStep N.size N.channels s.ch s.tally d t.tally e };
+    ghost does = { λ s d t e. CountsAStep N.opening s.ch s.tally d t.tally e };
 
     /// Steps the desk's channel.
     fn borrow<R: Wait>(&mut self, rt: &R, lent: &mut Desk<N>) {
@@ -313,7 +313,7 @@ impl<N: DeskName, L: Lender<Desk<N>>, G: Gate> Stepper<G> for Worker<N, L> {
 
     ghost taken = { λ w. w.tally.turns };
 
-    ghost acts = { TakesAStep N.size N.channels G.passes L.lends };
+    ghost acts = { TakesAStep N.opening G.passes L.lends };
 
     fn worker(&self) -> u32 {
         self.step.tally.worker()
@@ -340,7 +340,7 @@ pub fn work_at<N: DeskName, R: Wait, L: Lender<Desk<N>>, G: Gate>(
     job: Job,
     gate: &G,
 ) -> (L, Tally<N>)
-    ensures { TookTurnsAt N.size N.channels G.passes L.lends worker job lender result.0 result.1 }
+    ensures { TookTurnsAt N.opening G.passes L.lends worker job lender result.0 result.1 }
 {
     let mut worker = Worker::new(lender, worker);
     take_turns(rt, &mut worker, job, gate);

@@ -3,9 +3,13 @@
 #![tactic(auto)]
 
 #[cfg(test)]
+mod desk_calls;
+#[cfg(test)]
 mod races;
 #[cfg(test)]
 mod scenes;
+#[cfg(test)]
+mod shifts;
 #[cfg(test)]
 mod turns;
 #[cfg(test)]

@@ -126,7 +126,7 @@ pub fn raced<N: DeskName + Send + Sync, R: Threads + Wait + Sync + Abort + Print
     jobs: [Job; 2],
     gate: &G,
 ) -> Result<Option<(Totals, usize)>, Fail>
-    requires names { Names N.steps N.finished N.size N.channels N.base N.log parts }
+    requires names { Names N.opening N.base N.log parts }
     requires follows { (N.log ≡ reader.log) × (N.base ≡ reader.base) }
 {
     let shared = Shared::<N>::new(parts);

@@ -135,7 +135,7 @@ fn at_a_desk<N: DeskName, R: Wait + Abort + Print, S: Scene>(
     mut reader: StatusReader,
     scene: &S,
 ) -> Result<Engine, Fail>
-    requires names { Names N.steps N.finished N.size N.channels N.base N.log parts }
+    requires names { Names N.opening N.base N.log parts }
     requires follows { (N.log ≡ reader.log) × (N.base ≡ reader.base) }
 {
     let shared = Shared::<N>::new(parts);

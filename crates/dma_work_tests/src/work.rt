@@ -99,7 +99,7 @@ fn reads_more<N: DeskName>(desk: &mut Desk<N>, readers: Vec<StatusReader>) -> bo
 
 // Returns the same for a desk of these parts, and ends the desk.
 fn has_places<N: DeskName, R: Wait>(rt: &R, parts: Parts, readers: Vec<StatusReader>) -> bool
-    requires { Names N.steps N.finished N.size N.channels N.base N.log parts }
+    requires { Names N.opening N.base N.log parts }
 {
     let shared = Shared::<N>::new(parts);
     let mut desk = shared.desk().lock(rt);
@@ -194,7 +194,7 @@ fn run_and_settle<N: DeskName, R: Wait + Abort>(
     mut reader: StatusReader,
     jobs: [Job; 2],
 ) -> Result<Option<Status>, Fail>
-    requires names { Names N.steps N.finished N.size N.channels N.base N.log parts }
+    requires names { Names N.opening N.base N.log parts }
     requires follows { (N.log ≡ reader.log) × (N.base ≡ reader.base) }
 {
     let totals = Totals {

@@ -8,7 +8,7 @@ use dma_engine_tests::engine_lines::Ask::{Advance, Issue, Mark, Raise, Step, Sub
 use dma_engine_tests::engine_lines::{CopyOfFour, READ_FAILED, copy, execute_lines, segment};
 use dma_engine_tests::pairs::{Pair, have_same_bytes, report_the_same};
 use dma_mem::marks::MarkKind::Reading;
-use dma_work::{Desk, DeskName, Job, NoGate, Parts, Shared, Tally, run_workers};
+use dma_work::{DeskName, Job, MissingTally, NoGate, Parts, Shared, Tally, run_workers, settle};
 use std::alloc::Global;
 use std::marker::Brand;
 use std::process::Abort;
@@ -66,10 +66,21 @@ fn go_on(alloc: Global, engine: &mut Engine) -> Result<(), Fail> {
 }
 
 // Settles a desk, or closes it if tallies are missing. Returns the engine, and whether the desk was settled.
-fn ended<N: DeskName, R: Wait>(rt: &R, desk: Desk<N>, tallies: &[Tally<N>]) -> (Engine, bool) {
-    match desk.settle(rt, tallies) {
+fn ended<N: DeskName, R: Wait>(
+    rt: &R,
+    shared: Shared<N>,
+    tallies: Vec<Tally<N>>,
+) -> (Engine, bool) {
+    match settle(rt, shared, tallies) {
         Ok((engine, _totals)) => (engine, true),
-        Err(desk) => (desk.close(rt), false),
+        Err(missing) => {
+            let MissingTally {
+                shared,
+                tallies: _,
+                book: _,
+            } = missing;
+            (shared.close(rt), false)
+        }
     }
 }
 
@@ -82,14 +93,14 @@ fn through_a_desk<N: DeskName + Send + Sync, R: Threads + Wait + Sync>(
     job: Job,
     is_reported: bool,
 ) -> (Engine, bool)
-    requires { Names N.steps N.finished N.size N.channels N.base N.log parts }
+    requires { Names N.opening N.base N.log parts }
 {
     let shared = Shared::<N>::new(parts);
     let tallies = match run_workers(rt, alloc, &shared, &[job], &NoGate) {
         Ok(tallies) if is_reported => tallies,
         _ => Vec::new(alloc),
     };
-    ended(rt, shared.into_desk(), tallies.as_slice())
+    ended(rt, shared, tallies)
 }
 
 // The job's first channel is paused, halted, or about to begin a copy, which still runs after seven rounds.

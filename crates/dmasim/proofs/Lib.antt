@@ -1,2 +1,3 @@
 pub mod RaceLemmas
 pub mod RaceRuns
+pub mod SomeTurns

@@ -1,16 +1,14 @@
 -- What the lines of a race script may print.
-use Rattle.std.proofs.Common.{◌≡◌, ◌≢◌, ℕ, ◌<◌, List, [], ◌∷◌, ◌++◌, length, take, drop, get_or, codes, inr, suc, Option, Some, None, Result, Ok, Err, lit<, inl, refl, ap, sym, subst, ◌∙◌, arith, append_assoc}
+use Rattle.std.proofs.Common.{◌≡◌, ◌≢◌, ℕ, ◌<◌, List, [], ◌∷◌, ◌++◌, length, take, drop, get_or, codes, suc, Option, Some, None, Result, Ok, Err, lit<, inl, refl, ap, sym, subst, ◌∙◌, arith, append_assoc}
 use Rattle.std.specs.List.{All}
 use Rattle.std.proofs.Math.Seq.{drop-append_seam, take-append_seam}
 use Rattle.std.proofs.lemmas.List.{length-append, length-map, take-append-le, take_all, take-map}
 use Rattle.std.proofs.lemmas.List.Elements.{All-drop, All-head, All-tail}
 use Rattle.std.proofs.lemmas.Result.{on_ok_weaker}
-use Rattle.std.specs.Prelude.{IsErr, MatchOption, OnOk}
+use Rattle.std.specs.Prelude.{IsErr, OnOk}
 use Rattle.dma_mem.specs.declared.transfer.TransferFault.{TransferFault}
 use Rattle.dma_mem.specs.Refusals.{refusal_of}
 use Rattle.dma_mem.specs.declared.call.Call.TheVariants as calls
-use Rattle.dma_engine.specs.declared.call.Reply.TheVariants.{State}
-use Rattle.dma_engine.specs.Answer.{status_in}
 use Rattle.dma_engine.specs.View.{View}
 use Rattle.dma_work.specs.declared.job.Job.{Job}
 use Rattle.dma_script.specs.Command.{Answers, MayAnswer, Printed, printed_text, refusal}
@@ -20,30 +18,22 @@ use Rattle.dma_script.specs.declared.fault.ReadError.{ReadError}
 use Rattle.dma_script.specs.declared.fault.ReadError.TheVariants as script_errors
 use Rattle.dma_script.specs.Race.{IsEarly, race_script_of}
 use Rattle.dma_script.specs.declared.fault.Fault.{Fault}
-use Rattle.dma_script.specs.declared.race.JobLine.{JobLine}
 use Rattle.dma_script.specs.declared.race.RaceScript.{RaceScript}
 use Rattle.dma_script.specs.declared.statements.Statement.{Statement}
 use Rattle.dma_script.specs.declared.statements.Statement.TheVariants as statements
-use Rattle.dma_commands.specs.Printed.{call_line, refused_line, transfer_fault_name}
+use Rattle.dma_commands.specs.Printed.{refused_line, transfer_fault_name}
 use Rattle.dma_commands.specs.Run.{Answered, call_answer, line_answer, lines_answered, unless_invalid}
 use Rattle.dma_commands.specs.Transfers.{transfer_of}
 use Rattle.dma_commands.specs.inner.RunSteps.{AnswersLine, RunsLine}
-use Rattle.dmasim.specs.Race.{AreJobs, EachPrints, EarlyPrints, RacePrints, alone, first_view, go_line, race_may_print, race_prints_of, missing_tally, no_reader, raced_refused, raced_whole, whole}
-use Rattle.dmasim.specs.inner.RaceSteps.{ActsEarly, PrintsAll, PrintsFirst, PrintsGo, PrintsMissing, PrintsRefusal, PrintsStatus, PrintsTotals}
+use Rattle.dmasim.specs.Race.{AreJobs, EachPrints, EarlyPrints, RacePrints, alone, first_view, go_line, race_may_print, race_prints_of, no_reader, raced_refused, raced_whole, whole}
+use Rattle.dmasim.specs.inner.RaceSteps.{ActsEarly, PrintsAll, PrintsFirst, PrintsGo, PrintsStatus, PrintsTotals}
+use Rattle.dmasim.proofs.SomeTurns.{some_turns}
 use Rattle.dma_script.specs.Interpreted.{ActsInTurn, PrintsLine, PrintsLines, StopsAtALine}
 use Rattle.dma_script.proofs.InterpretedLemmas.{text_after}
 use Rattle.dma_commands.proofs.PlanLemmas.{nothing}
 use Rattle.dma_commands.proofs.RunLemmas.{answers_after, answers_none, answers_some}
 
 -- ---- what a line may print
-
--- a line that `run` prints on this view
-may_print : (s : Statement) (v w : View) (line : List ℕ) → line_answer v s ≡ (line ∷ [], w) → EarlyPrints v s line w
-may_print (statements.Call (calls.Status ch cookie)) v w line is =
-    let status = status_in v ch cookie in
-    let one : call_line (calls.Status ch cookie) (State status) ∷ [] ≡ line ∷ [] = ap (λ (a : Answered). a.0) is in
-    (inr (status, let l : line ≡ call_line (calls.Status ch cookie) (State status) = cc in l), sym (ap (λ (a : Answered). a.1) is))
-may_print s v w line is = is
 
 submit_some : (fault : Option TransferFault) (v w : View) (answered : Answered) (line : List ℕ) → answered ≡ (line ∷ [], w) → (one : List ℕ) × (next : View) × (unless_invalid fault v answered ≡ (one ∷ [], next))
 submit_some None v w answered line is = (line, w, is)
@@ -54,9 +44,9 @@ early_some : (v : View) (statement : Statement) → IsEarly statement → (line 
 early_some v (statements.Copy line) early = absurd early
 early_some v (statements.Step ch count) early = absurd early
 early_some v (statements.Submit ch transfer) early =
-    submit_some (refusal_of (transfer_of transfer)) v _ (call_answer v (calls.Submit ch (transfer_of transfer))) _ refl
-early_some v (statements.Call (calls.Status ch cookie)) early = (codes "status none", v, (inl refl, refl))
-early_some v s early = (get_or (line_answer v s).0 0 [], (line_answer v s).1, refl)
+    let some = submit_some (refusal_of (transfer_of transfer)) v _ (call_answer v (calls.Submit ch (transfer_of transfer))) _ refl in
+    (some.0, some.1, inl some.2)
+early_some v s early = (get_or (line_answer v s).0 0 [], (line_answer v s).1, inl refl)
 
 each_some : (v : View) (statements : List Statement) → All IsEarly statements → (lines : List (List ℕ)) × (w : View) × EachPrints v statements lines w
 each_some v [] early = ([], v, refl)
@@ -80,11 +70,11 @@ one_line_is v w (statements.Step ch count) group early is = absurd early
 one_line_is v w (statements.Submit ch words) group early is =
     let some = submit_some (refusal_of (transfer_of words)) v _ (call_answer v (calls.Submit ch (transfer_of words))) _ refl in
     let one : group ≡ some.0 ∷ [] = ap (λ (a : Answered). a.0) (sym is ∙ some.2) in
-    (some.0, one, is ∙ ap {B = Answered} (λ g. (g, w)) one)
+    (some.0, one, inl (is ∙ ap {B = Answered} (λ g. (g, w)) one))
 one_line_is v w s group early is =
     let line = get_or (line_answer v s).0 0 [] in
     let one : group ≡ line ∷ [] = ap (λ (a : Answered). a.0) (sym is) in
-    (line, one, may_print s v w line (is ∙ ap {B = Answered} (λ g. (g, w)) one))
+    (line, one, inl (is ∙ ap {B = Answered} (λ g. (g, w)) one))
 
 module _ {S : Type 0} (seen : S → View) where
   -- a line that ran as it does in `run`
@@ -99,12 +89,17 @@ module _ {S : Type 0} (seen : S → View) where
       }) runs.ok
 
   -- a status line
-  pub status_ran : {A E : Type 0} (found left : S) (s : Statement) (ch cookie : ℕ) (result : Result A E) (old new : List ℕ) → s ≡ statements.Call (calls.Status ch cookie) → seen left ≡ seen found → OnOk result (PrintsStatus ch cookie old new) → OnOk result (PrintsLine (λ group x. ActsEarly (seen found) s group (seen x)) left old new)
+  pub status_ran : {A E : Type 0} (found left : S) (s : Statement) (ch cookie : ℕ) (result : Result A E) (old new : List ℕ) → s ≡ statements.Call (calls.Status ch cookie) → seen left ≡ seen found → OnOk result (PrintsStatus (seen found) ch cookie old new) → OnOk result (PrintsLine (λ group x. ActsEarly (seen found) s group (seen x)) left old new)
   status_ran found left s ch cookie result old new is same prints =
       on_ok_weaker result
-      (λ (one : PrintsStatus ch cookie old new). record {
+      (λ (one : PrintsStatus (seen found) ch cookie old new). record {
         group = one.line ∷ [];
-        acted = (one.line, refl, subst (λ x. EarlyPrints (seen found) x one.line (seen left)) (sym is) (one.allowed, same));
+        acted = (
+          one.line,
+          refl,
+          subst (λ x. EarlyPrints (seen found) x one.line (seen left)) (sym is)
+              (subst (EarlyPrints (seen found) (statements.Call (calls.Status ch cookie)) one.line) (sym same) one.allowed),
+        );
         text = one.text;
       }) prints
 
@@ -154,7 +149,7 @@ module _ (start : View) (statements : List Statement) where
     text = all.text ∙ ap (λ e. old ++ printed_text (alone e)) (sym (take_all (length all.early) all.early (omega arith)));
   }
 
-  go_after : (jobs : List Job) (v w : View) (old mid new : List ℕ) → PrintsAll start statements v old mid → PrintsTotals v jobs w mid new → PrintsGo start statements jobs w old new
+  pub go_after : (jobs : List Job) (v w : View) (old mid new : List ℕ) → PrintsAll start statements v old mid → PrintsTotals v jobs w mid new → PrintsGo start statements jobs w old new
   go_after jobs v w old mid new all totals = record {
     early = all.early;
     between = v;
@@ -165,24 +160,12 @@ module _ (start : View) (statements : List Statement) where
     text = text_after old mid new (alone all.early) (go_line totals.turns ∷ []) all.text totals.text;
   }
 
-  -- `go` was settled, or a tally is missing.
-  pub go_or_missing : {X : Type 0} (seen : X → View) (jobs : List Job) (v : View) (old mid new : List ℕ) → PrintsAll start statements v old mid → (left : Option X) → MatchOption left (PrintsRefusal (codes "MissingTally") mid new) (λ x. PrintsTotals v jobs (seen x) mid new) → MatchOption left (PrintsMissing start statements old new) (λ x. PrintsGo start statements jobs (seen x) old new)
-  go_or_missing seen jobs v old mid new all None missing = record { view = v; before = mid; all = all; text = missing }
-  go_or_missing seen jobs v old mid new all (Some x) totals = go_after jobs v (seen x) old mid new all totals
-
 -- ---- whole scripts
-
--- There are as many jobs as lines.
-pub jobs_count : (lines : List JobLine) (jobs : List Job) → AreJobs lines jobs → length jobs ≡ length lines
-jobs_count lines jobs are =
-    let of_job : Job → ℕ × ℕ × ℕ = λ job. (job.first, job.last, job.turns) in
-    let of_line : JobLine → ℕ × ℕ × ℕ = λ line. (line.first, line.last, line.turns) in
-    sym (length-map jobs of_job) ∙ ap length are ∙ length-map lines of_line
 
 -- Something may be printed for each input.
 pub race_some : (input : List ℕ) → (printed : Printed) × race_may_print input printed × (0 < length printed.groups)
 race_some input = elim (race_script_of input) as (λ read. (printed : Printed) × race_prints_of read printed × (0 < length printed.groups)) [
-  | Ok script ↦ (raced_refused [] (codes "NoReader"), no_reader refl, lit< tt)
+  | Ok script ↦ (raced_refused (codes "NoReader"), no_reader refl, lit< tt)
   | Err fault ↦ (refusal (fault_line fault), refl, lit< tt)
 ]
 
@@ -199,22 +182,23 @@ module _ {E : Type 0} (script : RaceScript) (result : Result ℕ E) (old new : L
   -- Out of memory before anything was printed.
   pub none_answer : IsErr result → new ≡ old → MayAnswer (RacePrints script) result old new
   none_answer err same = record {
-    printed = raced_refused [] (codes "NoReader");
+    printed = raced_refused (codes "NoReader");
     allowed = no_reader refl;
-    answers = answers_none (raced_refused [] (codes "NoReader")) result old new err (lit< tt) same;
+    answers = answers_none (raced_refused (codes "NoReader")) result old new err (lit< tt) same;
   }
 
   -- Out of memory before the line of `go` was printed.
-  pub first_answer : IsErr result → PrintsFirst (first_view script) script.before.statements old new → MayAnswer (RacePrints script) result old new
-  first_answer err first =
-      let last = (refused_line (codes "MissingTally") ∷ []) ∷ [] in
+  pub first_answer : (jobs : List Job) → AreJobs script.jobs jobs → IsErr result → PrintsFirst (first_view script) script.before.statements old new → MayAnswer (RacePrints script) result old new
+  first_answer jobs are err first =
+      let some = some_turns first.view jobs in
+      let last = (go_line some.0 ∷ []) ∷ lines_answered some.2 script.after in
       let many : length (alone first.early) ≡ length first.early = length-map first.early (λ line. line ∷ []) in
       let front : take first.count (alone first.early ++ last) ≡ alone (take first.count first.early) =
       take-append-le first.count (alone first.early) last (omega (arith, many, first.within)) ∙ take-map (λ line. line ∷ []) first.count first.early in
-      let printed = raced_refused first.early (codes "MissingTally") in
+      let printed = raced_whole first.early some.0 some.2 script.after in
       record {
         printed = printed;
-        allowed = missing_tally first.early first.view first.each refl;
+        allowed = whole first.early first.view first.each jobs are some.0 some.1 some.2 some.3 refl;
         answers = answers_some printed result old new err (record {
           count = suc first.count;
           some_left = omega (arith, many, first.within, length-append (alone first.early) last);
@@ -232,11 +216,3 @@ module _ {E : Type 0} (script : RaceScript) (result : Result ℕ E) (old new : L
         allowed = whole go.early go.between go.each jobs are go.turns go.interleaved v go.leads refl;
         answers = subst (λ g. Answers (record { groups = [] ∷ g; status = 0 }) result old new) (append_assoc (alone go.early) ((go_line go.turns ∷ []) ∷ []) after) (answers_after ([] ∷ front) after 0 result old mid new go.text a);
       }
-
--- A script of which a tally is missing.
-pub missing_answer : {E : Type 0} (script : RaceScript) (old new : List ℕ) → PrintsMissing (first_view script) script.before.statements old new → MayAnswer {E = E} (RacePrints script) (Ok 1) old new
-missing_answer script old new missing = record {
-  printed = raced_refused missing.all.early (codes "MissingTally");
-  allowed = missing_tally missing.all.early missing.view missing.all.each refl;
-  answers = record { text = text_after old missing.before new (alone missing.all.early) (refused_line (codes "MissingTally") ∷ []) missing.all.text missing.text; status = refl; refused = tt };
-}

@@ -3,10 +3,8 @@
 -- `go`.
 use Rattle.std.specs.Prelude.{◌≡◌, ℕ, ◌⊎◌, Bool, true, false, if◌then◌else◌, List, [], ◌∷◌, ◌++◌, length, map, Result, Ok, Err, codes, decimal}
 use Rattle.dma_mem.specs.declared.call.Call.TheVariants as calls
-use Rattle.dma_engine.specs.declared.call.Reply.TheVariants.{State}
 use Rattle.dma_engine.specs.declared.fault.EngineFault.{EngineFault}
 use Rattle.dma_engine.specs.declared.fault.EngineFault.TheVariants.{NoMemory}
-use Rattle.dma_engine.specs.declared.turn.Status.{Status as EngineStatus}
 use Rattle.dma_engine.specs.declared.turn.Turn.{Turn}
 use Rattle.dma_engine.specs.View.{View, new_view}
 use Rattle.dma_script.specs.Command.{Printed, refusal}
@@ -18,22 +16,20 @@ use Rattle.dma_script.specs.declared.race.RaceScript.{RaceScript}
 use Rattle.dma_script.specs.declared.statements.Statement.{Statement}
 use Rattle.dma_script.specs.declared.statements.Statement.TheVariants.{Call}
 use Rattle.dma_script.specs.declared.statements.Statement.TheVariants as statements
-use Rattle.dma_commands.specs.Printed.{call_line, refused_line}
+use Rattle.dma_commands.specs.Printed.{refused_line}
 use Rattle.dma_commands.specs.Run.{line_answer, lines_answered}
 use Rattle.dma_work.specs.Taken.{Interleaves, LeadsTo, TakenTurn, finishes_taken, steps_taken}
 use Rattle.dma_work.specs.declared.job.Job.{Job}
 
--- The line of a `status` before `go`. The reader answers without the lock, so the line is `status none`, or the line
--- of any status.
-abbrev pub StatusPrints : ℕ → ℕ → List ℕ → Type 0
-StatusPrints ch cookie line =
-    (line ≡ codes "status none") ⊎ ((status : EngineStatus) × (line ≡ call_line (calls.Status ch cookie) (State status)))
+-- A `status` line prints `status none`, and nothing changes.
+abbrev pub IsUnanswered : View → Statement → List ℕ → View → Type 0
+IsUnanswered v (Call (calls.Status ch cookie)) line w = (line ≡ codes "status none") × (w ≡ v)
+IsUnanswered v statement line w = ⊥
 
 -- What a line before `go` may print, always one line, from this view to that one: what `run` prints for it there. A
--- `status` line changes nothing; for what it prints, see `StatusPrints`.
+-- `status` line asks a reader, which may have no answer.
 abbrev pub EarlyPrints : View → Statement → List ℕ → View → Type 0
-EarlyPrints v (Call (calls.Status ch cookie)) line w = StatusPrints ch cookie line × (w ≡ v)
-EarlyPrints v statement line w = line_answer v statement ≡ (line ∷ [], w)
+EarlyPrints v statement line w = (line_answer v statement ≡ (line ∷ [], w)) ⊎ IsUnanswered v statement line w
 
 -- These lines before `go` run one after another, from this view to that one, and may print these texts, one each.
 abbrev pub EachPrints : View → List Statement → List (List ℕ) → View → Type 0
@@ -67,9 +63,9 @@ abbrev pub raced_whole : List (List ℕ) → List TakenTurn → View → List St
 raced_whole early turns v after =
     record { groups = [] ∷ alone early ++ (go_line turns ∷ []) ∷ lines_answered v after; status = 0 }
 
--- what a script prints that ends with a refusal, at its `go` or before its first line, with status 1
-abbrev pub raced_refused : List (List ℕ) → List ℕ → Printed
-raced_refused early name = record { groups = [] ∷ alone early ++ (refused_line name ∷ []) ∷ []; status = 1 }
+-- what a script prints that is refused before its first line, with status 1
+abbrev pub raced_refused : List ℕ → Printed
+raced_refused name = record { groups = [] ∷ (refused_line name ∷ []) ∷ []; status = 1 }
 
 -- the view with which a script begins
 abbrev pub first_view : RaceScript → View
@@ -78,16 +74,14 @@ first_view script = new_view script.before.size script.before.channels
 -- What may be printed for a race script. Its memory line prints nothing. The lines before `go` print what `run` prints
 -- for them. Then the turns of all jobs are taken, interleaved in some order, each job's turns in rotation; each turn is
 -- answered like a step of `run`, or is out of memory and changes nothing. `go` prints their totals, and the lines after
--- it print what `run` prints after those turns. Or the desk has no place for the reader of statuses, or a tally is
--- missing (no script is known for which either happens).
+-- it print what `run` prints after those turns. Or the desk has no place for the reader of statuses (no script is known
+-- for which this happens).
 pub data RacePrints (script : RaceScript) (p : Printed) : Type 0 where
   whole : (early : List (List ℕ)) → (v : View) → EachPrints (first_view script) script.before.statements early v
       → (jobs : List Job) → AreJobs script.jobs jobs
       → (turns : List TakenTurn) → Interleaves jobs turns → (w : View) → LeadsTo v turns w
       → p ≡ raced_whole early turns w script.after → RacePrints script p
-  no_reader : p ≡ raced_refused [] (codes "NoReader") → RacePrints script p
-  missing_tally : (early : List (List ℕ)) → (v : View) → EachPrints (first_view script) script.before.statements early v
-      → p ≡ raced_refused early (codes "MissingTally") → RacePrints script p
+  no_reader : p ≡ raced_refused (codes "NoReader") → RacePrints script p
 
 -- What may be printed for a parsed script; a script with a fault prints its first fault.
 abbrev pub race_prints_of : Result RaceScript Fault → Printed → Type 0

@@ -1,13 +1,13 @@
-//! The command `race`: executes the lines before `go` on a desk, then puts it behind its lock and steps its channels
-//! with all jobs at once, and executes the lines after `go` on the resulting engine.
-ghost use Rattle.std.specs.Prelude.{◌≡◌, ◌≤◌, ◌<◌, ◌+◌, ◌^◌, ◌++◌, ◌∷◌, [], None, OnOk, OnErr, IfOk, IfSome, MatchOption, codes, length};
+//! The command `race`: executes the lines before `go` on a desk, then puts it on a shift that takes the turns of all
+//! jobs at once, and executes the lines after `go` on the resulting engine.
+ghost use Rattle.std.specs.Prelude.{◌≡◌, ◌≤◌, ◌+◌, OnErr, IfOk, IfSome};
 ghost use Rattle.std.specs.List.{All};
 ghost use Rattle.dma_engine.specs.View.{new_view};
 ghost use Rattle.dma_script.specs.Command.{Ends, MayAnswer, failures, longest_input, may_print_within};
 ghost use Rattle.dma_script.specs.Race.{IsEarly, IsJob, IsRace};
 ghost use Rattle.dma_script.specs.Statements.{IsWithin};
 ghost use Rattle.dma_work.specs.Desk.{Names};
-ghost use Rattle.dmasim.specs.inner.RaceSteps.{PrintsFirst, PrintsGo, PrintsMissing, PrintsRefusal, PrintsTotals};
+ghost use Rattle.dmasim.specs.inner.RaceSteps.{PrintsFirst, PrintsGo, PrintsTotals};
 ghost use Rattle.dmasim.specs.Race.{AreJobs, RacePrints, race_may_print};
 
 mod early;
@@ -15,17 +15,14 @@ pub mod laws;
 
 use crate::race::early::run_early_statements;
 use dma_commands::run::run_statements;
-use dma_engine::{Engine, NewFault, NoMemory};
-use dma_script::command::{Command, FAULT, refuse, serve};
+use dma_engine::{Engine, NewFault};
+use dma_script::command::{Command, refuse, serve};
 use dma_script::input::Source;
 use dma_script::output::Sink;
 use dma_script::printing::print_line;
 use dma_script::race::{JobLine, MAX_JOBS, RaceScript, read_race_script};
 use dma_script::statements::Statements;
-use dma_work::{
-    Desk, DeskName, Job, NoGate, Parts, Rota, ShareFaultKind, Shared, StatusReader, Tally,
-    run_workers,
-};
+use dma_work::{Desk, DeskName, Job, Parts, Rota, ShareFaultKind, Shift, StatusReader, run_shift};
 use std::alloc::{AllocError, Global};
 use std::marker::Brand;
 use std::sync::Wait;
@@ -59,71 +56,33 @@ fn engine_of(alloc: Global, script: &RaceScript) -> Result<Engine, AllocError>
     }
 }
 
-/// Appends the line of `go` and returns the engine if the desk's rota is done and the tallies add up to its book.
-/// Otherwise it appends the refusal and returns `None`. If memory runs out it fails and appends nothing.
-fn settled<N: DeskName, R: Wait>(
-    rt: &R,
-    desk: Desk<N>,
-    tallies: Vec<Tally<N>>,
-    out: &mut Vec<u8>,
-) -> Result<Option<Engine>, AllocError>
-    ensures ok { IfOk result (λ left. MatchOption left
-        (PrintsRefusal (codes "MissingTally") out.old.items out.new.items)
-        (λ engine. PrintsTotals N.opening N.jobs engine.view out.old.items out.new.items)) }
-    ensures err { OnErr result (out.new.items ≡ out.old.items) }
-{
-    let taken = desk.turns_are_taken();
-    match desk.settle(rt, tallies.as_slice()) {
-        Ok((engine, totals)) => {
-            if taken {
-                print_line(
-                    out,
-                    &("go steps ", totals.steps, " finished ", totals.finished),
-                )?;
-                return Ok(Some(engine));
-            }
-        }
-        Err(desk) => {
-            desk.close(rt);
-        }
-    }
-    print_line(out, &"refused MissingTally")?;
-    Ok(None)
-}
-
-/// Runs all jobs at once, on a desk that has a rota of them, and appends the line of `go`. Returns the engine, or `None`
-/// if a tally is missing. If memory runs out it fails and appends nothing.
+/// Puts a desk on a shift of the rota's jobs, and appends the line of `go`. Returns the engine. If memory runs out it
+/// fails and appends nothing.
 fn go<M: DeskName, N: DeskName + Send + Sync, R: Threads + Wait + Sync>(
     rt: &R,
-    alloc: Global,
     desk: Desk<M>,
     rota: Rota,
-    jobs: &[Job],
     out: &mut Vec<u8>,
-) -> Result<Option<Engine>, AllocError>
-    requires names { Names N.steps N.finished N.size N.channels N.base N.log
+) -> Result<Engine, AllocError>
+    requires names { Names N.opening N.base N.log
         (record { engine = desk.engine; base = M.base; log = M.log }) }
-    requires opening { N.opening ≡ desk.engine.view }
     requires jobs { N.jobs ≡ rota }
-    requires few { length jobs.now < 2 ^ 32 }
-    ensures ok { IfOk result (λ left. MatchOption left
-        (PrintsRefusal (codes "MissingTally") out.old.items out.new.items)
-        (λ engine. PrintsTotals desk.engine.view rota engine.view
-        out.old.items out.new.items)) }
+    ensures ok { IfOk result (λ engine. PrintsTotals desk.engine.view rota engine.view
+        out.old.items out.new.items) }
     ensures err { OnErr result (out.new.items ≡ out.old.items) }
 {
-    let shared = Shared::<N>::of(desk.with_rota(rota));
-    match run_workers(rt, alloc, &shared, jobs, &NoGate) {
-        Ok(tallies) => settled(rt, shared.into_desk(), tallies, out),
-        Err(NoMemory) => {
-            shared.into_desk().close(rt);
-            Err(AllocError)
-        }
-    }
+    let desk = run_shift(rt, Shift::<N>::new(desk, rota));
+    let totals = desk.book();
+    let engine = desk.close(rt);
+    print_line(
+        out,
+        &("go steps ", totals.steps, " finished ", totals.finished),
+    )?;
+    Ok(engine)
 }
 
-/// Executes a script up to and including its `go`. The lines before `go` run on the desk before it is put behind its
-/// lock. Returns the engine, or `None` if a tally is missing. Fails if memory runs out.
+/// Executes a script up to and including its `go`. The lines before `go` run on the desk before its shift. Returns the
+/// engine. Fails if memory runs out.
 fn raced<M: DeskName, R: Threads + Wait + Sync>(
     rt: &R,
     alloc: Global,
@@ -132,15 +91,12 @@ fn raced<M: DeskName, R: Threads + Wait + Sync>(
     lines: Statements,
     jobs: &[Job],
     out: &mut Vec<u8>,
-) -> Result<Option<Engine>, AllocError>
-    requires names { Names M.steps M.finished M.size M.channels M.base M.log parts }
+) -> Result<Engine, AllocError>
+    requires names { Names M.opening M.base M.log parts }
     requires follows { (M.log ≡ reader.log) × (M.base ≡ reader.base) }
     requires early { All IsEarly lines }
-    requires few { length jobs.now < 2 ^ 32 }
-    ensures ok { IfOk result (λ left. MatchOption left
-        (PrintsMissing parts.engine.view lines out.old.items out.new.items)
-        (λ engine. PrintsGo parts.engine.view lines jobs.now engine.view
-        out.old.items out.new.items)) }
+    ensures ok { IfOk result (λ engine. PrintsGo parts.engine.view lines jobs.now engine.view
+        out.old.items out.new.items) }
     ensures err { OnErr result (PrintsFirst parts.engine.view lines out.old.items out.new.items) }
 {
     let (desk, early) = run_early_statements(rt, Desk::<M>::new(parts), reader, lines, out);
@@ -152,7 +108,7 @@ fn raced<M: DeskName, R: Threads + Wait + Sync>(
         desk.close(rt);
         return Err(AllocError);
     };
-    go::<M, Brand, R>(rt, alloc, desk, rota, jobs, out)
+    go::<M, Brand, R>(rt, desk, rota, out)
 }
 
 /// Returns the parts of a desk over an engine, and its reader, or `None` if the desk has no place for a reader. Fails
@@ -197,10 +153,8 @@ fn run_race<R: Threads + Wait + Sync>(
     };
     let RaceScript { before, after, .. } = script;
     let lines = before.statements;
-    match raced::<Brand, _>(rt, alloc, parts, reader, lines, &jobs, out)? {
-        Some(mut engine) => run_statements(alloc, &mut engine, after, out),
-        None => Ok(FAULT),
-    }
+    let mut engine = raced::<Brand, _>(rt, alloc, parts, reader, lines, &jobs, out)?;
+    run_statements(alloc, &mut engine, after, out)
 }
 
 /// The command `race`, with the handle for its threads.
@@ -231,14 +185,13 @@ impl<R: Threads + Wait + Sync> Command for Race<'_, R> {
 
     ghost some_print = { λ input.
         elim (race_script_of input) as (λ read. (printed : Printed) × race_prints_of read printed × (0 < length printed.groups)) [
-          | Ok script ↦ (raced_refused [] (codes "NoReader"), no_reader refl, zero-lt-suc _)
+          | Ok script ↦ (raced_refused (codes "NoReader"), no_reader refl, zero-lt-suc _)
           | Err fault ↦ (refusal (fault_line fault), refl, zero-lt-suc _)
         ] };
 }
 
 /// Reads a race script, executes it, writes what it prints and nothing else, and returns the exit status: 0 on
-/// success, 1 for a fault of the script, a failing stream, no place for a reader or a missing tally, 3 if out of
-/// memory.
+/// success, 1 for a fault of the script, a failing stream or no place for a reader, 3 if out of memory.
 pub fn race_script<R: Threads + Wait + Sync, I: Source, W: Sink>(
     rt: &R,
     alloc: Global,

@@ -1,7 +1,5 @@
 use Rattle.std.specs.Prelude.{[]}
-use Rattle.dma_engine.specs.Object.{finished_all}
-use Rattle.dma_engine.specs.View.{channels, object_of, size}
 use Rattle.desk_bench.proofs.steps.Given as goal
 
 abbrev pub ghosts-time_workers : goal.ghosts-time_workers
-ghosts-time_workers g a = record { steps = a.parts.engine.view.steps; finished = finished_all (object_of a.parts.engine.view); size = size a.parts.engine.view; channels = channels a.parts.engine.view; base = a.parts.base; log = a.parts.log; opening = a.parts.engine.view; jobs = [] }
+ghosts-time_workers g a = record { base = a.parts.base; log = a.parts.log; opening = a.parts.engine.view; jobs = [] }

@@ -1,28 +1,25 @@
 -- The invariant of a desk.
-use Rattle.std.specs.Prelude.{◌≡◌, ℕ, ◌+◌, [], ◌++◌}
+use Rattle.std.specs.Prelude.{◌≡◌, [], ◌++◌}
 use Rattle.logbook.specs.Pages.{Book}
-use Rattle.dma_engine.specs.Object.{finished_all}
 use Rattle.dma_engine.specs.Ticks.{Board, ticks_of}
-use Rattle.dma_engine.specs.View.{EngineState, channels, object_of, size}
+use Rattle.dma_engine.specs.View.{EngineState, View, channels, size}
 use Rattle.dma_work.specs.declared.worker.Totals.{Totals}
+use Rattle.dma_work.specs.Desk.{CountsSince}
 use Rattle.dma_work.specs.inner.Published.{PublisherState}
 use Rattle.dma_work.specs.Laws.{AreCounts}
 use Rattle.dma_work.specs.Ticks.{base_of, board_from}
 
--- The invariant of a desk, for the step count, the number of finished cookies, the size, the number of channels, the
--- base and the log that its name has. The published list ends with the ticks of the history, and no tick is pending.
--- The published ticks before those add up to the counts with which the history begins. The counts of the base are
--- numbers of 32 bits. The book has the increase of the step count and of the finished cookies. The engine has the size
--- and the number of channels.
+-- The invariant of a desk, for the opening view, the base and the log that its name has. The published list ends with
+-- the ticks of the history, and no tick is pending. The published ticks before those add up to the counts with which
+-- the history begins. The counts of the base are numbers of 32 bits. The book counts since the opening view, whose size
+-- and number of channels the engine has.
 pub record IsKept
-    (steps finished bytes many : ℕ) (base : Board) (log : Book) (engine : EngineState) (p : PublisherState)
-    (book : Totals)
+    (opening : View) (base : Board) (log : Book) (engine : EngineState) (p : PublisherState) (book : Totals)
     : Type 0 where
   pub shown : p.shown ≡ record { base = base; ticks = p.before ++ ticks_of engine.view.history; log = log }
   pub pending : p.pending ≡ []
   pub opens : board_from base p.before ≡ base_of engine.view
   pub small : AreCounts base
-  pub counted : steps + book.steps ≡ engine.view.steps
-  pub done : finished + (book.finished + book.terminated) ≡ finished_all (object_of engine.view)
-  pub bytes_are : size engine.view ≡ bytes
-  pub many_are : channels engine.view ≡ many
+  pub counts : CountsSince opening engine.view book
+  pub bytes_are : size engine.view ≡ size opening
+  pub many_are : channels engine.view ≡ channels opening

@@ -16,7 +16,6 @@ impl<N: DeskName> Desk<N> {
     pub fn write(&mut self, addr: u32, bytes: &[u8]) -> Result<(), EngineFault>
         ensures { Answers self.old (Call.Write addr bytes.now) (done_reply result) self.new }
     {
-        self.rota = None;
         self.engine.write(addr, bytes)
     }
 
@@ -25,7 +24,6 @@ impl<N: DeskName> Desk<N> {
         ensures { Answers self.old (Call.Read addr len)
             (reply_of (λ bytes. Reply.Bytes bytes) result) self.new }
     {
-        self.rota = None;
         self.engine.read(addr, len)
     }
 
@@ -33,7 +31,6 @@ impl<N: DeskName> Desk<N> {
     pub fn issue(&mut self, ch: u8) -> Result<u32, EngineFault>
         ensures { Answers self.old (Call.Issue ch) (count_reply result) self.new }
     {
-        self.rota = None;
         self.engine.issue(ch)
     }
 
@@ -41,7 +38,6 @@ impl<N: DeskName> Desk<N> {
     pub fn pause(&mut self, ch: u8) -> Result<(), EngineFault>
         ensures { Answers self.old (Call.Pause ch) (done_reply result) self.new }
     {
-        self.rota = None;
         self.engine.pause(ch)
     }
 
@@ -49,7 +45,6 @@ impl<N: DeskName> Desk<N> {
     pub fn resume(&mut self, ch: u8) -> Result<(), EngineFault>
         ensures { Answers self.old (Call.Resume ch) (done_reply result) self.new }
     {
-        self.rota = None;
         self.engine.resume(ch)
     }
 
@@ -71,7 +66,6 @@ impl<N: DeskName> Desk<N> {
     pub fn mark(&mut self, kind: MarkKind, segment: Segment) -> Result<(), EngineFault>
         ensures { Answers self.old (Call.Mark kind segment) (done_reply result) self.new }
     {
-        self.rota = None;
         self.engine.mark(kind, segment)
     }
 
@@ -79,7 +73,6 @@ impl<N: DeskName> Desk<N> {
     pub fn unmark(&mut self) -> Result<(), EngineFault>
         ensures { Answers self.old Call.Unmark (done_reply result) self.new }
     {
-        self.rota = None;
         self.engine.unmark()
     }
 
@@ -87,7 +80,6 @@ impl<N: DeskName> Desk<N> {
     pub fn raise(&mut self, event: u8) -> Result<(), EngineFault>
         ensures { Answers self.old (Call.Raise event) (done_reply result) self.new }
     {
-        self.rota = None;
         self.engine.raise(event)
     }
 }

@@ -1,12 +1,13 @@
 -- What the parts of a race script print.
-use Rattle.std.specs.Prelude.{◌≡◌, ℕ, ◌≤◌, List, [], ◌∷◌, ◌++◌, take, length, codes}
+use Rattle.std.specs.Prelude.{◌≡◌, ℕ, ◌≤◌, List, [], ◌∷◌, ◌++◌, take, length}
 use Rattle.dma_engine.specs.View.{View}
 use Rattle.dma_work.specs.Taken.{Interleaves, LeadsTo, TakenTurn}
 use Rattle.dma_work.specs.declared.job.Job.{Job}
 use Rattle.dma_script.specs.Command.{printed_text, text_of}
+use Rattle.dma_mem.specs.declared.call.Call.TheVariants as calls
 use Rattle.dma_script.specs.declared.statements.Statement.{Statement}
-use Rattle.dma_commands.specs.Printed.{refused_line}
-use Rattle.dmasim.specs.Race.{EachPrints, EarlyPrints, StatusPrints, alone, go_line}
+use Rattle.dma_script.specs.declared.statements.Statement.TheVariants.{Call}
+use Rattle.dmasim.specs.Race.{EachPrints, EarlyPrints, alone, go_line}
 
 -- ---- lines before `go`
 
@@ -15,13 +16,13 @@ abbrev pub ActsEarly : View → Statement → List (List ℕ) → View → Type 
 ActsEarly v statement group w = (line : List ℕ) × (group ≡ line ∷ []) × EarlyPrints v statement line w
 
 -- The line of a `status` before `go` is appended.
-pub record PrintsStatus (ch cookie : ℕ) (old new : List ℕ) : Type 0 where
+pub record PrintsStatus (view : View) (ch cookie : ℕ) (old new : List ℕ) : Type 0 where
   pub line : List ℕ
-  pub allowed : StatusPrints ch cookie line
+  pub allowed : EarlyPrints view (Call (calls.Status ch cookie)) line view
   pub text : new ≡ old ++ text_of (line ∷ [])
 
--- The first `count` of the lines before `go` have appended lines that they may print, from this view on; the other lines
--- may print something too.
+-- The first `count` of the lines before `go` have appended lines that they may print, from this view on; the other
+-- lines may print something too.
 pub record PrintsFirst (start : View) (statements : List Statement) (old new : List ℕ) : Type 0 where
   pub early : List (List ℕ)
   pub view : View
@@ -54,14 +55,3 @@ pub record PrintsGo
   pub interleaved : Interleaves jobs turns
   pub leads : LeadsTo between turns view
   pub text : new ≡ old ++ printed_text (alone early ++ (go_line turns ∷ []) ∷ [])
-
--- The line of a refusal is appended.
-abbrev pub PrintsRefusal : List ℕ → List ℕ → List ℕ → Type 0
-PrintsRefusal name old new = new ≡ old ++ text_of (refused_line name ∷ [])
-
--- All lines before `go` have appended lines that they may print, and then `go` the refusal `MissingTally`.
-pub record PrintsMissing (start : View) (statements : List Statement) (old new : List ℕ) : Type 0 where
-  pub view : View
-  pub before : List ℕ
-  pub all : PrintsAll start statements view old before
-  pub text : PrintsRefusal (codes "MissingTally") before new

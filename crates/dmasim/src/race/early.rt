@@ -83,23 +83,26 @@ fn answer_terminate<N: DeskName, R: Wait>(
     }
 }
 
-/// Executes `status CH COOKIE`, which asks the reader.
-fn answer_status(
+/// Executes `status CH COOKIE`, which asks the reader. Nothing publishes meanwhile, so a reader that answers has the
+/// status of the desk.
+fn answer_status<N: DeskName>(
+    desk: &Desk<N>,
     reader: &mut StatusReader,
     ch: u8,
     cookie: u32,
     out: &mut Vec<u8>,
 ) -> Result<(), AllocError>
-    ensures line { OnOk result (PrintsStatus ch cookie out.old.items out.new.items) }
+    ensures line { OnOk result (PrintsStatus desk.now.engine.view ch cookie
+        out.old.items out.new.items) }
     ensures err { OnErr result (out.new.items ≡ out.old.items) }
     ensures same { (reader.new.log ≡ reader.old.log) × (reader.new.base ≡ reader.old.base) }
 {
-    match reader.status(ch, cookie) {
-        Some(status) => {
-            let call = Call::Status { ch, cookie };
-            print_line(out, &Shown((&call, &Reply::State(status))))
-        }
-        None => print_line(out, &"status none"),
+    let status = desk.status(ch, cookie);
+    if reader.status(ch, cookie) == Some(status) {
+        let call = Call::Status { ch, cookie };
+        print_line(out, &Shown((&call, &Reply::State(status))))
+    } else {
+        print_line(out, &"status none")
     }
 }
 
@@ -138,7 +141,7 @@ impl<N: DeskName, R: Wait> Interpreter for LinesOnDesk<'_, N, R> {
                 answer_terminate(self.rt, &mut self.desk, &mut self.reader, ch, out)
             }
             Statement::Call(Call::Status { ch, cookie }) => {
-                answer_status(&mut self.reader, ch, cookie, out)
+                answer_status(&self.desk, &mut self.reader, ch, cookie, out)
             }
             Statement::Call(call) => answer_quiet(&mut self.desk, call, out),
             _ => unreachable!(),

@@ -1,7 +1,5 @@
 use Rattle.std.specs.Prelude.{[]}
-use Rattle.dma_engine.specs.Object.{finished_all}
-use Rattle.dma_engine.specs.View.{channels, object_of, size}
 use Rattle.dma_work_tests.proofs.scenes.play.Given as goal
 
 abbrev pub ghosts-at_a_desk : goal.ghosts-at_a_desk
-ghosts-at_a_desk g a = record { steps = a.parts.engine.view.steps; finished = finished_all (object_of a.parts.engine.view); size = size a.parts.engine.view; channels = channels a.parts.engine.view; base = a.parts.base; log = a.parts.log; opening = a.parts.engine.view; jobs = [] }
+ghosts-at_a_desk g a = record { base = a.parts.base; log = a.parts.log; opening = a.parts.engine.view; jobs = [] }

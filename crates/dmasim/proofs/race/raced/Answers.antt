@@ -2,7 +2,7 @@ use Rattle.std.proofs.Common.{subst, sym}
 use Rattle.std.proofs.lemmas.Result.{IfOk-weaker, on_err_weaker}
 use Rattle.dma_work.specs.Desk.{DeskState}
 use Rattle.dmasim.specs.inner.RaceSteps.{PrintsAll, PrintsFirst}
-use Rattle.dmasim.proofs.RaceLemmas.{all_then_none, go_or_missing}
+use Rattle.dmasim.proofs.RaceLemmas.{all_then_none, go_after}
 use Rattle.dmasim.proofs.race.raced.Goals as goal
 
 pub returns-in-Err-clause-err : goal.returns-in-Err-clause-err
@@ -26,7 +26,7 @@ returns-clause-ok g c =
     let mid = early.new.out.items in
     let left = early.result.0.engine.view in
     let all = subst (λ (d : DeskState). PrintsAll d.engine.view c.args.lines left old mid) c.new.ensures (rw c.in_default.is at early.ensures.ok) in
-    IfOk-weaker c.go.result _ _ (go_or_missing c.args.parts.engine.view c.args.lines (λ engine. engine.view) c.args.jobs.now left old mid c.go.new.out.items all) (rw c.in-Ok.ensures at c.go.ensures.ok)
+    IfOk-weaker c.go.result _ _ (λ engine totals. go_after c.args.parts.engine.view c.args.lines c.args.jobs.now left engine.view old mid c.go.new.out.items all totals) (rw c.in-Ok.ensures at c.go.ensures.ok)
 
 pub returns-clause-err : goal.returns-clause-err
 returns-clause-err g c =

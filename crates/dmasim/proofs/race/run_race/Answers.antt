@@ -1,8 +1,8 @@
-use Rattle.std.proofs.Common.{◌≡◌, [], codes, refl, subst, arith, rules}
+use Rattle.std.proofs.Common.{◌≡◌, codes, refl, subst, rules}
 use Rattle.dma_commands.proofs.RunLemmas.{answers_memory}
 use Rattle.dmasim.specs.Race.{AreJobs, first_view, no_reader, raced_refused}
-use Rattle.dmasim.specs.inner.RaceSteps.{PrintsFirst, PrintsGo, PrintsMissing}
-use Rattle.dmasim.proofs.RaceLemmas.{first_answer, jobs_count, missing_answer, none_answer, whole_answer}
+use Rattle.dmasim.specs.inner.RaceSteps.{PrintsFirst, PrintsGo}
+use Rattle.dmasim.proofs.RaceLemmas.{first_answer, none_answer, whole_answer}
 use Rattle.dmasim.proofs.race.run_race.Goals as goal
 
 pub returns-in_err-engine : goal.returns-in_err-engine
@@ -16,37 +16,22 @@ returns-in_err-parts g c = none_answer c.args.script c.from_residual-in_err-part
 
 pub returns-in_default : goal.returns-in_default
 returns-in_default g c =
-    record { printed = raced_refused [] (codes "NoReader"); allowed = no_reader refl; answers = answers_memory _ 1 c.refuse.result _ _ c.refuse.ensures.answer }
-
-pub raced-requires-clause-few : goal.raced-requires-clause-few
-raced-requires-clause-few g c κs within =
-    let jobs : AreJobs c.args.script.jobs c.deref.result.now = search rules in
-    omega (arith, jobs_count c.args.script.jobs c.deref.result.now jobs, c.requires.few)
+    record { printed = raced_refused (codes "NoReader"); allowed = no_reader refl; answers = answers_memory _ 1 c.refuse.result _ _ c.refuse.ensures.answer }
 
 pub returns-in_err-engine-2 : goal.returns-in_err-engine-2
 returns-in_err-engine-2 g c =
     let script = c.args.script in
     let old = c.args.out.now.items in
     let new = c.raced.new.out.items in
-    let is : c.in-Some.parts.engine.view ≡ first_view script = search rules in
-    first_answer script c.from_residual-in_err-engine-2.result old new c.from_residual-in_err-engine-2.ensures.0 (subst (λ v. PrintsFirst v script.before.statements old new) is c.in_err-engine-2.ensures.err)
-
-pub returns-in-Some-2 : goal.returns-in-Some-2
-returns-in-Some-2 g c =
-    let script = c.args.script in
-    let old = c.args.out.now.items in
-    let mid = c.raced.new.out.items in
-    let v = c.in-Some-2.engine.view in
     let jobs : AreJobs script.jobs c.deref.result.now = search rules in
     let is : c.in-Some.parts.engine.view ≡ first_view script = search rules in
-    let go = rw c.in-Some-2.is at c.in_ok-engine-2.ensures.ok in
-    whole_answer script c.run_statements.result old c.run_statements.new.out.items c.deref.result.now v mid jobs (subst (λ u. PrintsGo u script.before.statements c.deref.result.now v old mid) is go) c.run_statements.ensures
+    first_answer script c.from_residual-in_err-engine-2.result old new c.deref.result.now jobs c.from_residual-in_err-engine-2.ensures.0 (subst (λ v. PrintsFirst v script.before.statements old new) is c.in_err-engine-2.ensures.err)
 
 pub returns : goal.returns
 returns g c =
     let script = c.args.script in
     let old = c.args.out.now.items in
-    let new = c.raced.new.out.items in
+    let mid = c.raced.new.out.items in
+    let jobs : AreJobs script.jobs c.deref.result.now = search rules in
     let is : c.in-Some.parts.engine.view ≡ first_view script = search rules in
-    let missing = rw c.in-None.is at c.in_ok-engine-2.ensures.ok in
-    missing_answer script old new (subst (λ u. PrintsMissing u script.before.statements old new) is missing)
+    whole_answer script c.run_statements.result old c.run_statements.new.out.items c.deref.result.now c.in_ok-engine-2.engine.view mid jobs (subst (λ u. PrintsGo u script.before.statements c.deref.result.now c.in_ok-engine-2.engine.view old mid) is c.in_ok-engine-2.ensures.ok) c.run_statements.ensures

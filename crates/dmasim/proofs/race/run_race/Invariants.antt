@@ -1,8 +1,6 @@
 -- The name of a desk over these parts.
 use Rattle.std.specs.Prelude.{[]}
-use Rattle.dma_engine.specs.Object.{finished_all}
-use Rattle.dma_engine.specs.View.{channels, object_of, size}
 use Rattle.dmasim.proofs.race.run_race.Given as goal
 
 abbrev pub ghosts-raced : goal.ghosts-raced
-ghosts-raced g a = record { steps = a.parts.engine.view.steps; finished = finished_all (object_of a.parts.engine.view); size = size a.parts.engine.view; channels = channels a.parts.engine.view; base = a.parts.base; log = a.parts.log; opening = a.parts.engine.view; jobs = [] }
+ghosts-raced g a = record { base = a.parts.base; log = a.parts.log; opening = a.parts.engine.view; jobs = [] }

@@ -15,9 +15,9 @@ publish-requires-clause-acted g c =
     let m = c.make_room.new.self in
     let w = c.submit.new.self in
     let s = submits_add m.view w.view c.args.ch c.in-Ok.cookie c.args.transfer c.in-Ok.ensures.answer in
-    acted_next c.self.inside.publisher c.ready.new.self c.self.inside.engine.view m.view w.view _ c.new-tick.result (Submitted c.args.ch) c.make_room.ensures.view s.0.ticks c.new-tick.ensures (c.ready.ensures.ready c.if-not-ready.false) (ap (λ (x : EditionState). x.ticks) (sym c.self.invariant.0.shown))
+    acted_next c.self.inside.publisher c.ready.new.self c.self.inside.engine.view m.view w.view _ c.new-tick.result (Submitted c.args.ch) c.make_room.ensures.view s.0.ticks c.new-tick.ensures (c.ready.ensures.ready c.if-not-ready.false) (ap (λ (x : EditionState). x.ticks) (sym c.self.invariant.shown))
 
-kept : (g : Over) (c : goal.After-new-ticket g) → IsKept g.N.DeskName.steps g.N.DeskName.finished g.N.DeskName.size g.N.DeskName.channels g.N.DeskName.base g.N.DeskName.log c.submit.new.self c.publish.new.self c.self.inside.book
+kept : (g : Over) (c : goal.After-new-ticket g) → IsKept g.N.DeskName.opening g.N.DeskName.base g.N.DeskName.log c.submit.new.self c.publish.new.self c.self.inside.book
 kept g c =
     let m = c.make_room.new.self in
     let w = c.submit.new.self in
@@ -25,16 +25,16 @@ kept g c =
     let h = c.in-Ok.ensures.answer in
     let s = submits_add m.view w.view ch c.in-Ok.cookie c.args.transfer h in
     let base = (answers-extend m.view w.view (Submit ch c.args.transfer) (Cookie c.in-Ok.cookie) refl h).0 in
-    kept_next _ _ _ _ _ _ c.self.inside.engine m w c.self.inside.publisher c.ready.new.self c.publish.new.self c.self.inside.book c.self.inside.book _ c.new-tick.result (Submitted ch) 0 0 c.make_room.ensures.view s.0 base c.new-tick.ensures (c.ready.ensures.ready c.if-not-ready.false) c.publish.ensures.published (omega arith) (omega arith) c.self.invariant.0
+    kept_next _ _ _ c.self.inside.engine m w c.self.inside.publisher c.ready.new.self c.publish.new.self c.self.inside.book c.self.inside.book _ c.new-tick.result (Submitted ch) 0 0 c.make_room.ensures.view s.0 base c.new-tick.ensures (c.ready.ensures.ready c.if-not-ready.false) c.publish.ensures.published (omega arith) (omega arith) c.self.invariant
 
 pub invariant_of-result : goal.invariant_of-result
 invariant_of-result g c =
     record {
-      used = given_in _ _ _ _ _ _ c.submit.new.self c.publish.new.self _ c.make_room.new.self.view c.args.ch c.in-Ok.cookie c.args.transfer c.new-ticket.result c.in-Ok.ensures.answer c.facts.ensures.sound (kept g c) (c.new-ticket.ensures ∙ ap (λ (x : SnapshotState). x.ticks) c.publish.ensures.snapshot);
+      used = given_in _ _ _ c.submit.new.self c.publish.new.self _ c.make_room.new.self.view c.args.ch c.in-Ok.cookie c.args.transfer c.new-ticket.result c.in-Ok.ensures.answer c.facts.ensures.sound (kept g c) (c.new-ticket.ensures ∙ ap (λ (x : SnapshotState). x.ticks) c.publish.ensures.snapshot);
     }
 
 pub invariant_of-self-2 : goal.invariant_of-self-2
-invariant_of-self-2 g c = (kept g c.before, tt)
+invariant_of-self-2 g c = kept g c.before
 
 pub returns-clause-ticket : goal.returns-clause-ticket
 returns-clause-ticket g c =

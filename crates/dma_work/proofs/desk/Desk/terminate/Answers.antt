@@ -18,7 +18,7 @@ overflow_add-self g c =
     let m = c.make_room.new.self.view in
     let w = c.terminate.new.self.view in
     let s = terminates_add m w c.args.ch c.in-Ok.count c.in-Ok.ensures.answer in
-    omega (arith, c.self.invariant.0.done, s.0.finished, c.from.ensures, ap (λ (u : View). finished_all (object_of u)) c.make_room.ensures.view, c.facts.ensures.finished)
+    omega (arith, c.self.invariant.counts.finished, s.0.finished, c.from.ensures, ap (λ (u : View). finished_all (object_of u)) c.make_room.ensures.view, c.facts.ensures.finished)
 
 pub publish-requires-clause-acted : goal.publish-requires-clause-acted
 publish-requires-clause-acted g c =
@@ -27,9 +27,9 @@ publish-requires-clause-acted g c =
     let ch = c.args.ch in
     let s = terminates_add m.view w.view ch c.in-Ok.count c.in-Ok.ensures.answer in
     let tick : c.new-tick.result ≡ Finished ch c.in-Ok.count = c.new-tick.ensures ∙ ap (λ n. Finished ch n) (c.unfinished.ensures ∙ sym s.2) in
-    acted_next c.self.inside.publisher c.ready.new.self c.self.inside.engine.view m.view w.view _ c.new-tick.result (Finished ch c.in-Ok.count) c.make_room.ensures.view s.0.ticks tick (c.ready.ensures.ready c.if-not-ready.false) (ap (λ (x : EditionState). x.ticks) (sym c.self.invariant.0.shown))
+    acted_next c.self.inside.publisher c.ready.new.self c.self.inside.engine.view m.view w.view _ c.new-tick.result (Finished ch c.in-Ok.count) c.make_room.ensures.view s.0.ticks tick (c.ready.ensures.ready c.if-not-ready.false) (ap (λ (x : EditionState). x.ticks) (sym c.self.invariant.shown))
 
-kept : (g : Over) (c : goal.After-used-through g) → IsKept g.N.DeskName.steps g.N.DeskName.finished g.N.DeskName.size g.N.DeskName.channels g.N.DeskName.base g.N.DeskName.log c.terminate.new.self c.publish.new.self (record (c.self.inside.book) { terminated = c.self.inside.book.terminated + c.from.result })
+kept : (g : Over) (c : goal.After-used-through g) → IsKept g.N.DeskName.opening g.N.DeskName.base g.N.DeskName.log c.terminate.new.self c.publish.new.self (record (c.self.inside.book) { terminated = c.self.inside.book.terminated + c.from.result })
 kept g c =
     let m = c.make_room.new.self in
     let w = c.terminate.new.self in
@@ -40,16 +40,16 @@ kept g c =
     let base = (answers-extend m.view w.view (Terminate ch) (Count count) refl h).0 in
     let tick : c.new-tick.result ≡ Finished ch count = c.new-tick.ensures ∙ ap (λ n. Finished ch n) (c.unfinished.ensures ∙ sym s.2) in
     let book : Totals = record (c.self.inside.book) { terminated = c.self.inside.book.terminated + c.from.result } in
-    kept_next _ _ _ _ _ _ c.self.inside.engine m w c.self.inside.publisher c.ready.new.self c.publish.new.self c.self.inside.book book _ c.new-tick.result (Finished ch count) 0 count c.make_room.ensures.view s.0 base tick (c.ready.ensures.ready c.if-not-ready.false) c.publish.ensures.published (omega arith) (omega (arith, c.from.ensures)) c.self.invariant.0
+    kept_next _ _ _ c.self.inside.engine m w c.self.inside.publisher c.ready.new.self c.publish.new.self c.self.inside.book book _ c.new-tick.result (Finished ch count) 0 count c.make_room.ensures.view s.0 base tick (c.ready.ensures.ready c.if-not-ready.false) c.publish.ensures.published (omega arith) (omega (arith, c.from.ensures)) c.self.invariant
 
 pub invariant_of-result : goal.invariant_of-result
 invariant_of-result g c =
     record {
-      finished = finished_in _ _ _ _ _ _ c.terminate.new.self c.publish.new.self _ c.make_room.new.self.view c.args.ch c.in-Ok.count c.used-through.result c.new-last.result c.in-Ok.ensures.answer c.facts.ensures.sound (kept g c) (c.new-last.ensures ∙ ap (λ (x : SnapshotState). x.ticks) c.publish.ensures.snapshot) c.used-through.ensures;
+      finished = finished_in _ _ _ c.terminate.new.self c.publish.new.self _ c.make_room.new.self.view c.args.ch c.in-Ok.count c.used-through.result c.new-last.result c.in-Ok.ensures.answer c.facts.ensures.sound (kept g c) (c.new-last.ensures ∙ ap (λ (x : SnapshotState). x.ticks) c.publish.ensures.snapshot) c.used-through.ensures;
     }
 
 pub invariant_of-self-2 : goal.invariant_of-self-2
-invariant_of-self-2 g c = (kept g c.before, tt)
+invariant_of-self-2 g c = kept g c.before
 
 pub returns-clause-ticket : goal.returns-clause-ticket
 returns-clause-ticket g c =

@@ -1,6 +1,6 @@
 use Rattle.std.proofs.Common.{◌+◌, [], arith, refl, rules, subst, sym, take}
 use Rattle.std.proofs.lemmas.List.{take_all}
-use Rattle.dma_work.specs.inner.InTurn.{AreNewSeats}
+use Rattle.dma_work.specs.Shift.{AreNewSeats}
 use Rattle.dma_work.proofs.InTurns.{new_more}
 use Rattle.dma_work.proofs.rota.Seats.new.Goals as goal
 

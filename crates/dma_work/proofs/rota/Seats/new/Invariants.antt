@@ -1,6 +1,6 @@
 use Rattle.std.proofs.Common.{◌≡◌, ◌≤◌, length, take}
 use Rattle.std.specs.Prelude.{vec_capacity, vec_len}
-use Rattle.dma_work.specs.inner.InTurn.{AreNewSeats}
+use Rattle.dma_work.specs.Shift.{AreNewSeats}
 use Rattle.dma_work.proofs.rota.Seats.new.Given as goal
 
 abbrev pub invariant-loop-at : goal.invariant-loop-at

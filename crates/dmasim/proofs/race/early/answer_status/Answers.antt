@@ -1,11 +1,17 @@
-use Rattle.std.proofs.Common.{codes, inl, inr, refl}
+use Rattle.std.proofs.Common.{[], ◌∷◌, ap, codes, inl, inr, refl, sym}
 use Rattle.std.proofs.lemmas.Result.{on_ok_weaker}
+use Rattle.dma_mem.specs.declared.call.Call.TheVariants as calls
+use Rattle.dma_engine.specs.declared.call.Reply.TheVariants.{State}
+use Rattle.dma_commands.specs.Printed.{call_line}
+use Rattle.dma_commands.specs.Run.{Answered}
 use Rattle.dmasim.proofs.race.early.answer_status.Goals as goal
 
-pub returns-in-Some-clause-line : goal.returns-in-Some-clause-line
-returns-in-Some-clause-line c =
-    on_ok_weaker c.print_line.result (λ text. record { line = _; allowed = inr (c.in-Some.status, refl); text = text }) c.print_line.ensures.ok
+pub returns-then-eq-clause-line : goal.returns-then-eq-clause-line
+returns-then-eq-clause-line g c =
+    let v = c.args.desk.now.engine.view in
+    let call = calls.Status c.args.ch c.args.cookie in
+    on_ok_weaker c.print_line.result (λ text. record { line = _; allowed = inl (ap {B = Answered} (λ s. (call_line call (State s) ∷ [], v)) (sym c.status-status.ensures)); text = text }) c.print_line.ensures.ok
 
-pub returns-in-None-clause-line : goal.returns-in-None-clause-line
-returns-in-None-clause-line c =
-    on_ok_weaker c.print_line-in-None.result (λ text. record { line = codes "status none"; allowed = inl refl; text = text }) c.print_line-in-None.ensures.ok
+pub returns-else-eq-clause-line : goal.returns-else-eq-clause-line
+returns-else-eq-clause-line g c =
+    on_ok_weaker c.print_line-else-eq.result (λ text. record { line = codes "status none"; allowed = inr (refl, refl); text = text }) c.print_line-else-eq.ensures.ok

@@ -1,0 +1,156 @@
+//! A shift: a desk that works on the jobs of a rota, at which nothing but their turns can be taken.
+
+ghost use Rattle.std.specs.Prelude.{◌≡◌, IsTrue, false, length};
+ghost use Rattle.std.specs.List.{All};
+ghost use Rattle.dma_work.specs.Desk.{Names, no_totals};
+ghost use Rattle.dma_work.specs.Shift.{AreNewSeats, HasNoTurn, IsDone, TakesATurn};
+ghost use Rattle.dma_work.specs.Taken.{TookAllTurns};
+
+use crate::desk::{Desk, DeskName};
+use crate::rota::{Rota, Seats};
+use crate::worker::Tally;
+use std::marker::Model;
+use std::sync::{Mutex, MutexGuard, Wait};
+use std::thread::{self, Scope, Threads};
+
+/// A desk that works on the jobs of a rota. Until the shift ends, nothing but their turns can be taken. Contracts see
+/// the desk, and a seat for each job.
+///
+/// Its type guarantees that since N's opening view nothing was done but the turns that the seats count.
+pub struct Shift<N: DeskName> {
+    desk: Desk<N>,
+    seats: Seats,
+}
+
+impl<N: DeskName> Model for Shift<N> {
+    ghost use Rattle.dma_work.specs.Shift.{ShiftState};
+    ghost use Rattle.dma_work.specs.inner.InTurn.{IsInTurn};
+
+    ghost Value = { ShiftState };
+
+    ghost view = { λ s. record { desk = s.desk; seats = s.seats } };
+
+    ghost invariant = { λ s. IsInTurn N.opening N.jobs s.desk.engine.view s.desk.book s.seats };
+}
+
+impl<N: DeskName> Shift<N> {
+    /// Names a desk anew, with an empty book, and begins to work on the jobs of a rota. N names the desk as it is, and
+    /// the jobs.
+    pub fn new<M: DeskName>(desk: Desk<M>, rota: Rota) -> Shift<N>
+        requires names { Names N.opening N.base N.log
+            (record { engine = desk.engine; base = M.base; log = M.log }) }
+        requires jobs { N.jobs ≡ rota }
+        ensures desk { result.desk
+            ≡ record { engine = desk.engine; book = no_totals; before = desk.before } }
+        ensures seats { AreNewSeats rota result.seats }
+    {
+        Shift {
+            desk: desk.named_anew(),
+            seats: rota.into_seats(),
+        }
+    }
+
+    /// Returns the number of workers, one for each job.
+    pub fn workers(&self) -> usize
+        ensures { result ≡ length self.now.seats }
+    {
+        self.seats.len()
+    }
+
+    /// Takes the next turn of a worker's job: a step of the channel that is next in the job's rotation. Returns false
+    /// if the worker has no turn left; then nothing changes.
+    pub fn turn<R: Wait>(&mut self, rt: &R, worker: usize) -> bool
+        ensures taken { IsTrue result → TakesATurn worker self.old self.new }
+        ensures none { result ≡ false → HasNoTurn worker self.old.seats }
+        ensures same { result ≡ false → self.new ≡ self.old }
+    {
+        let Some(ch) = self.seats.take(worker) else {
+            return false;
+        };
+        let mut tally = Tally::new(0);
+        let _ = self.desk.step(rt, ch, &mut tally);
+        true
+    }
+
+    // Takes the turns that are left.
+    fn finish<R: Wait>(&mut self, rt: &R)
+        ensures { All IsDone self.new.seats }
+    {
+        for _ in rt.forever() {
+            let Some(worker) = self.seats.waiting() else {
+                return;
+            };
+            self.turn(rt, worker);
+        }
+        unreachable!()
+    }
+
+    /// Takes the turns that are left, and returns the desk. Then all turns of the jobs were taken, one after another in
+    /// some order, and nothing else was done since N's opening view. The book has their sums.
+    pub fn end<R: Wait>(mut self, rt: &R) -> Desk<N>
+        ensures { TookAllTurns N.opening N.jobs result.engine.view result.book }
+    {
+        self.finish(rt);
+        let Shift { desk, seats: _ } = self;
+        desk
+    }
+}
+
+// What all workers of a shift use.
+#[derive_where(Clone, Copy)]
+struct Crew<'a, N: DeskName, R> {
+    rt: &'a R,
+    shift: &'a Mutex<Shift<N>>,
+}
+
+impl<'a, N: DeskName + Send + Sync, R: Threads + Wait + Sync> Crew<'a, N, R> {
+    // Takes the turns of a worker's job, and holds the lock for each of them.
+    fn work(self, worker: usize) {
+        for _ in self.rt.forever() {
+            let mut shift = self.shift.lock(self.rt);
+            let is_taken = shift.turn(self.rt, worker);
+            MutexGuard::unlock(shift);
+            if !is_taken {
+                return;
+            }
+        }
+        unreachable!()
+    }
+
+    // Starts a thread for a worker, if one can be started.
+    fn begin<E>(self, scope: &Scope<'a, E>, worker: usize) {
+        let _ = scope.spawn(move || self.work(worker));
+    }
+
+    // Starts a thread for each worker.
+    fn begin_all<E>(self, scope: &Scope<'a, E>, workers: usize) {
+        for worker in 0..workers {
+            self.begin(scope, worker);
+        }
+    }
+}
+
+// Takes the turns of a shift, those of each job in a thread of its own, until the threads have ended.
+fn work_all<N: DeskName + Send + Sync, R: Threads + Wait + Sync>(
+    rt: &R,
+    shift: &Mutex<Shift<N>>,
+    workers: usize,
+) {
+    thread::scope(thread::scope_env(), rt, move |scope| {
+        Crew { rt, shift }.begin_all(scope, workers)
+    });
+}
+
+/// Takes all turns of a shift, those of each job in a thread of its own, and ends it. A job that gets no thread is done
+/// on the calling thread after the others. It allocates nothing.
+pub fn run_shift<N: DeskName + Send + Sync, R: Threads + Wait + Sync>(
+    rt: &R,
+    shift: Shift<N>,
+) -> Desk<N>
+    ensures { TookAllTurns N.opening N.jobs result.engine.view result.book }
+{
+    let workers = shift.workers();
+    let shared = Mutex::new(shift);
+    work_all(rt, &shared, workers);
+    shared.into_inner().end(rt)
+}
