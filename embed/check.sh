@@ -78,7 +78,7 @@ names() {
     diff "$out/exported" "$out/declared"
 }
 
-# named: succeeds if the functions of the header give each code and turn the name that its enum has
+# named: succeeds if the functions of the header give each code, turn and cause the name that its enum has
 named() {
     {
         printf '#include "dma330.h"\n#include <string.h>\n#define CHECK(is, name) if (strcmp(is, name) != 0) return 1\n'
@@ -89,10 +89,12 @@ named() {
             if (kind == "dma330_turn") print "    r.turn = " $1 "; CHECK(dma330_turn_name(&r), \"" name "\");"
             if (kind == "dma330_channel_turn")
                 print "    c.turn = " $1 "; CHECK(dma330_channel_turn_name(&c), \"" substr(name, 9) "\");"
+            if (kind == "dma330_cause") print "    CHECK(dma330_cause_name(" $1 "), \"" substr(name, 7) "\");"
         }' c/dma330.h
-        printf '    CHECK(dma330_code_name(1), "?");\n    CHECK(dma330_code_name(-63), "?");\n    return 0;\n}\n'
+        printf '    CHECK(dma330_code_name(1), "?");\n    CHECK(dma330_code_name(-63), "?");\n'
+        printf '    CHECK(dma330_cause_name(6), "?");\n    return 0;\n}\n'
     } >"$out/named.c"
-    [ "$(grep -c '^ .*CHECK(' "$out/named.c")" -gt 50 ] &&
+    [ "$(grep -c '^ .*CHECK(' "$out/named.c")" -gt 70 ] &&
         $CC -std=c99 -Wall -Wextra -Werror -Ic -o "$out/named" "$out/named.c" && "$out/named"
 }
 
@@ -223,10 +225,13 @@ in_c() {
     make_it "$set walk.c" "$@" -o "$to/walk" c/walk.c $rows "$LIB" &&
         count "$set walk.c" "$last_line" "$to/walk" rows.txt
     wrap=-Wl,--wrap=malloc,--wrap=realloc,--wrap=free
-    for it in device_test device_bursts device_registers device_saves device_wild; do
+    for it in device_test device_bursts device_registers device_saves device_wild explaining; do
         make_it "$set $it.c" "$@" $wrap -o "$to/$it" "c/$it.c" c/guest.c c/heap.c "$LIB" &&
             count "$set $it.c" "$last_line" "$to/$it"
     done
+    drivers="c/drivers.c c/driver_changes.c c/driver_memory.c c/driver_programs.c c/driver_runs.c"
+    make_it "$set drivers.c" "$@" $wrap -o "$to/drivers" $drivers c/guest.c c/heap.c "$LIB" &&
+        count "$set drivers.c" "$last_line" "$to/drivers"
     make_it "$set refuse.c" "$@" $wrap -o "$to/refuse" c/refuse.c c/heap.c $rows "$LIB" &&
         count "$set refuse.c" "$last_line" "$to/refuse" rows.txt
     make_it "$set channels.c" "$@" $wrap -o "$to/channels" c/channels.c c/heap.c c/words.c c/rows.c "$LIB" &&
@@ -269,7 +274,7 @@ if has "$CC"; then
     else
         echo "there is no nm: the comparison of the names that the library exports is left out"
     fi
-    try "names of codes and turns" named
+    try "names of codes, turns and causes" named
     try "README.md" readme -Ic "$LIB"
     try "qemu device with stubs of QEMU 7.2" qemu_stubs 7
     try "qemu device with stubs of QEMU 10.0" qemu_stubs 10

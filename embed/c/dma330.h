@@ -12,8 +12,8 @@
  * A call returns DMA330_OK, which is 0, or a negative code; dma330_status returns a state instead of DMA330_OK. A
  * call's comment lists its codes in the order in which they are tested; the first that applies is returned.
  * DMA330_NOT_OPEN comes before all others. A refused call, which returns a negative code, changes nothing and writes no
- * output, except `*place` where the code has a place, `*conflict` for DMA330_BUSY and DMA330_RUNNING, `*explanation`, and
- * a device for DMA330_BAD_SAVE.
+ * output, except `*place` where the code has a place, `*conflict` for DMA330_BUSY and DMA330_RUNNING, `*explanation` for
+ * DMA330_UNEXPLAINED and DMA330_BUFFER_TOO_SMALL, and a device for DMA330_BAD_SAVE.
  *
  * Further duties: 32 KiB of stack are free; no call comes from a signal handler or from the child of a fork of a program with
  * threads; malloc, realloc and free are one allocator. Addresses and lengths of segments have 32 bits, channels and events 8:
@@ -31,9 +31,9 @@ extern "C" {
 /* The version, by numbers for #if, and as dma330_version writes it. CHANGES.md has the rule: a program for this version
  * works with all later ones of the same MAJOR. */
 #define DMA330_VERSION_MAJOR 1
-#define DMA330_VERSION_MINOR 3
+#define DMA330_VERSION_MINOR 4
 #define DMA330_VERSION_PATCH 0
-#define DMA330_VERSION "dilkwafam 1.3"
+#define DMA330_VERSION "dilkwafam 1.4"
 
 /* Room for what dma330_version writes in any version. */
 #define DMA330_MAX_VERSION 32
@@ -135,8 +135,8 @@ typedef struct dma330_channel_report {
     uint32_t fault; /* of DMA330_CHANNEL_FAULT: enum dma330_fault */
     uint32_t pc;    /* the offset of the next instruction: of WAITING and FAULT that of the one that waits or failed, of
                      * ENDED that of the DMAEND */
-    dma330_segment written; /* the range that the steps wrote: each byte in it, and no other byte of the regions; its
-                             * len is 0 if they wrote nothing */
+    dma330_segment written; /* the range that the steps wrote: each byte in it, some perhaps with the value that it had;
+                             * no other byte of the regions has changed. Its len is 0 if they wrote nothing */
 } dma330_channel_report;
 
 /* A channel's registers and counts. */
@@ -170,9 +170,9 @@ typedef struct dma330_device_config {
 
 /* What dma330_device_step did. */
 typedef struct dma330_device_turn {
-    dma330_segment written; /* its steps wrote each byte of this range, some perhaps with the value that it had, and no
-                             * byte elsewhere; its len is 0 if they wrote nothing. It may end at 2^32, so add addr and
-                             * len in 64 bits */
+    dma330_segment written; /* its steps wrote each byte of this range, some perhaps with the value that it had; no byte
+                             * elsewhere has changed. Its len is 0 if they wrote nothing. It may end at 2^32, so add
+                             * addr and len in 64 bits */
     uint32_t lines_changed; /* 1 if a line of irq[31:0], or irq_abort, has changed, else 0 */
     uint32_t can_step;      /* what dma330_device_can_step writes now */
 } dma330_device_turn;
@@ -185,6 +185,33 @@ typedef struct dma330_run_end {
     uint32_t fault; /* of DMA330_END_FAULT: enum dma330_fault */
     uint32_t pc;    /* of DMA330_END_FAULT: the offset of the instruction */
 } dma330_run_end;
+
+/* The addresses from addr up to, and not including, addr + len, all of which are read `times` times, one round after
+ * another. `times` is above 1 where a fixed address is read
+ * repeatedly, as by a fill. addr + len may be 2^32, so add in 64 bits. */
+typedef struct dma330_repeated {
+    uint32_t addr;
+    uint32_t len;
+    uint32_t times;
+} dma330_repeated;
+
+/* A DMAWFE or a DMASEV that a program executes. */
+typedef struct dma330_happening {
+    uint32_t kind;   /* enum dma330_happening_kind */
+    uint32_t event;
+    uint64_t stored; /* the number of bytes that the program has stored before it */
+} dma330_happening;
+
+/* What a program copies, or why no copy explains it. */
+typedef struct dma330_explanation {
+    size_t src_len;        /* the numbers of items of the three lists, each 0 if there is a cause */
+    size_t dst_len;
+    size_t happenings_len;
+    uint64_t size;         /* the number of bytes that it copies, 0 if there is a cause */
+    uint32_t steps;        /* the number of instructions executed, DMAEND included; for a cause, of those before `pc` */
+    uint32_t pc;           /* for a cause the offset of the instruction that has it, else 0 */
+    uint32_t cause;        /* enum dma330_cause */
+} dma330_explanation;
 
 /* What the last of some steps did: the member `turn` of a dma330_report, and of nothing else. A halted channel reports
  * DMA330_HALTED, paused or not; a paused one reports DMA330_PAUSED, whatever its next step is. */
@@ -238,6 +265,29 @@ enum dma330_fault {
     DMA330_DATA_READ_ERR = 7
 };
 
+enum dma330_happening_kind { DMA330_WAITS = 0, DMA330_SIGNALS = 1 };
+
+/* Why no copy explains a program. Causes 1 to 5 have the numbers of enum dma330_fault: in every memory the instruction
+ * fails so. */
+enum dma330_cause {
+    DMA330_CAUSE_NONE = 0,
+    DMA330_CAUSE_UNDEF_INSTR = 1,
+    DMA330_CAUSE_OPERAND_INVALID = 2,     /* the bus doesn't accept the beats of a DMAMOV CCR, or a field is reserved */
+    DMA330_CAUSE_MFIFO_ERR = 3,           /* the buffer of 256 bytes has no room for a load */
+    DMA330_CAUSE_ST_DATA_UNAVAILABLE = 4, /* the buffer has too few bytes for a store */
+    DMA330_CAUSE_INSTR_FETCH_ERR = 5,     /* the program ends before its DMAEND, or a jump goes to before its start */
+    DMA330_CAUSE_LOADS_PAST = 8,          /* a load goes beyond address 4294967295 */
+    DMA330_CAUSE_STORES_PAST = 9,         /* a store does */
+    DMA330_CAUSE_STORES_FIXED = 10,       /* a store's address doesn't rise */
+    DMA330_CAUSE_DROPS_BYTES = 11,        /* a DMAMOV DAR or CCR at which a chip drops bytes that are loaded and not
+                                           * stored: DAR moves to other byte lanes of the bus, begins or ceases to rise,
+                                           * or doesn't rise and the beats get another size. Not with `bus` 0 */
+    DMA330_CAUSE_BYTES_LEFT = 12,         /* at DMAEND loaded bytes aren't stored */
+    DMA330_CAUSE_STORES_TWICE = 13,       /* at DMAEND a byte was stored twice */
+    DMA330_CAUSE_STORES_SOURCE = 14,      /* at DMAEND a byte was stored at an address that was read */
+    DMA330_CAUSE_NO_END = 15              /* no DMAEND is among the first `most` instructions */
+};
+
 /* What a call returns. */
 enum dma330_code {
     DMA330_OK = 0,
@@ -261,7 +311,7 @@ enum dma330_code {
     DMA330_SIZE_OUT_OF_RANGE = -21,   /* the size of a memory isn't 1 to 4294963200 */
     DMA330_BAD_REGIONS = -22,         /* more than 64 regions, or one begins before the end of the one before it (also
                                        * if one of them is empty), or one ends above 4294967296 */
-    DMA330_BAD_CONFIG = -23,          /* no device can have this configuration */
+    DMA330_BAD_CONFIG = -23,          /* no device can have this configuration, or this bus */
     DMA330_EMPTY_LIST = -30,          /* a list has no segment */
     DMA330_TOO_MANY_SEGMENTS = -31,   /* a list has more than 64 segments */
     DMA330_EMPTY_SEGMENT = -32,       /* a segment has length 0 */
@@ -279,7 +329,7 @@ enum dma330_code {
     DMA330_CUT_INSTRUCTION = -60,     /* disassembly: the bytes end within an instruction */
     DMA330_UNKNOWN_INSTRUCTION = -61, /* disassembly: no instruction begins with this byte */
     DMA330_BAD_FIELD = -62,           /* disassembly: a field is outside its range */
-    DMA330_UNEXPLAINED = -70          /* no copy explains the program */
+    DMA330_UNEXPLAINED = -70          /* no copy explains the program; the explanation has the cause */
 };
 
 /* ---- names of numbers, for messages ---- */
@@ -294,6 +344,7 @@ enum dma330_code {
 
 #define DMA330_NAMED(name) case DMA330_##name: return #name;
 #define DMA330_NAMED_TURN(name) case DMA330_CHANNEL_##name: return #name;
+#define DMA330_NAMED_CAUSE(name) case DMA330_CAUSE_##name: return #name;
 
 /* Returns the name of a code without DMA330_, as "BUSY" for DMA330_BUSY; "?" if no code has this number. */
 DMA330_INLINE const char *dma330_code_name(int32_t code)
@@ -309,8 +360,7 @@ DMA330_INLINE const char *dma330_code_name(int32_t code)
         DMA330_NAMED(DESTINATIONS_MEET) DMA330_NAMED(SOURCE_MEETS_DESTINATION) DMA330_NAMED(PROGRAM_TOO_LONG)
         DMA330_NAMED(BAD_SAVE) DMA330_NAMED(OTHER_DEVICE) DMA330_NAMED(BAD_MNEMONIC) DMA330_NAMED(BAD_OPERAND)
         DMA330_NAMED(NUMBER_OUT_OF_RANGE) DMA330_NAMED(CUT_INSTRUCTION) DMA330_NAMED(UNKNOWN_INSTRUCTION)
-        DMA330_NAMED(BAD_FIELD)
-        DMA330_NAMED(UNEXPLAINED)
+        DMA330_NAMED(BAD_FIELD) DMA330_NAMED(UNEXPLAINED)
     default: return "?";
     }
 }
@@ -335,8 +385,22 @@ DMA330_INLINE const char *dma330_channel_turn_name(const dma330_channel_report *
     }
 }
 
+/* Returns the name of a cause without DMA330_CAUSE_, as "NO_END" for DMA330_CAUSE_NO_END; "?" if none has this number. */
+DMA330_INLINE const char *dma330_cause_name(uint32_t cause)
+{
+    switch (cause) {
+        DMA330_NAMED_CAUSE(NONE) DMA330_NAMED_CAUSE(UNDEF_INSTR) DMA330_NAMED_CAUSE(OPERAND_INVALID)
+        DMA330_NAMED_CAUSE(MFIFO_ERR) DMA330_NAMED_CAUSE(ST_DATA_UNAVAILABLE) DMA330_NAMED_CAUSE(INSTR_FETCH_ERR)
+        DMA330_NAMED_CAUSE(LOADS_PAST) DMA330_NAMED_CAUSE(STORES_PAST) DMA330_NAMED_CAUSE(STORES_FIXED)
+        DMA330_NAMED_CAUSE(DROPS_BYTES) DMA330_NAMED_CAUSE(BYTES_LEFT) DMA330_NAMED_CAUSE(STORES_TWICE)
+        DMA330_NAMED_CAUSE(STORES_SOURCE) DMA330_NAMED_CAUSE(NO_END)
+    default: return "?";
+    }
+}
+
 #undef DMA330_NAMED
 #undef DMA330_NAMED_TURN
+#undef DMA330_NAMED_CAUSE
 #undef DMA330_INLINE
 
 /* ---- a controller and its memory ---- */
@@ -518,8 +582,8 @@ int32_t dma330_channel_restore(dma330_channel *channel, const uint8_t *save, siz
  * execute the guest's programs in the caller's memory, which is lent as for a channel. An emulator forwards the guest's
  * accesses to read and write, lets channels take turns by step while can_step writes 1, and sets its interrupt lines
  * from irqs and irq_abort after each write, reset and restore, and after each turn that reports lines_changed.
- * docs/CHIP.md lists what differs from the chip. Only open allocates. Each call but open and close fails with NOT_OPEN
- * if the device isn't open; a call that fails changes nothing, except a restore that returns BAD_SAVE. */
+ * docs/CHIP.md lists what differs from the chip. Only open and explain allocate. Each call but open and close fails with
+ * NOT_OPEN if the device isn't open; a call that fails changes nothing, except a restore that returns BAD_SAVE. */
 
 /* Opens a device in its state after a reset. Codes: ALREADY_OPEN, BAD_CONFIG, NO_MEMORY. */
 int32_t dma330_device_open(dma330_device *device, const dma330_device_config *config) DMA330_NO_NULLS;
@@ -548,6 +612,15 @@ int32_t dma330_device_write(dma330_device *device, uint32_t offset, uint32_t val
  * the device doesn't have. Codes: BAD_REGIONS. */
 int32_t dma330_device_step(dma330_device *device, uint8_t channel, uint32_t most, dma330_region *regions,
                            size_t region_count, dma330_device_turn *turn) DMA330_NO_NULLS;
+
+/* Explains the program that a DMAGO loaded into a channel, as dma330_explain does on the device's bus: from its first
+ * instruction on, wherever the channel is in it. A channel has a program from the DMAGO until the DMAEND or a DMAKILL, also
+ * while it waits or is faulting. After a restore nothing is promised of
+ * the channel's turns, since a save may have any registers. The explanation doesn't depend on the number of events: a device fails at an instruction
+ * with an event that it doesn't have. Codes: NO_CHANNEL, NO_PROGRAM, NO_MEMORY, UNEXPLAINED, BUFFER_TOO_SMALL. */
+int32_t dma330_device_explain(dma330_device *device, uint8_t channel, uint32_t most, dma330_repeated *src,
+                              size_t src_room, dma330_segment *dst, size_t dst_room, dma330_happening *happenings,
+                              size_t happenings_room, dma330_explanation *explanation) DMA330_NO_NULLS;
 
 /* Writes the lines irq[31:0]. A high line stays high until the guest clears its interrupt. */
 int32_t dma330_device_irqs(dma330_device *device, uint32_t *lines) DMA330_NO_NULLS;
@@ -596,34 +669,29 @@ int32_t dma330_version(char *out, size_t room, size_t *len) DMA330_NO_NULLS;
 int32_t dma330_run_program(const uint8_t *program, size_t len, uint8_t *memory, size_t size, uint32_t limit,
                            dma330_run_end *end) DMA330_NO_NULLS;
 
-/* What a program copies, or why and where no copy explains it. */
-typedef struct dma330_explanation {
-    size_t src_len;          /* the number of source segments */
-    size_t dst_len;          /* the number of destination segments */
-    uint32_t steps;          /* how many instructions are executed, DMAEND too; for a cause, how many before `pc` */
-    uint32_t pc;             /* 0; for a cause, the offset of the instruction at which the call gave up */
-    uint32_t cause;          /* 0, or why: 1 the program is too long; 2 undefined instruction, 3 invalid operand, 4
-                              * fetch or jump out of the program; 5 a load finds no room in the buffer, 6 a store no
-                              * bytes; 8 a load, 9 a store goes to address 4294967295 or beyond; 10 a store at a fixed
-                              * address; 11 a wait after a load, 12 a wait for a second event; 13 a signal of a second
-                              * event; 14 a store after a signal; 18 no DMAEND among the first `most`; 19 out of
-                              * memory. Found at the DMAEND: 15 bytes left in the buffer; 16 a byte stored twice, 17 a
-                              * byte stored where one is loaded */
-    int32_t wait;            /* the event that it waits for, or DMA330_NO_EVENT */
-    int32_t signal;          /* the event that it signals, or DMA330_NO_EVENT */
-} dma330_explanation;
+/* Explains a program: writes which bytes it reads (`src`) and where it stores them (`dst`), each list in the order of the
+ * run, the events that it waits for and signals, and the numbers of all. Byte number p that it reads is byte number p
+ * that it stores; no byte is stored twice, or where one is read. `bus` is 0 for a channel of this library, or 32, 64 or
+ * 128 for one of a device. The call runs the program once, without a memory, for at most `most` instructions: their order
+ * and addresses are the same in each memory. So a channel that runs the program copies these bytes, if the regions have
+ * all these addresses, none that it writes is read-only, no mark lies there, and nobody else writes there meanwhile. If
+ * UNEXPLAINED is returned, no copy explains the program in at most `most` instructions: the explanation has the cause,
+ * the offset, and how many instructions come before it. For BUFFER_TOO_SMALL the explanation is that of DMA330_OK, so the numbers
+ * are the room that is needed. Only DMA330_OK writes the lists, from their fronts. Codes: BAD_CONFIG for another bus,
+ * PROGRAM_TOO_LONG, NO_MEMORY, UNEXPLAINED, BUFFER_TOO_SMALL. */
+int32_t dma330_explain(const uint8_t *program, size_t len, uint32_t bus, uint32_t most, dma330_repeated *src,
+                       size_t src_room, dma330_segment *dst, size_t dst_room, dma330_happening *happenings,
+                       size_t happenings_room, dma330_explanation *explanation) DMA330_NO_NULLS;
 
-/* Preliminary: a later 1.x may change its arguments. Explains a program by one run without memory, for at most `most`
- * instructions: writes the segments that it reads and those that it writes, each in the order of the run, and their
- * numbers, which may be above DMA330_MAX_SEGMENTS. A channel without marks that runs the program copies the one list to
- * the other, if the regions contain all these segments, none that it writes is read-only, and nobody else writes there
- * meanwhile. So does a device, if besides no beat of the program is wider than the bus, and each burst whose address
- * rises begins at a multiple of its beat's size. UNEXPLAINED is returned only if no copy explains the program in `most`
- * instructions, or if the program goes to address 4294967295. A call that returns a negative code writes
- * `*explanation` alone: the cause and the place, or for BUFFER_TOO_SMALL the numbers of segments that need room.
- * Codes: PROGRAM_TOO_LONG, UNEXPLAINED, NO_MEMORY, BUFFER_TOO_SMALL. */
-int32_t dma330_explain(const uint8_t *program, size_t len, uint32_t most, dma330_segment *src, size_t src_room,
-                       dma330_segment *dst, size_t dst_room, dma330_explanation *explanation) DMA330_NO_NULLS;
+/* Writes the program of a copy, the one that dma330_channel_load_copy loads if `bus` is 0; else one for a device with a bus
+ * of 32, 64 or 128 bits, which never moves a beat that is wider. DMA330_MAX_PROGRAM bytes are room for each program.
+ * Codes: BAD_CONFIG for another bus, those of dma330_submit up to the first NO_MEMORY, BUFFER_TOO_SMALL. */
+int32_t dma330_plan(const dma330_segment *src, size_t src_count, const dma330_segment *dst, size_t dst_count, int32_t wait,
+                    int32_t signal, uint32_t bus, uint8_t *out, size_t room, size_t *len) DMA330_NO_NULLS;
+
+/* Writes the program of a fill in the same way, with the same codes except TOTALS_DIFFER. */
+int32_t dma330_plan_fill(uint32_t src, const dma330_segment *dst, size_t dst_count, int32_t wait, int32_t signal,
+                         uint32_t bus, uint8_t *out, size_t room, size_t *len) DMA330_NO_NULLS;
 
 /* Assembles a text, and writes the program's bytes and their number. Codes for a faulty line, whose number from 1 is then in
  * `*place`: BAD_MNEMONIC, BAD_OPERAND, NUMBER_OUT_OF_RANGE, and PROGRAM_TOO_LONG if the line goes past 8192 bytes. Other
@@ -657,7 +725,10 @@ DMA330_ASSERT(device, sizeof(dma330_device) == 16 && offsetof(dma330_device, is_
 DMA330_ASSERT(device_config, sizeof(dma330_device_config) == 24 && offsetof(dma330_device_config, revision) == 20);
 DMA330_ASSERT(device_turn, sizeof(dma330_device_turn) == 16 && offsetof(dma330_device_turn, can_step) == 12);
 DMA330_ASSERT(run_end, sizeof(dma330_run_end) == 20 && offsetof(dma330_run_end, pc) == 16);
-DMA330_ASSERT(explanation, sizeof(dma330_explanation) == 40 && offsetof(dma330_explanation, signal) == 32);
+DMA330_ASSERT(repeated, sizeof(dma330_repeated) == 12 && offsetof(dma330_repeated, times) == 8);
+DMA330_ASSERT(happening, sizeof(dma330_happening) == 16 && offsetof(dma330_happening, stored) == 8);
+DMA330_ASSERT(explanation, sizeof(dma330_explanation) == 48 && offsetof(dma330_explanation, size) == 24
+              && offsetof(dma330_explanation, cause) == 40);
 #undef DMA330_ASSERT
 
 #ifdef __cplusplus

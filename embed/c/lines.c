@@ -20,6 +20,8 @@ static const named ends[] = {
     NAMED_END(ENDED), NAMED_END(OUT_OF_TURNS), NAMED_END(WAITING), NAMED_END(FAULT), NO_MORE
 };
 
+static const named happening_kinds[] = {NAMED(WAITS), NAMED(SIGNALS), NO_MORE};
+
 /* ---- the text of a turn ---- */
 
 static void append_turn(answer *to, const dma330_report *report)
@@ -203,6 +205,28 @@ static int32_t invoke_disassemble(runner *p, const arguments *a, outputs *o)
     return dma330_disassemble(a->bytes, a->len, (char *)o->bytes, a->numbers[0], &o->len, &o->place);
 }
 
+static int32_t invoke_explain(runner *p, const arguments *a, outputs *o)
+{
+    size_t room = a->numbers[2];
+    (void)p;
+    return dma330_explain(a->bytes, a->len, a->numbers[0], a->numbers[1], o->src, room, o->dst, room, o->happenings, room,
+                          &o->explanation);
+}
+
+static int32_t invoke_plan(runner *p, const arguments *a, outputs *o)
+{
+    (void)p;
+    return dma330_plan(a->src, a->src_count, a->dst, a->dst_count, a->wait, a->signal, a->numbers[0], o->bytes,
+                       a->numbers[1], &o->len);
+}
+
+static int32_t invoke_plan_fill(runner *p, const arguments *a, outputs *o)
+{
+    (void)p;
+    return dma330_plan_fill(a->numbers[2], a->dst, a->dst_count, a->wait, a->signal, a->numbers[0], o->bytes, a->numbers[1],
+                            &o->len);
+}
+
 /* ---- the text of what a call writes ---- */
 
 static void print_nothing(answer *to, const arguments *a, const outputs *o)
@@ -279,6 +303,28 @@ static void print_text(answer *to, const arguments *a, const outputs *o)
     }
 }
 
+static void print_explained(answer *to, const arguments *a, const outputs *o)
+{
+    const dma330_explanation *e = &o->explanation;
+    size_t n;
+    (void)a;
+    append(to, " %lu %lu", (unsigned long)e->size, (unsigned long)e->steps);
+    for (n = 0; n < e->src_len; n++)
+        append(to, " 0x%lX+%lux%lu", (unsigned long)o->src[n].addr, (unsigned long)o->src[n].len,
+               (unsigned long)o->src[n].times);
+    append(to, " to");
+    for (n = 0; n < e->dst_len; n++)
+        append(to, " 0x%lX+%lu", (unsigned long)o->dst[n].addr, (unsigned long)o->dst[n].len);
+    for (n = 0; n < e->happenings_len; n++)
+        append(to, " %s %lu at %lu", name_of(happening_kinds, o->happenings[n].kind), (unsigned long)o->happenings[n].event,
+               (unsigned long)o->happenings[n].stored);
+}
+
+static void print_cause(answer *to, const dma330_explanation *e)
+{
+    append(to, " %s %lu %lu", dma330_cause_name(e->cause), (unsigned long)e->pc, (unsigned long)e->steps);
+}
+
 static const call calls[] = {
     {"open", "nn", invoke_open, print_nothing},
     {"close", "", invoke_close, print_nothing},
@@ -305,6 +351,9 @@ static const call calls[] = {
     {"run_program", "nnb", invoke_run_program, print_end},
     {"assemble", "nt", invoke_assemble, print_bytes},
     {"disassemble", "nb", invoke_disassemble, print_text},
+    {"explain", "nnnb", invoke_explain, print_explained},
+    {"plan", "nnsd", invoke_plan, print_bytes},
+    {"plan_fill", "nnnd", invoke_plan_fill, print_bytes},
 };
 
 enum { CALLS = sizeof calls / sizeof calls[0] };
@@ -354,13 +403,20 @@ static int is_unwritten(const void *from, size_t len)
 /* Returns whether the call writes a place in its input with this code. */
 static int has_place(const call *c, int32_t code)
 {
-    return code <= DMA330_BAD_MNEMONIC || (code == DMA330_PROGRAM_TOO_LONG && c->invoke == invoke_assemble);
+    return (code <= DMA330_BAD_MNEMONIC && code >= DMA330_BAD_FIELD) ||
+           (code == DMA330_PROGRAM_TOO_LONG && c->invoke == invoke_assemble);
 }
 
 /* Returns whether a call writes a conflicting transfer with this code. */
 static int has_conflict(int32_t code)
 {
     return code == DMA330_BUSY || code == DMA330_RUNNING;
+}
+
+/* Returns whether a call that fails with this code writes an explanation. */
+static int has_explanation(const call *c, int32_t code)
+{
+    return code == DMA330_UNEXPLAINED || (code == DMA330_BUFFER_TOO_SMALL && c->invoke == invoke_explain);
 }
 
 /* Return whether all members that the turn, or the end, doesn't have are 0. */
@@ -382,6 +438,7 @@ static void check_outputs(runner *p, const call *c, int32_t code, outputs *o)
 {
     size_t place = o->place;
     dma330_conflict conflict = o->conflict;
+    dma330_explanation explanation = o->explanation;
     size_t used;
     if (index_of(code) < 0)
         wrong(p, c, "returned a code that the header doesn't have");
@@ -389,6 +446,8 @@ static void check_outputs(runner *p, const call *c, int32_t code, outputs *o)
         memset(&o->place, UNWRITTEN, sizeof o->place);
     if (has_conflict(code))
         memset(&o->conflict, UNWRITTEN, sizeof o->conflict);
+    if (has_explanation(c, code))
+        memset(&o->explanation, UNWRITTEN, sizeof o->explanation);
     if (!is_unwritten(&o->place, sizeof o->place))
         wrong(p, c, "wrote a place, which its code doesn't have");
     if (!is_unwritten(&o->conflict, sizeof o->conflict))
@@ -397,6 +456,7 @@ static void check_outputs(runner *p, const call *c, int32_t code, outputs *o)
         wrong(p, c, "failed and wrote an output");
     o->place = place;
     o->conflict = conflict;
+    o->explanation = explanation;
     if (code < 0)
         return;
     used = is_unwritten(&o->len, sizeof o->len) ? 0 : o->len + (c->invoke == invoke_version);
@@ -459,6 +519,8 @@ static void carry_out_call(runner *p, const call *c, const char *rest, answer *t
         c->print(to, &p->arguments, &p->outputs);
     else if (has_place(c, code))
         append(to, " %lu", (unsigned long)p->outputs.place);
+    else if (code == DMA330_UNEXPLAINED)
+        print_cause(to, &p->outputs.explanation);
     else if (has_conflict(code))
         append(to, " %lu %lu", (unsigned long)p->outputs.conflict.channel, (unsigned long)p->outputs.conflict.cookie);
 }

@@ -4,7 +4,7 @@
 
 #include "words.h"
 
-enum { RAM_BYTES = 1 << 16, ANSWER_ROOM = 4096 };
+enum { RAM_BYTES = 1 << 16, ANSWER_ROOM = 4096, MOST_ITEMS = 80 };
 
 /* Everything that a call may write. */
 typedef struct outputs {
@@ -15,6 +15,10 @@ typedef struct outputs {
     dma330_report report;
     dma330_run_end end;
     dma330_conflict conflict;
+    dma330_explanation explanation;
+    dma330_repeated src[MOST_ITEMS];
+    dma330_segment dst[MOST_ITEMS];
+    dma330_happening happenings[MOST_ITEMS];
     size_t len;
     size_t place;
     uint8_t bytes[MOST_BYTES];

@@ -1,5 +1,5 @@
 -- Calls from C that load a transfer into a channel and step it.
-use Rattle.std.proofs.Common.{◌≡◌, ◌≢◌, ℕ, zero, suc, ◌+◌, ◌-◌, ◌<◌, Bool, true, false, ◌||◌, List, [], ◌++◌, length, take, Option, Some, None, refl, sym, ap, ◌∙◌, subst, arith, inl, inr}
+use Rattle.std.proofs.Common.{◌≡◌, ◌≢◌, ℕ, zero, suc, ◌+◌, ◌-◌, ◌<◌, Bool, true, false, ◌||◌, List, [], ◌∷◌, ◌++◌, length, take, Option, Some, None, refl, sym, ap, ◌∙◌, subst, arith, inl, inr}
 use Rattle.std.specs.Prelude.{nat_le, IsSome, unwrap_or}
 use Rattle.std.specs.List.{list_any}
 use Rattle.std.proofs.lemmas.Bool.{and_parts, le-ltb}
@@ -7,18 +7,19 @@ use Rattle.std.proofs.lemmas.List.{append-nil}
 use Rattle.dma_insn.specs.AssemblyText.{most_program_bytes}
 use Rattle.dma_mem.specs.Places.{Descriptor, copying, filling}
 use Rattle.dma_mem.specs.Refusals.{refusal_of, refusal_of_fill}
-use Rattle.dma_mem.specs.Regions.{has, in_order, pieces_of, run_from}
+use Rattle.dma_mem.specs.Regions.{Piece, bytes_above, end_of, has, in_order, pieces_of, rises_from, run_from}
 use Rattle.dma_mem.specs.Rules.{IsTransfer}
 use Rattle.dma_mem.specs.declared.regions.Region.{Region}
 use Rattle.dma_mem.specs.declared.segment.Segment.{Segment}
 use Rattle.dma_mem.specs.declared.transfer.TransferFault.{TransferFault}
 use Rattle.dma_mem.specs.declared.transfer.TransferFault.TheVariants as transfers
+use Rattle.dma_mem.proofs.Pieces.{first as first_piece, has_parts}
 use Rattle.dma_mem.proofs.TransferRules.{copy-from_no_refusal, fill-from_no_refusal}
 use Rattle.dma_chan.specs.declared.bus.Bus.TheVariants.{Ideal}
 use Rattle.dma_chan.specs.Channel.{ChannelValue}
 use Rattle.dma_chan.specs.Changes as chan
 use Rattle.dma_chan.specs.Compiled.{compiled, cost}
-use Rattle.dma_chan.specs.Explains.{Explains, IsLoadedWith}
+use Rattle.dma_chan.specs.Explains.{Explains, HasEvents, IsLoadedWith}
 use Rattle.dma_chan.specs.Others.{Misses}
 use Rattle.dma_chan.specs.Stepping.{Machine, Wrote}
 use Rattle.dma_chan.specs.Written.{KeepsOutside, LiesIn}
@@ -27,14 +28,15 @@ use Rattle.dma_chan.specs.declared.turn.ChanTurn.{ChanTurn}
 use Rattle.dma_chan.specs.declared.turn.ChanTurn.TheVariants.{Moved, Waiting, Ended, Fault}
 use Rattle.dma_chan.specs.declared.turn.FaultKind.{FaultKind}
 use Rattle.dma_chan.proofs.AmongOthers.{Fits}
-use Rattle.dma_chan.proofs.CompiledExplained.{compiled_explained}
+use Rattle.dma_chan.proofs.CompiledExplained.{compiled_events, compiled_explained}
 use Rattle.dma_chan.proofs.CallsAmongOthers.{Runs, at_first, goes, survived}
-use Rattle.dma_chan.proofs.RegionsHave.{ends_after, gaps_miss}
+use Rattle.dma_chan.proofs.PlacesKept.{long_above}
+use Rattle.dma_chan.proofs.RegionsHave.{gaps_miss}
 use Rattle.dma_chan.proofs.SinceLoads.{has_copied, leads}
 use Rattle.dma_chan.proofs.SteppedOver.{writes_each}
 use Rattle.dma_ffi.specs.declared.channel_steps.ChannelReport.{ChannelReport}
 use Rattle.dma_ffi.specs.declared.marked_channel.MarkedChannel.{MarkedChannel}
-use Rattle.dma_ffi.specs.ChannelLaws.{HasCopied, HasProgram, IsMade, LoadsATransfer, StepCall, StepsCopy, StepsAreCalls, StepsKeepTheRest, StepsSinceLoad, channel_of, machine_of, marked_of, marks_in, memory_of}
+use Rattle.dma_ffi.specs.ChannelLaws.{HasCopied, HasTransfer, IsMade, KeepsEvents, LoadsATransfer, StepCall, StepsCopy, StepsAreCalls, StepsKeepTheRest, StepsSinceLoad, channel_of, machine_of, marked_of, marks_in, memory_of}
 use Rattle.dma_ffi.specs.Channels.{LoadsFrom, LoadsTransfer, StepsOver, marks_over, over, report_of}
 use Rattle.dma_ffi.specs.Codes.{ok_code, transfer_code}
 
@@ -70,8 +72,12 @@ was_read : (program : List ℕ) (regions : List Region) (addr : ℕ) (rest : Lis
 was_read program regions addr rest c d e (inl bad) = absurd (let f = bad.0 in cc)
 was_read program regions addr rest c d e (inr ok) = (record { bytes = take most_program_bytes (run_from (pieces_of regions) addr); cost = None }, (rest, e), ok.2)
 
-has_compiled : (t : Descriptor) (c : ChannelValue) → IsTransfer t → IsLoadedWith Ideal (compiled t).bytes c → HasProgram t c
-has_compiled t c h l = ((compiled t).bytes, cost t - 1, compiled_explained t h, l)
+compiled_has_events : (t : Descriptor) → IsTransfer t → HasEvents Ideal (compiled t).bytes t (cost t - 1)
+unfolding compiled cost
+compiled_has_events t h = compiled_events Ideal t h
+
+has_compiled : (t : Descriptor) (c : ChannelValue) → IsTransfer t → IsLoadedWith Ideal (compiled t).bytes c → HasTransfer t c
+has_compiled t c h l = record { program = record { explains = compiled_explained t h; loaded = l }; events = compiled_has_events t h }
 
 pub loads_a_transfer : LoadsATransfer
 loads_a_transfer = record {
@@ -83,7 +89,7 @@ loads_a_transfer = record {
       let t = filling src dst wait signal in
       let w = was_loaded (refusal_of_fill src dst wait signal) t c d h in
       has_compiled t d (fill-from_no_refusal src dst wait signal (fill_made src dst wait signal small w.0)) w.1;
-  from = λ program t n regions addr rest c d h e loads. (program, n, h, was_read program regions addr rest c d e loads);
+  from = λ program t n regions addr rest c d h e loads. record { explains = h; loaded = was_read program regions addr rest c d e loads };
 }
 
 -- ---- reports
@@ -137,6 +143,15 @@ written_in taken pc w (Some (Fault kind)) signal = refl
 written_in taken pc w (Some Ended) signal = refl
 
 -- ---- steps
+
+-- what lies in a piece lies below the end of the last one
+ends_after : (at : ℕ) (ps : List Piece) (a : ℕ) → rises_from at ps ≡ true → list_any (has a) ps ≡ true → a < at + length (bytes_above at ps)
+ends_after at [] a h lies = absurd (cc)
+ends_after at (p ∷ ps) a h lies = let f = first_piece at p ps h in by (has a p) refl lies (ends_after (end_of p) ps a f.rest)
+  where
+    by : (b : Bool) → has a p ≡ b → (b || list_any (has a) ps) ≡ true → (list_any (has a) ps ≡ true → a < end_of p + length (bytes_above (end_of p) ps)) → a < at + length (bytes_above at (p ∷ ps))
+    by true e lies later = let f = first_piece at p ps h in let w = has_parts a p e in omega (arith, w.1, f.after, long_above at p ps)
+    by false e lies later = let f = first_piece at p ps h in omega (arith, later lies, f.after, long_above at p ps)
 
 -- what a call that succeeded did
 abbrev Took : StepCall → Type 0
@@ -226,18 +241,12 @@ steps_keep_the_rest call made = record {
   refused = λ bad. was_refused call bad made;
 }
 
-module _ (t : Descriptor) (count : ℕ) (calls : ℕ → StepCall) (run : StepsSinceLoad t count calls) where
+module _ (program : List ℕ) (last_number : ℕ) (t : Descriptor) (count : ℕ) (calls : ℕ → StepCall) (run : StepsSinceLoad program last_number t count calls) where
   abbrev first : List ℕ
   first = memory_of (calls 0).lent
 
-  abbrev program : List ℕ
-  program = run.begins.0
-
-  abbrev last_number : ℕ
-  last_number = run.begins.1
-
   explains : Explains Ideal program t last_number
-  explains = run.begins.2
+  explains = run.begins.explains
 
   does : (k : ℕ) → k < count → Took (calls k)
   does k l = took (calls k) (run.succeeds k l) (run.steps k l)
@@ -258,7 +267,7 @@ module _ (t : Descriptor) (count : ℕ) (calls : ℕ → StepCall) (run : StepsS
   does_it k l = does_call 0 (calls k) (does k l)
 
   along : (k : ℕ) → k < count → Runs Ideal program t last_number first (machine_of (calls k).lent)
-  along zero l = at_first Ideal program t last_number first (machine_of (calls 0).lent) (first_below 0 l) run.begins.3 refl
+  along zero l = at_first Ideal program t last_number first (machine_of (calls 0).lent) (first_below 0 l) run.begins.loaded refl
   along (suc k) l =
       let e : k + 1 ≡ suc k = omega arith in
       let less : k + 1 < count = omega arith in
@@ -268,7 +277,7 @@ module _ (t : Descriptor) (count : ℕ) (calls : ℕ → StepCall) (run : StepsS
       subst (λ (j : ℕ). Runs Ideal program t last_number first (machine_of (calls j).lent)) e
       (survived Ideal program t last_number first (machine_of (calls k).left) (machine_of (calls (k + 1)).lent) (goes Ideal program t last_number first (the_call k here).last (machine_of (calls k).left) led some) (run.goes_on k less) (λ a i. run.unchanged k a less i) (below (k + 1) less))
 
-  copied : (k : ℕ) → k < count → HasCopied t first (calls k)
+  copied : (k : ℕ) → k < count → HasCopied program last_number t first (calls k)
   copied k l =
       let d = does k l in
       let call = calls k in
@@ -291,5 +300,15 @@ module _ (t : Descriptor) (count : ℕ) (calls : ℕ → StepCall) (run : StepsS
             all.never_fails f.0 (gaps_miss call.lent.regions d.0.marks t (ordered k l) (run.have k l) own) f.1;
       }
 
+-- a signal and a wait are the transfer's, if the program's are
+keeps_events : (program : List ℕ) (n : ℕ) (t : Descriptor) (before : List ℕ) (call : StepCall) → HasEvents Ideal program t n → HasCopied program n t before call → KeepsEvents t call
+keeps_events program n t before call has did = record {
+  signals = λ e. has.signals call.report.event (channel_of call.left).stored (did.signals e);
+  waits = λ e. (has.waits call.report.event (did.waits e)).1;
+}
+
 pub steps_copy : StepsCopy
-steps_copy t count calls run k l = copied t count calls run k l
+steps_copy = record {
+  copies = λ program n t count calls run k l. copied program n t count calls run k l;
+  events = λ program n t count calls run has k l. keeps_events program n t (memory_of (calls 0).lent) (calls k) has (copied program n t count calls run k l);
+}

@@ -13,3 +13,4 @@ pub mod CallsMade
 pub mod CanBeMade
 pub mod Exchanges
 pub mod StepRows
+pub mod ProgramCalls

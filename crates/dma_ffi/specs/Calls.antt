@@ -21,6 +21,12 @@ abbrev pub WritesValue : {A B : Type 0} → (A → B) → Option A → ℤ → B
 WritesValue value None code before after new = (code ≡ not_open) × (after ≡ before) × (new ≡ None)
 WritesValue value (Some x) code before after new = (code ≡ ok_code) × (after ≡ value x) × (new ≡ Some x)
 
+-- A call that reads an open value and writes an output, as `does` says. On one that isn't open it writes nothing and
+-- returns `not_open`. Neither changes anything else.
+abbrev pub ReadsOpen : {A B : Type 0} → (A → ℤ → B → B → Type 0) → Option A → ℤ → B → B → Option A → Type 0
+ReadsOpen does None code before after new = (code ≡ not_open) × (after ≡ before) × (new ≡ None)
+ReadsOpen does (Some x) code before after new = does x code before after × (new ≡ Some x)
+
 -- A call that writes the save of an open value to a buffer (`Writes`), with what `Fits` says of the value. On one that
 -- isn't open it writes nothing and returns `not_open`. Neither changes anything else.
 abbrev pub WritesSave : {A : Type 0} → (A → List ℕ) → (A → Type 0)

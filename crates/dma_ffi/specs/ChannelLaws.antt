@@ -1,5 +1,5 @@
 -- What calls from C on a channel copy, from the load of a transfer on.
-use Rattle.std.specs.Prelude.{◌≡◌, ◌≢◌, ℕ, ◌+◌, ◌<◌, ◌++◌, ℤ, true, List, [], length, slice_index, take, Option, Some, None}
+use Rattle.std.specs.Prelude.{◌≡◌, ◌≢◌, ℕ, ◌+◌, ◌-◌, ◌<◌, ◌++◌, ℤ, true, List, [], length, slice_index, take, Option, Some, None}
 use Rattle.std.specs.List.{Contains, list_any}
 use Rattle.dma_mem.specs.Places.{Descriptor, copying, destinations, end_of_addresses, filling, size_of}
 use Rattle.dma_mem.specs.Flags.{flags_of}
@@ -11,7 +11,8 @@ use Rattle.dma_insn.specs.AssemblyText.{most_program_bytes}
 use Rattle.dma_chan.specs.declared.bus.Bus.TheVariants.{Ideal}
 use Rattle.dma_chan.specs.Changes.{Call, DoesCall, HasFirst, bytes_in}
 use Rattle.dma_chan.specs.Channel.{ChannelValue, unloaded}
-use Rattle.dma_chan.specs.Explains.{Explains, IsLoadedWith}
+use Rattle.dma_chan.specs.Compiled.{compiled, cost}
+use Rattle.dma_chan.specs.Explains.{Explains, HasEvents, IsLoadedWith, IsSignal, IsWait}
 use Rattle.dma_chan.specs.LentRegions.{HaveAll}
 use Rattle.dma_chan.specs.Others.{Misses, Touches}
 use Rattle.dma_chan.specs.Stepping.{Machine, Wrote, machine}
@@ -23,21 +24,29 @@ use Rattle.dma_ffi.specs.Codes.{ok_code}
 
 -- ---- loads
 
--- A channel into which a program was just loaded that begins with one that a transfer explains.
-abbrev pub HasProgram : Descriptor → ChannelValue → Type 0
-HasProgram t c = (program : List ℕ) × (n : ℕ) × Explains Ideal program t n × IsLoadedWith Ideal program c
+-- A channel into which a program was just loaded that begins with this one, which a transfer explains with n
+-- instructions before DMAEND.
+pub record HasProgram (program : List ℕ) (n : ℕ) (t : Descriptor) (c : ChannelValue) : Type 0 where
+  pub explains : Explains Ideal program t n
+  pub loaded : IsLoadedWith Ideal program c
+
+-- A channel into which the program of a transfer was just loaded. The transfer explains it, and it has the transfer's
+-- events.
+pub record HasTransfer (t : Descriptor) (c : ChannelValue) : Type 0 where
+  pub program : HasProgram (compiled t).bytes (cost t - 1) t c
+  pub events : HasEvents Ideal (compiled t).bytes t (cost t - 1)
 
 -- A load that returns `ok_code` gives the channel a program that a transfer explains: a load of a copy; of a fill whose
 -- byte has a 32-bit address; or from memory, if the bytes that it reads begin with a program that the transfer explains.
 pub record LoadsATransfer : Type 0 where
   pub copy : (src dst : List Segment) (wait signal : Option ℕ) (c d : ChannelValue) →
-      LoadsCopy (copying src dst wait signal) c ok_code d → HasProgram (copying src dst wait signal) d
+      LoadsCopy (copying src dst wait signal) c ok_code d → HasTransfer (copying src dst wait signal) d
   pub fill : (src : ℕ) (dst : List Segment) (wait signal : Option ℕ) (c d : ChannelValue) → src < end_of_addresses →
-      LoadsFill src dst wait signal c ok_code d → HasProgram (filling src dst wait signal) d
+      LoadsFill src dst wait signal c ok_code d → HasTransfer (filling src dst wait signal) d
   pub from : (program : List ℕ) (t : Descriptor) (n : ℕ) (regions : List Region) (addr : ℕ) (rest : List ℕ)
       (c d : ChannelValue) → Explains Ideal program t n →
       take most_program_bytes (run_from (pieces_of regions) addr) ≡ program ++ rest →
-      LoadsFrom regions addr c ok_code d → HasProgram t d
+      LoadsFrom regions addr c ok_code d → HasProgram program n t d
 
 -- ---- steps
 
@@ -112,12 +121,12 @@ StepsAreCalls =
 
 -- ---- of a program that copies
 
--- Calls from C that step a channel into which a program was just loaded that a transfer explains. Each call succeeds, and is lent
--- regions with all addresses that the transfer touches, of which none that it writes is read-only. Between two calls,
--- nobody else writes at these addresses or changes the channel. The regions, their other bytes, the flags and the
--- channel's marks may change.
-pub record StepsSinceLoad (t : Descriptor) (count : ℕ) (calls : ℕ → StepCall) : Type 0 where
-  pub begins : HasProgram t (channel_of (calls 0).lent)
+-- Calls from C that step a channel into which a program was just loaded that a transfer explains. Each call succeeds,
+-- and is lent regions with all addresses that the transfer touches, of which none that it writes is read-only. Between
+-- two calls, nobody else writes at these addresses or changes the channel. The regions, their other bytes, the flags and
+-- the channel's marks may change.
+pub record StepsSinceLoad (program : List ℕ) (n : ℕ) (t : Descriptor) (count : ℕ) (calls : ℕ → StepCall) : Type 0 where
+  pub begins : HasProgram program n t (channel_of (calls 0).lent)
   pub steps : (k : ℕ) → k < count → IsMade (calls k)
   pub succeeds : (k : ℕ) → k < count → (calls k).code ≡ ok_code
   pub have : (k : ℕ) → k < count → HaveAll (calls k).lent.regions t
@@ -126,21 +135,31 @@ pub record StepsSinceLoad (t : Descriptor) (count : ℕ) (calls : ℕ → StepCa
       slice_index (memory_of (calls (k + 1)).lent) a ≡ slice_index (memory_of (calls k).left) a
 
 -- The result of such a call, if `first` is the memory that the first call was lent. As many bytes are copied as the
--- channel counts in `stored`, which its registers show. The range that the call reports as written has only
--- destinations. All bytes are copied when the report's turn is a signal, which is the transfer's, or the end. If the
--- turn is a wait, the channel waits for the transfer's event. The turn is no fault if no mark of the channel lies at an
--- address that the transfer touches.
-pub record HasCopied (t : Descriptor) (first : List ℕ) (call : StepCall) : Type 0 where
+-- channel counts in `stored`, which its registers show, and all when the report's turn is the end. The range that the
+-- call reports as written has only destinations. If the turn is a signal or a wait, the program has a DMASEV or a DMAWFE
+-- of the event that is reported, the DMASEV after as many bytes. The turn is no fault if no mark of the channel lies at
+-- an address that the transfer touches.
+pub record HasCopied (program : List ℕ) (n : ℕ) (t : Descriptor) (first : List ℕ) (call : StepCall) : Type 0 where
   pub bytes : HasFirst t (channel_of call.left).stored (bytes_in first) (bytes_in (memory_of call.left))
   pub writes : (a : ℕ) → LiesIn call.report.written a → Contains (destinations t) a
   pub signals : call.report.turn ≡ signalled_turn →
-      (t.signal ≡ Some call.report.event) × ((channel_of call.left).stored ≡ size_of t)
+      IsSignal Ideal program n call.report.event (channel_of call.left).stored
   pub ends : call.report.turn ≡ ended_turn → (channel_of call.left).stored ≡ size_of t
-  pub waits : call.report.turn ≡ waiting_turn → t.wait ≡ Some call.report.event
+  pub waits : call.report.turn ≡ waiting_turn → IsWait Ideal program n call.report.event
   pub never_fails : Misses (marked_of call.lent.channel).marks t → call.report.turn ≢ fault_turn
 
--- Each of these calls has copied.
-abbrev pub StepsCopy : Type 0
-StepsCopy =
-    (t : Descriptor) (count : ℕ) (calls : ℕ → StepCall) → StepsSinceLoad t count calls → (k : ℕ) → k < count →
-    HasCopied t (memory_of (calls 0).lent) (calls k)
+-- The result of such a call besides, if the program has the transfer's events, as a compiled one has: a signal is the
+-- transfer's, and all bytes are copied then; a wait is for the transfer's event.
+pub record KeepsEvents (t : Descriptor) (call : StepCall) : Type 0 where
+  pub signals : call.report.turn ≡ signalled_turn →
+      (t.signal ≡ Some call.report.event) × ((channel_of call.left).stored ≡ size_of t)
+  pub waits : call.report.turn ≡ waiting_turn → t.wait ≡ Some call.report.event
+
+-- Each of these calls has copied, and keeps the events of a program that has those of the transfer.
+pub record StepsCopy : Type 0 where
+  pub copies : (program : List ℕ) (n : ℕ) (t : Descriptor) (count : ℕ) (calls : ℕ → StepCall) →
+      StepsSinceLoad program n t count calls → (k : ℕ) → k < count →
+      HasCopied program n t (memory_of (calls 0).lent) (calls k)
+  pub events : (program : List ℕ) (n : ℕ) (t : Descriptor) (count : ℕ) (calls : ℕ → StepCall) →
+      StepsSinceLoad program n t count calls → HasEvents Ideal program t n → (k : ℕ) → k < count →
+      KeepsEvents t (calls k)

@@ -71,6 +71,10 @@ buffer_too_small = minus 8
 abbrev pub no_program : ℤ
 no_program = minus 9
 
+-- there is no such channel
+abbrev pub no_channel : ℤ
+no_channel = minus 12
+
 -- a range to be marked is empty, or ends above 2^32
 abbrev pub bad_range : ℤ
 bad_range = minus 15
@@ -83,7 +87,7 @@ size_out_of_range = minus 21
 abbrev pub bad_regions : ℤ
 bad_regions = minus 22
 
--- no device can have this configuration
+-- no device can have this configuration, or this bus
 abbrev pub bad_config : ℤ
 bad_config = minus 23
 
@@ -99,11 +103,15 @@ bad_save = minus 42
 abbrev pub other_device : ℤ
 other_device = minus 43
 
+-- no copy explains the program
+abbrev pub unexplained : ℤ
+unexplained = minus 70
+
 -- the code of a refused call
 abbrev pub fault_code : EngineFault → ℤ
 fault_code OutOfMemoryRange = minus 10
 fault_code (Busy ch cookie) = minus 11
-fault_code NoChannel = minus 12
+fault_code NoChannel = no_channel
 fault_code CookiesSpent = minus 13
 fault_code StepsSpent = minus 14
 fault_code BadEvent = bad_event
@@ -185,10 +193,6 @@ value_or (Err fault) before = before
 abbrev pub found_code : {A : Type 0} → ℤ → Option A → ℤ
 found_code missing None = missing
 found_code missing (Some x) = ok_code
-
--- no copy explains the program
-abbrev pub unexplained : ℤ
-unexplained = minus 70
 
 -- ---- other numbers
 

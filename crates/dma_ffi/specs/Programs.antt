@@ -1,17 +1,24 @@
 -- What calls from C without a controller return and write: running a program alone, assembling a text, disassembling
--- bytes.
-use Rattle.std.specs.Prelude.{◌≡◌, ℕ, ◌<◌, ◌≤◌, ◌⊎◌, Bool, true, false, if◌then◌else◌, nat_le, ℤ, List, [], ◌∷◌, ◌++◌, length, drop, codes}
+-- bytes, planning a transfer.
+use Rattle.std.specs.Prelude.{◌≡◌, ℕ, ◌<◌, ◌≤◌, ◌⊎◌, Bool, true, false, if◌then◌else◌, nat_le, ℤ, Option, None, Some, unwrap_or, List, [], ◌∷◌, ◌++◌, length, drop, codes}
 use Rattle.dma_mem.specs.Image.{is_size}
+use Rattle.dma_mem.specs.Places.{Descriptor, filling}
+use Rattle.dma_mem.specs.Refusals.{refusal_of, refusal_of_fill}
+use Rattle.dma_mem.specs.declared.segment.Segment.{Segment}
+use Rattle.dma_mem.specs.declared.transfer.TransferFault.{TransferFault}
+use Rattle.dma_mem.specs.declared.transfer.TransferFault.TheVariants as transfers
 use Rattle.dma_insn.specs.AssemblyText.{Assembles, IsFirstFault, most_program_bytes}
 use Rattle.dma_insn.specs.Disassembly.{Disassembles, IsDisFault}
 use Rattle.dma_insn.specs.declared.assembler.AsmFault.TheVariants as texts
 use Rattle.dma_insn.specs.declared.assembler.AsmCause.{AsmCause}
 use Rattle.dma_insn.specs.declared.codec.DecodeFault.{DecodeFault}
 use Rattle.dma_insn.specs.declared.disassembler.DisFault.TheVariants as programs
+use Rattle.dma_chan.specs.Compiled.{compiled_on}
+use Rattle.dma_chan.specs.declared.bus.Bus.{Bus}
 use Rattle.dma_chan.specs.declared.run.RunEnd.{RunEnd}
 use Rattle.dma_chan.specs.Run.{RunsAlone}
 use Rattle.dma_ffi.specs.declared.reports.DmaRunEnd.{DmaRunEnd}
-use Rattle.dma_ffi.specs.Codes.{ok_code, no_memory, buffer_too_small, size_out_of_range, program_too_long, cause_code, decode_code}
+use Rattle.dma_ffi.specs.Codes.{ok_code, no_memory, bad_config, buffer_too_small, size_out_of_range, program_too_long, cause_code, decode_code, transfer_code}
 use Rattle.dma_ffi.specs.Reports.{end_of}
 
 -- ---- bytes written to a buffer
@@ -35,7 +42,7 @@ where_fits bytes buffer number before = if fits bytes buffer then number else be
 
 -- the version's text, ended by a zero byte
 abbrev pub version_text : List ℕ
-version_text = codes "dilkwafam 1.3" ++ 0 ∷ []
+version_text = codes "dilkwafam 1.4" ++ 0 ∷ []
 
 -- ---- texts and programs
 
@@ -64,6 +71,27 @@ DisassemblesProgram program code buffer out len written before place =
     ⊎ ((out ≡ buffer) × (written ≡ len)
     × (((fault : DecodeFault) × IsDisFault program (programs.Decode place fault) × (code ≡ decode_code fault))
     ⊎ (IsDisFault program programs.NoMemory × (code ≡ no_memory) × (place ≡ before))))
+
+-- ---- the program of a transfer
+
+-- What a call that plans a transfer returns and writes, for a bus, if there is one: the bytes of the transfer's program,
+-- at most 8,192, and their number. Else it writes nothing, with `bad_config`. Fails with the first rule that the transfer
+-- breaks, or out of memory if it breaks none, and then writes nothing too.
+abbrev pub PlansTransfer : Option TransferFault → Descriptor → Option Bus → ℤ → List ℕ → List ℕ → ℕ → ℕ → Type 0
+PlansTransfer refusal t None code buffer out len written = (code ≡ bad_config) × (out ≡ buffer) × (written ≡ len)
+PlansTransfer refusal t (Some bus) code buffer out len written =
+    ((refusal ≡ None) × Writes (compiled_on bus t).bytes code buffer out len written
+    × (length (compiled_on bus t).bytes ≤ most_program_bytes))
+    ⊎ ((code ≡ transfer_code (unwrap_or refusal transfers.NoMemory)) × (out ≡ buffer) × (written ≡ len))
+
+-- `PlansTransfer` for a copy
+abbrev pub PlansCopy : Descriptor → Option Bus → ℤ → List ℕ → List ℕ → ℕ → ℕ → Type 0
+PlansCopy t = PlansTransfer (refusal_of t) t
+
+-- `PlansTransfer` for a fill of these segments with the byte at an address, with the events that it waits for and
+-- signals
+abbrev pub PlansFill : ℕ → List Segment → Option ℕ → Option ℕ → Option Bus → ℤ → List ℕ → List ℕ → ℕ → ℕ → Type 0
+PlansFill src dst wait signal = PlansTransfer (refusal_of_fill src dst wait signal) (filling src dst wait signal)
 
 -- ---- a program run alone
 

@@ -5,3 +5,5 @@ pub mod Lending
 pub mod InRow
 pub mod Loads
 pub mod Submits
+pub mod Found
+pub mod Plans

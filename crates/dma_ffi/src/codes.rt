@@ -51,7 +51,7 @@ pub const BAD_CHANNELS: i32 = -20;
 pub const SIZE_OUT_OF_RANGE: i32 = -21;
 /// There are more than 64 regions, they aren't in order, or one ends above 4,294,967,296.
 pub const BAD_REGIONS: i32 = -22;
-/// No device can have this configuration.
+/// No device can have this configuration, or this bus.
 pub const BAD_CONFIG: i32 = -23;
 /// A list has no segment.
 pub const EMPTY_LIST: i32 = -30;

@@ -2,7 +2,9 @@
 
 ghost use Rattle.std.specs.Prelude.{◌≡◌};
 ghost use Rattle.dma_ffi.specs.Devices.{bus_of, config_of, revision_of};
+ghost use Rattle.dma_ffi.specs.Explaining.{any_bus};
 
+use dma_chan::bus::Bus;
 use dma_device::config::{BusWidth, Config, Revision};
 
 /// The choices of a chip's designer, as numbers.
@@ -33,6 +35,17 @@ fn bus_of(bits: u32) -> Option<BusWidth>
         128 => Some(BusWidth::Bits128),
         _ => None,
     }
+}
+
+/// Returns the ideal bus for 0, else a chip's bus of this many bits, if any.
+pub fn any_bus(bits: u32) -> Option<Bus>
+    ensures { result ≡ any_bus bits }
+{
+    if bits == 0 {
+        return Some(Bus::Ideal);
+    }
+    let width = bus_of(bits)?;
+    Some(Bus::Chip(width))
 }
 
 // Returns the revision with this code, if any.

@@ -1,138 +1,300 @@
-//! The call that explains a program.
+//! The calls that explain programs: one of the caller's, and the one that a device's channel has.
 
-ghost use Rattle.std.specs.Prelude.{◌≡◌, ◌≤◌, ◌++◌, length, drop};
-ghost use Rattle.dma_ffi.specs.Codes.{event_of};
-ghost use Rattle.dma_ffi.specs.Explaining.{ExplainsProgram, Writes};
+ghost use Rattle.std.specs.Prelude.{◌≡◌, ◌≤◌, ◌++◌, length, drop, map};
+ghost use Rattle.dma_ffi.specs.Calls.{ReadsOpen};
+ghost use Rattle.dma_ffi.specs.Explaining.{ExplainsChannel, ExplainsProgram, WritesLists, any_bus, cause_number, explanation_of, happening_of, unexplained_of};
+ghost use Rattle.dma_ffi.specs.inner.Found.{Answers, AnswersDevice};
 
-use crate::codes::{BUFFER_TOO_SMALL, NO_MEMORY, OK, PROGRAM_TOO_LONG, UNEXPLAINED};
-use dma_chan::bus::Bus;
-use dma_chan::explain::{Cause, Explained, Unexplained, explain};
-use dma_chan::turn::FaultKind;
+use crate::codes::{
+    BAD_CONFIG, BUFFER_TOO_SMALL, NO_CHANNEL, NO_MEMORY, NO_PROGRAM, NOT_OPEN, OK,
+    PROGRAM_TOO_LONG, UNEXPLAINED, number_of_kind,
+};
+use crate::device_config::any_bus;
+use crate::kept_device::KeptDevice;
+use dma_chan::explain::{Cause, Explained, Happening, Repeated, Sync, Unexplained, explain};
+use dma_device::device::explain::ExplainFault;
 use dma_mem::segment::Segment;
 use std::alloc::Global;
+
+/// A DMAWFE or DMASEV that a program executes.
+#[repr(C)]
+#[derive(Clone, Copy)]
+pub struct DmaHappening {
+    /// 0 if it waits, 1 if it signals.
+    pub kind: u32,
+    /// The event.
+    pub event: u32,
+    /// The number of bytes that the program has stored before it.
+    pub stored: u64,
+}
 
 /// What a program copies, or why and where no copy explains it.
 #[repr(C)]
 #[derive(Clone, Copy)]
 pub struct Explanation {
-    /// The numbers of source and destination segments.
+    /// The numbers of sources, destinations and happenings; each is 0 if there is a cause.
     pub src_len: usize,
     pub dst_len: usize,
-    /// The number of instructions that are executed, with DMAEND; or before the one that has no explanation.
+    pub happenings_len: usize,
+    /// The number of bytes that are copied; 0 if there is a cause.
+    pub size: u64,
+    /// The number of instructions that are executed, including DMAEND; for a cause, of those before the one that has it.
     pub steps: u32,
-    /// The offset of that one in the program.
+    /// For a cause, the offset of the instruction that has it, else 0.
     pub pc: u32,
     /// 0, or the cause's number.
     pub cause: u32,
-    /// The events that the program waits for and signals, or -1.
-    pub wait: i32,
-    pub signal: i32,
 }
 
-// Returns the number of an event, or -1 for none.
-fn number_of(event: Option<u8>) -> i32
-    ensures { event_of result ≡ event }
+// ---- numbers
+
+// Returns the number of a cause; a fault's is the one that it has elsewhere. A program that is too long, and out of
+// memory, have codes and no number.
+fn number_of_cause(cause: Cause) -> u32
+    ensures { result ≡ cause_number cause }
 {
-    match event {
-        Some(e) => i32::from(e),
-        None => -1,
-    }
-}
-
-// Returns the number of a cause.
-fn number_of_cause(cause: Cause) -> u32 {
     match cause {
-        Cause::TooLong => 1,
-        Cause::Fails(FaultKind::UndefInstr) => 2,
-        Cause::Fails(FaultKind::OperandInvalid) => 3,
-        Cause::Fails(FaultKind::InstrFetchErr) => 4,
-        Cause::Fails(FaultKind::MfifoErr) => 5,
-        Cause::Fails(FaultKind::StDataUnavailable) => 6,
-        Cause::Fails(_) => 7,
+        Cause::TooLong | Cause::NoMemory => 0,
+        Cause::Fails(kind) => number_of_kind(kind),
         Cause::LoadsPast => 8,
         Cause::StoresPast => 9,
         Cause::StoresFixed => 10,
-        Cause::WaitsLate => 11,
-        Cause::WaitsAgain => 12,
-        Cause::SignalsAgain => 13,
-        Cause::StoresLate => 14,
-        Cause::BytesLeft => 15,
-        Cause::StoresTwice => 16,
-        Cause::StoresSource => 17,
-        Cause::NoEnd => 18,
-        Cause::NoMemory => 19,
+        Cause::DropsBytes => 11,
+        Cause::BytesLeft => 12,
+        Cause::StoresTwice => 13,
+        Cause::StoresSource => 14,
+        Cause::NoEnd => 15,
     }
 }
 
-// Copies segments to the front of a list that has room for them.
-fn copy_out(from: &[Segment], out: &mut [Segment])
-    requires { length from.now ≤ length out.old }
-    ensures { out.new ≡ from.now ++ drop (length from.now) out.old }
+// Returns a happening as C sees it.
+fn happening_of(happening: Happening) -> DmaHappening
+    ensures { result ≡ happening_of happening }
 {
-    out[..from.len()].copy_from_slice(from);
+    let (kind, event) = match happening.sync {
+        Sync::Waits(event) => (0, event),
+        Sync::Signals(event) => (1, event),
+    };
+    DmaHappening {
+        kind,
+        event: u32::from(event),
+        stored: happening.stored,
+    }
 }
 
-// Writes what a program copies, if there is room for it.
-fn write_out(
-    explained: &Explained,
-    src: &mut [Segment],
-    dst: &mut [Segment],
-    explanation: &mut Explanation,
-) -> i32
-    ensures { Writes explained.now result src.new dst.new explanation.new }
+// Returns the numbers of what was found.
+fn explanation_of(found: &Explained) -> Explanation
+    ensures { result ≡ explanation_of found.now }
 {
-    let from = explained.src.as_slice();
-    let to = explained.dst.as_slice();
-    *explanation = Explanation {
-        src_len: from.len(),
-        dst_len: to.len(),
-        steps: explained.steps,
+    Explanation {
+        src_len: found.src.len(),
+        dst_len: found.dst.len(),
+        happenings_len: found.events.len(),
+        size: found.size,
+        steps: found.steps,
         pc: 0,
         cause: 0,
-        wait: number_of(explained.wait),
-        signal: number_of(explained.signal),
-    };
-    if from.len() > src.len() || to.len() > dst.len() {
+    }
+}
+
+// Returns the cause and the place of a program that no copy explains.
+fn unexplained_of(why: Unexplained) -> Explanation
+    ensures { result ≡ unexplained_of why }
+{
+    Explanation {
+        src_len: 0,
+        dst_len: 0,
+        happenings_len: 0,
+        size: 0,
+        steps: why.steps,
+        pc: why.pc,
+        cause: number_of_cause(why.cause),
+    }
+}
+
+// ---- lists
+
+// Copies items to the front of a list that has room for them.
+fn copy_out<T: Copy>(items: &[T], out: &mut [T])
+    requires { length items.now ≤ length out.old }
+    ensures { out.new ≡ items.now ++ drop (length items.now) out.old }
+{
+    out[..items.len()].copy_from_slice(items);
+}
+
+// Writes happenings to the front of a list that has room for them.
+fn happenings_out(happenings: &[Happening], out: &mut [DmaHappening])
+    requires { length happenings.now ≤ length out.old }
+    ensures { out.new ≡ map happening_of happenings.now
+        ++ drop (length happenings.now) out.old }
+{
+    for n in 0..happenings.len() {
+        out[n] = happening_of(happenings[n]);
+    }
+}
+
+// Writes the lists of what was found, if each has room.
+fn write_lists(
+    found: &Explained,
+    src: &mut [Repeated],
+    dst: &mut [Segment],
+    happenings: &mut [DmaHappening],
+) -> i32
+    ensures { WritesLists found.now result src.old src.new dst.old dst.new
+        happenings.old happenings.new }
+{
+    let from = found.src.as_slice();
+    let to = found.dst.as_slice();
+    let events = found.events.as_slice();
+    if from.len() > src.len() || to.len() > dst.len() || events.len() > happenings.len() {
         return BUFFER_TOO_SMALL;
     }
     copy_out(from, src);
     copy_out(to, dst);
+    happenings_out(events, happenings);
     OK
 }
 
-/// Explains a program by one run without memory, for at most `most` instructions. Writes the ranges that it reads and
-/// writes in turn to the fronts of `src` and `dst`, and their numbers, the number of instructions and the events to
-/// `explanation`. If no copy explains the program, it returns `UNEXPLAINED` and writes the cause and the place.
-/// Fails if the program is longer than 8,192 bytes, if out of memory, or if a list is too small; then the numbers of
-/// segments are written.
+// Writes what was found of a program, or why nothing was. Returns the code.
+fn answer(
+    found: Result<Explained, Unexplained>,
+    src: &mut [Repeated],
+    dst: &mut [Segment],
+    happenings: &mut [DmaHappening],
+    explanation: &mut Explanation,
+) -> i32
+    ensures { Answers found result
+        (record {
+          src = src.old;
+          dst = dst.old;
+          happenings = happenings.old;
+          explanation = explanation.old;
+        })
+        (record {
+          src = src.new;
+          dst = dst.new;
+          happenings = happenings.new;
+          explanation = explanation.new;
+        }) }
+{
+    match found {
+        Ok(found) => {
+            *explanation = explanation_of(&found);
+            write_lists(&found, src, dst, happenings)
+        }
+        Err(why) => match why.cause {
+            Cause::TooLong => PROGRAM_TOO_LONG,
+            Cause::NoMemory => NO_MEMORY,
+            _ => {
+                *explanation = unexplained_of(why);
+                UNEXPLAINED
+            }
+        },
+    }
+}
+
+// Writes the answer to a device's channel. Returns the code.
+fn answer_device(
+    found: Result<Explained, ExplainFault>,
+    src: &mut [Repeated],
+    dst: &mut [Segment],
+    happenings: &mut [DmaHappening],
+    explanation: &mut Explanation,
+) -> i32
+    ensures { AnswersDevice found result
+        (record {
+          src = src.old;
+          dst = dst.old;
+          happenings = happenings.old;
+          explanation = explanation.old;
+        })
+        (record {
+          src = src.new;
+          dst = dst.new;
+          happenings = happenings.new;
+          explanation = explanation.new;
+        }) }
+{
+    match found {
+        Ok(found) => answer(Ok(found), src, dst, happenings, explanation),
+        Err(ExplainFault::NoChannel) => NO_CHANNEL,
+        Err(ExplainFault::NoProgram) => NO_PROGRAM,
+        Err(ExplainFault::Unexplained(why)) => answer(Err(why), src, dst, happenings, explanation),
+    }
+}
+
+// ---- calls
+
+/// Explains a program by one run without memory, for at most `most` instructions, on the ideal bus or a chip's. Writes
+/// what it reads, what it writes and its happenings to the fronts of the lists, in the order of the run, and their
+/// numbers, the number of bytes and of instructions to `explanation`. If no copy explains the program, it returns
+/// `UNEXPLAINED`, and `explanation` has the cause and the place. If a list is too small, no list changes, and
+/// `explanation` has the numbers. Fails too if no bus has this number, if the program is longer than 8,192 bytes, or if
+/// out of memory; then nothing is written.
 #[unsafe(no_mangle)]
 pub extern "C" fn dma330_explain(
     alloc: Global,
     program: &[u8],
+    bus: u32,
     most: u32,
-    src: &mut [Segment],
+    src: &mut [Repeated],
     dst: &mut [Segment],
+    happenings: &mut [DmaHappening],
     explanation: &mut Explanation,
 ) -> i32
-    ensures { ExplainsProgram program.now most result src.new dst.new explanation.new }
+    ensures { ExplainsProgram program.now (any_bus bus) most result
+        (record {
+          src = src.old;
+          dst = dst.old;
+          happenings = happenings.old;
+          explanation = explanation.old;
+        })
+        (record {
+          src = src.new;
+          dst = dst.new;
+          happenings = happenings.new;
+          explanation = explanation.new;
+        }) }
 {
-    match explain(alloc, Bus::Ideal, program, most) {
-        Ok(explained) => write_out(&explained, src, dst, explanation),
-        Err(Unexplained { cause, pc, steps }) => {
-            *explanation = Explanation {
-                src_len: 0,
-                dst_len: 0,
-                steps,
-                pc,
-                cause: number_of_cause(cause),
-                wait: -1,
-                signal: -1,
-            };
-            match cause {
-                Cause::NoMemory => NO_MEMORY,
-                Cause::TooLong => PROGRAM_TOO_LONG,
-                _ => UNEXPLAINED,
-            }
-        }
-    }
+    let Some(bus) = any_bus(bus) else {
+        return BAD_CONFIG;
+    };
+    let found = explain(alloc, bus, program, most);
+    answer(found, src, dst, happenings, explanation)
+}
+
+/// Explains the program of a channel on the device's bus, as [`dma330_explain`] does: from its first instruction on,
+/// wherever the channel is in it. Fails too if the device doesn't have the channel, or the channel has no program; then
+/// nothing is written.
+#[unsafe(no_mangle)]
+pub extern "C" fn dma330_device_explain(
+    alloc: Global,
+    kept: &mut KeptDevice,
+    channel: u8,
+    most: u32,
+    src: &mut [Repeated],
+    dst: &mut [Segment],
+    happenings: &mut [DmaHappening],
+    explanation: &mut Explanation,
+) -> i32
+    ensures { ReadsOpen (ExplainsChannel channel most) kept.old.device.value result
+        (record {
+          src = src.old;
+          dst = dst.old;
+          happenings = happenings.old;
+          explanation = explanation.old;
+        })
+        (record {
+          src = src.new;
+          dst = dst.new;
+          happenings = happenings.new;
+          explanation = explanation.new;
+        })
+        kept.new.device.value }
+{
+    let Some(device) = kept.as_kept().get_mut() else {
+        return NOT_OPEN;
+    };
+    let found = device.explain(alloc, channel, most);
+    answer_device(found, src, dst, happenings, explanation)
 }

@@ -1,6 +1,7 @@
 //! The registers of a DMA-330 over memory of the caller.
 
-use crate::{sys, Error, Region, Segment};
+use crate::explain::explanation_of;
+use crate::{sys, Error, Explanation, Region, Segment};
 use std::fmt;
 
 /// The width of a [`Device`]'s data bus. A wider beat is an invalid operand.
@@ -96,7 +97,7 @@ pub struct Device {
 const MAX_SAVE: usize = 68204;
 
 impl Device {
-    /// Opens a device in its state after a reset. No other call allocates memory in the library.
+    /// Opens a device in its state after a reset. No other call but [`Device::explain`] allocates memory in the library.
     ///
     /// Fails with `BadConfig` or `NoMemory`.
     pub fn open(config: DeviceConfig) -> Result<Device, Error> {
@@ -104,11 +105,7 @@ impl Device {
             channels: config.channels.into(),
             events: config.events.into(),
             nonsecure: config.nonsecure.into(),
-            bus: match config.bus {
-                BusWidth::Bits32 => 32,
-                BusWidth::Bits64 => 64,
-                BusWidth::Bits128 => 128,
-            },
+            bus: config.bus.bits(),
             lines: config.lines.into(),
             revision: config.revision as u32,
         };
@@ -146,6 +143,35 @@ impl Device {
         let turn = self.handle.step(channel, most, regions)?;
         let (lines_changed, can_step) = (turn.lines_changed != 0, turn.can_step != 0);
         Ok(DeviceTurn { written: turn.written, lines_changed, can_step })
+    }
+
+    /// Returns what the program copies that a DMAGO loaded into a channel, as [`explain`](crate::explain) does on the
+    /// device's bus: from its first instruction on, wherever the channel is in it. A channel has a program from the DMAGO
+    /// until the DMAEND or a DMAKILL.
+    ///
+    /// Fails with `NoChannel`; with `NoProgram`; with `Unexplained` if no copy explains the program in at most `most`
+    /// instructions; or with `NoMemory`.
+    ///
+    /// ```
+    /// use dma330::{plan, Bus, BusWidth, Device, DeviceConfig, Error, Events, Region, Revision, Segment};
+    ///
+    /// let (bus, revision) = (BusWidth::Bits64, Revision::R1p2);
+    /// let config = DeviceConfig { channels: 4, events: 16, nonsecure: false, bus, lines: 64, revision };
+    /// let mut device = Device::open(config)?;
+    /// assert_eq!(device.explain(1, 1000), Err(Error::NoProgram));
+    ///
+    /// let (src, dst) = ([Segment::new(0x8000_0100, 64)], [Segment::new(0x8000_0200, 64)]);
+    /// let mut ram = plan(&src, &dst, Events::default(), Bus::Device(bus))?;
+    /// // DMAGO of channel 1, by DBGINST0, DBGINST1 and DBGCMD
+    /// for (offset, value) in [(0xD08, 0x01A0_0000), (0xD0C, 0x8000_0000), (0xD04, 0)] {
+    ///     device.write(offset, value, &[Region::new(0x8000_0000, &mut ram)])?;
+    /// }
+    /// let found = device.explain(1, 1000)?;
+    /// assert_eq!((found.src[0].addr, found.dst, found.size), (0x8000_0100, dst.to_vec(), 64));
+    /// # Ok::<(), Error>(())
+    /// ```
+    pub fn explain(&self, channel: u8, most: u32) -> Result<Explanation, Error> {
+        self.handle.explain(channel, most).map(explanation_of)
     }
 
     /// Returns the lines irq\[31:0\]. A high line stays high until the guest clears its interrupt.

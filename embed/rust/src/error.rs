@@ -1,5 +1,7 @@
 //! Why a call was refused.
 
+use crate::explain::Cause;
+use crate::sys::RawExplanation;
 use std::error;
 use std::fmt;
 
@@ -88,6 +90,15 @@ pub enum Error {
         /// Why none begins there.
         fault: DisassemblyFault,
     },
+    /// No copy explains a program.
+    Unexplained {
+        /// Why.
+        cause: Cause,
+        /// The offset of the instruction that has the cause.
+        pc: u32,
+        /// How many instructions are executed before it.
+        steps: u32,
+    },
 }
 
 /// What is wrong with a line of assembly text.
@@ -117,6 +128,7 @@ pub enum DisassemblyFault {
 pub(crate) const BUSY: i32 = -11;
 pub(crate) const RUNNING: i32 = -16;
 const PROGRAM_TOO_LONG: i32 = -40;
+const UNEXPLAINED: i32 = -70;
 
 // The numbers of dma330.h.
 const CODES: [(i32, Error); 23] = [
@@ -182,6 +194,16 @@ impl Error {
         found(&DISASSEMBLY_CODES, code).map_or_else(|| Error::of(code), |fault| Error::Disassembly { offset, fault })
     }
 
+    /// Returns the error of a code of `dma330_explain`.
+    pub(crate) fn of_explanation(code: i32, explanation: &RawExplanation) -> Error {
+        match code {
+            UNEXPLAINED => {
+                Error::Unexplained { cause: Cause::of(explanation.cause), pc: explanation.pc, steps: explanation.steps }
+            }
+            _ => Error::of(code),
+        }
+    }
+
     /// Returns its number in `dma330.h`.
     ///
     /// ```
@@ -193,6 +215,7 @@ impl Error {
             Error::Running { .. } => RUNNING,
             Error::Assembly { fault, .. } => number_of(&ASSEMBLY_CODES, &fault),
             Error::Disassembly { fault, .. } => number_of(&DISASSEMBLY_CODES, &fault),
+            Error::Unexplained { .. } => UNEXPLAINED,
             plain => number_of(&CODES, &plain),
         }
     }
@@ -253,6 +276,7 @@ impl fmt::Display for Error {
             Error::OtherDevice => "the save is of a device of another version or configuration",
             Error::Assembly { line, fault } => return write!(f, "line {line}: {fault}"),
             Error::Disassembly { offset, fault } => return write!(f, "offset {offset}: {fault}"),
+            Error::Unexplained { cause, pc, .. } => return write!(f, "no copy explains the program: offset {pc}: {cause}"),
         };
         f.write_str(text)
     }

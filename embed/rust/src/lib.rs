@@ -31,12 +31,14 @@
 mod channel;
 mod device;
 mod error;
+mod explain;
 #[allow(missing_docs, unsafe_code)]
 mod sys;
 
 pub use channel::{Channel, ChannelSteps, ChannelTurn, Registers};
 pub use device::{BusWidth, Device, DeviceConfig, DeviceTurn, Revision};
 pub use error::{AssemblyFault, DisassemblyFault, Error};
+pub use explain::{explain, plan, plan_fill, Bus, Cause, Explanation, Happening, HappeningKind, Repeated};
 pub use sys::Region;
 
 use std::fmt;
@@ -492,7 +494,7 @@ impl fmt::Debug for Controller {
 /// Returns the version of the library.
 ///
 /// ```
-/// assert_eq!(dma330::version(), "dilkwafam 1.3");
+/// assert_eq!(dma330::version(), "dilkwafam 1.4");
 /// ```
 pub fn version() -> String {
     let mut out = vec![0; 64];

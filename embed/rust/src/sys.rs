@@ -19,7 +19,7 @@
 //!   child of a process with threads, and 32 KiB of stack.
 
 use crate::error::{BUSY, RUNNING};
-use crate::{Error, Segment};
+use crate::{Error, Repeated, Segment};
 use std::cell::UnsafeCell;
 use std::ffi::c_void;
 use std::marker::PhantomData;
@@ -76,17 +76,24 @@ pub struct RawRunEnd {
     pub pc: u32,
 }
 
-// Only the library reads and writes them.
-#[allow(dead_code)]
 #[repr(C)]
+#[derive(Default)]
 pub struct RawExplanation {
-    src_len: usize,
-    dst_len: usize,
-    steps: u32,
-    pc: u32,
-    cause: u32,
-    wait: i32,
-    signal: i32,
+    pub src_len: usize,
+    pub dst_len: usize,
+    pub happenings_len: usize,
+    pub size: u64,
+    pub steps: u32,
+    pub pc: u32,
+    pub cause: u32,
+}
+
+#[repr(C)]
+#[derive(Clone, Copy, Default)]
+pub struct RawHappening {
+    pub kind: u32,
+    pub event: u32,
+    pub stored: u64,
 }
 
 // Only the library reads and writes them.
@@ -312,6 +319,18 @@ extern "C" {
         count: usize,
         turn: *mut RawDeviceTurn,
     ) -> i32;
+    fn dma330_device_explain(
+        device: *mut RawDevice,
+        channel: u8,
+        most: u32,
+        src: *mut Repeated,
+        src_room: usize,
+        dst: *mut Segment,
+        dst_room: usize,
+        happenings: *mut RawHappening,
+        happenings_room: usize,
+        explanation: *mut RawExplanation,
+    ) -> i32;
     fn dma330_device_irqs(device: *mut RawDevice, lines: *mut u32) -> i32;
     fn dma330_device_irq_abort(device: *mut RawDevice, line: *mut u32) -> i32;
     fn dma330_device_can_step(device: *mut RawDevice, can_step: *mut u32) -> i32;
@@ -326,17 +345,41 @@ extern "C" {
         limit: u32,
         end: *mut RawRunEnd,
     ) -> i32;
-    // The crate has no call for it yet.
-    #[allow(dead_code)]
     fn dma330_explain(
         program: *const u8,
         len: usize,
+        bus: u32,
         most: u32,
-        src: *mut Segment,
+        src: *mut Repeated,
         src_room: usize,
         dst: *mut Segment,
         dst_room: usize,
+        happenings: *mut RawHappening,
+        happenings_room: usize,
         explanation: *mut RawExplanation,
+    ) -> i32;
+    fn dma330_plan(
+        src: *const Segment,
+        src_count: usize,
+        dst: *const Segment,
+        dst_count: usize,
+        wait: i32,
+        signal: i32,
+        bus: u32,
+        out: *mut u8,
+        room: usize,
+        len: *mut usize,
+    ) -> i32;
+    fn dma330_plan_fill(
+        src: u32,
+        dst: *const Segment,
+        dst_count: usize,
+        wait: i32,
+        signal: i32,
+        bus: u32,
+        out: *mut u8,
+        room: usize,
+        len: *mut usize,
     ) -> i32;
     fn dma330_assemble(
         text: *const u8,
@@ -666,6 +709,24 @@ impl DeviceHandle {
         checked(code, turn)
     }
 
+    pub fn explain(&self, channel: u8, most: u32) -> Result<RawExplained, Error> {
+        RawExplained::by(|src, dst, happenings, explanation| unsafe {
+            let raw = self.raw.get();
+            dma330_device_explain(
+                raw,
+                channel,
+                most,
+                src.as_mut_ptr(),
+                src.len(),
+                dst.as_mut_ptr(),
+                dst.len(),
+                happenings.as_mut_ptr(),
+                happenings.len(),
+                explanation,
+            )
+        })
+    }
+
     pub fn irqs(&self) -> u32 {
         self.number(dma330_device_irqs)
     }
@@ -728,4 +789,71 @@ pub fn disassemble(program: &[u8], out: &mut [u8]) -> Result<usize, Error> {
         OK => Ok(len),
         code => Err(Error::of_offset(code, place)),
     }
+}
+
+/// What a call of `dma330_explain` or `dma330_device_explain` writes.
+pub struct RawExplained {
+    pub src: Vec<Repeated>,
+    pub dst: Vec<Segment>,
+    pub happenings: Vec<RawHappening>,
+    pub explanation: RawExplanation,
+}
+
+impl RawExplained {
+    // Makes a call with lists of some room. If that is too small, repeats it with the room that the explanation has.
+    fn by(
+        call: impl Fn(&mut [Repeated], &mut [Segment], &mut [RawHappening], &mut RawExplanation) -> i32,
+    ) -> Result<RawExplained, Error> {
+        let mut explanation = RawExplanation { src_len: 16, dst_len: 16, happenings_len: 4, ..RawExplanation::default() };
+        loop {
+            let mut src = vec![Repeated::default(); explanation.src_len];
+            let mut dst = vec![Segment::default(); explanation.dst_len];
+            let mut happenings = vec![RawHappening::default(); explanation.happenings_len];
+            match call(&mut src, &mut dst, &mut happenings, &mut explanation) {
+                OK => {
+                    src.truncate(explanation.src_len);
+                    dst.truncate(explanation.dst_len);
+                    happenings.truncate(explanation.happenings_len);
+                    return Ok(RawExplained { src, dst, happenings, explanation });
+                }
+                BUFFER_TOO_SMALL => {}
+                code => return Err(Error::of_explanation(code, &explanation)),
+            }
+        }
+    }
+}
+
+pub fn explain(program: &[u8], bus: u32, most: u32) -> Result<RawExplained, Error> {
+    RawExplained::by(|src, dst, happenings, explanation| unsafe {
+        dma330_explain(
+            program.as_ptr(),
+            program.len(),
+            bus,
+            most,
+            src.as_mut_ptr(),
+            src.len(),
+            dst.as_mut_ptr(),
+            dst.len(),
+            happenings.as_mut_ptr(),
+            happenings.len(),
+            explanation,
+        )
+    })
+}
+
+/// Writes the program of a copy, and returns its length.
+pub fn plan(src: &[Segment], dst: &[Segment], wait: i32, signal: i32, bus: u32, out: &mut [u8]) -> Result<usize, Error> {
+    let mut len = 0;
+    let (from, to) = (src.as_ptr(), dst.as_ptr());
+    let (bytes, room) = (out.as_mut_ptr(), out.len());
+    let code = unsafe { dma330_plan(from, src.len(), to, dst.len(), wait, signal, bus, bytes, room, &mut len) };
+    checked(code, len)
+}
+
+/// Writes the program of a fill, and returns its length.
+pub fn plan_fill(src: u32, dst: &[Segment], wait: i32, signal: i32, bus: u32, out: &mut [u8]) -> Result<usize, Error> {
+    let mut len = 0;
+    let (bytes, room) = (out.as_mut_ptr(), out.len());
+    let code = unsafe { dma330_plan_fill(src, dst.as_ptr(), dst.len(), wait, signal, bus, bytes, room, &mut len) };
+    checked(code, len)
 }

@@ -147,7 +147,7 @@ fn files_below(folder: &Path, found: &mut Vec<PathBuf>) {
 
 fn calls_of_library() -> Calls {
     let mut files = Vec::new();
-    for folder in ["crates/dma_ffi/src", "crates/dma_engine/src", "crates/dma_mem/src"] {
+    for folder in ["crates/dma_ffi/src", "crates/dma_chan/src", "crates/dma_engine/src", "crates/dma_mem/src"] {
         files_below(&repository().join(folder), &mut files);
     }
     let texts: Vec<String> = files.iter().map(|file| without_comments(&text_of(file))).collect();
@@ -159,10 +159,9 @@ fn calls_of_library() -> Calls {
 
 fn calls_of_crate() -> Calls {
     let folder = repository().join("embed/rust/src");
-    let [sys, lib] = ["sys.rs", "lib.rs"].map(|file| without_comments(&text_of(&folder.join(file))));
+    let [sys, lib, explain] = ["sys.rs", "lib.rs", "explain.rs"].map(|file| without_comments(&text_of(&folder.join(file))));
     let (mut structs, mut calls) = (Structs::new(), Calls::new());
-    structs_of_rust(&sys, &mut structs);
-    structs_of_rust(&lib, &mut structs);
+    [&sys, &lib, &explain].iter().for_each(|text| structs_of_rust(text, &mut structs));
     let (block, _) = between(&sys, "extern \"C\" {", "\n}").expect("the declarations");
     calls_of_rust(block, "    fn ", &structs, &mut calls);
     calls
@@ -213,7 +212,7 @@ fn compare(wanted: &Calls, found: &Calls, whose: &str) {
 #[test]
 fn the_header_declares_what_the_library_exports() {
     let library = calls_of_library();
-    assert!(library.len() >= 52);
+    assert!(library.len() >= 56);
     compare(&library, &calls_of_header(), "dma330.h");
 }
 

@@ -2,7 +2,7 @@
 
 mod words;
 
-use dma330::{Controller, Error, Outcome, RunEnd, Segment, Steps, Turn};
+use dma330::{Controller, Error, Explanation, Outcome, RunEnd, Segment, Steps, Turn};
 use words::{error_text, groups, hex, name, nothing, small, Words};
 
 const ROWS: &str = include_str!("../../rows.txt");
@@ -38,6 +38,37 @@ fn end_text(end: RunEnd) -> String {
         RunEnd::Waiting { event } => format!("{word} {event}"),
         RunEnd::Fault { fault, pc } => format!("{word} {} {pc}", name(fault)),
     }
+}
+
+fn explanation_text(found: Explanation) -> String {
+    let mut text = format!("{} {}", found.size, found.steps);
+    for it in found.src {
+        text += &format!(" 0x{:X}+{}x{}", it.addr, it.len, it.times);
+    }
+    text += " to";
+    for it in found.dst {
+        text += &format!(" 0x{:X}+{}", it.addr, it.len);
+    }
+    for it in found.happenings {
+        text += &format!(" {} {} at {}", name(it.kind), it.event, it.stored);
+    }
+    text
+}
+
+// Makes a call about the program of a copy.
+fn program_call(call: &str, mut words: Words) -> Result<String, Error> {
+    let bus = words.bus();
+    if call == "explain" {
+        let (most, _room, program) = (words.number(), words.number(), words.bytes());
+        return dma330::explain(&program, bus, most).map(explanation_text);
+    }
+    let _room = words.number();
+    let (byte, list) = if call == "plan" { (0, words.list()) } else { (words.number(), Vec::new()) };
+    assert_eq!(words.next(), "to");
+    let (dst, events) = (words.list(), words.events());
+    let program =
+        if call == "plan" { dma330::plan(&list, &dst, events, bus) } else { dma330::plan_fill(byte, &dst, events, bus) };
+    program.map(|bytes| hex(&bytes))
 }
 
 /// Runs lines.
@@ -122,6 +153,7 @@ impl Runner {
                 let text = dma330::disassemble(&words.bytes())?;
                 Ok(text.replace('\n', " / ").trim_end().to_string())
             }
+            "explain" | "plan" | "plan_fill" => program_call(call, words),
             _ => self.channel_call(call, words),
         }
     }

@@ -3,7 +3,7 @@
 // No test that includes this file uses all of it.
 #![allow(dead_code)]
 
-use dma330::{Error, Events, MarkKind, Segment};
+use dma330::{Bus, BusWidth, Error, Events, MarkKind, Segment};
 use std::fmt::Debug;
 
 /// The words of a line that are not read yet.
@@ -23,6 +23,16 @@ impl<'a> Words<'a> {
 
     pub fn channel(&mut self) -> u8 {
         small(self.number())
+    }
+
+    pub fn bus(&mut self) -> Bus {
+        match self.next() {
+            "0" => Bus::Channel,
+            "32" => Bus::Device(BusWidth::Bits32),
+            "64" => Bus::Device(BusWidth::Bits64),
+            "128" => Bus::Device(BusWidth::Bits128),
+            word => panic!("no bus: {word}"),
+        }
     }
 
     pub fn kind(&mut self) -> MarkKind {
@@ -117,6 +127,7 @@ pub fn error_text(error: Error) -> String {
         }
         Error::Assembly { line, fault } => format!("{} {line}", name(fault)),
         Error::Disassembly { offset, fault } => format!("{} {offset}", name(fault)),
+        Error::Unexplained { cause, pc, steps } => format!("UNEXPLAINED {} {pc} {steps}", name(cause)),
         plain => name(plain),
     }
 }

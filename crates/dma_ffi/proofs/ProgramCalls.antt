@@ -1,0 +1,104 @@
+-- What the calls return and write that explain and plan.
+use Rattle.std.proofs.Common.{◌≡◌, ◌≢◌, ℕ, zero, suc, ◌<◌, ◌≤◌, ◌↔◌, List, [], ◌∷◌, ◌++◌, length, take, drop, map, Option, Some, None, Result, Ok, Err, sym, ap, ◌∙◌, subst, arith, inl, inr}
+use Rattle.std.proofs.lemmas.Bool.{cases_lt}
+use Rattle.std.specs.Prelude.{ℤ, IfOk, IfErr, IsErrAnd, IsSomeAnd, slice_index_or, slice_set, unwrap_or}
+use Rattle.dma_mem.specs.Places.{Descriptor}
+use Rattle.dma_mem.specs.Refusals.{refusal_of}
+use Rattle.dma_mem.specs.declared.transfer.TransferFault.{TransferFault}
+use Rattle.dma_mem.specs.declared.transfer.TransferFault.TheVariants as transfers
+use Rattle.dma_chan.specs.declared.bus.Bus.{Bus}
+use Rattle.dma_insn.specs.AssemblyText.{most_program_bytes}
+use Rattle.dma_chan.specs.Explains.{Finds, Refuses}
+use Rattle.dma_chan.specs.declared.explain.Cause.TheVariants.{NoMemory, TooLong}
+use Rattle.dma_chan.specs.declared.explain.Explained.{Explained}
+use Rattle.dma_chan.specs.declared.explain.Happening.{Happening}
+use Rattle.dma_chan.specs.declared.explain.Unexplained.{Unexplained as Refusal}
+use Rattle.dma_chan.specs.Programs.{ProgramValue}
+use Rattle.dma_device.specs.Device.{DeviceValue}
+use Rattle.dma_device.specs.Explaining.{FailsFor, FindsFor, bus_of, program_of}
+use Rattle.dma_device.specs.declared.device.explain.ExplainFault.{ExplainFault}
+use Rattle.dma_device.specs.declared.device.explain.ExplainFault.TheVariants.{NoChannel, NoProgram, Unexplained}
+use Rattle.dma_ffi.specs.declared.explaining.DmaHappening.{DmaHappening}
+use Rattle.dma_ffi.specs.Codes.{transfer_code}
+use Rattle.dma_ffi.specs.Calls.{ReadsOpen}
+use Rattle.dma_ffi.specs.Explaining.{ExplainsChannel, ExplainsOn, ExplainsProgram, Outputs, happening_of}
+use Rattle.dma_ffi.specs.Programs.{PlansCopy, PlansTransfer}
+use Rattle.dma_ffi.specs.inner.Found.{Answers, AnswersDevice}
+use Rattle.dma_ffi.specs.inner.Plans.{PlansMade}
+
+-- ---- lists
+
+-- one more happening is written
+pub set_next : (xs : List Happening) (ys : List DmaHappening) (i : ℕ) (d : Happening) (q : DmaHappening) → i < length xs → length xs ≤ length ys → q ≡ happening_of (slice_index_or xs i d) → slice_set (map happening_of (take i xs) ++ drop i ys) i q ≡ map happening_of (take (suc i) xs) ++ drop (suc i) ys
+set_next [] ys i d q less fits e = absurd (omega arith)
+set_next (x ∷ xs) [] i d q less fits e = absurd (omega arith)
+set_next (x ∷ xs) (y ∷ ys) zero d q less fits e = ap (λ (z : DmaHappening). z ∷ ys) e
+set_next (x ∷ xs) (y ∷ ys) (suc i) d q less fits e = ap (λ (l : List DmaHappening). happening_of x ∷ l) (set_next xs ys i d q (omega arith) (omega arith) e)
+
+-- ---- explanations
+
+module _ (bus : Bus) (program : List ℕ) (most : ℕ) (code : ℤ) (before after : Outputs) where
+  -- of a program that isn't too long
+  on_bus : (found : Result Explained Refusal) → IfOk found (λ x. Finds bus program most x) → IfErr found (λ u. u.cause ≢ TooLong) → IfErr found (λ u. u.cause ≢ NoMemory → Refuses bus program most u) → Answers found code before after → ExplainsOn bus program most code before after
+  on_bus (Ok x) ok short err h = inl (x, ok, h)
+  on_bus (Err u) ok short err (inl h) = absurd (short h.0)
+  on_bus (Err u) ok short err (inr (inl h)) = inr (inr (h.1, h.2))
+  on_bus (Err u) ok short err (inr (inr h)) = inr (inl (u, err h.1, h.2, h.3))
+
+  fits : (found : Result Explained Refusal) → (IsErrAnd found (λ u. u.cause ≡ TooLong) ↔ most_program_bytes < length program) → ¬ IsErrAnd found (λ u. u.cause ≡ TooLong) → length program ≤ most_program_bytes
+  fits found long none = elim (cases_lt most_program_bytes (length program)) [ inl less ↦ absurd (none (long.1 less)) | inr le ↦ le ]
+
+  here : (found : Result Explained Refusal) → IfOk found (λ x. Finds bus program most x) → IfErr found (λ u. u.cause ≢ NoMemory → u.cause ≢ TooLong → Refuses bus program most u) → (IsErrAnd found (λ u. u.cause ≡ TooLong) ↔ most_program_bytes < length program) → Answers found code before after → ExplainsProgram program (Some bus) most code before after
+  here (Ok x) ok err long h = inr (fits (Ok x) long (λ a. a), on_bus (Ok x) ok tt tt h)
+  here (Err u) ok err long (inl h) = inl (h.1, long.0 h.0, h.2)
+  here (Err u) ok err long (inr (inl h)) =
+      let short : u.cause ≢ TooLong = λ e. let bad = sym e ∙ h.0 in cc in
+      inr (fits (Err u) long short, inr (inr (h.1, h.2)))
+  here (Err u) ok err long (inr (inr h)) = inr (fits (Err u) long h.0, inr (inl (u, err h.1 h.0, h.2, h.3)))
+
+  pub explains_program : (given : Option Bus) (found : Result Explained Refusal) → Some bus ≡ given → IfOk found (λ x. Finds bus program most x) → IfErr found (λ u. u.cause ≢ NoMemory → u.cause ≢ TooLong → Refuses bus program most u) → (IsErrAnd found (λ u. u.cause ≡ TooLong) ↔ most_program_bytes < length program) → Answers found code before after → ExplainsProgram program given most code before after
+  explains_program given found same ok err long h =
+      subst (λ (b : Option Bus). ExplainsProgram program b most code before after) same (here found ok err long h)
+
+-- ---- a device's channel
+
+-- a program, if there is one, has a property that follows from one that it has
+with_program : (o : Option ProgramValue) (P Q : ProgramValue → Type 0) → ((p : ProgramValue) → P p → Q p) → IsSomeAnd o P → IsSomeAnd o Q
+with_program None P Q f h = h
+with_program (Some p) P Q f h = f p h
+
+explains_channel : (d : DeviceValue) (n most : ℕ) (code : ℤ) (before after : Outputs) (found : Result Explained ExplainFault) → IfOk found (λ x. FindsFor d n most x) → IfErr found (λ fault. FailsFor d n most fault) → AnswersDevice found code before after → ExplainsChannel n most d code before after
+explains_channel d n most code before after (Ok x) ok err h =
+    inr (inr (with_program (program_of d n) (λ p. Finds (bus_of d) p.bytes most x) (λ p. ExplainsOn (bus_of d) p.bytes most code before after)
+    (λ p finds. on_bus (bus_of d) p.bytes most code before after (Ok x) finds tt tt h) ok))
+explains_channel d n most code before after (Err NoChannel) ok err h = inl (h.0, err, h.1)
+explains_channel d n most code before after (Err NoProgram) ok err h = inr (inl (h.0, err.0, err.1, h.1))
+explains_channel d n most code before after (Err (Unexplained u)) ok err h =
+    inr (inr (with_program (program_of d n) (λ p. (u.cause ≢ TooLong) × (u.cause ≢ NoMemory → Refuses (bus_of d) p.bytes most u)) (λ p. ExplainsOn (bus_of d) p.bytes most code before after)
+    (λ p fails. on_bus (bus_of d) p.bytes most code before after (Err u) tt fails.0 fails.1 h) err))
+
+pub explains_on_device : (old new : Option DeviceValue) (d : DeviceValue) (n most : ℕ) (code : ℤ) (before after : Outputs) (found : Result Explained ExplainFault) → Some d ≡ old → new ≡ Some d → IfOk found (λ x. FindsFor d n most x) → IfErr found (λ fault. FailsFor d n most fault) → AnswersDevice found code before after → ReadsOpen (ExplainsChannel n most) old code before after new
+explains_on_device old new d n most code before after found was is ok err h =
+    subst (λ (o : Option DeviceValue). ReadsOpen (ExplainsChannel n most) o code before after new) was
+    (explains_channel d n most code before after found ok err h, is)
+
+-- ---- plans
+
+plans : (refusal : Option TransferFault) (t : Descriptor) (bus : Bus) (code : ℤ) (buffer out : List ℕ) (len written : ℕ) (made : Result Descriptor TransferFault) → IfOk made (λ x. x ≡ t) → IfOk made (λ _. refusal ≡ None) → IfErr made (λ fault. fault ≡ unwrap_or refusal transfers.NoMemory) → PlansMade made bus code buffer out len written → PlansTransfer refusal t (Some bus) code buffer out len written
+plans refusal t bus code buffer out len written (Ok x) is none err h =
+    let here : PlansMade (Ok t) bus code buffer out len written = subst (λ (d : Descriptor). PlansMade (Ok d) bus code buffer out len written) is h in
+    elim here [
+      | inl w ↦ inl (none, w.0, w.1)
+      | inr w ↦ inr (w.0 ∙ ap (λ (r : Option TransferFault). transfer_code (unwrap_or r transfers.NoMemory)) (sym none), w.1, w.2)
+    ]
+plans refusal t bus code buffer out len written (Err fault) is none err h = inr (h.0 ∙ ap transfer_code err, h.1, h.2)
+
+pub plans_copy : (t t' : Descriptor) (bus : Bus) (given : Option Bus) (code : ℤ) (buffer out : List ℕ) (len written : ℕ) (made : Result Descriptor TransferFault) → t ≡ t' → Some bus ≡ given → IfOk made (λ x. x ≡ t) → IfOk made (λ x. refusal_of x ≡ None) → IfErr made (λ fault. fault ≡ unwrap_or (refusal_of t) transfers.NoMemory) → PlansMade made bus code buffer out len written → PlansCopy t' given code buffer out len written
+plans_copy t t' bus given code buffer out len written (Ok x) same bus_is is none err h =
+    subst (λ (b : Option Bus). PlansCopy t' b code buffer out len written) bus_is
+    (subst (λ (d : Descriptor). PlansCopy d (Some bus) code buffer out len written) same
+    (plans (refusal_of t) t bus code buffer out len written (Ok x) is (ap refusal_of (sym is) ∙ none) err h))
+plans_copy t t' bus given code buffer out len written (Err fault) same bus_is is none err h =
+    subst (λ (b : Option Bus). PlansCopy t' b code buffer out len written) bus_is
+    (subst (λ (d : Descriptor). PlansCopy d (Some bus) code buffer out len written) same
+    (plans (refusal_of t) t bus code buffer out len written (Err fault) is none err h))
