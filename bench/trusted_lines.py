@@ -208,7 +208,8 @@ def sentences_of(found):
     for clause in ("begins", "kept", "remembers", "memory", "sound", "views", "answers"):
         lines, _, files = total(cited(HEADLINE, "run", [clause]), "specs")
         yield trust, f"| `{clause}` | {lines} lines in {files} files |"
-    for command in ("run_script", "asm_main", "dis_main", "dma330_device_step"):
+    explaining = ("explain", "copies_since_load", "a_dmago_copies", "a_dmago_finishes", "turns_stay_in")
+    for command in ("run_script", "asm_main", "dis_main", "dma330_device_step", *explaining):
         lines, _, files = total(cited(file_of(command), command, []), "specs")
         yield trust, f"of `{command}` some {tens(lines)} lines in {files} files"
 
