@@ -47,6 +47,7 @@ pub mod ExplainedAlone
 pub mod RunLists
 pub mod TracerSteps
 pub mod Explaining
+pub mod Turns
 pub mod Rows
 pub mod SavedHeads
 pub mod SavedParts

@@ -1,4 +1,5 @@
--- A run without memory is the same on each bus, but for the bus, if its bursts begin at multiples of their beats' sizes.
+-- A run without memory is the same on each bus, but for the bus, if its bursts begin at multiples of their beats'
+-- sizes.
 use Rattle.std.proofs.Common.{◌≡◌, ℕ, zero, suc, ◌+◌, ◌≤◌, ◌&&◌, Bool, true, false, cond, List, ◌++◌, Some, None, Result, Ok, Err, refl, sym, ap, ◌∙◌, subst, arith}
 use Rattle.dma_insn.specs.ControlWord.{is_control}
 use Rattle.dma_insn.specs.declared.insn.Counter.{Counter}

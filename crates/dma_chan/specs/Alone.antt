@@ -8,9 +8,9 @@ use Rattle.dma_chan.specs.declared.run.RunEnd.TheVariants as ends
 use Rattle.dma_chan.specs.Explains.{Explains, IsWait}
 use Rattle.dma_chan.specs.Run.{RunsAlone}
 
--- A program that a copy explains and that has no DMAWFE, run alone over a memory that contains the copy's ranges and with a
--- limit above the number of instructions before DMAEND, ends after as many instructions and DMAEND, and the memory is
--- then the result of one simultaneous copy of all its bytes.
+-- A program that a copy explains and that has no DMAWFE, run alone over a memory that contains the copy's ranges and
+-- with a limit above the number of instructions before DMAEND, ends after as many instructions and DMAEND, and the
+-- memory is then the result of one simultaneous copy of all its bytes.
 abbrev pub ExplainedCopiesAlone : Type 0
 ExplainedCopiesAlone =
     (program : List ℕ) (t : Descriptor) (n : ℕ) (image after : List ℕ) (limit : ℕ) (how : RunEnd) →

@@ -11,3 +11,4 @@ pub mod Cutting
 pub mod Blocks
 pub mod Acts
 pub mod Tracing
+pub mod Turns

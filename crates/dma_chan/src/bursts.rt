@@ -30,8 +30,8 @@ pub const BUFFER_SIZE: usize = 256;
 // The most beats of a burst (PL330 manual, CCR).
 const MAX_BEATS: usize = 16;
 
-/// One burst: its first address, whether its addresses rise from beat to beat, the bytes of a beat, the number of beats,
-/// and how many bytes the first beat leaves out.
+/// One burst: its first address, whether its addresses rise from beat to beat, the bytes of a beat, the number of
+/// beats, and how many bytes the first beat leaves out.
 #[derive(Clone, Copy, PartialEq, Eq, Debug)]
 pub struct Burst {
     pub addr: u32,

@@ -41,8 +41,8 @@ impl BusWidth {
 pub enum Bus {
     /// Beats of up to 16 bytes, each whole at any address (profile). The engine's channels have this bus.
     Ideal,
-    /// A chip's: beats of at most this width. The first beat of a burst whose address rises ends at the next multiple of
-    /// its size.
+    /// A chip's: beats of at most this width. The first beat of a burst whose address rises ends at the next multiple
+    /// of its size.
     Chip(BusWidth),
 }
 

@@ -8,6 +8,7 @@ ghost use Rattle.dma_chan.specs.inner.Tracing.{IsCopied, IsTracer, Stops};
 
 mod ranges;
 mod tracer;
+mod turns;
 
 use crate::bus::Bus;
 use crate::explain::ranges::overlap;
@@ -72,9 +73,9 @@ pub enum Cause {
     StoresPast,
     /// A store's address doesn't increment.
     StoresFixed,
-    /// Only on a chip's bus: a DMAMOV DAR or DMAMOV CCR after which a chip drops the bytes that are loaded and not stored: it moves the
-    /// destination to other byte lanes of the bus, or changes whether it rises, or the size of beats that don't rise
-    /// (DMA-330 manual, updating DMA channel control registers during a DMA cycle).
+    /// Only on a chip's bus: a DMAMOV DAR or DMAMOV CCR after which a chip drops the bytes that are loaded and not
+    /// stored: it moves the destination to other byte lanes of the bus, or changes whether it rises, or the size of
+    /// beats that don't rise (DMA-330 manual, updating DMA channel control registers during a DMA cycle).
     DropsBytes,
     /// Bytes are left in the buffer at DMAEND.
     BytesLeft,
@@ -125,6 +126,12 @@ fn finish(alloc: Global, tracer: Tracer, steps: u32) -> Result<Explained, Cause>
 
 /// Explains a program on a bus: runs it without memory for at most `most` instructions, and returns what it copies, or
 /// why and where no copy explains it.
+///
+/// It takes 6 to 10 ns for each instruction that is executed, so `most` also bounds its time. Long loops of DMALD,
+/// DMAST, DMARMB, DMAWMB and DMANOP take less than a tenth of that, if the addresses of each turn continue those of
+/// the turn before: many turns are one step. It allocates 16 bytes for each DMASEV and DMAWFE that is executed, 12
+/// bytes for each load whose range doesn't continue or repeat the one before, and 16 bytes for each store whose range
+/// doesn't continue the one before; a list that grows takes up to three times as much for a moment.
 pub fn explain(alloc: Global, bus: Bus, program: &[u8], most: u32) -> Result<Explained, Unexplained>
     ensures ok { IfOk result (λ x. Finds bus program.now most x) }
     ensures err { IfErr result (λ u. u.cause ≢ Cause.NoMemory → u.cause ≢ Cause.TooLong
@@ -140,7 +147,8 @@ pub fn explain(alloc: Global, bus: Bus, program: &[u8], most: u32) -> Result<Exp
         });
     }
     let mut tracer = Tracer::new(alloc, bus);
-    for steps in 0..most {
+    let mut steps = 0;
+    while steps < most {
         let pc = tracer.registers.pc;
         let next = match Next::at(program, pc) {
             Ok(next) => next,
@@ -158,8 +166,8 @@ pub fn explain(alloc: Global, bus: Bus, program: &[u8], most: u32) -> Result<Exp
                 Err(cause) => Err(Unexplained { cause, pc, steps }),
             };
         }
-        match tracer.advance(next) {
-            Ok(()) => {}
+        match tracer.run(program, next, most - steps) {
+            Ok(count) => steps += count,
             Err(cause) => {
                 return Err(Unexplained { cause, pc, steps });
             }

@@ -40,8 +40,8 @@ pub fn costs_little()
     ensures on_bus { CostOnBus }
 {}
 
-/// A program that a transfer explains on the ideal bus and that has no DMAWFE, run alone over a memory that contains the
-/// transfer's ranges, with a limit above its number of instructions, makes one simultaneous copy of all its bytes.
+/// A program that a transfer explains on the ideal bus and that has no DMAWFE, run alone over a memory that contains
+/// the transfer's ranges, with a limit above its number of instructions, makes one simultaneous copy of all its bytes.
 pub fn explained_copies_alone()
     ensures { ExplainedCopiesAlone }
 {}

@@ -99,6 +99,31 @@ fn a_register_is_read_again(rt: HostRuntime) -> Result<(), Fail> {
     Ok(())
 }
 
+// Sets the control word to two beats of four bytes, whose source rises or doesn't, and the addresses to 0x100 and
+// 0x2000; then 2 rounds of 100 turns of two loads, a barrier and two stores.
+static TURNS: &[u8] =
+    b"\xbc\x01\x15\x40\x05\0\xbc\0\0\x01\0\0\xbc\x02\0\x20\0\0\x22\x01\x20\x63\x04\x04\x12\x08\x08\x38\x05\x3c\x09\0";
+
+static TURNS_OF_A_FILL: &[u8] =
+    b"\xbc\x01\x14\x40\x05\0\xbc\0\0\x01\0\0\xbc\x02\0\x20\0\0\x22\x01\x20\x63\x04\x04\x12\x08\x08\x38\x05\x3c\x09\0";
+
+#[test]
+fn the_turns_of_a_loop_are_one_item(rt: HostRuntime) -> Result<(), Fail> {
+    let register = Repeated {
+        addr: 0x100,
+        len: 4,
+        times: 800,
+    };
+    let rows = [(TURNS, once(0x100, 3200)), (TURNS_OF_A_FILL, register)];
+    for (program, src) in rows {
+        let explained = explain(rt.alloc(), Bus::Ideal, program, 1209).map_err(|_| "unexplained")?;
+        assert!(rt; explained.src.as_slice() == [src].as_slice());
+        assert!(rt; explained.dst.as_slice() == [segment(0x2000, 3200)].as_slice());
+        assert!(rt; explained.steps == 1209);
+    }
+    Ok(())
+}
+
 // Stores eight bytes from address 8 at the last eight addresses, in two bursts of one beat.
 static TO_THE_LAST_ADDRESS: &[u8] =
     b"\xbc\x01\x05\x40\x01\0\xbc\0\x08\0\0\0\xbc\x02\xf8\xff\xff\xff\x04\x08\x04\x08\0";
