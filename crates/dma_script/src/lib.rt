@@ -27,4 +27,4 @@ mod queue;
 pub mod race;
 pub mod statements;
 pub mod transfer_line;
-mod words;
+pub mod words;

@@ -4,7 +4,7 @@ ghost use Rattle.std.specs.Io.KnownBytes.{WriteAppends, Appends};
 ghost use Rattle.std.specs.Io.{WritesAtMost};
 
 use std::io;
-use std::io::{Stdout, Write};
+use std::io::{Stderr, Stdout, Write};
 
 /// A writer whose contract says whether a write of it has failed or taken no byte.
 pub trait Sink: Write {
@@ -26,8 +26,14 @@ pub trait Sink: Write {
         ensures lasting { has_failed self.old → has_failed self.new };
 }
 
-// Contracts don't know what standard output takes, so it may have failed at any time.
+// Contracts don't know what standard output and standard error take, so they may have failed at any time.
 impl Sink for Stdout {
+    fn put(&mut self, buf: &[u8]) -> io::Result<usize> {
+        self.write(buf)
+    }
+}
+
+impl Sink for Stderr {
     fn put(&mut self, buf: &[u8]) -> io::Result<usize> {
         self.write(buf)
     }

@@ -122,7 +122,7 @@ fn cut_word(line: &[u8]) -> (&[u8], &[u8])
 
 /// Returns the first word of a line and the rest of the line, or `None` if there is no word.
 #[inline(always)]
-pub(crate) fn next_word(line: &[u8]) -> Option<(&[u8], &[u8])>
+pub fn next_word(line: &[u8]) -> Option<(&[u8], &[u8])>
     ensures { MatchOption result
         (words_of line.now ≡ []) (λ w. words_of line.now ≡ w.0.now ∷ words_of w.1.now) }
 {

@@ -1,0 +1,9 @@
+use Rattle.std.proofs.Common.{◌≡◌}
+use Rattle.std.proofs.lemmas.Result.{IfOk-weaker}
+use Rattle.dma330.specs.Answer.{printed_of}
+use Rattle.dma330.proofs.replies.answer.Goals as goal
+
+pub returns : goal.returns
+returns c =
+    IfOk-weaker c.under_name.result _ _
+    (λ shown under. (printed_of c.in_ok-replied.replied, c.in_ok-replied.ensures, under)) c.under_name.ensures

@@ -1,0 +1,29 @@
+-- What a call prints, and how it is written.
+use Rattle.std.specs.Prelude.{◌≡◌, ◌⊎◌, ℕ, Bool, if◌then◌else◌, List, [], ◌∷◌, ◌++◌, Option}
+use Rattle.std.specs.Io.KnownBytes.{Appends}
+use Rattle.dma_script.specs.Command.{Failures, Unfailed}
+use Rattle.dma330.specs.declared.answer.Answer.{Answer}
+
+-- What a call prints: to standard output, to standard error, and into the file that an option names; and whether it
+-- succeeds.
+pub record Printed : Type 0 where
+  pub out : List ℕ
+  pub err : List ℕ
+  pub file : List ℕ
+  pub succeeds : Bool
+
+abbrev pub printed_of : Answer → Printed
+printed_of a = record { out = a.out.items; err = a.err.items; file = a.file.items; succeeds = a.succeeds }
+
+-- a message behind the name of the input and a colon; an empty message stays empty
+abbrev pub named : List ℕ → List ℕ → List ℕ
+named name [] = []
+named name (b ∷ message) = name ++ 58 ∷ [] ++ (b ∷ message)
+
+-- How a call ends (profile): both texts are written, no write failed, and the status is 0 if the call succeeds, else 1;
+-- or a write failed, and the status is 1. `old` and `new` are the bytes that a writer held before and holds now.
+abbrev pub Delivers : Printed → Failures → Failures → Option (List ℕ) → Option (List ℕ) → Option (List ℕ) → Option (List ℕ) → ℕ → Type 0
+Delivers p out err old_out new_out old_err new_err status =
+    ((status ≡ (if p.succeeds then 0 else 1)) × Appends old_out new_out p.out × Appends old_err new_err p.err
+    × Unfailed out × Unfailed err)
+    ⊎ ((status ≡ 1) × (out.after ⊎ err.after))

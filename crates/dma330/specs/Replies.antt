@@ -1,0 +1,97 @@
+-- What a request prints for its input (profile).
+use Rattle.std.specs.Prelude.{◌≡◌, ℕ, Bool, true, false, ◌==◌, if◌then◌else◌, List, [], ◌∷◌, ◌++◌, Option, Some, None, Result, Ok, Err, codes, decimal, is_ok, slice_get}
+use Rattle.dma_text.specs.Digits.{hex_pair}
+use Rattle.dma_chan.specs.declared.bus.Bus.{Bus}
+use Rattle.dma_mem.specs.declared.regions.Region.{Region}
+use Rattle.std.specs.Result.{result_unwrap_or}
+use Rattle.dma_manual.specs.Assembled.{assembled}
+use Rattle.dma_manual.specs.Errors.{assembled_err, assembled_out}
+use Rattle.dma_manual.specs.Listing.{is_whole, listed, rest_text, stop_text}
+use Rattle.dma_script.specs.Command.{printed_text}
+use Rattle.dma_seeds.specs.Race.{race_printed}
+use Rattle.dma_seeds.specs.Script.{script_text}
+use Rattle.dma_trace.specs.declared.options.TraceOptions.{TraceOptions}
+use Rattle.dma_trace.specs.Explained.{Appends}
+use Rattle.dma_trace.specs.Traced.{Shows}
+use Rattle.dma330.specs.Answer.{Printed, named}
+use Rattle.dma330.specs.Hexadecimal.{column_of, line_of, read}
+use Rattle.dma330.specs.declared.command_line.Request.{Request}
+use Rattle.dma330.specs.declared.command_line.Request.TheVariants.{Dis, Asm, Explain, Trace, Race}
+
+-- `dis` lists the program, and says on standard error where it is none.
+abbrev pub Lists : ℕ → List ℕ → Printed → Type 0
+Lists at program p =
+    (p.out ≡ (listed at program).text ++ rest_text (listed at program).ending)
+    × (p.err ≡ stop_text (listed at program).ending)
+    × (p.file ≡ []) × (p.succeeds ≡ is_whole (listed at program).ending)
+
+-- the program that a text describes; no bytes for a text with a fault
+abbrev pub program_of : List ℕ → List ℕ
+program_of text = result_unwrap_or (assembled text) []
+
+-- `asm` prints the program's bytes in hexadecimal digits, or writes them to a file, or says on standard error what the
+-- text's first fault is.
+abbrev pub Assembles : Bool → List ℕ → Printed → Type 0
+Assembles to_file text p =
+    (p.out ≡ (if to_file then [] else assembled_out (assembled text))) × (p.err ≡ assembled_err text (assembled text))
+    × (p.file ≡ (if to_file then program_of text else [])) × (p.succeeds ≡ is_ok (assembled text))
+
+-- `explain` says what the program copies, or on standard error why it is no copy.
+abbrev pub Explains : Bus → ℕ → List ℕ → Printed → Type 0
+Explains bus most program p = Appends bus program most p.succeeds [] [] p.out p.err × (p.file ≡ [])
+
+-- `trace` prints the program's trace over RAM, and on standard error what ends it early.
+abbrev pub Traces : TraceOptions → List Region → List ℕ → Printed → Type 0
+Traces options ram program p =
+    (after : List Region) × Shows options program ram after p.succeeds [] [] p.out p.err × (p.file ≡ [])
+
+-- `race` prints what a race prints with its turns in the order of a seed, and writes the same as a script of `run`.
+abbrev pub Races : ℕ → List ℕ → Printed → Type 0
+Races seed script p =
+    (p.out ≡ printed_text (race_printed script seed).groups) × (p.err ≡ []) × (p.file ≡ script_text script seed)
+    × (p.succeeds ≡ ((race_printed script seed).status == 0))
+
+-- What a request prints for a program over RAM, without the name of the input.
+abbrev pub Replies : Request → List Region → List ℕ → Printed → Type 0
+Replies (Dis at) ram input = Lists at input
+Replies (Asm to_file) ram input = Assembles to_file input
+Replies (Explain bus most) ram input = Explains bus most input
+Replies (Trace options) ram input = Traces options ram input
+Replies (Race seed) ram input = Races seed input
+
+-- what is wrong with a byte of hexadecimal text, or with its end
+abbrev pub hex_words : Option ℕ → List ℕ
+hex_words (Some b) = codes "byte 0x" ++ hex_pair b ++ codes " is not a hexadecimal digit here\n"
+hex_words None = codes "the last byte lacks a digit\n"
+
+-- what is printed for hexadecimal text with a fault at this offset: its line and column, and what is wrong
+abbrev pub hex_refusal : List ℕ → ℕ → Printed
+hex_refusal text at = record {
+  out = [];
+  err = (decimal (line_of text at) ++ codes ":" ++ decimal (column_of text at) ++ codes ": ") ++ hex_words (slice_get text at);
+  file = [];
+  succeeds = false;
+}
+
+-- What a request prints for a program that was read from hexadecimal text, or for the text's first fault.
+abbrev pub ReadReplies : Request → List Region → List ℕ → Result (List ℕ) ℕ → Printed → Type 0
+ReadReplies request ram text (Ok program) p = Replies request ram program p
+ReadReplies request ram text (Err at) p = p ≡ hex_refusal text at
+
+-- What a request prints for a program in hexadecimal text.
+abbrev pub HexReplies : Request → List Region → List ℕ → Printed → Type 0
+HexReplies request ram text = ReadReplies request ram text (read text)
+
+-- What a request prints for an input, without the name of the input.
+abbrev pub InputReplies : Request → Bool → List Region → List ℕ → Printed → Type 0
+InputReplies request true ram input = HexReplies request ram input
+InputReplies request false ram input = Replies request ram input
+
+-- the same with the name of the input before the message on standard error
+abbrev pub IsUnderName : List ℕ → Printed → Printed → Type 0
+IsUnderName name q p = p ≡ record q { err = named name q.err }
+
+-- What a call prints: the message on standard error begins with the name of the input.
+abbrev pub Answers : Request → Bool → List ℕ → List Region → List ℕ → Printed → Type 0
+Answers request is_hex name ram input p =
+    (q : Printed) × InputReplies request is_hex ram input q × IsUnderName name q p

@@ -1,0 +1,62 @@
+//! The answer to a call, and how it is written.
+ghost use Rattle.std.specs.Prelude.{◌≡◌, ◌⊎◌, IfOk, OnErr, OnOk};
+ghost use Rattle.std.specs.Io.KnownBytes.{Appends};
+ghost use Rattle.dma_script.specs.Command.{failures};
+ghost use Rattle.dma330.specs.Answer.{Delivers, named, printed_of};
+
+use dma_script::command::{FAULT, SUCCESS};
+use dma_script::output::{OutputFailed, Sink, write_output};
+use dma_text::text::{Text, print};
+use std::alloc::{AllocError, Global};
+
+/// What a call prints.
+#[derive(Debug, Drop)]
+pub struct Answer {
+    /// To standard output.
+    pub out: Vec<u8>,
+    /// To standard error.
+    pub err: Vec<u8>,
+    /// Into the file that an option names.
+    pub file: Vec<u8>,
+    /// Whether the call succeeds.
+    pub succeeds: bool,
+}
+
+/// Returns a message behind the name of the input and a colon; an empty message stays empty. Fails if memory runs out.
+pub fn named(alloc: Global, name: &str, message: &[u8]) -> Result<Vec<u8>, AllocError>
+    ensures { IfOk result (λ text. text.items ≡ named name.now message.now) }
+{
+    let mut text = Vec::new(alloc);
+    if !message.is_empty() {
+        print(&mut text, &(name, ":", message))?;
+    }
+    Ok(text)
+}
+
+/// Writes the two texts of an answer to standard output and standard error. Fails at the first write that fails.
+fn write_texts<O: Sink, E: Sink>(
+    answer: &Answer,
+    out: &mut O,
+    err: &mut E,
+) -> Result<(), OutputFailed>
+    ensures out { OnOk result (Appends (O.contents out.old) (O.contents out.new) answer.now.out.items) }
+    ensures err { OnOk result (Appends (E.contents err.old) (E.contents err.new) answer.now.err.items) }
+    ensures out_unfailed { OnOk result (O.has_failed out.new → O.has_failed out.old) }
+    ensures err_unfailed { OnOk result (E.has_failed err.new → E.has_failed err.old) }
+    ensures failed { OnErr result (O.has_failed out.new ⊎ E.has_failed err.new) }
+{
+    write_output(out, &answer.out)?;
+    write_output(err, &answer.err)
+}
+
+/// Writes an answer to standard output and standard error, and returns the exit status.
+pub fn deliver<O: Sink, E: Sink>(answer: &Answer, out: &mut O, err: &mut E) -> u8
+    ensures { Delivers (printed_of answer.now)
+        (failures O.has_failed out.old out.new) (failures E.has_failed err.old err.new)
+        (O.contents out.old) (O.contents out.new) (E.contents err.old) (E.contents err.new) result }
+{
+    match write_texts(answer, out, err) {
+        Ok(()) if answer.succeeds => SUCCESS,
+        Ok(()) | Err(OutputFailed) => FAULT,
+    }
+}

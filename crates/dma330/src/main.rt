@@ -1,0 +1,46 @@
+//! The program `dma330`: a workbench for channel programs.
+//!
+//! Proved: hexadecimal text is read as its pairs or its first fault (`read_hexadecimal`); what is written, and the status,
+//! are those of the answer (`deliver`). Not proved: `main`, which reads the command line and files.
+#![tactic(auto)]
+
+mod answer;
+mod command_line;
+mod files;
+mod hexadecimal;
+mod replies;
+mod subcommands;
+mod values;
+
+use command_line::call_of;
+use files::{Failure, run};
+use std::env;
+use std::process::ExitCode;
+
+/// Returns the words of the command line.
+fn words_of(rt: &HostRuntime) -> Result<Vec<String>, Failure<'static>> {
+    match env::args(rt) {
+        Ok(args) => Ok(args.collect(rt.alloc())?),
+        Err(error) => Err(Failure::of("the command line", error)),
+    }
+}
+
+/// Runs the command line, and exits with its status.
+fn main(rt: HostRuntime) -> ExitCode {
+    let words = match words_of(&rt) {
+        Ok(words) => words,
+        Err(failure) => return ExitCode::from(failure.report(&rt)),
+    };
+    let call = match call_of(rt.alloc(), &words) {
+        Ok(call) => call,
+        Err(error) => {
+            // (a mistake in the words, or a request for help, has its status even if its text can't be written)
+            let _ = error.print(&rt);
+            return ExitCode::from(error.exit_code() as u8);
+        }
+    };
+    ExitCode::from(match run(&rt, &call) {
+        Ok(status) => status,
+        Err(failure) => failure.report(&rt),
+    })
+}

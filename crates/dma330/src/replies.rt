@@ -1,0 +1,245 @@
+//! What a request prints for its input.
+ghost use Rattle.std.specs.Prelude.{◌≡◌, ◌≤◌, IfOk, IsTrue, length};
+ghost use Rattle.dma_mem.specs.Regions.{in_order, pieces_of};
+ghost use Rattle.dma330.specs.Answer.{printed_of};
+ghost use Rattle.dma330.specs.Replies.{Answers, Assembles, Explains, HexReplies, InputReplies, IsUnderName, Lists, Races, Replies, Traces, hex_refusal, program_of};
+
+use crate::answer::{Answer, named};
+use crate::command_line::Request;
+use crate::hexadecimal::{column_of, line_of, read_hexadecimal};
+use dma_chan::bus::Bus;
+use dma_manual::assembler::{assemble, assemble_text};
+use dma_manual::errors::AsmError;
+use dma_manual::listing::disassemble;
+use dma_mem::regions::Region;
+use dma_seeds::race::race_by_seed;
+use dma_seeds::script::script_of_seed;
+use dma_text::text::{HexByte, print};
+use dma_trace::explain::explain;
+use dma_trace::options::TraceOptions;
+use dma_trace::trace::trace;
+use std::alloc::{AllocError, Global};
+
+/// Returns what `dis` prints for a program.
+fn listing(alloc: Global, program: &[u8], at: u32) -> Result<Answer, AllocError>
+    ensures { IfOk result (λ answer. Lists at program.now (printed_of answer)) }
+{
+    let mut out = Vec::new(alloc);
+    let mut err = Vec::new(alloc);
+    let succeeds = disassemble(alloc, program, at, &mut out, &mut err)?;
+    let file = Vec::new(alloc);
+    Ok(Answer {
+        out,
+        err,
+        file,
+        succeeds,
+    })
+}
+
+/// Returns the bytes of the program that a text describes, or no bytes for a text with a fault.
+fn program_of(alloc: Global, text: &[u8]) -> Result<Vec<u8>, AllocError>
+    ensures { IfOk result (λ program. program.items ≡ program_of text.now) }
+{
+    match assemble(alloc, text) {
+        Ok(program) => Ok(program),
+        Err(AsmError::Wrong(_)) => Ok(Vec::new(alloc)),
+        Err(AsmError::NoMemory) => Err(AllocError),
+    }
+}
+
+/// Returns what `asm` prints for a text.
+fn assembly(alloc: Global, text: &[u8], to_file: bool) -> Result<Answer, AllocError>
+    ensures { IfOk result (λ answer. Assembles to_file text.now (printed_of answer)) }
+{
+    let mut out = Vec::new(alloc);
+    let mut err = Vec::new(alloc);
+    let succeeds = assemble_text(alloc, text, &mut out, &mut err)?;
+    let mut file = Vec::new(alloc);
+    if to_file {
+        out.clear();
+        file = program_of(alloc, text)?;
+    }
+    Ok(Answer {
+        out,
+        err,
+        file,
+        succeeds,
+    })
+}
+
+/// Returns what `explain` prints for a program.
+fn explanation(alloc: Global, program: &[u8], bus: Bus, most: u32) -> Result<Answer, AllocError>
+    ensures { IfOk result (λ answer. Explains bus most program.now (printed_of answer)) }
+{
+    let mut out = Vec::new(alloc);
+    let mut err = Vec::new(alloc);
+    let succeeds = explain(alloc, program, bus, most, &mut out, &mut err)?;
+    let file = Vec::new(alloc);
+    Ok(Answer {
+        out,
+        err,
+        file,
+        succeeds,
+    })
+}
+
+/// Returns what `trace` prints for a program over RAM.
+fn tracing(
+    alloc: Global,
+    program: &[u8],
+    options: &TraceOptions,
+    ram: &mut [Region<'_>],
+) -> Result<Answer, AllocError>
+    requires { IsTrue (in_order (pieces_of ram.old)) }
+    ensures { IfOk result (λ answer.
+        Traces options.now ram.old program.now (printed_of answer)) }
+{
+    let mut out = Vec::new(alloc);
+    let mut err = Vec::new(alloc);
+    let succeeds = trace(alloc, program, ram, options, &mut out, &mut err)?;
+    let file = Vec::new(alloc);
+    Ok(Answer {
+        out,
+        err,
+        file,
+        succeeds,
+    })
+}
+
+/// Returns what `race` prints for a script, with the script of `run` for its file.
+fn racing(alloc: Global, script: &[u8], seed: u64) -> Result<Answer, AllocError>
+    ensures { IfOk result (λ answer. Races seed script.now (printed_of answer)) }
+{
+    let mut out = Vec::new(alloc);
+    let succeeds = race_by_seed(alloc, script, seed, &mut out)?;
+    let mut file = Vec::new(alloc);
+    script_of_seed(alloc, script, seed, &mut file)?;
+    let err = Vec::new(alloc);
+    Ok(Answer {
+        out,
+        err,
+        file,
+        succeeds,
+    })
+}
+
+/// Returns what a request prints for a program.
+fn reply(
+    alloc: Global,
+    request: &Request,
+    input: &[u8],
+    ram: &mut [Region<'_>],
+) -> Result<Answer, AllocError>
+    requires { IsTrue (in_order (pieces_of ram.old)) }
+    ensures { IfOk result (λ answer.
+        Replies request.now ram.old input.now (printed_of answer)) }
+{
+    match request {
+        Request::Dis { at } => listing(alloc, input, *at),
+        Request::Asm { to_file } => assembly(alloc, input, *to_file),
+        Request::Explain { bus, most } => explanation(alloc, input, *bus, *most),
+        Request::Trace(options) => tracing(alloc, input, options, ram),
+        Request::Race { seed } => racing(alloc, input, *seed),
+    }
+}
+
+/// Returns what is printed for hexadecimal text with a fault at an offset.
+fn hex_refusal(alloc: Global, text: &[u8], at: usize) -> Result<Answer, AllocError>
+    requires { at ≤ length text.now }
+    ensures { IfOk result (λ answer. printed_of answer ≡ hex_refusal text.now at) }
+{
+    let mut err = Vec::new(alloc);
+    print(
+        &mut err,
+        &(line_of(text, at), ":", column_of(text, at), ": "),
+    )?;
+    match text.get(at) {
+        Some(byte) => print(
+            &mut err,
+            &(
+                "byte 0x",
+                HexByte(*byte),
+                " is not a hexadecimal digit here\n",
+            ),
+        )?,
+        None => print(&mut err, &"the last byte lacks a digit\n")?,
+    }
+    Ok(Answer {
+        out: Vec::new(alloc),
+        err,
+        file: Vec::new(alloc),
+        succeeds: false,
+    })
+}
+
+/// Returns what a request prints for a program in hexadecimal text.
+fn hex_reply(
+    alloc: Global,
+    request: &Request,
+    text: &[u8],
+    ram: &mut [Region<'_>],
+) -> Result<Answer, AllocError>
+    requires { IsTrue (in_order (pieces_of ram.old)) }
+    ensures { IfOk result (λ answer.
+        HexReplies request.now ram.old text.now (printed_of answer)) }
+{
+    match read_hexadecimal(alloc, text)? {
+        Ok(program) => reply(alloc, request, &program, ram),
+        Err(at) => hex_refusal(alloc, text, at),
+    }
+}
+
+/// Returns what a request prints for its input.
+fn input_reply(
+    alloc: Global,
+    request: &Request,
+    is_hex: bool,
+    input: &[u8],
+    ram: &mut [Region<'_>],
+) -> Result<Answer, AllocError>
+    requires { IsTrue (in_order (pieces_of ram.old)) }
+    ensures { IfOk result (λ answer.
+        InputReplies request.now is_hex ram.old input.now (printed_of answer)) }
+{
+    if is_hex {
+        hex_reply(alloc, request, input, ram)
+    } else {
+        reply(alloc, request, input, ram)
+    }
+}
+
+/// Puts the name of the input before the message of an answer.
+fn under_name(alloc: Global, name: &str, answer: Answer) -> Result<Answer, AllocError>
+    ensures { IfOk result (λ shown. IsUnderName name.now (printed_of answer) (printed_of shown)) }
+{
+    let Answer {
+        out,
+        err,
+        file,
+        succeeds,
+    } = answer;
+    let err = named(alloc, name, &err)?;
+    Ok(Answer {
+        out,
+        err,
+        file,
+        succeeds,
+    })
+}
+
+/// Returns the answer to a request. Fails if memory runs out.
+pub fn answer(
+    alloc: Global,
+    request: &Request,
+    is_hex: bool,
+    name: &str,
+    input: &[u8],
+    ram: &mut [Region<'_>],
+) -> Result<Answer, AllocError>
+    requires { IsTrue (in_order (pieces_of ram.old)) }
+    ensures { IfOk result (λ answer.
+        Answers request.now is_hex name.now ram.old input.now (printed_of answer)) }
+{
+    let replied = input_reply(alloc, request, is_hex, input, ram)?;
+    under_name(alloc, name, replied)
+}

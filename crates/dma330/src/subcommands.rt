@@ -1,0 +1,178 @@
+//! The subcommands with their options and help, as clap has them.
+use clap::{Arg, ArgAction, Command};
+use std::alloc::{AllocError, Global};
+
+/// The version of the program, the same as that of the library for C.
+const VERSION: &str = "1.5.0";
+
+/// The help of the argument that names a program in bytes.
+const PROGRAM: &str = "The program; standard input if it is - or missing";
+
+/// Returns the argument that names the file that is read.
+fn file<'a>(alloc: Global, what: &'a str) -> Arg<'a> {
+    Arg::new(alloc, "file").value_name("FILE").help(what)
+}
+
+/// Returns an option with a value.
+fn option<'a>(alloc: Global, name: &'a str, value: &'a str, what: &'a str) -> Arg<'a> {
+    Arg::new(alloc, name)
+        .long(name)
+        .value_name(value)
+        .help(what)
+}
+
+/// Returns an option with a value that may be given several times.
+fn options<'a>(alloc: Global, name: &'a str, value: &'a str, what: &'a str) -> Arg<'a> {
+    option(alloc, name, value, what).action(ArgAction::Append)
+}
+
+/// Returns an option without a value.
+fn flag<'a>(alloc: Global, name: &'a str, what: &'a str) -> Arg<'a> {
+    Arg::new(alloc, name)
+        .long(name)
+        .action(ArgAction::SetTrue)
+        .help(what)
+}
+
+/// Returns the option for hexadecimal text.
+fn hex<'a>(alloc: Global) -> Arg<'a> {
+    let what = "FILE is text: pairs of hexadecimal digits, and comments after #";
+    flag(alloc, "hex", what)
+}
+
+/// Returns the option for the bus.
+fn bus<'a>(alloc: Global) -> Arg<'a> {
+    let what = "Width of the data bus; ideal: beats of up to 128 bits, whole at any address";
+    option(alloc, "bus", "BITS", what)
+        .value_parser(["32", "64", "128", "ideal"].as_slice())
+        .default_value("ideal")
+}
+
+/// Returns a command with these arguments.
+fn command<'a>(
+    alloc: Global,
+    name: &'a str,
+    about: &'a str,
+    example: &'a str,
+    args: Vec<Arg<'a>>,
+) -> Result<Command<'a>, AllocError> {
+    Command::new(alloc, name)
+        .about(about)
+        .after_help(example)
+        .args(args)
+}
+
+/// Returns the command of `dis`.
+fn dis<'a>(alloc: Global) -> Result<Command<'a>, AllocError> {
+    let about = "Prints a program's instructions in the manual's syntax, with addresses and bytes";
+    let example = "Example:\n  dma330 dis --hex --at 0x3000 examples/linux.hex";
+    let at = option(
+        alloc,
+        "at",
+        "ADDRESS",
+        "Address of the first byte [default: 0]",
+    );
+    let args = Vec::from_array(alloc, [at, hex(alloc), file(alloc, PROGRAM)])?;
+    command(alloc, "dis", about, example, args)
+}
+
+/// Returns the command of `asm`.
+fn asm<'a>(alloc: Global) -> Result<Command<'a>, AllocError> {
+    let about = "Assembles a program from the manual's syntax";
+    let example = "Example:\n  dma330 asm -o program.bin examples/nested.dmas";
+    let what = "Write the bytes to FILE, in place of hexadecimal text";
+    let output = option(alloc, "output", "FILE", what).short('o');
+    let text = file(alloc, "The text; standard input if it is - or missing");
+    let args = Vec::from_array(alloc, [output, text])?;
+    command(alloc, "asm", about, example, args)
+}
+
+/// Returns the command of `explain`.
+fn explain<'a>(alloc: Global) -> Result<Command<'a>, AllocError> {
+    let about =
+        "Prints what a program copies in every memory, or the first thing that is wrong with it";
+    let example = "Example:\n  dma330 explain --hex --bus 64 examples/linux.hex";
+    let most = option(
+        alloc,
+        "most",
+        "N",
+        "Give up after N instructions [default: 10000000]",
+    );
+    let args = [hex(alloc), bus(alloc), most, file(alloc, PROGRAM)];
+    let args = Vec::from_array(alloc, args)?;
+    command(alloc, "explain", about, example, args)
+}
+
+/// Returns the options of `trace` for RAM and events.
+fn machine_options<'a>(alloc: Global) -> Result<Vec<Arg<'a>>, AllocError> {
+    let ram = "RAM: 0, or the bytes of FILE and then 0";
+    let fail = "Let loads and stores here fail";
+    let event = "Set the flag of event N, 0 to 31, at the start";
+    let limit = "Stop after N instructions [default: 1000000]";
+    let args = [
+        options(alloc, "ram", "ADDRESS+LENGTH[=FILE]", ram).required(true),
+        options(alloc, "fail", "ADDRESS+LENGTH", fail),
+        options(alloc, "event", "N", event),
+        option(alloc, "limit", "N", limit),
+    ];
+    Ok(Vec::from_array(alloc, args)?)
+}
+
+/// Returns the options of `trace` for what is printed.
+fn printing_options<'a>(alloc: Global) -> Result<Vec<Arg<'a>>, AllocError> {
+    let from = "Print from instruction N on, counted from 1 [default: 1]";
+    let count = "Print at most N instructions [default: all]";
+    let dump = "Print these bytes after the end";
+    let args = [
+        option(alloc, "from", "N", from),
+        option(alloc, "count", "N", count),
+        flag(alloc, "quiet", "Print no instruction, only the end"),
+        options(alloc, "dump", "ADDRESS+LENGTH", dump),
+    ];
+    Ok(Vec::from_array(alloc, args)?)
+}
+
+/// Returns the command of `trace`.
+fn trace<'a>(alloc: Global) -> Result<Command<'a>, AllocError> {
+    let about = "Executes a program over RAM, and prints a line for each instruction";
+    let example = "Example:\n  dma330 trace --hex --ram 0x10000000+0x2000 --quiet \
+        --dump 0x10001000+16 examples/linux.hex";
+    let args = [hex(alloc), bus(alloc), file(alloc, PROGRAM)];
+    let args = Vec::from_array(alloc, args)?;
+    command(alloc, "trace", about, example, args)?
+        .args(machine_options(alloc)?)?
+        .args(printing_options(alloc)?)
+}
+
+/// Returns the command of `race`.
+fn race<'a>(alloc: Global) -> Result<Command<'a>, AllocError> {
+    let about =
+        "Executes a script of dmasim race in one thread, with its turns in the order of a seed";
+    let example = "Example:\n  dma330 race --seed 7 --script seven.dma examples/race.dma\n  \
+        dmasim run < seven.dma";
+    let seed = option(alloc, "seed", "N", "What the order is drawn from").required(true);
+    let what = "Write the same as a script of dmasim run, with the turns as step lines";
+    let script = option(alloc, "script", "FILE", what);
+    let text = file(alloc, "The script; standard input if it is - or missing");
+    let args = Vec::from_array(alloc, [seed, script, text])?;
+    command(alloc, "race", about, example, args)
+}
+
+/// Returns the command of the program.
+pub fn dma330<'a>(alloc: Global) -> Result<Command<'a>, AllocError> {
+    Command::new(alloc, "dma330")
+        .bin_name("dma330")?
+        .version(VERSION)
+        .about("A workbench for channel programs of the ARM DMA-330 (PL330)")
+        .after_help(
+            "docs/DMA330.md has what each command reads and prints.\n\
+             Status: 0, 1 for a fault of the input, 2 for wrong use, 3 if out of memory.",
+        )
+        .disable_help_subcommand(true)
+        .subcommand_required(true)
+        .subcommand(dis(alloc)?)?
+        .subcommand(asm(alloc)?)?
+        .subcommand(explain(alloc)?)?
+        .subcommand(trace(alloc)?)?
+        .subcommand(race(alloc)?)
+}

@@ -1,0 +1,4 @@
+mod Listings
+mod TextLines
+mod Readings
+mod OneLine

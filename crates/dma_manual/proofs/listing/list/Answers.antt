@@ -1,0 +1,19 @@
+use Rattle.std.proofs.Common.{arith, sym, ◌∙◌}
+use Rattle.dma_text.proofs.Begun.{begins_more}
+use Rattle.dma_manual.proofs.Listings.{listed_step}
+use Rattle.dma_manual.proofs.listing.list.Goals as goal
+
+pub loop-rest-preserved : goal.loop-rest-preserved
+loop-rest-preserved c =
+    let step =
+    listed_step c.args.at c.loop-rest.labels.items c.loop-rest.offset c.in-Ok.count c.loop-rest.rest.now c.in-Ok.insn c.loop-rest.out.items c.push_line.new.out.items
+    c.push_label.new.out.items c.split_at.result.1.now c.push_label.new.labels.items (sym c.in-Ok.ensures.exact) c.in-Ok.ensures.within.0
+    c.in-Ok.ensures.within.1 (sym c.if-is_end.ensures) c.deref.result.now c.deref.ensures.value c.in_ok-push_line-in-Ok.ensures.ok c.in_ok-push_label-in-Ok.ensures.ok
+    c.in_ok-push_label-in-Ok.ensures.labels c.split_at.ensures.back in
+    record {
+      counted = omega arith;
+      text = step.0 ∙ c.loop-rest.invariant.text;
+      ending = step.1 ∙ c.loop-rest.invariant.ending;
+      err = c.loop-rest.invariant.err;
+      begins = begins_more _ _ _ (begins_more _ _ _ c.loop-rest.invariant.begins c.push_line.ensures.begins) c.push_label.ensures.begins;
+    }

@@ -1,0 +1,212 @@
+-- The program to which a text assembles, or the first fault of the text, with its place (profile).
+use Rattle.std.specs.Prelude.{◌≡◌, ℕ, ◌+◌, ◌-◌, Bool, ◌==◌, ◌&&◌, if◌then◌else◌, List, [], ◌∷◌, ◌++◌, length, take, map, slice_index, nat_le, nat_lt, Option, Some, None, is_some, Result, Ok, Err, ok_or}
+use Rattle.dma_insn.specs.LineReading.{◌>>=◌}
+use Rattle.dma_insn.specs.AssemblyText.{most_program_bytes, text_lines}
+use Rattle.dma_insn.specs.Spelling.{spelling}
+use Rattle.dma_insn.specs.declared.insn.Counter.{Counter}
+use Rattle.dma_insn.specs.declared.insn.Counter.TheVariants.{Lc0, Lc1}
+use Rattle.dma_insn.specs.declared.insn.Insn.{Insn}
+use Rattle.dma_insn.specs.declared.insn.Insn.TheVariants.{Lp, LpEnd}
+use Rattle.dma_manual.specs.Words.{code_of, next_of, plain_byte}
+use Rattle.dma_manual.specs.Statements.{Label, label_of, label_view, statement_at}
+use Rattle.dma_manual.specs.declared.assembler.AsmCause.TheVariants as causes
+use Rattle.dma_manual.specs.declared.assembler.Fault.{Fault}
+use Rattle.dma_manual.specs.declared.assembler.Located.{Located}
+use Rattle.dma_manual.specs.declared.assembler.Spot.{Spot}
+use Rattle.dma_manual.specs.declared.assembler.Stop.{Stop}
+use Rattle.dma_manual.specs.declared.assembler.Stop.TheVariants.{NoMemory, At}
+use Rattle.dma_manual.specs.declared.draft.Draft.{Draft}
+use Rattle.dma_manual.specs.declared.draft.Loops.{Loops}
+use Rattle.dma_manual.specs.declared.draft.Open.{Open}
+use Rattle.dma_manual.specs.declared.statements.End.{End as LoopTo}
+use Rattle.dma_manual.specs.declared.statements.End.TheVariants as ends
+use Rattle.dma_manual.specs.declared.statements.Statement.{Statement}
+use Rattle.dma_manual.specs.declared.statements.Statement.TheVariants as says
+
+-- What the lines so far say: the program's bytes, the labels, and the loops that are open.
+pub record Read : Type 0 where
+  pub code : List ℕ
+  pub labels : List Label
+  pub loops : Loops
+
+abbrev pub draft_view : Draft → Read
+draft_view d = record { code = d.code.items; labels = map label_view d.labels.items; loops = d.loops }
+
+-- nothing is read
+abbrev pub empty : Read
+empty = record { code = []; labels = []; loops = record { lc0 = None; lc1 = None } }
+
+-- the place of a word of line n, which has `width` bytes; so many bytes are after the word
+abbrev pub spot_at : ℕ → ℕ → ℕ → ℕ → Spot
+spot_at n width len after = record { line = n; column = width - after - len + 1; len = len }
+
+abbrev pub located : ℕ → ℕ → Fault → Located
+located n width fault = record { spot = spot_at n width fault.len fault.after; cause = fault.cause }
+
+-- the place of the next word of a line
+abbrev pub place_of : ℕ → ℕ → Option (List ℕ × List ℕ) → Spot
+place_of n width None = spot_at n width 0 0
+place_of n width (Some w) = spot_at n width (length w.0) (length w.1)
+
+-- the program with more bytes; `TooLong` if they are more than 8,192
+abbrev pub with_bytes : List ℕ → List ℕ → Spot → Result (List ℕ) Located
+with_bytes code bytes spot =
+    if nat_le (length code + length bytes) most_program_bytes then Ok (code ++ bytes)
+    else Err (record { spot = spot; cause = causes.TooLong })
+
+-- the open loop of a counter
+abbrev pub slot : Loops → Counter → Option Open
+slot loops Lc0 = loops.lc0
+slot loops Lc1 = loops.lc1
+
+-- the loops with another one of a counter
+abbrev pub with_loop : Loops → Counter → Option Open → Loops
+with_loop loops Lc0 loop = record { lc0 = loop; lc1 = loops.lc1 }
+with_loop loops Lc1 loop = record { lc0 = loops.lc0; lc1 = loop }
+
+-- the first counter without an open loop
+abbrev pub free_of : Option Open → Option Open → Option Counter
+free_of None b = Some Lc0
+free_of (Some a) None = Some Lc1
+free_of (Some a) (Some b) = None
+
+abbrev pub free_counter : Loops → Option Counter
+free_counter loops = free_of loops.lc0 loops.lc1
+
+-- the counter and the start of the open loop that begins last
+abbrev pub innermost_of : Option Open → Option Open → Option (Counter × ℕ)
+innermost_of None None = None
+innermost_of (Some a) None = Some (Lc0, a.start)
+innermost_of None (Some b) = Some (Lc1, b.start)
+innermost_of (Some a) (Some b) = if nat_lt a.start b.start then Some (Lc1, b.start) else Some (Lc0, a.start)
+
+abbrev pub innermost : Loops → Option (Counter × ℕ)
+innermost loops = innermost_of loops.lc0 loops.lc1
+
+-- the counter of a DMALP, and its place if the counter has to be found
+abbrev pub found_counter : Option Counter → Spot → Result (Counter × Option Spot) Located
+found_counter None spot = Err (record { spot = spot; cause = causes.NoCounter })
+found_counter (Some counter) spot = Ok (counter, Some spot)
+
+abbrev pub chosen : Loops → Option Counter → Spot → Result (Counter × Option Spot) Located
+chosen loops (Some counter) spot = Ok (counter, None)
+chosen loops None spot = found_counter (free_counter loops) spot
+
+-- the length of a jump to a loop's start, at most 255 bytes
+abbrev pub back_to : ℕ → ℕ → Spot → Result ℕ Located
+back_to here start spot =
+    if nat_le start here && nat_le (here - start) 255 then Ok (here - start)
+    else Err (record { spot = spot; cause = causes.Far })
+
+-- the counter of a DMALPEND at an offset, and the length of its jump
+abbrev pub jump_of : Loops → ℕ → LoopTo → Spot → Result (Counter × ℕ) Located
+jump_of loops here ends.Innermost spot = do
+  l ← ok_or (innermost loops) (record { spot = spot; cause = causes.NoLoop })
+  back ← back_to here l.1 spot
+  Ok (l.0, back)
+jump_of loops here (ends.Of counter) spot = do
+  loop ← ok_or (slot loops counter) (record { spot = spot; cause = causes.NoLoop })
+  back ← back_to here loop.start spot
+  Ok (counter, back)
+jump_of loops here (ends.To counter start) spot = do
+  back ← back_to here start spot
+  Ok (counter, back)
+jump_of loops here (ends.Back counter back) spot = Ok (counter, back)
+
+-- with a DMALP, whose loop is open then
+abbrev pub begun : Read → Option Counter → ℕ → Spot → Result Read Located
+begun r counter times spot = do
+  c ← chosen r.loops counter spot
+  code ← with_bytes r.code (spelling (Lp c.0 times)) spot
+  Ok (record r { code = code; loops = with_loop r.loops c.0 (Some (record { start = length code; unnamed = c.1 })) })
+
+-- with a DMALPEND, which ends the open loop of its counter
+abbrev pub ended : Read → LoopTo → Spot → Result Read Located
+ended r end spot = do
+  jump ← jump_of r.loops (length r.code) end spot
+  code ← with_bytes r.code (spelling (LpEnd jump.0 jump.1)) spot
+  Ok (record r { code = code; loops = with_loop r.loops jump.0 None })
+
+-- with more bytes
+abbrev pub with_code : Read → List ℕ → Spot → Result Read Located
+with_code r bytes spot = do
+  code ← with_bytes r.code bytes spot
+  Ok (record r { code = code })
+
+-- with what a statement says
+abbrev pub after_statement : Read → Statement → Spot → Result Read Located
+after_statement r says.Nothing spot = Ok r
+after_statement r (says.Plain i) spot = with_code r (spelling i) spot
+after_statement r (says.Byte b) spot = with_code r (b ∷ []) spot
+after_statement r (says.Loop counter times) spot = begun r counter times spot
+after_statement r (says.LoopEnd end) spot = ended r end spot
+
+-- a statement, or the place of its fault
+abbrev pub placed : {A : Type 0} → ℕ → ℕ → Result A Fault → Result A Located
+placed n width (Ok x) = Ok x
+placed n width (Err fault) = Err (located n width fault)
+
+-- with what follows a label in line n
+unfoldable pub with_statement : Read → ℕ → ℕ → List ℕ → Result Read Located
+with_statement r n width rest = do
+  s ← placed n width (statement_at r.labels rest)
+  after_statement r s (place_of n width (next_of rest))
+
+-- the label at the front of a line, which a colon ends, and what follows it
+abbrev pub label_by : Option (List ℕ × List ℕ) → Option (List ℕ × List ℕ)
+label_by None = None
+label_by (Some w) = if slice_index w.0 (length w.0 - 1) == 58 then Some (take (length w.0 - 1) w.0, w.1) else None
+
+abbrev pub label_in : List ℕ → Option (List ℕ × List ℕ)
+label_in line = label_by (next_of line)
+
+-- with a label, which no other has the name of
+abbrev pub with_label : Read → ℕ → ℕ → List ℕ → List ℕ → Result Read Located
+with_label r n width name rest =
+    if is_some (label_of r.labels name)
+    then Err (record { spot = spot_at n width (length name + 1) (length rest); cause = causes.Twice })
+    else Ok (record r { labels = r.labels ++ (name, length r.code) ∷ [] })
+
+-- with line n, by the label at its front
+abbrev pub taken : Read → ℕ → List ℕ → Option (List ℕ × List ℕ) → Result Read Located
+taken r n line None = with_statement r n (length line) line
+taken r n line (Some w) = do
+  labelled ← with_label r n (length line) w.0 w.1
+  with_statement labelled n (length line) w.1
+
+abbrev pub take_line : Read → ℕ → List ℕ → Result Read Located
+take_line r n line = taken r n line (label_in line)
+
+-- with the lines that follow line n
+unfoldable pub take_lines : Read → ℕ → List (List ℕ) → Result Read Located
+take_lines r n [] = Ok r
+take_lines r n (line ∷ lines) = do
+  next ← take_line r (n + 1) (map plain_byte (code_of line))
+  take_lines next (n + 1) lines
+
+-- succeeds if each loop whose counter was found is ended
+abbrev pub ended_by : Option Spot → Result (Unit {0}) Located
+ended_by None = Ok tt
+ended_by (Some spot) = Err (record { spot = spot; cause = causes.Open })
+
+abbrev pub ended_loop : Option Open → Result (Unit {0}) Located
+ended_loop None = Ok tt
+ended_loop (Some loop) = ended_by loop.unnamed
+
+abbrev pub unclosed : Loops → Result (Unit {0}) Located
+unclosed loops = do
+  first ← ended_loop loops.lc0
+  ended_loop loops.lc1
+
+-- the program of a text, or the place and the cause of its first fault
+abbrev pub assembled : List ℕ → Result (List ℕ) Located
+assembled text = do
+  r ← take_lines empty 0 (text_lines text)
+  done ← unclosed r.loops
+  Ok r.code
+
+-- What a function returned, with `view` applied to a value, is `read`, unless memory ran out.
+abbrev pub ResultOr : {X Y : Type 0} → (X → Y) → Result X Stop → Result Y Located → Type 0
+ResultOr view (Ok x) read = read ≡ Ok (view x)
+ResultOr view (Err (At fault)) read = read ≡ Err fault
+ResultOr view (Err NoMemory) read = Unit {0}

@@ -1,0 +1,9 @@
+pub mod ManualText
+pub mod Listing
+pub mod Words
+pub mod Operands
+pub mod Fields
+pub mod Statements
+pub mod Assembled
+pub mod Errors
+pub mod Laws

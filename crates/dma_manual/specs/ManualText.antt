@@ -1,0 +1,77 @@
+-- An instruction in the syntax of the DMA-330's manual (ARM DDI 0424, instruction set and assembler directives).
+use Rattle.std.specs.Prelude.{ℕ, ◌+◌, ◌*◌, ◌/◌, ◌%◌, Bool, true, false, ◌==◌, if◌then◌else◌, List, [], ◌++◌, codes, decimal, Result, Ok, Err}
+use Rattle.dma_text.specs.Digits.{hex_digits}
+use Rattle.dma_insn.specs.ControlWord.{beat_bytes, control_of}
+use Rattle.dma_insn.specs.declared.control.BurstEnd.{BurstEnd}
+use Rattle.dma_insn.specs.declared.control.Control.{Control}
+use Rattle.dma_insn.specs.declared.control.ControlFault.{ControlFault}
+use Rattle.dma_insn.specs.declared.insn.Counter.{Counter}
+use Rattle.dma_insn.specs.declared.insn.Counter.TheVariants.{Lc0, Lc1}
+use Rattle.dma_insn.specs.declared.insn.Reg.{Reg}
+use Rattle.dma_insn.specs.declared.insn.Reg.TheVariants.{Sar, Ccr, Dar}
+use Rattle.dma_insn.specs.declared.insn.Insn.{Insn}
+use Rattle.dma_insn.specs.declared.insn.Insn.TheVariants.{Mov, Ld, St, Rmb, Wmb, Nop, End, Lp, LpEnd, Sev, Wfe}
+use Rattle.dma_manual.specs.declared.manual.Side.{Side}
+use Rattle.dma_manual.specs.declared.manual.Side.TheVariants.{Source, Destination}
+
+-- the name of a loop counter
+abbrev pub counter_name : Counter → List ℕ
+counter_name Lc0 = codes "lc0"
+counter_name Lc1 = codes "lc1"
+
+-- the letter with which the names of an end's fields begin
+abbrev pub letter : Side → List ℕ
+letter Source = codes "S"
+letter Destination = codes "D"
+
+-- The signals ARCACHE[3:0] or AWCACHE[3:0] for the three bits of a cache field: the field has ARCACHE[2:0], or
+-- AWCACHE[3] and AWCACHE[1:0]; ARCACHE[3] and AWCACHE[2] are low (manual, channel control registers).
+abbrev pub cache_signals : Side → ℕ → ℕ
+cache_signals Source code = code
+cache_signals Destination code = code % 4 + 8 * (code / 4)
+
+-- a field of an end, with a space before it
+abbrev pub field_text : List ℕ → List ℕ → List ℕ → List ℕ
+field_text side name value = codes " " ++ side ++ name ++ value
+
+-- a field of an end, with a space before it, unless its number is 0, the manual's default
+abbrev pub flag_text : List ℕ → List ℕ → ℕ → List ℕ
+flag_text side name n = if n == 0 then [] else field_text side name (decimal n)
+
+-- whether the address grows
+abbrev pub increment_name : Bool → List ℕ
+increment_name true = codes "AI"
+increment_name false = codes "AF"
+
+-- The fields of an end: its beats, the bits of a beat, whether the address grows, protection and cache.
+abbrev pub end_text : Side → BurstEnd → List ℕ
+end_text side e =
+    field_text (letter side) (codes "B") (decimal e.beats) ++ field_text (letter side) (codes "S") (decimal (8 * beat_bytes e.size))
+    ++ (codes " " ++ letter side ++ increment_name e.increments) ++ flag_text (letter side) (codes "P") e.protection
+    ++ flag_text (letter side) (codes "C") (cache_signals side e.cache)
+
+-- the fields of a control word, or ` 0x` and its eight digits if it is none that a channel accepts
+abbrev pub control_text_of : ℕ → Result Control ControlFault → List ℕ
+control_text_of word (Ok c) = end_text Source c.src ++ end_text Destination c.dst
+control_text_of word (Err fault) = codes " 0x" ++ hex_digits word
+
+-- the operand of DMAMOV CCR, with a space before each word
+abbrev pub control_text : ℕ → List ℕ
+control_text word = control_text_of word (control_of word)
+
+-- the line of an instruction, without label, comment or line feed
+abbrev pub manual_text : Insn → List ℕ
+manual_text End = codes "DMAEND"
+manual_text Ld = codes "DMALD"
+manual_text St = codes "DMAST"
+manual_text Rmb = codes "DMARMB"
+manual_text Wmb = codes "DMAWMB"
+manual_text Nop = codes "DMANOP"
+manual_text (Lp c n) = codes "DMALP " ++ counter_name c ++ codes ", " ++ decimal n
+manual_text (LpEnd c b) = codes "DMALPEND " ++ counter_name c ++ codes ", -" ++ decimal b
+manual_text (Sev e) = codes "DMASEV e" ++ decimal e
+manual_text (Wfe e false) = codes "DMAWFE e" ++ decimal e
+manual_text (Wfe e true) = codes "DMAWFE e" ++ decimal e ++ codes ", invalid"
+manual_text (Mov Sar v) = codes "DMAMOV SAR, 0x" ++ hex_digits v
+manual_text (Mov Dar v) = codes "DMAMOV DAR, 0x" ++ hex_digits v
+manual_text (Mov Ccr v) = codes "DMAMOV CCR," ++ control_text v

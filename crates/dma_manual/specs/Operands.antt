@@ -1,0 +1,56 @@
+-- What the operands of an instruction say (profile; the names are the manual's).
+use Rattle.std.specs.Prelude.{ℕ, ◌+◌, ◌*◌, ◌^◌, Bool, ◌==◌, ◌&&◌, if◌then◌else◌, List, [], ◌∷◌, length, drop, min, nat_eq, nat_lt, nat_le, codes, Option, Some, None, Result, Ok, Err, ok_or}
+use Rattle.std.specs.List.{starts_with}
+use Rattle.std.specs.Char.{digit_value}
+use Rattle.dma_insn.specs.LineReading.{◌>>=◌}
+use Rattle.dma_manual.specs.Words.{next_of}
+use Rattle.dma_manual.specs.declared.assembler.AsmCause.{AsmCause}
+use Rattle.dma_manual.specs.declared.assembler.AsmCause.TheVariants as causes
+use Rattle.dma_manual.specs.declared.assembler.Fault.{Fault}
+
+-- the fault of a word, which `rest` follows
+abbrev pub fault_at : AsmCause → List ℕ → List ℕ → Fault
+fault_at cause word rest = record { cause = cause; len = length word; after = length rest }
+
+-- the next word and what follows it; `missing` if there is none
+abbrev pub word_after : List ℕ → Fault → Result (List ℕ × List ℕ) Fault
+word_after rest missing = ok_or (next_of rest) missing
+
+-- succeeds if no word is left
+abbrev pub none_left : Option (List ℕ × List ℕ) → Result (Unit {0}) Fault
+none_left None = Ok tt
+none_left (Some w) = Err (fault_at causes.Extra w.0 w.1)
+
+-- the same of the rest of a line
+abbrev pub no_more : List ℕ → Result (Unit {0}) Fault
+no_more rest = none_left (next_of rest)
+
+-- a value continued by digits, capped at 2 ^ 32 after each; `None` if a byte is not a digit
+abbrev pub digits_from : ℕ → ℕ → List ℕ → Option ℕ
+digits_from radix value [] = Some value
+digits_from radix value (c ∷ rest) =
+    if nat_le radix (digit_value c) then None else digits_from radix (min (value * radix + digit_value c) (2 ^ 32)) rest
+
+-- the number that one or more digits spell, capped at 2 ^ 32, which is too large for any operand
+abbrev pub digits_in : ℕ → List ℕ → Option ℕ
+digits_in radix digits = if length digits == 0 then None else digits_from radix 0 digits
+
+-- the number that a word spells: after 0x in hexadecimal digits, else in decimal ones
+abbrev pub number_of : List ℕ → Option ℕ
+number_of word = if starts_with nat_eq word (codes "0x") then digits_in 16 (drop 2 word) else digits_in 10 word
+
+-- a number from low to high; the cause for any other number
+abbrev pub within : AsmCause → ℕ → ℕ → Option ℕ → List ℕ → List ℕ → Result ℕ Fault
+within cause low high None word rest = Err (fault_at causes.Number word rest)
+within cause low high (Some n) word rest =
+    if nat_le low n && nat_le n high then Ok n else Err (fault_at cause word rest)
+
+-- the number that the digits of a word spell
+abbrev pub number_at : AsmCause → ℕ → ℕ → List ℕ → List ℕ → List ℕ → Result ℕ Fault
+number_at cause low high digits word rest = within cause low high (number_of digits) word rest
+
+-- the number of an event, which e may precede
+abbrev pub event_at : List ℕ → List ℕ → Result ℕ Fault
+event_at word rest =
+    if starts_with nat_eq word (codes "e") then number_at causes.Event 0 31 (drop 1 word) word rest
+    else number_at causes.Event 0 31 word word rest

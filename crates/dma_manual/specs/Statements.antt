@@ -1,0 +1,185 @@
+-- What a line of assembly text says (profile; names and operands are the manual's).
+use Rattle.std.specs.Prelude.{ℕ, Bool, true, false, ◌&&◌, if◌then◌else◌, List, [], ◌∷◌, drop, slice_index, nat_eq, nat_le, codes, Option, Some, None, Result, Ok, Err, ok_or}
+use Rattle.std.specs.List.{starts_with}
+use Rattle.std.specs.Str.{bytes_eq}
+use Rattle.dma_insn.specs.LineReading.{◌>>=◌}
+use Rattle.dma_insn.specs.declared.insn.Reg.{Reg}
+use Rattle.dma_insn.specs.declared.insn.Reg.TheVariants.{Sar, Ccr, Dar}
+use Rattle.dma_insn.specs.declared.insn.Counter.{Counter}
+use Rattle.dma_insn.specs.declared.insn.Counter.TheVariants.{Lc0, Lc1}
+use Rattle.dma_insn.specs.declared.insn.Insn.{Insn}
+use Rattle.dma_insn.specs.declared.insn.Insn.TheVariants.{Mov, Ld, St, Rmb, Wmb, Nop, End, Lp, LpEnd, Sev, Wfe}
+use Rattle.dma_manual.specs.Words.{next_of}
+use Rattle.dma_manual.specs.Operands.{event_at, fault_at, no_more, number_at, word_after}
+use Rattle.dma_manual.specs.Fields.{fields_at}
+use Rattle.dma_manual.specs.declared.assembler.AsmCause.TheVariants as causes
+use Rattle.dma_manual.specs.declared.assembler.Fault.{Fault}
+use Rattle.dma_manual.specs.declared.statements.Named.{Named}
+use Rattle.dma_manual.specs.declared.statements.End.{End as LoopTo}
+use Rattle.dma_manual.specs.declared.statements.End.TheVariants as ends
+use Rattle.dma_manual.specs.declared.statements.Statement.{Statement}
+use Rattle.dma_manual.specs.declared.statements.Statement.TheVariants as says
+
+-- a label: its name and its offset
+abbrev pub Label : Type 0
+Label = List ℕ × ℕ
+
+abbrev pub label_view : Named → Label
+label_view l = (l.name.items, l.offset)
+
+-- the offset of the first label with a name
+abbrev pub label_of : List Label → List ℕ → Option ℕ
+label_of [] name = None
+label_of (l ∷ labels) name = if bytes_eq l.0 name then Some l.1 else label_of labels name
+
+-- an instruction without operands
+abbrev pub bare : Insn → List ℕ → Result Statement Fault
+bare i rest = do
+  done ← no_more rest
+  Ok (says.Plain i)
+
+-- the loop counter that a word names
+abbrev pub counter_of : List ℕ → Option Counter
+counter_of word = if bytes_eq word (codes "lc0") then Some Lc0 else (if bytes_eq word (codes "lc1") then Some Lc1 else None)
+
+-- the last word of a DMALP: the number of times
+abbrev pub times_line : Option Counter → List ℕ → List ℕ → Result Statement Fault
+times_line counter word rest = do
+  n ← number_at causes.Times 1 256 word word rest
+  done ← no_more rest
+  Ok (says.Loop counter n)
+
+-- the words after a DMALP, by whether the first is a counter
+abbrev pub loop_by : Option Counter → List ℕ → List ℕ → Fault → Result Statement Fault
+loop_by None word after missing = times_line None word after
+loop_by (Some counter) word after missing = do
+  w ← word_after after missing
+  times_line (Some counter) w.0 w.1
+
+-- the words after DMALP: a counter, which may be left out, and the number of times
+abbrev pub loop_line : List ℕ → List ℕ → Result Statement Fault
+loop_line name rest = do
+  w ← word_after rest (fault_at causes.Missing name rest)
+  loop_by (counter_of w.0) w.0 w.1 (fault_at causes.Missing name rest)
+
+-- where a DMALPEND jumps to: the number of bytes after a minus, or a label
+abbrev pub end_at : List Label → Counter → List ℕ → List ℕ → Result LoopTo Fault
+end_at labels counter word rest =
+    if starts_with nat_eq word (codes "-") then (number_at causes.Far 0 255 (drop 1 word) word rest >>= λ b. Ok (ends.Back counter b))
+    else (ok_or (label_of labels word) (fault_at causes.Label word rest) >>= λ o. Ok (ends.To counter o))
+
+-- the words after DMALPEND and a counter
+abbrev pub loop_end_to : List Label → Counter → Option (List ℕ × List ℕ) → Result Statement Fault
+loop_end_to labels counter None = Ok (says.LoopEnd (ends.Of counter))
+loop_end_to labels counter (Some w) = do
+  end ← end_at labels counter w.0 w.1
+  done ← no_more w.1
+  Ok (says.LoopEnd end)
+
+-- the words after DMALPEND: none, or a counter and what follows it
+abbrev pub loop_end_by : List Label → Option (List ℕ × List ℕ) → Result Statement Fault
+loop_end_by labels None = Ok (says.LoopEnd ends.Innermost)
+loop_end_by labels (Some w) = do
+  counter ← ok_or (counter_of w.0) (fault_at causes.Counter w.0 w.1)
+  loop_end_to labels counter (next_of w.1)
+
+abbrev pub loop_end_line : List Label → List ℕ → Result Statement Fault
+loop_end_line labels rest = loop_end_by labels (next_of rest)
+
+-- the word after DMASEV: an event
+abbrev pub event_line : List ℕ → List ℕ → Result Statement Fault
+event_line name rest = do
+  w ← word_after rest (fault_at causes.Missing name rest)
+  e ← event_at w.0 w.1
+  done ← no_more w.1
+  Ok (says.Plain (Sev e))
+
+-- whether the word after the event of a DMAWFE is `invalid`
+abbrev pub wait_by : Option (List ℕ × List ℕ) → Result Bool Fault
+wait_by None = Ok false
+wait_by (Some w) =
+    if bytes_eq w.0 (codes "invalid") then (no_more w.1 >>= λ done. Ok true) else Err (fault_at causes.Extra w.0 w.1)
+
+abbrev pub wait_flag : List ℕ → Result Bool Fault
+wait_flag rest = wait_by (next_of rest)
+
+-- the words after DMAWFE: an event, and optionally `invalid`
+abbrev pub wait_line : List ℕ → List ℕ → Result Statement Fault
+wait_line name rest = do
+  w ← word_after rest (fault_at causes.Missing name rest)
+  e ← event_at w.0 w.1
+  invalid ← wait_flag w.1
+  Ok (says.Plain (Wfe e invalid))
+
+-- the word after DCB: a byte
+abbrev pub byte_line : List ℕ → List ℕ → Result Statement Fault
+byte_line name rest = do
+  w ← word_after rest (fault_at causes.Missing name rest)
+  b ← number_at causes.Byte 0 255 w.0 w.0 w.1
+  done ← no_more w.1
+  Ok (says.Byte b)
+
+-- the last word of a DMAMOV: a value of 32 bits
+abbrev pub set_value : Reg → List ℕ → List ℕ → Result Statement Fault
+set_value reg word rest = do
+  v ← number_at causes.Value 0 0xffffffff word word rest
+  done ← no_more rest
+  Ok (says.Plain (Mov reg v))
+
+-- whether a word begins with a decimal digit
+abbrev pub is_numeral : List ℕ → Bool
+is_numeral [] = false
+is_numeral (c ∷ word) = nat_le 48 c && nat_le c 57
+
+-- the words after DMAMOV CCR: the value, or fields
+abbrev pub control_line : List ℕ → List ℕ → Result Statement Fault
+control_line name rest = do
+  w ← word_after rest (fault_at causes.Missing name rest)
+  if is_numeral w.0 then set_value Ccr w.0 w.1 else (fields_at rest >>= λ v. Ok (says.Plain (Mov Ccr v)))
+
+-- the word after DMAMOV SAR or DAR: an address
+abbrev pub address_line : Reg → List ℕ → List ℕ → Result Statement Fault
+address_line reg name rest = do
+  w ← word_after rest (fault_at causes.Missing name rest)
+  set_value reg w.0 w.1
+
+-- the words after DMAMOV: a register and what it is set to
+abbrev pub set_by : List ℕ → List ℕ → Result Statement Fault
+set_by word rest =
+    if bytes_eq word (codes "sar") then address_line Sar word rest else (
+    if bytes_eq word (codes "dar") then address_line Dar word rest else (
+    if bytes_eq word (codes "ccr") then control_line word rest else Err (fault_at causes.Register word rest)))
+
+abbrev pub set_line : List ℕ → List ℕ → Result Statement Fault
+set_line name rest = do
+  w ← word_after rest (fault_at causes.Missing name rest)
+  set_by w.0 w.1
+
+-- the fault of a word that names no instruction of the model
+abbrev pub no_name : List ℕ → List ℕ → Fault
+no_name name rest =
+    if starts_with nat_eq name (codes "dma") then fault_at causes.NotExecuted name rest else fault_at causes.Name name rest
+
+-- the statement of an instruction's name and the words after it
+unfoldable pub by_name : List Label → List ℕ → List ℕ → Result Statement Fault
+by_name labels name rest =
+    if bytes_eq name (codes "dmaend") then bare End rest else (
+    if bytes_eq name (codes "dmald") then bare Ld rest else (
+    if bytes_eq name (codes "dmast") then bare St rest else (
+    if bytes_eq name (codes "dmarmb") then bare Rmb rest else (
+    if bytes_eq name (codes "dmawmb") then bare Wmb rest else (
+    if bytes_eq name (codes "dmanop") then bare Nop rest else (
+    if bytes_eq name (codes "dmalp") then loop_line name rest else (
+    if bytes_eq name (codes "dmalpend") then loop_end_line labels rest else (
+    if bytes_eq name (codes "dmasev") then event_line name rest else (
+    if bytes_eq name (codes "dmawfe") then wait_line name rest else (
+    if bytes_eq name (codes "dmamov") then set_line name rest else (
+    if bytes_eq name (codes "dcb") then byte_line name rest else Err (no_name name rest))))))))))))
+
+-- what the words after a label say
+abbrev pub statement_by : List Label → Option (List ℕ × List ℕ) → Result Statement Fault
+statement_by labels None = Ok says.Nothing
+statement_by labels (Some w) = by_name labels w.0 w.1
+
+abbrev pub statement_at : List Label → List ℕ → Result Statement Fault
+statement_at labels rest = statement_by labels (next_of rest)

@@ -1,0 +1,170 @@
+//! Assembles a text in the manual's syntax.
+
+ghost use Rattle.std.specs.Prelude.{◌≡◌, ◌++◌, OnOk, OnErr, IfOk, is_ok};
+ghost use Rattle.dma_manual.specs.Errors.{IsAssembled, assembled_err, assembled_out};
+ghost use Rattle.dma_manual.specs.Assembled.{ResultOr, assembled, draft_view, empty, take_lines};
+ghost use Rattle.dma_insn.specs.AssemblyText.{text_lines};
+
+use crate::draft::{Draft, take_line};
+use crate::errors::{AsmError, Wrong, word_at};
+use crate::words::{plain_line, split_line};
+use dma_script::printing::ProgramLines;
+use dma_text::text::print;
+use std::alloc::{AllocError, Global};
+
+/// What is wrong with a word.
+#[derive(Clone, Copy)]
+pub enum AsmCause {
+    Name,
+    NotExecuted,
+    Missing,
+    Extra,
+    Number,
+    Times,
+    Far,
+    Event,
+    Byte,
+    Value,
+    Register,
+    Counter,
+    Field,
+    Swap,
+    Twice,
+    Label,
+    NoLoop,
+    NoCounter,
+    Open,
+    TooLong,
+}
+
+/// What is wrong with a word of a line, the word's length, and the number of bytes of the line after it.
+#[derive(Clone, Copy)]
+pub struct Fault {
+    pub cause: AsmCause,
+    pub len: usize,
+    pub after: usize,
+}
+
+/// The place of a word: the number of its line and its column, both from 1, and its length.
+#[derive(Clone, Copy)]
+pub struct Spot {
+    pub line: usize,
+    pub column: usize,
+    pub len: usize,
+}
+
+/// What is wrong with a word of a text.
+#[derive(Clone, Copy)]
+pub struct Located {
+    pub spot: Spot,
+    pub cause: AsmCause,
+}
+
+/// Why a text was not assembled.
+#[derive(Drop)]
+pub enum Stop {
+    NoMemory,
+    At(Located),
+}
+
+impl From<AllocError> for Stop {
+    ghost use Rattle.std.specs.Prelude.{◌≡◌};
+    ghost use Rattle.dma_manual.specs.declared.assembler.Stop.TheVariants.{NoMemory};
+
+    ghost from_gives = { λ _ e. e ≡ NoMemory };
+
+    fn from(_e: AllocError) -> Stop {
+        Stop::NoMemory
+    }
+}
+
+impl From<Located> for Stop {
+    ghost use Rattle.std.specs.Prelude.{◌≡◌};
+    ghost use Rattle.dma_manual.specs.declared.assembler.Stop.TheVariants.{At};
+
+    ghost from_gives = { λ located e. e ≡ At located };
+
+    fn from(located: Located) -> Stop {
+        Stop::At(located)
+    }
+}
+
+// Takes all lines of a text.
+#[tactic(auto, using(crate::proofs::Readings::lines_more, crate::proofs::Readings::lines_err, crate::proofs::Readings::lines_end))]
+fn draft_of(alloc: Global, text: &[u8]) -> Result<Draft, Stop>
+    ensures { ResultOr (λ draft. draft_view draft) result
+        (take_lines empty 0 (text_lines text.now)) }
+{
+    let mut draft = Draft::new(alloc);
+    let mut number = 0usize;
+    let mut rest = text;
+    while !rest.is_empty() {
+        let (line, after) = split_line(rest);
+        let plain = plain_line(alloc, line)?;
+        number += 1;
+        take_line(&mut draft, number, &plain)?;
+        rest = after;
+    }
+    Ok(draft)
+}
+
+// Returns the bytes of the program that a text describes, or its first fault.
+fn assemble_located(alloc: Global, text: &[u8]) -> Result<Vec<u8>, Stop>
+    ensures { ResultOr (λ program. program.items) result (assembled text.now) }
+{
+    let draft = draft_of(alloc, text)?;
+    draft.closed()?;
+    Ok(draft.code)
+}
+
+/// Returns the bytes of the program that a text describes, or the text's first fault.
+///
+/// A line has a label with a colon, an instruction, both or neither; a label names the offset of what follows it, so
+/// that of a loop is behind its DMALP. Letters are in either case, commas may be left out, and `;`, `#` or `/` begins a
+/// comment. A number is decimal or, after `0x`, hexadecimal. What is written is taken as it is; what is left out is
+/// found: DMALP without a counter takes a free one, and its loop has to be ended; DMALPEND without operands ends the
+/// innermost open loop, and with a counter that counter's loop. `DCB` is a byte. Fields of DMAMOV CCR are tested, and
+/// its value as a number is not.
+pub fn assemble(alloc: Global, text: &[u8]) -> Result<Vec<u8>, AsmError<'_>>
+    ensures { IsAssembled (λ program. program.items) text.now result }
+{
+    match assemble_located(alloc, text) {
+        Ok(program) => Ok(program),
+        Err(Stop::At(located)) => {
+            let word = word_at(text, located.spot);
+            Err(AsmError::Wrong(Wrong { located, word }))
+        }
+        Err(Stop::NoMemory) => Err(AsmError::NoMemory),
+    }
+}
+
+/// Assembles a text. Appends the program's bytes in hexadecimal digits to `out`, 16 to a line, and returns true; or
+/// appends the text's first fault to `err`, as `LINE:COLUMN: 'WORD' is ..`, and returns false. Appends nothing if memory
+/// runs out.
+pub fn assemble_text(
+    alloc: Global,
+    text: &[u8],
+    out: &mut Vec<u8>,
+    err: &mut Vec<u8>,
+) -> Result<bool, AllocError>
+    ensures out { OnOk result
+        (out.new.items ≡ out.old.items ++ assembled_out (assembled text.now)) }
+    ensures err { OnOk result
+        (err.new.items ≡ err.old.items ++ assembled_err text.now (assembled text.now)) }
+    ensures succeeded { IfOk result (λ succeeded. succeeded ≡ is_ok (assembled text.now)) }
+    ensures out_kept { OnErr result (out.new.items ≡ out.old.items) }
+    ensures err_kept { OnErr result (err.new.items ≡ err.old.items) }
+{
+    match assemble_located(alloc, text) {
+        Ok(program) => {
+            print(out, &ProgramLines(&program))?;
+            Ok(true)
+        }
+        Err(Stop::At(located)) => {
+            let word = word_at(text, located.spot);
+            print(err, &(Wrong { located, word }, "\n"))?;
+            Ok(false)
+        }
+        Err(Stop::NoMemory) => Err(AllocError),
+    }
+}

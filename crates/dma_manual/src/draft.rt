@@ -1,0 +1,375 @@
+//! The program so far, while a text is assembled.
+
+ghost use Rattle.std.specs.Prelude.{◌≡◌, ◌++◌, ◌+◌, ◌-◌, ◌≤◌, ◌<◌, [], ◌∷◌, length, map, Option, MatchOption, Some, None};
+ghost use Rattle.dma_insn.specs.Spelling.{spelling};
+ghost use Rattle.dma_insn.specs.LineReading.{ResultIs};
+ghost use Rattle.dma_manual.specs.Words.{next_of};
+ghost use Rattle.dma_manual.specs.Assembled.{ResultOr, after_statement, back_to, begun, chosen, draft_view, empty, ended, free_counter, innermost, jump_of, label_in, located, place_of, slot, spot_at, take_line, unclosed, with_bytes, with_label, with_loop, with_statement};
+ghost use Rattle.dma_manual.specs.Statements.{label_view};
+
+use crate::assembler::{AsmCause, Fault, Located, Spot, Stop};
+use crate::statements::{End, Named, Statement, label_of, statement_at};
+use crate::words::next_word;
+use dma_insn::assembler::MAX_PROGRAM_BYTES;
+use dma_insn::codec::encode;
+use dma_insn::insn::{Counter, Insn, Times};
+use std::alloc::Global;
+
+/// A loop that no DMALPEND has ended yet.
+#[derive(Clone, Copy)]
+pub struct Open {
+    /// The offset of the loop's body.
+    start: usize,
+    /// The place of a DMALP without a counter, whose loop has to be ended.
+    unnamed: Option<Spot>,
+}
+
+/// The open loops by their counters.
+#[derive(Clone, Copy)]
+pub struct Loops {
+    lc0: Option<Open>,
+    lc1: Option<Open>,
+}
+
+impl Loops {
+    // Returns the open loop of a counter.
+    fn slot(&self, counter: Counter) -> Option<Open>
+        ensures { result ≡ slot self.now counter }
+    {
+        match counter {
+            Counter::Lc0 => self.lc0,
+            Counter::Lc1 => self.lc1,
+        }
+    }
+
+    // Returns the loops with this one in place of the counter's.
+    fn with(&self, counter: Counter, started: Option<Open>) -> Loops
+        ensures { result ≡ with_loop self.now counter started }
+    {
+        match counter {
+            Counter::Lc0 => Loops {
+                lc0: started,
+                lc1: self.lc1,
+            },
+            Counter::Lc1 => Loops {
+                lc0: self.lc0,
+                lc1: started,
+            },
+        }
+    }
+
+    // Returns the first counter without an open loop.
+    fn free_counter(&self) -> Option<Counter>
+        ensures { result ≡ free_counter self.now }
+    {
+        match (self.lc0, self.lc1) {
+            (None, _) => Some(Counter::Lc0),
+            (Some(_), None) => Some(Counter::Lc1),
+            (Some(_), Some(_)) => None,
+        }
+    }
+
+    // Returns the counter and the start of the open loop that begins last.
+    fn innermost(&self) -> Option<(Counter, usize)>
+        ensures { result ≡ innermost self.now }
+    {
+        match (self.lc0, self.lc1) {
+            (None, None) => None,
+            (Some(a), None) => Some((Counter::Lc0, a.start)),
+            (None, Some(b)) => Some((Counter::Lc1, b.start)),
+            (Some(a), Some(b)) => {
+                if a.start < b.start {
+                    Some((Counter::Lc1, b.start))
+                } else {
+                    Some((Counter::Lc0, a.start))
+                }
+            }
+        }
+    }
+
+    // Succeeds if each loop whose counter was found is ended.
+    fn closed(&self) -> Result<(), Located>
+        ensures { result ≡ unclosed self.now }
+    {
+        if let Some(
+            Open {
+                unnamed: Some(spot),
+                ..
+            },
+        ) = self.lc0
+        {
+            return Err(Located {
+                spot,
+                cause: AsmCause::Open,
+            });
+        }
+        if let Some(
+            Open {
+                unnamed: Some(spot),
+                ..
+            },
+        ) = self.lc1
+        {
+            return Err(Located {
+                spot,
+                cause: AsmCause::Open,
+            });
+        }
+        Ok(())
+    }
+}
+
+/// The program so far.
+#[derive(Drop)]
+pub struct Draft {
+    pub code: Vec<u8>,
+    pub labels: Vec<Named>,
+    pub loops: Loops,
+}
+
+impl Draft {
+    /// Returns an empty program.
+    pub fn new(alloc: Global) -> Draft
+        ensures { draft_view result ≡ empty }
+    {
+        Draft {
+            code: Vec::new(alloc),
+            labels: Vec::new(alloc),
+            loops: Loops {
+                lc0: None,
+                lc1: None,
+            },
+        }
+    }
+
+    /// Succeeds if each loop whose counter was found is ended.
+    pub fn closed(&self) -> Result<(), Located>
+        ensures { result ≡ unclosed self.now.loops }
+    {
+        self.loops.closed()
+    }
+}
+
+// Returns the place of a word of a line, which has this many bytes and this many after it.
+fn spot_at(number: usize, line: &[u8], len: usize, after: usize) -> Spot
+    ensures { result ≡ spot_at number (length line.now) len after }
+{
+    let column = line.len().saturating_sub(after).saturating_sub(len) + 1;
+    Spot {
+        line: number,
+        column,
+        len,
+    }
+}
+
+// Returns a fault with its place in the text.
+fn located(number: usize, line: &[u8], fault: Fault) -> Located
+    ensures { result ≡ located number (length line.now) fault }
+{
+    Located {
+        spot: spot_at(number, line, fault.len, fault.after),
+        cause: fault.cause,
+    }
+}
+
+// Returns the place of the next word.
+fn place_of(number: usize, line: &[u8], rest: &[u8]) -> Spot
+    ensures { result ≡ place_of number (length line.now) (next_of rest.now) }
+{
+    match next_word(rest) {
+        None => spot_at(number, line, 0, 0),
+        Some((word, after)) => spot_at(number, line, word.len(), after.len()),
+    }
+}
+
+// Appends bytes to the program. Fails if it gets too long.
+fn push_bytes(code: &mut Vec<u8>, bytes: &[u8], spot: Spot) -> Result<(), Stop>
+    ensures { ResultOr (λ _. code.new.items) result (with_bytes code.old.items bytes.now spot) }
+{
+    if bytes.len() > MAX_PROGRAM_BYTES || code.len() > MAX_PROGRAM_BYTES - bytes.len() {
+        return Err(Stop::At(Located {
+            spot,
+            cause: AsmCause::TooLong,
+        }));
+    }
+    code.extend_from_slice(bytes)?;
+    Ok(())
+}
+
+// Appends an instruction to the program. Fails if it gets too long.
+fn push_insn(code: &mut Vec<u8>, insn: Insn, spot: Spot) -> Result<(), Stop>
+    ensures { ResultOr (λ _. code.new.items) result
+        (with_bytes code.old.items (spelling insn) spot) }
+{
+    let mut bytes = [0; 6];
+    let len = encode(insn, &mut bytes);
+    push_bytes(code, &bytes[..len], spot)
+}
+
+// Returns the counter of a DMALP, and its place if the counter has to be found.
+fn chosen(
+    loops: &Loops,
+    counter: Option<Counter>,
+    spot: Spot,
+) -> Result<(Counter, Option<Spot>), Located>
+    ensures { result ≡ chosen loops.now counter spot }
+{
+    match counter {
+        Some(counter) => Ok((counter, None)),
+        None => match loops.free_counter() {
+            Some(counter) => Ok((counter, Some(spot))),
+            None => Err(Located {
+                spot,
+                cause: AsmCause::NoCounter,
+            }),
+        },
+    }
+}
+
+// Returns the number of bytes from a loop's start to a DMALPEND, at most 255.
+fn back_to(here: usize, start: usize, spot: Spot) -> Result<u8, Located>
+    ensures { result ≡ back_to here start spot }
+{
+    if start <= here && here - start <= 255 {
+        Ok((here - start) as u8)
+    } else {
+        Err(Located {
+            spot,
+            cause: AsmCause::Far,
+        })
+    }
+}
+
+// Returns the counter of a DMALPEND at an offset, and the length of its jump.
+fn jump_of(loops: &Loops, here: usize, end: End, spot: Spot) -> Result<(Counter, u8), Located>
+    ensures { result ≡ jump_of loops.now here end spot }
+{
+    let missing = Located {
+        spot,
+        cause: AsmCause::NoLoop,
+    };
+    match end {
+        End::Innermost => {
+            let (counter, start) = loops.innermost().ok_or(missing)?;
+            Ok((counter, back_to(here, start, spot)?))
+        }
+        End::Of(counter) => {
+            let open = loops.slot(counter).ok_or(missing)?;
+            Ok((counter, back_to(here, open.start, spot)?))
+        }
+        End::To(counter, start) => Ok((counter, back_to(here, start, spot)?)),
+        End::Back(counter, back) => Ok((counter, back)),
+    }
+}
+
+// Appends a DMALP, and opens its loop.
+fn begin_loop(
+    draft: &mut Draft,
+    counter: Option<Counter>,
+    times: Times,
+    spot: Spot,
+) -> Result<(), Stop>
+    ensures { ResultOr (λ _. draft_view draft.new) result
+        (begun (draft_view draft.old) counter times spot) }
+{
+    let (counter, unnamed) = chosen(&draft.loops, counter, spot)?;
+    push_insn(&mut draft.code, Insn::Lp { counter, times }, spot)?;
+    let open = Open {
+        start: draft.code.len(),
+        unnamed,
+    };
+    draft.loops = draft.loops.with(counter, Some(open));
+    Ok(())
+}
+
+// Appends a DMALPEND, and closes its loop.
+fn end_loop(draft: &mut Draft, end: End, spot: Spot) -> Result<(), Stop>
+    ensures { ResultOr (λ _. draft_view draft.new) result
+        (ended (draft_view draft.old) end spot) }
+{
+    let (counter, back) = jump_of(&draft.loops, draft.code.len(), end, spot)?;
+    push_insn(&mut draft.code, Insn::LpEnd { counter, back }, spot)?;
+    draft.loops = draft.loops.with(counter, None);
+    Ok(())
+}
+
+// Appends what a statement says.
+fn push_statement(draft: &mut Draft, statement: Statement, spot: Spot) -> Result<(), Stop>
+    ensures { ResultOr (λ _. draft_view draft.new) result
+        (after_statement (draft_view draft.old) statement spot) }
+{
+    match statement {
+        Statement::Nothing => Ok(()),
+        Statement::Plain(insn) => push_insn(&mut draft.code, insn, spot),
+        Statement::Byte(byte) => push_bytes(&mut draft.code, &[byte], spot),
+        Statement::Loop { counter, times } => begin_loop(draft, counter, times, spot),
+        Statement::LoopEnd(end) => end_loop(draft, end, spot),
+    }
+}
+
+// Reads what follows a label, and appends it.
+#[tactic(auto, unfolding(crate::specs::Assembled::with_statement))]
+fn take_statement(draft: &mut Draft, number: usize, line: &[u8], rest: &[u8]) -> Result<(), Stop>
+    ensures { ResultOr (λ _. draft_view draft.new) result
+        (with_statement (draft_view draft.old) number (length line.now) rest.now) }
+{
+    let spot = place_of(number, line, rest);
+    match statement_at(&draft.labels, rest) {
+        Ok(statement) => push_statement(draft, statement, spot),
+        Err(fault) => Err(Stop::At(located(number, line, fault))),
+    }
+}
+
+// Returns the label at the front of a line, and what follows it.
+fn label_in(line: &[u8]) -> Option<(&[u8], &[u8])>
+    ensures { MatchOption result (label_in line.now ≡ None)
+        (λ w. label_in line.now ≡ Some (w.0.now, w.1.now)) }
+{
+    let (word, rest) = next_word(line)?;
+    match word {
+        [name @ .., b':'] => Some((name, rest)),
+        _ => None,
+    }
+}
+
+// Adds a label.
+fn add_label(
+    draft: &mut Draft,
+    number: usize,
+    line: &[u8],
+    name: &[u8],
+    rest: &[u8],
+) -> Result<(), Stop>
+    ensures { ResultOr (λ _. draft_view draft.new) result
+        (with_label (draft_view draft.old) number (length line.now) name.now rest.now) }
+{
+    if label_of(&draft.labels, name).is_some() {
+        let spot = spot_at(number, line, name.len() + 1, rest.len());
+        return Err(Stop::At(Located {
+            spot,
+            cause: AsmCause::Twice,
+        }));
+    }
+    let label = Named {
+        name: name.to_vec(*draft.code.allocator())?,
+        offset: draft.code.len(),
+    };
+    match draft.labels.push(label) {
+        Ok(()) => Ok(()),
+        Err(_) => Err(Stop::NoMemory),
+    }
+}
+
+/// Takes a plain line with its number.
+pub fn take_line(draft: &mut Draft, number: usize, line: &[u8]) -> Result<(), Stop>
+    ensures { ResultOr (λ _. draft_view draft.new) result
+        (take_line (draft_view draft.old) number line.now) }
+{
+    match label_in(line) {
+        None => take_statement(draft, number, line, line),
+        Some((name, rest)) => {
+            add_label(draft, number, line, name, rest)?;
+            take_statement(draft, number, line, rest)
+        }
+    }
+}

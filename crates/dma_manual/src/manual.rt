@@ -1,0 +1,153 @@
+//! The text of one instruction in the manual's syntax.
+
+ghost use Rattle.std.specs.Prelude.{◌≡◌, ◌++◌, ◌<◌, OnOk};
+ghost use Rattle.dma_insn.specs.ControlWord.{beat_bytes};
+ghost use Rattle.dma_manual.specs.ManualText.{cache_signals, control_text, counter_name, end_text, field_text, flag_text, letter, manual_text};
+ghost use Rattle.dma_text.specs.Text.{Begins};
+
+use dma_insn::control::{BurstEnd, Control};
+use dma_insn::insn::{Counter, Insn, Reg};
+use dma_text::text::{Address, Text};
+use std::alloc::AllocError;
+
+/// An instruction in the manual's syntax, as `DMALP lc0, 16`, without a label or a line feed. The jump of DMALPEND is
+/// its length in bytes, as `DMALPEND lc0, -12`.
+#[derive(Clone, Copy)]
+pub struct Manual(pub Insn);
+
+impl Text for Manual {
+    ghost text = { λ m. manual_text m.0 };
+
+    fn push(&self, out: &mut Vec<u8>) -> Result<(), AllocError> {
+        match self.0 {
+            Insn::End => "DMAEND".push(out),
+            Insn::Ld => "DMALD".push(out),
+            Insn::St => "DMAST".push(out),
+            Insn::Rmb => "DMARMB".push(out),
+            Insn::Wmb => "DMAWMB".push(out),
+            Insn::Nop => "DMANOP".push(out),
+            Insn::Lp { counter, times } => {
+                (
+                    "DMALP ",
+                    counter_name(counter),
+                    ", ",
+                    u32::from(times.number()),
+                )
+                    .push(out)
+            }
+            Insn::LpEnd { counter, back } => {
+                ("DMALPEND ", counter_name(counter), ", -", back).push(out)
+            }
+            Insn::Sev(event) => ("DMASEV e", event.number()).push(out),
+            Insn::Wfe { event, invalid } => {
+                let flag = if invalid { ", invalid" } else { "" };
+                ("DMAWFE e", event.number(), flag).push(out)
+            }
+            Insn::Mov(Reg::Sar, addr) => ("DMAMOV SAR, 0x", Address(addr)).push(out),
+            Insn::Mov(Reg::Dar, addr) => ("DMAMOV DAR, 0x", Address(addr)).push(out),
+            Insn::Mov(Reg::Ccr, word) => ("DMAMOV CCR,", ControlText(word)).push(out),
+        }
+    }
+}
+
+/// Returns the name of a loop counter.
+pub fn counter_name(counter: Counter) -> &'static str
+    ensures { result.now ≡ counter_name counter }
+{
+    match counter {
+        Counter::Lc0 => "lc0",
+        Counter::Lc1 => "lc1",
+    }
+}
+
+/// The end of a copy that a field of the control word is about.
+#[derive(Clone, Copy)]
+pub enum Side {
+    Source,
+    Destination,
+}
+
+impl Side {
+    // Returns the letter with which the names of the side's fields begin.
+    fn letter(self) -> &'static str
+        ensures { result.now ≡ letter self }
+    {
+        match self {
+            Side::Source => "S",
+            Side::Destination => "D",
+        }
+    }
+
+    // Returns the four cache signals of the bus for the three bits of a cache field.
+    fn cache_signals(self, code: u8) -> u8
+        requires { code < 8 }
+        ensures { result ≡ cache_signals self code }
+    {
+        match self {
+            Side::Source => code,
+            Side::Destination => code % 4 + 8 * (code / 4),
+        }
+    }
+}
+
+// A control word: its fields, with a space before each, or its bits if the fields can't express it.
+#[derive(Clone, Copy)]
+struct ControlText(u32);
+
+impl Text for ControlText {
+    ghost text = { λ word. control_text word.0 };
+
+    fn push(&self, out: &mut Vec<u8>) -> Result<(), AllocError> {
+        match Control::from_bits(self.0) {
+            Ok(control) => {
+                let source = EndText {
+                    side: Side::Source,
+                    end: control.src,
+                };
+                let destination = EndText {
+                    side: Side::Destination,
+                    end: control.dst,
+                };
+                (source, destination).push(out)
+            }
+            Err(_) => (" 0x", Address(self.0)).push(out),
+        }
+    }
+}
+
+// The fields of one end, with a space before each.
+#[derive(Clone, Copy)]
+struct EndText {
+    side: Side,
+    end: BurstEnd,
+}
+
+impl Text for EndText {
+    ghost text = { λ t. end_text t.side t.end };
+
+    fn push(&self, out: &mut Vec<u8>) -> Result<(), AllocError> {
+        let EndText { side, end } = *self;
+        let letter = side.letter();
+        (" ", letter, "B", end.beats.number()).push(out)?;
+        (" ", letter, "S", 8 * end.size.bytes()).push(out)?;
+        (" ", letter, if end.increments { "AI" } else { "AF" }).push(out)?;
+        push_unless_zero(out, letter, "P", end.protection.code())?;
+        push_unless_zero(out, letter, "C", side.cache_signals(end.cache.code()))
+    }
+}
+
+// Appends a field of one end, with a space before it, unless its number is 0, the manual's default.
+fn push_unless_zero(
+    out: &mut Vec<u8>,
+    letter: &str,
+    name: &str,
+    number: u8,
+) -> Result<(), AllocError>
+    ensures ok { OnOk result (out.new.items ≡ out.old.items ++ flag_text letter.now name.now number) }
+    ensures begins { Begins out.new.items out.old.items }
+{
+    if number == 0 {
+        return Ok(());
+    }
+    (" ", letter, name, number).push(out)
+}

@@ -1,0 +1,107 @@
+//! Reads the operands of an instruction. Each function takes the rest of a plain line.
+
+ghost use Rattle.std.specs.Prelude.{◌≡◌, ◌≤◌, ◌^◌, IfOk, IfSome};
+ghost use Rattle.dma_insn.specs.LineReading.{ResultIs};
+ghost use Rattle.dma_manual.specs.Words.{next_of};
+ghost use Rattle.dma_manual.specs.Operands.{digits_in, event_at, fault_at, no_more, number_at, number_of, word_after};
+
+use crate::assembler::{AsmCause, Fault};
+use crate::words::next_word;
+use dma_text::digits::digit_value;
+
+/// Returns the fault of a word, which `rest` follows.
+pub fn fault_at(cause: AsmCause, word: &[u8], rest: &[u8]) -> Fault
+    ensures { result ≡ fault_at cause word.now rest.now }
+{
+    Fault {
+        cause,
+        len: word.len(),
+        after: rest.len(),
+    }
+}
+
+/// Returns the next word and what follows it. Fails with `missing` if there is no word.
+pub fn word_after(rest: &[u8], missing: Fault) -> Result<(&[u8], &[u8]), Fault>
+    ensures { ResultIs (λ w. (w.0.now, w.1.now)) result (word_after rest.now missing) }
+{
+    next_word(rest).ok_or(missing)
+}
+
+/// Succeeds if no word is left. Fails with `Extra` at the next word otherwise.
+pub fn no_more(rest: &[u8]) -> Result<(), Fault>
+    ensures { result ≡ no_more rest.now }
+{
+    match next_word(rest) {
+        None => Ok(()),
+        Some((word, after)) => Err(fault_at(AsmCause::Extra, word, after)),
+    }
+}
+
+/// The cap of numbers, which is too large for any operand.
+const TOO_LARGE: u64 = 1 << 32;
+
+// Returns the number that digits spell, at most 2^32, or `None` if a byte is not a digit.
+fn digits_in(digits: &[u8], radix: u64) -> Option<u64>
+    ensures value { result ≡ digits_in radix digits.now }
+    ensures range { IfSome result (λ n. n ≤ 2 ^ 32) }
+{
+    if digits.is_empty() {
+        return None;
+    }
+    let mut value = 0u64;
+    for byte in digits {
+        let digit = u64::from(digit_value(*byte));
+        if digit >= radix {
+            return None;
+        }
+        value = value
+            .saturating_mul(radix)
+            .saturating_add(digit)
+            .min(TOO_LARGE);
+    }
+    Some(value)
+}
+
+// Returns the number that a word spells, in decimal or, after `0x`, in hexadecimal digits, at most 2^32.
+fn number_of(word: &[u8]) -> Option<u64>
+    ensures value { result ≡ number_of word.now }
+    ensures range { IfSome result (λ n. n ≤ 2 ^ 32) }
+{
+    match word {
+        [b'0', b'x', digits @ ..] => digits_in(digits, 16),
+        _ => digits_in(word, 10),
+    }
+}
+
+/// Returns the number that `digits` spell, from `low` to `high`; the word and what follows it are the place of a fault.
+pub fn number_at(
+    cause: AsmCause,
+    low: u64,
+    high: u64,
+    digits: &[u8],
+    word: &[u8],
+    rest: &[u8],
+) -> Result<u64, Fault>
+    ensures value { result ≡ number_at cause low high digits.now word.now rest.now }
+    ensures range { IfOk result (λ n. (low ≤ n) × (n ≤ high)) }
+{
+    let Some(number) = number_of(digits) else {
+        return Err(fault_at(AsmCause::Number, word, rest));
+    };
+    if low <= number && number <= high {
+        Ok(number)
+    } else {
+        Err(fault_at(cause, word, rest))
+    }
+}
+
+/// Returns the number of an event, which `e` may precede.
+pub fn event_at(word: &[u8], rest: &[u8]) -> Result<u64, Fault>
+    ensures value { result ≡ event_at word.now rest.now }
+    ensures range { IfOk result (λ n. n ≤ 31) }
+{
+    match word {
+        [b'e', digits @ ..] => number_at(AsmCause::Event, 0, 31, digits, word, rest),
+        _ => number_at(AsmCause::Event, 0, 31, word, word, rest),
+    }
+}

@@ -1,0 +1,5 @@
+pub mod RaceLemmas
+pub mod ReadLemmas
+pub mod ScriptLemmas
+pub mod TextLemmas
+pub mod TurnLemmas

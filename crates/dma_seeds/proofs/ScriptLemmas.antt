@@ -1,0 +1,37 @@
+-- A race as a run.
+use Rattle.std.proofs.Common.{List, [], ◌∷◌, ◌++◌, ℕ, ◌≡◌, ap, append_assoc, map, refl, sym, ◌∙◌}
+use Rattle.dma_mem.specs.declared.call.Call.TheVariants as calls
+use Rattle.dma_engine.specs.Answer.{answer, answers}
+use Rattle.dma_engine.specs.View.{View, new_view}
+use Rattle.dma_script.specs.Command.{Printed}
+use Rattle.dma_script.specs.declared.statements.Statement.{Statement}
+use Rattle.dma_script.specs.declared.statements.Statement.TheVariants as statements
+use Rattle.dma_commands.specs.Run.{line_answer, lines_answered}
+use Rattle.dma_seeds.specs.declared.turns.RaceTurn.{RaceTurn}
+use Rattle.dma_seeds.specs.Race.{lines_left, step_calls}
+use Rattle.dma_seeds.specs.Script.{RacesAreRuns, step_groups}
+
+lines_answered-append : (v : View) (xs ys : List Statement) → lines_answered v (xs ++ ys) ≡ lines_answered v xs ++ lines_answered (lines_left v xs) ys
+lines_answered-append v [] ys = refl
+lines_answered-append v (x ∷ xs) ys = ap (λ l. (line_answer v x).0 ∷ l) (lines_answered-append (line_answer v x).1 xs ys)
+
+-- the step lines of turns
+abbrev steps_of : List RaceTurn → List Statement
+steps_of turns = map (λ (turn : RaceTurn). statements.Step turn.channel 1) turns
+
+steps_answered : (v : View) (turns : List RaceTurn) (after : List Statement) → lines_answered v (steps_of turns ++ after) ≡ step_groups turns (answers v (step_calls turns)).0 ++ lines_answered (answers v (step_calls turns)).1 after
+steps_answered v [] after = refl
+steps_answered v (turn ∷ turns) after =
+    ap (λ l. (line_answer v (statements.Step turn.channel 1)).0 ∷ l) (steps_answered (answer v (calls.Step turn.channel)).1 turns after)
+
+pub races_are_runs : RacesAreRuns
+races_are_runs script turns =
+    let start = new_view script.before.size script.before.channels in
+    let before = script.before.statements in
+    let v = lines_left start before in
+    let went = answers v (step_calls turns) in
+    ap (λ (g : List (List (List ℕ))). let p : Printed = record { groups = [] ∷ g; status = 0 } in p)
+    (ap (lines_answered start) (append_assoc before (steps_of turns) script.after)
+    ∙ lines_answered-append start before (steps_of turns ++ script.after)
+    ∙ ap (λ l. lines_answered start before ++ l) (steps_answered v turns script.after)
+    ∙ sym (append_assoc (lines_answered start before) (step_groups turns went.0) (lines_answered went.1 script.after)))

@@ -1,0 +1,60 @@
+-- The lines of a text of lines.
+use Rattle.std.proofs.Common.{◌≡◌, ℕ, ◌+◌, ◌-◌, ◌<◌, ◌≤◌, true, false, List, [], ◌∷◌, ◌++◌, length, take, drop, get_or, refl, ap, sym, ◌∙◌, subst, arith, append_assoc, inl, inr, eqb, length-append}
+use Rattle.std.specs.Prelude.{if◌then◌else◌, slice_index}
+use Rattle.std.specs.List.{AllPass, list_all, position_or_len, before_first, after_first}
+use Rattle.std.specs.Str.Lines.{lines, strip_carriage_return}
+use Rattle.std.proofs.Math.ListN.{get_or-append}
+use Rattle.std.proofs.Math.Seq.{drop-append-add, get_or-append_seam, take-append_seam}
+use Rattle.std.proofs.lemmas.Bool.{cases_lt, ne_eqb, true≢false}
+use Rattle.std.proofs.lemmas.List.{get_or_past}
+use Rattle.std.proofs.lemmas.List.Sums.{AllPass-from_list_all, position_or_len_is}
+use Rattle.dma_script.specs.Command.{text_of}
+use Rattle.dma_script.specs.Words.{is_plain}
+use Rattle.dma_script.proofs.LineLemmas.{lines_first}
+
+-- lines without bytes that no script may have
+abbrev pub ArePlain : List (List ℕ) → Type 0
+ArePlain [] = Unit {0}
+ArePlain (line ∷ rest) = (list_all is_plain line ≡ true) × ArePlain rest
+
+pub plain_append : (xs ys : List (List ℕ)) → ArePlain xs → ArePlain ys → ArePlain (xs ++ ys)
+plain_append [] ys first rest = rest
+plain_append (x ∷ xs) ys (one, more) rest = (one, plain_append xs ys more rest)
+
+pub text_of-append : (xs ys : List (List ℕ)) → text_of (xs ++ ys) ≡ text_of xs ++ text_of ys
+text_of-append [] ys = refl
+text_of-append (x ∷ xs) ys = ap (λ t. (x ++ 10 ∷ []) ++ t) (text_of-append xs ys) ∙ sym (append_assoc (x ++ 10 ∷ []) (text_of xs) (text_of ys))
+
+-- a plain byte is none that isn't plain
+plain_other : (b c : ℕ) → is_plain b ≡ true → is_plain c ≡ false → eqb b c ≡ false
+plain_other b c plain odd = ne_eqb b c (λ same. true≢false (sym plain ∙ ap is_plain same ∙ odd))
+
+-- a plain line has no carriage return at its end
+plain_stripped : (line : List ℕ) → list_all is_plain line ≡ true → strip_carriage_return line ≡ line
+plain_stripped line plain =
+    let last : eqb (slice_index line (length line - 1)) 13 ≡ false = elim (cases_lt 0 (length line)) [
+      | inl some ↦ plain_other (slice_index line (length line - 1)) 13 (AllPass-from_list_all is_plain line plain (length line - 1) 0 (omega arith)) refl
+      | inr none ↦ ap (λ b. eqb b 13) (get_or_past line (length line - 1) 0 (omega arith))
+    ] in
+    rw last refl
+
+-- The first line of a text whose first line is plain.
+first_line : (line rest : List ℕ) → list_all is_plain line ≡ true → lines (line ++ 10 ∷ rest) ≡ line ∷ lines rest
+first_line line rest plain =
+    let p = λ (b : ℕ). eqb b 10 in
+    let bytes = line ++ 10 ∷ rest in
+    let many = length-append line (10 ∷ rest) in
+    let before : (k : ℕ) → k < length line → p (get_or bytes k 0) ≡ false = λ k less.
+    ap p (get_or-append line (10 ∷ rest) 0 k less) ∙ plain_other (get_or line k 0) 10 (AllPass-from_list_all is_plain line plain k 0 less) refl in
+    let here : p (get_or bytes (length line) 0) ≡ true = ap p (get_or-append_seam line 10 rest 0) in
+    let at : position_or_len p bytes ≡ length line = position_or_len_is p bytes (length line) 0 (omega (arith, many)) before (λ _. here) in
+    let front : before_first p bytes ≡ line = ap (λ n. take n bytes) at ∙ take-append_seam line (10 ∷ rest) in
+    let back : after_first p bytes ≡ rest =
+    ap (λ n. drop (n + 1) bytes) at ∙ drop-append-add line (10 ∷ rest) 1 in
+    lines_first bytes (omega (arith, at, many)) ∙ ap (λ l. strip_carriage_return l ∷ lines (after_first p bytes)) front
+    ∙ ap (λ l. l ∷ lines (after_first p bytes)) (plain_stripped line plain) ∙ ap (λ l. line ∷ lines l) back
+
+pub lines-text : (ls : List (List ℕ)) → ArePlain ls → lines (text_of ls) ≡ ls
+lines-text [] plain = refl
+lines-text (line ∷ rest) (one, more) =
+    ap lines (append_assoc line (10 ∷ []) (text_of rest)) ∙ first_line line (text_of rest) one ∙ ap (λ l. line ∷ l) (lines-text rest more)

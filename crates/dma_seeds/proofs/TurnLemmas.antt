@@ -1,0 +1,181 @@
+-- The turns that are drawn for a seed.
+use Rattle.std.proofs.Common.{◌≡◌, ℕ, zero, suc, ◌+◌, ◌-◌, ◌*◌, ◌%◌, ◌^◌, ◌<◌, ◌≤◌, true, false, List, [], ◌∷◌, ◌++◌, length, take, drop, refl, ap, sym, ◌∙◌, subst, arith, inl, inr, map}
+use Rattle.std.specs.Prelude.{nat_lt, if◌then◌else◌, slice_index_or, slice_set}
+use Rattle.std.specs.List.{All, sum_by}
+use Rattle.std.proofs.lemmas.Bool.{cases_eq, cases_lt, eq-eqb, lt-ltb, le-ltb, ne_eqb}
+use Rattle.std.proofs.lemmas.List.{get_or-map, get_or-set_other, get_or-set_same, get_or_past, length-map, set_past}
+use Rattle.std.proofs.lemmas.List.Sums.{get_or-le-sum_by, sum_by-cons, sum_by-set}
+use Rattle.dma_script.specs.Race.{IsJob}
+use Rattle.dma_script.specs.declared.race.JobLine.{JobLine}
+use Rattle.dma_seeds.specs.declared.turns.RaceTurn.{RaceTurn}
+use Rattle.dma_seeds.specs.declared.turns.TurnsLeft.{TurnsLeft}
+use Rattle.rand_xoshiro.specs.SplitMix64.{mix_u64}
+use Rattle.dma_seeds.specs.Turns.{after_turn, drawn, Interleaves, all_turns, channels_from, channels_of, following, job_at, next_word, no_turns, total_left, turns_of_seed}
+
+-- ---- the job of a turn
+
+-- the first job has the turn, or one of the others
+pub job_at-here : (job : TurnsLeft) (jobs : List TurnsLeft) (place : ℕ) → place < job.left → job_at (job ∷ jobs) place ≡ 0
+job_at-here job jobs place less = ap (λ b. if b then 0 else suc (job_at jobs (place - job.left))) (lt-ltb place job.left less)
+
+pub job_at-behind : (job : TurnsLeft) (jobs : List TurnsLeft) (place : ℕ) → job.left ≤ place → job_at (job ∷ jobs) place ≡ suc (job_at jobs (place - job.left))
+job_at-behind job jobs place le = ap (λ b. if b then 0 else suc (job_at jobs (place - job.left))) (le-ltb place job.left le)
+
+pub total-cons : (job : TurnsLeft) (jobs : List TurnsLeft) → total_left (job ∷ jobs) ≡ job.left + total_left jobs
+total-cons job jobs = sum_by-cons (λ (j : TurnsLeft). j.left) job jobs
+
+-- the job of a turn that is left exists, and has a turn left
+pub record HasTurn (jobs : List TurnsLeft) (k : ℕ) : Type 0 where
+  pub there : k < length jobs
+  pub some : 0 < (slice_index_or jobs k no_turns).left
+
+pub job_at-has : (jobs : List TurnsLeft) (place : ℕ) → place < total_left jobs → HasTurn jobs (job_at jobs place)
+job_at-has [] place less = absurd (omega (arith, less))
+job_at-has (job ∷ jobs) place less = elim (cases_lt place job.left) [
+  | inl here ↦ rw (job_at-here job jobs place here) (record { there = omega arith; some = omega (arith, here) })
+  | inr behind ↦
+      let rest = job_at-has jobs (place - job.left) (omega (arith, less, behind, total-cons job jobs)) in
+      rw (job_at-behind job jobs place behind) (record { there = omega (arith, rest.there); some = rest.some })
+]
+
+-- ---- one turn
+
+module _ (jobs : List TurnsLeft) (k : ℕ) (has : HasTurn jobs k) where
+  -- one turn fewer is left
+  pub total-after : (n : ℕ) → total_left jobs ≡ suc n → total_left (slice_set jobs k (after_turn (slice_index_or jobs k no_turns))) ≡ n
+  total-after n total =
+      omega (arith, total, has.some, sum_by-set (λ (j : TurnsLeft). j.left) jobs k (after_turn (slice_index_or jobs k no_turns)) no_turns has.there)
+
+-- ---- all turns
+
+pub drawn-none : (state : ℕ) (jobs : List TurnsLeft) → drawn 0 state jobs ≡ []
+unfolding drawn
+drawn-none state jobs = refl
+
+-- the last n + 1 turns, by the generator's word and its next state
+abbrev drawn_with : ℕ → List TurnsLeft → ℕ × ℕ → List RaceTurn
+drawn_with n jobs w =
+    let k = job_at jobs (w.0 % suc n) in
+    let job = slice_index_or jobs k no_turns in
+    record { job = k; channel = job.next } ∷ drawn n w.1 (slice_set jobs k (after_turn job))
+
+pub drawn-suc : (n state : ℕ) (jobs : List TurnsLeft) → drawn (suc n) state jobs ≡ drawn_with n jobs (next_word state)
+unfolding drawn
+drawn-suc n state jobs = refl
+
+pub word-is : (state : ℕ) → next_word state ≡ mix_u64 state
+unfolding next_word
+word-is state = refl
+
+-- one turn is taken, with the generator's next word
+pub drawn-next : (left state word state' : ℕ) (jobs : List TurnsLeft) (k : ℕ) (job after : TurnsLeft) → 0 < left → (word, state') ≡ mix_u64 state → k ≡ job_at jobs (word % left) → job ≡ slice_index_or jobs k no_turns → after ≡ after_turn job → drawn left state jobs ≡ record { job = k; channel = job.next } ∷ drawn (left - 1) state' (slice_set jobs k after)
+drawn-next zero state word state' jobs k job after some words at here fits = absurd (omega arith)
+drawn-next (suc n) state word state' jobs k job after some words at here fits =
+    let fewer : suc n - 1 ≡ n = omega arith in
+    drawn-suc n state jobs ∙ ap (drawn_with n jobs) (word-is state ∙ sym words) ∙ rw (fewer, fits, here, at) refl
+
+pub length-drawn : (n state : ℕ) (jobs : List TurnsLeft) → length (drawn n state jobs) ≡ n
+unfolding drawn
+length-drawn zero state jobs = refl
+length-drawn (suc n) state jobs = ap suc (length-drawn n _ _)
+
+-- ---- the turns of each job
+
+-- the channels that a job has left
+abbrev left_channels : TurnsLeft → List ℕ
+left_channels t = channels_from t.first t.last t.next t.left
+
+left_next : (first last ch left : ℕ) → 0 < left → channels_from first last ch left ≡ ch ∷ channels_from first last (following first last ch) (left - 1)
+left_next first last ch zero some = absurd (omega arith)
+left_next first last ch (suc m) some = let fewer : suc m - 1 ≡ m = omega arith in rw fewer refl
+
+-- where no turn is left, no job has a turn
+none_left : (jobs : List TurnsLeft) (k : ℕ) → total_left jobs ≡ 0 → left_channels (slice_index_or jobs k no_turns) ≡ []
+none_left jobs k none =
+    let job = slice_index_or jobs k no_turns in
+    let zero_left : job.left ≡ 0 = elim (cases_lt k (length jobs)) [
+      | inl less ↦ omega (arith, none, get_or-le-sum_by (λ (j : TurnsLeft). j.left) jobs k no_turns less)
+      | inr past ↦ ap (λ (j : TurnsLeft). j.left) (get_or_past jobs k no_turns past)
+    ] in
+    ap (channels_from job.first job.last job.next) zero_left
+
+-- Each job takes the turns that it has left, in its order.
+pub drawn-each : (n state : ℕ) (jobs : List TurnsLeft) (k : ℕ) → total_left jobs ≡ n → channels_of k (drawn n state jobs) ≡ left_channels (slice_index_or jobs k no_turns)
+drawn-each zero state jobs k total = ap (channels_of k) (drawn-none state jobs) ∙ sym (none_left jobs k total)
+drawn-each (suc n) state jobs k total =
+    let w = next_word state in
+    let at = job_at jobs (w.0 % suc n) in
+    let has = job_at-has jobs (w.0 % suc n) (omega (arith, total)) in
+    let job = slice_index_or jobs at no_turns in
+    let rest = slice_set jobs at (after_turn job) in
+    let others = drawn-each n w.1 rest k (total-after jobs at has n total) in
+    ap (channels_of k) (drawn-suc n state jobs)
+    ∙ elim (cases_eq at k) [
+      | inl same ↦
+          ap (λ b. if b then job.next ∷ channels_of k (drawn n w.1 rest) else channels_of k (drawn n w.1 rest)) (eq-eqb at k same)
+          ∙ ap (λ l. job.next ∷ l) (others ∙ ap left_channels (ap (λ i. slice_index_or rest i no_turns) (sym same) ∙ get_or-set_same jobs at (after_turn job) no_turns has.there))
+          ∙ sym (left_next job.first job.last job.next job.left has.some)
+          ∙ ap (λ i. left_channels (slice_index_or jobs i no_turns)) same
+      | inr apart ↦
+          ap (λ b. if b then job.next ∷ channels_of k (drawn n w.1 rest) else channels_of k (drawn n w.1 rest)) (ne_eqb at k apart)
+          ∙ others ∙ ap left_channels (get_or-set_other jobs at k (after_turn job) no_turns (λ e. apart (sym e)))
+    ]
+
+-- The turns for a seed are an interleaving of the jobs' turns.
+pub seeds-interleave : (lines : List JobLine) (seed : ℕ) → Interleaves lines (turns_of_seed lines seed)
+seeds-interleave lines seed =
+    let jobs = map all_turns lines in
+    record {
+      each = λ k j less. drawn-each (total_left jobs) seed jobs k refl ∙ ap left_channels (get_or-map all_turns lines k j no_turns less);
+      no_others = λ k past. drawn-each (total_left jobs) seed jobs k refl ∙ ap left_channels (get_or_past jobs k no_turns (omega (arith, past, length-map lines all_turns)));
+    }
+
+-- ---- the channels
+
+-- the channels of a job are at most the last one
+abbrev IsLow : TurnsLeft → Type 0
+IsLow t = (t.first ≤ 7) × (t.last ≤ 7) × (t.next ≤ 7)
+
+-- the channels of turns are at most the last one
+abbrev pub AreLow : List RaceTurn → Type 0
+AreLow [] = Unit {0}
+AreLow (t ∷ turns) = (t.channel ≤ 7) × AreLow turns
+
+following_low : (first last ch : ℕ) → first ≤ 7 → last ≤ 7 → following first last ch ≤ 7
+following_low first last ch f l = elim (cases_lt ch last) [
+  | inl less ↦ rw (lt-ltb ch last less) (omega arith)
+  | inr le ↦ rw (le-ltb ch last le) f
+]
+
+after_low : (t : TurnsLeft) → IsLow t → IsLow (after_turn t)
+after_low t low = (low.0, low.1, following_low t.first t.last t.next low.0 low.1)
+
+set_low : (jobs : List TurnsLeft) (at : ℕ) (t : TurnsLeft) → IsLow t → ((k : ℕ) → IsLow (slice_index_or jobs k no_turns)) → (k : ℕ) → IsLow (slice_index_or (slice_set jobs at t) k no_turns)
+set_low jobs at t low each k = elim (cases_eq k at) [
+  | inl same ↦ elim (cases_lt at (length jobs)) [
+    | inl less ↦ subst IsLow (sym (ap (λ i. slice_index_or (slice_set jobs at t) i no_turns) same ∙ get_or-set_same jobs at t no_turns less)) low
+    | inr past ↦ subst IsLow (ap (λ l. slice_index_or l k no_turns) (sym (set_past jobs at t past))) (each k)
+  ]
+  | inr apart ↦ subst IsLow (sym (get_or-set_other jobs at k t no_turns apart)) (each k)
+]
+
+drawn-low : (n state : ℕ) (jobs : List TurnsLeft) → ((k : ℕ) → IsLow (slice_index_or jobs k no_turns)) → AreLow (drawn n state jobs)
+drawn-low zero state jobs each = subst AreLow (sym (drawn-none state jobs)) tt
+drawn-low (suc n) state jobs each =
+    let w = next_word state in
+    let at = job_at jobs (w.0 % suc n) in
+    let job = slice_index_or jobs at no_turns in
+    subst AreLow (sym (drawn-suc n state jobs)) ((each at).2, drawn-low n w.1 (slice_set jobs at (after_turn job)) (set_low jobs at (after_turn job) (after_low job (each at)) each))
+
+-- The turns for a seed step channels that a job may name.
+pub seeds-low : (lines : List JobLine) (seed : ℕ) → All IsJob lines → AreLow (turns_of_seed lines seed)
+seeds-low lines seed jobs =
+    let all = map all_turns lines in
+    let each : (k : ℕ) → IsLow (slice_index_or all k no_turns) = λ k. elim (cases_lt k (length lines)) [
+      | inl less ↦
+          let line = slice_index_or lines k (record { first = 0; last = 0; turns = 0 }) in
+          let is = jobs k (record { first = 0; last = 0; turns = 0 }) less in
+          subst IsLow (sym (get_or-map all_turns lines k (record { first = 0; last = 0; turns = 0 }) no_turns less)) (omega (arith, is.0, is.1), is.1, omega (arith, is.0, is.1))
+      | inr past ↦ subst IsLow (sym (get_or_past all k no_turns (omega (arith, past, length-map lines all_turns)))) (omega arith, omega arith, omega arith)
+    ] in
+    drawn-low (total_left all) seed all each

@@ -1,0 +1,69 @@
+-- What a race prints whose turns are taken in a given order (profile).
+use Rattle.std.specs.Prelude.{ℕ, List, [], ◌∷◌, ◌++◌, map, Result, Ok, Err, codes, decimal}
+use Rattle.std.specs.List.{sum_by}
+use Rattle.dma_mem.specs.declared.call.Call.{Call}
+use Rattle.dma_mem.specs.declared.call.Call.TheVariants as calls
+use Rattle.dma_engine.specs.declared.call.Reply.{Reply}
+use Rattle.dma_engine.specs.declared.call.Reply.TheVariants.{Turned}
+use Rattle.dma_engine.specs.declared.turn.Turn.TheVariants.{Moved, Finished}
+use Rattle.dma_engine.specs.Answer.{answers}
+use Rattle.dma_engine.specs.View.{View, new_view}
+use Rattle.dma_script.specs.Command.{Printed, refusal}
+use Rattle.dma_script.specs.Printing.{fault_line}
+use Rattle.dma_script.specs.Race.{race_script_of}
+use Rattle.dma_script.specs.declared.fault.Fault.{Fault}
+use Rattle.dma_script.specs.declared.race.RaceScript.{RaceScript}
+use Rattle.dma_script.specs.declared.statements.Statement.{Statement}
+use Rattle.dma_commands.specs.Run.{line_answer, lines_answered}
+use Rattle.dma_seeds.specs.declared.turns.RaceTurn.{RaceTurn}
+use Rattle.dma_seeds.specs.Turns.{turns_of_seed}
+
+-- the calls of turns: each steps its channel
+abbrev pub step_calls : List RaceTurn → List Call
+step_calls turns = map (λ (turn : RaceTurn). calls.Step turn.channel) turns
+
+-- how many steps a reply counts: one if the step executed an instruction or finished a cookie, else none
+abbrev pub steps_in : Reply → ℕ
+steps_in (Turned Moved) = 1
+steps_in (Turned (Finished cookie result residue)) = 1
+steps_in _ = 0
+
+-- how many cookies a reply finishes: one or none
+abbrev pub finishes_in : Reply → ℕ
+finishes_in (Turned (Finished cookie result residue)) = 1
+finishes_in _ = 0
+
+-- `go steps N finished N`, given the replies to the turns
+abbrev pub go_line : List Reply → List ℕ
+go_line replies =
+    codes "go steps " ++ decimal (sum_by steps_in replies) ++ codes " finished " ++ decimal (sum_by finishes_in replies)
+
+-- the view after lines of a script
+abbrev pub lines_left : View → List Statement → View
+lines_left v [] = v
+lines_left v (line ∷ rest) = lines_left (line_answer v line).1 rest
+
+-- What is printed if the jobs of a race script take these turns in this order: what `run` prints for the lines before
+-- `go`, then the text that `middle` gives for the replies to the turns' steps, then what `run` prints for the lines
+-- after `go` on the view after those steps.
+abbrev pub printed_around : RaceScript → List RaceTurn → (List Reply → List (List (List ℕ))) → Printed
+printed_around script turns middle =
+    let start = new_view script.before.size script.before.channels in
+    let went = answers (lines_left start script.before.statements) (step_calls turns) in
+    record {
+      groups = ([] ∷ lines_answered start script.before.statements) ++ middle went.0 ++ lines_answered went.1 script.after;
+      status = 0;
+    }
+
+-- What a race script prints if its jobs take these turns in this order: `go` prints its one line.
+abbrev pub raced : RaceScript → List RaceTurn → Printed
+raced script turns = printed_around script turns (λ replies. (go_line replies ∷ []) ∷ [])
+
+-- what is printed for a parsed script and a seed; a script with a fault prints its first fault
+abbrev pub race_printed_of : Result RaceScript Fault → ℕ → Printed
+race_printed_of (Ok script) seed = raced script (turns_of_seed script.jobs seed)
+race_printed_of (Err fault) seed = refusal (fault_line fault)
+
+-- What is printed for an input and a seed.
+abbrev pub race_printed : List ℕ → ℕ → Printed
+race_printed input seed = race_printed_of (race_script_of input) seed

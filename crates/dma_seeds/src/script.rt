@@ -1,0 +1,79 @@
+//! A race whose turns are taken in the order that a seed determines, as a script of `run`.
+
+ghost use Rattle.std.specs.Prelude.{◌≡◌, ◌++◌, IfOk, OnErr, OnOk, is_ok};
+ghost use Rattle.dma_script.specs.Race.{race_script_of};
+ghost use Rattle.dma_script.specs.Words.{words_of};
+ghost use Rattle.dma_seeds.specs.Script.{script_text, text_for, text_with, turns_text};
+
+use crate::turns::Turns;
+use dma_script::fault::ScriptError;
+use dma_script::printing::print_line;
+use dma_script::race::read_race_script;
+use dma_script::words::{next_word, split_line};
+use dma_text::bytes::is_text;
+use std::alloc::{AllocError, Global};
+
+/// Returns the lines of turns, a `step` for each. Fails if memory runs out.
+fn text_of_turns(alloc: Global, turns: Turns) -> Result<Vec<u8>, AllocError>
+    ensures { IfOk result (λ text. text.items ≡ turns_text turns) }
+{
+    let mut turns = turns;
+    let mut text = Vec::new(alloc);
+    while let Some(turn) = turns.next() {
+        print_line(&mut text, &("step ", turn.channel))?;
+    }
+    Ok(text)
+}
+
+/// Appends what stands for a line of a race script: nothing for a skipped line or a job, the text of the turns for
+/// `go`, or else the line.
+fn push_line(line: &[u8], turns: &[u8], out: &mut Vec<u8>) -> Result<(), AllocError>
+    ensures { OnOk result
+        (out.new.items ≡ out.old.items ++ text_for turns.now line.now (words_of line.now)) }
+{
+    match next_word(line) {
+        None => Ok(()),
+        Some((word, _)) if word.first() == Some(&b'#') || is_text(word, b"job") => Ok(()),
+        Some((word, _)) if is_text(word, b"go") => out.extend_from_slice(turns),
+        Some(_) => print_line(out, &line),
+    }
+}
+
+/// Appends a race script with the text of its turns in place of `go`, and without its jobs.
+fn push_lines(script: &[u8], turns: &[u8], out: &mut Vec<u8>) -> Result<(), AllocError>
+    ensures { OnOk result (out.new.items ≡ out.old.items ++ text_with turns.now script.now) }
+{
+    let mut rest = script;
+    while !rest.is_empty() {
+        let (line, after) = split_line(rest);
+        push_line(line, turns, out)?;
+        rest = after;
+    }
+    Ok(())
+}
+
+/// Appends a race script as a script of `run`, whose `step` lines are the turns of the jobs, in the order that a seed
+/// determines. Skipped lines are left out. Returns false, and appends nothing, if the race script has a fault. If
+/// memory runs out, appends nothing.
+pub fn script_of_seed(
+    alloc: Global,
+    script: &[u8],
+    seed: u64,
+    out: &mut Vec<u8>,
+) -> Result<bool, AllocError>
+    ensures good { IfOk result (λ good. good ≡ is_ok (race_script_of script.now)) }
+    ensures text { OnOk result (out.new.items ≡ out.old.items ++ script_text script.now seed) }
+    ensures err { OnErr result (out.new.items ≡ out.old.items) }
+{
+    let race = match read_race_script(alloc, script) {
+        Ok(race) => race,
+        Err(ScriptError::NoMemory) => return Err(AllocError),
+        Err(_) => return Ok(false),
+    };
+    let turns = Turns::of_seed(alloc, race.jobs.as_slice(), seed)?;
+    let turns = text_of_turns(alloc, turns)?;
+    let mut text = Vec::new(alloc);
+    push_lines(script, &turns, &mut text)?;
+    out.extend_from_slice(&text)?;
+    Ok(true)
+}

@@ -1,0 +1,6 @@
+use Rattle.dma_text.proofs.Begun.{begins_appended, begins_more}
+use Rattle.dma_trace.proofs.explain.SourcesText.push.Goals as goal
+
+pub returns-in_err-push_source-clause-begins : goal.returns-in_err-push_source-clause-begins
+returns-in_err-push_source-clause-begins c =
+    begins_more _ _ _ (begins_appended _ _ _ c.loop-item.invariant.text) c.push_source.ensures.begins

@@ -1,0 +1,43 @@
+use Rattle.std.proofs.Common.{sym, ◌∙◌, arith}
+use Rattle.dma_chan.proofs.NextFits.{next_fits}
+use Rattle.dma_trace.proofs.Fronts.{follows_here, front_on, never, next_here, room_here, within_on, within_untraced}
+use Rattle.dma_trace.proofs.explain.reached.Goals as goal
+
+pub advance-requires-clause-pc : goal.advance-requires-clause-pc
+advance-requires-clause-pc c =
+    omega (arith, c.requires.long, next_fits c.args.program.now c.loop.front.pc c.in-Ok.insn c.in-Ok.ensures.within (sym c.in-Ok.ensures.value))
+
+pub advance-requires-clause-room : goal.advance-requires-clause-room
+advance-requires-clause-room c =
+    let bus = c.args.bus in
+    let program = c.args.program.now in
+    let n = c.loop.counter in
+    let next = next_here bus program n c.loop.front _ c.loop.invariant.front c.in-Ok.ensures.value in
+    let w = follows_here bus program n c.in-Ok.insn next (c.requires.goes n c.loop-test.true) c.loop.invariant.within in
+    room_here bus program n c.loop.front c.in-Ok.insn c.loop.invariant.front w
+
+pub loop-preserved : goal.loop-preserved
+loop-preserved c =
+    let bus = c.args.bus in
+    let program = c.args.program.now in
+    let n = c.loop.counter in
+    let i = c.in-Ok.insn in
+    let next = next_here bus program n c.loop.front _ c.loop.invariant.front c.in-Ok.ensures.value in
+    let w = follows_here bus program n i next (c.requires.goes n c.loop-test.true) c.loop.invariant.within in
+    let after = c.advance.ensures in
+    record {
+      front = front_on bus program n c.loop.front c.advance.new.self i c.loop.invariant.front next w after.registers after.held;
+      within = within_on bus program n i next w;
+    }
+
+pub loop-init : goal.loop-init
+loop-init c = record { front = c.start-front.ensures; within = within_untraced c.args.bus }
+
+pub unreachable-requires : goal.unreachable-requires
+unreachable-requires c =
+    let bus = c.args.bus in
+    let program = c.args.program.now in
+    let n = c.loop.counter in
+    never bus program n c.in_default.field-0
+    (next_here bus program n c.loop.front c.ahead.result c.loop.invariant.front c.ahead.ensures.value ∙ c.in_default.is)
+    (c.requires.goes n c.loop-test.true)

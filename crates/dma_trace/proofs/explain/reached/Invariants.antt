@@ -1,0 +1,12 @@
+-- The front is that of the run without memory.
+use Rattle.std.proofs.Common.{◌≡◌}
+use Rattle.dma_chan.specs.Explains.{traced}
+use Rattle.dma_trace.specs.Front.{front_at}
+use Rattle.dma_trace.proofs.Fronts.{Within}
+use Rattle.dma_trace.proofs.explain.reached.Given as goal
+
+abbrev pub invariant-loop : goal.invariant-loop
+invariant-loop l = record {
+  front : l.front ≡ front_at (traced l.fn.bus l.program l.counter);
+  within : Within (traced l.fn.bus l.program l.counter);
+}

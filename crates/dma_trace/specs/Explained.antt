@@ -1,0 +1,68 @@
+-- What `explain` prints (profile).
+use Rattle.std.specs.Prelude.{◌≡◌, ℕ, ◌++◌, ◌<◌, ◌⊎◌, Bool, true, false, List, [], length, flat_map, if◌then◌else◌, codes, decimal}
+use Rattle.dma_mem.specs.declared.segment.Segment.{Segment}
+use Rattle.dma_insn.specs.AssemblyText.{most_program_bytes}
+use Rattle.dma_chan.specs.declared.bus.Bus.{Bus}
+use Rattle.dma_chan.specs.declared.explain.Explained.{Explained}
+use Rattle.dma_chan.specs.declared.explain.Happening.{Happening}
+use Rattle.dma_chan.specs.declared.explain.Repeated.{Repeated}
+use Rattle.dma_chan.specs.declared.explain.Sync.{Sync}
+use Rattle.dma_chan.specs.declared.explain.Sync.TheVariants.{Waits, Signals}
+use Rattle.dma_chan.specs.declared.explain.Unexplained.{Unexplained}
+use Rattle.dma_chan.specs.Explains.{Finds, Refuses, next_in, traced}
+use Rattle.dma_trace.specs.Front.{front_at}
+use Rattle.dma_trace.specs.Words.{bytes_text, cause_text, line_feed, long_text, range_text, refusal_text}
+
+-- `  from 0x00002000 + 32 bytes, 64 times`
+abbrev pub source_line : Repeated → List ℕ
+source_line r = codes "  from " ++ range_text r.addr r.len r.times ++ line_feed
+
+-- `  to 0x00004000 + 2048 bytes`
+abbrev pub destination_line : Segment → List ℕ
+destination_line s = codes "  to " ++ range_text s.addr s.len 1 ++ line_feed
+
+abbrev pub sync_text : Sync → List ℕ
+sync_text (Waits e) = codes "waits for event " ++ decimal e
+sync_text (Signals e) = codes "signals event " ++ decimal e
+
+-- `  after 2048 bytes: signals event 3`
+abbrev pub event_line : Happening → List ℕ
+event_line h = codes "  after " ++ bytes_text h.stored ++ (codes ": " ++ sync_text h.sync ++ line_feed)
+
+-- what a program copies: how much, from where, to where, and its events
+abbrev pub explained_text : Explained → List ℕ
+explained_text x =
+    (codes "copies " ++ bytes_text x.size ++ (codes ", with " ++ decimal x.steps ++ (codes " instructions" ++ line_feed)))
+    ++ flat_map source_line x.src.items ++ flat_map destination_line x.dst.items ++ flat_map event_line x.events.items
+
+-- why no copy explains a program on a bus, where, and the registers there
+abbrev pub unexplained_text : Bus → List ℕ → Unexplained → List ℕ
+unexplained_text bus program u =
+    let x = traced bus program u.steps in
+    let next = next_in program x in
+    refusal_text (cause_text u.cause next u.steps (front_at x)) next u.steps (front_at x)
+
+-- `explain` prints what it finds of a program on a bus with a limit of instructions.
+pub record PrintsCopy (bus : Bus) (program : List ℕ) (most : ℕ) (printed : List ℕ) : Type 0 where
+  pub explained : Explained
+  pub finds : Finds bus program most explained
+  pub text : printed ≡ explained_text explained
+
+-- It prints why and where there is no copy.
+pub record PrintsCause (bus : Bus) (program : List ℕ) (most : ℕ) (printed : List ℕ) : Type 0 where
+  pub unexplained : Unexplained
+  pub refuses : Refuses bus program most unexplained
+  pub text : printed ≡ unexplained_text bus program unexplained
+
+-- What `explain` prints if it succeeds or fails: a copy, or that the program is too long, or else a cause.
+abbrev pub Prints : Bus → List ℕ → ℕ → Bool → List ℕ → Type 0
+Prints bus program most true printed = PrintsCopy bus program most printed
+Prints bus program most false printed =
+    ((most_program_bytes < length program) × (printed ≡ long_text)) ⊎ PrintsCause bus program most printed
+
+-- What is printed is appended to `out` if there is a copy, else to `err`; the other stays as it is.
+pub record Appends (bus : Bus) (program : List ℕ) (most : ℕ) (copies : Bool) (out err new_out new_err : List ℕ) : Type 0 where
+  pub printed : List ℕ
+  pub prints : Prints bus program most copies printed
+  pub to_out : new_out ≡ out ++ (if copies then printed else [])
+  pub to_err : new_err ≡ err ++ (if copies then [] else printed)

@@ -1,0 +1,6 @@
+-- The text of explanations and traces.
+pub mod Front
+pub mod Words
+pub mod Explained
+pub mod Traced
+pub mod inner

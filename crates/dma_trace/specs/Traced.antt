@@ -1,0 +1,169 @@
+-- What `trace` prints (profile): a function of the program, the memory and the options, by the steps of a channel.
+use Rattle.std.specs.Prelude.{◌≡◌, ◌≢◌, ℕ, zero, suc, ◌+◌, ◌-◌, ◌*◌, ◌/◌, ◌%◌, ◌^◌, ◌<◌, ◌≤◌, ◌++◌, ◌&&◌, ◌⊎◌, nat_le, nat_lt, min, Bool, true, false, List, [], length, map, take, drop, flat_map, Option, Some, None, Result, Ok, Err, if◌then◌else◌, codes, decimal}
+use Rattle.std.specs.List.{range_with_len}
+use Rattle.dma_text.specs.Digits.{hex_digits, spaced_bytes}
+use Rattle.dma_insn.specs.declared.insn.Insn.{Insn}
+use Rattle.dma_insn.specs.declared.insn.Insn.TheVariants.{Ld, St}
+use Rattle.dma_insn.specs.AssemblyText.{most_program_bytes}
+use Rattle.dma_manual.specs.ManualText.{manual_text}
+use Rattle.dma_mem.specs.declared.segment.Segment.{Segment}
+use Rattle.dma_mem.specs.Flags.{flags_of}
+use Rattle.dma_mem.specs.Marking.{MarkList}
+use Rattle.dma_mem.specs.declared.regions.Region.{Region}
+use Rattle.dma_mem.specs.Lent.{marks_at}
+use Rattle.dma_mem.specs.Regions.{Piece, image_of, pieces_of, run_from}
+use Rattle.dma_chan.specs.LentRegions.{segment_of, with_gaps_of}
+use Rattle.dma_chan.specs.declared.explain.Cause.TheVariants.{NoEnd}
+use Rattle.dma_chan.specs.declared.turn.ChanTurn.{ChanTurn}
+use Rattle.dma_chan.specs.declared.turn.ChanTurn.TheVariants.{Moved, Waiting, Ended, Fault}
+use Rattle.dma_chan.specs.declared.turn.FaultKind.{FaultKind}
+use Rattle.dma_chan.specs.Channel.{ahead_of, loaded_on}
+use Rattle.dma_chan.specs.Exec.{destination_of, source_of}
+use Rattle.dma_chan.specs.Stepping.{Machine, after_step, after_steps, answer_at, machine}
+use Rattle.dma_trace.specs.declared.front.Front.{Front}
+use Rattle.dma_trace.specs.declared.front.Span.{Span}
+use Rattle.dma_trace.specs.declared.options.TraceOptions.{TraceOptions}
+use Rattle.dma_trace.specs.Front.{front_of, registers_of, span_at}
+use Rattle.dma_trace.specs.Words.{cause_text, fault_text, front_text, line_feed, long_text, offset_text, refusal_text, span_text}
+
+-- ---- memory
+
+-- what regions at these places have, by the image of their memory
+abbrev pub pieces_in : List Segment → List ℕ → List Piece
+pieces_in places image = map (λ s. record { addr = s.addr; bytes = take s.len (drop s.addr image) }) places
+
+-- a burst: `; loaded 0x00002000 + 32 bytes: 00 01 02`, with the first 16 bytes
+unfoldable pub burst_text : List ℕ → Span → List Piece → List ℕ
+burst_text verb s pieces =
+    verb ++ span_text s
+    ++ (codes ":" ++ spaced_bytes (take (min s.len 16) (run_from pieces s.addr)) ++ (if nat_lt 16 s.len then codes " .." else []))
+
+-- what an instruction loads or stores, by the registers before it and the memory after it
+unfoldable pub moves_text : Insn → Front → List Piece → List ℕ
+moves_text Ld f pieces = burst_text (codes "; loaded ") (span_at (source_of (registers_of f))) pieces
+moves_text St f pieces = burst_text (codes "; stored ") (span_at (destination_of (registers_of f))) pieces
+moves_text i f pieces = []
+
+-- ---- lines
+
+-- an instruction's number and offset, its text, and the registers after it
+unfoldable pub step_text : ℕ → Insn → ℕ → Front → List ℕ
+step_text n i pc after =
+    (decimal n ++ codes " " ++ offset_text pc) ++ (codes " " ++ manual_text i) ++ (codes "; " ++ front_text after)
+
+-- the line of instruction number n: these, and what it moved
+abbrev pub line_text : ℕ → Insn → Front → Front → List Piece → List ℕ
+line_text n i before after pieces = step_text n i before.pc after ++ moves_text i before pieces ++ line_feed
+
+-- the front of a machine's channel
+abbrev pub front_in : Machine → Front
+front_in s = front_of s.channel.registers (length s.channel.buffer)
+
+-- whether the line of instruction number n is printed
+abbrev pub is_shown : TraceOptions → ℕ → Bool
+is_shown o n = nat_le o.from n && nat_lt (n - o.from) o.count
+
+-- the line of an instruction that was fetched, if it is printed
+unfoldable pub shown_line : TraceOptions → ℕ → Result Insn FaultKind → Front → Front → List Piece → List ℕ
+shown_line o n (Ok i) before after pieces = if is_shown o n then line_text n i before after pieces else []
+shown_line o n (Err kind) before after pieces = []
+
+-- the line of a machine's next step, number n, with regions at these places
+abbrev pub step_line : TraceOptions → MarkList → List Segment → ℕ → Machine → List ℕ
+step_line o marks places n s =
+    let u = after_step marks s in
+    shown_line o n (ahead_of s.channel) (front_in s) (front_in u) (pieces_in places u.image)
+
+-- the lines of the first n steps
+abbrev pub lines : TraceOptions → MarkList → List Segment → Machine → ℕ → List ℕ
+lines o marks places s zero = []
+lines o marks places s (suc n) = lines o marks places s n ++ step_line o marks places (suc n) (after_steps marks s n)
+
+-- ---- the end
+
+-- How a trace ends: whether it succeeds, what follows the lines, and what is wrong.
+pub record End : Type 0 where
+  pub succeeds : Bool
+  pub says : List ℕ
+  pub wrong : List ℕ
+
+-- what is wrong with an instruction, after n others
+abbrev pub refused : List ℕ → Result Insn FaultKind → ℕ → Front → End
+refused why next n f = record { succeeds = false; says = []; wrong = refusal_text why next n f }
+
+-- The end by the answer of the last step, after n steps that moved, or None at the limit of steps.
+abbrev pub end_of : Option ChanTurn → Result Insn FaultKind → ℕ → Front → End
+end_of (Some Ended) next n f =
+    record { succeeds = true; says = codes "ended after " ++ decimal (n + 1) ++ (codes " instructions" ++ line_feed); wrong = [] }
+end_of (Some (Waiting e)) next n f = record {
+  succeeds = true;
+  says = (codes "waits for event " ++ decimal e) ++ (codes " after " ++ decimal n) ++ (codes " instructions" ++ line_feed);
+  wrong = [];
+}
+end_of (Some (Fault kind)) next n f = refused (fault_text kind next f) next n f
+end_of (Some Moved) next n f = refused (cause_text NoEnd next n f) next n f
+end_of None next n f = refused (cause_text NoEnd next n f) next n f
+
+-- ---- the memory after the end
+
+-- row number k of a range: an address and at most 16 bytes, up to the first address that no region has
+unfoldable pub row_text : List Piece → Segment → ℕ → List ℕ
+row_text pieces s k =
+    let addr = (s.addr + 16 * k) % 2 ^ 32 in
+    codes "0x" ++ hex_digits addr ++ (spaced_bytes (take (min (s.len - 16 * k) 16) (run_from pieces addr)) ++ line_feed)
+
+abbrev pub dump_text : List Piece → Segment → List ℕ
+dump_text pieces s = flat_map (row_text pieces s) (range_with_len 0 ((s.len + 15) / 16))
+
+-- ---- the whole
+
+-- the machine before the first step
+abbrev pub opening : TraceOptions → List ℕ → List ℕ → Machine
+opening o program image = machine (loaded_on o.bus (record { bytes = program; cost = None })) image (flags_of o.events)
+
+-- A run stops after n steps that moved: the next one doesn't, or the limit is reached and no further step is tried.
+pub record StopsAfter (marks : MarkList) (s : Machine) (limit n : ℕ) : Type 0 where
+  pub moved : (k : ℕ) → k < n → answer_at marks (after_steps marks s k) ≡ Moved
+  pub few : n ≤ limit
+  pub stops : n < limit → answer_at marks (after_steps marks s n) ≢ Moved
+
+-- the answer of the last step that was tried, or None at the limit
+abbrev pub last_answer : MarkList → Machine → ℕ → ℕ → Option ChanTurn
+last_answer marks s limit n = if nat_lt n limit then Some (answer_at marks (after_steps marks s n)) else None
+
+-- how a trace ends, after n steps that moved
+abbrev pub end_after : TraceOptions → MarkList → Machine → ℕ → End
+end_after o marks s n =
+    let u = after_steps marks s n in end_of (last_answer marks s o.limit n) (ahead_of u.channel) n (front_in u)
+
+-- how many steps are tried, if n moved
+abbrev pub tried : ℕ → ℕ → ℕ
+tried limit n = if nat_lt n limit then suc n else n
+
+-- A trace of a machine over regions at these places: whether it succeeds, the memory after it, and what it prints.
+pub record Traces (o : TraceOptions) (marks : MarkList) (places : List Segment) (s : Machine) (good : Bool) (after out err : List ℕ) : Type 0 where
+  pub steps : ℕ
+  pub run : StopsAfter marks s o.limit steps
+  pub succeeds : good ≡ (end_after o marks s steps).succeeds
+  pub memory : after ≡ (after_steps marks s (tried o.limit steps)).image
+  pub to_out : out ≡ lines o marks places s steps ++ (end_after o marks s steps).says ++ flat_map (dump_text (pieces_in places after)) o.dumps.items
+  pub to_err : err ≡ (end_after o marks s steps).wrong
+
+-- the marks at which bursts over regions fail: the gaps between them, and the ranges of the options
+abbrev pub marks_over : TraceOptions → List Region → MarkList
+marks_over o regions = with_gaps_of regions (marks_at o.failing.items)
+
+-- What `trace` appends: of a program that is too long a line in `err`, else its trace over the regions. The regions
+-- stay where they are.
+pub record Shows (o : TraceOptions) (program : List ℕ) (regions new : List Region) (good : Bool) (out err new_out new_err : List ℕ) : Type 0 where
+  pub printed : List ℕ
+  pub wrong : List ℕ
+  pub to_out : new_out ≡ out ++ printed
+  pub to_err : new_err ≡ err ++ wrong
+  pub places : map segment_of new ≡ map segment_of regions
+  pub traces :
+      ((most_program_bytes < length program) × (good ≡ false) × (printed ≡ []) × (wrong ≡ long_text)
+      × (image_of (pieces_of new) ≡ image_of (pieces_of regions)))
+      ⊎ ((length program ≤ most_program_bytes)
+      × Traces o (marks_over o regions) (map segment_of regions) (opening o program (image_of (pieces_of regions))) good
+      (image_of (pieces_of new)) printed wrong)

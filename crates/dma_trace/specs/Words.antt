@@ -1,0 +1,160 @@
+-- The words of explanations and traces (profile).
+use Rattle.std.specs.Prelude.{ℕ, ◌+◌, ◌*◌, ◌/◌, ◌%◌, ◌^◌, ◌==◌, ◌++◌, List, [], ◌∷◌, Result, Ok, Err, if◌then◌else◌, codes, decimal}
+use Rattle.dma_text.specs.Digits.{hex_digits, hex_pair}
+use Rattle.dma_insn.specs.declared.insn.Insn.{Insn}
+use Rattle.dma_insn.specs.declared.insn.Insn.TheVariants.{Mov}
+use Rattle.dma_insn.specs.ControlWord.{field}
+use Rattle.dma_manual.specs.ManualText.{manual_text}
+use Rattle.dma_chan.specs.declared.bus.Bus.{Bus}
+use Rattle.dma_chan.specs.declared.explain.Cause.{Cause}
+use Rattle.dma_chan.specs.declared.explain.Cause.TheVariants as causes
+use Rattle.dma_chan.specs.declared.turn.FaultKind.{FaultKind}
+use Rattle.dma_chan.specs.declared.turn.FaultKind.TheVariants.{UndefInstr, OperandInvalid, MfifoErr, StDataUnavailable, InstrFetchErr, DataWriteErr, DataReadErr}
+use Rattle.dma_chan.specs.Bursts.{burst_len}
+use Rattle.dma_chan.specs.Bus.{fits, widest_beat}
+use Rattle.dma_chan.specs.Exec.{destination_of, source_of}
+use Rattle.dma_trace.specs.declared.front.Front.{Front}
+use Rattle.dma_trace.specs.declared.front.Span.{Span}
+use Rattle.dma_trace.specs.Front.{registers_of, span_at}
+
+abbrev pub line_feed : List ℕ
+line_feed = 10 ∷ []
+
+-- an offset in a program: `0x000C`
+abbrev pub offset_text : ℕ → List ℕ
+offset_text pc = codes "0x" ++ hex_pair (pc / 256 % 256) ++ hex_pair (pc % 256)
+
+-- a number of bytes: `1 byte`, `32 bytes`
+abbrev pub bytes_text : ℕ → List ℕ
+bytes_text n = decimal n ++ (if n == 1 then codes " byte" else codes " bytes")
+
+-- what follows a range that is read this number of times: `, 64 times`, or nothing for one time
+abbrev pub times_text : ℕ → List ℕ
+times_text n = if n == 1 then [] else codes ", " ++ decimal n ++ codes " times"
+
+-- a range of addresses that is read this number of times: `0x00002000 + 32 bytes, 64 times`
+unfoldable pub range_text : ℕ → ℕ → ℕ → List ℕ
+range_text addr len times = codes "0x" ++ hex_digits addr ++ (codes " + " ++ bytes_text len) ++ times_text times
+
+-- the addresses of a burst
+abbrev pub span_text : Span → List ℕ
+span_text s = range_text s.addr s.len s.times
+
+-- The fields of one end of a control word, whose lowest bit is bit 0, in the manual's words (DMA-330 manual, DMAMOV
+-- CCR): the number of beats, the bits of a beat, and whether the address rises, as `SB16 SS64 SAI`.
+unfoldable pub end_text : List ℕ → ℕ → List ℕ
+end_text letter w =
+    (letter ++ codes "B" ++ decimal (field 4 4 w + 1)) ++ (codes " " ++ letter ++ codes "S" ++ decimal (8 * 2 ^ field 1 3 w))
+    ++ (codes " " ++ letter ++ (if field 0 1 w == 1 then codes "AI" else codes "AF"))
+
+-- the control word, and the fields of the source and the destination
+unfoldable pub control_text : ℕ → List ℕ
+control_text w =
+    codes "CCR 0x" ++ hex_digits w ++ (codes ": " ++ end_text (codes "S") w ++ codes " " ++ end_text (codes "D") (w / 2 ^ 14))
+
+-- the addresses, the loop counters and the buffer
+unfoldable pub front_text : Front → List ℕ
+front_text f =
+    (codes "SAR 0x" ++ hex_digits f.sar) ++ (codes " DAR 0x" ++ hex_digits f.dar)
+    ++ (codes " LC0 " ++ decimal f.lc0 ++ codes " LC1 " ++ decimal f.lc1) ++ (codes " buffer " ++ decimal f.held)
+
+-- the next instruction
+abbrev pub next_text : Result Insn FaultKind → List ℕ
+next_text (Ok i) = manual_text i
+next_text (Err kind) = codes "no instruction"
+
+-- ---- faults
+
+-- a fault's name (DMA-330 manual, fault type DMA channel registers)
+abbrev pub fault_name : FaultKind → List ℕ
+fault_name UndefInstr = codes "undef_instr"
+fault_name OperandInvalid = codes "operand_invalid"
+fault_name MfifoErr = codes "mfifo_err"
+fault_name StDataUnavailable = codes "st_data_unavailable"
+fault_name InstrFetchErr = codes "instr_fetch_err"
+fault_name DataWriteErr = codes "data_write_err"
+fault_name DataReadErr = codes "data_read_err"
+
+-- its bit in FTR (DMA-330 manual, fault type DMA channel registers)
+abbrev pub fault_bit : FaultKind → ℕ
+fault_bit UndefInstr = 0
+fault_bit OperandInvalid = 1
+fault_bit MfifoErr = 12
+fault_bit StDataUnavailable = 13
+fault_bit InstrFetchErr = 16
+fault_bit DataWriteErr = 17
+fault_bit DataReadErr = 18
+
+-- why a control word isn't accepted on a bus
+abbrev pub control_words : Bus → ℕ → List ℕ
+control_words bus w =
+    if fits bus w then codes "the control word has a reserved size, an endian swap, or bit 31"
+    else codes "a beat is wider than the bus, which has " ++ bytes_text (widest_beat bus)
+
+-- why an instruction that was decoded has a refused operand
+abbrev pub operand_words : Insn → Bus → List ℕ
+operand_words (Mov reg w) bus = control_words bus w
+operand_words i bus = codes "a field is outside its range"
+
+-- why an operand is refused
+abbrev pub refused_words : Result Insn FaultKind → Front → List ℕ
+refused_words (Ok i) f = operand_words i f.bus
+refused_words (Err kind) f = codes "a field is outside its range"
+
+-- why no instruction is fetched
+abbrev pub fetch_words : Result Insn FaultKind → List ℕ
+fetch_words (Ok i) = codes "it jumps to before the program's start"
+fetch_words (Err kind) = codes "the program has no whole instruction here"
+
+-- What is wrong with an instruction that fails, by the registers and the buffer before it
+unfoldable pub fault_words : FaultKind → Result Insn FaultKind → Front → List ℕ
+fault_words UndefInstr next f = codes "no instruction begins with this byte"
+fault_words OperandInvalid next f = refused_words next f
+fault_words MfifoErr next f =
+    codes "the buffer holds " ++ bytes_text f.held ++ (codes ", the load adds " ++ decimal (burst_len (source_of (registers_of f))))
+    ++ codes ", and 256 fit"
+fault_words StDataUnavailable next f =
+    codes "the buffer holds " ++ bytes_text f.held
+    ++ (codes ", the store needs " ++ decimal (burst_len (destination_of (registers_of f))))
+fault_words InstrFetchErr next f = fetch_words next
+fault_words DataWriteErr next f = codes "it can't store " ++ span_text (span_at (destination_of (registers_of f)))
+fault_words DataReadErr next f = codes "it can't load " ++ span_text (span_at (source_of (registers_of f)))
+
+-- the same after the fault's name and bit
+unfoldable pub fault_text : FaultKind → Result Insn FaultKind → Front → List ℕ
+fault_text kind next f =
+    fault_name kind ++ (codes " (FTR bit " ++ decimal (fault_bit kind)) ++ (codes "): " ++ fault_words kind next f)
+
+-- ---- causes
+
+-- why an instruction is part of no copy, by the registers and the buffer before it, after this number of others
+unfoldable pub cause_text : Cause → Result Insn FaultKind → ℕ → Front → List ℕ
+cause_text causes.TooLong next n f = codes "the program has more than 8192 bytes"
+cause_text (causes.Fails kind) next n f = fault_text kind next f
+cause_text causes.LoadsPast next n f = codes "the load ends above 2^32: " ++ span_text (span_at (source_of (registers_of f)))
+cause_text causes.StoresPast next n f = codes "the store ends above 2^32: " ++ span_text (span_at (destination_of (registers_of f)))
+cause_text causes.StoresFixed next n f = codes "the destination is fixed: each beat overwrites the one before"
+cause_text causes.DropsBytes next n f = codes "a chip drops what the buffer holds: " ++ bytes_text f.held
+cause_text causes.BytesLeft next n f = codes "left over in the buffer: " ++ bytes_text f.held
+cause_text causes.StoresTwice next n f = codes "a byte is stored twice"
+cause_text causes.StoresSource next n f = codes "a byte is stored where one is loaded"
+cause_text causes.NoEnd next n f = codes "no end after " ++ decimal n ++ codes " instructions"
+cause_text causes.NoMemory next n f = codes "out of memory"
+
+-- ---- refusals
+
+-- ` offset 0x000C: DMAST (instruction 17): `, for an instruction after n others
+unfoldable pub place_text : Result Insn FaultKind → ℕ → ℕ → List ℕ
+place_text next pc n = codes " offset " ++ offset_text pc ++ (codes ": " ++ next_text next) ++ (codes " (instruction " ++ decimal (n + 1) ++ codes "): ")
+
+-- the registers, on two lines
+unfoldable pub state_text : Front → List ℕ
+state_text f = (line_feed ++ codes "  ") ++ front_text f ++ ((line_feed ++ codes "  ") ++ control_text f.ccr ++ line_feed)
+
+-- The lines of an instruction that is refused after n others: where it is and why, then the registers before it.
+abbrev pub refusal_text : List ℕ → Result Insn FaultKind → ℕ → Front → List ℕ
+refusal_text why next n f = place_text next f.pc n ++ why ++ state_text f
+
+-- the line of a program that is too long
+unfoldable pub long_text : List ℕ
+long_text = codes " offset 0x2000: the program has more than 8192 bytes" ++ line_feed

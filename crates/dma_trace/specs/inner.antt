@@ -1,0 +1,2 @@
+-- Definitions that only proofs use.
+pub mod Running

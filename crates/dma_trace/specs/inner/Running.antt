@@ -1,0 +1,44 @@
+-- How a run of a trace is kept.
+use Rattle.std.specs.Prelude.{◌≡◌, ℕ, ◌<◌, ◌≤◌, ◌++◌, Bool, List, map}
+use Rattle.dma_mem.specs.declared.regions.Region.{Region}
+use Rattle.dma_mem.specs.declared.segment.Segment.{Segment}
+use Rattle.dma_mem.specs.Marking.{MarkList}
+use Rattle.dma_mem.specs.Regions.{image_of, pieces_of, read_only_of}
+use Rattle.dma_chan.specs.declared.turn.ChanTurn.TheVariants.{Moved}
+use Rattle.dma_chan.specs.Channel.{ChannelValue}
+use Rattle.dma_chan.specs.LentRegions.{segment_of}
+use Rattle.dma_chan.specs.Stepping.{Machine, after_steps, answer_at, machine}
+use Rattle.dma_trace.specs.declared.front.Front.{Front}
+use Rattle.dma_trace.specs.declared.options.TraceOptions.{TraceOptions}
+use Rattle.dma_trace.specs.Traced.{End, StopsAfter, end_after, front_in, lines, tried}
+
+-- a channel over regions
+abbrev pub machine_over : ChannelValue → List Region → List Bool → Machine
+machine_over c regions flags = machine c (image_of (pieces_of regions)) flags
+
+-- after n steps that moved
+pub record Goes (o : TraceOptions) (marks : MarkList) (first : List Region) (s : Machine) (n : ℕ) (c : ChannelValue) (regions : List Region) (flags : List Bool) (front : Front) (old new : List ℕ) : Type 0 where
+  pub at : machine_over c regions flags ≡ after_steps marks s n
+  pub moved : (k : ℕ) → k < n → answer_at marks (after_steps marks s k) ≡ Moved
+  pub front_is : front ≡ front_in (after_steps marks s n)
+  pub room : front.held ≤ 256
+  pub program : c.program ≡ s.channel.program
+  pub taken : c.taken ≡ n
+  pub places : map segment_of regions ≡ map segment_of first
+  pub read_only : read_only_of regions ≡ read_only_of first
+  pub text : new ≡ old ++ lines o marks (map segment_of first) s n
+
+-- a run has ended, and its lines and its end are printed
+pub record Runs (o : TraceOptions) (marks : MarkList) (places : List Segment) (s : Machine) (good : Bool) (after out err new_out new_err : List ℕ) : Type 0 where
+  pub count : ℕ
+  pub run : StopsAfter marks s o.limit count
+  pub succeeds : good ≡ (end_after o marks s count).succeeds
+  pub memory : after ≡ (after_steps marks s (tried o.limit count)).image
+  pub to_out : new_out ≡ (out ++ lines o marks places s count) ++ (end_after o marks s count).says
+  pub to_err : new_err ≡ err ++ (end_after o marks s count).wrong
+
+-- the end of a run is printed
+pub record Ends (end : End) (good : Bool) (out err new_out new_err : List ℕ) : Type 0 where
+  pub succeeds : good ≡ end.succeeds
+  pub to_out : new_out ≡ out ++ end.says
+  pub to_err : new_err ≡ err ++ end.wrong

@@ -1,0 +1,234 @@
+//! What a program copies, as text.
+#![tactic(auto, using(dma_text::proofs::Begun::begins_same, dma_text::proofs::Begun::begins_appended, dma_text::proofs::Begun::begins_more))]
+
+ghost use Rattle.std.specs.Prelude.{◌≡◌, ◌<◌, ◌≤◌, ◌++◌, ℕ, OnOk, OnErr, IfOk, flat_map, length};
+ghost use Rattle.dma_insn.specs.AssemblyText.{most_program_bytes};
+ghost use Rattle.dma_chan.specs.Explains.{GoesOn, next_in, traced};
+ghost use Rattle.dma_chan.specs.Next.{next_of};
+ghost use Rattle.dma_text.specs.Text.{Begins};
+ghost use Rattle.dma_trace.specs.Explained.{Appends, unexplained_text, destination_line, event_line, explained_text, source_line};
+ghost use Rattle.dma_trace.specs.Front.{front_at};
+
+use crate::front::Front;
+use crate::words::{Bytes, LongProgram, Place, Point, Range, State, Why};
+use dma_chan::bus::Bus;
+use dma_chan::explain as runs;
+use dma_chan::explain::{Cause, Explained, Happening, Repeated, Sync, Unexplained};
+use dma_chan::turn::FaultKind;
+use dma_insn::codec::{DecodeFault, decode};
+use dma_insn::insn::Insn;
+use dma_mem::segment::Segment;
+use dma_text::text::{Text, print};
+use std::alloc::{AllocError, Global};
+
+// Appends the line of an item that is read.
+fn push_source(item: Repeated, out: &mut Vec<u8>) -> Result<(), AllocError>
+    ensures ok { OnOk result (out.new.items ≡ out.old.items ++ source_line item) }
+    ensures begins { Begins out.new.items out.old.items }
+{
+    let range = Range {
+        addr: item.addr,
+        len: item.len,
+        times: item.times,
+    };
+    ("  from ", range, "\n").push(out)
+}
+
+/// A line for each item that is read.
+#[derive(Drop)]
+struct Sources<'a>(&'a [Repeated]);
+
+impl Text for Sources<'_> {
+    ghost text = { λ sources. flat_map source_line sources.0.now };
+
+    fn push(&self, out: &mut Vec<u8>) -> Result<(), AllocError> {
+        let Sources(items) = *self;
+        for item in items {
+            push_source(*item, out)?;
+        }
+        Ok(())
+    }
+}
+
+// Appends the line of a segment that is written.
+fn push_destination(segment: Segment, out: &mut Vec<u8>) -> Result<(), AllocError>
+    ensures ok { OnOk result (out.new.items ≡ out.old.items ++ destination_line segment) }
+    ensures begins { Begins out.new.items out.old.items }
+{
+    let range = Range {
+        addr: segment.addr,
+        len: segment.len,
+        times: 1,
+    };
+    ("  to ", range, "\n").push(out)
+}
+
+/// A line for each segment that is written.
+#[derive(Drop)]
+struct Destinations<'a>(&'a [Segment]);
+
+impl Text for Destinations<'_> {
+    ghost text = { λ destinations. flat_map destination_line destinations.0.now };
+
+    fn push(&self, out: &mut Vec<u8>) -> Result<(), AllocError> {
+        let Destinations(segments) = *self;
+        for segment in segments {
+            push_destination(*segment, out)?;
+        }
+        Ok(())
+    }
+}
+
+// Appends the line of an event.
+fn push_event(happening: Happening, out: &mut Vec<u8>) -> Result<(), AllocError>
+    ensures ok { OnOk result (out.new.items ≡ out.old.items ++ event_line happening) }
+    ensures begins { Begins out.new.items out.old.items }
+{
+    let stored = Bytes(happening.stored);
+    match happening.sync {
+        Sync::Waits(event) => {
+            (
+                "  after ",
+                stored,
+                (": ", ("waits for event ", event), "\n"),
+            )
+                .push(out)
+        }
+        Sync::Signals(event) => {
+            ("  after ", stored, (": ", ("signals event ", event), "\n")).push(out)
+        }
+    }
+}
+
+/// A line for each event.
+#[derive(Drop)]
+struct Happenings<'a>(&'a [Happening]);
+
+impl Text for Happenings<'_> {
+    ghost text = { λ events. flat_map event_line events.0.now };
+
+    fn push(&self, out: &mut Vec<u8>) -> Result<(), AllocError> {
+        let Happenings(events) = *self;
+        for happening in events {
+            push_event(*happening, out)?;
+        }
+        Ok(())
+    }
+}
+
+/// What a program copies.
+#[derive(Drop)]
+struct Copies<'a>(&'a Explained);
+
+impl Text for Copies<'_> {
+    ghost text = { λ copies. explained_text copies.0.now };
+
+    fn push(&self, out: &mut Vec<u8>) -> Result<(), AllocError> {
+        let Copies(explained) = *self;
+        let size = Bytes(explained.size);
+        let first = (
+            "copies ",
+            size,
+            (", with ", explained.steps, (" instructions", "\n")),
+        );
+        let sources = Sources(&explained.src);
+        let destinations = Destinations(&explained.dst);
+        (first, sources, destinations, Happenings(&explained.events)).push(out)
+    }
+}
+
+// Returns the next instruction of a program, or the fault of fetching it.
+fn ahead(program: &[u8], pc: u32) -> Result<Insn, FaultKind>
+    ensures value { result ≡ next_of program.now pc }
+    ensures within { OnOk result (pc ≤ length program.now) }
+{
+    if pc as usize > program.len() {
+        return Err(FaultKind::InstrFetchErr);
+    }
+    match decode(&program[pc as usize..]) {
+        Ok((insn, _)) => Ok(insn),
+        Err(DecodeFault::Cut) => Err(FaultKind::InstrFetchErr),
+        Err(DecodeFault::Unknown(_)) => Err(FaultKind::UndefInstr),
+        Err(DecodeFault::BadField) => Err(FaultKind::OperandInvalid),
+    }
+}
+
+// Returns the registers of a program on a bus after `steps` instructions that go on.
+fn reached(program: &[u8], bus: Bus, steps: u32) -> Front
+    requires long { length program.now ≤ most_program_bytes }
+    requires goes { (k : ℕ) → k < steps → let x = traced bus program.now k in
+        GoesOn (next_in program.now x) x }
+    ensures { result ≡ front_at (traced bus program.now steps) }
+{
+    let mut front = Front::start(bus);
+    for _ in 0..steps {
+        let Ok(insn) = ahead(program, front.pc) else {
+            unreachable!()
+        };
+        front.advance(insn);
+    }
+    front
+}
+
+// Appends why and where no copy explains a program.
+fn print_cause(
+    program: &[u8],
+    bus: Bus,
+    found: Unexplained,
+    err: &mut Vec<u8>,
+) -> Result<(), AllocError>
+    requires long { length program.now ≤ most_program_bytes }
+    requires goes { (k : ℕ) → k < found.steps → let x = traced bus program.now k in
+        GoesOn (next_in program.now x) x }
+    ensures ok { OnOk result
+        (err.new.items ≡ err.old.items ++ unexplained_text bus program.now found) }
+    ensures err { OnErr result (err.new.items ≡ err.old.items) }
+{
+    let front = reached(program, bus, found.steps);
+    let at = Point {
+        ahead: ahead(program, front.pc),
+        steps: found.steps,
+        front,
+    };
+    let why = Why {
+        cause: found.cause,
+        at: &at,
+    };
+    print(err, &(Place(&at), why, State(&at.front)))
+}
+
+/// Explains a program on a bus, executing at most `most` instructions: appends to `out` what it copies for every
+/// memory, and returns whether it is a copy. If it isn't, appends to `err` why and where.
+///
+/// If memory runs out, it fails and appends nothing.
+pub fn explain(
+    alloc: Global,
+    program: &[u8],
+    bus: Bus,
+    most: u32,
+    out: &mut Vec<u8>,
+    err: &mut Vec<u8>,
+) -> Result<bool, AllocError>
+    ensures ok { IfOk result (λ copies. Appends bus program.now most copies
+        out.old.items err.old.items out.new.items err.new.items) }
+    ensures out { OnErr result (out.new.items ≡ out.old.items) }
+    ensures err { OnErr result (err.new.items ≡ err.old.items) }
+{
+    match runs::explain(alloc, bus, program, most) {
+        Ok(explained) => {
+            print(out, &Copies(&explained))?;
+            Ok(true)
+        }
+        Err(found) => {
+            match found.cause {
+                Cause::NoMemory => return Err(AllocError),
+                Cause::TooLong => print(
+                    err,
+                    &(" offset 0x2000: the program has more than 8192 bytes", "\n"),
+                )?,
+                _ => print_cause(program, bus, found, err)?,
+            }
+            Ok(false)
+        }
+    }
+}

@@ -1,0 +1,16 @@
+//! What a program copies, and a trace of its instructions, as text.
+//!
+//! Proved: `explain::explain` prints the copy that `dma_chan::explain::explain` finds (`Finds`), or the cause and the
+//! place for which there is none (`Refuses`), with the registers there. `trace::trace` prints the lines of the steps of
+//! one channel over the lent regions, how the program ends, and the memory then: a function of the program, the memory
+//! and the options (`Traces`, by `Stepping::after_steps` of `dma_chan`).
+//!
+//! Not proved: that memory is available.
+#![tactic(auto)]
+
+pub mod explain;
+mod front;
+mod lines;
+pub mod options;
+pub mod trace;
+mod words;

@@ -1,0 +1,210 @@
+//! A program, executed over memory with a line for each instruction.
+#![tactic(auto, using(dma_text::proofs::Begun::begins_same, dma_text::proofs::Begun::begins_appended, dma_text::proofs::Begun::begins_more))]
+
+ghost use Rattle.std.specs.Prelude.{◌≡◌, ◌≤◌, ◌<◌, IsTrue, IsSome, IsOk, IfOk, OnErr, length, map};
+ghost use Rattle.dma_insn.specs.AssemblyText.{most_program_bytes};
+ghost use Rattle.dma_mem.specs.Lent.{marks_at};
+ghost use Rattle.dma_mem.specs.Regions.{image_of, in_order, pieces_of, read_only_of};
+ghost use Rattle.dma_chan.specs.Channel.{last_count};
+ghost use Rattle.dma_chan.specs.LentRegions.{segment_of, with_gaps_of};
+ghost use Rattle.dma_chan.specs.Stepping.{after_step, answer_at};
+ghost use Rattle.dma_text.specs.Text.{Begins};
+ghost use Rattle.dma_trace.specs.Traced.{Shows, end_of, marks_over, opening};
+ghost use Rattle.dma_trace.specs.inner.Running.{Ends, Runs, machine_over};
+
+use crate::front::Front;
+use crate::lines::{push_dumps, push_step};
+pub use crate::options::TraceOptions;
+use crate::words::{Failure, LongProgram, Place, Point, State, Why};
+use dma_chan::channel::Channel;
+use dma_chan::explain::Cause;
+use dma_chan::lent::step_regions;
+use dma_chan::program::MAX_PROGRAM_BYTES;
+use dma_chan::turn::ChanTurn;
+use dma_insn::insn::Insn;
+use dma_mem::events::Events;
+use dma_mem::marks::{MarkKind, Marks};
+use dma_mem::regions::Region;
+use dma_mem::segment::Segment;
+use dma_text::text::Text;
+use std::alloc::{AllocError, Global};
+
+// Executes the next instruction of a channel over regions.
+fn step(
+    channel: &mut Channel,
+    regions: &mut [Region<'_>],
+    events: &mut Events,
+    marks: &Marks,
+) -> ChanTurn
+    requires loaded { IsSome channel.old.program }
+    requires count { channel.old.taken < last_count }
+    requires order { IsTrue (in_order (pieces_of regions.old)) }
+    ensures turn { result ≡ answer_at (with_gaps_of regions.old marks.now)
+        (machine_over channel.old regions.old events.old) }
+    ensures after { machine_over channel.new regions.new events.new
+        ≡ after_step (with_gaps_of regions.old marks.now)
+        (machine_over channel.old regions.old events.old) }
+    ensures places { map segment_of regions.new ≡ map segment_of regions.old }
+    ensures read_only { read_only_of regions.new ≡ read_only_of regions.old }
+{
+    let taken = step_regions(channel, regions, events, marks, 1);
+    taken.last.unwrap()
+}
+
+// Returns marks at which loads and stores fail.
+fn failing_marks(alloc: Global, failing: &[Segment]) -> Result<Marks, AllocError>
+    ensures { IfOk result (λ marks. marks ≡ marks_at failing.now) }
+{
+    let mut marks = Marks::new(alloc);
+    for segment in failing {
+        marks.add(MarkKind::Reading, *segment)?;
+        marks.add(MarkKind::Writing, *segment)?;
+    }
+    Ok(marks)
+}
+
+// Returns an instruction that was fetched.
+fn insn_of(at: &Point) -> Insn
+    requires { IsOk at.now.ahead }
+    ensures { at.now.ahead ≡ Ok result }
+{
+    match at.ahead {
+        Ok(insn) => insn,
+        Err(_) => unreachable!(),
+    }
+}
+
+// Appends how a run ends, by the answer of its last step, or `None` at the limit, and returns whether it succeeds.
+fn push_end(
+    turn: &Option<ChanTurn>,
+    at: &Point,
+    out: &mut Vec<u8>,
+    err: &mut Vec<u8>,
+) -> Result<bool, AllocError>
+    ensures ok { IfOk result (λ good. Ends
+        (end_of turn.now at.now.ahead at.now.steps at.now.front) good
+        out.old.items err.old.items out.new.items err.new.items) }
+    ensures begins { Begins out.new.items out.old.items }
+    ensures begins_err { Begins err.new.items err.old.items }
+{
+    let steps = at.steps;
+    match *turn {
+        Some(ChanTurn::Ended) => {
+            let number = u64::from(steps) + 1;
+            ("ended after ", number, (" instructions", "\n")).push(out)?;
+            Ok(true)
+        }
+        Some(ChanTurn::Waiting(event)) => {
+            let waits = ("waits for event ", event.number());
+            (waits, (" after ", steps), (" instructions", "\n")).push(out)?;
+            Ok(true)
+        }
+        Some(ChanTurn::Fault(kind)) => {
+            (Place(at), Failure { kind, at }, State(&at.front)).push(err)?;
+            Ok(false)
+        }
+        Some(ChanTurn::Moved) | None => {
+            let cause = Cause::NoEnd;
+            (Place(at), Why { cause, at }, State(&at.front)).push(err)?;
+            Ok(false)
+        }
+    }
+}
+
+// Executes a program until it ends, waits or fails, or until the limit, and appends the lines and the end.
+fn run(
+    alloc: Global,
+    program: &[u8],
+    regions: &mut [Region<'_>],
+    options: &TraceOptions,
+    out: &mut Vec<u8>,
+    err: &mut Vec<u8>,
+) -> Result<bool, AllocError>
+    requires long { length program.now ≤ most_program_bytes }
+    requires order { IsTrue (in_order (pieces_of regions.old)) }
+    ensures ok { IfOk result (λ good. Runs options.now (marks_over options.now regions.old)
+        (map segment_of regions.old) (opening options.now program.now
+        (image_of (pieces_of regions.old))) good (image_of (pieces_of regions.new))
+        out.old.items err.old.items out.new.items err.new.items) }
+    ensures places { map segment_of regions.new ≡ map segment_of regions.old }
+    ensures begins { Begins out.new.items out.old.items }
+    ensures begins_err { Begins err.new.items err.old.items }
+{
+    let marks = failing_marks(alloc, &options.failing)?;
+    let mut channel = Channel::new(alloc)?;
+    channel.load_bytes(program, options.bus);
+    let mut events = Events::from_bits(options.events);
+    let mut front = Front::start(options.bus);
+    for steps in 0..options.limit {
+        let ahead = channel.ahead();
+        let at = Point {
+            ahead,
+            steps,
+            front,
+        };
+        let turn = step(&mut channel, regions, &mut events, &marks);
+        let ChanTurn::Moved = turn else {
+            return push_end(&Some(turn), &at, out, err);
+        };
+        front.advance(insn_of(&at));
+        push_step(alloc, options, &at, &front, regions, out)?;
+    }
+    let at = Point {
+        ahead: channel.ahead(),
+        steps: options.limit,
+        front,
+    };
+    push_end(&None, &at, out, err)
+}
+
+// Traces a program. If memory runs out, it may have appended a part.
+fn trace_all(
+    alloc: Global,
+    program: &[u8],
+    regions: &mut [Region<'_>],
+    options: &TraceOptions,
+    out: &mut Vec<u8>,
+    err: &mut Vec<u8>,
+) -> Result<bool, AllocError>
+    requires order { IsTrue (in_order (pieces_of regions.old)) }
+    ensures ok { IfOk result (λ good. Shows options.now program.now regions.old regions.new
+        good out.old.items err.old.items out.new.items err.new.items) }
+    ensures begins { Begins out.new.items out.old.items }
+    ensures begins_err { Begins err.new.items err.old.items }
+{
+    if program.len() > MAX_PROGRAM_BYTES {
+        LongProgram.push(err)?;
+        return Ok(false);
+    }
+    let good = run(alloc, program, regions, options, out, err)?;
+    push_dumps(alloc, regions, &options.dumps, out)?;
+    Ok(good)
+}
+
+/// Executes a program over regions of memory, and appends to `out` a line for each instruction that `options` asks for,
+/// how the program ended, and the memory that it asks for. Returns whether the program ended or waits. If it is too
+/// long, fails, or reaches the limit, appends to `err` why.
+///
+/// If memory runs out, it fails and appends nothing; the regions may have changed.
+pub fn trace(
+    alloc: Global,
+    program: &[u8],
+    regions: &mut [Region<'_>],
+    options: &TraceOptions,
+    out: &mut Vec<u8>,
+    err: &mut Vec<u8>,
+) -> Result<bool, AllocError>
+    requires order { IsTrue (in_order (pieces_of regions.old)) }
+    ensures ok { IfOk result (λ good. Shows options.now program.now regions.old regions.new
+        good out.old.items err.old.items out.new.items err.new.items) }
+    ensures out { OnErr result (out.new.items ≡ out.old.items) }
+    ensures err { OnErr result (err.new.items ≡ err.old.items) }
+{
+    let (out_len, err_len) = (out.len(), err.len());
+    let result = trace_all(alloc, program, regions, options, out, err);
+    if result.is_err() {
+        out.truncate(out_len);
+        err.truncate(err_len);
+    }
+    result
+}
