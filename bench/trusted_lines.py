@@ -193,7 +193,7 @@ def tens(lines):
 def file_of(command):
     """Returns the file that has the function of a command, or an export."""
     head = re.compile(rf"^pub (?:extern \"C\" )?fn {command}[<(]", re.M)
-    return next(file for file in CRATES.glob("*/src/*.rt") if head.search(file.read_text()))
+    return next(file for file in sorted(CRATES.glob("*/src/*.rt")) if head.search(file.read_text()))
 
 
 def sentences_of(found):
@@ -208,10 +208,14 @@ def sentences_of(found):
     for clause in ("begins", "kept", "remembers", "memory", "sound", "views", "answers"):
         lines, _, files = total(cited(HEADLINE, "run", [clause]), "specs")
         yield trust, f"| `{clause}` | {lines} lines in {files} files |"
-    explaining = ("explain", "copies_since_load", "a_dmago_copies", "a_dmago_finishes", "turns_stay_in")
+    explaining = ("copies_since_load", "a_dmago_copies", "a_dmago_finishes", "turns_stay_in")
     for command in ("run_script", "asm_main", "dis_main", "dma330_device_step", *explaining):
         lines, _, files = total(cited(file_of(command), command, []), "specs")
         yield trust, f"of `{command}` some {tens(lines)} lines in {files} files"
+    replies = [(CRATES / "dma330/src/replies.rt", it) for it in ("listing", "assembly", "explanation", "tracing", "racing")]
+    for file, function in (CRATES / "dma_chan/src/explain.rt", "explain"), *replies:
+        lines, _, files = total(cited(file, function, []), "specs")
+        yield trust, f"of `{function}` some {tens(lines)} lines in {files} files"
 
 
 def differences(found):

@@ -1,5 +1,6 @@
 //! dmasim in plain Rust, without proofs, beside which bench/measure times the proved program. It has `asm`, `dis`,
-//! `plan` and `run`, without fills and checkpoints, and memories of up to 16 MiB.
+//! `plan` and `run`, without fills and checkpoints, and memories of up to 16 MiB. `workers N long|short COUNT` times
+//! workers on its engine.
 
 #![forbid(unsafe_code)]
 
@@ -16,6 +17,7 @@ mod statements;
 mod text;
 mod transfer;
 mod words;
+mod workers;
 
 use std::fs::File;
 use std::io::{self, Read, Write};
@@ -137,6 +139,12 @@ fn printed(subcommand: fn(&[u8]) -> Printed) -> Printed {
 }
 
 fn main() -> ExitCode {
+    let words: Vec<String> = std::env::args_os().skip(1).filter_map(|it| it.into_string().ok()).collect();
+    if let [word, rest @ ..] = words.as_slice()
+        && word == "workers"
+    {
+        return workers::workers(rest);
+    }
     let mut arguments = std::env::args_os().skip(1);
     let name = arguments.next().filter(|_| arguments.next().is_none());
     let Printed { out, status } = match name.as_deref().and_then(|name| name.to_str()) {

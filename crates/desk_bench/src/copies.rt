@@ -13,8 +13,8 @@ const LONG: u32 = 0x10_0000;
 // each channel's copies go from its first MiB to its second
 const CHANNEL: u32 = 0x20_0000;
 
-// for two channels
-const MEMORY: u32 = 0x40_0000;
+// for eight channels
+const MEMORY: u32 = 0x100_0000;
 
 /// The length of the copies.
 #[derive(Clone, Copy, Debug)]
@@ -72,7 +72,7 @@ impl Copies {
     }
 }
 
-/// Returns an engine with `count` copies issued on each of its channels, which are at most two.
+/// Returns an engine with `count` copies issued on each of its channels, which are at most eight.
 pub fn loaded(alloc: Global, copies: Copies, channels: u8, count: u32) -> Option<Engine> {
     let mut engine = Engine::new(alloc, MEMORY, channels).ok()?;
     for ch in 0..channels {

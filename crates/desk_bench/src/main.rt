@@ -83,19 +83,16 @@ fn steps<R: Threads + Wait + Clock + CpuClock + Sync>(
             let engine = loaded(alloc, copies, 1, count)?;
             time_engine(rt, engine, copies.turns_of(count))
         }
-        Steppers::OneWorker => {
-            let job = Job::new(0, 0, copies.turns_of(count))?;
-            let made = Parts::new(rt, alloc, loaded(alloc, copies, 1, count)?, 0);
+        Steppers::Workers(workers) => {
+            let each = count.checked_div(u32::from(workers))?;
+            let mut jobs = Vec::new(alloc);
+            for ch in 0..workers {
+                let job = Job::new(ch, ch, copies.turns_of(each))?;
+                jobs.push(job).ok()?;
+            }
+            let made = Parts::new(rt, alloc, loaded(alloc, copies, workers, each)?, 0);
             let (parts, _readers) = made.ok()?;
-            time_workers::<Brand, _>(rt, alloc, parts, &[job])
-        }
-        Steppers::TwoWorkers => {
-            let half = count / 2;
-            let first = Job::new(0, 0, copies.turns_of(half))?;
-            let second = Job::new(1, 1, copies.turns_of(half))?;
-            let made = Parts::new(rt, alloc, loaded(alloc, copies, 2, half)?, 0);
-            let (parts, _readers) = made.ok()?;
-            time_workers::<Brand, _>(rt, alloc, parts, &[first, second])
+            time_workers::<Brand, _>(rt, alloc, parts, &jobs)
         }
     }
 }

@@ -10,10 +10,8 @@ use std::time::{Duration, Instant};
 pub enum Steppers {
     /// The caller itself, without a desk.
     Engine,
-    /// One worker, through the desk.
-    OneWorker,
-    /// Two workers through one desk, each on its own channel.
-    TwoWorkers,
+    /// One to eight workers through one desk, each on its own channel.
+    Workers(u8),
 }
 
 /// What runs while statuses are requested.
@@ -54,23 +52,29 @@ impl Plan {
             "two-readers-apart" => Plan::asking(2, Meanwhile::Apart),
             "two-readers-long" => Plan::asking(2, Meanwhile::Through(Copies::Long)),
             "two-readers-short" => Plan::asking(2, Meanwhile::Through(Copies::Short)),
-            "engine-long" => Plan::stepping(Steppers::Engine, Copies::Long),
-            "engine-short" => Plan::stepping(Steppers::Engine, Copies::Short),
-            "one-worker-long" => Plan::stepping(Steppers::OneWorker, Copies::Long),
-            "one-worker-short" => Plan::stepping(Steppers::OneWorker, Copies::Short),
-            "two-workers-long" => Plan::stepping(Steppers::TwoWorkers, Copies::Long),
-            "two-workers-short" => Plan::stepping(Steppers::TwoWorkers, Copies::Short),
-            _ => return None,
+            _ => return Plan::of_steps(word),
         };
         Some(plan)
     }
 
-    fn asking(readers: usize, meanwhile: Meanwhile) -> Plan {
-        Plan::Statuses { readers, meanwhile }
+    // Returns the plan to step copies that `engine-LENGTH` or `N-workers-LENGTH` names.
+    fn of_steps(word: &str) -> Option<Plan> {
+        let (by, length) = word.rsplit_once('-')?;
+        let copies = match length {
+            "long" => Copies::Long,
+            "short" => Copies::Short,
+            _ => return None,
+        };
+        let by = match by.split_once('-') {
+            None if by == "engine" => Steppers::Engine,
+            Some((count, "workers")) => Steppers::Workers(count.parse().ok()?),
+            _ => return None,
+        };
+        Some(Plan::Steps { by, copies })
     }
 
-    fn stepping(by: Steppers, copies: Copies) -> Plan {
-        Plan::Steps { by, copies }
+    fn asking(readers: usize, meanwhile: Meanwhile) -> Plan {
+        Plan::Statuses { readers, meanwhile }
     }
 }
 

@@ -1,6 +1,5 @@
 //! Measures steps, with and without a desk.
 
-ghost use Rattle.std.specs.Prelude.{◌<◌, ◌^◌, length};
 ghost use Rattle.dma_work.specs.Desk.{Names};
 
 use crate::plan::{Measured, Times, since};
@@ -62,16 +61,19 @@ pub fn time_engine<R: Clock + CpuClock>(
     })
 }
 
-/// Returns how long the workers take for these jobs.
+/// Returns how long the workers take for these jobs, at most eight.
 pub fn time_workers<N: DeskName + Send + Sync, R: Threads + Wait + Clock + CpuClock + Sync>(
     rt: &R,
     alloc: Global,
     parts: Parts,
     jobs: &[Job],
 ) -> Option<Measured>
-    requires few { length jobs.now < 2 ^ 32 }
-    requires parts { Names N.opening N.base N.log parts }
+    requires { Names N.opening N.base N.log parts }
 {
+    if jobs.len() > 8 {
+        drop(Desk::<N>::new(parts).close(rt));
+        return None;
+    }
     let shared = Shared::<N>::new(parts);
     let watch = Watch::started(rt);
     let tallies = run_workers(rt, alloc, &shared, jobs, &NoGate);
