@@ -65,9 +65,12 @@ cargo_lines='/^test result: / {p += $4; f += $6} END {print p + 0, f + 0}'
 
 # ---- C ----
 
-# header COMPILER FLAG..: succeeds if the header alone compiles without a warning
+# header COMPILER FLAG..: succeeds if each header alone compiles without a warning
 header() {
-    printf '#include "dma330.h"\n' | "$@" -pedantic-errors -Wall -Wextra -Werror -fsyntax-only -Ic -
+    printf '#include "dma330.h"\n' | "$@" -pedantic-errors -Wall -Wextra -Werror -fsyntax-only -Ic - &&
+        printf '#include "dma330_program.h"\nextern const unsigned char program[6];
+            const unsigned char program[6] = {DMA330_DMAMOV_CCR(DMA330_CCR_COPY(16, 4))};\n' |
+        "$@" -pedantic-errors -Wall -Wextra -Werror -fsyntax-only -Ic -
 }
 
 # names: succeeds if the archive exports the names that the header declares, and no others except those of the kit's
@@ -78,7 +81,7 @@ names() {
     diff "$out/exported" "$out/declared"
 }
 
-# named: succeeds if the functions of the header give each code, turn and cause the name that its enum has
+# named: succeeds if the functions of the header give each number with a name in an enum this name
 named() {
     {
         printf '#include "dma330.h"\n#include <string.h>\n#define CHECK(is, name) if (strcmp(is, name) != 0) return 1\n'
@@ -90,11 +93,18 @@ named() {
             if (kind == "dma330_channel_turn")
                 print "    c.turn = " $1 "; CHECK(dma330_channel_turn_name(&c), \"" substr(name, 9) "\");"
             if (kind == "dma330_cause") print "    CHECK(dma330_cause_name(" $1 "), \"" substr(name, 7) "\");"
+            if (kind == "dma330_fault") print "    CHECK(dma330_fault_name(" $1 "), \"" name "\");"
+            if (kind == "dma330_result_code") print "    CHECK(dma330_result_name(" $1 "), \"" name "\");"
+            if (kind == "dma330_csr") print "    CHECK(dma330_csr_name(" $1 "), \"" substr(name, 5) "\");"
+            if (kind == "dma330_ftr") print "    CHECK(dma330_ftr_name(" $1 "), \"" substr(name, 5) "\");"
+            if (kind == "dma330_ftrd") print "    CHECK(dma330_ftrd_name(" $1 "), \"" substr(name, 6) "\");"
         }' c/dma330.h
         printf '    CHECK(dma330_code_name(1), "?");\n    CHECK(dma330_code_name(-63), "?");\n'
-        printf '    CHECK(dma330_cause_name(6), "?");\n    return 0;\n}\n'
+        printf '    CHECK(dma330_cause_name(6), "?");\n    CHECK(dma330_fault_name(0), "?");\n'
+        printf '    CHECK(dma330_ftr_name(4), "?");\n    CHECK(dma330_csr_name(0x21F4), "WAITING_FOR_EVENT");\n'
+        printf '    return 0;\n}\n'
     } >"$out/named.c"
-    [ "$(grep -c '^ .*CHECK(' "$out/named.c")" -gt 70 ] &&
+    [ "$(grep -c '^ .*CHECK(' "$out/named.c")" -gt 110 ] &&
         $CC -std=c99 -Wall -Wextra -Werror -Ic -o "$out/named" "$out/named.c" && "$out/named"
 }
 
@@ -117,72 +127,135 @@ waveform() {
     ' "$1"
 }
 
-# driver PROGRAM: succeeds if the test of a driver prints the text of c/example_driver.txt, writes a waveform, and also
-# passes with other seeds
+# refused PROGRAM WORD..: succeeds if the test of a driver refuses these words, with status 2 and nothing printed
+refused() {
+    "$@" >"$out/printed" 2>"$out/said"
+    [ $? -eq 2 ] && [ ! -s "$out/printed" ] && [ -s "$out/said" ]
+}
+
+# driver PROGRAM: succeeds if the test of a driver prints the text of c/example_driver.txt, writes a waveform, also
+# passes with other seeds, and refuses wrong options
 driver() {
     "$1" --vcd "$out/driver.vcd" >"$out/printed" && diff "$out/printed" c/example_driver.txt &&
-        waveform "$out/driver.vcd" || return 1
-    seed=1
-    while [ "$seed" -lt 20 ]; do
-        seed=$((seed + 1))
-        "$1" --seed "$seed" || return 1
+        waveform "$out/driver.vcd" && [ "$("$1" --seeds 2-20)" = "0 of 19 seeds failed" ] || return 1
+    for it in 1x x -1 '' 4294967296; do
+        refused "$1" --seed "$it" && refused "$1" --seeds "1-$it" || return 1
     done
+    refused "$1" --seeds 2-1 && refused "$1" --seeds 1 && refused "$1" --seed && refused "$1" seed 1 &&
+        refused "$1" --seeds 1-2 --vcd "$out/driver.vcd"
 }
 
-# wrong_driver EDIT: succeeds if the test of the driver fails with one of 20 seeds after this edit by sed
-wrong_driver() {
-    sed "$1" c/example_driver.c >"$out/wrong.c"
-    cmp -s "$out/wrong.c" c/example_driver.c && return 1
-    $CC $c_flags -o "$out/wrong" "$out/wrong.c" c/harness.c "$LIB" || return 1
-    seed=1
-    while "$out/wrong" --seed "$seed" >"$out/printed"; do
-        [ "$seed" -lt 20 ] || return 1
-        seed=$((seed + 1))
-    done
-    grep "^WRONG: .* (seed $seed, tick [0-9]*)$" "$out/printed"
+# guide: succeeds if the code of EMBEDDING.md compiles as it is, and does what the document says; in c/guide.c.in a line
+# `@block NUMBER HEADING` is that block of code below that heading
+guide() {
+    awk '
+        FNR == 1 {file++}
+        file == 1 && /^#/ {heading = $0; sub(/^#+ /, "", heading); number = 0; inside = 0}
+        file == 1 && /^    / {
+            if (!inside) number++
+            inside = 1
+            code[number " " heading] = code[number " " heading] blank $0 "\n"
+        }
+        file == 1 {blank = /^$/ ? "\n" : ""; if (!/^$/ && !/^    /) inside = 0; next}
+        sub(/^@block /, "") {if (!($0 in code)) exit 1; printf "%s", code[$0]; next}
+        {print}
+    ' ../docs/EMBEDDING.md c/guide.c.in >"$out/guide.c" &&
+        $CC -std=c99 -Wall -Wextra -Werror -Ic -o "$out/guide" "$out/guide.c" "$LIB" && "$out/guide"
 }
 
-# wrong_drivers: tries four wrong drivers: one doesn't clear an interrupt, one waits again for a lost one, one copies
-# from a wrong address after a restart, and one takes an interrupt from before a restart for that of the new run
-wrong_drivers() {
-    timer='/^static void handle_timer/,/^}/'
-    restart='/^static void restart/,/^}/'
-    try "example_driver.c: INTCLR" wrong_driver '/writel(INTCLR, done)/d'
-    try "example_driver.c: a lost interrupt" wrong_driver "$timer s/handle_irq()/jobs[channel].deadline += TIMEOUT/"
-    try "example_driver.c: a wrong address" wrong_driver "$restart s/start(channel)/jobs[channel].src += 64, &/"
-    try "example_driver.c: an old interrupt" wrong_driver "$restart {/INTCLR/d;}"
-}
-
-# readme FLAG..: succeeds if the README's lines of C compile with these flags, and copy the bytes that they write
-readme() {
+# readme_lines: writes the README's lines of C as a program, which fails unless they copy the bytes that they write
+readme_lines() {
     {
         printf '#include "dma330.h"\n#include <string.h>\nint main(void)\n{\n    uint8_t out[5];\n'
         awk '/^## / {here = $0 == "## Link it into an emulator"} here && /^    / && !/^    (cc|make) /' ../README.md
         printf '    return dma330_read(&dma, 0x1F, out, 5, &conflict) != DMA330_OK || memcmp(out, "\\0abc", 5) != 0;\n}\n'
     } >"$out/readme.c"
+}
+
+# readme FLAG..: succeeds if the README's lines compile with these flags, and copy the bytes
+readme() {
+    readme_lines
     $CC -std=c99 -Wall -Wextra -Werror -o "$out/readme" "$out/readme.c" "$@" && "$out/readme"
 }
 
-# flags PREFIX: prints the flags in dma330.pc of this prefix, with pkg-config if it is installed
+prefix=$PWD/$out/prefix
+
+# install_in WORD..: calls `make install` with this archive
+install_in() {
+    make --no-print-directory install LIB="$LIB" "$@"
+}
+
+# flags: prints the flags in the installed dma330.pc, with pkg-config if there is one
 flags() {
     if has pkg-config; then
-        PKG_CONFIG_PATH=$1/lib/pkgconfig pkg-config --cflags --libs dma330
+        PKG_CONFIG_PATH=$prefix/lib/pkgconfig pkg-config --cflags --libs dma330
     else
         # dma330.pc writes a variable as a shell does
-        (eval "$(sed -n '/^[a-z]*=/p; s/^\(Cflags\|Libs\): \(.*\)/echo \2/p' "$1/lib/pkgconfig/dma330.pc")")
+        (eval "$(sed -n '/^[a-z]*=/p; s/^\(Cflags\|Libs\): \(.*\)/echo \2/p' "$prefix/lib/pkgconfig/dma330.pc")")
     fi
 }
 
 # installed: succeeds if the README's lines build and run with the installed files
 installed() {
-    make --no-print-directory install LIB="$LIB" DESTDIR= PREFIX="$PWD/$out/prefix" && readme $(flags "$PWD/$out/prefix")
+    install_in DESTDIR= PREFIX="$prefix" && readme $(flags)
+}
+
+# shared: succeeds if they do with the shared library, which exports the names that the header declares, and no others
+shared() {
+    readme "-I$prefix/include" "-L$prefix/lib" -ldma330 "-Wl,-rpath,$prefix/lib" &&
+        nm -D --undefined-only "$out/readme" | grep -q ' dma330_step$' || return 1
+    nm -D --defined-only "$prefix/lib/libdma330.so.1" | awk '{print $3}' | sort | diff - "$out/declared"
+}
+
+# with_cmake: succeeds if CMake finds both libraries, and the README's lines run with each
+with_cmake() {
+    mkdir -p "$out/cmake"
+    cat >"$out/cmake/CMakeLists.txt" <<'END'
+cmake_minimum_required(VERSION 3.13)
+project(readme C)
+find_package(dma330 1.2 REQUIRED)
+foreach(it dma330 shared)
+  add_executable(with_${it} ../readme.c)
+  target_link_libraries(with_${it} dma330::${it})
+endforeach()
+END
+    readme_lines
+    cmake -S "$out/cmake" -B "$out/cmake/build" -DCMAKE_PREFIX_PATH="$prefix" && cmake --build "$out/cmake/build" &&
+        "$out/cmake/build/with_dma330" && "$out/cmake/build/with_shared"
+}
+
+# page: succeeds if groff formats the manual page without a warning, and it has each call
+page() {
+    [ -z "$(groff -man -ww -z -Tascii "$prefix/share/man/man3/dma330.3" 2>&1)" ] &&
+        sed -n 's/^\.B "[a-z0-9_]* \(dma330_[a-z_]*\)(.*/\1/p' "$prefix/share/man/man3/dma330.3" | sort | diff - "$out/declared"
+}
+
+# uninstalled: succeeds if `make uninstall` leaves no file
+uninstalled() {
+    make --no-print-directory uninstall DESTDIR= PREFIX="$prefix" && [ -z "$(find "$prefix" ! -type d)" ]
 }
 
 # staged: succeeds if DESTDIR is put in front of the paths of the installed files, and does not appear inside the files
 staged() {
-    make --no-print-directory install LIB="$LIB" PREFIX=/opt/dma330 DESTDIR="$PWD/$out/staged" &&
+    install_in PREFIX=/opt/dma330 DESTDIR="$PWD/$out/staged" &&
         cmp c/dma330.h "$out/staged/opt/dma330/include/dma330.h" && cmp "$LIB" "$out/staged/opt/dma330/lib/libdma330.a" &&
-        grep -qx prefix=/opt/dma330 "$out/staged/opt/dma330/lib/pkgconfig/dma330.pc"
+        cmp c/dma330_program.h "$out/staged/opt/dma330/include/dma330_program.h" &&
+        grep -qx prefix=/opt/dma330 "$out/staged/opt/dma330/lib/pkgconfig/dma330.pc" &&
+        ! grep -r "$out" "$out/staged"
+}
+
+# installs: tests what is installed, as far as there are the commands for it
+installs() {
+    try "make install" installed
+    has nm && try "the shared library" shared
+    if has cmake; then
+        try "the files for CMake" with_cmake
+    else
+        echo "there is no cmake: the test of the files for CMake is left out"
+    fi
+    has groff && try "the manual page" page
+    try "make uninstall" uninstalled
+    try "make install with DESTDIR" staged
 }
 
 # qemu_stubs MAJOR: succeeds if the device for QEMU of this version compiles without a warning, with stubs in place of
@@ -219,7 +292,7 @@ in_c() {
     rows="c/lines.c c/words.c c/rows.c c/readings.c"
     make_it "$set abi.c" "$@" -o "$to/abi" c/abi.c "$LIB" && try "$set abi.c" "$to/abi"
     make_it "$set example.c" "$@" -o "$to/example" c/example.c "$LIB" && try "$set example.c" example "$to/example"
-    make_it "$set example_driver.c" "$@" -pedantic -o "$to/driver" c/example_driver.c c/harness.c "$LIB" &&
+    make_it "$set example_driver.c" "$@" -pedantic -o "$to/driver" c/example_driver.c c/harness*.c "$LIB" &&
         try "$set example_driver.c" driver "$to/driver"
     make_it "$set threads.c" "$@" -pthread -o "$to/threads" c/threads.c "$LIB" && try "$set threads.c" "$to/threads"
     make_it "$set walk.c" "$@" -o "$to/walk" c/walk.c $rows "$LIB" &&
@@ -240,6 +313,8 @@ in_c() {
         count "$set pages.c" "$last_line" "$to/pages"
     make_it "$set totals.c" "$@" -o "$to/totals" c/totals.c "$LIB" && count "$set totals.c" "$last_line" "$to/totals"
     make_it "$set texts.c" "$@" -o "$to/texts" c/texts.c "$LIB" && count "$set texts.c" "$last_line" "$to/texts"
+    make_it "$set program_bytes.c" "$@" -o "$to/program_bytes" c/program_bytes.c "$LIB" &&
+        count "$set program_bytes.c" "$last_line" "$to/program_bytes"
 }
 
 # with_sanitizers: does the same with sanitizers, if the compiler has them and programs with them run here
@@ -259,6 +334,9 @@ in_cxx() {
     done
     make_it "example.c in C++" $CXX -x c++ -O2 -Wall -Wextra -Ic -o "$out/example_cxx" c/example.c -x none "$LIB" &&
         try "example.c in C++" example "$out/example_cxx"
+    cxx="-x c++ -std=c++11 -O2 -Wall -Wextra -pedantic -Werror -Ic"
+    make_it "example_driver.c in C++" $CXX $cxx -o "$out/driver_cxx" c/example_driver.c c/harness*.c -x none "$LIB" &&
+        try "example_driver.c in C++" driver "$out/driver_cxx"
 }
 
 c_flags="-std=c99 -O2 -g -Wall -Wextra -Ic"
@@ -274,21 +352,21 @@ if has "$CC"; then
     else
         echo "there is no nm: the comparison of the names that the library exports is left out"
     fi
-    try "names of codes, turns and causes" named
+    try "names of numbers" named
     try "README.md" readme -Ic "$LIB"
+    try "EMBEDDING.md" guide
     try "qemu device with stubs of QEMU 7.2" qemu_stubs 7
     try "qemu device with stubs of QEMU 10.0" qemu_stubs 10
     if [ -n "${QEMU_FOLDER:-}" ]; then
         try "qemu device with the headers of QEMU $(cat "$QEMU_FOLDER/source/VERSION")" qemu_headers "$QEMU_FOLDER"
     fi
     if has make; then
-        try "make install" installed
-        try "make install with DESTDIR" staged
+        installs
     else
         echo "there is no make: the tests of what it installs are left out"
     fi
     in_c plain $CC $c_flags
-    wrong_drivers
+    count "wrong drivers" "$last_line" env "CC=$CC" "FLAGS=$c_flags" ./wrong_drivers.sh "$LIB" "$out/wrong"
     with_sanitizers
     if has "$CXX"; then
         in_cxx

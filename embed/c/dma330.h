@@ -31,9 +31,9 @@ extern "C" {
 /* The version, by numbers for #if, and as dma330_version writes it. CHANGES.md has the rule: a program for this version
  * works with all later ones of the same MAJOR. */
 #define DMA330_VERSION_MAJOR 1
-#define DMA330_VERSION_MINOR 4
+#define DMA330_VERSION_MINOR 5
 #define DMA330_VERSION_PATCH 0
-#define DMA330_VERSION "dilkwafam 1.4"
+#define DMA330_VERSION "dilkwafam 1.5"
 
 /* Room for what dma330_version writes in any version. */
 #define DMA330_MAX_VERSION 32
@@ -288,6 +288,48 @@ enum dma330_cause {
     DMA330_CAUSE_NO_END = 15              /* no DMAEND is among the first `most` instructions */
 };
 
+/* The status of a channel, bits 3:0 of CSR (manual, channel status registers). A device of this library has those whose
+ * comment says so. */
+enum dma330_csr {
+    DMA330_CSR_STOPPED = 0,           /* here too */
+    DMA330_CSR_EXECUTING = 1,         /* here too */
+    DMA330_CSR_CACHE_MISS = 2,
+    DMA330_CSR_UPDATING_PC = 3,
+    DMA330_CSR_WAITING_FOR_EVENT = 4, /* here too; bits 8:4 are the event */
+    DMA330_CSR_AT_BARRIER = 5,
+    DMA330_CSR_WAITING_FOR_PERIPHERAL = 7,
+    DMA330_CSR_KILLING = 8,
+    DMA330_CSR_COMPLETING = 9,
+    DMA330_CSR_FAULTING_COMPLETING = 14,
+    DMA330_CSR_FAULTING = 15          /* here too */
+};
+
+/* The bits of a channel's FTR (manual, fault type channel registers), by number. */
+enum dma330_ftr {
+    DMA330_FTR_UNDEF_INSTR = 0,
+    DMA330_FTR_OPERAND_INVALID = 1,
+    DMA330_FTR_CH_EVNT_ERR = 5,
+    DMA330_FTR_CH_PERIPH_ERR = 6,
+    DMA330_FTR_CH_RDWR_ERR = 7,
+    DMA330_FTR_MFIFO_ERR = 12,
+    DMA330_FTR_ST_DATA_UNAVAILABLE = 13,
+    DMA330_FTR_INSTR_FETCH_ERR = 16,
+    DMA330_FTR_DATA_WRITE_ERR = 17,
+    DMA330_FTR_DATA_READ_ERR = 18,
+    DMA330_FTR_DBG_INSTR = 30,        /* beside another bit: the instruction came from the debug registers */
+    DMA330_FTR_LOCKUP_ERR = 31
+};
+
+/* The bits of the manager's FTRD, by number. */
+enum dma330_ftrd {
+    DMA330_FTRD_UNDEF_INSTR = 0,
+    DMA330_FTRD_OPERAND_INVALID = 1,
+    DMA330_FTRD_DMAGO_ERR = 4,
+    DMA330_FTRD_MGR_EVNT_ERR = 5,
+    DMA330_FTRD_INSTR_FETCH_ERR = 16,
+    DMA330_FTRD_DBG_INSTR = 30        /* beside another bit */
+};
+
 /* What a call returns. */
 enum dma330_code {
     DMA330_OK = 0,
@@ -345,6 +387,9 @@ enum dma330_code {
 #define DMA330_NAMED(name) case DMA330_##name: return #name;
 #define DMA330_NAMED_TURN(name) case DMA330_CHANNEL_##name: return #name;
 #define DMA330_NAMED_CAUSE(name) case DMA330_CAUSE_##name: return #name;
+#define DMA330_NAMED_CSR(name) case DMA330_CSR_##name: return #name;
+#define DMA330_NAMED_FTR(name) case DMA330_FTR_##name: return #name;
+#define DMA330_NAMED_FTRD(name) case DMA330_FTRD_##name: return #name;
 
 /* Returns the name of a code without DMA330_, as "BUSY" for DMA330_BUSY; "?" if no code has this number. */
 DMA330_INLINE const char *dma330_code_name(int32_t code)
@@ -398,8 +443,69 @@ DMA330_INLINE const char *dma330_cause_name(uint32_t cause)
     }
 }
 
+/* Returns the name of a fault, an enum dma330_fault, as "MFIFO_ERR" for DMA330_MFIFO_ERR; "?" if none has this
+ * number. */
+DMA330_INLINE const char *dma330_fault_name(uint32_t fault)
+{
+    switch (fault) {
+        DMA330_NAMED(UNDEF_INSTR) DMA330_NAMED(OPERAND_INVALID) DMA330_NAMED(MFIFO_ERR)
+        DMA330_NAMED(ST_DATA_UNAVAILABLE) DMA330_NAMED(INSTR_FETCH_ERR) DMA330_NAMED(DATA_WRITE_ERR)
+        DMA330_NAMED(DATA_READ_ERR)
+    default: return "?";
+    }
+}
+
+/* Returns the name of a result, an enum dma330_result_code, as "ABORTED" for DMA330_ABORTED; "?" if none has this
+ * number. */
+DMA330_INLINE const char *dma330_result_name(uint32_t result)
+{
+    switch (result) {
+        DMA330_NAMED(NO_ERROR) DMA330_NAMED(READ_FAILED) DMA330_NAMED(WRITE_FAILED) DMA330_NAMED(ABORTED)
+    default: return "?";
+    }
+}
+
+/* Returns the name of the status in bits 3:0 of a CSR, as "EXECUTING" for DMA330_CSR_EXECUTING; "?" if it is
+ * reserved. */
+DMA330_INLINE const char *dma330_csr_name(uint32_t csr)
+{
+    switch (csr & 15) {
+        DMA330_NAMED_CSR(STOPPED) DMA330_NAMED_CSR(EXECUTING) DMA330_NAMED_CSR(CACHE_MISS)
+        DMA330_NAMED_CSR(UPDATING_PC) DMA330_NAMED_CSR(WAITING_FOR_EVENT) DMA330_NAMED_CSR(AT_BARRIER)
+        DMA330_NAMED_CSR(WAITING_FOR_PERIPHERAL) DMA330_NAMED_CSR(KILLING) DMA330_NAMED_CSR(COMPLETING)
+        DMA330_NAMED_CSR(FAULTING_COMPLETING) DMA330_NAMED_CSR(FAULTING)
+    default: return "?";
+    }
+}
+
+/* Returns the name of bit number `bit` of a channel's FTR, as "MFIFO_ERR" for DMA330_FTR_MFIFO_ERR, 12; "?" if it is
+ * reserved. */
+DMA330_INLINE const char *dma330_ftr_name(uint32_t bit)
+{
+    switch (bit) {
+        DMA330_NAMED_FTR(UNDEF_INSTR) DMA330_NAMED_FTR(OPERAND_INVALID) DMA330_NAMED_FTR(CH_EVNT_ERR)
+        DMA330_NAMED_FTR(CH_PERIPH_ERR) DMA330_NAMED_FTR(CH_RDWR_ERR) DMA330_NAMED_FTR(MFIFO_ERR)
+        DMA330_NAMED_FTR(ST_DATA_UNAVAILABLE) DMA330_NAMED_FTR(INSTR_FETCH_ERR) DMA330_NAMED_FTR(DATA_WRITE_ERR)
+        DMA330_NAMED_FTR(DATA_READ_ERR) DMA330_NAMED_FTR(DBG_INSTR) DMA330_NAMED_FTR(LOCKUP_ERR)
+    default: return "?";
+    }
+}
+
+/* Returns the name of bit number `bit` of the manager's FTRD in the same way. */
+DMA330_INLINE const char *dma330_ftrd_name(uint32_t bit)
+{
+    switch (bit) {
+        DMA330_NAMED_FTRD(UNDEF_INSTR) DMA330_NAMED_FTRD(OPERAND_INVALID) DMA330_NAMED_FTRD(DMAGO_ERR)
+        DMA330_NAMED_FTRD(MGR_EVNT_ERR) DMA330_NAMED_FTRD(INSTR_FETCH_ERR) DMA330_NAMED_FTRD(DBG_INSTR)
+    default: return "?";
+    }
+}
+
 #undef DMA330_NAMED
 #undef DMA330_NAMED_TURN
+#undef DMA330_NAMED_CSR
+#undef DMA330_NAMED_FTR
+#undef DMA330_NAMED_FTRD
 #undef DMA330_NAMED_CAUSE
 #undef DMA330_INLINE
 
@@ -553,7 +659,7 @@ int32_t dma330_channel_load_from(dma330_channel *channel, const dma330_region *r
  * regions isn't written, only their bytes. A burst may cross from one region into one that touches it. After a burst
  * to address 4294967295 SAR or DAR is 0; a burst that goes beyond it fails. The library keeps no fault: the next step
  * tries the instruction again, so a model stops stepping a channel that failed. Codes: BAD_REGIONS, NO_PROGRAM. */
-int32_t dma330_channel_step(dma330_channel *channel, dma330_region *regions, size_t region_count, uint32_t *flags,
+int32_t dma330_channel_step(dma330_channel *channel, const dma330_region *regions, size_t region_count, uint32_t *flags,
                             uint32_t most, dma330_channel_report *report) DMA330_NO_NULLS;
 
 /* Drops the program. Registers and counts stay. */
@@ -610,7 +716,7 @@ int32_t dma330_device_write(dma330_device *device, uint32_t offset, uint32_t val
  * next turn. Whatever the guest's program is, a step wrote each address in `turn->written`, each lies in a region that
  * isn't read-only, and no byte elsewhere has changed. Does nothing for a channel that is stopped or faulting, or that
  * the device doesn't have. Codes: BAD_REGIONS. */
-int32_t dma330_device_step(dma330_device *device, uint8_t channel, uint32_t most, dma330_region *regions,
+int32_t dma330_device_step(dma330_device *device, uint8_t channel, uint32_t most, const dma330_region *regions,
                            size_t region_count, dma330_device_turn *turn) DMA330_NO_NULLS;
 
 /* Explains the program that a DMAGO loaded into a channel, as dma330_explain does on the device's bus: from its first
@@ -658,7 +764,8 @@ int32_t dma330_device_restore(dma330_device *device, const uint8_t *save, size_t
  *     DMALPEND 0 2
  *     DMAEND
  *
- * A program that waits has DMAWFE 3, or DMAWFE 3 invalid, and one that signals DMASEV 3. */
+ * A program that waits has DMAWFE 3, or DMAWFE 3 invalid, and one that signals DMASEV 3. dma330_program.h has a macro
+ * for the bytes of each instruction. */
 
 /* Writes DMA330_VERSION and a zero byte, and its length without that byte. Codes: BUFFER_TOO_SMALL. */
 int32_t dma330_version(char *out, size_t room, size_t *len) DMA330_NO_NULLS;
@@ -677,8 +784,14 @@ int32_t dma330_run_program(const uint8_t *program, size_t len, uint8_t *memory, 
  * all these addresses, none that it writes is read-only, no mark lies there, and nobody else writes there meanwhile. If
  * UNEXPLAINED is returned, no copy explains the program in at most `most` instructions: the explanation has the cause,
  * the offset, and how many instructions come before it. For BUFFER_TOO_SMALL the explanation is that of DMA330_OK, so the numbers
- * are the room that is needed. Only DMA330_OK writes the lists, from their fronts. Codes: BAD_CONFIG for another bus,
- * PROGRAM_TOO_LONG, NO_MEMORY, UNEXPLAINED, BUFFER_TOO_SMALL. */
+ * are the room that is needed. Only DMA330_OK writes the lists, from their fronts.
+ *
+ * `most` bounds what a program of somebody else can cost. The time is proportional to the executed instructions, and at
+ * the end the ranges that are stored are sorted. The call allocates up to 16 bytes for each executed DMAWFE and DMASEV,
+ * 12 for a DMALD and 8 for a DMAST that doesn't continue the range before it, at the end 8 more for each range that is
+ * stored, and up to three times that while a list grows; all is freed when it returns.
+ *
+ * Codes: BAD_CONFIG for another bus, PROGRAM_TOO_LONG, NO_MEMORY, UNEXPLAINED, BUFFER_TOO_SMALL. */
 int32_t dma330_explain(const uint8_t *program, size_t len, uint32_t bus, uint32_t most, dma330_repeated *src,
                        size_t src_room, dma330_segment *dst, size_t dst_room, dma330_happening *happenings,
                        size_t happenings_room, dma330_explanation *explanation) DMA330_NO_NULLS;

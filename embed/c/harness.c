@@ -1,211 +1,206 @@
-#include "harness.h"
-
-#include "dma330.h"
+/* The test: runs of copies with all kinds of trouble, for one seed or several. HARNESS.md is about its use. */
+#include "harness_inside.h"
 
 #include <stdio.h>
-#include <stdlib.h>
 #include <string.h>
 
-enum { INT_EVENT_RIS = 0x024, INTMIS = 0x028, CSR = 0x100, CPC = 0x104, SAR = 0x400, DAR = 0x404 };
-enum { EXECUTING = 1, FAULTING = 15, MOST_TICKS = 200000 };
+enum { COPIES = 60 };
 
-uint8_t ram[RAM_BYTES];
-uint32_t now, kinds, troubles;
+/* ---- runs ---- */
 
-static dma330_device dma = DMA330_DEVICE_INIT;
-static dma330_region lent = {RAM, ram, sizeof ram, 0};
-static FILE *wave;
-
-/* The seed, and the last draw; the trouble of this tick, when slow channels go on, and the high lines that are lost;
- * whether the handler runs. */
-static uint32_t seed = 1, drawn, trouble, slow_until[CHANNELS];
-static uint64_t lost;
-static bool is_handling;
-
-void expect(bool holds, const char *wrong)
+/* Lets time pass, and calls the driver's handlers. */
+static void let_pass(void)
 {
-    if (holds)
+    pass();
+    if (machine.tick - machine.last_timer < HARNESS_TIMER)
         return;
-    printf("WRONG: %s (seed %u, tick %u)\n", wrong, (unsigned)seed, (unsigned)now);
-    exit(1);
+    machine.last_timer = machine.tick;
+    machine.accesses_of_call = 0;
+    machine.driver->handle_timer();
 }
 
-uint32_t draw(uint32_t limit)
-{
-    drawn = 1664525 * drawn + 1013904223;
-    return (drawn >> 16) % limit;
-}
-
-/* Reads a register without a tick. */
-static uint32_t look(uint32_t offset)
-{
-    uint32_t value = 0;
-    expect(dma330_device_read(&dma, offset, &value) == DMA330_OK, "dma330_device_read");
-    return value;
-}
-
-/* Returns the lines irq[31:0], and irq_abort in bit 32. */
-static uint64_t lines(void)
-{
-    uint32_t irqs = 0, irq_abort = 0;
-    expect(dma330_device_irqs(&dma, &irqs) == DMA330_OK, "dma330_device_irqs");
-    expect(dma330_device_irq_abort(&dma, &irq_abort) == DMA330_OK, "dma330_device_irq_abort");
-    return (uint64_t)irq_abort << 32 | irqs;
-}
-
-/* ---- the waveform ---- */
-
-/* The signals: three of the harness, and then bits of registers, from a first one on. */
-#define OF_CHANNEL(n) {"irq" #n, 1, INTMIS, n}, {"event" #n, 1, INT_EVENT_RIS, n}, {"state" #n, 4, CSR + 8 * n, 0}, \
-    {"pc" #n, 32, CPC + 8 * n, 0}, {"sar" #n, 32, SAR + 32 * n, 0}, {"dar" #n, 32, DAR + 32 * n, 0}
-static const struct {
-    const char *name;
-    int width, offset, first;
-} signals[] = {
-    {"trouble", 4, 0, 0}, {"handler", 1, 0, 0}, {"irq_abort", 1, 0, 0}, OF_CHANNEL(0), OF_CHANNEL(1), OF_CHANNEL(2)
-};
-enum { OWN = 3, SIGNALS = sizeof signals / sizeof signals[0] };
-
-/* Opens the waveform's file, and declares the signals. */
-static void open_wave(const char *path)
-{
-    wave = fopen(path, "w");
-    expect(wave != NULL, "the waveform's file can't be opened");
-    fprintf(wave, "$timescale 1 ns $end\n$scope module dma330 $end\n");
-    for (int n = 0; n < SIGNALS; n++)
-        fprintf(wave, "$var wire %d %c %s $end\n", signals[n].width, '!' + n, signals[n].name);
-    fprintf(wave, "$upscope $end\n$enddefinitions $end\n");
-}
-
-/* Returns the value that a signal has now. */
-static uint32_t value_of(int n)
-{
-    const uint32_t own[OWN] = {lost != 0 ? trouble | LOST : trouble, is_handling, lines() >> 32 != 0};
-    if (n < OWN)
-        return own[n];
-    return look((uint32_t)signals[n].offset) >> signals[n].first & 0xFFFFFFFF >> (32 - signals[n].width);
-}
-
-/* Writes a signal's new value. */
-static void put(int n, uint32_t value)
-{
-    fputs(signals[n].width > 1 ? "b" : "", wave);
-    for (int bit = signals[n].width - 1; bit >= 0; bit--)
-        fputc('0' + (int)(value >> bit & 1), wave);
-    fprintf(wave, "%s%c\n", signals[n].width > 1 ? " " : "", '!' + n);
-}
-
-/* Writes the signals that this tick has changed. */
-static void show(void)
-{
-    static uint32_t shown[SIGNALS];
-    fprintf(wave, "#%u\n", (unsigned)now);
-    for (int n = 0; n < SIGNALS; n++) {
-        uint32_t value = value_of(n);
-        if (now == 1 || value != shown[n])
-            put(n, value);
-        shown[n] = value;
-    }
-}
-
-/* ---- ticks ---- */
-
-/* Lets a channel take a step. If no burst fails in it, the tick is without trouble. */
-static void step(uint32_t channel)
-{
-    dma330_device_turn turn;
-    int32_t code;
-    lent.read_only = trouble == ROM;
-    code = dma330_device_step(&dma, (uint8_t)channel, 1, &lent, trouble != GAP, &turn);
-    lent.read_only = 0;
-    expect(code == DMA330_OK, "dma330_device_step");
-    if (look(CSR + 8 * channel) != FAULTING)
-        trouble = 0;
-}
-
-/* Lets a channel that is drawn take a step, unless it is slow. */
-static void tick(void)
-{
-    uint32_t channel = draw(CHANNELS);
-    now++;
-    expect(now < MOST_TICKS, "the driver doesn't end");
-    trouble = draw(20) == 0 && look(CSR + 8 * channel) == EXECUTING ? kinds & 2u << draw(3) : 0;
-    if (now < slow_until[channel])
-        trouble = 0;
-    else if (trouble == SLOW)
-        slow_until[channel] = now + 1000;
-    else
-        step(channel);
-    troubles += trouble != 0;
-    if (wave != NULL)
-        show();
-}
-
-uint32_t readl(uint32_t offset)
-{
-    tick();
-    return look(offset);
-}
-
-void writel(uint32_t offset, uint32_t value)
-{
-    tick();
-    expect(dma330_device_write(&dma, offset, value, &lent, 1) == DMA330_OK, "dma330_device_write");
-}
-
-/* Returns the high lines whose interrupts aren't lost. */
-static uint64_t seen_lines(void)
-{
-    static uint64_t before;
-    uint64_t high = lines(), risen = high & ~before;
-    before = high;
-    lost &= high;
-    if (risen != 0 && kinds & LOST && draw(3) == 0) {
-        lost |= risen;
-        troubles++;
-    }
-    return high & ~lost;
-}
-
-void pass(void (*handler)(void))
-{
-    static int calls;
-    tick();
-    is_handling = seen_lines() != 0;
-    calls = is_handling ? calls + 1 : 0;
-    expect(calls < 50, "the handler leaves a line high");
-    if (is_handling)
-        handler();
-    is_handling = false;
-}
-
-/* ---- the beginning and the end ---- */
-
-void set_up(int argc, char **argv)
-{
-    static const dma330_device_config config = {CHANNELS, CHANNELS, 0, 32, 64 * CHANNELS, 3};
-
-    for (int n = 1; n < argc; n += 2) {
-        if (n + 1 < argc && strcmp(argv[n], "--seed") == 0)
-            seed = (uint32_t)strtoul(argv[n + 1], NULL, 10);
-        else if (n + 1 < argc && strcmp(argv[n], "--vcd") == 0)
-            open_wave(argv[n + 1]);
-        else
-            expect(false, "the options are --seed NUMBER and --vcd FILE");
-    }
-    drawn = seed;
-    expect(dma330_device_open(&dma, &config) == DMA330_OK, "dma330_device_open");
-}
-
-void expect_rest(void)
+/* Expects that the machine is at rest, and that no channel was killed without need. */
+static void expect_rest(void)
 {
     uint32_t can_step = 1;
-    expect(dma330_device_can_step(&dma, &can_step) == DMA330_OK && can_step == 0, "a channel still runs");
-    expect(lines() == 0, "a line is still high");
+
+    expect(dma330_device_can_step(&machine.device, &can_step) == DMA330_OK && can_step == 0, "a channel still runs");
+    expect(high_lines() == 0, "a line is still high");
+    expect(machine.kills == 0 || machine.stops > 0 || is_disturbed(), "a running channel was killed without need");
+    expect_bytes(NULL);
 }
 
-void tear_down(void)
+static bool any_copy_runs(void)
 {
-    dma330_device_close(&dma);
-    expect(wave == NULL || fclose(wave) == 0, "the waveform can't be written");
+    bool any = false;
+
+    for (uint32_t n = 0; n < HARNESS_MOST_COPIES; n++)
+        any = any || machine.copies[n].runs;
+    return any;
+}
+
+/* Makes copies while some kinds of trouble come, and prints how that went. */
+static void run(const char *name, uint32_t kinds)
+{
+    uint32_t started = 0;
+    char names[NAMES];
+
+    machine.run = name;
+    machine.kinds = kinds;
+    machine.stops = machine.troubles = machine.budget = machine.kills = machine.faults = 0;
+    for (uint32_t n = 0; started < COPIES || any_copy_runs(); n = (n + 1) % machine.driver->copies) {
+        if (machine.copies[n].runs)
+            watch_copy(n);
+        else if (started < COPIES)
+            start_copy(n, ++started);
+        let_pass();
+    }
+    expect_rest();
+    if (!is_brief)
+        printf("%-15s %3lu troubles, %3lu kills, FTR %s, %lu copies right\n", name, (unsigned long)machine.troubles,
+               (unsigned long)machine.kills, names_of_faults(machine.faults, names),
+               (unsigned long)(COPIES - machine.stops));
+}
+
+static void make_runs(void)
+{
+    bool has_stop = machine.driver->stop != NULL;
+
+    machine.driver->reset();
+    run("no trouble", 0);
+    run("lost interrupts", LOST);
+    run("slow channels", SLOW);
+    run("failing bursts", GAP);
+    run("failing stores", ROM);
+    run("a shared line", SHARED);
+    if (has_stop)
+        run("stopped copies", STOPS);
+    run("all of these", LOST | SLOW | GAP | ROM | SHARED | (has_stop ? STOPS : 0));
+}
+
+/* Tests a driver with a seed. Returns whether all is right. */
+static bool passes(const harness_driver *driver, uint32_t seed)
+{
+    bool is_right;
+
+    open_machine(driver, seed);
+    is_right = setjmp(failing) == 0;
+    if (is_right)
+        make_runs();
+    dma330_device_close(&machine.device);
+    return is_right;
+}
+
+/* ---- the command line ---- */
+
+static struct {
+    uint32_t first, last;
+    const char *wave;
+} options;
+
+/* Reads a number, after which `end` follows. Returns the text after both, or NULL. */
+static const char *number(const char *text, char end, uint32_t *value)
+{
+    const uint64_t most = 0xFFFFFFFF;
+    uint64_t sum = 0;
+    const char *at = text;
+
+    for (; *at >= '0' && *at <= '9' && sum <= most; at++)
+        sum = 10 * sum + (uint64_t)(*at - '0');
+    *value = (uint32_t)sum;
+    return at != text && sum <= most && *at == end ? at + 1 : NULL;
+}
+
+/* Reads an option and its operand. Returns NULL, or what is wrong. */
+static const char *option(const char *name, const char *operand)
+{
+    const char *second;
+
+    if (strcmp(name, "--seed") != 0 && strcmp(name, "--seeds") != 0 && strcmp(name, "--vcd") != 0)
+        return "is no option; they are --seed N, --seeds A-B and --vcd FILE";
+    if (operand == NULL)
+        return "has no operand";
+    if (strcmp(name, "--vcd") == 0) {
+        options.wave = operand;
+        return NULL;
+    }
+    if (strcmp(name, "--seed") == 0) {
+        if (number(operand, '\0', &options.first) == NULL)
+            return "takes a number from 0 to 4294967295";
+        options.last = options.first;
+        return NULL;
+    }
+    second = number(operand, '-', &options.first);
+    if (second == NULL || number(second, '\0', &options.last) == NULL || options.first > options.last)
+        return "takes two numbers from 0 to 4294967295 that rise, as 1-100";
+    return NULL;
+}
+
+static bool are_options(int argc, char **argv)
+{
+    options.first = options.last = 1;
+    for (int n = 1; n < argc; n += 2) {
+        const char *wrong = option(argv[n], n + 1 < argc ? argv[n + 1] : NULL);
+        if (wrong != NULL) {
+            fprintf(stderr, "%s: %s %s\n", argv[0], argv[n], wrong);
+            return false;
+        }
+    }
+    if (options.wave != NULL && options.first != options.last)
+        fprintf(stderr, "%s: --vcd takes one seed\n", argv[0]);
+    return options.wave == NULL || options.first == options.last;
+}
+
+/* Returns whether a driver's numbers are in their ranges. */
+static bool is_driver(const harness_driver *driver)
+{
+    uint32_t align = driver->align;
+
+    return driver->copies >= 1 && driver->copies <= HARNESS_MOST_COPIES && driver->longest <= HARNESS_MOST_BYTES &&
+           align >= 1 && align <= 256 && (align & (align - 1)) == 0 && align <= driver->longest &&
+           driver->chip.channels >= 1 && driver->chip.channels <= MOST_CHANNELS;
+}
+
+/* Tests a driver with several seeds, and prints how many failed. The first that fails explains itself. */
+static int test_seeds(const harness_driver *driver)
+{
+    uint32_t failed = 0, first = 0;
+
+    for (uint64_t seed = options.first; seed <= options.last; seed++) {
+        is_brief = options.first != options.last;
+        is_silent = failed > 0;
+        if (passes(driver, (uint32_t)seed))
+            continue;
+        if (failed++ == 0)
+            first = (uint32_t)seed;
+    }
+    if (options.first == options.last)
+        return failed > 0;
+    printf("%lu of %lu seeds failed", (unsigned long)failed, (unsigned long)(options.last - options.first) + 1);
+    if (failed > 0)
+        printf(", the first is %lu", (unsigned long)first);
+    printf("\n");
+    return failed > 0;
+}
+
+int harness_main(int argc, char **argv, const harness_driver *driver)
+{
+    int status;
+
+    if (!are_options(argc, argv))
+        return 2;
+    if (!is_driver(driver)) {
+        fprintf(stderr, "%s: a number of the driver is outside its range in harness.h\n", argv[0]);
+        return 2;
+    }
+    if (options.wave != NULL && !open_wave(options.wave, driver)) {
+        fprintf(stderr, "%s: %s can't be opened\n", argv[0], options.wave);
+        return 2;
+    }
+    status = test_seeds(driver);
+    if (!close_wave()) {
+        fprintf(stderr, "%s: %s can't be written\n", argv[0], options.wave);
+        return 2;
+    }
+    return status;
 }

@@ -1,52 +1,80 @@
-/* A machine for tests of a driver of the PL330: RAM, registers, time, interrupts and trouble. In each tick a channel
- * takes a step. Which one, and all trouble, is drawn from a seed, so that the same comes again with the same seed. */
+/* A kit for tests of a driver of the PL330: a machine with RAM, the device's registers, time and interrupts, and a test
+ * that starts copies, brings trouble and checks each byte. HARNESS.md says how to test your own driver, and what the
+ * kit can't find. All that happens is drawn from a seed, so the same seed gives the same run. */
 #ifndef HARNESS_H
 #define HARNESS_H
+
+#include "dma330.h"
 
 #include <stdbool.h>
 #include <stdint.h>
 
-/* ---- for the driver ---- */
+#ifdef __cplusplus
+extern "C" {
+#endif
 
-enum { CHANNELS = 3, RAM = 0x10000000, RAM_BYTES = 0x3000 };
+/* ---- what a driver uses ---- */
 
-/* The bytes from the address RAM on. */
-extern uint8_t ram[RAM_BYTES];
+/* The first address of RAM. The driver may use the HARNESS_DRIVER_BYTES bytes from there on, for its programs; all
+ * others are the test's. */
+#define HARNESS_RAM 0x10000000u
+#define HARNESS_DRIVER_BYTES 0x1000u
 
-/* The number of ticks so far. */
-extern uint32_t now;
+/* Returns the byte at an address of RAM. The bytes after it follow, up to the end of the RAM around it. */
+uint8_t *harness_ram(uint32_t addr);
 
-/* Read and write a register of the device. Each takes a tick. */
-uint32_t readl(uint32_t offset);
-void writel(uint32_t offset, uint32_t value);
+/* Read and write a register of the device. Each access takes a tick, in which one of the channels takes a step. */
+uint32_t harness_read(uint32_t offset);
+void harness_write(uint32_t offset, uint32_t value);
 
-/* ---- for the test ---- */
+/* Returns the number of ticks so far. */
+uint32_t harness_now(void);
 
-/* Kinds of trouble. LOST: a line rises, and the handler isn't called for it until it is low again. SLOW: a channel
- * takes no step for 1,000 ticks. A device has no marks, so a burst fails by what is lent for its step. GAP: no RAM, so
- * that a load or a store fails. ROM: RAM that is read-only, so that a store fails. */
-enum { LOST = 1, SLOW = 2, GAP = 4, ROM = 8 };
+/* ---- a driver ---- */
 
-/* The kinds that may come from now on, and how many troubles came so far. */
-extern uint32_t kinds, troubles;
+/* The most copies at a time, the longest copy, and the ticks between two calls of handle_timer. */
+enum { HARNESS_MOST_COPIES = 8, HARNESS_MOST_BYTES = 10000, HARNESS_TIMER = 50 };
 
-/* Opens the device. The options are --seed NUMBER, and --vcd FILE for a waveform (VCD, IEEE 1364) with a nanosecond for
- * each tick, in which `trouble` is the sum of the kinds. */
-void set_up(int argc, char **argv);
+/* A driver under test. The test calls its functions one after another, in one thread: no interrupt comes within one. */
+typedef struct harness_driver {
+    /* The chip: channels, events, non-secure, bus, lines of the buffer, revision. */
+    dma330_device_config chip;
 
-/* Lets a tick pass, and then calls the driver's handler if a line is high. */
-void pass(void (*handler)(void));
+    /* The number of copies at a time, 1 to HARNESS_MOST_COPIES, which the test numbers from 0. A driver makes copy n on
+     * channel n, or on any other. */
+    uint32_t copies;
 
-/* Draws a number below a limit, which is at most 65536. */
-uint32_t draw(uint32_t limit);
+    /* The longest copy, up to HARNESS_MOST_BYTES, and a power of two up to 256 that divides all addresses and lengths:
+     * 1 if the driver makes copies of any length and alignment. */
+    uint32_t longest, align;
 
-/* If something doesn't hold, prints what is wrong, the tick and the seed, and ends the program. */
-void expect(bool holds, const char *wrong);
+    /* Sets the driver's variables to their first state, and makes the device ready, which has just been reset. */
+    void (*reset)(void);
 
-/* Expects that no line is high and nothing can step. */
-void expect_rest(void);
+    /* Starts copy n, which isn't busy: `len` bytes from address `src` to `dst`. The two ranges don't overlap, and
+     * nobody else writes them until the copy is done. */
+    void (*start)(uint32_t n, uint32_t src, uint32_t dst, uint32_t len);
 
-/* Closes the device and the waveform. */
-void tear_down(void);
+    /* Returns whether copy n was started and isn't done. When it is done, each byte must be copied. */
+    bool (*is_busy)(uint32_t n);
+
+    /* Handles an interrupt. It is called while a line is high, and on a shared line also if none is. */
+    void (*handle_irq)(void);
+
+    /* Is called every HARNESS_TIMER ticks: looks for copies whose interrupt was lost or whose channel is stuck. */
+    void (*handle_timer)(void);
+
+    /* Stops copy n, which is busy. It isn't busy afterwards, and nothing more is stored. NULL if the driver can't. */
+    void (*stop)(uint32_t n);
+} harness_driver;
+
+/* Tests a driver, and returns the status to exit with: 0 if all is right, 1 if not, 2 for wrong options or a driver
+ * with a number outside its range. The options are --seed N, or --seeds A-B for several in a row, and --vcd FILE for a
+ * waveform of one seed. */
+int harness_main(int argc, char **argv, const harness_driver *driver);
+
+#ifdef __cplusplus
+}
+#endif
 
 #endif

@@ -171,7 +171,7 @@ impl Device {
     /// # Ok::<(), Error>(())
     /// ```
     pub fn explain(&self, channel: u8, most: u32) -> Result<Explanation, Error> {
-        self.handle.explain(channel, most).map(explanation_of)
+        self.handle.explain(channel, most).and_then(explanation_of)
     }
 
     /// Returns the lines irq\[31:0\]. A high line stays high until the guest clears its interrupt.

@@ -166,10 +166,12 @@ fn happening_of(raw: &sys::RawHappening) -> Happening {
     Happening { kind, event: small(raw.event), stored: raw.stored }
 }
 
-pub(crate) fn explanation_of(raw: sys::RawExplained) -> Explanation {
-    let happenings = raw.happenings.iter().map(happening_of).collect();
+pub(crate) fn explanation_of(raw: sys::RawExplained) -> Result<Explanation, Error> {
+    let mut happenings = Vec::new();
+    happenings.try_reserve_exact(raw.happenings.len()).map_err(|_| Error::NoMemory)?;
+    happenings.extend(raw.happenings.iter().map(happening_of));
     let (size, steps) = (raw.explanation.size, raw.explanation.steps);
-    Explanation { src: raw.src, dst: raw.dst, happenings, size, steps }
+    Ok(Explanation { src: raw.src, dst: raw.dst, happenings, size, steps })
 }
 
 /// Returns what a program copies on a bus, by one run without memory for at most `most` instructions.
@@ -197,7 +199,7 @@ pub(crate) fn explanation_of(raw: sys::RawExplained) -> Explanation {
 /// # Ok::<(), Error>(())
 /// ```
 pub fn explain(program: &[u8], bus: Bus, most: u32) -> Result<Explanation, Error> {
-    sys::explain(program, bus.number(), most).map(explanation_of)
+    sys::explain(program, bus.number(), most).and_then(explanation_of)
 }
 
 // Returns the program that a call writes.

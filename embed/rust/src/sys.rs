@@ -293,7 +293,7 @@ extern "C" {
     fn dma330_channel_load_from(channel: *mut RawChannel, regions: *const Region<'_>, count: usize, addr: u32) -> i32;
     fn dma330_channel_step(
         channel: *mut RawChannel,
-        regions: *mut Region<'_>,
+        regions: *const Region<'_>,
         count: usize,
         flags: *mut u32,
         most: u32,
@@ -315,7 +315,7 @@ extern "C" {
         device: *mut RawDevice,
         channel: u8,
         most: u32,
-        regions: *mut Region<'_>,
+        regions: *const Region<'_>,
         count: usize,
         turn: *mut RawDeviceTurn,
     ) -> i32;
@@ -618,7 +618,7 @@ impl ChannelHandle {
 
     pub fn step(&mut self, regions: &mut [Region<'_>], flags: &mut u32, most: u32) -> Result<RawChannelReport, Error> {
         let mut report = RawChannelReport::default();
-        let (lent, count) = (regions.as_mut_ptr(), regions.len());
+        let (lent, count) = (regions.as_ptr(), regions.len());
         let code = unsafe { dma330_channel_step(self.raw.get_mut(), lent, count, flags, most, &mut report) };
         checked(code, report)
     }
@@ -704,7 +704,7 @@ impl DeviceHandle {
 
     pub fn step(&mut self, channel: u8, most: u32, regions: &mut [Region<'_>]) -> Result<RawDeviceTurn, Error> {
         let mut turn = RawDeviceTurn::default();
-        let (lent, count) = (regions.as_mut_ptr(), regions.len());
+        let (lent, count) = (regions.as_ptr(), regions.len());
         let code = unsafe { dma330_device_step(self.raw.get_mut(), channel, most, lent, count, &mut turn) };
         checked(code, turn)
     }
@@ -799,16 +799,25 @@ pub struct RawExplained {
     pub explanation: RawExplanation,
 }
 
+// Returns a list of this length, or `NoMemory`: a guest's program determines how long the lists of an explanation are.
+fn list_of<T: Clone + Default>(len: usize) -> Result<Vec<T>, Error> {
+    let mut list = Vec::new();
+    list.try_reserve_exact(len).map_err(|_| Error::NoMemory)?;
+    list.resize(len, T::default());
+    Ok(list)
+}
+
 impl RawExplained {
-    // Makes a call with lists of some room. If that is too small, repeats it with the room that the explanation has.
+    // Makes a call with lists of some room. If that is too small, as it is for few programs, repeats it, and so the run
+    // of the program, with the room that the explanation has.
     fn by(
         call: impl Fn(&mut [Repeated], &mut [Segment], &mut [RawHappening], &mut RawExplanation) -> i32,
     ) -> Result<RawExplained, Error> {
-        let mut explanation = RawExplanation { src_len: 16, dst_len: 16, happenings_len: 4, ..RawExplanation::default() };
+        let mut explanation = RawExplanation { src_len: 256, dst_len: 256, happenings_len: 64, ..Default::default() };
         loop {
-            let mut src = vec![Repeated::default(); explanation.src_len];
-            let mut dst = vec![Segment::default(); explanation.dst_len];
-            let mut happenings = vec![RawHappening::default(); explanation.happenings_len];
+            let mut src = list_of::<Repeated>(explanation.src_len)?;
+            let mut dst = list_of::<Segment>(explanation.dst_len)?;
+            let mut happenings = list_of::<RawHappening>(explanation.happenings_len)?;
             match call(&mut src, &mut dst, &mut happenings, &mut explanation) {
                 OK => {
                     src.truncate(explanation.src_len);

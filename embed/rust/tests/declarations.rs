@@ -90,10 +90,12 @@ fn value_or_pointer(word: &str, structs: &Structs) -> Passed {
     }
 }
 
-// Returns how a parameter or a result of Rattle or Rust is passed: a slice as a pointer and a length.
+// Returns how a parameter or a result of Rattle or Rust is passed: a slice as a pointer and a length. The list of
+// regions itself is only read, also by a call that writes the regions' bytes, so C and Rust pass a pointer to const.
 fn passed(kind: &str, structs: &Structs) -> Vec<Passed> {
     let (mark, inner) = match kind {
         "Global" => return Vec::new(),
+        "&mut [Region<'_>]" => ("*const ", "[Region<'_>]"),
         _ if kind.starts_with("&mut ") => ("*mut ", &kind[5..]),
         _ if kind.starts_with("*mut ") => ("*mut ", &kind[5..]),
         _ if kind.starts_with("*const ") => ("*const ", &kind[7..]),

@@ -45,7 +45,7 @@ const MAX_REGIONS: usize = 64;
 
 /// A guest's memory, lent to calls on devices and channels.
 ///
-/// What the memory has above address 0xFFFFFFFE isn't lent, nor is a mapping that can't be read. One that can't be
+/// What the memory has above address 0xFFFFFFFF isn't lent, nor is a mapping that can't be read. One that can't be
 /// written is lent as ROM. A channel that uses an address that isn't lent fails, as at a hole.
 ///
 /// ```

@@ -1,0 +1,133 @@
+#!/bin/sh
+# Installs what is built, or removes it again; proves and builds nothing anew: install.sh install|uninstall [library]
+#
+# `make install` calls it at the top, and here with the word library, which leaves out the programs. PREFIX is an
+# absolute path; DESTDIR is put in front of it. LIB may name the library's archive. AS_BUILT=1 installs what was built
+# before a source changed. Nothing is written outside DESTDIR and PREFIX, so the tree may be one that can't be written.
+set -eu
+here=$(cd "$(dirname "$0")" && pwd)
+top=$(dirname "$here")
+what=$1
+only=${2:-}
+to=${DESTDIR:-}$PREFIX
+version=$(sed -n 's/^#define DMA330_VERSION_[MP][A-Z]* //p' "$here/c/dma330.h" | paste -s -d .)
+major=${version%%.*}
+programs="dmasim dma330"
+[ "$only" != library ] || programs=
+
+say() {
+    echo "make $what: $*" >&2
+}
+
+stop() {
+    say "$@"
+    exit 1
+}
+
+# is_current CRATE FILE: whether a crate's file is built; stops if sources have changed since, unless AS_BUILT is 1
+is_current() {
+    [ -f "$2" ] || return 1
+    [ "${AS_BUILT:-}" = 1 ] || "$top/prove" --is-built "$1" >/dev/null 2>&1 ||
+        stop "sources have changed since $1 was built: ./prove $1 proves and builds it anew, and" \
+            "make $what AS_BUILT=1 installs it as it is"
+}
+
+# put MODE FILE NAME: installs a file under a name below the prefix
+put() {
+    mkdir -p "$to/$(dirname "$3")"
+    install -m "$1" "$2" "$to/$3"
+}
+
+# fill_in FILE NAME: installs a file in which the version and the prefix are filled in
+fill_in() {
+    sed "s|@PREFIX@|$PREFIX|; s|@VERSION@|$version|; s|@MAJOR@|$major|" "$here/$1" >"$room/filled"
+    put 644 "$room/filled" "$2"
+}
+
+# find_archive: sets `archive` to the library with the kit's heap, merged if the tree has only the library alone
+find_archive() {
+    archive=${LIB:-}
+    [ -z "$archive" ] || return 0
+    proved=$top/crates/dma_ffi/out/libdma_ffi.a
+    archive=$here/out/libdma330.a
+    if is_current dma_ffi "$proved"; then
+        kit=$(rt doc 2>/dev/null) && kit=${kit%/START-HERE.md} || kit=
+        [ -n "$kit" ] || [ -f "$archive" ] ||
+            stop "the command rt of the Rattle kit is missing, whose heap the library needs: README.md, \"Set up\"," \
+                "has where it comes from"
+        [ -n "$kit" ] || return 0
+        archive=$room/libdma330.a
+        printf 'CREATE %s\nADDLIB %s\nADDLIB %s\nSAVE\nEND\n' "$archive" "$proved" "$kit/c/liblibc_c.a" | ${AR:-ar} -M
+    elif [ ! -f "$archive" ]; then
+        stop "the library isn't built: ./prove dma_ffi proves and builds it, in some 20 minutes from nothing"
+    fi
+}
+
+install_library() {
+    for it in "$here"/c/dma330*.h; do
+        put 644 "$it" "include/$(basename "$it")"
+    done
+    put 644 "$archive" lib/libdma330.a
+    if ${CC:-cc} -shared -o "$room/shared" -Wl,--whole-archive "$archive" -Wl,--no-whole-archive -Wl,-z,defs \
+        -Wl,--version-script="$here/dma330.map" -Wl,-soname,"libdma330.so.$major"; then
+        put 755 "$room/shared" "lib/libdma330.so.$version"
+        ln -sf "libdma330.so.$version" "$to/lib/libdma330.so.$major"
+        ln -sf "libdma330.so.$major" "$to/lib/libdma330.so"
+    else
+        say "the shared library can't be linked, and is left out"
+    fi
+    fill_in dma330.pc.in lib/pkgconfig/dma330.pc
+    fill_in dma330-config.cmake.in lib/cmake/dma330/dma330-config.cmake
+    fill_in dma330-config-version.cmake.in lib/cmake/dma330/dma330-config-version.cmake
+    awk -v version="$version" -f "$here/c/page.awk" "$here/c/dma330.h" >"$room/page"
+    put 644 "$room/page" share/man/man3/dma330.3
+}
+
+# find_programs: sets `found` to the programs that are built; dmasim must be
+find_programs() {
+    found=
+    for it in $programs; do
+        if is_current "$it" "$top/crates/$it/out/$it"; then
+            found="$found $it"
+        elif [ "$it" = dmasim ]; then
+            stop "dmasim isn't built: ./prove dmasim dma_ffi proves and builds all, in some 20 minutes from nothing"
+        elif [ -d "$top/crates/$it" ]; then
+            say "$it isn't built, and is left out: ./prove $it proves and builds it"
+        fi
+    done
+}
+
+install_programs() {
+    for it in $found; do
+        put 755 "$top/crates/$it/out/$it" "bin/$it"
+        [ ! -f "$top/docs/man/$it.1" ] || put 644 "$top/docs/man/$it.1" "share/man/man1/$it.1"
+    done
+}
+
+uninstall() {
+    for it in $programs; do
+        rm -f "$to/bin/$it" "$to/share/man/man1/$it.1"
+    done
+    for it in "$here"/c/dma330*.h; do
+        rm -f "$to/include/$(basename "$it")"
+    done
+    rm -f "$to/lib/libdma330.a" "$to/lib/libdma330.so" "$to"/lib/libdma330.so.[0-9]* "$to/lib/pkgconfig/dma330.pc" \
+        "$to/share/man/man3/dma330.3"
+    rm -rf "$to/lib/cmake/dma330"
+}
+
+case $what in
+    install)
+        room=$(mktemp -d)
+        trap 'rm -rf "$room"' EXIT
+        trap 'exit 130' INT TERM
+        find_programs
+        find_archive
+        install_library
+        install_programs
+        echo "make install: installed in $to"
+        ;;
+    uninstall)
+        uninstall
+        ;;
+esac
