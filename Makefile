@@ -1,0 +1,23 @@
+# Installs the programs and the library, and builds the pages of the API:
+#
+#     make install PREFIX=..      installs the programs, the library for C as archive and as shared library, its header,
+#                                 files for pkg-config and CMake, and manual pages. It proves and builds nothing.
+#     make uninstall PREFIX=..    removes them
+#     make doc                    builds the pages of the Rust crates and of the header, in embed/out/doc
+#
+# PREFIX is /usr/local if it isn't given, and begins where make was called if it is relative. DESTDIR is put before it.
+
+PREFIX = /usr/local
+# (make -C changes the folder, and not the variable PWD)
+ROOT = $(if $(filter /%,$(PREFIX)),$(PREFIX),$(PWD)/$(PREFIX))
+
+help:
+	@sed -n 's/^# \{0,1\}//p' Makefile | sed -n '1,8p'
+
+install uninstall:
+	@PREFIX='$(ROOT)' DESTDIR='$(DESTDIR)' LIB='$(LIB)' CC='$(CC)' AR='$(AR)' AS_BUILT='$(AS_BUILT)' embed/install.sh $@
+
+doc:
+	@$(MAKE) --no-print-directory -C embed doc
+
+.PHONY: help install uninstall doc
