@@ -1,4 +1,13 @@
 mod Listings
 mod TextLines
 mod Readings
+mod Cuts
+mod Numerals
+mod Said
+mod ControlTexts
+mod InsnTexts
+mod LabelTexts
+mod ListedLines
+mod Growth
+mod Listed
 mod OneLine

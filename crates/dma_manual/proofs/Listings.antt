@@ -1,9 +1,9 @@
 -- The listing of bytes, by their first instruction.
-use Rattle.std.proofs.Common.{◌≡◌, ℕ, ◌+◌, ◌-◌, ◌<◌, ◌≤◌, Bool, true, false, List, [], ◌∷◌, ◌++◌, length, drop, Result, Ok, Err, suc, zero, refl, ap, sym, ◌∙◌, arith, cond, append_assoc, length-append, subst}
+use Rattle.std.proofs.Common.{◌≡◌, ℕ, ◌+◌, ◌-◌, ◌<◌, ◌≤◌, false, List, [], ◌∷◌, ◌++◌, length, drop, Result, Ok, Err, suc, zero, refl, ap, sym, ◌∙◌, arith, cond, append_assoc, length-append}
 use Rattle.std.specs.Prelude.{OnOk}
 use Rattle.dma_insn.specs.declared.insn.Insn.{Insn}
 use Rattle.dma_insn.specs.Decoding.{decoded}
-use Rattle.dma_manual.specs.Listing.{Listing, Ending, follow, stop, with_text, line_text, is_end, label_text, label_behind, more_labels, first_listed, listed_from}
+use Rattle.dma_manual.specs.Listing.{Listing, follow, with_text, line_text, is_end, label_text, label_behind, more_labels, listed_from}
 
 -- bytes that are skipped are only counted
 listed_from-skipped : (at : ℕ) (labels : List ℕ) (o k : ℕ) (xs : List ℕ) → k ≤ length xs

@@ -1,119 +1,64 @@
--- The text of an instruction but DMAMOV assembles to its bytes: each such instruction is tried.
-use Rattle.std.proofs.Common.{◌≡◌, ℕ, ◌+◌, ◌-◌, ◌<◌, Bool, true, false, ◌&&◌, List, zero, suc, refl, ap, ◌∙◌, sym, subst, arith, inl, inr, Result, Ok, Err}
-use Rattle.std.specs.Str.{bytes_eq}
-use Rattle.std.specs.Fmt.{digits}
-use Rattle.std.proofs.lemmas.Bool.{and_parts, cases_lt, false≢true}
-use Rattle.std.proofs.lemmas.Slice.Eq.{bytes_eq-Decides}
-use Rattle.dma_insn.specs.Spelling.{HasRanges, spelling}
-use Rattle.dma_insn.specs.declared.insn.Counter.TheVariants.{Lc0, Lc1}
+-- The text of each instruction assembles to its bytes.
+use Rattle.std.proofs.Common.{◌≡◌, ℕ, ◌≤◌, true, false, List, [], ◌∷◌, length, refl, ap, ◌∙◌, subst, Ok, arith, append-nil}
+use Rattle.std.specs.List.{list_all}
+use Rattle.std.proofs.lemmas.Bool.{false≢true}
+use Rattle.dma_insn.specs.Spelling.{spelling}
+use Rattle.dma_insn.specs.AssemblyText.{most_program_bytes, text_lines}
+use Rattle.dma_insn.specs.declared.insn.Reg.TheVariants.{Sar, Ccr, Dar}
 use Rattle.dma_insn.specs.declared.insn.Insn.{Insn}
 use Rattle.dma_insn.specs.declared.insn.Insn.TheVariants.{Mov, Ld, St, Rmb, Wmb, Nop, End, Lp, LpEnd, Sev, Wfe}
 use Rattle.dma_manual.specs.ManualText.{manual_text}
-use Rattle.dma_manual.specs.Statements.{by_name}
-use Rattle.dma_manual.specs.Assembled.{assembled, take_lines, with_statement}
-use Rattle.dma_manual.specs.Laws.{TextsAssemble, is_move}
-use Rattle.dma_manual.specs.declared.assembler.Located.{Located}
+use Rattle.dma_manual.specs.Words.{code_of, next_of}
+use Rattle.dma_manual.specs.Assembled.{empty, place_of, take_line, take_lines}
+use Rattle.dma_manual.specs.Laws.{TextsAssemble}
+use Rattle.dma_manual.proofs.Cuts.{code_all, has_bytes, inline_no_feed, line_alone, no_feed}
+use Rattle.dma_manual.proofs.Numerals.{plain}
+use Rattle.dma_manual.proofs.Said.{Says}
+use Rattle.dma_manual.proofs.InsnTexts.{insn_inline, insn_says, statement_of}
+use Rattle.dma_manual.proofs.Growth.{insn_grown, lines_done, lines_step, read_whole, says_line}
 
--- whether a text has assembled to some bytes
-abbrev gives : Result (List ℕ) Located → List ℕ → Bool
-gives (Ok program) bytes = bytes_eq program bytes
-gives (Err fault) bytes = false
+one_line : (text : List ℕ) → has_bytes text ≡ true → list_all no_feed text ≡ true → text_lines text ≡ text ∷ []
+one_line [] some h = absurd (false≢true some)
+one_line (b ∷ text) some h = line_alone b text h
 
-gives-true : (r : Result (List ℕ) Located) (bytes : List ℕ) → gives r bytes ≡ true → r ≡ Ok bytes
-gives-true (Ok program) bytes e = ap Ok ((bytes_eq-Decides program bytes).0 e)
-gives-true (Err fault) bytes e = absurd (false≢true e)
+text_some : (i : Insn) → has_bytes (manual_text i) ≡ true
+text_some End = refl
+text_some Ld = refl
+text_some St = refl
+text_some Rmb = refl
+text_some Wmb = refl
+text_some Nop = refl
+text_some (Lp c n) = refl
+text_some (LpEnd c b) = refl
+text_some (Sev e) = refl
+text_some (Wfe e false) = refl
+text_some (Wfe e true) = refl
+text_some (Mov Sar v) = refl
+text_some (Mov Ccr v) = refl
+text_some (Mov Dar v) = refl
 
--- whether the text of an instruction assembles to its bytes
-abbrev reads_back : Insn → Bool
-reads_back i = gives (assembled (manual_text i)) (spelling i)
-
-back : (i : Insn) → reads_back i ≡ true → assembled (manual_text i) ≡ Ok (spelling i)
-back i e = gives-true (assembled (manual_text i)) (spelling i) e
-
--- whether each number below n passes
-abbrev each_below : ℕ → (ℕ → Bool) → Bool
-each_below zero p = true
-each_below (suc n) p = p n && each_below n p
-
-below : (m n : ℕ) (p : ℕ → Bool) → each_below m p ≡ true → n < m → p n ≡ true
-below zero n p all less = absurd (omega arith)
-below (suc m) n p all less =
-    let parts = and_parts (p m) (each_below m p) all in
-    elim (cases_lt n m) [
-      | inl before ↦ below m n p parts.1 before
-      | inr most ↦ let same : n ≡ m = omega arith in ap p same ∙ parts.0
-    ]
-
-loops0 : each_below 256 (λ n. reads_back (Lp Lc0 (n + 1))) ≡ true
-unfolding take_lines with_statement by_name digits
-loops0 = refl
-
-loops1 : each_below 256 (λ n. reads_back (Lp Lc1 (n + 1))) ≡ true
-unfolding take_lines with_statement by_name digits
-loops1 = refl
-
-ends0 : each_below 256 (λ b. reads_back (LpEnd Lc0 b)) ≡ true
-unfolding take_lines with_statement by_name digits
-ends0 = refl
-
-ends1 : each_below 256 (λ b. reads_back (LpEnd Lc1 b)) ≡ true
-unfolding take_lines with_statement by_name digits
-ends1 = refl
-
-signals : each_below 32 (λ e. reads_back (Sev e)) ≡ true
-unfolding take_lines with_statement by_name digits
-signals = refl
-
-waits : each_below 32 (λ e. reads_back (Wfe e false)) ≡ true
-unfolding take_lines with_statement by_name digits
-waits = refl
-
-invalid_waits : each_below 32 (λ e. reads_back (Wfe e true)) ≡ true
-unfolding take_lines with_statement by_name digits
-invalid_waits = refl
-
-end_reads : reads_back End ≡ true
-unfolding take_lines with_statement by_name
-end_reads = refl
-
-ld_reads : reads_back Ld ≡ true
-unfolding take_lines with_statement by_name
-ld_reads = refl
-
-st_reads : reads_back St ≡ true
-unfolding take_lines with_statement by_name
-st_reads = refl
-
-rmb_reads : reads_back Rmb ≡ true
-unfolding take_lines with_statement by_name
-rmb_reads = refl
-
-wmb_reads : reads_back Wmb ≡ true
-unfolding take_lines with_statement by_name
-wmb_reads = refl
-
-nop_reads : reads_back Nop ≡ true
-unfolding take_lines with_statement by_name
-nop_reads = refl
+spelling-le : (i : Insn) → length (spelling i) ≤ most_program_bytes
+spelling-le End = omega arith
+spelling-le Ld = omega arith
+spelling-le St = omega arith
+spelling-le Rmb = omega arith
+spelling-le Wmb = omega arith
+spelling-le Nop = omega arith
+spelling-le (Lp c n) = omega arith
+spelling-le (LpEnd c b) = omega arith
+spelling-le (Sev e) = omega arith
+spelling-le (Wfe e v) = omega arith
+spelling-le (Mov r v) = omega arith
 
 pub texts_assemble : TextsAssemble
-texts_assemble End h other = back End end_reads
-texts_assemble Ld h other = back Ld ld_reads
-texts_assemble St h other = back St st_reads
-texts_assemble Rmb h other = back Rmb rmb_reads
-texts_assemble Wmb h other = back Wmb wmb_reads
-texts_assemble Nop h other = back Nop nop_reads
-texts_assemble (Lp Lc0 n) h other =
-    let same : n - 1 + 1 ≡ n = omega (arith, h.0) in
-    ap (λ m. assembled (manual_text (Lp Lc0 m))) (sym same) ∙ back (Lp Lc0 (n - 1 + 1)) (below 256 (n - 1) (λ m. reads_back (Lp Lc0 (m + 1))) loops0 (omega (arith, h.0, h.1)))
-    ∙ ap (λ m. Ok (spelling (Lp Lc0 m))) same
-texts_assemble (Lp Lc1 n) h other =
-    let same : n - 1 + 1 ≡ n = omega (arith, h.0) in
-    ap (λ m. assembled (manual_text (Lp Lc1 m))) (sym same) ∙ back (Lp Lc1 (n - 1 + 1)) (below 256 (n - 1) (λ m. reads_back (Lp Lc1 (m + 1))) loops1 (omega (arith, h.0, h.1)))
-    ∙ ap (λ m. Ok (spelling (Lp Lc1 m))) same
-texts_assemble (LpEnd Lc0 b) h other = back (LpEnd Lc0 b) (below 256 b (λ m. reads_back (LpEnd Lc0 m)) ends0 h)
-texts_assemble (LpEnd Lc1 b) h other = back (LpEnd Lc1 b) (below 256 b (λ m. reads_back (LpEnd Lc1 m)) ends1 h)
-texts_assemble (Sev e) h other = back (Sev e) (below 32 e (λ m. reads_back (Sev m)) signals h)
-texts_assemble (Wfe e false) h other = back (Wfe e false) (below 32 e (λ m. reads_back (Wfe m false)) waits h)
-texts_assemble (Wfe e true) h other = back (Wfe e true) (below 32 e (λ m. reads_back (Wfe m true)) invalid_waits h)
-texts_assemble (Mov r v) h other = absurd (false≢true (sym other))
+texts_assemble i h =
+    let text = manual_text i in
+    let inline = insn_inline i h in
+    let fits = spelling-le i in
+    let line : text_lines text ≡ text ∷ [] = one_line text (text_some i) (inline_no_feed text inline) in
+    let said : Says [] (plain text) (statement_of i) = subst (λ (l : List ℕ). Says [] l (statement_of i)) (append-nil (plain text)) (insn_says [] i [] h refl) in
+    let g = insn_grown empty i (place_of 1 (length (plain text)) (next_of (plain text))) (omega arith) (refl, refl) in
+    let took : take_line empty 1 (plain (code_of text)) ≡ Ok g.next =
+    ap (λ (l : List ℕ). take_line empty 1 (plain l)) (code_all text inline) ∙ says_line empty 1 (plain text) (statement_of i) said ∙ g.is in
+    let read : take_lines empty 0 (text_lines text) ≡ Ok g.next = ap (take_lines empty 0) line ∙ lines_step empty g.next 0 text [] took ∙ lines_done g.next 1 in
+    read_whole text g.next read g.quiet ∙ ap (λ (b : List ℕ). Ok b) g.code

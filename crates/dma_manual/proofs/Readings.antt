@@ -1,7 +1,6 @@
 -- Words and lines that are read one after another.
-use Rattle.std.proofs.Common.{◌≡◌, ℕ, ◌+◌, ◌-◌, ◌<◌, List, [], ◌∷◌, length, map, refl, ap, sym, ◌∙◌, arith, zero, suc, Option, Some, None, Result, Ok, Err}
+use Rattle.std.proofs.Common.{◌≡◌, ℕ, ◌+◌, ◌-◌, ◌<◌, List, [], ◌∷◌, length, map, refl, ap, sym, ◌∙◌, arith, zero, suc, Some, None, Result, Ok, Err}
 use Rattle.dma_insn.specs.AssemblyText.{text_lines}
-use Rattle.dma_insn.specs.LineReading.{◌>>=◌}
 use Rattle.dma_manual.specs.Words.{code_of, next_of, plain_byte}
 use Rattle.dma_manual.specs.Operands.{fault_at}
 use Rattle.dma_manual.specs.Fields.{fields_from, next_field, set_field, word_of}

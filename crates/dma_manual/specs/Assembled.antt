@@ -1,11 +1,10 @@
 -- The program to which a text assembles, or the first fault of the text, with its place (profile).
-use Rattle.std.specs.Prelude.{◌≡◌, ℕ, ◌+◌, ◌-◌, Bool, ◌==◌, ◌&&◌, if◌then◌else◌, List, [], ◌∷◌, ◌++◌, length, take, map, slice_index, nat_le, nat_lt, Option, Some, None, is_some, Result, Ok, Err, ok_or}
+use Rattle.std.specs.Prelude.{◌≡◌, ℕ, ◌+◌, ◌-◌, ◌==◌, ◌&&◌, if◌then◌else◌, List, [], ◌∷◌, ◌++◌, length, take, map, slice_index, nat_le, nat_lt, Option, Some, None, is_some, Result, Ok, Err, ok_or}
 use Rattle.dma_insn.specs.LineReading.{◌>>=◌}
 use Rattle.dma_insn.specs.AssemblyText.{most_program_bytes, text_lines}
 use Rattle.dma_insn.specs.Spelling.{spelling}
 use Rattle.dma_insn.specs.declared.insn.Counter.{Counter}
 use Rattle.dma_insn.specs.declared.insn.Counter.TheVariants.{Lc0, Lc1}
-use Rattle.dma_insn.specs.declared.insn.Insn.{Insn}
 use Rattle.dma_insn.specs.declared.insn.Insn.TheVariants.{Lp, LpEnd}
 use Rattle.dma_manual.specs.Words.{code_of, next_of, plain_byte}
 use Rattle.dma_manual.specs.Statements.{Label, label_of, label_view, statement_at}

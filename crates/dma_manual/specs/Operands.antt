@@ -1,8 +1,7 @@
 -- What the operands of an instruction say (profile; the names are the manual's).
-use Rattle.std.specs.Prelude.{ℕ, ◌+◌, ◌*◌, ◌^◌, Bool, ◌==◌, ◌&&◌, if◌then◌else◌, List, [], ◌∷◌, length, drop, min, nat_eq, nat_lt, nat_le, codes, Option, Some, None, Result, Ok, Err, ok_or}
+use Rattle.std.specs.Prelude.{ℕ, ◌+◌, ◌*◌, ◌^◌, ◌==◌, ◌&&◌, if◌then◌else◌, List, [], ◌∷◌, length, drop, min, nat_eq, nat_le, codes, Option, Some, None, Result, Ok, Err, ok_or}
 use Rattle.std.specs.List.{starts_with}
 use Rattle.std.specs.Char.{digit_value}
-use Rattle.dma_insn.specs.LineReading.{◌>>=◌}
 use Rattle.dma_manual.specs.Words.{next_of}
 use Rattle.dma_manual.specs.declared.assembler.AsmCause.{AsmCause}
 use Rattle.dma_manual.specs.declared.assembler.AsmCause.TheVariants as causes

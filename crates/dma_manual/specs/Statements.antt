@@ -1,5 +1,5 @@
 -- What a line of assembly text says (profile; names and operands are the manual's).
-use Rattle.std.specs.Prelude.{ℕ, Bool, true, false, ◌&&◌, if◌then◌else◌, List, [], ◌∷◌, drop, slice_index, nat_eq, nat_le, codes, Option, Some, None, Result, Ok, Err, ok_or}
+use Rattle.std.specs.Prelude.{ℕ, Bool, true, false, ◌&&◌, if◌then◌else◌, List, [], ◌∷◌, drop, nat_eq, nat_le, codes, Option, Some, None, Result, Ok, Err, ok_or}
 use Rattle.std.specs.List.{starts_with}
 use Rattle.std.specs.Str.{bytes_eq}
 use Rattle.dma_insn.specs.LineReading.{◌>>=◌}
@@ -8,7 +8,7 @@ use Rattle.dma_insn.specs.declared.insn.Reg.TheVariants.{Sar, Ccr, Dar}
 use Rattle.dma_insn.specs.declared.insn.Counter.{Counter}
 use Rattle.dma_insn.specs.declared.insn.Counter.TheVariants.{Lc0, Lc1}
 use Rattle.dma_insn.specs.declared.insn.Insn.{Insn}
-use Rattle.dma_insn.specs.declared.insn.Insn.TheVariants.{Mov, Ld, St, Rmb, Wmb, Nop, End, Lp, LpEnd, Sev, Wfe}
+use Rattle.dma_insn.specs.declared.insn.Insn.TheVariants.{Mov, Ld, St, Rmb, Wmb, Nop, End, Sev, Wfe}
 use Rattle.dma_manual.specs.Words.{next_of}
 use Rattle.dma_manual.specs.Operands.{event_at, fault_at, no_more, number_at, word_after}
 use Rattle.dma_manual.specs.Fields.{fields_at}

@@ -1,5 +1,5 @@
 -- The words of a line of assembly text (profile).
-use Rattle.std.specs.Prelude.{ℕ, Bool, ◌==◌, ◌||◌, not, if◌then◌else◌, List, [], length, take, drop, min, position, unwrap_or, Option, Some, None}
+use Rattle.std.specs.Prelude.{ℕ, Bool, ◌==◌, ◌||◌, not, if◌then◌else◌, List, length, take, drop, min, position, unwrap_or, Option, Some, None}
 use Rattle.std.specs.Char.{to_ascii_lowercase}
 
 -- a byte in lower case; a tab, a carriage return and a comma as a space

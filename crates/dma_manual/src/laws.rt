@@ -1,8 +1,14 @@
 //! Laws of the manual's syntax, each the contract of an empty function.
 
-ghost use Rattle.dma_manual.specs.Laws.{TextsAssemble};
+ghost use Rattle.dma_manual.specs.Laws.{ListingsAssemble, TextsAssemble};
 
-/// Law: the text of each instruction but DMAMOV assembles to the instruction's bytes.
+/// Law: the text of each instruction assembles to the instruction's bytes.
 pub fn texts_assemble()
     ensures { TextsAssemble }
+{}
+
+/// Law: what `disassemble` appends to `out` for a program assembles to the bytes that it shows, if they are at most
+/// 8,192. It shows the bytes up to DMAEND, or all without one, or those before the first that are no instruction.
+pub fn listings_assemble()
+    ensures { ListingsAssemble }
 {}

@@ -3,11 +3,11 @@
 //! Contracts see a program and a text as lists of bytes.
 //!
 //! Proved: what `disassemble` appends is a function of the program's bytes; `assemble` returns the bytes of the text's
-//! program or the text's first fault with its place, as a function of the text; the text of each instruction but DMAMOV
-//! assembles to the instruction's bytes (`laws::texts_assemble`).
+//! program or the text's first fault with its place, as a function of the text; the listing of a program assembles to the
+//! bytes that it shows, if they are at most 8,192 (`laws::listings_assemble`), and the text of each instruction to the
+//! instruction's bytes (`laws::texts_assemble`).
 //!
-//! Not proved: that a listing assembles to the bytes of its program, which only tests show; that syntax and defaults are
-//! those of the manual; that an allocation succeeds.
+//! Not proved: that syntax and defaults are those of the manual; that an allocation succeeds.
 #![tactic(auto)]
 
 pub mod assembler;

@@ -1,0 +1,395 @@
+-- The printed fields of a control word, which the assembler reads back.
+use Rattle.std.proofs.Common.{◌≡◌, ℕ, ◌*◌, ◌^◌, ◌<◌, ◌≤◌, Bool, true, false, List, [], ◌∷◌, ◌++◌, map, length, zero, suc, refl, sym, ap, ap₂, ◌∙◌, subst, Some, None, Option, Result, Ok, Err, cond, eqb, arith, codes, decimal, append_assoc, length-append, unwrap_or}
+use Rattle.std.specs.List.{list_all}
+use Rattle.std.specs.Fmt.{digits}
+use Rattle.std.proofs.lemmas.List.{map-append, length-map}
+use Rattle.std.proofs.lemmas.Bool.{and_from, le-leb}
+use Rattle.dma_text.specs.Digits.{hex_digits}
+use Rattle.dma_insn.specs.ControlWord.{HasEndRanges, HasFields, beat_bytes, bits_of, control_of}
+use Rattle.dma_insn.proofs.ControlLaws.{bits_of_fields, control_of_fields}
+use Rattle.dma_insn.specs.declared.control.BeatSize.{BeatSize}
+use Rattle.dma_insn.specs.declared.control.BeatSize.TheVariants.{One, Two, Four, Eight, Sixteen}
+use Rattle.dma_insn.specs.declared.control.BurstEnd.{BurstEnd}
+use Rattle.dma_insn.specs.declared.control.Control.{Control}
+use Rattle.dma_insn.specs.declared.control.ControlFault.{ControlFault}
+use Rattle.dma_insn.specs.declared.insn.Reg.TheVariants.{Ccr}
+use Rattle.dma_insn.specs.declared.insn.Insn.TheVariants.{Mov}
+use Rattle.dma_manual.specs.declared.manual.Side.{Side}
+use Rattle.dma_manual.specs.declared.manual.Side.TheVariants.{Source, Destination}
+use Rattle.dma_manual.specs.declared.fields.EndFields.{EndFields}
+use Rattle.dma_manual.specs.declared.fields.Fields.{Fields}
+use Rattle.dma_manual.specs.declared.statements.Statement.TheVariants as says
+use Rattle.dma_manual.specs.ManualText.{cache_signals, control_text, control_text_of, end_text, field_text, flag_text, increment_name, letter}
+use Rattle.dma_manual.specs.Words.{is_word_byte, next_of, plain_byte}
+use Rattle.dma_manual.specs.Fields.{cache_of, end_of, fields_at, fields_from, no_end, no_fields, set_end, set_field, word_of}
+use Rattle.dma_manual.specs.Statements.{control_line}
+use Rattle.dma_manual.proofs.Cuts.{all-append, gap_spaces, has_bytes, is_gap, is_inline, is_space, next_none, next_space, next_word}
+use Rattle.dma_manual.proofs.Numerals.{decimal_read, each, each_at, hex_read, hex_words, plain, plain-append}
+use Rattle.dma_manual.proofs.Said.{control_fields, number_control}
+
+-- words, each after a space, in front of a tail
+abbrev pub spaced : List (List ℕ) → List ℕ → List ℕ
+spaced [] tail = tail
+spaced (w ∷ ws) tail = 32 ∷ (w ++ spaced ws tail)
+
+spaced-append : (ws vs : List (List ℕ)) (tail : List ℕ) → spaced (ws ++ vs) tail ≡ spaced ws (spaced vs tail)
+spaced-append [] vs tail = refl
+spaced-append (w ∷ ws) vs tail = ap (λ (l : List ℕ). 32 ∷ (w ++ l)) (spaced-append ws vs tail)
+
+gap_spaced : (ws : List (List ℕ)) (tail : List ℕ) → list_all is_space tail ≡ true → is_gap (spaced ws tail) ≡ true
+gap_spaced [] tail spaces = gap_spaces tail spaces
+gap_spaced (w ∷ ws) tail spaces = refl
+
+-- The words set fields, one after another.
+abbrev AreSet : Fields → List (List ℕ) → Fields → Type 0
+AreSet f [] g = f ≡ g
+AreSet f (w ∷ ws) g =
+    (h : Fields) × (has_bytes w ≡ true) × (list_all is_word_byte w ≡ true) × ((rest : List ℕ) → set_field f w rest ≡ Ok h) × AreSet h ws g
+
+are_set-append : (ws vs : List (List ℕ)) (f g h : Fields) → AreSet f ws g → AreSet g vs h → AreSet f (ws ++ vs) h
+are_set-append [] vs f g h a b = subst (λ (x : Fields). AreSet x vs h) (sym a) b
+are_set-append (w ∷ ws) vs f g h a b = (a.0, a.1, a.2, a.3, are_set-append ws vs a.0 g h a.4 b)
+
+fields_space : (k : ℕ) (f : Fields) (rest : List ℕ) → fields_from k f (32 ∷ rest) ≡ fields_from k f rest
+unfolding fields_from
+fields_space zero f rest = rw (next_space rest) refl
+fields_space (suc k) f rest = rw (next_space rest) refl
+
+fields_read : (ws : List (List ℕ)) (k : ℕ) (f g : Fields) (tail : List ℕ) → length ws ≤ k → AreSet f ws g → list_all is_space tail ≡ true
+    → fields_from k f (spaced ws tail) ≡ Ok (word_of g)
+unfolding fields_from
+fields_read [] zero f g tail fits a spaces = rw (next_none tail spaces) (ap (λ (x : Fields). Ok (word_of x)) a)
+fields_read [] (suc k) f g tail fits a spaces = rw (next_none tail spaces) (ap (λ (x : Fields). Ok (word_of x)) a)
+fields_read (w ∷ ws) zero f g tail fits a spaces = absurd (omega arith)
+fields_read (w ∷ ws) (suc k) f g tail fits a spaces =
+    let rest = spaced ws tail in
+    let next : next_of (32 ∷ (w ++ rest)) ≡ Some (w, rest) = next_space (w ++ rest) ∙ next_word w rest a.1 a.2 (gap_spaced ws tail spaces) in
+    let set : set_field f w rest ≡ Ok a.0 = a.3 rest in
+    rw (next, set) (fields_read ws k a.0 g tail (omega arith) a.4 spaces)
+
+-- The same of the fields of one end, by their names without the end's letter.
+abbrev EndSet : Side → EndFields → List (List ℕ) → EndFields → Type 0
+EndSet side e [] d = e ≡ d
+EndSet side e (name ∷ names) d =
+    (c : EndFields) × (list_all is_word_byte name ≡ true) × ((word rest : List ℕ) → set_end e side name word rest ≡ Ok c) × EndSet side c names d
+
+end_set-append : (side : Side) (ws vs : List (List ℕ)) (e d c : EndFields) → EndSet side e ws d → EndSet side d vs c → EndSet side e (ws ++ vs) c
+end_set-append side [] vs e d c a b = subst (λ (x : EndFields). EndSet side x vs c) (sym a) b
+end_set-append side (w ∷ ws) vs e d c a b = (a.0, a.1, a.2, end_set-append side ws vs a.0 d c a.3 b)
+
+abbrev key : Side → ℕ
+key Source = 115
+key Destination = 100
+
+abbrev with_key : Side → List (List ℕ) → List (List ℕ)
+with_key side names = map (λ name. key side ∷ name) names
+
+source_word : (f : Fields) (name rest : List ℕ) (e : EndFields) → set_end f.src Source name (115 ∷ name) rest ≡ Ok e → set_field f (115 ∷ name) rest ≡ Ok (record f { src = e })
+source_word f name rest e h = rw h refl
+
+destination_word : (f : Fields) (name rest : List ℕ) (e : EndFields) → set_end f.dst Destination name (100 ∷ name) rest ≡ Ok e → set_field f (100 ∷ name) rest ≡ Ok (record f { dst = e })
+destination_word f name rest e h = rw h refl
+
+source_set : (names : List (List ℕ)) (f : Fields) (d : EndFields) → EndSet Source f.src names d → AreSet f (with_key Source names) (record f { src = d })
+source_set [] f d a = ap (λ (x : EndFields). record f { src = x }) a
+source_set (name ∷ names) f d a =
+    (record f { src = a.0 }, refl, a.1, λ rest. source_word f name rest a.0 (a.2 (115 ∷ name) rest), source_set names (record f { src = a.0 }) d a.3)
+
+destination_set : (names : List (List ℕ)) (f : Fields) (d : EndFields) → EndSet Destination f.dst names d → AreSet f (with_key Destination names) (record f { dst = d })
+destination_set [] f d a = ap (λ (x : EndFields). record f { dst = x }) a
+destination_set (name ∷ names) f d a =
+    (record f { dst = a.0 }, refl, a.1, λ rest. destination_word f name rest a.0 (a.2 (100 ∷ name) rest), destination_set names (record f { dst = a.0 }) d a.3)
+
+-- the names of an end's fields
+abbrev flag_name : ℕ → ℕ → List (List ℕ)
+flag_name k n = cond (eqb n 0) [] ((k ∷ plain (decimal n)) ∷ [])
+
+abbrev first_names : BurstEnd → List (List ℕ)
+first_names e = (98 ∷ plain (decimal e.beats)) ∷ (115 ∷ plain (decimal (8 * beat_bytes e.size))) ∷ plain (increment_name e.increments) ∷ []
+
+abbrev names_of : Side → BurstEnd → List (List ℕ)
+names_of side e = first_names e ++ (flag_name 112 e.protection ++ flag_name 99 (cache_signals side e.cache))
+
+flag_name-le : (k n : ℕ) → length (flag_name k n) ≤ 1
+flag_name-le k n = elim (eqb n 0) as (λ (t : Bool). length (cond t [] ((k ∷ plain (decimal n)) ∷ [])) ≤ 1) [ true ↦ omega arith | false ↦ omega arith ]
+
+names_of-le : (side : Side) (e : BurstEnd) → length (names_of side e) ≤ 5
+names_of-le side e =
+    omega (arith, length-append (flag_name 112 e.protection) (flag_name 99 (cache_signals side e.cache)), flag_name-le 112 e.protection, flag_name-le 99 (cache_signals side e.cache))
+
+-- some fields of an end
+abbrev with_three : ℕ → BeatSize → Bool → Option ℕ → Option ℕ → EndFields
+with_three b s i p c = record { beats = Some b; size = Some s; increments = Some i; protection = p; cache = c }
+
+abbrev flag : ℕ → ℕ → Option ℕ
+flag n code = cond (eqb n 0) None (Some code)
+
+beats_set : (side : Side) (n : ℕ) (word rest : List ℕ) → 1 ≤ n → n ≤ 16
+    → set_end no_end side (98 ∷ plain (decimal n)) word rest ≡ Ok (record no_end { beats = Some n })
+beats_set side n word rest low high =
+    let r = decimal_read n (omega arith) in
+    let value = r.value in
+    rw (value, le-leb 1 n low, le-leb n 16 high) refl
+
+size_set : (side : Side) (b : ℕ) (s : BeatSize) (word rest : List ℕ)
+    → set_end (record no_end { beats = Some b }) side (115 ∷ plain (decimal (8 * beat_bytes s))) word rest ≡ Ok (record no_end { beats = Some b; size = Some s })
+unfolding digits
+size_set side b One word rest = refl
+size_set side b Two word rest = refl
+size_set side b Four word rest = refl
+size_set side b Eight word rest = refl
+size_set side b Sixteen word rest = refl
+
+increments_set : (side : Side) (b : ℕ) (s : BeatSize) (i : Bool) (word rest : List ℕ)
+    → set_end (record no_end { beats = Some b; size = Some s }) side (plain (increment_name i)) word rest ≡ Ok (with_three b s i None None)
+increments_set side b s true word rest = refl
+increments_set side b s false word rest = refl
+
+size_word : (s : BeatSize) → list_all is_word_byte (115 ∷ plain (decimal (8 * beat_bytes s))) ≡ true
+unfolding digits
+size_word One = refl
+size_word Two = refl
+size_word Four = refl
+size_word Eight = refl
+size_word Sixteen = refl
+
+increments_word : (i : Bool) → list_all is_word_byte (plain (increment_name i)) ≡ true
+increments_word true = refl
+increments_word false = refl
+
+first_set : (side : Side) (e : BurstEnd) → HasEndRanges e → EndSet side no_end (first_names e) (with_three e.beats e.size e.increments None None)
+first_set side e h =
+    let r = decimal_read e.beats (let most = h.beats in omega arith) in (
+      record no_end { beats = Some e.beats },
+      r.word,
+      λ word rest. beats_set side e.beats word rest h.some h.beats,
+      (
+        record no_end { beats = Some e.beats; size = Some e.size },
+        size_word e.size,
+        λ word rest. size_set side e.beats e.size word rest,
+        (with_three e.beats e.size e.increments None None, increments_word e.increments, λ word rest. increments_set side e.beats e.size e.increments word rest, refl),
+      ),
+    )
+
+protection_set : (side : Side) (b : ℕ) (s : BeatSize) (i : Bool) (p : ℕ) (word rest : List ℕ) → p < 8
+    → set_end (with_three b s i None None) side (112 ∷ plain (decimal p)) word rest ≡ Ok (with_three b s i (Some p) None)
+protection_set side b s i p word rest small =
+    let r = decimal_read p (omega arith) in
+    let value = r.value in
+    rw (value, le-leb 0 p (omega arith), le-leb p 7 (omega arith)) refl
+
+cache_set : (side : Side) (b : ℕ) (s : BeatSize) (i : Bool) (p : Option ℕ) (n c : ℕ) (word rest : List ℕ) → n ≤ 15 → cache_of side n ≡ Some c
+    → set_end (with_three b s i p None) side (99 ∷ plain (decimal n)) word rest ≡ Ok (with_three b s i p (Some c))
+cache_set side b s i p n c word rest small back =
+    let r = decimal_read n (omega arith) in
+    let value = r.value in
+    rw (value, le-leb 0 n (omega arith), le-leb n 15 small, back) refl
+
+protection_flag : (side : Side) (b : ℕ) (s : BeatSize) (i : Bool) (p : ℕ) → p < 8
+    → EndSet side (with_three b s i None None) (flag_name 112 p) (with_three b s i (flag p p) None)
+protection_flag side b s i p small =
+    let r = decimal_read p (omega arith) in
+    elim (eqb p 0) as (λ (t : Bool). EndSet side (with_three b s i None None) (cond t [] ((112 ∷ plain (decimal p)) ∷ [])) (with_three b s i (cond t None (Some p)) None)) [
+      | true ↦ refl
+      | false ↦ (with_three b s i (Some p) None, r.word, λ word rest. protection_set side b s i p word rest small, refl)
+    ]
+
+cache_flag : (side : Side) (b : ℕ) (s : BeatSize) (i : Bool) (p : Option ℕ) (n c : ℕ) → n ≤ 15 → cache_of side n ≡ Some c
+    → EndSet side (with_three b s i p None) (flag_name 99 n) (with_three b s i p (flag n c))
+cache_flag side b s i p n c small back =
+    let r = decimal_read n (omega arith) in
+    elim (eqb n 0) as (λ (t : Bool). EndSet side (with_three b s i p None) (cond t [] ((99 ∷ plain (decimal n)) ∷ [])) (with_three b s i p (cond t None (Some c)))) [
+      | true ↦ refl
+      | false ↦ (with_three b s i p (Some c), r.word, λ word rest. cache_set side b s i p n c word rest small back, refl)
+    ]
+
+-- each cache field is read from its signals
+signals-le : (side : Side) (c : ℕ) → c < 8 → cache_signals side c ≤ 15
+signals-le Source c small = omega arith
+signals-le Destination c small = omega arith
+
+caches : (side : Side) → each 8 (λ c. cache_of side (cache_signals side c)) ≡ each 8 (λ c. Some c)
+caches Source = refl
+caches Destination = refl
+
+cache_back : (side : Side) (c : ℕ) → c < 8 → cache_of side (cache_signals side c) ≡ Some c
+cache_back side c small = each_at (λ c. cache_of side (cache_signals side c)) (λ c. Some c) 8 c (caches side) small
+
+-- a field that is not printed has the default
+flags : (side : Side) → each 8 (λ c. unwrap_or (flag (cache_signals side c) c) 0) ≡ each 8 (λ c. c)
+flags Source = refl
+flags Destination = refl
+
+flag_back : (side : Side) (c : ℕ) → c < 8 → unwrap_or (flag (cache_signals side c) c) 0 ≡ c
+flag_back side c small = each_at (λ c. unwrap_or (flag (cache_signals side c) c) 0) (λ c. c) 8 c (flags side) small
+
+abbrev fields_of : Side → BurstEnd → EndFields
+fields_of side e = with_three e.beats e.size e.increments (flag e.protection e.protection) (flag (cache_signals side e.cache) e.cache)
+
+end_set : (side : Side) (e : BurstEnd) → HasEndRanges e → EndSet side no_end (names_of side e) (fields_of side e)
+end_set side e h =
+    let n = cache_signals side e.cache in
+    let p = flag e.protection e.protection in
+    end_set-append side (first_names e) (flag_name 112 e.protection ++ flag_name 99 n) no_end (with_three e.beats e.size e.increments None None) (fields_of side e) (first_set side e h)
+    (end_set-append side (flag_name 112 e.protection) (flag_name 99 n) (with_three e.beats e.size e.increments None None) (with_three e.beats e.size e.increments p None) (fields_of side e)
+    (protection_flag side e.beats e.size e.increments e.protection h.protection)
+    (cache_flag side e.beats e.size e.increments p n e.cache (signals-le side e.cache h.cache) (cache_back side e.cache h.cache)))
+
+end_again : (side : Side) (e : BurstEnd) → HasEndRanges e → end_of (fields_of side e) ≡ e
+end_again side e h =
+    ap₂ (λ (p c : ℕ). record e { protection = p; cache = c }) (flag_back Source e.protection h.protection) (flag_back side e.cache h.cache)
+
+-- The printed ends are these words.
+five : (b s a p c rest : List ℕ) → plain ((((b ++ s) ++ a) ++ p) ++ c) ++ rest ≡ plain b ++ (plain s ++ (plain a ++ (plain p ++ (plain c ++ rest))))
+five b s a p c rest = simp (map-append, append_assoc)
+
+flag_plain : (side : Side) (name n : ℕ) (rest : List ℕ) → plain (flag_text (letter side) (name ∷ []) n) ++ rest ≡ spaced (with_key side (flag_name (plain_byte name) n)) rest
+flag_plain Source name n rest =
+    elim (eqb n 0) as (λ (t : Bool). plain (cond t [] (field_text (letter Source) (name ∷ []) (decimal n))) ++ rest ≡ spaced (with_key Source (cond t [] ((plain_byte name ∷ plain (decimal n)) ∷ []))) rest) [
+      | true ↦ refl
+      | false ↦ refl
+    ]
+flag_plain Destination name n rest =
+    elim (eqb n 0) as (λ (t : Bool). plain (cond t [] (field_text (letter Destination) (name ∷ []) (decimal n))) ++ rest ≡ spaced (with_key Destination (cond t [] ((plain_byte name ∷ plain (decimal n)) ∷ []))) rest) [
+      | true ↦ refl
+      | false ↦ refl
+    ]
+
+increments_plain : (side : Side) (i : Bool) (rest : List ℕ) → plain (codes " " ++ letter side ++ increment_name i) ++ rest ≡ 32 ∷ ((key side ∷ plain (increment_name i)) ++ rest)
+increments_plain Source i rest = refl
+increments_plain Destination i rest = refl
+
+field_plain : (side : Side) (name : ℕ) (value rest : List ℕ) → plain (field_text (letter side) (name ∷ []) value) ++ rest ≡ 32 ∷ ((key side ∷ plain_byte name ∷ plain value) ++ rest)
+field_plain Source name value rest = refl
+field_plain Destination name value rest = refl
+
+end_plain : (side : Side) (e : BurstEnd) (rest : List ℕ) → plain (end_text side e) ++ rest ≡ spaced (with_key side (names_of side e)) rest
+end_plain side e rest =
+    let n = cache_signals side e.cache in
+    let b = field_text (letter side) (codes "B") (decimal e.beats) in
+    let s = field_text (letter side) (codes "S") (decimal (8 * beat_bytes e.size)) in
+    let a = codes " " ++ letter side ++ increment_name e.increments in
+    let p = flag_text (letter side) (codes "P") e.protection in
+    let c = flag_text (letter side) (codes "C") n in
+    let ps = with_key side (flag_name 112 e.protection) in
+    let cs = with_key side (flag_name 99 n) in
+    let flags_are : plain p ++ (plain c ++ rest) ≡ spaced (with_key side (flag_name 112 e.protection ++ flag_name 99 n)) rest =
+    ap (λ (l : List ℕ). plain p ++ l) (flag_plain side 67 n rest) ∙ flag_plain side 80 e.protection (spaced cs rest) ∙ sym (spaced-append ps cs rest)
+    ∙ ap (λ (l : List (List ℕ)). spaced l rest) (sym (map-append (λ name. key side ∷ name) (flag_name 112 e.protection) (flag_name 99 n))) in
+    five b s a p c rest ∙ field_plain side 66 (decimal e.beats) (plain s ++ (plain a ++ (plain p ++ (plain c ++ rest))))
+    ∙ ap (λ (l : List ℕ). 32 ∷ ((key side ∷ 98 ∷ plain (decimal e.beats)) ++ l)) (field_plain side 83 (decimal (8 * beat_bytes e.size)) (plain a ++ (plain p ++ (plain c ++ rest)))
+    ∙ ap (λ (l : List ℕ). 32 ∷ ((key side ∷ 115 ∷ plain (decimal (8 * beat_bytes e.size))) ++ l)) (increments_plain side e.increments (plain p ++ (plain c ++ rest))
+    ∙ ap (λ (l : List ℕ). 32 ∷ ((key side ∷ plain (increment_name e.increments)) ++ l)) flags_are))
+
+control_plain : (c : Control) (tail : List ℕ) → plain (end_text Source c.src ++ end_text Destination c.dst) ++ tail
+    ≡ spaced (with_key Source (names_of Source c.src) ++ with_key Destination (names_of Destination c.dst)) tail
+control_plain c tail =
+    let s = end_text Source c.src in
+    let d = end_text Destination c.dst in
+    plain-append s d tail ∙ ap (λ (l : List ℕ). plain s ++ l) (end_plain Destination c.dst tail) ∙ end_plain Source c.src (spaced (with_key Destination (names_of Destination c.dst)) tail)
+    ∙ sym (spaced-append (with_key Source (names_of Source c.src)) (with_key Destination (names_of Destination c.dst)) tail)
+
+-- The words of a control word's ends set its fields.
+ends_set : (c : Control) → HasEndRanges c.src → HasEndRanges c.dst
+    → AreSet no_fields (with_key Source (names_of Source c.src) ++ with_key Destination (names_of Destination c.dst)) (record { src = fields_of Source c.src; dst = fields_of Destination c.dst })
+ends_set c s d =
+    let f = record no_fields { src = fields_of Source c.src } in
+    are_set-append (with_key Source (names_of Source c.src)) (with_key Destination (names_of Destination c.dst)) no_fields f (record f { dst = fields_of Destination c.dst })
+    (source_set (names_of Source c.src) no_fields (fields_of Source c.src) (end_set Source c.src s))
+    (destination_set (names_of Destination c.dst) f (fields_of Destination c.dst) (end_set Destination c.dst d))
+
+ends_read : (c : Control) (tail : List ℕ) → HasEndRanges c.src → HasEndRanges c.dst → list_all is_space tail ≡ true
+    → fields_at (32 ∷ spaced (with_key Source (names_of Source c.src) ++ with_key Destination (names_of Destination c.dst)) tail) ≡ Ok (bits_of c)
+ends_read c tail s d spaces =
+    let ss = with_key Source (names_of Source c.src) in
+    let ds = with_key Destination (names_of Destination c.dst) in
+    let fits : length (ss ++ ds) ≤ 11 =
+    omega (arith, length-append ss ds, length-map (names_of Source c.src) (λ name. key Source ∷ name), length-map (names_of Destination c.dst) (λ name. key Destination ∷ name), names_of-le Source c.src, names_of-le Destination c.dst) in
+    fields_space 11 no_fields (spaced (ss ++ ds) tail)
+    ∙ fields_read (ss ++ ds) 11 no_fields (record { src = fields_of Source c.src; dst = fields_of Destination c.dst }) tail fits (ends_set c s d) spaces
+    ∙ ap₂ (λ (x y : BurstEnd). Ok (bits_of (record { src = x; dst = y }))) (end_again Source c.src s) (end_again Destination c.dst d)
+
+-- an accepted word has its ends in range
+ranges_of : (v : ℕ) (c : Control) → HasFields v c → HasEndRanges c.src × HasEndRanges c.dst
+ranges_of v c h =
+    let a = h.src_beats in let b = h.src_protection in let e = h.src_cache in let x = h.dst_beats in let y = h.dst_protection in let z = h.dst_cache in (
+      record { some = omega arith; beats = omega arith; protection = omega arith; cache = omega arith },
+      record { some = omega arith; beats = omega arith; protection = omega arith; cache = omega arith },
+    )
+
+-- What follows DMAMOV CCR is read as the word.
+control_by : (v : ℕ) (tail : List ℕ) (r : Result Control ControlFault) → control_of v ≡ r → v < 2 ^ 32 → list_all is_space tail ≡ true
+    → control_line (codes "ccr") (32 ∷ (plain (control_text_of v r) ++ tail)) ≡ Ok (says.Plain (Mov Ccr v))
+control_by v tail (Err fault) is small spaces =
+    number_control [] tail spaces (48 ∷ 120 ∷ plain (hex_digits v)) v refl (hex_words v).0 refl (hex_read v small) (omega arith)
+control_by v tail (Ok c) is small spaces =
+    let fields = control_of_fields v c is in
+    let ranges = ranges_of v c fields in
+    let words = with_key Source (names_of Source c.src) ++ with_key Destination (names_of Destination c.dst) in
+    let r = decimal_read c.src.beats (let most = ranges.0.beats in omega arith) in
+    let first = 115 ∷ 98 ∷ plain (decimal c.src.beats) in
+    let more = spaced (with_key Source ((115 ∷ plain (decimal (8 * beat_bytes c.src.size))) ∷ plain (increment_name c.src.increments) ∷ (flag_name 112 c.src.protection ++ flag_name 99 (cache_signals Source c.src.cache))) ++ with_key Destination (names_of Destination c.dst)) tail in
+    let next : next_of (32 ∷ spaced words tail) ≡ Some (first, more) = next_space (32 ∷ (first ++ more)) ∙ next_space (first ++ more) ∙ next_word first more refl r.word refl in
+    ap (λ (l : List ℕ). control_line (codes "ccr") (32 ∷ l)) (control_plain c tail)
+    ∙ control_fields (codes "ccr") (32 ∷ spaced words tail) first more (bits_of c) next refl (ends_read c tail ranges.0 ranges.1 spaces)
+    ∙ ap (λ (n : ℕ). Ok (says.Plain (Mov Ccr n))) (bits_of_fields v c small fields)
+
+pub control_read : (v : ℕ) (tail : List ℕ) → v < 2 ^ 32 → list_all is_space tail ≡ true
+    → control_line (codes "ccr") (32 ∷ (plain (control_text v) ++ tail)) ≡ Ok (says.Plain (Mov Ccr v))
+control_read v tail small spaces = control_by v tail (control_of v) refl small spaces
+
+-- The text has no comment and no line feed.
+flag_inline : (side : Side) (name n : ℕ) → n ≤ 256 → is_inline name ≡ true → list_all is_inline (flag_text (letter side) (name ∷ []) n) ≡ true
+flag_inline Source name n small word =
+    let r = decimal_read n small in
+    elim (eqb n 0) as (λ (t : Bool). list_all is_inline (cond t [] (field_text (letter Source) (name ∷ []) (decimal n))) ≡ true) [
+      | true ↦ refl
+      | false ↦ and_from _ _ word r.inline
+    ]
+flag_inline Destination name n small word =
+    let r = decimal_read n small in
+    elim (eqb n 0) as (λ (t : Bool). list_all is_inline (cond t [] (field_text (letter Destination) (name ∷ []) (decimal n))) ≡ true) [
+      | true ↦ refl
+      | false ↦ and_from _ _ word r.inline
+    ]
+
+field_inline : (side : Side) (name n : ℕ) → n ≤ 256 → is_inline name ≡ true → list_all is_inline (field_text (letter side) (name ∷ []) (decimal n)) ≡ true
+field_inline Source name n small word = let r = decimal_read n small in and_from _ _ word r.inline
+field_inline Destination name n small word = let r = decimal_read n small in and_from _ _ word r.inline
+
+increments_inline : (side : Side) (i : Bool) → list_all is_inline (codes " " ++ letter side ++ increment_name i) ≡ true
+increments_inline Source true = refl
+increments_inline Source false = refl
+increments_inline Destination true = refl
+increments_inline Destination false = refl
+
+size-le : (s : BeatSize) → 8 * beat_bytes s ≤ 256
+size-le One = omega arith
+size-le Two = omega arith
+size-le Four = omega arith
+size-le Eight = omega arith
+size-le Sixteen = omega arith
+
+end_inline : (side : Side) (e : BurstEnd) → HasEndRanges e → list_all is_inline (end_text side e) ≡ true
+end_inline side e h =
+    let n = cache_signals side e.cache in
+    let b = field_text (letter side) (codes "B") (decimal e.beats) in
+    let s = field_text (letter side) (codes "S") (decimal (8 * beat_bytes e.size)) in
+    let a = codes " " ++ letter side ++ increment_name e.increments in
+    let p = flag_text (letter side) (codes "P") e.protection in
+    let c = flag_text (letter side) (codes "C") n in
+    let beats = h.beats in
+    let protection = h.protection in
+    let signals = signals-le side e.cache h.cache in
+    all-append is_inline (((b ++ s) ++ a) ++ p) c (all-append is_inline ((b ++ s) ++ a) p (all-append is_inline (b ++ s) a
+    (all-append is_inline b s (field_inline side 66 e.beats (omega arith) refl) (field_inline side 83 (8 * beat_bytes e.size) (size-le e.size) refl))
+    (increments_inline side e.increments)) (flag_inline side 80 e.protection (omega arith) refl)) (flag_inline side 67 n (omega arith) refl)
+
+inline_by : (v : ℕ) (r : Result Control ControlFault) → control_of v ≡ r → list_all is_inline (control_text_of v r) ≡ true
+inline_by v (Err fault) is = (hex_words v).1
+inline_by v (Ok c) is =
+    let ranges = ranges_of v c (control_of_fields v c is) in
+    all-append is_inline (end_text Source c.src) (end_text Destination c.dst) (end_inline Source c.src ranges.0) (end_inline Destination c.dst ranges.1)
+
+pub control_inline : (v : ℕ) → list_all is_inline (control_text v) ≡ true
+control_inline v = inline_by v (control_of v) refl

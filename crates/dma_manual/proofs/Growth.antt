@@ -1,0 +1,104 @@
+-- What a line of a text adds to what is read.
+use Rattle.std.proofs.Common.{◌≡◌, ℕ, ◌+◌, ◌≤◌, List, [], ◌∷◌, ◌++◌, length, refl, Option, Some, None, Result, Ok}
+use Rattle.std.proofs.lemmas.Bool.{le-leb}
+use Rattle.dma_insn.specs.Spelling.{spelling}
+use Rattle.dma_insn.specs.AssemblyText.{most_program_bytes, text_lines}
+use Rattle.dma_insn.specs.declared.insn.Counter.{Counter}
+use Rattle.dma_insn.specs.declared.insn.Counter.TheVariants.{Lc0, Lc1}
+use Rattle.dma_insn.specs.declared.insn.Insn.{Insn}
+use Rattle.dma_insn.specs.declared.insn.Insn.TheVariants.{Mov, Ld, St, Rmb, Wmb, Nop, End, Lp, LpEnd, Sev, Wfe}
+use Rattle.dma_manual.specs.Words.{code_of, next_of}
+use Rattle.dma_manual.specs.Statements.{statement_at}
+use Rattle.dma_manual.specs.Assembled.{Read, after_statement, assembled, empty, ended_loop, jump_of, label_in, place_of, take_line, take_lines, with_bytes, with_loop, with_statement}
+use Rattle.dma_manual.specs.declared.assembler.Located.{Located}
+use Rattle.dma_manual.specs.declared.assembler.Spot.{Spot}
+use Rattle.dma_manual.specs.declared.draft.Loops.{Loops}
+use Rattle.dma_manual.specs.declared.draft.Open.{Open}
+use Rattle.dma_manual.specs.declared.statements.End.{End as LoopTo}
+use Rattle.dma_manual.specs.declared.statements.End.TheVariants as ends
+use Rattle.dma_manual.specs.declared.statements.Statement.{Statement}
+use Rattle.dma_manual.specs.declared.statements.Statement.TheVariants as says
+use Rattle.dma_manual.proofs.Numerals.{plain}
+use Rattle.dma_manual.proofs.Said.{Says, says_read}
+use Rattle.dma_manual.proofs.InsnTexts.{statement_of}
+
+-- No loop has to be ended.
+abbrev pub Quiet : Loops → Type 0
+Quiet loops = (ended_loop loops.lc0 ≡ Ok tt) × (ended_loop loops.lc1 ≡ Ok tt)
+
+quiet_with : (loops : Loops) (c : Counter) (loop : Option Open) → ended_loop loop ≡ Ok tt → Quiet loops → Quiet (with_loop loops c loop)
+quiet_with loops Lc0 loop h q = (h, q.1)
+quiet_with loops Lc1 loop h q = (q.0, h)
+
+-- The result is what was read with more bytes.
+pub record Grown (r : Read) (bytes : List ℕ) (result : Result Read Located) : Type 0 where
+  pub next : Read
+  pub is : result ≡ Ok next
+  pub code : next.code ≡ r.code ++ bytes
+  pub labels : next.labels ≡ r.labels
+  pub quiet : Quiet next.loops
+
+bytes_fit : (code bytes : List ℕ) (spot : Spot) → length code + length bytes ≤ most_program_bytes → with_bytes code bytes spot ≡ Ok (code ++ bytes)
+bytes_fit code bytes spot fits = rw (le-leb (length code + length bytes) most_program_bytes fits) refl
+
+plain_grown : (r : Read) (i : Insn) (spot : Spot) → length r.code + length (spelling i) ≤ most_program_bytes → Quiet r.loops → Grown r (spelling i) (after_statement r (says.Plain i) spot)
+plain_grown r i spot fits q =
+    record { next = record r { code = r.code ++ spelling i }; is = rw (bytes_fit r.code (spelling i) spot fits) refl; code = refl; labels = refl; quiet = q }
+
+loop_grown : (r : Read) (c : Counter) (n : ℕ) (spot : Spot) → length r.code + length (spelling (Lp c n)) ≤ most_program_bytes → Quiet r.loops
+    → Grown r (spelling (Lp c n)) (after_statement r (says.Loop (Some c) n) spot)
+loop_grown r c n spot fits q =
+    let code = r.code ++ spelling (Lp c n) in
+    let loop = Some (record { start = length code; unnamed = None }) in
+    record {
+      next = record r { code = code; loops = with_loop r.loops c loop };
+      is = rw (bytes_fit r.code (spelling (Lp c n)) spot fits) refl;
+      code = refl;
+      labels = refl;
+      quiet = quiet_with r.loops c loop refl q;
+    }
+
+pub end_grown : (r : Read) (c : Counter) (b : ℕ) (end : LoopTo) (spot : Spot) → jump_of r.loops (length r.code) end spot ≡ Ok (c, b)
+    → length r.code + length (spelling (LpEnd c b)) ≤ most_program_bytes → Quiet r.loops → Grown r (spelling (LpEnd c b)) (after_statement r (says.LoopEnd end) spot)
+end_grown r c b end spot jump fits q =
+    record {
+      next = record r { code = r.code ++ spelling (LpEnd c b); loops = with_loop r.loops c None };
+      is = rw (jump, bytes_fit r.code (spelling (LpEnd c b)) spot fits) refl;
+      code = refl;
+      labels = refl;
+      quiet = quiet_with r.loops c None refl q;
+    }
+
+pub insn_grown : (r : Read) (i : Insn) (spot : Spot) → length r.code + length (spelling i) ≤ most_program_bytes → Quiet r.loops → Grown r (spelling i) (after_statement r (statement_of i) spot)
+insn_grown r End spot fits q = plain_grown r End spot fits q
+insn_grown r Ld spot fits q = plain_grown r Ld spot fits q
+insn_grown r St spot fits q = plain_grown r St spot fits q
+insn_grown r Rmb spot fits q = plain_grown r Rmb spot fits q
+insn_grown r Wmb spot fits q = plain_grown r Wmb spot fits q
+insn_grown r Nop spot fits q = plain_grown r Nop spot fits q
+insn_grown r (Lp c n) spot fits q = loop_grown r c n spot fits q
+insn_grown r (LpEnd c b) spot fits q = end_grown r c b (ends.Back c b) spot refl fits q
+insn_grown r (Sev e) spot fits q = plain_grown r (Sev e) spot fits q
+insn_grown r (Wfe e v) spot fits q = plain_grown r (Wfe e v) spot fits q
+insn_grown r (Mov reg v) spot fits q = plain_grown r (Mov reg v) spot fits q
+
+-- a line that says a statement
+said_line : (r : Read) (n : ℕ) (line : List ℕ) (s : Statement) → label_in line ≡ None → statement_at r.labels line ≡ Ok s
+    → take_line r n line ≡ after_statement r s (place_of n (length line) (next_of line))
+unfolding with_statement
+said_line r n line s none said = rw (none, said) refl
+
+pub says_line : (r : Read) (n : ℕ) (line : List ℕ) (s : Statement) → Says r.labels line s → take_line r n line ≡ after_statement r s (place_of n (length line) (next_of line))
+says_line r n line s h = let read = says_read r.labels line s h in said_line r n line s read.0 read.1
+
+pub lines_step : (r next : Read) (n : ℕ) (line : List ℕ) (lines : List (List ℕ)) → take_line r (n + 1) (plain (code_of line)) ≡ Ok next
+    → take_lines r n (line ∷ lines) ≡ take_lines next (n + 1) lines
+unfolding take_lines
+lines_step r next n line lines h = rw h refl
+
+pub lines_done : (r : Read) (n : ℕ) → take_lines r n [] ≡ Ok r
+unfolding take_lines
+lines_done r n = refl
+
+pub read_whole : (text : List ℕ) (r : Read) → take_lines empty 0 (text_lines text) ≡ Ok r → Quiet r.loops → assembled text ≡ Ok r.code
+read_whole text r is q = rw (is, q.0, q.1) refl

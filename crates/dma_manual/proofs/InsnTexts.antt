@@ -1,0 +1,72 @@
+-- The printed text of each instruction says the instruction.
+use Rattle.std.proofs.Common.{◌≡◌, ℕ, true, false, List, ◌∷◌, ◌++◌, refl, sym, subst, Some, arith, codes, decimal}
+use Rattle.std.specs.List.{list_all}
+use Rattle.dma_text.specs.Digits.{hex_digits}
+use Rattle.dma_insn.specs.Spelling.{HasRanges}
+use Rattle.dma_insn.specs.declared.insn.Reg.TheVariants.{Sar, Ccr, Dar}
+use Rattle.dma_insn.specs.declared.insn.Counter.TheVariants.{Lc0, Lc1}
+use Rattle.dma_insn.specs.declared.insn.Insn.{Insn}
+use Rattle.dma_insn.specs.declared.insn.Insn.TheVariants.{Mov, Ld, St, Rmb, Wmb, Nop, End, Lp, LpEnd, Sev, Wfe}
+use Rattle.dma_manual.specs.ManualText.{control_text, manual_text}
+use Rattle.dma_manual.specs.Statements.{Label, by_name}
+use Rattle.dma_manual.specs.declared.statements.End.TheVariants as ends
+use Rattle.dma_manual.specs.declared.statements.Statement.{Statement}
+use Rattle.dma_manual.specs.declared.statements.Statement.TheVariants as says
+use Rattle.dma_manual.proofs.Cuts.{all-append, is_inline, is_space}
+use Rattle.dma_manual.proofs.Numerals.{decimal_read, hex_read, hex_words, plain, plain-append}
+use Rattle.dma_manual.proofs.Said.{Says, says_back, says_bare, says_control, says_dar, says_invalid, says_loop, says_sar, says_signal, says_wait}
+use Rattle.dma_manual.proofs.ControlTexts.{control_inline, control_read}
+
+abbrev pub statement_of : Insn → Statement
+statement_of (Lp c n) = says.Loop (Some c) n
+statement_of (LpEnd c b) = says.LoopEnd (ends.Back c b)
+statement_of End = says.Plain End
+statement_of Ld = says.Plain Ld
+statement_of St = says.Plain St
+statement_of Rmb = says.Plain Rmb
+statement_of Wmb = says.Plain Wmb
+statement_of Nop = says.Plain Nop
+statement_of (Sev e) = says.Plain (Sev e)
+statement_of (Wfe e v) = says.Plain (Wfe e v)
+statement_of (Mov r v) = says.Plain (Mov r v)
+
+pub insn_says : (labels : List Label) (i : Insn) (tail : List ℕ) → HasRanges i → list_all is_space tail ≡ true → Says labels (plain (manual_text i) ++ tail) (statement_of i)
+unfolding by_name
+insn_says labels End tail h spaces = says_bare labels tail spaces (codes "dmaend") End refl refl refl (λ none. rw none refl)
+insn_says labels Ld tail h spaces = says_bare labels tail spaces (codes "dmald") Ld refl refl refl (λ none. rw none refl)
+insn_says labels St tail h spaces = says_bare labels tail spaces (codes "dmast") St refl refl refl (λ none. rw none refl)
+insn_says labels Rmb tail h spaces = says_bare labels tail spaces (codes "dmarmb") Rmb refl refl refl (λ none. rw none refl)
+insn_says labels Wmb tail h spaces = says_bare labels tail spaces (codes "dmawmb") Wmb refl refl refl (λ none. rw none refl)
+insn_says labels Nop tail h spaces = says_bare labels tail spaces (codes "dmanop") Nop refl refl refl (λ none. rw none refl)
+insn_says labels (Lp Lc0 n) tail h spaces = says_loop labels tail spaces Lc0 (codes "lc0") n refl refl refl h.0 h.1
+insn_says labels (Lp Lc1 n) tail h spaces = says_loop labels tail spaces Lc1 (codes "lc1") n refl refl refl h.0 h.1
+insn_says labels (LpEnd Lc0 b) tail h spaces = says_back labels tail spaces Lc0 (codes "lc0") b refl refl refl (omega arith)
+insn_says labels (LpEnd Lc1 b) tail h spaces = says_back labels tail spaces Lc1 (codes "lc1") b refl refl refl (omega arith)
+insn_says labels (Sev e) tail h spaces = says_signal labels tail spaces e (omega arith)
+insn_says labels (Wfe e false) tail h spaces = says_wait labels tail spaces e (omega arith)
+insn_says labels (Wfe e true) tail h spaces =
+    subst (λ (l : List ℕ). Says labels (codes "dmawfe e" ++ l) (says.Plain (Wfe e true))) (sym (plain-append (decimal e) (codes ", invalid") tail)) (says_invalid labels tail spaces e (omega arith))
+insn_says labels (Mov Sar v) tail h spaces =
+    says_sar labels tail spaces (48 ∷ 120 ∷ plain (hex_digits v)) v refl (hex_words v).0 (hex_read v h) (omega arith)
+insn_says labels (Mov Dar v) tail h spaces =
+    says_dar labels tail spaces (48 ∷ 120 ∷ plain (hex_digits v)) v refl (hex_words v).0 (hex_read v h) (omega arith)
+insn_says labels (Mov Ccr v) tail h spaces = says_control labels tail spaces (32 ∷ (plain (control_text v) ++ tail)) v refl (control_read v tail h spaces)
+
+-- The text has no comment and no line feed.
+pub insn_inline : (i : Insn) → HasRanges i → list_all is_inline (manual_text i) ≡ true
+insn_inline End h = refl
+insn_inline Ld h = refl
+insn_inline St h = refl
+insn_inline Rmb h = refl
+insn_inline Wmb h = refl
+insn_inline Nop h = refl
+insn_inline (Lp Lc0 n) h = let r = decimal_read n h.1 in r.inline
+insn_inline (Lp Lc1 n) h = let r = decimal_read n h.1 in r.inline
+insn_inline (LpEnd Lc0 b) h = let r = decimal_read b (omega arith) in r.inline
+insn_inline (LpEnd Lc1 b) h = let r = decimal_read b (omega arith) in r.inline
+insn_inline (Sev e) h = let r = decimal_read e (omega arith) in r.inline
+insn_inline (Wfe e false) h = let r = decimal_read e (omega arith) in r.inline
+insn_inline (Wfe e true) h = let r = decimal_read e (omega arith) in all-append is_inline (decimal e) (codes ", invalid") r.inline refl
+insn_inline (Mov Sar v) h = (hex_words v).1
+insn_inline (Mov Dar v) h = (hex_words v).1
+insn_inline (Mov Ccr v) h = control_inline v

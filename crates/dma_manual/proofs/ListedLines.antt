@@ -1,0 +1,127 @@
+-- A listing is the lines of instructions, whose bytes a program begins with.
+use Rattle.std.proofs.Common.{◌≡◌, ℕ, ◌+◌, ◌-◌, ◌<◌, ◌≤◌, Bool, true, false, List, [], ◌∷◌, ◌++◌, length, drop, zero, suc, refl, sym, ap, ◌∙◌, subst, Ok, Err, arith, append_assoc, length-append}
+use Rattle.std.proofs.lemmas.Bool.{false≢true}
+use Rattle.std.proofs.lemmas.List.{take-append-drop, get_or-drop, length-drop}
+use Rattle.dma_insn.specs.Spelling.{HasRanges, IsSpelledAt, spelling}
+use Rattle.dma_insn.specs.Decoding.{Decoded, decoded}
+use Rattle.dma_insn.specs.AssemblyText.{joined}
+use Rattle.dma_insn.specs.Disassembly.{AllInRange}
+use Rattle.dma_insn.specs.declared.insn.Insn.{Insn}
+use Rattle.dma_insn.specs.declared.insn.Insn.TheVariants.{Mov, Ld, St, Rmb, Wmb, Nop, End, Lp, LpEnd, Sev, Wfe}
+use Rattle.dma_insn.proofs.Laws.{IsBytes, Right, decoded_right, spelled_within}
+use Rattle.dma_manual.specs.Listing.{Listing, follow, stop, is_end, label_behind, label_text, line_text, listed_from, more_labels, with_text}
+use Rattle.dma_manual.specs.Laws.{shown}
+use Rattle.dma_manual.proofs.Listings.{listed_from-first}
+
+-- the lines of instructions from the offset o on
+abbrev pub lines_of : ℕ → List ℕ → ℕ → List Insn → List ℕ
+lines_of at labels o [] = []
+lines_of at labels o (i ∷ is) =
+    let end = o + length (spelling i) in
+    line_text at labels o i ++ (label_text (label_behind i end) ++ lines_of at (more_labels labels (label_behind i end)) end is)
+
+-- The listing of the bytes from the offset o on.
+pub record IsListed (at : ℕ) (labels : List ℕ) (o : ℕ) (xs program : List ℕ) (l : Listing) : Type 0 where
+  pub insns : List Insn
+  pub rest : List ℕ
+  pub in_range : AllInRange insns
+  pub bytes_are : xs ≡ joined insns ++ rest
+  pub text_is : l.text ≡ lines_of at labels o insns
+  pub end_is : shown program l.ending ≡ o + length (joined insns)
+
+end_is : (i : Insn) → is_end i ≡ true → i ≡ End
+end_is End h = refl
+end_is Ld h = absurd (false≢true h)
+end_is St h = absurd (false≢true h)
+end_is Rmb h = absurd (false≢true h)
+end_is Wmb h = absurd (false≢true h)
+end_is Nop h = absurd (false≢true h)
+end_is (Lp c n) h = absurd (false≢true h)
+end_is (LpEnd c b) h = absurd (false≢true h)
+end_is (Sev e) h = absurd (false≢true h)
+end_is (Wfe e v) h = absurd (false≢true h)
+end_is (Mov r v) h = absurd (false≢true h)
+
+-- one more instruction in front
+listed_more : (at : ℕ) (labels : List ℕ) (o : ℕ) (xs program : List ℕ) (i : Insn) (l more : Listing) → HasRanges i → xs ≡ spelling i ++ drop (length (spelling i)) xs
+    → l ≡ with_text (line_text at labels o i) (with_text (label_text (label_behind i (o + length (spelling i)))) more)
+    → IsListed at (more_labels labels (label_behind i (o + length (spelling i)))) (o + length (spelling i)) (drop (length (spelling i)) xs) program more
+    → IsListed at labels o xs program l
+listed_more at labels o xs program i l more range split e h = record {
+  insns = i ∷ h.insns;
+  rest = h.rest;
+  in_range = (range, h.in_range);
+  bytes_are = split ∙ ap (λ (b : List ℕ). spelling i ++ b) h.bytes_are ∙ sym (append_assoc (spelling i) (joined h.insns) h.rest);
+  text_is = ap (λ (x : Listing). x.text) e ∙ ap (λ (t : List ℕ). line_text at labels o i ++ (label_text (label_behind i (o + length (spelling i))) ++ t)) h.text_is;
+  end_is = ap (λ (x : Listing). shown program x.ending) e ∙ h.end_is ∙ (omega (arith, length-append (spelling i) (joined h.insns)));
+}
+
+listed_end : (at : ℕ) (labels : List ℕ) (o : ℕ) (xs program : List ℕ) (l : Listing) → length program ≡ o + length xs → 1 ≤ length xs → xs ≡ 0 ∷ drop 1 xs
+    → l ≡ with_text (line_text at labels o End) (record { text = []; ending = follow (length xs - 1) }) → IsListed at labels o xs program l
+listed_end at labels o xs program l total some split e = record {
+  insns = End ∷ [];
+  rest = drop 1 xs;
+  in_range = (tt, tt);
+  bytes_are = split;
+  text_is = ap (λ (x : Listing). x.text) e;
+  end_is = ap (λ (x : Listing). shown program x.ending) e ∙ (omega arith);
+}
+
+listed_by : (at : ℕ) (labels : List ℕ) (o n : ℕ) (xs program : List ℕ) (i : Insn) (t : Bool) → is_end i ≡ t → length program ≡ o + length xs
+    → decoded xs ≡ Ok (i, n) → IsSpelledAt xs i n
+    → ((more : List ℕ) (p : ℕ) (rest : List ℕ) → length rest < length xs → length program ≡ p + length rest → rest ≡ drop n xs → IsListed at more p rest program (listed_from at more p 0 rest))
+    → IsListed at labels o xs program (listed_from at labels o 0 xs)
+listed_by at labels o n xs program i true ends total read at_front more =
+    let within = spelled_within xs i n at_front in
+    let is : i ≡ End = end_is i ends in
+    let one : n ≡ 1 = at_front.count_is ∙ ap (λ (k : Insn). length (spelling k)) is in
+    let first = listed_from-first at labels o n xs i read within.0 within.1 in
+    let split : xs ≡ 0 ∷ drop 1 xs =
+    sym (take-append-drop n xs) ∙ ap (λ (front : List ℕ). front ++ drop n xs) (at_front.bytes_are ∙ ap spelling is) ∙ ap (λ (k : ℕ). 0 ∷ drop k xs) one in
+    let line : listed_from at labels o 0 xs ≡ with_text (line_text at labels o i) (record { text = []; ending = follow (length xs - n) }) = first ∙ rw ends refl in
+    listed_end at labels o xs program (listed_from at labels o 0 xs) total (omega arith) split
+    (line ∙ ap (λ (k : Insn). with_text (line_text at labels o k) (record { text = []; ending = follow (length xs - n) })) is
+    ∙ ap (λ (m : ℕ). with_text (line_text at labels o End) (record { text = []; ending = follow (length xs - m) })) one)
+listed_by at labels o n xs program i false goes total read at_front more =
+    let within = spelled_within xs i n at_front in
+    let size = at_front.count_is in
+    let first = listed_from-first at labels o n xs i read within.0 within.1 in
+    let split : xs ≡ spelling i ++ drop (length (spelling i)) xs =
+    sym (take-append-drop n xs) ∙ ap (λ (front : List ℕ). front ++ drop n xs) at_front.bytes_are ∙ ap (λ (k : ℕ). spelling i ++ drop k xs) size in
+    let ls = more_labels labels (label_behind i (o + length (spelling i))) in
+    let rest = drop (length (spelling i)) xs in
+    let tail = listed_from at ls (o + length (spelling i)) 0 rest in
+    let line : listed_from at labels o 0 xs ≡ with_text (line_text at labels o i) (with_text (label_text (label_behind i (o + n))) (listed_from at (more_labels labels (label_behind i (o + n))) (o + n) 0 (drop n xs))) = first ∙ rw goes refl in
+    let sized : with_text (line_text at labels o i) (with_text (label_text (label_behind i (o + n))) (listed_from at (more_labels labels (label_behind i (o + n))) (o + n) 0 (drop n xs)))
+    ≡ with_text (line_text at labels o i) (with_text (label_text (label_behind i (o + length (spelling i)))) tail) =
+    ap (λ (m : ℕ). with_text (line_text at labels o i) (with_text (label_text (label_behind i (o + m))) (listed_from at (more_labels labels (label_behind i (o + m))) (o + m) 0 (drop m xs)))) size in
+    listed_more at labels o xs program i (listed_from at labels o 0 xs) tail at_front.in_range split (line ∙ sized)
+    (more ls (o + length (spelling i)) rest (omega (arith, length-drop (length (spelling i)) xs)) (omega (arith, length-drop (length (spelling i)) xs)) (ap (λ (k : ℕ). drop k xs) (sym size)))
+
+listed_front : (k at : ℕ) (labels : List ℕ) (o : ℕ) (x : ℕ) (xs program : List ℕ) (r : Decoded) → decoded (x ∷ xs) ≡ r → Right (x ∷ xs) r → IsBytes (x ∷ xs)
+    → length program ≡ o + length (x ∷ xs) → length (x ∷ xs) ≤ suc k
+    → ((more : List ℕ) (p : ℕ) (rest : List ℕ) → length rest ≤ k → IsBytes rest → length program ≡ p + length rest → IsListed at more p rest program (listed_from at more p 0 rest))
+    → IsListed at labels o (x ∷ xs) program (listed_from at labels o 0 (x ∷ xs))
+listed_front k at labels o x xs program (Ok found) read right bytes total small more =
+    listed_by at labels o found.1 (x ∷ xs) program found.0 (is_end found.0) refl total read right
+    (λ ls p rest shorter sum is. more ls p rest (omega arith)
+    (subst IsBytes (sym is) (λ i. omega (arith, get_or-drop found.1 (x ∷ xs) i 0, bytes (found.1 + i)))) sum)
+listed_front k at labels o x xs program (Err fault) read right bytes total small more =
+    let stops : listed_from at labels o 0 (x ∷ xs) ≡ record { text = []; ending = stop o fault (x ∷ xs) } = rw read refl in
+    record {
+      insns = [];
+      rest = x ∷ xs;
+      in_range = tt;
+      bytes_are = refl;
+      text_is = ap (λ (l : Listing). l.text) stops;
+      end_is = ap (λ (l : Listing). shown program l.ending) stops ∙ (omega arith);
+    }
+
+pub listed_lines : (k at : ℕ) (labels : List ℕ) (o : ℕ) (xs program : List ℕ) → length xs ≤ k → IsBytes xs → length program ≡ o + length xs
+    → IsListed at labels o xs program (listed_from at labels o 0 xs)
+listed_lines k at labels o [] program small bytes total =
+    record { insns = []; rest = []; in_range = tt; bytes_are = refl; text_is = refl; end_is = omega arith }
+listed_lines zero at labels o (x ∷ xs) program small bytes total = absurd (omega arith)
+listed_lines (suc k) at labels o (x ∷ xs) program small bytes total =
+    listed_front k at labels o x xs program (decoded (x ∷ xs)) refl (decoded_right (x ∷ xs) bytes) bytes total small
+    (λ more p rest less are sum. listed_lines k at more p rest program less are sum)

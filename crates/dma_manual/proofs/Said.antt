@@ -1,0 +1,192 @@
+-- What the words of a printed line say.
+use Rattle.std.proofs.Common.{◌≡◌, ℕ, ◌≤◌, Bool, true, false, List, ◌∷◌, ◌++◌, refl, ap, ◌∙◌, Some, None, Ok, arith, codes, decimal}
+use Rattle.std.specs.Prelude.{nat_eq}
+use Rattle.std.specs.List.{list_all, starts_with}
+use Rattle.std.proofs.lemmas.Bool.{le-leb}
+use Rattle.dma_insn.specs.declared.insn.Reg.{Reg}
+use Rattle.dma_insn.specs.declared.insn.Reg.TheVariants.{Sar, Ccr, Dar}
+use Rattle.dma_insn.specs.declared.insn.Counter.{Counter}
+use Rattle.dma_insn.specs.declared.insn.Insn.{Insn}
+use Rattle.dma_insn.specs.declared.insn.Insn.TheVariants.{Mov, Sev, Wfe}
+use Rattle.dma_manual.specs.Words.{is_word_byte, next_of}
+use Rattle.dma_manual.specs.Operands.{event_at, number_of}
+use Rattle.dma_manual.specs.Fields.{fields_at}
+use Rattle.dma_manual.specs.Statements.{Label, address_line, by_name, control_line, counter_of, end_at, event_line, is_numeral, label_of, loop_end_line, loop_line, set_by, set_line, statement_at, statement_by, wait_flag, wait_line}
+use Rattle.dma_manual.specs.Assembled.{label_by, label_in}
+use Rattle.dma_manual.specs.declared.statements.End.{End as LoopTo}
+use Rattle.dma_manual.specs.declared.statements.End.TheVariants as ends
+use Rattle.dma_manual.specs.declared.statements.Statement.{Statement}
+use Rattle.dma_manual.specs.declared.statements.Statement.TheVariants as says
+use Rattle.dma_manual.proofs.Cuts.{gap_spaces, has_bytes, is_gap, is_space, next_none, next_space, next_word}
+use Rattle.dma_manual.proofs.Numerals.{decimal_read, plain}
+
+-- The line has no label and says the statement.
+pub record Says (labels : List Label) (line : List ℕ) (s : Statement) : Type 0 where
+  pub word : List ℕ
+  pub rest : List ℕ
+  pub next : next_of line ≡ Some (word, rest)
+  pub unlabelled : label_by (Some (word, rest)) ≡ None
+  pub said : by_name labels word rest ≡ Ok s
+
+pub says_spaced : (labels : List Label) (line : List ℕ) (s : Statement) → Says labels line s → Says labels (32 ∷ line) s
+says_spaced labels line s h =
+    record { word = h.word; rest = h.rest; next = next_space line ∙ h.next; unlabelled = h.unlabelled; said = h.said }
+
+pub says_read : (labels : List Label) (line : List ℕ) (s : Statement) → Says labels line s → (label_in line ≡ None) × (statement_at labels line ≡ Ok s)
+says_read labels line s h = (ap label_by h.next ∙ h.unlabelled, ap (statement_by labels) h.next ∙ h.said)
+
+pub named : (labels : List Label) (name rest : List ℕ) (s : Statement) → has_bytes name ≡ true → list_all is_word_byte name ≡ true → is_gap rest ≡ true
+    → label_by (Some (name, rest)) ≡ None → by_name labels name rest ≡ Ok s → Says labels (name ++ rest) s
+named labels name rest s some word gap unlabelled said =
+    record { word = name; rest = rest; next = next_word name rest some word gap; unlabelled = unlabelled; said = said }
+
+-- the words after a name
+pub loop_of : (c : Counter) (name rest a b u w : List ℕ) (n : ℕ) → next_of rest ≡ Some (u, a) → counter_of u ≡ Some c → next_of a ≡ Some (w, b)
+    → number_of w ≡ Some n → 1 ≤ n → n ≤ 256 → next_of b ≡ None → loop_line name rest ≡ Ok (says.Loop (Some c) n)
+loop_of c name rest a b u w n p q r s low high t = rw (p, q, r, s, le-leb 1 n low, le-leb n 256 high, t) refl
+
+pub loop_end_of : (labels : List Label) (c : Counter) (rest a b u w : List ℕ) (end : LoopTo) → next_of rest ≡ Some (u, a) → counter_of u ≡ Some c
+    → next_of a ≡ Some (w, b) → end_at labels c w b ≡ Ok end → next_of b ≡ None → loop_end_line labels rest ≡ Ok (says.LoopEnd end)
+loop_end_of labels c rest a b u w end p q r s t = rw (p, q, r, s, t) refl
+
+end_back : (labels : List Label) (c : Counter) (digits rest : List ℕ) (b : ℕ) → number_of digits ≡ Some b → b ≤ 255 → end_at labels c (45 ∷ digits) rest ≡ Ok (ends.Back c b)
+end_back labels c digits rest b h small = rw (h, le-leb 0 b (omega arith), le-leb b 255 small) refl
+
+pub end_label : (labels : List Label) (c : Counter) (word rest : List ℕ) (o : ℕ) → starts_with nat_eq word (codes "-") ≡ false → label_of labels word ≡ Some o
+    → end_at labels c word rest ≡ Ok (ends.To c o)
+end_label labels c word rest o p q = rw (p, q) refl
+
+event_of : (digits rest : List ℕ) (e : ℕ) → number_of digits ≡ Some e → e ≤ 31 → event_at (101 ∷ digits) rest ≡ Ok e
+event_of digits rest e h small = rw (h, le-leb 0 e (omega arith), le-leb e 31 small) refl
+
+signal_of : (name rest w b : List ℕ) (e : ℕ) → next_of rest ≡ Some (w, b) → event_at w b ≡ Ok e → next_of b ≡ None → event_line name rest ≡ Ok (says.Plain (Sev e))
+signal_of name rest w b e p q t = rw (p, q, t) refl
+
+wait_of : (name rest w b : List ℕ) (e : ℕ) (v : Bool) → next_of rest ≡ Some (w, b) → event_at w b ≡ Ok e → wait_flag b ≡ Ok v
+    → wait_line name rest ≡ Ok (says.Plain (Wfe e v))
+wait_of name rest w b e v p q t = rw (p, q, t) refl
+
+flag_of : (rest tail : List ℕ) → next_of rest ≡ Some (codes "invalid", tail) → next_of tail ≡ None → wait_flag rest ≡ Ok true
+flag_of rest tail p q = rw (p, q) refl
+
+address_of : (reg : Reg) (name rest w b : List ℕ) (v : ℕ) → next_of rest ≡ Some (w, b) → number_of w ≡ Some v → v ≤ 0xffffffff → next_of b ≡ None
+    → address_line reg name rest ≡ Ok (says.Plain (Mov reg v))
+address_of reg name rest w b v p q small t = rw (p, q, le-leb 0 v (omega arith), le-leb v 0xffffffff small, t) refl
+
+pub set_of : (name rest w a : List ℕ) → next_of rest ≡ Some (w, a) → set_line name rest ≡ set_by w a
+set_of name rest w a p = rw p refl
+
+pub control_number : (name rest w b : List ℕ) (v : ℕ) → next_of rest ≡ Some (w, b) → is_numeral w ≡ true → number_of w ≡ Some v → v ≤ 0xffffffff
+    → next_of b ≡ None → control_line name rest ≡ Ok (says.Plain (Mov Ccr v))
+control_number name rest w b v p n q small t = rw (p, n, q, le-leb 0 v (omega arith), le-leb v 0xffffffff small, t) refl
+
+pub control_fields : (name rest w b : List ℕ) (v : ℕ) → next_of rest ≡ Some (w, b) → is_numeral w ≡ false → fields_at rest ≡ Ok v
+    → control_line name rest ≡ Ok (says.Plain (Mov Ccr v))
+control_fields name rest w b v p n q = rw (p, n, q) refl
+
+-- Each kind of instruction, in front of spaces.
+module _ (labels : List Label) (tail : List ℕ) (spaces : list_all is_space tail ≡ true) where
+  pub says_bare : (name : List ℕ) (i : Insn) → has_bytes name ≡ true → list_all is_word_byte name ≡ true → label_by (Some (name, tail)) ≡ None
+      → (next_of tail ≡ None → by_name labels name tail ≡ Ok (says.Plain i)) → Says labels (name ++ tail) (says.Plain i)
+  says_bare name i some word unlabelled said = named labels name tail (says.Plain i) some word (gap_spaces tail spaces) unlabelled (said (next_none tail spaces))
+
+  loop_said : (c : Counter) (name counter : List ℕ) (n : ℕ) → has_bytes counter ≡ true → list_all is_word_byte counter ≡ true → counter_of counter ≡ Some c
+      → 1 ≤ n → n ≤ 256 → loop_line name (32 ∷ (counter ++ 32 ∷ 32 ∷ (plain (decimal n) ++ tail))) ≡ Ok (says.Loop (Some c) n)
+  loop_said c name counter n some word is low high =
+      let r = decimal_read n high in
+      let last = plain (decimal n) ++ tail in
+      loop_of c name (32 ∷ (counter ++ 32 ∷ 32 ∷ last)) (32 ∷ 32 ∷ last) tail counter (plain (decimal n)) n
+      (next_space (counter ++ 32 ∷ 32 ∷ last) ∙ next_word counter (32 ∷ 32 ∷ last) some word refl) is
+      (next_space (32 ∷ last) ∙ next_space last ∙ next_word (plain (decimal n)) tail r.some r.word (gap_spaces tail spaces)) r.value low high (next_none tail spaces)
+
+  pub says_loop : (c : Counter) (counter : List ℕ) (n : ℕ) → has_bytes counter ≡ true → list_all is_word_byte counter ≡ true → counter_of counter ≡ Some c
+      → 1 ≤ n → n ≤ 256 → Says labels (codes "dmalp " ++ (counter ++ 32 ∷ 32 ∷ (plain (decimal n) ++ tail))) (says.Loop (Some c) n)
+  unfolding by_name
+  says_loop c counter n some word is low high =
+      named labels (codes "dmalp") (32 ∷ (counter ++ 32 ∷ 32 ∷ (plain (decimal n) ++ tail))) (says.Loop (Some c) n) refl refl refl refl
+      (loop_said c (codes "dmalp") counter n some word is low high)
+
+  -- the last word of a DMALPEND
+  pub says_end : (c : Counter) (counter w : List ℕ) (end : LoopTo) → has_bytes counter ≡ true → list_all is_word_byte counter ≡ true → counter_of counter ≡ Some c
+      → has_bytes w ≡ true → list_all is_word_byte w ≡ true → end_at labels c w tail ≡ Ok end
+      → Says labels (codes "dmalpend " ++ (counter ++ 32 ∷ 32 ∷ (w ++ tail))) (says.LoopEnd end)
+  unfolding by_name
+  says_end c counter w end some word is some_w word_w to =
+      let last = w ++ tail in
+      named labels (codes "dmalpend") (32 ∷ (counter ++ 32 ∷ 32 ∷ last)) (says.LoopEnd end) refl refl refl refl
+      (loop_end_of labels c (32 ∷ (counter ++ 32 ∷ 32 ∷ last)) (32 ∷ 32 ∷ last) tail counter w end
+      (next_space (counter ++ 32 ∷ 32 ∷ last) ∙ next_word counter (32 ∷ 32 ∷ last) some word refl) is
+      (next_space (32 ∷ last) ∙ next_space last ∙ next_word w tail some_w word_w (gap_spaces tail spaces)) to (next_none tail spaces))
+
+  pub says_back : (c : Counter) (counter : List ℕ) (b : ℕ) → has_bytes counter ≡ true → list_all is_word_byte counter ≡ true → counter_of counter ≡ Some c
+      → b ≤ 255 → Says labels (codes "dmalpend " ++ (counter ++ 32 ∷ 32 ∷ 45 ∷ (plain (decimal b) ++ tail))) (says.LoopEnd (ends.Back c b))
+  says_back c counter b some word is small =
+      let r = decimal_read b (omega arith) in
+      says_end c counter (45 ∷ plain (decimal b)) (ends.Back c b) some word is refl r.word (end_back labels c (plain (decimal b)) tail b r.value small)
+
+  pub says_signal : (e : ℕ) → e ≤ 31 → Says labels (codes "dmasev e" ++ (plain (decimal e) ++ tail)) (says.Plain (Sev e))
+  unfolding by_name
+  says_signal e small =
+      let r = decimal_read e (omega arith) in
+      let w = 101 ∷ plain (decimal e) in
+      named labels (codes "dmasev") (32 ∷ (w ++ tail)) (says.Plain (Sev e)) refl refl refl refl
+      (signal_of (codes "dmasev") (32 ∷ (w ++ tail)) w tail e (next_space (w ++ tail) ∙ next_word w tail refl r.word (gap_spaces tail spaces))
+      (event_of (plain (decimal e)) tail e r.value small) (next_none tail spaces))
+
+  wait_said : (e : ℕ) (v : Bool) (rest : List ℕ) → e ≤ 31 → is_gap rest ≡ true → wait_flag rest ≡ Ok v
+      → Says labels (codes "dmawfe e" ++ (plain (decimal e) ++ rest)) (says.Plain (Wfe e v))
+  unfolding by_name
+  wait_said e v rest small gap flag =
+      let r = decimal_read e (omega arith) in
+      let w = 101 ∷ plain (decimal e) in
+      named labels (codes "dmawfe") (32 ∷ (w ++ rest)) (says.Plain (Wfe e v)) refl refl refl refl
+      (wait_of (codes "dmawfe") (32 ∷ (w ++ rest)) w rest e v (next_space (w ++ rest) ∙ next_word w rest refl r.word gap)
+      (event_of (plain (decimal e)) rest e r.value small) flag)
+
+  pub says_wait : (e : ℕ) → e ≤ 31 → Says labels (codes "dmawfe e" ++ (plain (decimal e) ++ tail)) (says.Plain (Wfe e false))
+  says_wait e small = wait_said e false tail small (gap_spaces tail spaces) (rw (next_none tail spaces) refl)
+
+  pub says_invalid : (e : ℕ) → e ≤ 31 → Says labels (codes "dmawfe e" ++ (plain (decimal e) ++ (codes "  invalid" ++ tail))) (says.Plain (Wfe e true))
+  says_invalid e small =
+      let last = codes "invalid" ++ tail in
+      wait_said e true (32 ∷ 32 ∷ last) small refl
+      (flag_of (32 ∷ 32 ∷ last) tail (next_space (32 ∷ last) ∙ next_space last ∙ next_word (codes "invalid") tail refl refl (gap_spaces tail spaces)) (next_none tail spaces))
+
+  -- DMAMOV with a number
+  number_said : (reg : Reg) (name word : List ℕ) (v : ℕ) → has_bytes word ≡ true → list_all is_word_byte word ≡ true → number_of word ≡ Some v → v ≤ 0xffffffff
+      → address_line reg name (32 ∷ 32 ∷ (word ++ tail)) ≡ Ok (says.Plain (Mov reg v))
+  number_said reg name word v some words value small =
+      address_of reg name (32 ∷ 32 ∷ (word ++ tail)) word tail v (next_space (32 ∷ (word ++ tail)) ∙ next_space (word ++ tail) ∙ next_word word tail some words (gap_spaces tail spaces)) value small
+      (next_none tail spaces)
+
+  pub says_sar : (word : List ℕ) (v : ℕ) → has_bytes word ≡ true → list_all is_word_byte word ≡ true → number_of word ≡ Some v → v ≤ 0xffffffff
+      → Says labels (codes "dmamov sar  " ++ (word ++ tail)) (says.Plain (Mov Sar v))
+  unfolding by_name
+  says_sar word v some words value small =
+      let last = 32 ∷ 32 ∷ (word ++ tail) in
+      named labels (codes "dmamov") (codes " sar" ++ last) (says.Plain (Mov Sar v)) refl refl refl refl
+      (set_of (codes "dmamov") (codes " sar" ++ last) (codes "sar") last (next_space (codes "sar" ++ last) ∙ next_word (codes "sar") last refl refl refl)
+      ∙ number_said Sar (codes "sar") word v some words value small)
+
+  pub says_dar : (word : List ℕ) (v : ℕ) → has_bytes word ≡ true → list_all is_word_byte word ≡ true → number_of word ≡ Some v → v ≤ 0xffffffff
+      → Says labels (codes "dmamov dar  " ++ (word ++ tail)) (says.Plain (Mov Dar v))
+  unfolding by_name
+  says_dar word v some words value small =
+      let last = 32 ∷ 32 ∷ (word ++ tail) in
+      named labels (codes "dmamov") (codes " dar" ++ last) (says.Plain (Mov Dar v)) refl refl refl refl
+      (set_of (codes "dmamov") (codes " dar" ++ last) (codes "dar") last (next_space (codes "dar" ++ last) ∙ next_word (codes "dar") last refl refl refl)
+      ∙ number_said Dar (codes "dar") word v some words value small)
+
+  -- DMAMOV CCR with what follows it
+  pub says_control : (rest : List ℕ) (v : ℕ) → is_gap rest ≡ true → control_line (codes "ccr") rest ≡ Ok (says.Plain (Mov Ccr v))
+      → Says labels (codes "dmamov ccr" ++ rest) (says.Plain (Mov Ccr v))
+  unfolding by_name
+  says_control rest v gap said =
+      named labels (codes "dmamov") (codes " ccr" ++ rest) (says.Plain (Mov Ccr v)) refl refl refl refl
+      (set_of (codes "dmamov") (codes " ccr" ++ rest) (codes "ccr") rest (next_space (codes "ccr" ++ rest) ∙ next_word (codes "ccr") rest refl refl gap) ∙ said)
+
+  pub number_control : (word : List ℕ) (v : ℕ) → has_bytes word ≡ true → list_all is_word_byte word ≡ true → is_numeral word ≡ true → number_of word ≡ Some v
+      → v ≤ 0xffffffff → control_line (codes "ccr") (32 ∷ 32 ∷ (word ++ tail)) ≡ Ok (says.Plain (Mov Ccr v))
+  number_control word v some words numeral value small =
+      control_number (codes "ccr") (32 ∷ 32 ∷ (word ++ tail)) word tail v (next_space (32 ∷ (word ++ tail)) ∙ next_space (word ++ tail) ∙ next_word word tail some words (gap_spaces tail spaces)) numeral value
+      small (next_none tail spaces)
