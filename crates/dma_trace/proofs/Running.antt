@@ -20,9 +20,11 @@ use Rattle.dma_trace.specs.declared.front.Front.{Front}
 use Rattle.dma_trace.specs.declared.options.TraceOptions.{TraceOptions}
 use Rattle.dma_trace.specs.Front.{front_of, held_after, registers_of}
 use Rattle.dma_insn.specs.AssemblyText.{most_program_bytes}
-use Rattle.dma_trace.specs.Traced.{End, Shows, StopsAfter, dump_text, end_after, end_of, front_in, last_answer, lines, marks_over, opening, pieces_in, shown_line, tried}
-use Rattle.dma_trace.specs.inner.Running.{Ends, Goes, Runs, machine_over}
+use Rattle.dma_trace.specs.Traced.{End, Shows, StopsAfter, dump_text, end_after, end_of, front_in, if_wave, last_answer, lines, marks_over, moment_in, opening, pieces_in, shown_line, tried, waveform}
+use Rattle.dma_trace.specs.Wave.{executing, last_text}
+use Rattle.dma_trace.specs.inner.Running.{Ends, Goes, Runs, Waves, machine_over}
 use Rattle.dma_trace.proofs.Steps.{Moves, front_moves, moves_on, pieces_are}
+use Rattle.dma_trace.proofs.Waves.{wave_ends}
 
 -- ---- whether regions are in order, and the marks at their gaps, depend on their places alone
 
@@ -129,6 +131,21 @@ module _ (o : TraceOptions) (marks : MarkList) (first : List Region) (s : Machin
             ∙ ap (λ (k : ℕ). old ++ lines o marks (map segment_of first) s k) (sym next_number);
       }
 
+  -- the program stays loaded
+  pub program_there : (i : Insn) (d : ChannelValue) (left : List Region) (after : List Bool) → ahead_of c ≡ Ok i → answer_at marks (machine_over c rs flags) ≡ Moved → machine_over d left after ≡ after_step marks (machine_over c rs flags) → d.program ≡ s.channel.program
+  program_there i d left after ahead answer to =
+      ap (λ (v : Machine). v.channel.program) (to ∙ ap (after_step marks) w.at)
+      ∙ (moves_there i ahead answer).program
+      ∙ sym (ap (λ (v : Machine). v.channel.program) w.at)
+      ∙ w.program
+
+  -- the moment in the waveform
+  pub moment_there : (r : Result Insn FaultKind) (steps : ℕ) (f : Front) → r ≡ ahead_of c → steps ≡ n → f ≡ front → executing steps r f ≡ moment_in n u
+  moment_there r steps f ahead number at =
+      ap (λ (k : ℕ). executing k r f) number
+      ∙ ap (λ (q : Result Insn FaultKind). executing n q f) (ahead_there r ahead)
+      ∙ ap (λ (g : Front). executing n (ahead_of u.channel) g) (at ∙ w.front_is)
+
   -- the end that is printed is that of the run
   end_same : (turn : Option ChanTurn) (r : Result Insn FaultKind) (steps : ℕ) (f : Front) → turn ≡ last_answer marks s o.limit n → r ≡ ahead_of c → steps ≡ n → f ≡ front → end_of turn r steps f ≡ end_after o marks s n
   end_same turn r steps f is ahead count at =
@@ -137,41 +154,44 @@ module _ (o : TraceOptions) (marks : MarkList) (first : List Region) (s : Machin
       ∙ ap (λ (k : ℕ). end_of (last_answer marks s o.limit n) (ahead_of u.channel) k f) count
       ∙ ap (λ (g : Front). end_of (last_answer marks s o.limit n) (ahead_of u.channel) n g) (at ∙ w.front_is)
 
-  finish : (end : End) (good : Bool) (after err new_out new_err : List ℕ) → end ≡ end_after o marks s n → StopsAfter marks s o.limit n → after ≡ (after_steps marks s (tried o.limit n)).image → Ends end good mid err new_out new_err → Runs o marks (map segment_of first) s good after old err new_out new_err
-  finish end good after err new_out new_err same run memory e = record {
+  finish : (end : End) (good : Bool) (after err wave new_out new_err new_wave : List ℕ) → end ≡ end_after o marks s n → StopsAfter marks s o.limit n → after ≡ (after_steps marks s (tried o.limit n)).image → Ends end good mid err new_out new_err → new_wave ≡ wave ++ if_wave o (waveform marks s n (last_answer marks s o.limit n)) → Runs o marks (map segment_of first) s good after old err wave new_out new_err new_wave
+  finish end good after err wave new_out new_err new_wave same run memory e waved = record {
     count = n;
     run = run;
     succeeds = e.succeeds ∙ ap (λ (x : End). x.succeeds) same;
     memory = memory;
     to_out = e.to_out ∙ ap (λ (xs : List ℕ). xs ++ end.says) w.text ∙ ap (λ (x : End). (old ++ lines o marks (map segment_of first) s n) ++ x.says) same;
     to_err = e.to_err ∙ ap (λ (x : End). err ++ x.wrong) same;
+    to_wave = waved;
   }
 
   -- the next step doesn't move
-  pub stops : (turn : ChanTurn) (r : Result Insn FaultKind) (steps : ℕ) (f : Front) (d : ChannelValue) (left : List Region) (flags_after : List Bool) (good : Bool) (err new_out new_err : List ℕ) → n < o.limit → turn ≢ Moved → turn ≡ answer_at marks (machine_over c rs flags) → r ≡ ahead_of c → steps ≡ n → f ≡ front → machine_over d left flags_after ≡ after_step marks (machine_over c rs flags) → Ends (end_of (Some turn) r steps f) good mid err new_out new_err → Runs o marks (map segment_of first) s good (image_of (pieces_of left)) old err new_out new_err
-  stops turn r steps f d left flags_after good err new_out new_err less other is ahead number at to e =
+  pub stops : (turn : ChanTurn) (r : Result Insn FaultKind) (steps : ℕ) (f : Front) (d : ChannelValue) (left : List Region) (flags_after : List Bool) (good : Bool) (err wave mid_wave new_out new_err new_wave : List ℕ) → n < o.limit → turn ≢ Moved → turn ≡ answer_at marks (machine_over c rs flags) → r ≡ ahead_of c → steps ≡ n → f ≡ front → machine_over d left flags_after ≡ after_step marks (machine_over c rs flags) → Ends (end_of (Some turn) r steps f) good mid err new_out new_err → Waves o marks s n wave mid_wave → new_wave ≡ mid_wave ++ if_wave o (last_text (executing steps r f) (Some turn)) → Runs o marks (map segment_of first) s good (image_of (pieces_of left)) old err wave new_out new_err new_wave
+  stops turn r steps f d left flags_after good err wave mid_wave new_out new_err new_wave less other is ahead number at to e waves waved =
       let here : turn ≡ answer_at marks u = answer_there turn is in
       let image : image_of (pieces_of left) ≡ (after_step marks u).image = ap (λ (v : Machine). v.image) (to ∙ ap (after_step marks) w.at) in
       let test : nat_lt n o.limit ≡ true = lt-ltb n o.limit less in
       let last : last_answer marks s o.limit n ≡ Some (answer_at marks u) = ap (λ (b : Bool). if b then Some (answer_at marks u) else None) test in
       let count : tried o.limit n ≡ suc n = ap (λ (b : Bool). if b then suc n else n) test in
-      finish (end_of (Some turn) r steps f) good (image_of (pieces_of left)) err new_out new_err
+      finish (end_of (Some turn) r steps f) good (image_of (pieces_of left)) err wave new_out new_err new_wave
       (end_same (Some turn) r steps f (ap Some here ∙ sym last) ahead number at)
       (record { moved = w.moved; few = omega (arith, less); stops = λ more e. other (here ∙ e) })
       (image ∙ ap (λ (k : ℕ). (after_steps marks s k).image) (sym count))
       e
+      (wave_ends o marks s n (executing steps r f) (Some turn) wave mid_wave new_wave waves (moment_there r steps f ahead number at) (ap Some here ∙ sym last) waved)
 
   -- the limit is reached
-  pub ends : (r : Result Insn FaultKind) (steps : ℕ) (f : Front) (good : Bool) (err new_out new_err : List ℕ) → n ≡ o.limit → r ≡ ahead_of c → steps ≡ n → f ≡ front → Ends (end_of None r steps f) good mid err new_out new_err → Runs o marks (map segment_of first) s good (image_of (pieces_of rs)) old err new_out new_err
-  ends r steps f good err new_out new_err limit ahead number at e =
+  pub ends : (r : Result Insn FaultKind) (steps : ℕ) (f : Front) (good : Bool) (err wave mid_wave new_out new_err new_wave : List ℕ) → n ≡ o.limit → r ≡ ahead_of c → steps ≡ n → f ≡ front → Ends (end_of None r steps f) good mid err new_out new_err → Waves o marks s n wave mid_wave → new_wave ≡ mid_wave ++ if_wave o (last_text (executing steps r f) None) → Runs o marks (map segment_of first) s good (image_of (pieces_of rs)) old err wave new_out new_err new_wave
+  ends r steps f good err wave mid_wave new_out new_err new_wave limit ahead number at e waves waved =
       let test : nat_lt n o.limit ≡ false = le-ltb n o.limit (omega (arith, limit)) in
       let last : last_answer marks s o.limit n ≡ None = ap (λ (b : Bool). if b then Some (answer_at marks u) else None) test in
       let count : tried o.limit n ≡ n = ap (λ (b : Bool). if b then suc n else n) test in
-      finish (end_of None r steps f) good (image_of (pieces_of rs)) err new_out new_err
+      finish (end_of None r steps f) good (image_of (pieces_of rs)) err wave new_out new_err new_wave
       (end_same None r steps f (sym last) ahead number at)
       (record { moved = w.moved; few = omega (arith, limit); stops = λ more e. omega (arith, more, limit) })
       (ap (λ (v : Machine). v.image) w.at ∙ ap (λ (k : ℕ). (after_steps marks s k).image) (sym count))
       e
+      (wave_ends o marks s n (executing steps r f) None wave mid_wave new_wave waves (moment_there r steps f ahead number at) (sym last) waved)
 
 -- nothing was appended to `err` before the end
 pub from_err : {end : End} {good : Bool} {out now err new_out new_err : List ℕ} → now ≡ err → Ends end good out now new_out new_err → Ends end good out err new_out new_err
@@ -186,8 +206,8 @@ from_err {end} {good} {out} {now} {err} {new_out} {new_err} e x = record {
 joined : (a b c d x z : List ℕ) → x ≡ (a ++ b) ++ c → z ≡ x ++ d → z ≡ a ++ ((b ++ c) ++ d)
 joined a b c d x z e f = f ∙ ap (λ (l : List ℕ). l ++ d) e ∙ simp append_assoc
 
-pub shows : (o : TraceOptions) (program : List ℕ) (first left : List Region) (good : Bool) (out err mid new_out new_err : List ℕ) → length program ≤ most_program_bytes → map segment_of left ≡ map segment_of first → in_order (pieces_of left) ≡ true → Runs o (marks_over o first) (map segment_of first) (opening o program (image_of (pieces_of first))) good (image_of (pieces_of left)) out err mid new_err → new_out ≡ mid ++ flat_map (dump_text (pieces_of left)) o.dumps.items → Shows o program first left good out err new_out new_err
-shows o program first left good out err mid new_out new_err long places order w dumped =
+pub shows : (o : TraceOptions) (program : List ℕ) (first left : List Region) (good : Bool) (out err wave mid new_out new_err new_wave : List ℕ) → length program ≤ most_program_bytes → map segment_of left ≡ map segment_of first → in_order (pieces_of left) ≡ true → Runs o (marks_over o first) (map segment_of first) (opening o program (image_of (pieces_of first))) good (image_of (pieces_of left)) out err wave mid new_err new_wave → new_out ≡ mid ++ flat_map (dump_text (pieces_of left)) o.dumps.items → Shows o program first left good out err wave new_out new_err new_wave
+shows o program first left good out err wave mid new_out new_err new_wave long places order w dumped =
     let marks = marks_over o first in
     let s = opening o program (image_of (pieces_of first)) in
     let after = image_of (pieces_of left) in
@@ -198,8 +218,10 @@ shows o program first left good out err mid new_out new_err long places order w 
     record {
       printed = (all ++ end.says) ++ dump;
       wrong = end.wrong;
+      waved = if_wave o (waveform marks s w.count (last_answer marks s o.limit w.count));
       to_out = joined out all end.says dump mid new_out w.to_out dumped;
       to_err = w.to_err;
+      to_wave = w.to_wave;
       places = places;
       traces = inr (
         long,
@@ -210,6 +232,7 @@ shows o program first left good out err mid new_out new_err long places order w 
           memory = w.memory;
           to_out = ap (λ (ps : List Piece). (all ++ end.says) ++ flat_map (dump_text ps) o.dumps.items) pieces;
           to_err = refl;
+          to_wave = refl;
         },
       );
     }

@@ -1,6 +1,6 @@
 -- The steps of a trace: what one step does to the registers and the buffer.
 use Rattle.std.proofs.Common.{◌≡◌, ℕ, zero, suc, ◌+◌, ◌-◌, ◌<◌, ◌≤◌, Bool, true, false, cond, ◌&&◌, List, [], ◌∷◌, ◌++◌, length, take, drop, map, replicate, Option, Some, None, Result, Ok, Err, refl, sym, ap, subst, ◌∙◌, arith, inl, inr, length-append}
-use Rattle.std.specs.Prelude.{IfOk, IsOk, IsSome, nat_lt, slice_index_or}
+use Rattle.std.specs.Prelude.{IfOk, IsOk, IsSome, OnOk, nat_lt, slice_index_or}
 use Rattle.std.proofs.Math.Seq.{take-append_seam, drop-append_seam, drop-drop}
 use Rattle.std.proofs.lemmas.Bool.{cases_lt, ltb-false}
 use Rattle.std.proofs.lemmas.List.{drop_all, length-drop, length-map, length-replicate}
@@ -186,9 +186,9 @@ pc_fits program c i code next =
     next_fits program c.registers.pc i (pc_within program c.registers.pc i e) e
 
 -- what holds of each result that isn't an error
-pub on_ok : {E : Type 0} (r : Result Bool E) (P Q : Bool → Type 0) → ((b : Bool) → P b → Q b) → IfOk r P → IfOk r Q
-on_ok (Ok b) P Q f h = f b h
-on_ok (Err e) P Q f h = tt
+pub on_ok : {E : Type 0} (r : Result Bool E) (P Q : Bool → Type 0) (R : Type 0) → ((b : Bool) → P b → R → Q b) → IfOk r P → OnOk r R → IfOk r Q
+on_ok (Ok b) P Q R f h also = f b h also
+on_ok (Err e) P Q R f h also = tt
 
 -- ---- memory
 

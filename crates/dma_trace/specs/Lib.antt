@@ -2,5 +2,7 @@
 pub mod Front
 pub mod Words
 pub mod Explained
+pub mod Vcd
+pub mod Wave
 pub mod Traced
 pub mod inner

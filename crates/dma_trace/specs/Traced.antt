@@ -23,7 +23,9 @@ use Rattle.dma_chan.specs.Stepping.{Machine, after_step, after_steps, answer_at,
 use Rattle.dma_trace.specs.declared.front.Front.{Front}
 use Rattle.dma_trace.specs.declared.front.Span.{Span}
 use Rattle.dma_trace.specs.declared.options.TraceOptions.{TraceOptions}
+use Rattle.dma_trace.specs.declared.wave.Moment.{Moment}
 use Rattle.dma_trace.specs.Front.{front_of, registers_of, span_at}
+use Rattle.dma_trace.specs.Wave.{change_text, executing, first_text, last_text}
 use Rattle.dma_trace.specs.Words.{cause_text, fault_text, front_text, line_feed, long_text, offset_text, refusal_text, span_text}
 
 -- ---- memory
@@ -104,6 +106,30 @@ end_of (Some (Fault kind)) next n f = refused (fault_text kind next f) next n f
 end_of (Some Moved) next n f = refused (cause_text NoEnd next n f) next n f
 end_of None next n f = refused (cause_text NoEnd next n f) next n f
 
+-- ---- the waveform
+
+-- a text, if the options ask for a waveform
+abbrev pub if_wave : TraceOptions → List ℕ → List ℕ
+if_wave o text = if o.wave then text else []
+
+-- the moment at which a machine executes its next instruction, after n others
+abbrev pub moment_in : ℕ → Machine → Moment
+moment_in n u = executing n (ahead_of u.channel) (front_in u)
+
+-- the changes after each of the first n steps
+abbrev pub changes : MarkList → Machine → ℕ → List ℕ
+changes marks s zero = []
+changes marks s (suc n) =
+    changes marks s n ++ change_text (moment_in n (after_steps marks s n)) (moment_in (suc n) (after_steps marks s (suc n)))
+
+-- the waveform before the end: the values at the first instruction, and the changes after each of the first n steps
+abbrev pub wave_lines : MarkList → Machine → ℕ → List ℕ
+wave_lines marks s n = first_text (moment_in 0 s) ++ changes marks s n
+
+-- the waveform of a run that stops after n steps that moved, by the answer of the last step
+abbrev pub waveform : MarkList → Machine → ℕ → Option ChanTurn → List ℕ
+waveform marks s n answer = wave_lines marks s n ++ last_text (moment_in n (after_steps marks s n)) answer
+
 -- ---- the memory after the end
 
 -- row number k of a range: an address and at most 16 bytes, up to the first address that no region has
@@ -140,30 +166,34 @@ end_after o marks s n =
 abbrev pub tried : ℕ → ℕ → ℕ
 tried limit n = if nat_lt n limit then suc n else n
 
--- A trace of a machine over regions at these places: whether it succeeds, the memory after it, and what it prints.
-pub record Traces (o : TraceOptions) (marks : MarkList) (places : List Segment) (s : Machine) (good : Bool) (after out err : List ℕ) : Type 0 where
+-- A trace of a machine over regions at these places: whether it succeeds, the memory after it, what it prints, and the
+-- waveform of the whole run.
+pub record Traces (o : TraceOptions) (marks : MarkList) (places : List Segment) (s : Machine) (good : Bool) (after out err wave : List ℕ) : Type 0 where
   pub steps : ℕ
   pub run : StopsAfter marks s o.limit steps
   pub succeeds : good ≡ (end_after o marks s steps).succeeds
   pub memory : after ≡ (after_steps marks s (tried o.limit steps)).image
   pub to_out : out ≡ lines o marks places s steps ++ (end_after o marks s steps).says ++ flat_map (dump_text (pieces_in places after)) o.dumps.items
   pub to_err : err ≡ (end_after o marks s steps).wrong
+  pub to_wave : wave ≡ if_wave o (waveform marks s steps (last_answer marks s o.limit steps))
 
 -- the marks at which bursts over regions fail: the gaps between them, and the ranges of the options
 abbrev pub marks_over : TraceOptions → List Region → MarkList
 marks_over o regions = with_gaps_of regions (marks_at o.failing.items)
 
--- What `trace` appends: of a program that is too long a line in `err`, else its trace over the regions. The regions
--- stay where they are.
-pub record Shows (o : TraceOptions) (program : List ℕ) (regions new : List Region) (good : Bool) (out err new_out new_err : List ℕ) : Type 0 where
+-- What `trace` appends: of a program that is too long a line in `err`, else its trace over the regions, with the
+-- waveform in `wave`. The regions stay where they are.
+pub record Shows (o : TraceOptions) (program : List ℕ) (regions new : List Region) (good : Bool) (out err wave new_out new_err new_wave : List ℕ) : Type 0 where
   pub printed : List ℕ
   pub wrong : List ℕ
+  pub waved : List ℕ
   pub to_out : new_out ≡ out ++ printed
   pub to_err : new_err ≡ err ++ wrong
+  pub to_wave : new_wave ≡ wave ++ waved
   pub places : map segment_of new ≡ map segment_of regions
   pub traces :
-      ((most_program_bytes < length program) × (good ≡ false) × (printed ≡ []) × (wrong ≡ long_text)
+      ((most_program_bytes < length program) × (good ≡ false) × (printed ≡ []) × (wrong ≡ long_text) × (waved ≡ [])
       × (image_of (pieces_of new) ≡ image_of (pieces_of regions)))
       ⊎ ((length program ≤ most_program_bytes)
       × Traces o (marks_over o regions) (map segment_of regions) (opening o program (image_of (pieces_of regions))) good
-      (image_of (pieces_of new)) printed wrong)
+      (image_of (pieces_of new)) printed wrong waved)

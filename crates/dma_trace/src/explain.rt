@@ -10,6 +10,7 @@ ghost use Rattle.dma_trace.specs.Explained.{Appends, unexplained_text, destinati
 ghost use Rattle.dma_trace.specs.Front.{front_at};
 
 use crate::front::Front;
+use crate::progress::{Progress, report};
 use crate::words::{Bytes, LongProgram, Place, Point, Range, State, Why};
 use dma_chan::bus::Bus;
 use dma_chan::explain as runs;
@@ -154,14 +155,15 @@ fn ahead(program: &[u8], pc: u32) -> Result<Insn, FaultKind>
 }
 
 // Returns the registers of a program on a bus after `steps` instructions that go on.
-fn reached(program: &[u8], bus: Bus, steps: u32) -> Front
+fn reached<P: Progress>(program: &[u8], bus: Bus, steps: u32, progress: &mut P) -> Front
     requires long { length program.now ≤ most_program_bytes }
     requires goes { (k : ℕ) → k < steps → let x = traced bus program.now k in
         GoesOn (next_in program.now x) x }
     ensures { result ≡ front_at (traced bus program.now steps) }
 {
     let mut front = Front::start(bus);
-    for _ in 0..steps {
+    for done in 0..steps {
+        report(progress, done);
         let Ok(insn) = ahead(program, front.pc) else {
             unreachable!()
         };
@@ -171,11 +173,12 @@ fn reached(program: &[u8], bus: Bus, steps: u32) -> Front
 }
 
 // Appends why and where no copy explains a program.
-fn print_cause(
+fn print_cause<P: Progress>(
     program: &[u8],
     bus: Bus,
     found: Unexplained,
     err: &mut Vec<u8>,
+    progress: &mut P,
 ) -> Result<(), AllocError>
     requires long { length program.now ≤ most_program_bytes }
     requires goes { (k : ℕ) → k < found.steps → let x = traced bus program.now k in
@@ -184,7 +187,7 @@ fn print_cause(
         (err.new.items ≡ err.old.items ++ unexplained_text bus program.now found) }
     ensures err { OnErr result (err.new.items ≡ err.old.items) }
 {
-    let front = reached(program, bus, found.steps);
+    let front = reached(program, bus, found.steps, progress);
     let at = Point {
         ahead: ahead(program, front.pc),
         steps: found.steps,
@@ -201,13 +204,14 @@ fn print_cause(
 /// memory, and returns whether it is a copy. If it isn't, appends to `err` why and where.
 ///
 /// If memory runs out, it fails and appends nothing.
-pub fn explain(
+pub fn explain<P: Progress>(
     alloc: Global,
     program: &[u8],
     bus: Bus,
     most: u32,
     out: &mut Vec<u8>,
     err: &mut Vec<u8>,
+    progress: &mut P,
 ) -> Result<bool, AllocError>
     ensures ok { IfOk result (λ copies. Appends bus program.now most copies
         out.old.items err.old.items out.new.items err.new.items) }
@@ -226,7 +230,7 @@ pub fn explain(
                     err,
                     &(" offset 0x2000: the program has more than 8192 bytes", "\n"),
                 )?,
-                _ => print_cause(program, bus, found, err)?,
+                _ => print_cause(program, bus, found, err, progress)?,
             }
             Ok(false)
         }

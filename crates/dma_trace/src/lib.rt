@@ -2,8 +2,8 @@
 //!
 //! Proved: `explain::explain` prints the copy that `dma_chan::explain::explain` finds (`Finds`), or the cause and the
 //! place for which there is none (`Refuses`), with the registers there. `trace::trace` prints the lines of the steps of
-//! one channel over the lent regions, how the program ends, and the memory then: a function of the program, the memory
-//! and the options (`Traces`, by `Stepping::after_steps` of `dma_chan`).
+//! one channel over the lent regions, how the program ends, and the memory then, and writes the waveform of the run: a
+//! function of the program, the memory and the options (`Traces`, by `Stepping::after_steps` of `dma_chan`).
 //!
 //! Not proved: that memory is available.
 #![tactic(auto)]
@@ -12,5 +12,8 @@ pub mod explain;
 mod front;
 mod lines;
 pub mod options;
+pub mod progress;
 pub mod trace;
+mod vcd;
+mod wave;
 mod words;

@@ -23,6 +23,8 @@ pub struct TraceOptions {
     pub limit: u32,
     /// Ranges of memory that are printed after the end.
     pub dumps: Vec<Segment>,
+    /// Whether the waveform of the run is wanted.
+    pub wave: bool,
 }
 
 impl TraceOptions {

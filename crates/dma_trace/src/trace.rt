@@ -1,7 +1,7 @@
 //! A program, executed over memory with a line for each instruction.
 #![tactic(auto, using(dma_text::proofs::Begun::begins_same, dma_text::proofs::Begun::begins_appended, dma_text::proofs::Begun::begins_more))]
 
-ghost use Rattle.std.specs.Prelude.{◌≡◌, ◌≤◌, ◌<◌, IsTrue, IsSome, IsOk, IfOk, OnErr, length, map};
+ghost use Rattle.std.specs.Prelude.{◌≡◌, ◌≤◌, ◌<◌, ◌++◌, IsTrue, IsSome, IsOk, IfOk, OnOk, OnErr, length, map};
 ghost use Rattle.dma_insn.specs.AssemblyText.{most_program_bytes};
 ghost use Rattle.dma_mem.specs.Lent.{marks_at};
 ghost use Rattle.dma_mem.specs.Regions.{image_of, in_order, pieces_of, read_only_of};
@@ -9,12 +9,15 @@ ghost use Rattle.dma_chan.specs.Channel.{last_count};
 ghost use Rattle.dma_chan.specs.LentRegions.{segment_of, with_gaps_of};
 ghost use Rattle.dma_chan.specs.Stepping.{after_step, answer_at};
 ghost use Rattle.dma_text.specs.Text.{Begins};
-ghost use Rattle.dma_trace.specs.Traced.{Shows, end_of, marks_over, opening};
+ghost use Rattle.dma_trace.specs.Traced.{Shows, end_of, if_wave, marks_over, opening};
+ghost use Rattle.dma_trace.specs.Wave.{executing, last_text};
 ghost use Rattle.dma_trace.specs.inner.Running.{Ends, Runs, machine_over};
 
 use crate::front::Front;
 use crate::lines::{push_dumps, push_step};
 pub use crate::options::TraceOptions;
+use crate::progress::{Progress, report};
+use crate::wave::{push_first, push_last, push_next};
 use crate::words::{Failure, LongProgram, Place, Point, State, Why};
 use dma_chan::channel::Channel;
 use dma_chan::explain::Cause;
@@ -111,31 +114,59 @@ fn push_end(
     }
 }
 
-// Executes a program until it ends, waits or fails, or until the limit, and appends the lines and the end.
-fn run(
+// Appends how a run ends, with the end of the waveform, and returns whether it succeeds.
+fn finish(
+    options: &TraceOptions,
+    turn: &Option<ChanTurn>,
+    at: &Point,
+    out: &mut Vec<u8>,
+    err: &mut Vec<u8>,
+    wave: &mut Vec<u8>,
+) -> Result<bool, AllocError>
+    ensures ok { IfOk result (λ good. Ends
+        (end_of turn.now at.now.ahead at.now.steps at.now.front) good
+        out.old.items err.old.items out.new.items err.new.items) }
+    ensures wave { OnOk result (wave.new.items ≡ wave.old.items ++ if_wave options.now
+        (last_text (executing at.now.steps at.now.ahead at.now.front) turn.now)) }
+    ensures begins { Begins out.new.items out.old.items }
+    ensures begins_err { Begins err.new.items err.old.items }
+    ensures begins_wave { Begins wave.new.items wave.old.items }
+{
+    push_last(options, at, turn, wave)?;
+    push_end(turn, at, out, err)
+}
+
+// Executes a program until it ends, waits or fails, or until the limit. Appends the lines, the end and the waveform.
+fn run<P: Progress>(
     alloc: Global,
     program: &[u8],
     regions: &mut [Region<'_>],
     options: &TraceOptions,
     out: &mut Vec<u8>,
     err: &mut Vec<u8>,
+    wave: &mut Vec<u8>,
+    progress: &mut P,
 ) -> Result<bool, AllocError>
     requires long { length program.now ≤ most_program_bytes }
     requires order { IsTrue (in_order (pieces_of regions.old)) }
     ensures ok { IfOk result (λ good. Runs options.now (marks_over options.now regions.old)
         (map segment_of regions.old) (opening options.now program.now
         (image_of (pieces_of regions.old))) good (image_of (pieces_of regions.new))
-        out.old.items err.old.items out.new.items err.new.items) }
+        out.old.items err.old.items wave.old.items
+        out.new.items err.new.items wave.new.items) }
     ensures places { map segment_of regions.new ≡ map segment_of regions.old }
     ensures begins { Begins out.new.items out.old.items }
     ensures begins_err { Begins err.new.items err.old.items }
+    ensures begins_wave { Begins wave.new.items wave.old.items }
 {
     let marks = failing_marks(alloc, &options.failing)?;
     let mut channel = Channel::new(alloc)?;
     channel.load_bytes(program, options.bus);
     let mut events = Events::from_bits(options.events);
     let mut front = Front::start(options.bus);
+    push_first(options, &channel, &front, wave)?;
     for steps in 0..options.limit {
+        report(progress, steps);
         let ahead = channel.ahead();
         let at = Point {
             ahead,
@@ -144,67 +175,76 @@ fn run(
         };
         let turn = step(&mut channel, regions, &mut events, &marks);
         let ChanTurn::Moved = turn else {
-            return push_end(&Some(turn), &at, out, err);
+            return finish(options, &Some(turn), &at, out, err, wave);
         };
         front.advance(insn_of(&at));
         push_step(alloc, options, &at, &front, regions, out)?;
+        push_next(options, &at, &channel, &front, wave)?;
     }
     let at = Point {
         ahead: channel.ahead(),
         steps: options.limit,
         front,
     };
-    push_end(&None, &at, out, err)
+    finish(options, &None, &at, out, err, wave)
 }
 
 // Traces a program. If memory runs out, it may have appended a part.
-fn trace_all(
+fn trace_all<P: Progress>(
     alloc: Global,
     program: &[u8],
     regions: &mut [Region<'_>],
     options: &TraceOptions,
     out: &mut Vec<u8>,
     err: &mut Vec<u8>,
+    wave: &mut Vec<u8>,
+    progress: &mut P,
 ) -> Result<bool, AllocError>
     requires order { IsTrue (in_order (pieces_of regions.old)) }
-    ensures ok { IfOk result (λ good. Shows options.now program.now regions.old regions.new
-        good out.old.items err.old.items out.new.items err.new.items) }
+    ensures ok { IfOk result (λ good. Shows options.now program.now regions.old regions.new good
+        out.old.items err.old.items wave.old.items out.new.items err.new.items wave.new.items) }
     ensures begins { Begins out.new.items out.old.items }
     ensures begins_err { Begins err.new.items err.old.items }
+    ensures begins_wave { Begins wave.new.items wave.old.items }
 {
     if program.len() > MAX_PROGRAM_BYTES {
         LongProgram.push(err)?;
         return Ok(false);
     }
-    let good = run(alloc, program, regions, options, out, err)?;
+    let good = run(alloc, program, regions, options, out, err, wave, progress)?;
     push_dumps(alloc, regions, &options.dumps, out)?;
     Ok(good)
 }
 
 /// Executes a program over regions of memory, and appends to `out` a line for each instruction that `options` asks for,
 /// how the program ended, and the memory that it asks for. Returns whether the program ended or waits. If it is too
-/// long, fails, or reaches the limit, appends to `err` why.
+/// long, fails, or reaches the limit, appends to `err` why. Appends the waveform of the whole run to `wave` if `options`
+/// asks for it, with at most 120 bytes for each instruction.
 ///
 /// If memory runs out, it fails and appends nothing; the regions may have changed.
-pub fn trace(
+pub fn trace<P: Progress>(
     alloc: Global,
     program: &[u8],
     regions: &mut [Region<'_>],
     options: &TraceOptions,
     out: &mut Vec<u8>,
     err: &mut Vec<u8>,
+    wave: &mut Vec<u8>,
+    progress: &mut P,
 ) -> Result<bool, AllocError>
     requires order { IsTrue (in_order (pieces_of regions.old)) }
-    ensures ok { IfOk result (λ good. Shows options.now program.now regions.old regions.new
-        good out.old.items err.old.items out.new.items err.new.items) }
+    ensures ok { IfOk result (λ good. Shows options.now program.now regions.old regions.new good
+        out.old.items err.old.items wave.old.items out.new.items err.new.items wave.new.items) }
     ensures out { OnErr result (out.new.items ≡ out.old.items) }
     ensures err { OnErr result (err.new.items ≡ err.old.items) }
+    ensures wave { OnErr result (wave.new.items ≡ wave.old.items) }
 {
-    let (out_len, err_len) = (out.len(), err.len());
-    let result = trace_all(alloc, program, regions, options, out, err);
+    let (out_len, err_len, wave_len) = (out.len(), err.len(), wave.len());
+    let result = trace_all(alloc, program, regions, options, out, err, wave, progress);
     if result.is_err() {
         out.truncate(out_len);
         err.truncate(err_len);
+        wave.truncate(wave_len);
     }
     result
 }

@@ -1,7 +1,7 @@
 //! The words of explanations and traces.
 #![tactic(auto, using(dma_text::proofs::Begun::begins_same, dma_text::proofs::Begun::begins_appended, dma_text::proofs::Begun::begins_more))]
 
-ghost use Rattle.std.specs.Prelude.{◌≡◌, ◌++◌, OnOk, Result, Ok, Err};
+ghost use Rattle.std.specs.Prelude.{◌≡◌, ◌<◌, ◌++◌, OnOk, Result, Ok, Err};
 ghost use Rattle.dma_chan.specs.declared.turn.FaultKind.{FaultKind};
 ghost use Rattle.dma_text.specs.Text.{Begins};
 ghost use Rattle.dma_trace.specs.Words.{bytes_text, cause_text, control_text, control_words, end_text, fault_bit, fault_name, fault_text, fault_words, fetch_words, front_text, long_text, next_text, offset_text, operand_words, place_text, range_text, refused_words, span_text, state_text, times_text};
@@ -190,9 +190,10 @@ fn fault_name(kind: FaultKind) -> &'static str
     }
 }
 
-// Returns a fault's bit in FTR.
-fn fault_bit(kind: FaultKind) -> u32
-    ensures { result ≡ fault_bit kind }
+/// Returns a fault's bit in FTR.
+pub fn fault_bit(kind: FaultKind) -> u32
+    ensures value { result ≡ fault_bit kind }
+    ensures range { fault_bit kind < 32 }
 {
     match kind {
         FaultKind::UndefInstr => 0,

@@ -10,7 +10,7 @@ use Rattle.dma_chan.specs.LentRegions.{segment_of}
 use Rattle.dma_chan.specs.Stepping.{Machine, after_steps, answer_at, machine}
 use Rattle.dma_trace.specs.declared.front.Front.{Front}
 use Rattle.dma_trace.specs.declared.options.TraceOptions.{TraceOptions}
-use Rattle.dma_trace.specs.Traced.{End, StopsAfter, end_after, front_in, lines, tried}
+use Rattle.dma_trace.specs.Traced.{End, StopsAfter, end_after, front_in, if_wave, last_answer, lines, tried, wave_lines, waveform}
 
 -- a channel over regions
 abbrev pub machine_over : ChannelValue → List Region → List Bool → Machine
@@ -28,14 +28,19 @@ pub record Goes (o : TraceOptions) (marks : MarkList) (first : List Region) (s :
   pub read_only : read_only_of regions ≡ read_only_of first
   pub text : new ≡ old ++ lines o marks (map segment_of first) s n
 
--- a run has ended, and its lines and its end are printed
-pub record Runs (o : TraceOptions) (marks : MarkList) (places : List Segment) (s : Machine) (good : Bool) (after out err new_out new_err : List ℕ) : Type 0 where
+-- the waveform after n steps that moved
+pub record Waves (o : TraceOptions) (marks : MarkList) (s : Machine) (n : ℕ) (old new : List ℕ) : Type 0 where
+  pub text : new ≡ old ++ if_wave o (wave_lines marks s n)
+
+-- a run has ended, and its lines, its waveform and its end are appended
+pub record Runs (o : TraceOptions) (marks : MarkList) (places : List Segment) (s : Machine) (good : Bool) (after out err wave new_out new_err new_wave : List ℕ) : Type 0 where
   pub count : ℕ
   pub run : StopsAfter marks s o.limit count
   pub succeeds : good ≡ (end_after o marks s count).succeeds
   pub memory : after ≡ (after_steps marks s (tried o.limit count)).image
   pub to_out : new_out ≡ (out ++ lines o marks places s count) ++ (end_after o marks s count).says
   pub to_err : new_err ≡ err ++ (end_after o marks s count).wrong
+  pub to_wave : new_wave ≡ wave ++ if_wave o (waveform marks s count (last_answer marks s o.limit count))
 
 -- the end of a run is printed
 pub record Ends (end : End) (good : Bool) (out err new_out new_err : List ℕ) : Type 0 where

@@ -4,40 +4,40 @@ use Rattle.dma_trace.proofs.Fronts.{follows_here, front_on, never, next_here, ro
 use Rattle.dma_trace.proofs.explain.reached.Goals as goal
 
 pub advance-requires-clause-pc : goal.advance-requires-clause-pc
-advance-requires-clause-pc c =
-    omega (arith, c.requires.long, next_fits c.args.program.now c.loop.front.pc c.in-Ok.insn c.in-Ok.ensures.within (sym c.in-Ok.ensures.value))
+advance-requires-clause-pc g c =
+    omega (arith, c.requires.long, next_fits c.args.program.now c.loop-done.front.pc c.in-Ok.insn c.in-Ok.ensures.within (sym c.in-Ok.ensures.value))
 
 pub advance-requires-clause-room : goal.advance-requires-clause-room
-advance-requires-clause-room c =
+advance-requires-clause-room g c =
     let bus = c.args.bus in
     let program = c.args.program.now in
-    let n = c.loop.counter in
-    let next = next_here bus program n c.loop.front _ c.loop.invariant.front c.in-Ok.ensures.value in
-    let w = follows_here bus program n c.in-Ok.insn next (c.requires.goes n c.loop-test.true) c.loop.invariant.within in
-    room_here bus program n c.loop.front c.in-Ok.insn c.loop.invariant.front w
+    let n = c.loop-done.done in
+    let next = next_here bus program n c.loop-done.front _ c.loop-done.invariant.front c.in-Ok.ensures.value in
+    let w = follows_here bus program n c.in-Ok.insn next (c.requires.goes n c.loop-done-test.true) c.loop-done.invariant.within in
+    room_here bus program n c.loop-done.front c.in-Ok.insn c.loop-done.invariant.front w
 
-pub loop-preserved : goal.loop-preserved
-loop-preserved c =
+pub loop-done-preserved : goal.loop-done-preserved
+loop-done-preserved g c =
     let bus = c.args.bus in
     let program = c.args.program.now in
-    let n = c.loop.counter in
+    let n = c.loop-done.done in
     let i = c.in-Ok.insn in
-    let next = next_here bus program n c.loop.front _ c.loop.invariant.front c.in-Ok.ensures.value in
-    let w = follows_here bus program n i next (c.requires.goes n c.loop-test.true) c.loop.invariant.within in
+    let next = next_here bus program n c.loop-done.front _ c.loop-done.invariant.front c.in-Ok.ensures.value in
+    let w = follows_here bus program n i next (c.requires.goes n c.loop-done-test.true) c.loop-done.invariant.within in
     let after = c.advance.ensures in
     record {
-      front = front_on bus program n c.loop.front c.advance.new.self i c.loop.invariant.front next w after.registers after.held;
+      front = front_on bus program n c.loop-done.front c.advance.new.self i c.loop-done.invariant.front next w after.registers after.held;
       within = within_on bus program n i next w;
     }
 
-pub loop-init : goal.loop-init
-loop-init c = record { front = c.start-front.ensures; within = within_untraced c.args.bus }
+pub loop-done-init : goal.loop-done-init
+loop-done-init g c = record { front = c.start-front.ensures; within = within_untraced c.args.bus }
 
 pub unreachable-requires : goal.unreachable-requires
-unreachable-requires c =
+unreachable-requires g c =
     let bus = c.args.bus in
     let program = c.args.program.now in
-    let n = c.loop.counter in
+    let n = c.loop-done.done in
     never bus program n c.in_default.field-0
-    (next_here bus program n c.loop.front c.ahead.result c.loop.invariant.front c.ahead.ensures.value ∙ c.in_default.is)
-    (c.requires.goes n c.loop-test.true)
+    (next_here bus program n c.loop-done.front c.ahead.result c.loop-done.invariant.front c.ahead.ensures.value ∙ c.in_default.is)
+    (c.requires.goes n c.loop-done-test.true)

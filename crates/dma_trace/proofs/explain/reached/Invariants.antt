@@ -5,8 +5,8 @@ use Rattle.dma_trace.specs.Front.{front_at}
 use Rattle.dma_trace.proofs.Fronts.{Within}
 use Rattle.dma_trace.proofs.explain.reached.Given as goal
 
-abbrev pub invariant-loop : goal.invariant-loop
-invariant-loop l = record {
-  front : l.front ≡ front_at (traced l.fn.bus l.program l.counter);
-  within : Within (traced l.fn.bus l.program l.counter);
+abbrev pub invariant-loop-done : goal.invariant-loop-done
+invariant-loop-done g l = record {
+  front : l.front ≡ front_at (traced l.fn.bus l.program l.done);
+  within : Within (traced l.fn.bus l.program l.done);
 }
