@@ -1,5 +1,5 @@
 -- What the lines and the turns of a race do.
-use Rattle.std.proofs.Common.{◌≡◌, ℕ, ◌+◌, ◌≤◌, List, [], ◌∷◌, ◌++◌, length, refl, ap, sym, ◌∙◌, subst, arith, append_assoc}
+use Rattle.std.proofs.Common.{◌≡◌, ℕ, ◌+◌, ◌≤◌, List, [], ◌∷◌, ◌++◌, length, refl, ap, sym, ◌∙◌, arith, append_assoc}
 use Rattle.std.specs.List.{sum_by}
 use Rattle.std.proofs.lemmas.List.Sums.{sum_by-cons}
 use Rattle.dma_mem.specs.declared.call.Call.TheVariants as calls
@@ -9,10 +9,10 @@ use Rattle.dma_engine.specs.declared.turn.Turn.TheVariants.{Moved, Finished}
 use Rattle.dma_engine.specs.Answer.{answer, answers}
 use Rattle.dma_engine.specs.View.{View}
 use Rattle.dma_script.specs.Command.{printed_text, text_of}
-use Rattle.dma_script.specs.Interpreted.{ActsInTurn, PrintsLines}
+use Rattle.dma_script.specs.Interpreted.{ActsInTurn}
 use Rattle.dma_script.specs.declared.statements.Statement.{Statement}
-use Rattle.dma_script.proofs.InterpretedLemmas.{printed_text-append, text_after}
-use Rattle.dma_commands.specs.Run.{Answered, line_answer}
+use Rattle.dma_script.proofs.InterpretedLemmas.{printed_text-append}
+use Rattle.dma_commands.specs.Run.{Answered}
 use Rattle.dma_commands.proofs.RunLemmas.{AnswersSeen}
 use Rattle.dma_seeds.specs.declared.turns.RaceTurn.{RaceTurn}
 use Rattle.dma_seeds.specs.Race.{finishes_in, lines_left, step_calls, steps_in}
@@ -65,9 +65,13 @@ took_more v w x turns rest left turn steps finished steps' finished' reply took 
 
 -- ---- what is printed
 
--- the lines before `go`, its own line, and the lines after it
-pub all_printed : (old mid mid' new : List ℕ) (early after : List (List (List ℕ))) (line : List ℕ) → mid ≡ old ++ printed_text early → mid' ≡ mid ++ text_of (line ∷ []) → new ≡ mid' ++ printed_text after → new ≡ old ++ printed_text ((([] ∷ early) ++ (line ∷ []) ∷ []) ++ after)
-all_printed old mid mid' new early after line first go last =
-    let front = ([] ∷ early) ++ (line ∷ []) ∷ [] in
-    last ∙ ap (λ m. m ++ printed_text after) (text_after old mid mid' ([] ∷ early) (line ∷ []) first go)
-    ∙ append_assoc old (printed_text front) (printed_text after) ∙ ap (λ t. old ++ t) (sym (printed_text-append front after))
+-- a first text and another, as one
+pub both_printed : (old mid new : List ℕ) (early late : List (List (List ℕ))) → mid ≡ old ++ printed_text early → new ≡ mid ++ printed_text late → new ≡ old ++ printed_text (early ++ late)
+both_printed old mid new early late first last =
+    last ∙ ap (λ m. m ++ printed_text late) first ∙ append_assoc old (printed_text early) (printed_text late)
+    ∙ ap (λ t. old ++ t) (sym (printed_text-append early late))
+
+-- the line of `go` and the lines after it
+pub go_printed : (old mid new : List ℕ) (line : List ℕ) (after : List (List (List ℕ))) → mid ≡ old ++ text_of (line ∷ []) → new ≡ mid ++ printed_text after → new ≡ old ++ printed_text ((line ∷ []) ∷ after)
+go_printed old mid new line after first last =
+    last ∙ ap (λ m. m ++ printed_text after) first ∙ append_assoc old (text_of (line ∷ [])) (printed_text after)

@@ -1,7 +1,7 @@
 -- The script of `run` of a race is read as the lines of the race, with its turns as step lines.
 use Rattle.std.proofs.Common.{◌≡◌, ℕ, zero, suc, ◌+◌, ◌≤◌, true, false, List, [], ◌∷◌, ◌++◌, codes, Option, Some, None, Result, Ok, Err, refl, ap, sym, ◌∙◌, subst, arith, append_assoc, append-nil, inl, inr, map}
 use Rattle.std.specs.Prelude.{◌⊎◌, decimal, flat_map, if◌then◌else◌, slice_index, ◌==◌, IfOk, nat_lt, length}
-use Rattle.std.specs.List.{All, list_all}
+use Rattle.std.specs.List.{list_all}
 use Rattle.std.specs.Option.{ok_or, option_map}
 use Rattle.std.specs.Str.{bytes_eq}
 use Rattle.std.specs.Str.Lines.{lines}
@@ -23,7 +23,7 @@ use Rattle.dma_script.specs.declared.statements.Statement.{Statement}
 use Rattle.dma_script.specs.declared.statements.Statement.TheVariants as statements
 use Rattle.dma_script.proofs.Within.{race_script_within}
 use Rattle.dma_seeds.specs.declared.turns.RaceTurn.{RaceTurn}
-use Rattle.dma_seeds.specs.Script.{ScriptsAreRead, as_run, script_text_of, text_for, text_with, turn_line, turns_text}
+use Rattle.dma_seeds.specs.Script.{ScriptsAreRead, as_run, script_text_of, text_for, turn_line}
 use Rattle.dma_seeds.specs.Turns.{turns_of_seed}
 use Rattle.dma_seeds.proofs.TextLemmas.{ArePlain, lines-text, plain_append, text_of-append}
 use Rattle.dma_seeds.proofs.TurnLemmas.{AreLow, seeds-low}
@@ -70,7 +70,7 @@ abbrev Begun : Option RunScript → Option (List Statement) → Type 0
 Begun before None = Unit {0}
 Begun before (Some after) = (b : RunScript) × (before ≡ Some b)
 
--- the lines that stand for a line, given its words
+-- the lines that replace a line, given its words
 abbrev lines_for : List (List ℕ) → List ℕ → List (List ℕ) → List (List ℕ)
 lines_for turns line [] = []
 lines_for turns line (word ∷ words) =

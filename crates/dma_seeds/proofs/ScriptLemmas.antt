@@ -1,5 +1,5 @@
 -- A race as a run.
-use Rattle.std.proofs.Common.{List, [], ◌∷◌, ◌++◌, ℕ, ◌≡◌, ap, append_assoc, map, refl, sym, ◌∙◌}
+use Rattle.std.proofs.Common.{List, [], ◌∷◌, ◌++◌, ℕ, ◌≡◌, ap, append_assoc, map, refl, ◌∙◌}
 use Rattle.dma_mem.specs.declared.call.Call.TheVariants as calls
 use Rattle.dma_engine.specs.Answer.{answer, answers}
 use Rattle.dma_engine.specs.View.{View, new_view}
@@ -29,9 +29,7 @@ races_are_runs script turns =
     let start = new_view script.before.size script.before.channels in
     let before = script.before.statements in
     let v = lines_left start before in
-    let went = answers v (step_calls turns) in
     ap (λ (g : List (List (List ℕ))). let p : Printed = record { groups = [] ∷ g; status = 0 } in p)
     (ap (lines_answered start) (append_assoc before (steps_of turns) script.after)
     ∙ lines_answered-append start before (steps_of turns ++ script.after)
-    ∙ ap (λ l. lines_answered start before ++ l) (steps_answered v turns script.after)
-    ∙ sym (append_assoc (lines_answered start before) (step_groups turns went.0) (lines_answered went.1 script.after)))
+    ∙ ap (λ l. lines_answered start before ++ l) (steps_answered v turns script.after))

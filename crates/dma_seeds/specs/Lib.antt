@@ -1,5 +1,7 @@
--- The order in which a seed takes the turns of a race's jobs, what a race prints for it, and the same as a script of
--- `run`.
+-- The order in which a seed takes the turns of a race's jobs, what a race prints for it, the same as a script of `run`,
+-- and which outputs the seeds of a range give.
 pub mod Turns
 pub mod Race
 pub mod Script
+pub mod Seeds
+pub mod inner

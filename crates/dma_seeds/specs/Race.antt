@@ -43,17 +43,29 @@ abbrev pub lines_left : View → List Statement → View
 lines_left v [] = v
 lines_left v (line ∷ rest) = lines_left (line_answer v line).1 rest
 
--- What is printed if the jobs of a race script take these turns in this order: what `run` prints for the lines before
--- `go`, then the text that `middle` gives for the replies to the turns' steps, then what `run` prints for the lines
--- after `go` on the view after those steps.
+-- the view at the start of a race script
+abbrev pub start_of : RaceScript → View
+start_of script = new_view script.before.size script.before.channels
+
+-- what `run` prints for the lines before `go`, the same for all orders of the turns
+abbrev pub before_go : RaceScript → List (List (List ℕ))
+before_go script = [] ∷ lines_answered (start_of script) script.before.statements
+
+-- What is printed from `go` on, if `go` finds this view, takes these turns, and these lines follow: the text that
+-- `middle` gives for the replies to the turns' steps, then what `run` prints for the lines on the view after those steps.
+abbrev pub go_around : View → List RaceTurn → List Statement → (List Reply → List (List (List ℕ))) → List (List (List ℕ))
+go_around v turns after middle =
+    let went = answers v (step_calls turns) in middle went.0 ++ lines_answered went.1 after
+
+-- What is printed if the jobs of a race script take these turns in this order, given the text that is printed for `go`.
 abbrev pub printed_around : RaceScript → List RaceTurn → (List Reply → List (List (List ℕ))) → Printed
 printed_around script turns middle =
-    let start = new_view script.before.size script.before.channels in
-    let went = answers (lines_left start script.before.statements) (step_calls turns) in
-    record {
-      groups = ([] ∷ lines_answered start script.before.statements) ++ middle went.0 ++ lines_answered went.1 script.after;
-      status = 0;
-    }
+    let found = lines_left (start_of script) script.before.statements in
+    record { groups = before_go script ++ go_around found turns script.after middle; status = 0 }
+
+-- what is printed from the line of `go` on
+abbrev pub from_go : View → List RaceTurn → List Statement → List (List (List ℕ))
+from_go v turns after = go_around v turns after (λ replies. (go_line replies ∷ []) ∷ [])
 
 -- What a race script prints if its jobs take these turns in this order: `go` prints its one line.
 abbrev pub raced : RaceScript → List RaceTurn → Printed

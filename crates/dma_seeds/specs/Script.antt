@@ -10,7 +10,6 @@ use Rattle.dma_script.specs.Words.{words_of}
 use Rattle.dma_script.specs.declared.fault.Fault.{Fault}
 use Rattle.dma_script.specs.declared.race.RaceScript.{RaceScript}
 use Rattle.dma_script.specs.declared.statements.RunScript.{RunScript}
-use Rattle.dma_script.specs.declared.statements.Statement.{Statement}
 use Rattle.dma_script.specs.declared.statements.Statement.TheVariants as statements
 use Rattle.dma_commands.specs.Printed.{reply_text}
 use Rattle.dma_commands.specs.Run.{printed_of, step_line}
@@ -26,7 +25,7 @@ turn_line turn = codes "step " ++ decimal turn.channel
 abbrev pub turns_text : List RaceTurn → List ℕ
 turns_text turns = text_of (map turn_line turns)
 
--- What stands for a line of a race script, given its words: nothing for a skipped line and for a job, the turns for
+-- What replaces a line of a race script, given its words: nothing for a skipped line and for a job, the turns for
 -- `go`, and the line itself for any other.
 abbrev pub text_for : List ℕ → List ℕ → List (List ℕ) → List ℕ
 text_for turns line [] = []

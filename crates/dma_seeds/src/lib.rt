@@ -3,12 +3,15 @@
 //! Proved: the turns for a seed are an interleaving of the jobs' turns (`laws::seeds_interleave`). What is printed is a
 //! function of script and seed (`race_by_seed`): that of `run` with those turns as `step` lines in place of `go`, but
 //! with the line of `go` in place of the lines of the steps (`laws::races_are_runs`), and so one of the texts that
-//! `dmasim race` may print. `script_of_seed` writes that script of `run`.
+//! `dmasim race` may print. `script_of_seed` writes that script of `run`. `race_by_seeds` prints which outputs the seeds
+//! of a range give (`seeds_printed`).
 //!
 //! Not proved: that no call is out of memory.
 #![tactic(auto)]
 
 pub mod laws;
+pub mod outputs;
 pub mod race;
 pub mod script;
+pub mod seeds;
 pub mod turns;

@@ -1,6 +1,6 @@
 //! A race whose turns are taken in the order that a seed determines.
 
-ghost use Rattle.std.specs.Prelude.{◌≡◌, ◌==◌, ◌+◌, ◌<◌, ◌++◌, ◌∷◌, [], IfOk, OnErr, OnOk};
+ghost use Rattle.std.specs.Prelude.{◌≡◌, ◌==◌, ◌+◌, ◌<◌, ◌≤◌, ◌++◌, IfOk, OnErr, OnOk, length};
 ghost use Rattle.std.specs.List.{All, sum_by};
 ghost use Rattle.dma_engine.specs.View.{new_view};
 ghost use Rattle.dma_engine.specs.Answer.{answer, answers, reply_of};
@@ -10,7 +10,8 @@ ghost use Rattle.dma_script.specs.Statements.{IsWithin};
 ghost use Rattle.dma_commands.specs.Run.{call_answer, line_answer, lines_answered, submit_answer};
 ghost use Rattle.dma_commands.specs.inner.RunSteps.{RunsLine};
 ghost use Rattle.dma_seeds.specs.Turns.{turns_of_seed};
-ghost use Rattle.dma_seeds.specs.Race.{finishes_in, lines_left, race_printed, raced, step_calls, steps_in};
+ghost use Rattle.dma_seeds.specs.Race.{before_go, finishes_in, from_go, lines_left, race_printed, step_calls, steps_in};
+ghost use Rattle.dma_seeds.specs.inner.Started.{IsStarted};
 
 use crate::turns::Turns;
 use dma_commands::printing::Shown;
@@ -20,7 +21,7 @@ use dma_engine::{Call, Engine, EngineFault, NewFault, Reply, Turn};
 use dma_script::fault::ScriptError;
 use dma_script::interpreter::Interpreter;
 use dma_script::printing::print_line;
-use dma_script::race::{RaceScript, read_race_script};
+use dma_script::race::{Jobs, RaceScript, read_race_script};
 use dma_script::statements::{RunScript, Statement, Statements};
 use dma_script::transfer_line::TransferLine;
 use std::alloc::{AllocError, Global};
@@ -181,23 +182,66 @@ fn take_turns(engine: &mut Engine, turns: Turns) -> Result<Totals, AllocError>
     Ok(totals)
 }
 
-/// Executes a race script and appends what it prints. Fails if memory runs out.
-fn race(alloc: Global, script: RaceScript, seed: u64, out: &mut Vec<u8>) -> Result<(), AllocError>
+/// A race whose lines before `go` were executed.
+#[derive(Drop)]
+pub(crate) struct StartedRace {
+    engine: Engine,
+    jobs: Jobs,
+    after: Statements,
+}
+
+/// Executes the lines of a race script before `go`, and appends what they print. Fails if memory runs out.
+pub(crate) fn start(
+    alloc: Global,
+    script: RaceScript,
+    out: &mut Vec<u8>,
+) -> Result<StartedRace, AllocError>
     requires { IsRace script }
-    ensures { OnOk result (out.new.items ≡ out.old.items
-        ++ printed_text (raced script (turns_of_seed script.jobs seed)).groups) }
+    ensures race { IfOk result (λ race. IsStarted script race.engine.view race.jobs race.after) }
+    ensures text { OnOk result (out.new.items ≡ out.old.items ++ printed_text (before_go script)) }
 {
     let engine = engine_of(alloc, &script.before)?;
-    let turns = Turns::of_seed(alloc, script.jobs.as_slice(), seed)?;
-    let RaceScript { before, after, .. } = script;
-    let mut engine = run_early_lines(engine, before.statements, out)?;
-    let totals = take_turns(&mut engine, turns)?;
-    print_line(
-        out,
-        &("go steps ", totals.steps, " finished ", totals.finished),
-    )?;
-    run_statements(alloc, &mut engine, after, out)?;
-    Ok(())
+    let RaceScript {
+        before,
+        jobs,
+        after,
+    } = script;
+    let engine = run_early_lines(engine, before.statements, out)?;
+    Ok(StartedRace {
+        engine,
+        jobs,
+        after,
+    })
+}
+
+impl StartedRace {
+    /// Takes the turns of the jobs in the order that a seed determines, executes the lines after `go`, and appends what
+    /// is printed from the line of `go` on. Fails if memory runs out.
+    pub(crate) fn finish(
+        self,
+        alloc: Global,
+        seed: u64,
+        out: &mut Vec<u8>,
+    ) -> Result<(), AllocError>
+        requires { length self.jobs ≤ 16 }
+        ensures { OnOk result (out.new.items ≡ out.old.items
+            ++ printed_text (from_go self.engine.view (turns_of_seed self.jobs seed) self.after)) }
+    {
+        let StartedRace {
+            engine,
+            jobs,
+            after,
+        } = self;
+        let mut engine = engine;
+        let turns = Turns::of_seed(alloc, jobs.as_slice(), seed)?;
+        let totals = take_turns(&mut engine, turns)?;
+        print_line(
+            out,
+            &("go steps ", totals.steps, " finished ", totals.finished),
+        )?;
+        run_statements(alloc, &mut engine, after, out)?;
+        Ok(())
+    }
 }
 
 /// Executes a race script in one thread, with the turns of its jobs in the order that a seed determines, and appends
@@ -217,7 +261,8 @@ pub fn race_by_seed(
     let mut text = Vec::new(alloc);
     let good = match read_race_script(alloc, script) {
         Ok(script) => {
-            race(alloc, script, seed, &mut text)?;
+            let race = start(alloc, script, &mut text)?;
+            race.finish(alloc, seed, &mut text)?;
             true
         }
         Err(ScriptError::NoMemory) => return Err(AllocError),

@@ -25,7 +25,7 @@ fn text_of_turns(alloc: Global, turns: Turns) -> Result<Vec<u8>, AllocError>
     Ok(text)
 }
 
-/// Appends what stands for a line of a race script: nothing for a skipped line or a job, the text of the turns for
+/// Appends what replaces a line of a race script: nothing for a skipped line or a job, the text of the turns for
 /// `go`, or else the line.
 fn push_line(line: &[u8], turns: &[u8], out: &mut Vec<u8>) -> Result<(), AllocError>
     ensures { OnOk result

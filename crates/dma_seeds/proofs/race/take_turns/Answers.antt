@@ -1,4 +1,3 @@
-use Rattle.std.proofs.Common.{refl}
 use Rattle.dma_seeds.proofs.RaceLemmas.{took_more, took_none}
 use Rattle.dma_seeds.proofs.race.take_turns.Goals as goal
 

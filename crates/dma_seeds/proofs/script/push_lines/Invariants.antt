@@ -1,4 +1,4 @@
--- What stands for the lines so far is appended.
+-- What replaces the lines so far is appended.
 use Rattle.std.proofs.Common.{◌≡◌, ◌++◌, length}
 use Rattle.dma_seeds.specs.Script.{text_with}
 use Rattle.dma_seeds.proofs.script.push_lines.Given as goal

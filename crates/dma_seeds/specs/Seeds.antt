@@ -1,0 +1,75 @@
+-- Which outputs the seeds of a range give, and what is printed about them (profile).
+use Rattle.std.specs.Prelude.{ℕ, ◌+◌, ◌-◌, Bool, ◌==◌, not, if◌then◌else◌, List, [], ◌∷◌, ◌++◌, count_by, filter, flat_map, length, map, Result, Ok, Err, codes, decimal}
+use Rattle.std.specs.List.{list_any, range_with_len}
+use Rattle.std.specs.Str.{bytes_eq}
+use Rattle.std.specs.Str.Lines.{lines}
+use Rattle.dma_script.specs.Command.{printed_text, text_of}
+use Rattle.dma_script.specs.Printing.{fault_line}
+use Rattle.dma_script.specs.Race.{race_script_of}
+use Rattle.dma_script.specs.declared.fault.Fault.{Fault}
+use Rattle.dma_script.specs.declared.race.RaceScript.{RaceScript}
+use Rattle.dma_seeds.specs.Race.{from_go, lines_left, start_of}
+use Rattle.dma_seeds.specs.Turns.{turns_of_seed}
+use Rattle.dma_seeds.specs.declared.outputs.Output.{Output}
+use Rattle.dma_seeds.specs.declared.seeds.SeedRange.{SeedRange}
+
+-- what a parsed script prints for a seed from the line of `go` on; nothing for a script with a fault
+abbrev pub text_from_go : Result RaceScript Fault → ℕ → List ℕ
+text_from_go (Ok script) seed =
+    printed_text (from_go (lines_left (start_of script) script.before.statements) (turns_of_seed script.jobs seed) script.after)
+text_from_go (Err fault) seed = []
+
+-- whether a seed gives a text that no seed from `first` up to the one before it gives
+abbrev pub is_new : (ℕ → List ℕ) → ℕ → ℕ → Bool
+is_new text first seed =
+    not (list_any (λ earlier. bytes_eq (text earlier) (text seed)) (range_with_len first (seed - first)))
+
+-- the output of a seed, with the number of those that give the same among n seeds from `first` on
+abbrev pub output_of : (ℕ → List ℕ) → ℕ → ℕ → ℕ → Output
+output_of text first n seed = record {
+  text = text seed;
+  seeds = count_by (λ other. bytes_eq (text seed) (text other)) (range_with_len first n);
+  first = seed;
+}
+
+-- The different outputs of n seeds from `first` on, in the order of the first seed of each.
+abbrev pub outputs_of : (ℕ → List ℕ) → ℕ → ℕ → List Output
+outputs_of text first n =
+    map (output_of text first n) (filter (is_new text first) (range_with_len first n))
+
+-- ---- what is printed
+
+-- a number of things, as `1 seed` and `2 seeds`
+abbrev pub number_of_things : ℕ → List ℕ → List ℕ
+number_of_things n thing = decimal n ++ codes " " ++ thing ++ (if n == 1 then [] else codes "s")
+
+-- the lines of a text, each behind two spaces
+abbrev pub indented : List ℕ → List ℕ
+indented text = flat_map (λ line. codes "  " ++ line ++ 10 ∷ []) (lines text)
+
+-- `output N: N seeds, first SEED`, and then the output's lines
+abbrev pub output_text : ℕ → Output → List ℕ
+output_text number output =
+    text_of ((codes "output " ++ decimal number ++ codes ": " ++ number_of_things output.seeds (codes "seed")
+    ++ codes ", first " ++ decimal output.first) ∷ []) ++ indented output.text
+
+-- the texts of outputs, which are numbered from this number on
+abbrev pub numbered : ℕ → List Output → List ℕ
+numbered number [] = []
+numbered number (output ∷ rest) = output_text number output ++ numbered (number + 1) rest
+
+-- `seeds FIRST to LAST: N outputs`, and then the outputs, numbered from 1
+abbrev pub outputs_text : SeedRange → List Output → List ℕ
+outputs_text seeds outputs =
+    text_of ((codes "seeds " ++ decimal seeds.first ++ codes " to " ++ decimal seeds.last ++ codes ": "
+    ++ number_of_things (length outputs) (codes "output")) ∷ []) ++ numbered 1 outputs
+
+-- what is printed for a parsed script and a range of seeds; a script with a fault prints its first fault
+abbrev pub seeds_printed_of : Result RaceScript Fault → SeedRange → List ℕ
+seeds_printed_of (Ok script) seeds =
+    outputs_text seeds (outputs_of (text_from_go (Ok script)) seeds.first (seeds.last + 1 - seeds.first))
+seeds_printed_of (Err fault) seeds = text_of (fault_line fault ∷ [])
+
+-- What is printed for an input and a range of seeds.
+abbrev pub seeds_printed : List ℕ → SeedRange → List ℕ
+seeds_printed input seeds = seeds_printed_of (race_script_of input) seeds
