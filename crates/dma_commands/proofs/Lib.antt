@@ -1,4 +1,5 @@
 pub mod RunLemmas
+pub mod LeftLemmas
 pub mod Served
 pub mod Advances
 pub mod StepLemmas

@@ -44,7 +44,7 @@ issue_and_step_calls v = calls.Issue 0 ∷ replicate (steps_taken most_copy_step
 abbrev pub calls_after : Reply × View → List Call
 calls_after submitted = if is_refused submitted.0 then [] else issue_and_step_calls submitted.1
 
--- The calls of a copy or a fill whose transfer meets its rules: none if channel 0 is in use, else the submit to
+-- The calls of a copy or a fill whose transfer keeps its rules: none if channel 0 is in use, else the submit to
 -- channel 0 and the calls after it.
 abbrev pub transfer_calls : View → Descriptor → List Call
 transfer_calls v t = if is_in_use v then [] else calls.Submit 0 t ∷ calls_after (answer v (calls.Submit 0 t))
@@ -85,7 +85,7 @@ abbrev pub last_of : Reply → List Reply → Reply
 last_of reply [] = reply
 last_of reply (next ∷ rest) = last_of next rest
 
--- What a copy or a fill whose transfer meets its rules prints, by the replies to its calls: `refused ChannelInUse`
+-- What a copy or a fill whose transfer keeps its rules prints, by the replies to its calls: `refused ChannelInUse`
 -- without any reply, the submit's reply if it is the only one, else `start` followed by the last reply.
 abbrev pub transfer_lines : List ℕ → List Reply → List (List ℕ)
 transfer_lines start [] = refused_line (codes "ChannelInUse") ∷ []

@@ -2,6 +2,7 @@
 pub mod Printed
 pub mod Transfers
 pub mod Run
+pub mod Left
 pub mod Assembled
 pub mod Disassembled
 pub mod Planned

@@ -119,7 +119,7 @@ abbrev pub copied_after : List ℕ → Reply × View → Answered
 copied_after start after =
     if is_refused after.0 then one_line (reply_text after.0) after.1 else issued_and_stepped start after.1
 
--- a copy or a fill whose transfer meets its rules: prints `refused ChannelInUse` and changes nothing if channel 0 is
+-- a copy or a fill whose transfer keeps its rules: prints `refused ChannelInUse` and changes nothing if channel 0 is
 -- in use, else submits the transfer to channel 0 and continues with `copied_after`
 abbrev pub copied : List ℕ → View → Descriptor → Answered
 copied start v t =
@@ -138,7 +138,7 @@ start_of (origins.Place addr) = codes "fill "
 abbrev pub copy_answer : View → TransferLine → Answered
 copy_answer v line = transfer_answer v (start_of line.src) (transfer_of line)
 
--- If channel 0 of a sound view isn't in use, and a transfer that meets its rules is submitted to it with success and
+-- If channel 0 of a sound view isn't in use, and a transfer that keeps its rules is submitted to it with success and
 -- issued, then the last answer of `stepped_to_end most_copy_steps` is neither Started nor Moved. So `most_copy_steps`
 -- cuts off no copy or fill.
 abbrev pub CopiesEnd : Type 0

@@ -6,6 +6,7 @@ ghost use Rattle.dma_commands.specs.inner.RunSteps.{RunsLine};
 
 mod calls;
 mod copies;
+mod left;
 mod steps;
 
 use crate::run::calls::{
@@ -13,6 +14,7 @@ use crate::run::calls::{
     answer_totals, answer_write,
 };
 use crate::run::copies::answer_copy;
+pub use crate::run::left::engine_after;
 use crate::run::steps::{StepLines, answer_step, answer_steps};
 use dma_engine::{Call, Engine, NewFault};
 use dma_script::command::{Command, SUCCESS, refuse, serve};

@@ -6,6 +6,7 @@ pub mod Ticks
 pub mod View
 pub mod Turn
 pub mod Answer
+pub mod Cookies
 pub mod Advance
 pub mod Room
 pub mod Laws

@@ -100,7 +100,7 @@ impl Engine {
     }
 
     // Returns the transfer of cookie number `n` among those that aren't forgotten, counted from 0.
-    fn transfer(&self, index: usize, n: usize) -> &Transfer
+    pub(super) fn transfer(&self, index: usize, n: usize) -> &Transfer
         requires there { index < channels self.now.view }
         requires given { n < length (channel (object_of self.now.view) index).submitted }
         ensures { result.now

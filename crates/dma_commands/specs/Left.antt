@@ -1,0 +1,15 @@
+-- The view that a script leaves.
+use Rattle.std.specs.Prelude.{List, [], ◌∷◌}
+use Rattle.dma_engine.specs.View.{View, new_view}
+use Rattle.dma_script.specs.declared.statements.RunScript.{RunScript}
+use Rattle.dma_script.specs.declared.statements.Statement.{Statement}
+use Rattle.dma_commands.specs.Run.{line_answer}
+
+-- the view after lines of a script
+abbrev pub lines_left : View → List Statement → View
+lines_left v [] = v
+lines_left v (line ∷ rest) = lines_left (line_answer v line).1 rest
+
+-- the view after a script
+abbrev pub view_after : RunScript → View
+view_after script = lines_left (new_view script.size script.channels) script.statements

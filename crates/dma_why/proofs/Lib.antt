@@ -1,0 +1,4 @@
+pub mod CircleLemmas
+pub mod CauseLemmas
+pub mod WaitLemmas
+pub mod LineLemmas

@@ -1,0 +1,145 @@
+-- What is printed of why each channel is where it is (profile).
+use Rattle.std.specs.Prelude.{ℕ, ◌+◌, ◌-◌, ◌==◌, ◌++◌, if◌then◌else◌, Option, Some, None, unwrap_or, Result, Ok, Err, List, [], ◌∷◌, codes, decimal, map, slice_get}
+use Rattle.std.specs.Option.{option_map, option_to_list}
+use Rattle.std.specs.List.{flat_map, range_with_len}
+use Rattle.dma_mem.specs.Places.{Descriptor, destinations, size_of, sources}
+use Rattle.dma_text.specs.Digits.{hex_digits}
+use Rattle.dma_engine.specs.declared.fault.EngineFault.{EngineFault}
+use Rattle.dma_engine.specs.declared.outcome.Outcome.{Outcome}
+use Rattle.dma_engine.specs.declared.outcome.TransResult.{TransResult}
+use Rattle.dma_engine.specs.declared.outcome.TransResult.TheVariants.{ReadFailed, WriteFailed}
+use Rattle.dma_engine.specs.declared.turn.Turn.{Turn}
+use Rattle.dma_engine.specs.declared.turn.Turn.TheVariants.{Nothing, Held, Started, Moved, Waiting, Paused, Halted, Finished}
+use Rattle.dma_engine.specs.Answer.{done_on, result_of}
+use Rattle.dma_engine.specs.Cookies.{transfer_of}
+use Rattle.dma_engine.specs.Object.{Object, channel, finished, no_transfer, unfinished}
+use Rattle.dma_engine.specs.Turn.{turn}
+use Rattle.dma_engine.specs.View.{View, channels, object_of}
+use Rattle.dma_script.specs.Command.{Printed, refusal}
+use Rattle.dma_script.specs.Printing.{fault_line}
+use Rattle.dma_script.specs.Statements.{run_script_of}
+use Rattle.dma_script.specs.declared.fault.Fault.{Fault}
+use Rattle.dma_script.specs.declared.statements.RunScript.{RunScript}
+use Rattle.dma_commands.specs.Left.{view_after}
+use Rattle.dma_commands.specs.Printed.{residue_text}
+use Rattle.dma_why.specs.declared.waits.Cookie.{Cookie}
+use Rattle.dma_why.specs.declared.waits.Wait.{Wait}
+use Rattle.dma_why.specs.declared.waits.Wait.TheVariants.{Front, Event}
+use Rattle.dma_why.specs.Circles.{circle_from, wait_at}
+use Rattle.dma_why.specs.Waits.{signallers, waits_of}
+
+-- ---- the front of a channel
+
+-- the transfer of a cookie, or a transfer of nothing
+abbrev pub transfer_or_none : Object → ℕ → ℕ → Descriptor
+transfer_or_none o ch cookie = unwrap_or (transfer_of o ch cookie) no_transfer
+
+-- `cookie N, D of S bytes`: the first unfinished cookie, issued or not, and how many of its bytes are stored
+abbrev pub front_text : View → ℕ → List ℕ
+front_text v ch =
+    let o = object_of v in
+    let cookie = finished (channel o ch) + 1 in
+    if unfinished (channel o ch) == 0 then codes "nothing unfinished" else
+    codes "cookie " ++ decimal cookie ++ codes ", " ++ decimal (done_on v ch) ++ codes " of "
+    ++ decimal (size_of (transfer_or_none o ch cookie)) ++ codes " bytes"
+
+-- The address at which a transfer failed with `done` bytes stored: that of the first byte that wasn't stored, at which
+-- the burst began. It is a source if a load failed, and a destination if a store did.
+abbrev pub failed_at : Descriptor → TransResult → ℕ → Option ℕ
+failed_at t ReadFailed done = slice_get (sources t) done
+failed_at t WriteFailed done = slice_get (destinations t) done
+failed_at t _ done = None
+
+-- ` at 0xADDRESS`
+abbrev pub address_text : Option ℕ → List ℕ
+address_text None = []
+address_text (Some addr) = codes " at 0x" ++ hex_digits addr
+
+-- `NAME residue N at 0xADDRESS`: how a cookie finished or will finish, and where it fails
+abbrev pub ending_text : Descriptor → TransResult → ℕ → List ℕ
+ending_text t result residue = residue_text result residue ++ address_text (failed_at t result (size_of t - residue))
+
+-- the end of the last cookie that finished, which is the one that failed if the channel is halted; nothing if it is
+-- forgotten
+abbrev pub last_text : Object → ℕ → Option Outcome → List ℕ
+last_text o ch None = []
+last_text o ch (Some x) =
+    let cookie = finished (channel o ch) in
+    codes ", cookie " ++ decimal cookie ++ codes " finished " ++ ending_text (transfer_or_none o ch cookie) x.result x.residue
+
+-- What a channel does, by the result that its next step would have.
+abbrev pub state_text : View → ℕ → Result Turn EngineFault → List ℕ
+state_text v ch (Ok Nothing) = if unfinished (channel (object_of v) ch) == 0 then [] else codes ": not issued"
+state_text v ch (Ok (Held other cookie)) = codes ": held by cookie " ++ decimal cookie ++ codes " of channel " ++ decimal other
+state_text v ch (Ok (Started cookie)) = codes ": can start"
+state_text v ch (Ok Moved) = codes ": runs"
+state_text v ch (Ok (Waiting event)) = codes ": waits for event " ++ decimal event
+state_text v ch (Ok Paused) = codes ": paused"
+state_text v ch (Ok Halted) =
+    let o = object_of v in codes ": halted" ++ last_text o ch (result_of o ch (finished (channel o ch)))
+state_text v ch (Ok (Finished cookie result residue)) =
+    codes ": next finishes " ++ ending_text (transfer_or_none (object_of v) ch cookie) result residue
+state_text v ch (Err fault) = codes ": the step count is at its end"
+
+-- ---- the lines of a channel
+
+-- a cookie that would signal the event
+abbrev pub signaller_line : Cookie → List ℕ
+signaller_line cookie =
+    codes "  cookie " ++ decimal cookie.number ++ codes " of channel " ++ decimal cookie.ch ++ codes " would signal it"
+
+-- the cookies that would signal the event, or that there is none
+abbrev pub signaller_lines : List Cookie → List (List ℕ)
+signaller_lines [] = codes "  no unfinished cookie would signal it" ∷ []
+signaller_lines (first ∷ more) = map signaller_line (first ∷ more)
+
+-- who would signal the event that a channel waits for
+abbrev pub event_lines : Object → Result Turn EngineFault → List (List ℕ)
+event_lines o (Ok (Waiting event)) = signaller_lines (signallers o event)
+event_lines o _ = []
+
+-- the lines of a channel whose next step has this result
+abbrev pub lines_by : View → ℕ → Result Turn EngineFault → List (List ℕ)
+lines_by v ch turned =
+    (codes "channel " ++ decimal ch ++ codes ": " ++ front_text v ch ++ state_text v ch turned) ∷ event_lines (object_of v) turned
+
+-- the lines of a channel
+abbrev pub channel_lines : View → ℕ → List (List ℕ)
+channel_lines v ch = lines_by v ch (turn v ch).0
+
+-- ---- the lines of circles
+
+-- what a channel of a circle waits for
+abbrev pub wait_text : Option Wait → List ℕ
+wait_text None = []
+wait_text (Some (Front cookie)) = codes " waits for channel " ++ decimal cookie.ch
+wait_text (Some (Event event by)) =
+    codes " waits for event " ++ decimal event ++ codes ", which cookie " ++ decimal by.number ++ codes " of channel "
+    ++ decimal by.ch ++ codes " would signal"
+
+-- a circle: its lowest channel and the others, in order
+abbrev pub circle_line : List (Option Wait) → ℕ → List ℕ → List ℕ
+circle_line waits first more =
+    codes "circle: " ++ decimal first ++ wait_text (wait_at waits first)
+    ++ flat_map (λ ch. codes ", which" ++ wait_text (wait_at waits ch)) more
+
+-- the line of the circle whose lowest channel is this one, if there is one
+abbrev pub circle_lines : List (Option Wait) → ℕ → List (List ℕ)
+circle_lines waits first = option_to_list (option_map (circle_line waits first) (circle_from waits first))
+
+-- ---- all
+
+-- Why each channel is where it is: the lines of each channel, then one for each circle.
+abbrev pub explanation : View → List (List ℕ)
+explanation v =
+    let all = range_with_len 0 (channels v) in
+    flat_map (channel_lines v) all ++ flat_map (circle_lines (waits_of v)) all
+
+-- what is printed for a parsed script: the explanation of the view after it, or its first fault
+abbrev pub why_printed_of : Result RunScript Fault → Printed
+why_printed_of (Ok script) = record { groups = explanation (view_after script) ∷ []; status = 0 }
+why_printed_of (Err fault) = refusal (fault_line fault)
+
+-- What is printed for a script.
+abbrev pub why_printed : List ℕ → Printed
+why_printed input = why_printed_of (run_script_of input)

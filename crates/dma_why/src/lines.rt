@@ -1,0 +1,301 @@
+//! The lines that say why each channel is where it is.
+#![tactic(auto, using(dma_text::proofs::Begun::begins_same, dma_text::proofs::Begun::begins_appended, dma_text::proofs::Begun::begins_more))]
+
+ghost use Rattle.std.specs.Prelude.{◌≡◌, ◌-◌, ◌++◌, ◌∷◌, [], OnOk, codes};
+ghost use Rattle.std.specs.List.{flat_map, range_with_len};
+ghost use Rattle.dma_mem.specs.Places.{size_of};
+ghost use Rattle.dma_engine.specs.Object.{channel, finished};
+ghost use Rattle.dma_engine.specs.Answer.{done_on, result_of};
+ghost use Rattle.dma_engine.specs.View.{channels, object_of};
+ghost use Rattle.dma_script.specs.Command.{text_of};
+ghost use Rattle.dma_why.specs.Waits.{waits_of};
+ghost use Rattle.dma_why.specs.Circles.{wait_at};
+ghost use Rattle.dma_why.specs.Why.{address_text, channel_lines, circle_line, circle_lines, ending_text, event_lines, explanation, failed_at, front_text, last_text, signaller_line, signaller_lines, state_text, transfer_or_none, wait_text};
+
+use crate::circles::{circle_from, wait_at};
+use crate::waits::{Cookie, Wait, signallers, waits};
+use dma_commands::printing::Shown;
+use dma_engine::{Engine, EngineFault, Outcome, TransResult, Turn};
+use dma_mem::transfer::Transfer;
+use dma_script::printing::print_line;
+use dma_text::text::{Address, Text};
+use std::alloc::{AllocError, Global};
+
+/// Returns how many bytes the front of a channel has stored, or 0 if nothing runs there.
+fn stored_on(engine: &Engine, ch: u8) -> u32
+    ensures { result ≡ done_on engine.now.view ch }
+{
+    match engine.running(ch) {
+        Some(running) => running.stored,
+        None => 0,
+    }
+}
+
+/// Returns how many bytes the transfer of a cookie has, or 0 if there is none.
+fn size_at(engine: &Engine, ch: u8, cookie: u32) -> u32
+    ensures { result ≡ size_of (transfer_or_none (object_of engine.now.view) ch cookie) }
+{
+    match engine.transfer_of(ch, cookie) {
+        Some(transfer) => transfer.len(),
+        None => 0,
+    }
+}
+
+/// Appends the first unfinished cookie of a channel, and how many of its bytes are stored.
+fn push_front(engine: &Engine, ch: u8, out: &mut Vec<u8>) -> Result<(), AllocError>
+    ensures { OnOk result (out.new.items ≡ out.old.items ++ front_text engine.now.view ch) }
+{
+    let finished = engine.finished(ch);
+    if finished >= engine.used(ch) {
+        return "nothing unfinished".push(out);
+    }
+    let cookie = finished + 1;
+    let stored = ("cookie ", cookie, ", ", stored_on(engine, ch));
+    (stored, " of ", size_at(engine, ch, cookie), " bytes").push(out)
+}
+
+/// An address at which a transfer failed, or none.
+#[derive(Drop)]
+struct At(Option<u32>);
+
+impl Text for At {
+    ghost text = { λ at. address_text at.0 };
+
+    fn push(&self, out: &mut Vec<u8>) -> Result<(), AllocError> {
+        match self.0 {
+            Some(addr) => (" at 0x", Address(addr)).push(out),
+            None => Ok(()),
+        }
+    }
+}
+
+/// Returns the address at which a transfer failed with `done` bytes stored.
+fn failed_at(transfer: &Transfer, how: TransResult, done: u32) -> Option<u32>
+    ensures { result ≡ failed_at transfer.now how done }
+{
+    match how {
+        TransResult::ReadFailed => transfer.src_place(done),
+        TransResult::WriteFailed => transfer.dst_place(done),
+        TransResult::NoError | TransResult::Aborted => None,
+    }
+}
+
+/// Returns the address at which a cookie with this outcome failed.
+fn place_of(engine: &Engine, ch: u8, cookie: u32, outcome: Outcome) -> Option<u32>
+    ensures { let t = transfer_or_none (object_of engine.now.view) ch cookie in
+        result ≡ failed_at t outcome.result (size_of t - outcome.residue) }
+{
+    let transfer = engine.transfer_of(ch, cookie)?;
+    let done = transfer.len().saturating_sub(outcome.residue);
+    failed_at(transfer, outcome.result, done)
+}
+
+/// Appends how a cookie finished or will finish, and where it fails.
+fn push_ending(
+    engine: &Engine,
+    ch: u8,
+    cookie: u32,
+    outcome: Outcome,
+    out: &mut Vec<u8>,
+) -> Result<(), AllocError>
+    ensures { let t = transfer_or_none (object_of engine.now.view) ch cookie in
+        OnOk result (out.new.items
+        ≡ out.old.items ++ ending_text t outcome.result outcome.residue) }
+{
+    let place = At(place_of(engine, ch, cookie, outcome));
+    (Shown(Some(outcome)), place).push(out)
+}
+
+/// Appends the end of the last cookie of a channel that finished.
+fn push_last(engine: &Engine, ch: u8, out: &mut Vec<u8>) -> Result<(), AllocError>
+    ensures { let o = object_of engine.now.view in OnOk result (out.new.items
+        ≡ out.old.items ++ last_text o ch (result_of o ch (finished (channel o ch)))) }
+{
+    let cookie = engine.finished(ch);
+    match engine.result(ch, cookie) {
+        Some(outcome) => {
+            (", cookie ", cookie, " finished ").push(out)?;
+            push_ending(engine, ch, cookie, outcome, out)
+        }
+        None => Ok(()),
+    }
+}
+
+/// Appends what a channel does whose next step has this result.
+fn push_state(
+    engine: &Engine,
+    ch: u8,
+    turned: Result<Turn, EngineFault>,
+    out: &mut Vec<u8>,
+) -> Result<(), AllocError>
+    ensures { OnOk result
+        (out.new.items ≡ out.old.items ++ state_text engine.now.view ch turned) }
+{
+    match turned {
+        Ok(Turn::Nothing) if engine.unfinished(ch) == 0 => Ok(()),
+        Ok(Turn::Nothing) => ": not issued".push(out),
+        Ok(Turn::Held { ch, cookie }) => {
+            (": held by cookie ", cookie, " of channel ", ch).push(out)
+        }
+        Ok(Turn::Started(_)) => ": can start".push(out),
+        Ok(Turn::Moved) => ": runs".push(out),
+        Ok(Turn::Waiting(event)) => (": waits for event ", event).push(out),
+        Ok(Turn::Paused) => ": paused".push(out),
+        Ok(Turn::Halted) => {
+            ": halted".push(out)?;
+            push_last(engine, ch, out)
+        }
+        Ok(
+            Turn::Finished {
+                cookie,
+                result: how,
+                residue,
+            },
+        ) => {
+            ": next finishes ".push(out)?;
+            let outcome = Outcome {
+                result: how,
+                residue,
+            };
+            push_ending(engine, ch, cookie, outcome, out)
+        }
+        Err(_) => ": the step count is at its end".push(out),
+    }
+}
+
+/// Appends the line of a cookie that would signal an event.
+fn push_signaller(cookie: Cookie, out: &mut Vec<u8>) -> Result<(), AllocError>
+    ensures { OnOk result
+        (out.new.items ≡ out.old.items ++ text_of (signaller_line cookie ∷ [])) }
+{
+    let cookie = ("  cookie ", cookie.number, " of channel ", cookie.ch);
+    print_line(out, &(cookie, " would signal it"))
+}
+
+/// Appends the lines of the cookies that would signal an event.
+fn push_signallers(found: &[Cookie], out: &mut Vec<u8>) -> Result<(), AllocError>
+    ensures { OnOk result
+        (out.new.items ≡ out.old.items ++ text_of (signaller_lines found.now)) }
+{
+    if found.is_empty() {
+        return print_line(out, &"  no unfinished cookie would signal it");
+    }
+    for cookie in found {
+        push_signaller(*cookie, out)?;
+    }
+    Ok(())
+}
+
+/// Appends the lines of the cookies that would signal the event for which a channel waits.
+fn push_event(
+    alloc: Global,
+    engine: &Engine,
+    turned: Result<Turn, EngineFault>,
+    out: &mut Vec<u8>,
+) -> Result<(), AllocError>
+    ensures { OnOk result (out.new.items
+        ≡ out.old.items ++ text_of (event_lines (object_of engine.now.view) turned)) }
+{
+    match turned {
+        Ok(Turn::Waiting(event)) => {
+            let found = signallers(alloc, engine, event)?;
+            push_signallers(&found, out)
+        }
+        _ => Ok(()),
+    }
+}
+
+/// Appends the lines of a channel.
+fn push_channel(alloc: Global, engine: &Engine, ch: u8, out: &mut Vec<u8>) -> Result<(), AllocError>
+    ensures { OnOk result
+        (out.new.items ≡ out.old.items ++ text_of (channel_lines engine.now.view ch)) }
+{
+    let turned = engine.next_turn(ch);
+    ("channel ", ch, ": ").push(out)?;
+    push_front(engine, ch, out)?;
+    push_state(engine, ch, turned, out)?;
+    "\n".push(out)?;
+    push_event(alloc, engine, turned, out)
+}
+
+/// Appends what a channel of a circle waits for.
+fn push_wait(wait: Option<Wait>, out: &mut Vec<u8>) -> Result<(), AllocError>
+    ensures { OnOk result (out.new.items ≡ out.old.items ++ wait_text wait) }
+{
+    match wait {
+        Some(Wait::Front(cookie)) => (" waits for channel ", cookie.ch).push(out),
+        Some(Wait::Event { event, by }) => {
+            let event = (" waits for event ", event, ", which cookie ", by.number);
+            (event, " of channel ", by.ch, " would signal").push(out)
+        }
+        None => Ok(()),
+    }
+}
+
+/// Appends what the later channels of a circle wait for.
+fn push_more(waits: &[Option<Wait>], more: &[u8], out: &mut Vec<u8>) -> Result<(), AllocError>
+    ensures { OnOk result (out.new.items ≡ out.old.items
+        ++ flat_map (λ ch. codes ", which" ++ wait_text (wait_at waits.now ch)) more.now) }
+{
+    for ch in more {
+        ", which".push(out)?;
+        push_wait(wait_at(waits, *ch), out)?;
+    }
+    Ok(())
+}
+
+/// Appends the line of the circle whose lowest channel is this one, if there is one.
+fn push_circle(
+    alloc: Global,
+    waits: &[Option<Wait>],
+    first: u8,
+    out: &mut Vec<u8>,
+) -> Result<(), AllocError>
+    ensures { OnOk result
+        (out.new.items ≡ out.old.items ++ text_of (circle_lines waits.now first)) }
+{
+    let Some(more) = circle_from(alloc, waits, first)? else {
+        return Ok(());
+    };
+    ("circle: ", first).push(out)?;
+    push_wait(wait_at(waits, first), out)?;
+    push_more(waits, &more, out)?;
+    "\n".push(out)
+}
+
+/// Appends the lines of all channels.
+fn push_channels(alloc: Global, engine: &Engine, out: &mut Vec<u8>) -> Result<(), AllocError>
+    ensures { OnOk result (out.new.items ≡ out.old.items
+        ++ text_of (flat_map (channel_lines engine.now.view) (range_with_len 0 (channels engine.now.view)))) }
+{
+    for ch in 0..engine.channels() {
+        push_channel(alloc, engine, ch, out)?;
+    }
+    Ok(())
+}
+
+/// Appends the lines of the circles of these channels.
+fn push_circles(
+    alloc: Global,
+    waits: &[Option<Wait>],
+    channels: u8,
+    out: &mut Vec<u8>,
+) -> Result<(), AllocError>
+    ensures { OnOk result (out.new.items ≡ out.old.items
+        ++ text_of (flat_map (circle_lines waits.now) (range_with_len 0 channels))) }
+{
+    for first in 0..channels {
+        push_circle(alloc, waits, first, out)?;
+    }
+    Ok(())
+}
+
+/// Appends why each channel is where it is.
+pub fn push_explanation(alloc: Global, engine: &Engine, out: &mut Vec<u8>) -> Result<(), AllocError>
+    ensures { OnOk result
+        (out.new.items ≡ out.old.items ++ text_of (explanation engine.now.view)) }
+{
+    push_channels(alloc, engine, out)?;
+    let waits = waits(alloc, engine)?;
+    push_circles(alloc, &waits, engine.channels(), out)
+}

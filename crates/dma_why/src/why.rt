@@ -1,0 +1,48 @@
+//! Why each channel is where it is after a script.
+
+ghost use Rattle.std.specs.Prelude.{◌≡◌, ◌==◌, ◌++◌, IfOk, Ok, OnErr, OnOk};
+ghost use Rattle.dma_script.specs.Command.{printed_text};
+ghost use Rattle.dma_script.specs.Statements.{IsWithin};
+ghost use Rattle.dma_why.specs.Why.{why_printed, why_printed_of};
+
+use crate::lines::push_explanation;
+use dma_commands::run::engine_after;
+use dma_script::fault::ScriptError;
+use dma_script::printing::print_line;
+use dma_script::statements::{RunScript, read_run_script};
+use std::alloc::{AllocError, Global};
+
+/// Executes a script, and appends why each channel is where it is after it.
+fn push_why(alloc: Global, script: RunScript, out: &mut Vec<u8>) -> Result<(), AllocError>
+    requires { IsWithin script }
+    ensures { OnOk result (out.new.items
+        ≡ out.old.items ++ printed_text (why_printed_of (Ok script)).groups) }
+{
+    let engine = engine_after(alloc, script)?;
+    push_explanation(alloc, &engine, out)?;
+    Ok(())
+}
+
+/// Executes a script of `dmasim run`, and appends why each channel is where it is after it. Of a script with a fault it
+/// appends the fault. Returns whether the script has no fault. If memory runs out, appends nothing.
+pub fn why(alloc: Global, script: &[u8], out: &mut Vec<u8>) -> Result<bool, AllocError>
+    ensures text { OnOk result (out.new.items
+        ≡ out.old.items ++ printed_text (why_printed script.now).groups) }
+    ensures good { IfOk result (λ good. good ≡ ((why_printed script.now).status == 0)) }
+    ensures err { OnErr result (out.new.items ≡ out.old.items) }
+{
+    let mut text = Vec::new(alloc);
+    let good = match read_run_script(alloc, script) {
+        Ok(script) => {
+            push_why(alloc, script, &mut text)?;
+            true
+        }
+        Err(ScriptError::NoMemory) => return Err(AllocError),
+        Err(error) => {
+            print_line(&mut text, &error)?;
+            false
+        }
+    };
+    out.extend_from_slice(&text)?;
+    Ok(good)
+}
