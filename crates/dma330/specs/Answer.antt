@@ -1,5 +1,5 @@
 -- What a call prints, and how it is written.
-use Rattle.std.specs.Prelude.{◌≡◌, ◌⊎◌, ℕ, Bool, if◌then◌else◌, List, [], ◌∷◌, ◌++◌, Option}
+use Rattle.std.specs.Prelude.{◌≡◌, ◌⊎◌, ◌||◌, ℕ, nat_lt, Bool, if◌then◌else◌, List, [], ◌∷◌, ◌++◌, length, Option}
 use Rattle.std.specs.Io.KnownBytes.{Appends}
 use Rattle.dma_script.specs.Command.{Failures, Unfailed}
 use Rattle.dma330.specs.declared.answer.Answer.{Answer}
@@ -11,6 +11,11 @@ pub record Printed : Type 0 where
   pub err : List ℕ
   pub file : List ℕ
   pub succeeds : Bool
+
+-- Whether the file that an option names is written: if the call succeeds, or if it fails and has bytes for the file,
+-- as a failed trace has.
+abbrev pub writes_file : Printed → Bool
+writes_file p = p.succeeds || nat_lt 0 (length p.file)
 
 abbrev pub printed_of : Answer → Printed
 printed_of a = record { out = a.out.items; err = a.err.items; file = a.file.items; succeeds = a.succeeds }

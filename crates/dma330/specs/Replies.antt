@@ -8,15 +8,19 @@ use Rattle.dma_manual.specs.Assembled.{assembled}
 use Rattle.dma_manual.specs.Errors.{assembled_err, assembled_out}
 use Rattle.dma_manual.specs.Listing.{is_whole, listed, rest_text, stop_text}
 use Rattle.dma_script.specs.Command.{printed_text}
+use Rattle.dma_script.specs.Race.{race_script_of}
 use Rattle.dma_seeds.specs.Race.{race_printed}
 use Rattle.dma_seeds.specs.Script.{script_text}
+use Rattle.dma_seeds.specs.Seeds.{seeds_printed}
+use Rattle.dma_seeds.specs.declared.seeds.SeedRange.{SeedRange}
+use Rattle.dma_why.specs.Why.{why_printed}
 use Rattle.dma_trace.specs.declared.options.TraceOptions.{TraceOptions}
 use Rattle.dma_trace.specs.Explained.{Appends}
 use Rattle.dma_trace.specs.Traced.{Shows}
 use Rattle.dma330.specs.Answer.{Printed, named}
 use Rattle.dma330.specs.Hexadecimal.{column_of, line_of, read}
 use Rattle.dma330.specs.declared.command_line.Request.{Request}
-use Rattle.dma330.specs.declared.command_line.Request.TheVariants.{Dis, Asm, Explain, Trace, Race}
+use Rattle.dma330.specs.declared.command_line.Request.TheVariants.{Dis, Asm, Explain, Trace, Race, RaceSeeds, Why}
 
 -- `dis` lists the program, and says on standard error where it is none.
 abbrev pub Lists : ℕ → List ℕ → Printed → Type 0
@@ -40,16 +44,28 @@ Assembles to_file text p =
 abbrev pub Explains : Bus → ℕ → List ℕ → Printed → Type 0
 Explains bus most program p = Appends bus program most p.succeeds [] [] p.out p.err × (p.file ≡ [])
 
--- `trace` prints the program's trace over RAM, and on standard error what ends it early.
+-- `trace` prints the program's trace over RAM, and on standard error what ends it early, and writes its waveform.
 abbrev pub Traces : TraceOptions → List Region → List ℕ → Printed → Type 0
 Traces options ram program p =
-    (after : List Region) × Shows options program ram after p.succeeds [] [] p.out p.err × (p.file ≡ [])
+    (after : List Region) × Shows options program ram after p.succeeds [] [] [] p.out p.err p.file
 
 -- `race` prints what a race prints with its turns in the order of a seed, and writes the same as a script of `run`.
 abbrev pub Races : ℕ → List ℕ → Printed → Type 0
 Races seed script p =
     (p.out ≡ printed_text (race_printed script seed).groups) × (p.err ≡ []) × (p.file ≡ script_text script seed)
     × (p.succeeds ≡ ((race_printed script seed).status == 0))
+
+-- `race --seeds` prints which outputs a race has with its turns in the orders of these seeds.
+abbrev pub RacesSeeds : SeedRange → List ℕ → Printed → Type 0
+RacesSeeds seeds script p =
+    (p.out ≡ seeds_printed script seeds) × (p.err ≡ []) × (p.file ≡ [])
+    × (p.succeeds ≡ is_ok (race_script_of script))
+
+-- `why` prints why each channel is where it is after a script.
+abbrev pub Reasons : List ℕ → Printed → Type 0
+Reasons script p =
+    (p.out ≡ printed_text (why_printed script).groups) × (p.err ≡ []) × (p.file ≡ [])
+    × (p.succeeds ≡ ((why_printed script).status == 0))
 
 -- What a request prints for a program over RAM, without the name of the input.
 abbrev pub Replies : Request → List Region → List ℕ → Printed → Type 0
@@ -58,6 +74,8 @@ Replies (Asm to_file) ram input = Assembles to_file input
 Replies (Explain bus most) ram input = Explains bus most input
 Replies (Trace options) ram input = Traces options ram input
 Replies (Race seed) ram input = Races seed input
+Replies (RaceSeeds seeds) ram input = RacesSeeds seeds input
+Replies Why ram input = Reasons input
 
 -- what is wrong with a byte of hexadecimal text, or with its end
 abbrev pub hex_words : Option ℕ → List ℕ

@@ -2,7 +2,7 @@
 ghost use Rattle.std.specs.Prelude.{◌≡◌, ◌⊎◌, IfOk, OnErr, OnOk};
 ghost use Rattle.std.specs.Io.KnownBytes.{Appends};
 ghost use Rattle.dma_script.specs.Command.{failures};
-ghost use Rattle.dma330.specs.Answer.{Delivers, named, printed_of};
+ghost use Rattle.dma330.specs.Answer.{Delivers, named, printed_of, writes_file};
 
 use dma_script::command::{FAULT, SUCCESS};
 use dma_script::output::{OutputFailed, Sink, write_output};
@@ -20,6 +20,15 @@ pub struct Answer {
     pub file: Vec<u8>,
     /// Whether the call succeeds.
     pub succeeds: bool,
+}
+
+impl Answer {
+    /// Returns whether the file that an option names is written.
+    pub fn writes_file(&self) -> bool
+        ensures { result ≡ writes_file (printed_of self.now) }
+    {
+        self.succeeds || !self.file.is_empty()
+    }
 }
 
 /// Returns a message behind the name of the input and a colon; an empty message stays empty. Fails if memory runs out.

@@ -1,10 +1,11 @@
 //! What the words of a command line ask for.
 use crate::subcommands::dma330;
-use crate::values::{RamRange, number, ram_range, range};
+use crate::values::{RamRange, number, ram_range, range, seed_range};
 use clap::error::ErrorKind;
 use clap::{ArgMatches, Error};
 use dma_chan::bus::{Bus, BusWidth};
 use dma_mem::segment::Segment;
+use dma_seeds::seeds::SeedRange;
 use dma_trace::options::TraceOptions;
 use std::alloc::{AllocError, Global};
 
@@ -16,6 +17,8 @@ pub enum Request {
     Explain { bus: Bus, most: u32 },
     Trace(TraceOptions),
     Race { seed: u64 },
+    RaceSeeds(SeedRange),
+    Why,
 }
 
 /// A call of the program.
@@ -119,7 +122,25 @@ fn trace_of(alloc: Global, matches: &ArgMatches<'_>) -> Result<Request, Error> {
         count,
         limit: number_at(alloc, matches, "limit", 1_000_000)?,
         dumps: ranges_at(alloc, matches, "dump")?,
+        wave: matches.contains_id("vcd"),
     }))
+}
+
+/// Reads the options of `race`.
+fn race_of(alloc: Global, matches: &ArgMatches<'_>) -> Result<Request, Error> {
+    let Some(word) = matches.get_str("seeds") else {
+        let seed = number_at(alloc, matches, "seed", 0)?;
+        return Ok(Request::Race {
+            seed: u64::from(seed),
+        });
+    };
+    match seed_range(word) {
+        Some(seeds) => Ok(Request::RaceSeeds(seeds)),
+        None => {
+            let wanted = "not FIRST-LAST, two numbers up to 4294967295 in rising order";
+            Err(mistake(alloc, "seeds", word, wanted)?)
+        }
+    }
 }
 
 /// Reads the request of a subcommand.
@@ -135,9 +156,8 @@ fn request_of(alloc: Global, name: &str, matches: &ArgMatches<'_>) -> Result<Req
             bus: bus_at(matches),
             most: number_at(alloc, matches, "most", 10_000_000)?,
         }),
-        "race" => Ok(Request::Race {
-            seed: u64::from(number_at(alloc, matches, "seed", 0)?),
-        }),
+        "race" => race_of(alloc, matches),
+        "why" => Ok(Request::Why),
         _ => trace_of(alloc, matches),
     }
 }
@@ -154,6 +174,9 @@ pub fn call_of<'a>(alloc: Global, words: &'a [String]) -> Result<Call<'a>, Error
         input: matches.get_str("file").filter(|file| *file != "-"),
         is_hex: matches.get_flag("hex"),
         ram: ram_at(alloc, matches)?,
-        output: matches.get_str("output").or(matches.get_str("script")),
+        output: matches
+            .get_str("output")
+            .or(matches.get_str("script"))
+            .or(matches.get_str("vcd")),
     })
 }

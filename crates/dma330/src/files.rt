@@ -1,6 +1,7 @@
 //! A call with its files: reads them, answers, and writes.
 use crate::answer::deliver;
 use crate::command_line::Call;
+use crate::meter::Meter;
 use crate::replies::answer;
 use crate::values::RamRange;
 use dma_mem::regions::{Region, are_in_order};
@@ -134,6 +135,7 @@ pub fn run<'a>(rt: &HostRuntime, call: &Call<'a>) -> Result<u8, Failure<'a>> {
         return Err(Failure::Ram);
     }
     let name = call.input.unwrap_or(STANDARD_INPUT);
+    let mut meter = Meter::new(rt);
     let answer = answer(
         rt.alloc(),
         &call.request,
@@ -141,9 +143,12 @@ pub fn run<'a>(rt: &HostRuntime, call: &Call<'a>) -> Result<u8, Failure<'a>> {
         name,
         &input,
         &mut regions,
-    )?;
+        &mut meter,
+    );
+    meter.clear();
+    let answer = answer?;
     if let Some(path) = call.output
-        && answer.succeeds
+        && answer.writes_file()
     {
         fs::write(rt, path, answer.file.as_slice()).map_err(|error| Failure::of(path, error))?;
     }

@@ -2,7 +2,7 @@
 ghost use Rattle.std.specs.Prelude.{◌≡◌, ◌≤◌, IfOk, IsTrue, length};
 ghost use Rattle.dma_mem.specs.Regions.{in_order, pieces_of};
 ghost use Rattle.dma330.specs.Answer.{printed_of};
-ghost use Rattle.dma330.specs.Replies.{Answers, Assembles, Explains, HexReplies, InputReplies, IsUnderName, Lists, Races, Replies, Traces, hex_refusal, program_of};
+ghost use Rattle.dma330.specs.Replies.{Answers, Assembles, Explains, HexReplies, InputReplies, IsUnderName, Lists, Races, RacesSeeds, Reasons, Replies, Traces, hex_refusal, program_of};
 
 use crate::answer::{Answer, named};
 use crate::command_line::Request;
@@ -14,10 +14,13 @@ use dma_manual::listing::disassemble;
 use dma_mem::regions::Region;
 use dma_seeds::race::race_by_seed;
 use dma_seeds::script::script_of_seed;
+use dma_seeds::seeds::{SeedRange, race_by_seeds};
 use dma_text::text::{HexByte, print};
 use dma_trace::explain::explain;
 use dma_trace::options::TraceOptions;
+use dma_trace::progress::Progress;
 use dma_trace::trace::trace;
+use dma_why::why::why;
 use std::alloc::{AllocError, Global};
 
 /// Returns what `dis` prints for a program.
@@ -68,12 +71,18 @@ fn assembly(alloc: Global, text: &[u8], to_file: bool) -> Result<Answer, AllocEr
 }
 
 /// Returns what `explain` prints for a program.
-fn explanation(alloc: Global, program: &[u8], bus: Bus, most: u32) -> Result<Answer, AllocError>
+fn explanation<P: Progress>(
+    alloc: Global,
+    program: &[u8],
+    bus: Bus,
+    most: u32,
+    progress: &mut P,
+) -> Result<Answer, AllocError>
     ensures { IfOk result (λ answer. Explains bus most program.now (printed_of answer)) }
 {
     let mut out = Vec::new(alloc);
     let mut err = Vec::new(alloc);
-    let succeeds = explain(alloc, program, bus, most, &mut out, &mut err)?;
+    let succeeds = explain(alloc, program, bus, most, &mut out, &mut err, progress)?;
     let file = Vec::new(alloc);
     Ok(Answer {
         out,
@@ -83,12 +92,13 @@ fn explanation(alloc: Global, program: &[u8], bus: Bus, most: u32) -> Result<Ans
     })
 }
 
-/// Returns what `trace` prints for a program over RAM.
-fn tracing(
+/// Returns what `trace` prints for a program over RAM, with the waveform for its file.
+fn tracing<P: Progress>(
     alloc: Global,
     program: &[u8],
     options: &TraceOptions,
     ram: &mut [Region<'_>],
+    progress: &mut P,
 ) -> Result<Answer, AllocError>
     requires { IsTrue (in_order (pieces_of ram.old)) }
     ensures { IfOk result (λ answer.
@@ -96,8 +106,10 @@ fn tracing(
 {
     let mut out = Vec::new(alloc);
     let mut err = Vec::new(alloc);
-    let succeeds = trace(alloc, program, ram, options, &mut out, &mut err)?;
-    let file = Vec::new(alloc);
+    let mut file = Vec::new(alloc);
+    let succeeds = trace(
+        alloc, program, ram, options, &mut out, &mut err, &mut file, progress,
+    )?;
     Ok(Answer {
         out,
         err,
@@ -123,12 +135,43 @@ fn racing(alloc: Global, script: &[u8], seed: u64) -> Result<Answer, AllocError>
     })
 }
 
+/// Returns what `race` prints for a script and a range of seeds.
+fn racing_seeds(alloc: Global, script: &[u8], seeds: SeedRange) -> Result<Answer, AllocError>
+    ensures { IfOk result (λ answer. RacesSeeds seeds script.now (printed_of answer)) }
+{
+    let mut out = Vec::new(alloc);
+    let succeeds = race_by_seeds(alloc, script, seeds, &mut out)?;
+    let err = Vec::new(alloc);
+    let file = Vec::new(alloc);
+    Ok(Answer {
+        out,
+        err,
+        file,
+        succeeds,
+    })
+}
+
+/// Returns what `why` prints for a script.
+fn reasons(alloc: Global, script: &[u8]) -> Result<Answer, AllocError>
+    ensures { IfOk result (λ answer. Reasons script.now (printed_of answer)) }
+{
+    let mut out = Vec::new(alloc);
+    let succeeds = why(alloc, script, &mut out)?;
+    Ok(Answer {
+        out,
+        err: Vec::new(alloc),
+        file: Vec::new(alloc),
+        succeeds,
+    })
+}
+
 /// Returns what a request prints for a program.
-fn reply(
+fn reply<P: Progress>(
     alloc: Global,
     request: &Request,
     input: &[u8],
     ram: &mut [Region<'_>],
+    progress: &mut P,
 ) -> Result<Answer, AllocError>
     requires { IsTrue (in_order (pieces_of ram.old)) }
     ensures { IfOk result (λ answer.
@@ -137,9 +180,11 @@ fn reply(
     match request {
         Request::Dis { at } => listing(alloc, input, *at),
         Request::Asm { to_file } => assembly(alloc, input, *to_file),
-        Request::Explain { bus, most } => explanation(alloc, input, *bus, *most),
-        Request::Trace(options) => tracing(alloc, input, options, ram),
+        Request::Explain { bus, most } => explanation(alloc, input, *bus, *most, progress),
+        Request::Trace(options) => tracing(alloc, input, options, ram, progress),
         Request::Race { seed } => racing(alloc, input, *seed),
+        Request::RaceSeeds(seeds) => racing_seeds(alloc, input, *seeds),
+        Request::Why => reasons(alloc, input),
     }
 }
 
@@ -173,38 +218,40 @@ fn hex_refusal(alloc: Global, text: &[u8], at: usize) -> Result<Answer, AllocErr
 }
 
 /// Returns what a request prints for a program in hexadecimal text.
-fn hex_reply(
+fn hex_reply<P: Progress>(
     alloc: Global,
     request: &Request,
     text: &[u8],
     ram: &mut [Region<'_>],
+    progress: &mut P,
 ) -> Result<Answer, AllocError>
     requires { IsTrue (in_order (pieces_of ram.old)) }
     ensures { IfOk result (λ answer.
         HexReplies request.now ram.old text.now (printed_of answer)) }
 {
     match read_hexadecimal(alloc, text)? {
-        Ok(program) => reply(alloc, request, &program, ram),
+        Ok(program) => reply(alloc, request, &program, ram, progress),
         Err(at) => hex_refusal(alloc, text, at),
     }
 }
 
 /// Returns what a request prints for its input.
-fn input_reply(
+fn input_reply<P: Progress>(
     alloc: Global,
     request: &Request,
     is_hex: bool,
     input: &[u8],
     ram: &mut [Region<'_>],
+    progress: &mut P,
 ) -> Result<Answer, AllocError>
     requires { IsTrue (in_order (pieces_of ram.old)) }
     ensures { IfOk result (λ answer.
         InputReplies request.now is_hex ram.old input.now (printed_of answer)) }
 {
     if is_hex {
-        hex_reply(alloc, request, input, ram)
+        hex_reply(alloc, request, input, ram, progress)
     } else {
-        reply(alloc, request, input, ram)
+        reply(alloc, request, input, ram, progress)
     }
 }
 
@@ -228,18 +275,19 @@ fn under_name(alloc: Global, name: &str, answer: Answer) -> Result<Answer, Alloc
 }
 
 /// Returns the answer to a request. Fails if memory runs out.
-pub fn answer(
+pub fn answer<P: Progress>(
     alloc: Global,
     request: &Request,
     is_hex: bool,
     name: &str,
     input: &[u8],
     ram: &mut [Region<'_>],
+    progress: &mut P,
 ) -> Result<Answer, AllocError>
     requires { IsTrue (in_order (pieces_of ram.old)) }
     ensures { IfOk result (λ answer.
         Answers request.now is_hex name.now ram.old input.now (printed_of answer)) }
 {
-    let replied = input_reply(alloc, request, is_hex, input, ram)?;
+    let replied = input_reply(alloc, request, is_hex, input, ram, progress)?;
     under_name(alloc, name, replied)
 }

@@ -123,11 +123,13 @@ fn printing_options<'a>(alloc: Global) -> Result<Vec<Arg<'a>>, AllocError> {
     let from = "Print from instruction N on, counted from 1 [default: 1]";
     let count = "Print at most N instructions [default: all]";
     let dump = "Print these bytes after the end";
+    let vcd = "Write the waveform of the whole run, up to --limit, as a Value Change Dump";
     let args = [
         option(alloc, "from", "N", from),
         option(alloc, "count", "N", count),
         flag(alloc, "quiet", "Print no instruction, only the end"),
         options(alloc, "dump", "ADDRESS+LENGTH", dump),
+        option(alloc, "vcd", "FILE", vcd),
     ];
     Ok(Vec::from_array(alloc, args)?)
 }
@@ -148,14 +150,34 @@ fn trace<'a>(alloc: Global) -> Result<Command<'a>, AllocError> {
 fn race<'a>(alloc: Global) -> Result<Command<'a>, AllocError> {
     let about =
         "Executes a script of dmasim race in one thread, with its turns in the order of a seed";
-    let example = "Example:\n  dma330 race --seed 7 --script seven.dma examples/race.dma\n  \
-        dmasim run < seven.dma";
-    let seed = option(alloc, "seed", "N", "What the order is drawn from").required(true);
+    let example = "Examples:\n  dma330 race --seed 7 --script seven.dma examples/race.dma\n  \
+        dmasim run < seven.dma\n  dma330 race --seeds 0-999 examples/conflict.dma";
+    let seed = option(alloc, "seed", "N", "What the order is drawn from").required_unless_present(
+        "seeds",
+    )?;
+    let what = "Take each of these seeds, and print which outputs they give";
+    let seeds = option(alloc, "seeds", "FIRST-LAST", what)
+        .conflicts_with("seed")?
+        .conflicts_with("script")?;
     let what = "Write the same as a script of dmasim run, with the turns as step lines";
     let script = option(alloc, "script", "FILE", what);
     let text = file(alloc, "The script; standard input if it is - or missing");
-    let args = Vec::from_array(alloc, [seed, script, text])?;
+    let args = Vec::from_array(alloc, [seed, seeds, script, text])?;
     command(alloc, "race", about, example, args)
+}
+
+/// Returns the command of `why`.
+fn why<'a>(alloc: Global) -> Result<Command<'a>, AllocError> {
+    let about = "Executes a script of dmasim run, and prints why each channel is where it is";
+    let example = "Example:\n  dma330 why examples/circle.dma";
+    let text = file(alloc, "The script; standard input if it is - or missing");
+    command(
+        alloc,
+        "why",
+        about,
+        example,
+        Vec::from_array(alloc, [text])?,
+    )
 }
 
 /// Returns the command of the program.
@@ -174,5 +196,6 @@ pub fn dma330<'a>(alloc: Global) -> Result<Command<'a>, AllocError> {
         .subcommand(asm(alloc)?)?
         .subcommand(explain(alloc)?)?
         .subcommand(trace(alloc)?)?
-        .subcommand(race(alloc)?)
+        .subcommand(race(alloc)?)?
+        .subcommand(why(alloc)?)
 }

@@ -1,5 +1,6 @@
 //! The values of options: numbers, ranges of addresses, and ranges of seeds.
 use dma_mem::segment::Segment;
+use dma_seeds::seeds::SeedRange;
 
 /// RAM of a trace: a range of addresses, and the file whose bytes it begins with, if any.
 #[derive(Clone, Copy, Debug)]
@@ -40,4 +41,14 @@ pub fn ram_range(word: &str) -> Option<RamRange<'_>> {
             file: None,
         }),
     }
+}
+
+/// Returns the range of seeds that a word spells: `FIRST-LAST`, with FIRST at most LAST.
+pub fn seed_range(word: &str) -> Option<SeedRange> {
+    let (first, last) = word.split_once('-')?;
+    let seeds = SeedRange {
+        first: number(first)?,
+        last: number(last)?,
+    };
+    (seeds.first <= seeds.last).then_some(seeds)
 }

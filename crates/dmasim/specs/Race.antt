@@ -1,6 +1,5 @@
 -- What the program may print for a race script (profile). The workers take their turns in any order, so the input
--- doesn't determine the output. It is that of a `run` in which an interleaving of the jobs' turns stands in place of
--- `go`.
+-- doesn't determine the output. It is that of a `run` in which an interleaving of the jobs' turns is in place of `go`.
 use Rattle.std.specs.Prelude.{◌≡◌, ℕ, ◌⊎◌, Bool, true, false, if◌then◌else◌, List, [], ◌∷◌, ◌++◌, length, map, Result, Ok, Err, codes, decimal}
 use Rattle.dma_mem.specs.declared.call.Call.TheVariants as calls
 use Rattle.dma_engine.specs.declared.fault.EngineFault.{EngineFault}

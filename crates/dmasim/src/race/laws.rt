@@ -2,7 +2,7 @@
 
 ghost use Rattle.dmasim.specs.Race.{RacesAreRuns};
 
-/// A race is a run in which step lines stand in place of `go`: those of the turns that weren't out of memory.
+/// A race is a run in which step lines are in place of `go`: those of the turns that weren't out of memory.
 pub fn races_are_runs()
     ensures { RacesAreRuns }
 {}

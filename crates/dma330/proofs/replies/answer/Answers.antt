@@ -4,6 +4,6 @@ use Rattle.dma330.specs.Answer.{printed_of}
 use Rattle.dma330.proofs.replies.answer.Goals as goal
 
 pub returns : goal.returns
-returns c =
+returns g c =
     IfOk-weaker c.under_name.result _ _
     (λ shown under. (printed_of c.in_ok-replied.replied, c.in_ok-replied.ensures, under)) c.under_name.ensures
