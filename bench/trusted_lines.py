@@ -212,7 +212,8 @@ def sentences_of(found):
     for command in ("run_script", "asm_main", "dis_main", "dma330_device_step", *explaining):
         lines, _, files = total(cited(file_of(command), command, []), "specs")
         yield trust, f"of `{command}` some {tens(lines)} lines in {files} files"
-    replies = [(CRATES / "dma330/src/replies.rt", it) for it in ("listing", "assembly", "explanation", "tracing", "racing")]
+    functions = ("listing", "assembly", "explanation", "tracing", "racing", "racing_seeds", "reasons")
+    replies = [(CRATES / "dma330/src/replies.rt", it) for it in functions]
     for file, function in (CRATES / "dma_chan/src/explain.rt", "explain"), *replies:
         lines, _, files = total(cited(file, function, []), "specs")
         yield trust, f"of `{function}` some {tens(lines)} lines in {files} files"

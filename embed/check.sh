@@ -67,17 +67,17 @@ cargo_lines='/^test result: / {p += $4; f += $6} END {print p + 0, f + 0}'
 
 # header COMPILER FLAG..: succeeds if each header alone compiles without a warning
 header() {
-    printf '#include "dma330.h"\n' | "$@" -pedantic-errors -Wall -Wextra -Werror -fsyntax-only -Ic - &&
+    printf '#include "dma330.h"\n' | "$@" -pedantic-errors -Wall -Wextra -Werror -fsyntax-only -Iinclude - &&
         printf '#include "dma330_program.h"\nextern const unsigned char program[6];
             const unsigned char program[6] = {DMA330_DMAMOV_CCR(DMA330_CCR_COPY(16, 4))};\n' |
-        "$@" -pedantic-errors -Wall -Wextra -Werror -fsyntax-only -Ic -
+        "$@" -pedantic-errors -Wall -Wextra -Werror -fsyntax-only -Iinclude -
 }
 
 # names: succeeds if the archive exports the names that the header declares, and no others except those of the kit's
 # heap
 names() {
     nm -g --defined-only "$LIB" | awk 'NF == 3 && $3 !~ /^rattle_(alloc|realloc|dealloc)$/ {print $3}' | sort >"$out/exported"
-    sed -n 's/^[a-z0-9_]* \(dma330_[a-z_]*\)(.*/\1/p' c/dma330.h | sort >"$out/declared"
+    sed -n 's/^[a-z0-9_]* \(dma330_[a-z_]*\)(.*/\1/p' include/dma330.h | sort >"$out/declared"
     diff "$out/exported" "$out/declared"
 }
 
@@ -98,19 +98,19 @@ named() {
             if (kind == "dma330_csr") print "    CHECK(dma330_csr_name(" $1 "), \"" substr(name, 5) "\");"
             if (kind == "dma330_ftr") print "    CHECK(dma330_ftr_name(" $1 "), \"" substr(name, 5) "\");"
             if (kind == "dma330_ftrd") print "    CHECK(dma330_ftrd_name(" $1 "), \"" substr(name, 6) "\");"
-        }' c/dma330.h
+        }' include/dma330.h
         printf '    CHECK(dma330_code_name(1), "?");\n    CHECK(dma330_code_name(-63), "?");\n'
         printf '    CHECK(dma330_cause_name(6), "?");\n    CHECK(dma330_fault_name(0), "?");\n'
         printf '    CHECK(dma330_ftr_name(4), "?");\n    CHECK(dma330_csr_name(0x21F4), "WAITING_FOR_EVENT");\n'
         printf '    return 0;\n}\n'
     } >"$out/named.c"
     [ "$(grep -c '^ .*CHECK(' "$out/named.c")" -gt 110 ] &&
-        $CC -std=c99 -Wall -Wextra -Werror -Ic -o "$out/named" "$out/named.c" && "$out/named"
+        $CC -std=c99 -Wall -Wextra -Werror -Iinclude -o "$out/named" "$out/named.c" && "$out/named"
 }
 
-# example COMMAND..: succeeds if the command prints the text of c/example.txt
+# example COMMAND..: succeeds if the command prints the text of examples/example.txt
 example() {
-    "$@" >"$out/printed" && diff "$out/printed" c/example.txt
+    "$@" >"$out/printed" && diff "$out/printed" examples/example.txt
 }
 
 # waveform FILE: succeeds if the times of a waveform rise, and each change is of a declared signal and as wide
@@ -133,10 +133,10 @@ refused() {
     [ $? -eq 2 ] && [ ! -s "$out/printed" ] && [ -s "$out/said" ]
 }
 
-# driver PROGRAM: succeeds if the test of a driver prints the text of c/example_driver.txt, writes a waveform, also
-# passes with other seeds, and refuses wrong options
+# driver PROGRAM: succeeds if the test of a driver prints the text of examples/example_driver.txt, writes a waveform,
+# also passes with other seeds, and refuses wrong options
 driver() {
-    "$1" --vcd "$out/driver.vcd" >"$out/printed" && diff "$out/printed" c/example_driver.txt &&
+    "$1" --vcd "$out/driver.vcd" >"$out/printed" && diff "$out/printed" examples/example_driver.txt &&
         waveform "$out/driver.vcd" && [ "$("$1" --seeds 2-20)" = "0 of 19 seeds failed" ] || return 1
     for it in 1x x -1 '' 4294967296; do
         refused "$1" --seed "$it" && refused "$1" --seeds "1-$it" || return 1
@@ -145,8 +145,8 @@ driver() {
         refused "$1" --seeds 1-2 --vcd "$out/driver.vcd"
 }
 
-# guide: succeeds if the code of EMBEDDING.md compiles as it is, and does what the document says; in c/guide.c.in a line
-# `@block NUMBER HEADING` is that block of code below that heading
+# guide: succeeds if the code of EMBEDDING.md compiles as it is, and does what the document says; in tests/guide.c.in a
+# line `@block NUMBER HEADING` is that block of code below that heading
 guide() {
     awk '
         FNR == 1 {file++}
@@ -159,8 +159,8 @@ guide() {
         file == 1 {blank = /^$/ ? "\n" : ""; if (!/^$/ && !/^    /) inside = 0; next}
         sub(/^@block /, "") {if (!($0 in code)) exit 1; printf "%s", code[$0]; next}
         {print}
-    ' ../docs/EMBEDDING.md c/guide.c.in >"$out/guide.c" &&
-        $CC -std=c99 -Wall -Wextra -Werror -Ic -o "$out/guide" "$out/guide.c" "$LIB" && "$out/guide"
+    ' ../docs/EMBEDDING.md tests/guide.c.in >"$out/guide.c" &&
+        $CC -std=c99 -Wall -Wextra -Werror -Iinclude -o "$out/guide" "$out/guide.c" "$LIB" && "$out/guide"
 }
 
 # readme_lines: writes the README's lines of C as a program, which fails unless they copy the bytes that they write
@@ -238,8 +238,7 @@ uninstalled() {
 # staged: succeeds if DESTDIR is put in front of the paths of the installed files, and does not appear inside the files
 staged() {
     install_in PREFIX=/opt/dma330 DESTDIR="$PWD/$out/staged" &&
-        cmp c/dma330.h "$out/staged/opt/dma330/include/dma330.h" && cmp "$LIB" "$out/staged/opt/dma330/lib/libdma330.a" &&
-        cmp c/dma330_program.h "$out/staged/opt/dma330/include/dma330_program.h" &&
+        diff -r include "$out/staged/opt/dma330/include" && cmp "$LIB" "$out/staged/opt/dma330/lib/libdma330.a" &&
         grep -qx prefix=/opt/dma330 "$out/staged/opt/dma330/lib/pkgconfig/dma330.pc" &&
         ! grep -r "$out" "$out/staged"
 }
@@ -265,7 +264,8 @@ qemu_stubs() {
         mkdir -p "$out/qemu/$(dirname "$it")"
         echo '#include "stubs.h"' >"$out/qemu/$it"
     done
-    stubs="-std=gnu11 -O1 -Wall -Wextra -Wno-unused-parameter -Werror -DQEMU_VERSION_MAJOR=$1 -I$out/qemu -Iqemu -Ic"
+    stubs="-std=gnu11 -O1 -Wall -Wextra -Wno-unused-parameter -Werror -I$out/qemu -Iqemu -Iinclude"
+    stubs="$stubs -DQEMU_VERSION_MAJOR=$1"
     $CC $stubs -fsyntax-only qemu/dma330.c &&
         $CC $stubs -ffunction-sections -fdata-sections -Wl,--gc-sections -o "$out/lend_test" qemu/lend_test.c &&
         "$out/lend_test"
@@ -277,44 +277,48 @@ qemu_headers() {
     command=$(sed -n 's|^ *"command": "\(.*\) -c [^ ]*/hw/dma/dma330\.c",$|\1|p' "$1/build/compile_commands.json" |
         sed 's/\\\(["\\]\)/\1/g')
     [ -n "$command" ] || return 1
-    c=$PWD/c
+    include=$PWD/include
     device=$PWD/qemu/dma330.c
     (cd "$1/build" &&
-        eval "$command -Werror -fsyntax-only -iquote ../source/hw/dma -iquote \"\$c\" -c \"\$device\"")
+        eval "$command -Werror -fsyntax-only -iquote ../source/hw/dma -iquote \"\$include\" -c \"\$device\"")
+}
+
+# calls: succeeds if the .test files have calls of dmasim for the tests in C
+calls() {
+    ../tests/rows --plain >"$out/calls" && [ "$(grep -ac '^\$ ' "$out/calls")" -gt 300 ]
 }
 
 # in_c SET COMPILER FLAG..: builds the programs with these flags, and runs them
 in_c() {
     set=$1
     shift
+    compiler=$*
     to=$out/$set
     mkdir "$to"
-    rows="c/lines.c c/words.c c/rows.c c/readings.c"
-    make_it "$set abi.c" "$@" -o "$to/abi" c/abi.c "$LIB" && try "$set abi.c" "$to/abi"
-    make_it "$set example.c" "$@" -o "$to/example" c/example.c "$LIB" && try "$set example.c" example "$to/example"
-    make_it "$set example_driver.c" "$@" -pedantic -o "$to/driver" c/example_driver.c c/harness*.c "$LIB" &&
+    make_it "$set example.c" "$@" -o "$to/example" examples/example.c "$LIB" &&
+        try "$set example.c" example "$to/example"
+    make_it "$set example_driver.c" "$@" -pedantic -o "$to/driver" $driver "$LIB" &&
         try "$set example_driver.c" driver "$to/driver"
-    make_it "$set threads.c" "$@" -pthread -o "$to/threads" c/threads.c "$LIB" && try "$set threads.c" "$to/threads"
-    make_it "$set walk.c" "$@" -o "$to/walk" c/walk.c $rows "$LIB" &&
-        count "$set walk.c" "$last_line" "$to/walk" rows.txt
-    wrap=-Wl,--wrap=malloc,--wrap=realloc,--wrap=free
+    make_it "$set threads.c" "$@" -pthread -o "$to/threads" examples/threads.c "$LIB" &&
+        try "$set threads.c" "$to/threads"
+    counted walk "$rows" $lines
+    counted refuse "$rows" $lines $heap
+    counted channels tests/channels.txt tests/words.c tests/rows.c $heap
     for it in device_test device_bursts device_registers device_saves device_wild explaining; do
-        make_it "$set $it.c" "$@" $wrap -o "$to/$it" "c/$it.c" c/guest.c c/heap.c "$LIB" &&
-            count "$set $it.c" "$last_line" "$to/$it"
+        counted $it "" tests/guest.c $heap
     done
-    drivers="c/drivers.c c/driver_changes.c c/driver_memory.c c/driver_programs.c c/driver_runs.c"
-    make_it "$set drivers.c" "$@" $wrap -o "$to/drivers" $drivers c/guest.c c/heap.c "$LIB" &&
-        count "$set drivers.c" "$last_line" "$to/drivers"
-    make_it "$set refuse.c" "$@" $wrap -o "$to/refuse" c/refuse.c c/heap.c $rows "$LIB" &&
-        count "$set refuse.c" "$last_line" "$to/refuse" rows.txt
-    make_it "$set channels.c" "$@" $wrap -o "$to/channels" c/channels.c c/heap.c c/words.c c/rows.c "$LIB" &&
-        count "$set channels.c" "$last_line" "$to/channels" channels.txt
-    make_it "$set pages.c" "$@" -Wl,--wrap=malloc,--wrap=realloc -o "$to/pages" c/pages.c "$LIB" &&
-        count "$set pages.c" "$last_line" "$to/pages"
-    make_it "$set totals.c" "$@" -o "$to/totals" c/totals.c "$LIB" && count "$set totals.c" "$last_line" "$to/totals"
-    make_it "$set texts.c" "$@" -o "$to/texts" c/texts.c "$LIB" && count "$set texts.c" "$last_line" "$to/texts"
-    make_it "$set program_bytes.c" "$@" -o "$to/program_bytes" c/program_bytes.c "$LIB" &&
-        count "$set program_bytes.c" "$last_line" "$to/program_bytes"
+    counted drivers "" tests/driver_*.c tests/guest.c $heap
+    counted pages "" $heap
+    counted program_bytes ""
+}
+
+# counted NAME ROWS SOURCE..: builds the test of this name with further files, and counts its checks on files of rows
+counted() {
+    test=$1
+    files=$2
+    shift 2
+    make_it "$set $test.c" $compiler -o "$to/$test" "tests/$test.c" "$@" "$LIB" &&
+        count "$set $test.c" "$last_line" "$to/$test" $files
 }
 
 # with_sanitizers: does the same with sanitizers, if the compiler has them and programs with them run here
@@ -332,20 +336,25 @@ in_cxx() {
     for standard in c++98 c++17; do
         try "dma330.h in $standard" header $CXX -x c++ -std=$standard
     done
-    make_it "example.c in C++" $CXX -x c++ -O2 -Wall -Wextra -Ic -o "$out/example_cxx" c/example.c -x none "$LIB" &&
+    cxx="-x c++ -O2 -Wall -Wextra -Iinclude"
+    make_it "example.c in C++" $CXX $cxx -o "$out/example_cxx" examples/example.c -x none "$LIB" &&
         try "example.c in C++" example "$out/example_cxx"
-    cxx="-x c++ -std=c++11 -O2 -Wall -Wextra -pedantic -Werror -Ic"
-    make_it "example_driver.c in C++" $CXX $cxx -o "$out/driver_cxx" c/example_driver.c c/harness*.c -x none "$LIB" &&
+    cxx="$cxx -std=c++11 -pedantic -Werror"
+    make_it "example_driver.c in C++" $CXX $cxx -o "$out/driver_cxx" $driver -x none "$LIB" &&
         try "example_driver.c in C++" driver "$out/driver_cxx"
 }
 
-c_flags="-std=c99 -O2 -g -Wall -Wextra -Ic"
+c_flags="-std=c99 -O2 -g -Wall -Wextra -Iinclude"
+driver="-Iharness examples/example_driver.c harness/*.c"
+rows="tests/rows.txt $out/calls"
+lines="tests/lines.c tests/calls.c tests/words.c tests/rows.c tests/readings.c"
+heap="tests/heap.c -Wl,--wrap=malloc,--wrap=realloc,--wrap=free"
 if has "$CC"; then
     for standard in c89 c99 c11; do
         try "dma330.h in $standard" header $CC -x c -std=$standard
     done
-    c89="-std=c89 -pedantic-errors -Wall -Wextra -Ic"
-    make_it "example.c in C89" $CC $c89 -o "$out/example_89" c/example.c "$LIB" &&
+    c89="-std=c89 -pedantic-errors -Wall -Wextra -Iinclude"
+    make_it "example.c in C89" $CC $c89 -o "$out/example_89" examples/example.c "$LIB" &&
         try "example.c in C89" example "$out/example_89"
     if has nm; then
         try "names of the library" names
@@ -353,7 +362,7 @@ if has "$CC"; then
         echo "there is no nm: the comparison of the names that the library exports is left out"
     fi
     try "names of numbers" named
-    try "README.md" readme -Ic "$LIB"
+    try "README.md" readme -Iinclude "$LIB"
     try "EMBEDDING.md" guide
     try "qemu device with stubs of QEMU 7.2" qemu_stubs 7
     try "qemu device with stubs of QEMU 10.0" qemu_stubs 10
@@ -365,8 +374,10 @@ if has "$CC"; then
     else
         echo "there is no make: the tests of what it installs are left out"
     fi
+    try "calls of dmasim" calls
     in_c plain $CC $c_flags
-    count "wrong drivers" "$last_line" env "CC=$CC" "FLAGS=$c_flags" ./wrong_drivers.sh "$LIB" "$out/wrong"
+    kit_flags="$c_flags -Iharness"
+    count "wrong drivers" "$last_line" env "CC=$CC" "FLAGS=$kit_flags" tests/wrong_drivers.sh "$LIB" "$out/wrong"
     with_sanitizers
     if has "$CXX"; then
         in_cxx

@@ -30,7 +30,7 @@ rustdoc() {
 # header: builds the pages of dma330.h
 header() {
     rm -rf out/doc/c
-    (cd c && doxygen Doxyfile)
+    (cd doc && doxygen Doxyfile)
 }
 
 if ! command -v "${CARGO:-cargo}" >/dev/null 2>&1; then

@@ -10,7 +10,7 @@ top=$(dirname "$here")
 what=$1
 only=${2:-}
 to=${DESTDIR:-}$PREFIX
-version=$(sed -n 's/^#define DMA330_VERSION_[MP][A-Z]* //p' "$here/c/dma330.h" | paste -s -d .)
+version=$(sed -n 's/^#define DMA330_VERSION_[MP][A-Z]* //p' "$here/include/dma330.h" | paste -s -d .)
 major=${version%%.*}
 programs="dmasim dma330"
 [ "$only" != library ] || programs=
@@ -64,7 +64,7 @@ find_archive() {
 }
 
 install_library() {
-    for it in "$here"/c/dma330*.h; do
+    for it in "$here"/include/*.h; do
         put 644 "$it" "include/$(basename "$it")"
     done
     put 644 "$archive" lib/libdma330.a
@@ -79,7 +79,7 @@ install_library() {
     fill_in dma330.pc.in lib/pkgconfig/dma330.pc
     fill_in dma330-config.cmake.in lib/cmake/dma330/dma330-config.cmake
     fill_in dma330-config-version.cmake.in lib/cmake/dma330/dma330-config-version.cmake
-    awk -v version="$version" -f "$here/c/page.awk" "$here/c/dma330.h" >"$room/page"
+    awk -v version="$version" -f "$here/doc/page.awk" "$here/include/dma330.h" >"$room/page"
     put 644 "$room/page" share/man/man3/dma330.3
 }
 
@@ -108,7 +108,7 @@ uninstall() {
     for it in $programs; do
         rm -f "$to/bin/$it" "$to/share/man/man1/$it.1"
     done
-    for it in "$here"/c/dma330*.h; do
+    for it in "$here"/include/*.h; do
         rm -f "$to/include/$(basename "$it")"
     done
     rm -f "$to/lib/libdma330.a" "$to/lib/libdma330.so" "$to"/lib/libdma330.so.[0-9]* "$to/lib/pkgconfig/dma330.pc" \

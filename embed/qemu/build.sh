@@ -99,7 +99,7 @@ if ! [ -f qemu-stock ]; then
     build qemu-stock
 fi
 
-cp "$here/dma330.c" "$here/../c/dma330.h" "$dma/"
+cp "$here/dma330.c" "$here/../include/dma330.h" "$dma/"
 cp "$lib" "$dma/libdma330.a"
 device="[files('dma330.c'), declare_dependency(link_args: meson.current_source_dir() / 'libdma330.a')]"
 sed "s|files('pl330.c')|$device|" "$dma/meson.build.stock" >"$dma/meson.build"

@@ -1,6 +1,6 @@
-/* A guest meets a transfer while it runs: the device's property step-ns is STEP_NS. It looks at a running copy, stops
+/* A guest finds a transfer while it runs: the device's property step-ns is STEP_NS. It looks at a running copy, stops
  * it, measures a whole one, and stops one that waits for an event which nobody sends. With EXACT=1, which needs
- * -icount, it must meet the copy, and the measured time is also bounded from above. */
+ * -icount, it must find the copy, and the measured time is also bounded from above. */
 #include "guest.h"
 
 #ifndef STEP_NS

@@ -1,6 +1,6 @@
 //! A copy from submit to finish, and then a device in the loop of an emulator: a guest's register writes submit copies,
-//! the main loop steps them, and the guest polls for completion. It prints the text of ../c/example.txt, as the example
-//! in C does.
+//! the main loop steps them, and the guest polls for completion. It prints the text of ../../examples/example.txt, as the
+//! example in C does.
 
 use dma330::{Controller, Error, Events, Segment, Status, TransferResult, Turn};
 

@@ -1,6 +1,6 @@
 //! The calls of the library, as it exports them; all `unsafe` code of the crate is here.
 //!
-//! What the library requires of its caller (docs/EMBEDDING.md), and why each call below meets it:
+//! What the library requires of its caller (docs/EMBEDDING.md), and why each call below keeps it:
 //!
 //! - A controller is zeroed before it is opened, its members are never touched, and an open one is never copied:
 //!   [`Handle`] starts with zeros, gives nobody access to its members, and is neither `Copy` nor `Clone`. After a

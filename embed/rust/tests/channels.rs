@@ -4,9 +4,9 @@
 mod words;
 
 use dma330::{assemble, Channel, ChannelSteps, ChannelTurn, Error, MarkKind, Region, Segment};
-use words::{error_text, groups, hex, name, nothing, Words};
+use words::{answer, groups, hex, lower, nothing, Words};
 
-const ROWS: &str = include_str!("../../channels.txt");
+const ROWS: &str = include_str!("../../tests/channels.txt");
 
 #[derive(Clone, Copy, PartialEq)]
 enum Way {
@@ -42,10 +42,10 @@ struct Runner {
 }
 
 fn steps_text(steps: ChannelSteps) -> String {
-    let word = name(steps.last);
+    let word = lower(steps.last);
     let rest = match steps.last {
         ChannelTurn::Waiting { event } | ChannelTurn::Signalled { event } => format!(" {event}"),
-        ChannelTurn::Fault { fault } => format!(" {}", name(fault)),
+        ChannelTurn::Fault { fault } => format!(" {fault:?}"),
         ChannelTurn::NoStep | ChannelTurn::Moved | ChannelTurn::Ended => String::new(),
     };
     let written = steps.written;
@@ -159,7 +159,7 @@ impl Runner {
                 (0..).zip(bytes).for_each(|(n, byte)| self.rest(addr + n)[0] = byte);
             }
             "peek" => {
-                let (addr, len) = (words.number(), words.number());
+                let Segment { addr, len } = words.segment();
                 return Some(hex(&(0..len).map(|n| self.rest(addr + n)[0]).collect::<Vec<u8>>()));
             }
             "equal" => {
@@ -190,7 +190,7 @@ impl Runner {
             "step" | "call" => self.step(words.number()).map(steps_text),
             "registers" => Ok(self.registers()),
             "mark" => {
-                let (kind, range) = (words.kind(), Segment::new(words.number(), words.number()));
+                let (kind, range) = (words.kind(), words.segment());
                 self.channel().mark(kind, range)?;
                 self.marks.push((kind, range));
                 Ok(String::new())
@@ -223,13 +223,13 @@ impl Runner {
         match call {
             "load_copy" => {
                 let src = words.list();
-                assert_eq!(words.next(), "to");
-                channel.load_copy(&src, &words.list(), words.events())
+                let (dst, events) = words.to_list();
+                channel.load_copy(&src, &dst, events)
             }
             "load_fill" => {
                 let src = words.number();
-                assert_eq!(words.next(), "to");
-                channel.load_fill(src, &words.list(), words.events())
+                let (dst, events) = words.to_list();
+                channel.load_fill(src, &dst, events)
             }
             "load_program" => channel.load_program(&words.bytes()),
             "load_text" => channel.load_program(&assemble(&words.text()).expect("a program")),
@@ -240,11 +240,7 @@ impl Runner {
 
     fn carry_out(&mut self, line: &str) -> String {
         let (word, rest) = line.split_once(' ').unwrap_or((line, ""));
-        let answer = self.act(word, Words(rest)).map_or_else(|| self.call(word, Words(rest)), Ok);
-        match answer {
-            Ok(more) => format!("OK {more}").trim_end().into(),
-            Err(error) => error_text(error),
-        }
+        answer(self.act(word, Words(rest)).map_or_else(|| self.call(word, Words(rest)), Ok))
     }
 }
 

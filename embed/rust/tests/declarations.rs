@@ -182,7 +182,7 @@ fn kind_of_c(declaration: &str) -> String {
 }
 
 fn calls_of_header() -> Calls {
-    let text = without_comments(&text_of(&repository().join("embed/c/dma330.h")));
+    let text = without_comments(&text_of(&repository().join("embed/include/dma330.h")));
     let mut structs = Structs::new();
     for after in text.split("typedef struct ").skip(1) {
         let (name, rest) = after.split_once('{').expect("fields");
@@ -225,7 +225,7 @@ fn the_crate_declares_what_the_library_exports() {
 
 #[test]
 fn the_crate_has_the_version_of_the_header() {
-    let header = text_of(&repository().join("embed/c/dma330.h"));
+    let header = text_of(&repository().join("embed/include/dma330.h"));
     let number = |word: &str| {
         let define = format!("#define DMA330_VERSION_{word} ");
         between(&header, &define, "\n").expect("the header has it").0.to_string()
@@ -236,7 +236,7 @@ fn the_crate_has_the_version_of_the_header() {
 #[test]
 fn the_header_has_the_codes_of_the_library() {
     let library = text_of(&repository().join("crates/dma_ffi/src/codes.rt"));
-    let header = text_of(&repository().join("embed/c/dma330.h"));
+    let header = text_of(&repository().join("embed/include/dma330.h"));
     let codes: Vec<(&str, &str)> = library
         .lines()
         .filter_map(|line| line.strip_prefix("pub const ")?.strip_suffix(';')?.split_once(": i32 = "))

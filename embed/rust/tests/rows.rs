@@ -1,42 +1,42 @@
-//! Runs the rows of rows.txt on the type `Controller`, as the tests in C do on the library.
+//! Carries out the calls of dmasim in the .test files and the rows of rows.txt by this crate, as the tests in C do by the
+//! library.
 
 mod words;
 
-use dma330::{Controller, Error, Explanation, Outcome, RunEnd, Segment, Steps, Turn};
-use words::{error_text, groups, hex, name, nothing, small, Words};
+use dma330::{AssemblyFault, Bus, Controller, DisassemblyFault, Error, Explanation, Outcome, RunEnd, Steps, Turn};
+use std::process::Command;
+use words::{answer, groups, hex, lower, name, nothing, small, Transfer, Words};
 
-const ROWS: &str = include_str!("../../rows.txt");
+const ROWS: &str = include_str!("../../tests/rows.txt");
 const RAM: usize = 1 << 16;
+// The most steps to take that change nothing.
+const IDLE: u32 = 100;
 
 fn outcome_text(outcome: Outcome) -> String {
-    format!("{} {}", name(outcome.result), outcome.residue)
+    format!("{:?} residue {}", outcome.result, outcome.residue)
 }
 
 fn turn_text(turn: Option<Turn>) -> String {
     let Some(turn) = turn else {
-        return "NO_STEP".into();
+        return "no_step".into();
     };
-    let name = name(turn);
+    let word = lower(turn);
     match turn {
-        Turn::Started { cookie } => format!("{name} {cookie}"),
-        Turn::Held { channel, cookie } => format!("{name} {channel} {cookie}"),
-        Turn::Waiting { event } => format!("{name} {event}"),
-        Turn::Finished { cookie, outcome } => format!("{name} {cookie} {}", outcome_text(outcome)),
-        Turn::Moved | Turn::Nothing | Turn::Paused | Turn::Halted => name,
+        Turn::Started { cookie } => format!("{word} {cookie}"),
+        Turn::Held { channel, cookie } => format!("{word} {channel} {cookie}"),
+        Turn::Waiting { event } => format!("{word} {event}"),
+        Turn::Finished { cookie, outcome } => format!("{word} {cookie} {}", outcome_text(outcome)),
+        Turn::Moved | Turn::Nothing | Turn::Paused | Turn::Halted => word,
     }
 }
 
-fn steps_text(steps: Steps) -> String {
-    format!("{} {}", steps.taken, turn_text(steps.last))
-}
-
 fn end_text(end: RunEnd) -> String {
-    let word = name(end);
+    let word = lower(end);
     match end {
         RunEnd::Ended { turns } => format!("{word} {turns}"),
         RunEnd::OutOfTurns => word,
         RunEnd::Waiting { event } => format!("{word} {event}"),
-        RunEnd::Fault { fault, pc } => format!("{word} {} {pc}", name(fault)),
+        RunEnd::Fault { fault, pc } => format!("{word} {fault:?} {pc}"),
     }
 }
 
@@ -50,77 +50,130 @@ fn explanation_text(found: Explanation) -> String {
         text += &format!(" 0x{:X}+{}", it.addr, it.len);
     }
     for it in found.happenings {
-        text += &format!(" {} {} at {}", name(it.kind), it.event, it.stored);
+        text += &format!(" {} {} at {}", lower(it.kind), it.event, it.stored);
     }
     text
 }
 
-// Makes a call about the program of a copy.
-fn program_call(call: &str, mut words: Words) -> Result<String, Error> {
-    let bus = words.bus();
-    if call == "explain" {
-        let (most, _room, program) = (words.number(), words.number(), words.bytes());
-        return dma330::explain(&program, bus, most).map(explanation_text);
+fn plan(transfer: &Transfer, bus: Bus) -> Result<Vec<u8>, Error> {
+    match &transfer.src {
+        Ok(src) => dma330::plan(src, &transfer.dst, transfer.events, bus),
+        Err(byte) => dma330::plan_fill(*byte, &transfer.dst, transfer.events, bus),
     }
-    let _room = words.number();
-    let (byte, list) = if call == "plan" { (0, words.list()) } else { (words.number(), Vec::new()) };
-    assert_eq!(words.next(), "to");
-    let (dst, events) = (words.list(), words.events());
-    let program =
-        if call == "plan" { dma330::plan(&list, &dst, events, bus) } else { dma330::plan_fill(byte, &dst, events, bus) };
-    program.map(|bytes| hex(&bytes))
 }
 
-/// Runs lines.
+// Makes a call about a program.
+fn program_call(call: &str, mut words: Words) -> Result<String, Error> {
+    let bus = words.bus();
+    match call {
+        "explain" => {
+            let (most, _room, program) = (words.number(), words.number(), words.bytes());
+            dma330::explain(&program, bus, most).map(explanation_text)
+        }
+        "plan" => {
+            let _room = words.number();
+            plan(&words.transfer(), bus).map(|bytes| hex(&bytes))
+        }
+        _ => {
+            let (_room, byte) = (words.number(), words.number());
+            let (dst, events) = words.to_list();
+            plan(&Transfer { src: Err(byte), dst, events }, bus).map(|bytes| hex(&bytes))
+        }
+    }
+}
+
+/// Carries out lines.
 struct Runner {
     controller: Option<Controller>,
     ram: Vec<u8>,
 }
 
 impl Runner {
+    fn new() -> Runner {
+        Runner { controller: None, ram: vec![0; RAM] }
+    }
+
     fn controller(&mut self) -> &mut Controller {
         self.controller.as_mut().expect("the group opened a controller")
     }
 
-    fn open(&mut self, size: u32, channels: u8) -> Result<(), Error> {
-        self.controller = Some(Controller::open(size, channels)?);
+    fn open(&mut self, mut words: Words) -> Result<(), Error> {
+        self.controller = Some(Controller::open(words.number(), small(words.number()))?);
         Ok(())
     }
 
-    fn read(&mut self, addr: u32, len: u32) -> Result<String, Error> {
-        let mut out = vec![0; len as usize];
-        self.controller().read(addr, &mut out)?;
-        Ok(hex(&out))
+    fn read(&mut self, mut words: Words) -> Result<String, Error> {
+        let range = words.segment();
+        let mut out = vec![0; range.len as usize];
+        self.controller().read(range.addr, &mut out)?;
+        let bytes: String = out.iter().map(|byte| format!(" {byte:02X}")).collect();
+        Ok(format!("read 0x{:08X}{bytes}", range.addr))
     }
 
-    // Takes `count` steps, each with a call of its own, and returns their answers: equal ones in a row once, with a
-    // count.
-    fn single(&mut self, channel: u8, count: u32) -> String {
-        let mut runs: Vec<(String, u32)> = Vec::new();
-        for _ in 0..count {
-            let now = self.controller().step(channel, 1).map_or_else(error_text, |steps| turn_text(steps.last));
-            match runs.last_mut() {
-                Some((last, times)) if *last == now => *times += 1,
-                _ => runs.push((now, 1)),
-            }
+    fn submit(&mut self, channel: u8, transfer: &Transfer) -> Result<u32, Error> {
+        match &transfer.src {
+            Ok(src) => self.controller().submit(channel, src, &transfer.dst, transfer.events),
+            Err(byte) => self.controller().submit_fill(channel, *byte, &transfer.dst, transfer.events),
         }
-        let texts: Vec<String> = runs.iter().map(|(turn, times)| format!("{turn} x{times}")).collect();
-        texts.join(", ")
+    }
+
+    // Takes steps, each with a call of its own, but no more than IDLE that change nothing. Returns a line for each run
+    // of equal answers.
+    fn steps(&mut self, channel: u8, count: u32) -> String {
+        let mut runs: Vec<(String, u32)> = Vec::new();
+        let mut left = count;
+        while left > 0 {
+            let steps = self.controller().step(channel, 1);
+            let now = answer(steps.map(|steps| turn_text(steps.last)));
+            let is_same = runs.last().map_or(false, |(last, _)| *last == now);
+            if !is_same {
+                runs.push((now, 0));
+            }
+            let (text, times) = runs.last_mut().expect("it has one");
+            let is_idle = *times + 1 == IDLE && text != "moved";
+            let taken = if is_idle { left } else { 1 };
+            *times += taken;
+            left -= taken;
+        }
+        runs.iter().map(|(text, times)| format!("step {channel} {text} x{times}\n")).collect()
+    }
+
+    // Copies or fills by channel 0, at once, with as few calls as possible.
+    fn copy(&mut self, word: &str, transfer: &Transfer) -> Result<String, Error> {
+        // (this tests the rules of the transfer)
+        plan(transfer, Bus::Channel)?;
+        let controller = self.controller();
+        if controller.unfinished(0) > 0 || controller.step(0, 1)?.last != Some(Turn::Nothing) {
+            return Ok("refused ChannelInUse".into());
+        }
+        self.submit(0, transfer)?;
+        self.controller().issue(0)?;
+        self.controller().step(0, u32::MAX).map(|steps| format!("{word} {}", turn_text(steps.last)))
+    }
+
+    fn totals(&mut self) -> String {
+        let it = self.controller();
+        format!("totals entries {} steps {} running {}", it.history_entries(), it.steps(), it.running_count())
     }
 
     // Makes a call, and returns its answer or its error.
     fn call(&mut self, call: &str, mut words: Words) -> Result<String, Error> {
-        let mut number = || words.number();
         match call {
-            "open" => self.open(number(), small(number())).map(nothing),
-            "read" => self.read(number(), number()),
-            "raise" => self.controller().raise(small(number())).map(nothing),
+            "open" => self.open(words).map(nothing),
+            "read" => self.read(words),
+            "copy" => self.copy(call, &words.transfer()),
+            "fill" => {
+                let src = Err(words.number());
+                let (dst, events) = words.to_list();
+                self.copy(call, &Transfer { src, dst, events })
+            }
+            "raise" => self.controller().raise(small(words.number())).map(nothing),
             "unmark" => self.controller().unmark().map(nothing),
             "checkpoint" => self.controller().checkpoint().map(nothing),
-            "steps" => Ok(self.controller().steps().to_string()),
+            "totals" => Ok(self.totals()),
+            "history_bytes" => Ok(self.controller().history_bytes().to_string()),
             "mark" => {
-                let kind = words.kind();
-                let range = Segment::new(words.number(), words.number());
+                let (kind, range) = (words.kind(), words.segment());
                 self.controller().mark(kind, range).map(nothing)
             }
             "write" => {
@@ -137,8 +190,8 @@ impl Runner {
                 Ok(String::new())
             }
             "peek" => {
-                let (at, len) = (words.number() as usize, words.number() as usize);
-                Ok(hex(&self.ram[at..at + len]))
+                let range = words.segment();
+                Ok(hex(&self.ram[range.addr as usize..][..range.len as usize]))
             }
             "run_program" => {
                 let (size, limit, program) = (words.number() as usize, words.number(), words.bytes());
@@ -161,63 +214,48 @@ impl Runner {
     // Does the same for a call whose first argument is a channel.
     fn channel_call(&mut self, call: &str, mut words: Words) -> Result<String, Error> {
         let channel = words.channel();
+        if call == "submit" {
+            return self.submit(channel, &words.transfer()).map(|cookie| format!("cookie {cookie}"));
+        }
         let controller = self.controller();
         match call {
-            "submit" => {
-                let src = words.list();
-                assert_eq!(words.next(), "to");
-                let (dst, events) = (words.list(), words.events());
-                controller.submit(channel, &src, &dst, events).map(|cookie| cookie.to_string())
-            }
-            "submit_fill" => {
-                let src = words.number();
-                assert_eq!(words.next(), "to");
-                let (dst, events) = (words.list(), words.events());
-                controller.submit_fill(channel, src, &dst, events).map(|cookie| cookie.to_string())
-            }
-            "issue" => controller.issue(channel).map(|count| count.to_string()),
+            "issue" => controller.issue(channel).map(|count| format!("issued {count}")),
             "pause" => controller.pause(channel).map(nothing),
             "resume" => controller.resume(channel).map(nothing),
-            "terminate" => controller.terminate(channel).map(|count| count.to_string()),
-            "step" => controller.step(channel, words.number()).map(steps_text),
-            "status" => Ok(name(controller.status(channel, words.number()))),
-            "unfinished" => Ok(controller.unfinished(channel).to_string()),
-            "forgotten" => Ok(controller.forgotten(channel).to_string()),
+            "terminate" => controller.terminate(channel).map(|count| format!("aborted {count}")),
+            "steps" => {
+                let Steps { taken, last } = controller.step(channel, words.number())?;
+                Ok(format!("steps {channel} taken {taken} {}", turn_text(last)))
+            }
+            "status" => Ok(format!("status {}", name(controller.status(channel, words.number())))),
+            "result" => {
+                let outcome = controller.result(channel, words.number());
+                Ok(format!("result {}", outcome.map_or("none".into(), outcome_text)))
+            }
+            "running" => Ok(match controller.running(channel) {
+                Some(running) => format!("running {} stored {}", running.cookie, running.stored),
+                None => "refused NotRunning".into(),
+            }),
+            "unfinished" => Ok(format!("unfinished {}", controller.unfinished(channel))),
+            "forgotten" => Ok(format!("forgotten {}", controller.forgotten(channel))),
             _ => panic!("no call: {call}"),
         }
     }
 
-    // Runs a line of `result`, `running` or `single`, and returns its whole answer; `None` for other lines.
-    fn optional(&mut self, call: &str, words: &mut Words) -> Option<String> {
-        let channel = words.channel();
-        let controller = self.controller();
-        Some(match call {
-            "result" => {
-                let outcome = controller.result(channel, words.number());
-                outcome.map_or("NO_RESULT".into(), |outcome| format!("OK {}", outcome_text(outcome)))
-            }
-            "running" => {
-                let running = controller.running(channel);
-                running.map_or("NOT_RUNNING".into(), |running| format!("OK {} {}", running.cookie, running.stored))
-            }
-            "single" => {
-                let count = words.number();
-                self.single(channel, count)
-            }
-            _ => return None,
-        })
-    }
-
+    // Carries out a line, and returns the lines that it prints.
     fn carry_out(&mut self, line: &str) -> String {
         let mut words = Words(line);
-        let call = words.next();
-        if let "result" | "running" | "single" = call {
-            return self.optional(call, &mut words).expect("one of the three");
-        }
-        match self.call(call, words) {
-            Ok(text) if text.is_empty() => "OK".into(),
-            Ok(text) => format!("OK {text}"),
-            Err(error) => error_text(error),
+        match words.next() {
+            "memory" => {
+                self.open(words).expect("a script's memory");
+                String::new()
+            }
+            "step" => {
+                let (channel, count) = (words.channel(), words.next());
+                self.steps(channel, if count.is_empty() { 1 } else { words::number(count) })
+            }
+            word if word.is_empty() || word.starts_with('#') => String::new(),
+            call => format!("{}\n", answer(self.call(call, words))),
         }
     }
 }
@@ -225,16 +263,111 @@ impl Runner {
 #[test]
 fn every_row_has_its_answer() {
     let groups = groups(ROWS);
-    assert!(groups.len() > 40);
+    assert!(groups.len() > 12);
     let mut wrong = Vec::new();
     for (title, rows) in groups {
-        let mut runner = Runner { controller: None, ram: vec![0; RAM] };
+        let mut runner = Runner::new();
         for (line, wanted) in rows {
             let answer = runner.carry_out(line);
-            if answer != wanted {
-                wrong.push(format!("{title}: {line}: the answer is {answer}, not {wanted}"));
+            if answer.trim_end() != wanted {
+                wrong.push(format!("{title}: {line}: it prints {answer}, not {wanted}"));
             }
         }
     }
     assert!(wrong.is_empty(), "{}", wrong.join("\n"));
+}
+
+/// A call of dmasim in a .test file: its command and its title, its input and its output.
+struct Call {
+    words: String,
+    input: String,
+    output: String,
+}
+
+impl Call {
+    // Reads the lines of a call, as tests/rows --plain prints them, without the `$ ` at the beginning.
+    fn new(lines: &str) -> Call {
+        let (words, lines) = lines.split_once('\n').unwrap_or((lines, ""));
+        let mut call = Call { words: words.to_string(), input: String::new(), output: String::new() };
+        for line in lines.split_terminator('\n') {
+            match line.split_at(1) {
+                ("<", line) => call.input += &format!("{line}\n"),
+                ("|", line) => call.input += line,
+                (_, line) => call.output += &format!("{line}\n"),
+            }
+        }
+        call
+    }
+
+    // Returns what the call prints by calls of the library.
+    fn printed(&self) -> String {
+        match self.words.split(' ').next() {
+            Some("asm") => asm(&self.input),
+            Some("dis") => dis(&self.input),
+            Some("plan") => plan_lines(&self.input),
+            _ => {
+                let mut runner = Runner::new();
+                self.input.lines().map(|line| runner.carry_out(line)).collect()
+            }
+        }
+    }
+}
+
+// Returns bytes as asm and plan print them, 16 to a line.
+fn byte_lines(bytes: &[u8]) -> String {
+    let pairs = |line: &[u8]| line.iter().map(|byte| format!("{byte:02X}")).collect::<Vec<_>>().join(" ");
+    bytes.chunks(16).map(|line| pairs(line) + "\n").collect()
+}
+
+fn asm(text: &str) -> String {
+    match dma330::assemble(text) {
+        Ok(bytes) => byte_lines(&bytes),
+        Err(Error::Assembly { line, fault }) => {
+            let name = match fault {
+                AssemblyFault::BadMnemonic => "mnemonic",
+                AssemblyFault::BadOperand => "operand",
+                AssemblyFault::NumberOutOfRange => "range",
+                AssemblyFault::ProgramTooLong => "ProgramTooLong",
+            };
+            format!("line {line}: {name}\n")
+        }
+        Err(error) => panic!("{error}"),
+    }
+}
+
+fn dis(text: &str) -> String {
+    let program = Words(&text.replace(['\n', '\r'], " ")).bytes();
+    match dma330::disassemble(&program) {
+        Ok(text) => text,
+        Err(Error::Disassembly { offset, fault }) => match fault {
+            DisassemblyFault::CutInstruction => format!("offset {offset}: Cut\n"),
+            DisassemblyFault::UnknownInstruction => format!("offset {offset}: Unknown {:02X}\n", program[offset]),
+            DisassemblyFault::BadField => format!("offset {offset}: BadField\n"),
+        },
+        Err(error) => panic!("{error}"),
+    }
+}
+
+fn plan_lines(text: &str) -> String {
+    let is_skipped = |line: &str| matches!(Words(line).next().chars().next(), None | Some('#'));
+    let (number, line) = (1..).zip(text.lines()).find(|(_, line)| !is_skipped(line)).expect("a transfer");
+    match plan(&Words(line).transfer(), Bus::Channel) {
+        Ok(bytes) => {
+            let cost = dma330::explain(&bytes, Bus::Channel, 1_000_000).expect("a copy").steps;
+            format!("{}bytes {}\ncost {cost}\n", byte_lines(&bytes), bytes.len())
+        }
+        Err(error) => format!("line {number}: {error:?}\n"),
+    }
+}
+
+#[test]
+fn every_call_of_dmasim_prints_what_it_should() {
+    let command = concat!(env!("CARGO_MANIFEST_DIR"), "/../../tests/rows");
+    let printed = Command::new(command).arg("--plain").output().expect("it runs").stdout;
+    let text = String::from_utf8_lossy(&printed);
+    let calls: Vec<Call> = text.strip_prefix("$ ").expect("a call").split("\n$ ").map(Call::new).collect();
+    assert!(calls.len() > 300, "{} calls", calls.len());
+    let wrong = calls.iter().map(|call| (call, call.printed())).filter(|(call, printed)| *printed != call.output);
+    let texts: Vec<_> = wrong.map(|(it, printed)| format!("{}\n{}prints\n{printed}", it.words, it.input)).collect();
+    assert!(texts.is_empty(), "{}", texts.join("\n"));
 }

@@ -1,4 +1,4 @@
-//! The words of rows.txt and channels.txt, and those of their answers.
+//! The words of the lines of scripts, rows.txt and channels.txt, and those of their answers.
 
 // No test that includes this file uses all of it.
 #![allow(dead_code)]
@@ -9,10 +9,18 @@ use std::fmt::Debug;
 /// The words of a line that are not read yet.
 pub struct Words<'a>(pub &'a str);
 
+/// A copy or a fill.
+pub struct Transfer {
+    /// The list of sources, or the address of a fill's byte.
+    pub src: Result<Vec<Segment>, u32>,
+    pub dst: Vec<Segment>,
+    pub events: Events,
+}
+
 impl<'a> Words<'a> {
     pub fn next(&mut self) -> &'a str {
-        let line = self.0.trim_start_matches(' ');
-        let end = line.find(' ').unwrap_or(line.len());
+        let line = self.0.trim_start_matches([' ', '\t']);
+        let end = line.find([' ', '\t']).unwrap_or(line.len());
         self.0 = &line[end..];
         &line[..end]
     }
@@ -37,10 +45,15 @@ impl<'a> Words<'a> {
 
     pub fn kind(&mut self) -> MarkKind {
         match self.next() {
-            "READING" => MarkKind::Reading,
-            "WRITING" => MarkKind::Writing,
+            "read" => MarkKind::Reading,
+            "write" => MarkKind::Writing,
             word => panic!("no kind of mark: {word}"),
         }
+    }
+
+    pub fn segment(&mut self) -> Segment {
+        let (addr, len) = self.next().split_once('+').expect("a segment");
+        Segment::new(number(addr), number(len))
     }
 
     pub fn list(&mut self) -> Vec<Segment> {
@@ -50,13 +63,37 @@ impl<'a> Words<'a> {
         }
     }
 
+    /// Reads a list and its events after the word `to`.
+    pub fn to_list(&mut self) -> (Vec<Segment>, Events) {
+        assert_eq!(self.next(), "to");
+        (self.list(), self.events())
+    }
+
+    /// Reads LIST or `fill ADDR`, and then the destinations and the events.
+    pub fn transfer(&mut self) -> Transfer {
+        let mut after = Words(self.0);
+        let src = if after.next() == "fill" {
+            *self = after;
+            Err(self.number())
+        } else {
+            Ok(self.list())
+        };
+        let (dst, events) = self.to_list();
+        Transfer { src, dst, events }
+    }
+
+    /// Reads the bytes of all further words.
     pub fn bytes(&mut self) -> Vec<u8> {
-        let word = self.next();
-        match word.split_once('*') {
-            Some(("mod251", count)) => (0..number(count)).map(|n| small(n % 251)).collect(),
-            Some((pair, count)) => vec![byte(pair); number(count) as usize],
-            None if word == "-" => Vec::new(),
-            None => (0..word.len()).step_by(2).map(|at| byte(&word[at..at + 2])).collect(),
+        let mut bytes = Vec::new();
+        loop {
+            let word = self.next();
+            match word.split_once('*') {
+                Some(("mod251", count)) => bytes.extend((0..number(count)).map(|n| small(n % 251))),
+                Some((pair, count)) => bytes.extend(vec![byte(pair); number(count) as usize]),
+                None if word.is_empty() => return bytes,
+                None if word == "-" => {}
+                None => bytes.extend((0..word.len()).step_by(2).map(|at| byte(&word[at..at + 2]))),
+            }
         }
     }
 
@@ -81,7 +118,7 @@ impl<'a> Words<'a> {
     }
 }
 
-fn number(word: &str) -> u32 {
+pub fn number(word: &str) -> u32 {
     let value = match word.strip_prefix("0x") {
         Some(digits) => u32::from_str_radix(digits, 16),
         None => word.parse(),
@@ -99,36 +136,40 @@ fn byte(pair: &str) -> u8 {
 
 // Reads ADDR+LEN, or ADDR+LEN*N for N segments, each of which begins where the one before it ends.
 fn segments(word: &str) -> Vec<Segment> {
-    let (addr, len) = word.split_once('+').expect("a segment");
-    let (len, count) = len.split_once('*').unwrap_or((len, "1"));
-    let (addr, len) = (number(addr), number(len));
+    let (range, count) = word.split_once('*').unwrap_or((word, "1"));
+    let Segment { addr, len } = Words(range).segment();
     (0..number(count)).map(|n| Segment::new(addr + n * len, len)).collect()
 }
 
-/// Returns a variant's name as dma330.h writes it.
+/// Returns a variant's name.
 pub fn name(value: impl Debug) -> String {
     let debug = format!("{value:?}");
-    let variant = debug.split([' ', '(']).next().unwrap_or_default();
-    let mut name = String::new();
-    for letter in variant.chars() {
-        if letter.is_uppercase() && !name.is_empty() {
-            name.push('_');
-        }
-        name.push(letter.to_ascii_uppercase());
-    }
-    name
+    debug.split([' ', '(']).next().unwrap_or_default().to_string()
 }
 
-/// Returns an error as rows write it: its name, and what it names.
-pub fn error_text(error: Error) -> String {
-    match error {
-        Error::Busy { channel, cookie } | Error::Running { channel, cookie } => {
-            format!("{} {channel} {cookie}", name(error))
+/// Returns a variant's name in lower case, with `_` between its words.
+pub fn lower(value: impl Debug) -> String {
+    let mut lower = String::new();
+    for letter in name(value).chars() {
+        if letter.is_uppercase() && !lower.is_empty() {
+            lower.push('_');
         }
-        Error::Assembly { line, fault } => format!("{} {line}", name(fault)),
-        Error::Disassembly { offset, fault } => format!("{} {offset}", name(fault)),
-        Error::Unexplained { cause, pc, steps } => format!("UNEXPLAINED {} {pc} {steps}", name(cause)),
-        plain => name(plain),
+        lower.push(letter.to_ascii_lowercase());
+    }
+    lower
+}
+
+/// Returns the answer of a call: what it writes, or `ok` if that is nothing, or its error and what it names.
+pub fn answer(result: Result<String, Error>) -> String {
+    match result {
+        Ok(text) if text.is_empty() => "ok".into(),
+        Ok(text) => text,
+        Err(Error::Busy { channel, cookie }) => format!("refused Busy {channel} {cookie}"),
+        Err(Error::Running { channel, cookie }) => format!("refused Running {channel} {cookie}"),
+        Err(Error::Assembly { line, fault }) => format!("refused {fault:?} {line}"),
+        Err(Error::Disassembly { offset, fault }) => format!("refused {fault:?} {offset}"),
+        Err(Error::Unexplained { cause, pc, steps }) => format!("refused Unexplained {} {pc} {steps}", name(cause)),
+        Err(plain) => format!("refused {plain:?}"),
     }
 }
 

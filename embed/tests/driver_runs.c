@@ -1,0 +1,311 @@
+#include "drivers.h"
+#include "guest.h"
+
+#include <stdlib.h>
+#include <string.h>
+
+/* ---- explanations ---- */
+
+enum { ALLOCATIONS = 1000000 };
+
+/* Keeps what a call wrote besides the lists. */
+static void keep(explained *e, int32_t code, const dma330_explanation *x)
+{
+    allocations_left = 0;
+    e->code = code;
+    e->cause = x->cause;
+    e->pc = x->pc;
+    e->is.src_len = x->src_len;
+    e->is.dst_len = x->dst_len;
+    e->is.happenings_len = x->happenings_len;
+    e->is.size = x->size;
+    e->is.steps = x->steps;
+}
+
+void explain(explained *e, const uint8_t *bytes, size_t len, uint32_t bus, uint32_t most)
+{
+    dma330_explanation x = {0, 0, 0, 0, 0, 0, 0};
+    int32_t code;
+
+    allocations_left = ALLOCATIONS;
+    code = dma330_explain(bytes, len, bus, most, e->is.src, MOST_ITEMS, e->is.dst, MOST_ITEMS, e->is.happenings, MOST_ITEMS,
+                          &x);
+    keep(e, code, &x);
+}
+
+static bool has_same_lists(const meaning *a, const meaning *b)
+{
+    bool is_same = a->src_len == b->src_len && a->dst_len == b->dst_len && a->happenings_len == b->happenings_len;
+
+    for (size_t n = 0; is_same && n < a->src_len; n++)
+        is_same = a->src[n].addr == b->src[n].addr && a->src[n].len == b->src[n].len && a->src[n].times == b->src[n].times;
+    for (size_t n = 0; is_same && n < a->dst_len; n++)
+        is_same = a->dst[n].addr == b->dst[n].addr && a->dst[n].len == b->dst[n].len;
+    for (size_t n = 0; is_same && n < a->happenings_len; n++)
+        is_same = a->happenings[n].kind == b->happenings[n].kind && a->happenings[n].event == b->happenings[n].event &&
+                  a->happenings[n].stored == b->happenings[n].stored;
+    return is_same;
+}
+
+bool is_meant(const explained *e, const meaning *means)
+{
+    return e->code == DMA330_OK && e->cause == DMA330_CAUSE_NONE && e->pc == 0 && e->is.size == means->size &&
+           e->is.steps == means->steps && has_same_lists(&e->is, means);
+}
+
+static bool is_same(const explained *e, const explained *f)
+{
+    return e->code == f->code && e->cause == f->cause && e->pc == f->pc && e->is.size == f->is.size &&
+           e->is.steps == f->is.steps && has_same_lists(&e->is, &f->is);
+}
+
+/* Returns NULL, or what is wrong after a run that executed this number of instructions and stored this number of bytes.
+ * */
+static const char *end_run(const explained *e, uint32_t taken, uint64_t stored)
+{
+    if (taken != e->is.steps)
+        return "another number of steps";
+    if (stored != e->is.size)
+        return "another number of bytes is stored";
+    return is_memory_wanted() ? NULL : "other bytes in memory";
+}
+
+/* ---- a channel ---- */
+
+static dma330_channel channel;
+
+static bool load(const uint8_t *bytes, size_t len)
+{
+    bool is_open = channel.is_open;
+
+    allocations_left = ALLOCATIONS;
+    is_open = is_open || dma330_channel_open(&channel) == DMA330_OK;
+    allocations_left = 0;
+    return is_open && dma330_channel_load_program(&channel, bytes, len) == DMA330_OK;
+}
+
+/* Returns whether a wait or a signal is explained, and as many bytes are stored as is explained. */
+static bool is_explained(const explained *e, size_t n, uint32_t kind, uint32_t event, uint64_t stored)
+{
+    const dma330_happening *is = &e->is.happenings[n];
+
+    return n < e->is.happenings_len && is->kind == kind && is->event == event && is->stored == stored &&
+           has_stored(&e->is, stored);
+}
+
+const char *run_on_channel(const explained *e, const uint8_t *bytes, size_t len, uint32_t most)
+{
+    dma330_channel_report r = {0, DMA330_CHANNEL_MOVED, 0, 0, 0, {0, 0}};
+    dma330_registers now;
+    uint32_t flags = 0;
+    size_t happened = 0;
+
+    if (!begin_run(&e->is) || !load(bytes, len))
+        return "it isn't loaded";
+    while (r.turn != DMA330_CHANNEL_ENDED) {
+        bool waits, signals;
+        uint32_t kind;
+
+        if (dma330_channel_step(&channel, lent, lent_count, &flags, most, &r) != DMA330_OK ||
+            dma330_channel_registers(&channel, &now) != DMA330_OK)
+            return "a call is refused";
+        waits = r.turn == DMA330_CHANNEL_WAITING;
+        signals = r.turn == DMA330_CHANNEL_SIGNALLED;
+        if (r.turn == DMA330_CHANNEL_FAULT || r.turn == DMA330_CHANNEL_NO_STEP || now.taken > e->is.steps)
+            return "an instruction fails, or is one too many";
+        kind = signals ? DMA330_SIGNALS : DMA330_WAITS;
+        if ((waits || signals) && !is_explained(e, happened++, kind, r.event, now.stored))
+            return "another wait or signal";
+        flags = waits ? 1u << r.event : 0; /* each wait is seen, since nothing else sets a flag */
+    }
+    return happened == e->is.happenings_len ? end_run(e, now.taken, now.stored) : "a wait or signal is missing";
+}
+
+/* Returns whether a cause is what the next step shows. */
+static bool shows(uint32_t cause, const dma330_channel_report *next)
+{
+    bool fails = next->turn == DMA330_CHANNEL_FAULT;
+
+    switch (cause) {
+    case DMA330_CAUSE_LOADS_PAST: return fails && next->fault == DMA330_DATA_READ_ERR;
+    case DMA330_CAUSE_STORES_PAST: return fails && next->fault == DMA330_DATA_WRITE_ERR;
+    case DMA330_CAUSE_STORES_FIXED:
+        return fails ? next->fault == DMA330_DATA_WRITE_ERR : next->turn == DMA330_CHANNEL_MOVED;
+    case DMA330_CAUSE_BYTES_LEFT:
+    case DMA330_CAUSE_STORES_TWICE:
+    case DMA330_CAUSE_STORES_SOURCE: return next->turn == DMA330_CHANNEL_ENDED;
+    case DMA330_CAUSE_NO_END: return true;
+    default: return fails && next->fault == cause;
+    }
+}
+
+const char *run_to_cause(const explained *e, const uint8_t *bytes, size_t len)
+{
+    dma330_channel_report r = {0, DMA330_CHANNEL_MOVED, 0, 0, 0, {0, 0}};
+    dma330_registers now = {0, 0, 0, 0, 0, 0, 0, 0, 0};
+    uint32_t left = e->is.steps, flags;
+
+    forget_run();
+    if (!load(bytes, len))
+        return "it isn't loaded";
+    for (; left > 0; left = e->is.steps - now.taken) {
+        flags = 0xFFFFFFFF;
+        if (dma330_channel_step(&channel, lent, lent_count, &flags, left, &r) != DMA330_OK ||
+            dma330_channel_registers(&channel, &now) != DMA330_OK)
+            return "a call is refused";
+        if (r.turn == DMA330_CHANNEL_FAULT && (r.fault == DMA330_DATA_READ_ERR || r.fault == DMA330_DATA_WRITE_ERR))
+            return NULL;
+        if (r.turn == DMA330_CHANNEL_FAULT || r.turn == DMA330_CHANNEL_ENDED)
+            return "it doesn't get to the cause";
+    }
+    if (e->is.steps > 0 && now.pc != e->pc)
+        return "the cause is elsewhere";
+    flags = 0xFFFFFFFF;
+    if (dma330_channel_step(&channel, lent, lent_count, &flags, 1, &r) != DMA330_OK)
+        return "a call is refused";
+    return shows(e->cause, &r) ? NULL : "something else happens";
+}
+
+/* ---- a device ---- */
+
+/* Returns the events that are signalled and never waited for. */
+static uint32_t interrupts_of(const meaning *is)
+{
+    uint32_t waits = 0, signals = 0;
+
+    for (size_t n = 0; n < is->happenings_len; n++)
+        if (is->happenings[n].kind == DMA330_WAITS)
+            waits |= 1u << is->happenings[n].event;
+        else
+            signals |= 1u << is->happenings[n].event;
+    return signals & ~waits;
+}
+
+/* The devices with buses of 32, 64 and 128 bits. */
+static machine machines[3];
+
+/* Returns one of them, with the lent memory and in its state after a reset. */
+static machine *machine_of(uint32_t bus)
+{
+    machine *m = &machines[bus / 64];
+    dma330_device_config config = plain(1, 32, false);
+
+    config.bus = bus;
+    if (!m->device.is_open && open_device(&m->device, &config) != DMA330_OK)
+        abort();
+    if (dma330_device_reset(&m->device) != DMA330_OK)
+        abort();
+    memcpy(m->regions, lent, sizeof lent);
+    m->region_count = lent_count;
+    return m;
+}
+
+/* Returns a number of 4 bytes in the save of channel 0, at an offset that docs/FORMATS.md has. */
+static uint32_t saved(machine *m, size_t offset)
+{
+    static uint8_t save[DMA330_MAX_DEVICE_SAVE];
+    const uint8_t *at = save + 40 + 20 + offset;
+    size_t len;
+
+    if (dma330_device_save(&m->device, save, sizeof save, &len) != DMA330_OK)
+        abort();
+    return (uint32_t)(at[0] | at[1] << 8 | at[2] << 16) | (uint32_t)at[3] << 24;
+}
+
+static uint32_t taken(machine *m)
+{
+    return saved(m, 26);
+}
+
+static uint32_t stored(machine *m)
+{
+    return saved(m, 30);
+}
+
+const char *explain_on_device(const explained *e, uint32_t place, uint32_t bus, uint32_t most)
+{
+    static explained same;
+    machine *m = machine_of(bus);
+    dma330_explanation x = {0, 0, 0, 0, 0, 0, 0};
+    int32_t code;
+
+    start(m, 0, place);
+    allocations_left = ALLOCATIONS;
+    code = dma330_device_explain(&m->device, 0, most, same.is.src, MOST_ITEMS, same.is.dst, MOST_ITEMS, same.is.happenings,
+                                 MOST_ITEMS, &x);
+    keep(&same, code, &x);
+    return is_same(&same, e) ? NULL : "the device's explanation is another one";
+}
+
+/* Which of the signals that are explained were seen as interrupts. */
+static bool was_seen[MOST_ITEMS];
+
+/* Finds the signals that the interrupts after a turn are: after a DMASEV it took at most one step, so it stored at most
+ * 256 bytes. Returns whether each interrupt is one of them, and the bytes that the channel counts are stored. */
+static bool sees(const meaning *is, uint32_t lines, uint64_t count)
+{
+    uint32_t left = lines;
+
+    for (size_t n = 0; n < is->happenings_len; n++) {
+        const dma330_happening *h = &is->happenings[n];
+
+        if (h->kind == DMA330_SIGNALS && (lines >> h->event & 1) != 0 && h->stored <= count && count - h->stored <= 256) {
+            was_seen[n] = true;
+            left &= ~(1u << h->event);
+        }
+    }
+    return left == 0 && has_stored(is, count);
+}
+
+static bool has_seen_all(const meaning *is, uint32_t interrupts)
+{
+    bool has = true;
+
+    for (size_t n = 0; n < is->happenings_len; n++)
+        has = has && (was_seen[n] || (interrupts >> is->happenings[n].event & 1) == 0);
+    return has;
+}
+
+/* Takes a turn, before which the guest signals the event that the channel waits for. Returns whether it is accepted,
+ * and the interrupts after it are explained. */
+static bool takes_turn(machine *m, const explained *e, uint32_t status, uint32_t most)
+{
+    dma330_device_turn t;
+    uint32_t lines;
+
+    if (status % 16 == 4 && !can_step(m))
+        debug(m, MANAGER, DMASEV, status >> 4 << 3, 0);
+    if (dma330_device_step(&m->device, 0, most, m->regions, m->region_count, &t) != DMA330_OK)
+        return false;
+    lines = irqs(m);
+    set(m, INTCLR, lines);
+    return lines == 0 || sees(&e->is, lines, stored(m));
+}
+
+const char *run_on_device(const explained *e, uint32_t place, uint32_t bus, uint32_t most)
+{
+    machine *m = machine_of(bus);
+    uint32_t interrupts = interrupts_of(&e->is), turns_left = 2 * e->is.steps, status;
+
+    if (!begin_run(&e->is))
+        return "as many bytes aren't read as stored";
+    set(m, INTEN, interrupts);
+    start(m, 0, place);
+    memset(was_seen, 0, sizeof was_seen);
+    while ((status = get(m, CSR)) % 16 == 1 || status % 16 == 4) {
+        if (turns_left-- == 0)
+            return "it doesn't end";
+        if (!takes_turn(m, e, status, most))
+            return "an interrupt that isn't explained, or too early";
+    }
+    if (status != 0)
+        return "an instruction fails";
+    return has_seen_all(&e->is, interrupts) ? end_run(e, taken(m), stored(m)) : "an interrupt is missing";
+}
+
+void end_runs(void)
+{
+    dma330_channel_close(&channel);
+    for (int n = 0; n < 3; n++)
+        dma330_device_close(&machines[n].device);
+}
