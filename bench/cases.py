@@ -16,10 +16,10 @@ def copies(count, offset):
     return script(4 * MIB, 1, ["copy %d+%d to %d+%d" % (offset, MIB, 2 * MIB + offset, MIB)] * count)
 
 
-def copies_of_written(count):
+def copies_of_written(count, offset=0):
     # a write to each chunk of the source, which the other copies read as zeros
-    lines = ["write %d 5A" % (16384 * i) for i in range(64)]
-    return script(4 * MIB, 1, lines + ["copy 0+%d to %d+%d" % (MIB, 2 * MIB, MIB)] * count)
+    lines = ["write %d 5A" % (16384 * i) for i in range(65)]
+    return script(4 * MIB, 1, lines + ["copy %d+%d to %d+%d" % (offset, MIB, 2 * MIB + offset, MIB)] * count)
 
 
 def fills(count):
@@ -152,6 +152,12 @@ COUNTED = {
     "pause": ([], ["pause 0"]),
     "copy of 4 bytes": ([], ["copy 0x100+4 to 0x200+4"]),
     "copy of 64 segments": ([], [PIECES]),
+}
+# Copies whose pages `bench/measure` maps apart, by a function of their number, and the offset of their addresses.
+PAGES = {
+    "written": (copies_of_written, 0),
+    "odd": (lambda count: copies_of_written(count, 1), 1),
+    "unwritten": (lambda count: copies(count, 0), 0),
 }
 # A page at the end of the largest memory, and a copy of its last bytes across the edge of two more.
 LARGEST = script(4294963200, 1, ["write 0xFFFFEFFC 01 02 03 04", "copy 0xFFFFEFFC+4 to 0xFFE+4"])
