@@ -5,18 +5,18 @@ use Rattle.dma_insn.specs.declared.control.BeatSize.{BeatSize}
 use Rattle.dma_insn.specs.declared.control.BeatSize.TheVariants.{One, Two, Four, Eight, Sixteen}
 use Rattle.dma_insn.specs.declared.control.BurstEnd.{BurstEnd}
 use Rattle.dma_insn.specs.ControlWord.{field, size_code, size_of, beat_bytes, end_with, end_at}
-use Rattle.dma_insn.proofs.ControlLaws.{size_code-size_of}
+use Rattle.dma_insn.proofs.ControlLaws.{size_code_size_of}
 use Rattle.dma_chan.specs.declared.bursts.Burst.{Burst}
 use Rattle.dma_chan.specs.declared.bus.Bus.{Bus}
 use Rattle.dma_chan.specs.Bursts.{burst_at, skip_of}
 
 -- the bytes of a beat are a power of two, by its code
-beat_bytes-power : (s : BeatSize) → beat_bytes s ≡ 2 ^ size_code s
-beat_bytes-power One = refl
-beat_bytes-power Two = refl
-beat_bytes-power Four = refl
-beat_bytes-power Eight = refl
-beat_bytes-power Sixteen = refl
+beat_bytes_power : (s : BeatSize) → beat_bytes s ≡ 2 ^ size_code s
+beat_bytes_power One = refl
+beat_bytes_power Two = refl
+beat_bytes_power Four = refl
+beat_bytes_power Eight = refl
+beat_bytes_power Sixteen = refl
 
 abbrev burst_of : Bus → ℕ → BurstEnd → Burst
 burst_of bus addr e = record {
@@ -35,7 +35,7 @@ unfolding burst_at
 of_size bus k addr w None e is h = absurd (cc)
 of_size bus k addr w (Some s) e is h =
     let same : end_with k w s ≡ e = some_same (end_with k w s) e h in
-    let size : beat_bytes s ≡ 2 ^ field (k + 1) 3 w = beat_bytes-power s ∙ ap (λ (n : ℕ). 2 ^ n) (size_code-size_of (field (k + 1) 3 w) s is) in
+    let size : beat_bytes s ≡ 2 ^ field (k + 1) 3 w = beat_bytes_power s ∙ ap (λ (n : ℕ). 2 ^ n) (size_code_size_of (field (k + 1) 3 w) s is) in
     rw (← same, size) refl
 
 -- the burst of the end whose lowest bit is bit k

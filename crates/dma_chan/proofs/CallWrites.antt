@@ -26,7 +26,7 @@ use Rattle.dma_chan.specs.Programs.{ProgramValue}
 use Rattle.dma_chan.specs.Stepping.{Machine, answer_at, after_step, after_steps, goes_on_after, written_after}
 use Rattle.dma_chan.specs.CallWrites.{CallWritesNoOther, LoadExecutes, CallStaysIn}
 use Rattle.dma_chan.proofs.GoingOn.{Can, can_next, few_at}
-use Rattle.dma_chan.proofs.Longer.{next-longer}
+use Rattle.dma_chan.proofs.Longer.{next_longer}
 use Rattle.dma_chan.proofs.ShapeLaws.{is_store}
 use Rattle.dma_chan.proofs.SteppedOver.{kept_outside, was_moved, went_before, writes_each}
 use Rattle.dma_chan.proofs.Traced.{Inside, grows_to}
@@ -71,7 +71,7 @@ pub data Nexts (bus : Bus) (program : List ℕ) (t : Descriptor) (n k : ℕ) : T
 
 next_alike : (program : List ℕ) (o : Option ProgramValue) (pc : ℕ) (i : Insn) → IsSomeAnd o (λ p. StartsWith p program) → next_of program pc ≡ Ok i → next_of (bytes_of_program o) pc ≡ Ok i
 next_alike program None pc i b h = absurd b
-next_alike program (Some p) pc i b h = ap (λ (xs : List ℕ). next_of xs pc) b.1 ∙ next-longer program b.0 pc i h
+next_alike program (Some p) pc i b h = ap (λ (xs : List ℕ). next_of xs pc) b.1 ∙ next_longer program b.0 pc i h
 
 -- the next instruction of a channel whose program begins with these bytes
 pub ahead_at : (bus : Bus) (program : List ℕ) (k : ℕ) (i : Insn) (c : ChannelValue) → IsSomeAnd c.program (λ p. StartsWith p program) → c.registers ≡ (traced bus program k).registers → next_in program (traced bus program k) ≡ Ok i → ahead_of c ≡ Ok i

@@ -10,7 +10,7 @@ use Rattle.dma_mem.specs.Places.{Descriptor, size_of}
 use Rattle.dma_mem.specs.Image.{laid}
 use Rattle.dma_mem.specs.Marking.{MarkList, is_marked, meets_mark}
 use Rattle.dma_mem.specs.declared.marks.MarkKind.{MarkKind}
-use Rattle.dma_mem.proofs.OverTransfers.{Contains-drop, Contains-take}
+use Rattle.dma_mem.proofs.OverTransfers.{Contains_drop, Contains_take}
 use Rattle.dma_chan.specs.declared.bus.Bus.{Bus}
 use Rattle.dma_chan.specs.declared.turn.ChanTurn.{ChanTurn}
 use Rattle.dma_chan.specs.declared.turn.ChanTurn.TheVariants.{Moved, Waiting, Ended, Fault}
@@ -31,7 +31,7 @@ unfolding meets_mark
 none_met kind marks places k n none =
     false_from_ne_true _ (λ e.
     let w = Any-from_list_any (is_marked kind marks) (take n (drop k places)) e in
-    let at = Contains-drop k places w.1 (Contains-take n (drop k places) w.1 (w.0, w.2, w.3)) in
+    let at = Contains_drop k places w.1 (Contains_take n (drop k places) w.1 (w.0, w.2, w.3)) in
     false≢true (sym (none w.1 at) ∙ w.4))
 
 -- ---- the state after calls

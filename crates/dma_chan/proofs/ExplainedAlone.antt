@@ -7,8 +7,8 @@ use Rattle.std.proofs.lemmas.List.{ext_get_or}
 use Rattle.dma_insn.specs.declared.insn.Insn.TheVariants.{End}
 use Rattle.dma_mem.specs.Image.{laid}
 use Rattle.dma_mem.specs.Places.{Descriptor, destinations, moves, size_of}
-use Rattle.dma_mem.proofs.ImageOver.{get_or-after_moves_other}
-use Rattle.dma_mem.proofs.OverTransfers.{moves-writes}
+use Rattle.dma_mem.proofs.ImageOver.{get_or_after_moves_other}
+use Rattle.dma_mem.proofs.OverTransfers.{moves_writes}
 use Rattle.dma_chan.specs.declared.bus.Bus.TheVariants.{Ideal}
 use Rattle.dma_chan.specs.declared.exec.Registers.{Registers}
 use Rattle.dma_chan.specs.declared.turn.ChanTurn.{ChanTurn}
@@ -26,7 +26,7 @@ use Rattle.dma_chan.specs.Stepping.{Machine, answer_at, after_step, machine}
 use Rattle.dma_chan.proofs.AmongOthers.{Among, Fits, after_next, at_start, goes_on_at, is_in, touched_below}
 use Rattle.dma_chan.proofs.CallWrites.{Nexts, Goes, Ends, ahead_at, ends_then, next_inside, nexts, turned}
 use Rattle.dma_chan.proofs.OthersKept.{writes_no_other}
-use Rattle.dma_chan.proofs.Traced.{length-laid}
+use Rattle.dma_chan.proofs.Traced.{length_laid}
 
 only_one : (x a k : ℕ) → k < 1 → get_or (x ∷ []) k a ≡ a → x ≡ a
 only_one x a zero l e = e
@@ -142,12 +142,12 @@ module _ (program : List ℕ) (t : Descriptor) (n : ℕ) (image : List ℕ) (h :
       let kept = writes_no_other [] w.channel s.image s.flags in
       let images : (step_of [] w.channel s.image s.flags).1.image ≡ (turn_after [] program (opening image) n).1.image = ap (λ (y : ChanTurn × State). y.1.image) (same_step n s w) in
       sym images
-      ∙ ext_get_or 0 (step_of [] w.channel s.image s.flags).1.image (laid image t (size_of t)) (kept.size ∙ w.size ∙ sym (length-laid image t (size_of t))) (λ a l. elim (in_or_not (destinations t) a) [
+      ∙ ext_get_or 0 (step_of [] w.channel s.image s.flags).1.image (laid image t (size_of t)) (kept.size ∙ w.size ∙ sym (length_laid image t (size_of t))) (λ a l. elim (in_or_not (destinations t) a) [
         | inl i ↦ done.all a (inr i)
         | inr off ↦
             kept.bytes a (λ i. off (next_inside Ideal program t n h n w.channel a (is_in Ideal program t n image n s.image w.channel w.among) (nexts Ideal program t n h n (omega arith)) i))
             ∙ w.others a off
-            ∙ sym (get_or-after_moves_other image (moves t (size_of t)) a (λ i. off (moves-writes t (size_of t) a i)))
+            ∙ sym (get_or_after_moves_other image (moves t (size_of t)) a (λ i. off (moves_writes t (size_of t) a i)))
       ])
 
   -- a run that stops before the limit stops at DMAEND

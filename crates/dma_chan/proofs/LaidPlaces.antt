@@ -7,8 +7,8 @@ use Rattle.std.proofs.lemmas.Bool.{eqb-true, false_from_ne_true}
 use Rattle.std.proofs.lemmas.List.Elements.{Contains-get_or}
 use Rattle.dma_mem.specs.Image.{after_moves, carried, laid}
 use Rattle.dma_mem.specs.Places.{Descriptor, sources, destinations, moves}
-use Rattle.dma_mem.proofs.ImageOver.{get_or-after_moves_other}
-use Rattle.dma_mem.proofs.ImagePut.{get_or-put}
+use Rattle.dma_mem.proofs.ImageOver.{get_or_after_moves_other}
+use Rattle.dma_mem.proofs.ImagePut.{get_or_put}
 use Rattle.dma_mem.proofs.OverTransfers.{keys_in}
 use Rattle.dma_chan.specs.Changes.{HasFirst, LaidByPlace, bytes_in}
 use Rattle.dma_chan.specs.Explains.{IsCopy}
@@ -31,8 +31,8 @@ laid_by_fits t first k h low = record {
   copied = λ p below within.
       let a = get_or (destinations t) p 0 in
       let there : a < length first = low a (inr (Contains-get_or (destinations t) p 0 within)) in
-      get_or-put first (carried first (moves t k)) a there ∙ ap (λ (o : Option ℕ). unwrap_or o (get_or first a 0)) (found first (destinations t) (sources t) k p h.once h.same_length below within);
-  kept = λ a touches outside. get_or-after_moves_other first (moves t k) a (λ i. outside (keys_in k (destinations t) (sources t) a i));
+      get_or_put first (carried first (moves t k)) a there ∙ ap (λ (o : Option ℕ). unwrap_or o (get_or first a 0)) (found first (destinations t) (sources t) k p h.once h.same_length below within);
+  kept = λ a touches outside. get_or_after_moves_other first (moves t k) a (λ i. outside (keys_in k (destinations t) (sources t) a i));
 }
 
 pub laid_by_place : LaidByPlace

@@ -31,12 +31,12 @@ ranges (s ∷ ss) f g =
 pub are_ranges : (list : List Segment) → IsSegmentList list → AllByRecursion IsRange list
 are_ranges list h = ranges list h.filled h.within
 
-pub byte_count-places : (list : List Segment) → length (places list) ≡ byte_count list
-byte_count-places [] = refl
-byte_count-places (s ∷ ss) = length-append (range_with_len s.addr s.len) (places ss) ∙ omega (arith, length-range_with_len s.addr s.len, byte_count-places ss)
+pub byte_count_places : (list : List Segment) → length (places list) ≡ byte_count list
+byte_count_places [] = refl
+byte_count_places (s ∷ ss) = length-append (range_with_len s.addr s.len) (places ss) ∙ omega (arith, length-range_with_len s.addr s.len, byte_count_places ss)
 
 same_count_by : (fill : Bool) (src dst : List Segment) → fill ≡ false → length (if fill then flat_map (λ (d : ℕ). places src) (places dst) else places src) ≡ length (places dst) → byte_count src ≡ byte_count dst
-same_count_by false src dst e h = sym (byte_count-places src) ∙ h ∙ byte_count-places dst
+same_count_by false src dst e h = sym (byte_count_places src) ∙ h ∙ byte_count_places dst
 same_count_by true src dst e h = absurd (cc)
 
 pub same_count : (t : Descriptor) → IsTransfer t → t.fill ≡ false → byte_count t.src ≡ byte_count t.dst
@@ -62,17 +62,17 @@ fill_writes : (a : ℕ) (ds : List Segment) → written_by (map (fill_piece a) d
 fill_writes a [] = refl
 fill_writes a (d ∷ ds) = ap (λ (xs : List ℕ). range_with_len d.addr d.len ++ xs) (fill_writes a ds)
 
-length-fill : (a : ℕ) (ds : List Segment) → length (map (fill_piece a) ds) ≡ length ds
-length-fill a [] = refl
-length-fill a (d ∷ ds) = ap suc (length-fill a ds)
+length_fill : (a : ℕ) (ds : List Segment) → length (map (fill_piece a) ds) ≡ length ds
+length_fill a [] = refl
+length_fill a (d ∷ ds) = ap suc (length_fill a ds)
 
 fill_fits : (a : ℕ) (ds : List Segment) → a < 2 ^ 32 → byte_count ds ≤ 2 ^ 20 → AllByRecursion IsRange ds → AllByRecursion IsPiece (map (fill_piece a) ds)
 fill_fits a [] low few all = tt
 fill_fits a (d ∷ ds) low few all = (record { some = all.0.0; below = omega arith; src = low; reads = omega (arith, low); dst = all.0.1 }, fill_fits a ds low (omega arith) all.1)
 
 -- the pieces of a fill's one place
-pub fill_pieces-one : (a : ℕ) (src dst : List Segment) → src ≡ record { addr = a; len = 1 } ∷ [] → map (fill_piece a) dst ≡ fill_pieces src dst
-fill_pieces-one a src dst is = rw is (sym (append-nil (map (fill_piece a) dst)))
+pub fill_pieces_one : (a : ℕ) (src dst : List Segment) → src ≡ record { addr = a; len = 1 } ∷ [] → map (fill_piece a) dst ≡ fill_pieces src dst
+fill_pieces_one a src dst is = rw is (sym (append-nil (map (fill_piece a) dst)))
 
 cut_by : (fill : Bool) (src dst : List Segment) → (fill ≡ true → (a : ℕ) × (src ≡ record { addr = a; len = 1 } ∷ [])) → IsSegmentList src → IsSegmentList dst → (fill ≡ false → byte_count src ≡ byte_count dst) → byte_count dst ≤ 2 ^ 20 → IsCut (if fill then flat_map (λ (d : ℕ). places src) (places dst) else places src) (places dst) (if fill then fill_pieces src dst else pieces src dst)
 cut_by false src dst one ss ds same low =
@@ -82,12 +82,12 @@ cut_by true src dst one ss ds same low =
     let w = one refl in
     let a = w.0 in
     let range : AllByRecursion IsRange (record { addr = a; len = 1 } ∷ []) = subst (λ (list : List Segment). AllByRecursion IsRange list) w.1 (are_ranges src ss) in
-    rw (← fill_pieces-one a src dst w.1) (
-    rw w.1 (record { sources = fill_reads a dst; destinations = fill_writes a dst; fit = fill_fits a dst (omega (arith, range.0.1)) low (are_ranges dst ds); few = omega (arith, ds.few, length-fill a dst) }))
+    rw (← fill_pieces_one a src dst w.1) (
+    rw w.1 (record { sources = fill_reads a dst; destinations = fill_writes a dst; fit = fill_fits a dst (omega (arith, range.0.1)) low (are_ranges dst ds); few = omega (arith, ds.few, length_fill a dst) }))
 
 pub cut_well : (t : Descriptor) → IsTransfer t → IsCut (sources t) (destinations t) (pieces_of t)
 cut_well t h =
-    cut_by t.fill t.src t.dst h.one_byte h.source_list h.destination_list (same_count t h) (omega (arith, h.short, byte_count-places t.dst))
+    cut_by t.fill t.src t.dst h.one_byte h.source_list h.destination_list (same_count t h) (omega (arith, h.short, byte_count_places t.dst))
 
 pub all_small : (ps : List Piece) → AllByRecursion IsPiece ps → AllByRecursion (λ p. p.len ≤ 2 ^ 20) ps
 all_small [] h = tt

@@ -13,7 +13,7 @@ use Rattle.dma_mem.specs.Image.{put}
 use Rattle.dma_mem.specs.Places.{Descriptor, sources}
 use Rattle.dma_mem.specs.Marking.{MarkList}
 use Rattle.dma_mem.specs.declared.marks.MarkKind.TheVariants.{Reading, Writing}
-use Rattle.dma_mem.proofs.ImagePut.{get_or-put, length-put}
+use Rattle.dma_mem.proofs.ImagePut.{get_or_put, length_put}
 use Rattle.dma_mem.proofs.PageImages.{put_none}
 use Rattle.dma_chan.specs.declared.bus.Bus.{Bus}
 use Rattle.dma_chan.specs.declared.exec.Registers.{Registers}
@@ -28,7 +28,7 @@ use Rattle.dma_chan.specs.Explains.{Executes, Explains, IsIn, Trace, next_in, tr
 use Rattle.dma_chan.specs.Reads.{AgreeAt, AlikeAt, CallReadsIn, CallReadsNoOther, ReadsNoOther, SameOrKept, read_by, read_next}
 use Rattle.dma_chan.specs.Stepping.{Machine, after_step, after_steps, goes_on_after, machine}
 use Rattle.dma_chan.proofs.CallWrites.{Nexts, Goes, Ends, ahead_at, inside, many_in, nexts, traced_next}
-use Rattle.dma_chan.proofs.Traced.{put-agrees, read_at-agrees}
+use Rattle.dma_chan.proofs.Traced.{put_agrees, read_at_agrees}
 
 -- ---- any program
 
@@ -56,7 +56,7 @@ act_alike marks (Mov Dar v) r buffer x y flags h = same _ _ buffer flags x y
 act_alike marks (Mov Ccr v) r buffer x y flags h = either (accepts r.bus v) x y _ _ _ _ (same _ _ buffer flags x y) (same _ _ buffer flags x y)
 act_alike marks Ld r buffer x y flags h =
     let places = touched (source_of r) in
-    let bytes : read_at x places ≡ read_at y places = read_at-agrees x y places h.bytes in
+    let bytes : read_at x places ≡ read_at y places = read_at_agrees x y places h.bytes in
     rw (h.size, bytes)
     (either (nat_lt buffer_size (length buffer + burst_len (source_of r))) x y _ _ _ _ (same _ _ buffer flags x y)
     (either (reaches Reading marks (length y) places) x y _ _ _ _ (same _ _ _ flags x y) (same _ _ buffer flags x y)))
@@ -151,8 +151,8 @@ call_reads_in bus program t n marks s most taken last after a h w steps reads =
 -- after the same bytes are put into both, an address still has the same byte in both
 agree_put : (x y : List ℕ) (ws : List (ℕ × ℕ)) (a : ℕ) → length x ≡ length y → get_or x a 0 ≡ get_or y a 0 → get_or (put x ws) a 0 ≡ get_or (put y ws) a 0
 agree_put x y ws a size same = elim (cases_lt a (length x)) [
-  | inl below ↦ put-agrees x y ws a below (omega (arith, size)) same
-  | inr above ↦ get_or_past (put x ws) a 0 (omega (arith, length-put x ws)) ∙ sym (get_or_past (put y ws) a 0 (omega (arith, length-put y ws, size)))
+  | inl below ↦ put_agrees x y ws a below (omega (arith, size)) same
+  | inr above ↦ get_or_past (put x ws) a 0 (omega (arith, length_put x ws)) ∙ sym (get_or_past (put y ws) a 0 (omega (arith, length_put y ws, size)))
 ]
 
 by_lookup : (o : Option ℕ) (x y v w : ℕ) → v ≡ unwrap_or o x → w ≡ unwrap_or o y → (v ≡ w) ⊎ ((v ≡ x) × (w ≡ y))
@@ -162,8 +162,8 @@ by_lookup (Some b) x y v w e f = inl (e ∙ sym f)
 -- each byte is put, or stays
 put_or_kept : (x y : List ℕ) (ws : List (ℕ × ℕ)) → length x ≡ length y → SameOrKept x y (put x ws) (put y ws)
 put_or_kept x y ws size a = elim (cases_lt a (length x)) [
-  | inl below ↦ by_lookup (lookup (nat_eq a) ws) (get_or x a 0) (get_or y a 0) _ _ (get_or-put x ws a below) (get_or-put y ws a (omega (arith, size)))
-  | inr above ↦ inl (get_or_past (put x ws) a 0 (omega (arith, length-put x ws)) ∙ sym (get_or_past (put y ws) a 0 (omega (arith, length-put y ws, size))))
+  | inl below ↦ by_lookup (lookup (nat_eq a) ws) (get_or x a 0) (get_or y a 0) _ _ (get_or_put x ws a below) (get_or_put y ws a (omega (arith, size)))
+  | inr above ↦ inl (get_or_past (put x ws) a 0 (omega (arith, length_put x ws)) ∙ sym (get_or_past (put y ws) a 0 (omega (arith, length_put y ws, size))))
 ]
 
 kept_on : (x y p q v w : List ℕ) → SameOrKept x y p q → ((a : ℕ) → get_or p a 0 ≡ get_or q a 0 → get_or v a 0 ≡ get_or w a 0) → SameOrKept p q v w → SameOrKept x y v w
@@ -197,7 +197,7 @@ module _ (bus : Bus) (program : List ℕ) (t : Descriptor) (n : ℕ) (h : Explai
         alike = record {
           channel = sym same.channel;
           flags = sym same.events;
-          image = record { size = ap length same.first ∙ length-put x ws ∙ agree.size ∙ sym (ap length same.second ∙ length-put y ws); bytes = λ a i. on a (agree.bytes a i) };
+          image = record { size = ap length same.first ∙ length_put x ws ∙ agree.size ∙ sym (ap length same.second ∙ length_put y ws); bytes = λ a i. on a (agree.bytes a i) };
         };
         kept = subst (λ (v : List ℕ). SameOrKept x y v (after_step marks (over s y)).image) (sym same.first)
             (subst (λ (v : List ℕ). SameOrKept x y (put x ws) v) (sym same.second) (put_or_kept x y ws agree.size));

@@ -4,7 +4,7 @@ use Rattle.std.specs.List.{list_any}
 use Rattle.dma_mem.specs.declared.marks.MarkKind.TheVariants.{Reading, Writing}
 use Rattle.dma_mem.specs.Lent.{lies_in_any, stores_at}
 use Rattle.dma_mem.specs.Regions.{Piece, end_of, has, rises_from, gaps_above, gaps_of, pieces_of, read_only_of}
-use Rattle.dma_mem.proofs.GapMarks.{is_marked-at, loads_in, stores_in}
+use Rattle.dma_mem.proofs.GapMarks.{is_marked_at, loads_in, stores_in}
 use Rattle.dma_mem.proofs.Pieces.{first, gaps_past, has_parts, past_first_gap}
 use Rattle.dma_chan.specs.LentRegions.{GapsMiss}
 
@@ -41,10 +41,10 @@ gaps_miss regions marks t order have misses =
     let others = stores_at read_only ++ marks in
     record {
       reads = λ a i.
-          is_marked-at Reading (gaps_of pieces) others a
+          is_marked_at Reading (gaps_of pieces) others a
           ∙ in_neither _ _ (in_no_gap 0 pieces a order (have.touched a (inl i))) (loads_in read_only marks a ∙ misses.reads a i);
       writes = λ a i.
-          is_marked-at Writing (gaps_of pieces) others a
+          is_marked_at Writing (gaps_of pieces) others a
           ∙ in_neither _ _ (in_no_gap 0 pieces a order (have.touched a (inr i)))
           (stores_in read_only marks a ∙ in_neither _ _ (have.writable a i) (misses.writes a i));
     }

@@ -3,7 +3,7 @@
 use Rattle.std.proofs.Common.{◌≡◌, ℕ, ◌+◌, ◌-◌, ◌*◌, ◌^◌, ◌≤◌, [], ◌∷◌, map, Some, None, true, false, refl, sym, ◌∙◌, arith, List, ◌++◌}
 use Rattle.dma_mem.specs.Places.{Descriptor, filling, size_of}
 use Rattle.dma_mem.specs.Rules.{IsTransfer}
-use Rattle.dma_mem.proofs.TransferRules.{size_of-some}
+use Rattle.dma_mem.proofs.TransferRules.{size_of_some}
 use Rattle.dma_insn.specs.AssemblyText.{most_program_bytes}
 use Rattle.dma_insn.specs.ControlWord.{control_of, end_at, is_control}
 use Rattle.dma_insn.specs.declared.assembler.TheConstants.{MAX_PROGRAM_BYTES}
@@ -153,5 +153,5 @@ early_signal_is_refused : (bus : Bus) (t : Descriptor) (first memory : ℕ → �
 early_signal_is_refused bus t first memory call e h signals none copied =
     let at = (compiled_events bus t h).signals e call.left.channel.stored (copied.signals e signals) in
     let all : 0 ≡ size_of t = sym none ∙ at.1 in
-    let some : 1 ≤ size_of t = size_of-some t h in
+    let some : 1 ≤ size_of t = size_of_some t h in
     omega arith

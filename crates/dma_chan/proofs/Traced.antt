@@ -15,9 +15,9 @@ use Rattle.dma_mem.specs.Places.{Descriptor, Apart, sources, destinations, moves
 use Rattle.dma_mem.specs.Marking.{MarkList, is_marked}
 use Rattle.dma_mem.specs.declared.marks.MarkKind.{MarkKind}
 use Rattle.dma_mem.specs.declared.marks.MarkKind.TheVariants.{Reading, Writing}
-use Rattle.dma_mem.proofs.ImageOver.{after_moves-more, get_or-after_moves_other, length-after_moves}
-use Rattle.dma_mem.proofs.ImagePut.{get_or-put, length-put}
-use Rattle.dma_mem.proofs.OverTransfers.{keys_in, once_parts, moves-writes, drop-zip, take-zip, carried-zip}
+use Rattle.dma_mem.proofs.ImageOver.{after_moves_more, get_or_after_moves_other, length_after_moves}
+use Rattle.dma_mem.proofs.ImagePut.{get_or_put, length_put}
+use Rattle.dma_mem.proofs.OverTransfers.{keys_in, once_parts, moves_writes, drop_zip, take_zip, carried_zip}
 use Rattle.dma_chan.specs.declared.bus.Bus.{Bus}
 use Rattle.dma_chan.specs.declared.exec.Registers.{Registers}
 use Rattle.dma_chan.specs.declared.turn.ChanTurn.{ChanTurn}
@@ -30,7 +30,7 @@ use Rattle.dma_chan.specs.Explains.{Trace, after_insn, after_fetch, next_in, tra
 use Rattle.dma_chan.proofs.BurstsInTurn.{left_up}
 use Rattle.dma_chan.proofs.ControlWords.{touched_up}
 use Rattle.dma_chan.proofs.GoingOn.{Can, length_up}
-use Rattle.dma_chan.proofs.MemberActs.{cannot_jump, length-read_at}
+use Rattle.dma_chan.proofs.MemberActs.{cannot_jump, length_read_at}
 
 -- ---- the lists grow
 
@@ -76,14 +76,14 @@ grows_to bus program k (suc m) l =
 -- ---- images that have the same bytes at some places
 
 -- if two images have the same byte at an address, they still do after the same bytes are put into both
-pub put-agrees : (x y : List ℕ) (es : List (ℕ × ℕ)) (a : ℕ) → a < length x → a < length y → get_or x a 0 ≡ get_or y a 0 → get_or (put x es) a 0 ≡ get_or (put y es) a 0
-put-agrees x y es a in_x in_y same = get_or-put x es a in_x ∙ ap (unwrap_or (lookup (nat_eq a) es)) same ∙ sym (get_or-put y es a in_y)
+pub put_agrees : (x y : List ℕ) (es : List (ℕ × ℕ)) (a : ℕ) → a < length x → a < length y → get_or x a 0 ≡ get_or y a 0 → get_or (put x es) a 0 ≡ get_or (put y es) a 0
+put_agrees x y es a in_x in_y same = get_or_put x es a in_x ∙ ap (unwrap_or (lookup (nat_eq a) es)) same ∙ sym (get_or_put y es a in_y)
 
-pub read_at-agrees : (x y places : List ℕ) → ((a : ℕ) → Contains places a → get_or x a 0 ≡ get_or y a 0) → read_at x places ≡ read_at y places
-read_at-agrees x y [] h = refl
-read_at-agrees x y (p ∷ rest) h =
+pub read_at_agrees : (x y places : List ℕ) → ((a : ℕ) → Contains places a → get_or x a 0 ≡ get_or y a 0) → read_at x places ≡ read_at y places
+read_at_agrees x y [] h = refl
+read_at_agrees x y (p ∷ rest) h =
     let here : get_or x p 0 ≡ get_or y p 0 = h p (0, omega arith, refl) in
-    let there : read_at x rest ≡ read_at y rest = read_at-agrees x y rest (λ a i. h a (Contains-append_right (p ∷ []) rest a i)) in
+    let there : read_at x rest ≡ read_at y rest = read_at_agrees x y rest (λ a i. h a (Contains-append_right (p ∷ []) rest a i)) in
     cc
 
 -- ---- a copy that goes on
@@ -96,10 +96,10 @@ laid_more first t k n copy =
     let zs = zip ds ss in
     let more = take n (drop k zs) in
     let same : carried first more ≡ zip (take n (drop k ds)) (read_at first (take n (drop k ss))) =
-    ap (carried first) (ap (take n) (drop-zip k ds ss) ∙ take-zip n (drop k ds) (drop k ss)) ∙ carried-zip first (take n (drop k ds)) (take n (drop k ss)) in
+    ap (carried first) (ap (take n) (drop_zip k ds ss) ∙ take_zip n (drop k ds) (drop k ss)) ∙ carried_zip first (take n (drop k ds)) (take n (drop k ss)) in
     let apart : Apart (keys_of more) (keys_of (take k zs)) =
-    λ a i j. once_parts ds k n copy.once a (keys_in n (drop k ds) (drop k ss) a (rw drop-zip at i)) (keys_in k ds ss a j) in
-    let all = after_moves-more first (take k zs) more [] apart in
+    λ a i j. once_parts ds k n copy.once a (keys_in n (drop k ds) (drop k ss) a (rw drop_zip at i)) (keys_in k ds ss a j) in
+    let all = after_moves_more first (take k zs) more [] apart in
     ap (put (laid first t k)) (sym same)
     ∙ ap (λ (ms : List (ℕ × ℕ)). put (after_moves first ms) (carried first more)) (sym (append-nil (take k zs)))
     ∙ sym all
@@ -108,10 +108,10 @@ laid_more first t k n copy =
 
 -- a source keeps its byte
 pub source_kept : (first : List ℕ) (t : Descriptor) (k a : ℕ) → IsCopy t → Contains (sources t) a → get_or (laid first t k) a 0 ≡ get_or first a 0
-source_kept first t k a copy i = get_or-after_moves_other first (moves t k) a (λ j. copy.apart a i (moves-writes t k a j))
+source_kept first t k a copy i = get_or_after_moves_other first (moves t k) a (λ j. copy.apart a i (moves_writes t k a j))
 
-pub length-laid : (first : List ℕ) (t : Descriptor) (k : ℕ) → length (laid first t k) ≡ length first
-length-laid first t k = length-after_moves first (moves t k)
+pub length_laid : (first : List ℕ) (t : Descriptor) (k : ℕ) → length (laid first t k) ≡ length first
+length_laid first t k = length_after_moves first (moves t k)
 
 -- ---- where a burst isn't stopped
 
@@ -167,7 +167,7 @@ module _ (t : Descriptor) (first : List ℕ) (marks : MarkList) (copy : IsCopy t
   here = state x.registers buffer image flags
 
   held : length buffer ≡ length x.loads - length x.stores
-  held = ap length m.buffer_is ∙ length-drop (length x.stores) (read_at first x.loads) ∙ ap (λ (n : ℕ). n - length x.stores) (length-read_at first x.loads)
+  held = ap length m.buffer_is ∙ length-drop (length x.stores) (read_at first x.loads) ∙ ap (λ (n : ℕ). n - length x.stores) (length_read_at first x.loads)
 
   -- an instruction that moves no byte
   quiet : (i : Insn) (r : Registers) (new : List Bool) → Answers t first marks i (record { registers = r; loads = x.loads; stores = x.stores }) (Moved, state r buffer image new)
@@ -180,13 +180,13 @@ module _ (t : Descriptor) (first : List ℕ) (marks : MarkList) (copy : IsCopy t
       let room : ltb 256 (length buffer + burst_len b) ≡ false = le-ltb 256 _ (omega (arith, held, c, m.few)) in
       let source : (a : ℕ) → Contains new a → Contains (sources t) a =
       λ a i. subst (λ (xs : List ℕ). Contains xs a) (sym part.loads) (Contains-append_left (x.loads ++ new) part.loads_rest a (Contains-append_right x.loads new a i)) in
-      let bytes : read_at image new ≡ read_at first new = read_at-agrees image first new (λ a i. m.same a (inl (source a i)) ∙ source_kept first t (length x.stores) a copy (source a i)) in
+      let bytes : read_at image new ≡ read_at first new = read_at_agrees image first new (λ a i. m.same a (inl (source a i)) ∙ source_kept first t (length x.stores) a copy (source a i)) in
       rw room (by_test (Answers t first marks Ld (after_insn Ld x)) (reaches Reading marks (length image) new) _ _ (λ e. record {
         registers_are = refl;
         buffer_is =
             ap (λ (xs : List ℕ). xs ++ read_at image new) m.buffer_is
             ∙ ap (λ (xs : List ℕ). drop (length x.stores) (read_at first x.loads) ++ xs) bytes
-            ∙ sym (drop-append-le (length x.stores) (read_at first x.loads) (read_at first new) (omega (arith, m.few, length-read_at first x.loads)))
+            ∙ sym (drop-append-le (length x.stores) (read_at first x.loads) (read_at first new) (omega (arith, m.few, length_read_at first x.loads)))
             ∙ ap (drop (length x.stores)) (sym (map-append (λ (a : ℕ). slice_index first a) x.loads new));
         few = omega (arith, m.few, length-append x.loads new);
         same = m.same;
@@ -231,10 +231,10 @@ module _ (t : Descriptor) (first : List ℕ) (marks : MarkList) (copy : IsCopy t
         few = omega (arith, c.0, count);
         same = λ a touches.
             ap (λ (ms : List (ℕ × ℕ)). get_or (put image ms) a 0) left
-            ∙ put-agrees image base (zip (take n (drop k (destinations t))) (read_at first (take n (drop k (sources t))))) a (m.fits a touches) (omega (arith, low a touches, length-laid first t k)) (m.same a touches)
+            ∙ put_agrees image base (zip (take n (drop k (destinations t))) (read_at first (take n (drop k (sources t))))) a (m.fits a touches) (omega (arith, low a touches, length_laid first t k)) (m.same a touches)
             ∙ ap (λ (i : List ℕ). get_or i a 0) (laid_more first t k n copy)
             ∙ ap (λ (j : ℕ). get_or (laid first t j) a 0) (sym count);
-        fits = λ a touches. omega (arith, m.fits a touches, length-put image (writes_of b (take n buffer)));
+        fits = λ a touches. omega (arith, m.fits a touches, length_put image (writes_of b (take n buffer)));
       }) (λ e misses. true≢false (sym (reaches_all Writing marks (length image) new (λ a i. m.fits a (inr (is_in a i))) (λ a i. misses.writes a (is_in a i))) ∙ e)))
 
   pub answers : (i : Insn) → Inside t (after_insn i x) → Inside t x → Can i x → Answers t first marks i (after_insn i x) (act marks i here)

@@ -29,7 +29,7 @@ use Rattle.dma_chan.specs.Explains.{IsRead, IsRun, Trace, after_insn, drops, hap
 use Rattle.dma_chan.specs.inner.Acts.{SetsRegisters}
 use Rattle.dma_chan.specs.inner.Spans.{MovesSome, rounds_of}
 use Rattle.dma_chan.specs.inner.Tracing.{Advances, IsTracer, Stops, trace_of}
-use Rattle.dma_chan.proofs.BurstReach.{touched-rounds}
+use Rattle.dma_chan.proofs.BurstReach.{touched_rounds}
 use Rattle.dma_chan.proofs.CallWrites.{act_leads}
 use Rattle.dma_chan.proofs.ControlWords.{advance_up}
 use Rattle.dma_chan.proofs.GoingOn.{drops_same, length_up, passed}
@@ -260,7 +260,7 @@ read_touched b addr len times at long often =
     ∙ rounds_read (rounds_of b) (record { addr = addr; len = len })
     ∙ ap (λ (a : ℕ). flat_map (λ ys. ys) (replicate (rounds_of b) (range_with_len a len))) at
     ∙ ap (λ (n : ℕ). flat_map (λ ys. ys) (replicate (rounds_of b) (range_with_len b.addr n))) long
-    ∙ sym (touched-rounds b)
+    ∙ sym (touched_rounds b)
 
 fixed_length : (k : ℕ) (xs : List ℕ) → length (flat_map (λ ys. ys) (replicate k xs)) ≡ k * length xs
 fixed_length zero xs = omega arith

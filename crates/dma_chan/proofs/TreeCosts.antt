@@ -12,7 +12,7 @@ use Rattle.dma_chan.specs.Compiled.{pieces_of, members_on, cost, cost_on, tree_o
 use Rattle.dma_chan.specs.Tree.{Tree, One, Then, Nothing, Repeat, bytes_of, unrolled, times, turn_of, in_order}
 use Rattle.dma_chan.specs.inner.Compiling.{cost_of}
 use Rattle.dma_chan.specs.Layer.{CostIs, CostOnBus}
-use Rattle.dma_chan.proofs.CutPlaces.{read_by, run_of, length-run}
+use Rattle.dma_chan.proofs.CutPlaces.{read_by, run_of, length_run}
 use Rattle.dma_chan.proofs.PieceCode.{cut_well, pieces_few}
 use Rattle.dma_chan.proofs.ControlWords.{beat_right}
 
@@ -23,23 +23,23 @@ counted (Then a b) = counted a + counted b
 counted Nothing = 0
 counted (Repeat c n t) = 1 + n * (counted t + 1)
 
-length-times : (n : ℕ) (is : List Insn) → length (times n is) ≡ n * length is
-length-times zero is = omega arith
-length-times (suc n) is = length-append is (times n is) ∙ ap (λ (k : ℕ). length is + k) (length-times n is) ∙ omega arith
+length_times : (n : ℕ) (is : List Insn) → length (times n is) ≡ n * length is
+length_times zero is = omega arith
+length_times (suc n) is = length-append is (times n is) ∙ ap (λ (k : ℕ). length is + k) (length_times n is) ∙ omega arith
 
-length-unrolled : (t : Tree) → length (unrolled t) ≡ counted t
-length-unrolled (One i) = refl
-length-unrolled (Then a b) = length-append (unrolled a) (unrolled b) ∙ omega (arith, length-unrolled a, length-unrolled b)
-length-unrolled Nothing = refl
-length-unrolled (Repeat c n t) =
+length_unrolled : (t : Tree) → length (unrolled t) ≡ counted t
+length_unrolled (One i) = refl
+length_unrolled (Then a b) = length-append (unrolled a) (unrolled b) ∙ omega (arith, length_unrolled a, length_unrolled b)
+length_unrolled Nothing = refl
+length_unrolled (Repeat c n t) =
     let is = turn_of c (length (bytes_of t)) (unrolled t) in
-    let e : length is ≡ counted t + 1 = length-append (unrolled t) (LpEnd c (length (bytes_of t)) ∷ []) ∙ omega (arith, length-unrolled t) in
-    let all : length (times n is) ≡ n * (counted t + 1) = length-times n is ∙ ap (λ (k : ℕ). n * k) e in
+    let e : length is ≡ counted t + 1 = length-append (unrolled t) (LpEnd c (length (bytes_of t)) ∷ []) ∙ omega (arith, length_unrolled t) in
+    let all : length (times n is) ≡ n * (counted t + 1) = length_times n is ∙ ap (λ (k : ℕ). n * k) e in
     omega (arith, all)
 
 pub cost_counted : (t : Tree) → cost_of t ≡ counted t
 unfolding cost_of
-cost_counted t = length-unrolled t
+cost_counted t = length_unrolled t
 
 -- a piece sets two addresses before its bursts
 pub piece_counts : (bus : Bus) (p : Piece) → cost_of (piece_tree bus p) ≡ 2 + cost_of (parts p.fill (beat_of bus p) p.len)
@@ -48,7 +48,7 @@ piece_counts bus p = omega arith
 
 pub cost_of_tree : (bus : Bus) (t : Descriptor) → cost_on bus t ≡ counted (tree_on bus t)
 unfolding cost_on members_on
-cost_of_tree bus t = length-unrolled (tree_on bus t)
+cost_of_tree bus t = length_unrolled (tree_on bus t)
 
 -- ---- the bound
 
@@ -100,7 +100,7 @@ pieces_counted bus [] = omega arith
 pieces_counted bus (p ∷ ps) =
     let one = piece_counted bus p in
     let more = pieces_counted bus ps in
-    let bytes : length (read_by (p ∷ ps)) ≡ p.len + length (read_by ps) = length-append (run_of p.fill p.src p.len) (read_by ps) ∙ omega (arith, length-run p.fill p.src p.len) in
+    let bytes : length (read_by (p ∷ ps)) ≡ p.len + length (read_by ps) = length-append (run_of p.fill p.src p.len) (read_by ps) ∙ omega (arith, length_run p.fill p.src p.len) in
     omega (arith, one, more, bytes)
 
 event_counted : (o : Option ℕ) → (counted (wait_tree o) ≤ 1) × (counted (signal_tree o) ≤ 1)

@@ -26,7 +26,7 @@ use Rattle.dma_commands.proofs.StepLemmas.{transfer_lines}
 use Rattle.dma_engine.specs.Room.{IsIdle}
 use Rattle.dma_engine.proofs.IdleSteps.{idle_steps_stay}
 use Rattle.dma_commands.specs.inner.Counting.{start_replies, transfer_text}
-use Rattle.dma_commands.proofs.Served.{AreServed, answers-append, served-all, served-one}
+use Rattle.dma_commands.proofs.Served.{AreServed, answers_append_law, served_all, served_one}
 
 -- ---- an idle answer is repeated
 
@@ -36,36 +36,36 @@ again v call reply (suc n) is =
     ap (λ (a : Reply × View). (let rest = answers a.1 (replicate n call) in (a.0 ∷ rest.0, rest.1))) (sym is)
     ∙ ap (λ (rest : List Reply × View). (reply ∷ rest.0, rest.1)) (again v call reply n is)
 
-once-or-same : (A B C : Type 0) → (B → C) → A ⊎ B → A ⊎ C
-once-or-same A B C f (inl a) = inl a
-once-or-same A B C f (inr b) = inr (f b)
+once_or_same : (A B C : Type 0) → (B → C) → A ⊎ B → A ⊎ C
+once_or_same A B C f (inl a) = inl a
+once_or_same A B C f (inr b) = inr (f b)
 
 -- the last answer, repeated
-last-steps : (v w : View) (ch : ℕ) (reply : Reply) (many : ℕ) → (reply, w) ≡ answer v (Step ch) → (many ≡ 1) ⊎ (w ≡ v) → answers v (replicate many (Step ch)) ≡ (replicate many reply, w)
-last-steps v w ch reply many is (inl one) =
+last_steps : (v w : View) (ch : ℕ) (reply : Reply) (many : ℕ) → (reply, w) ≡ answer v (Step ch) → (many ≡ 1) ⊎ (w ≡ v) → answers v (replicate many (Step ch)) ≡ (replicate many reply, w)
+last_steps v w ch reply many is (inl one) =
     ap (λ (n : ℕ). answers v (replicate n (Step ch))) one ∙ ap (λ (a : Reply × View). (a.0 ∷ [], a.1)) (sym is)
     ∙ ap (λ (n : ℕ). (replicate n reply, w)) (sym one)
-last-steps v w ch reply many is (inr same) =
+last_steps v w ch reply many is (inr same) =
     again v (Step ch) reply many (ap (λ (u : View). (reply, u)) (sym same) ∙ is) ∙ ap (λ (u : View). (replicate many reply, u)) (sym same)
 
 -- ---- steps that start and move, and the last
 
-AreServed-replicate : (n : ℕ) (reply : Reply) → reply ≢ Refused NoMemory → AreServed (replicate n reply)
-AreServed-replicate zero reply served = tt
-AreServed-replicate (suc n) reply served = (served, AreServed-replicate n reply served)
+AreServed_replicate : (n : ℕ) (reply : Reply) → reply ≢ Refused NoMemory → AreServed (replicate n reply)
+AreServed_replicate zero reply served = tt
+AreServed_replicate (suc n) reply served = (served, AreServed_replicate n reply served)
 
-moved-steps : (v w : View) (ch n : ℕ) → AllMove v ch n w → (replicate n (Turned Moved), w) ≡ answers v (replicate n (Step ch))
-moved-steps v w ch n h = served-all v (replicate n (Step ch)) (replicate n (Turned Moved)) w (AreServed-replicate n (Turned Moved) (λ e. cc)) h
+moved_steps : (v w : View) (ch n : ℕ) → AllMove v ch n w → (replicate n (Turned Moved), w) ≡ answers v (replicate n (Step ch))
+moved_steps v w ch n h = served_all v (replicate n (Step ch)) (replicate n (Turned Moved)) w (AreServed_replicate n (Turned Moved) (λ e. cc)) h
 
-start-steps : (o : Option ℕ) (v u : View) (ch : ℕ) → TakesStep v ch (option_map (λ cookie. Ok (Started cookie)) o) u → (start_replies o, u) ≡ answers v (replicate (if is_some o then 1 else 0) (Step ch))
-start-steps None v u ch same = ap (λ (x : View). ([], x)) same
-start-steps (Some cookie) v u ch is = ap (λ (a : Reply × View). (a.0 ∷ [], a.1)) is
+start_steps : (o : Option ℕ) (v u : View) (ch : ℕ) → TakesStep v ch (option_map (λ cookie. Ok (Started cookie)) o) u → (start_replies o, u) ≡ answers v (replicate (if is_some o then 1 else 0) (Step ch))
+start_steps None v u ch same = ap (λ (x : View). ([], x)) same
+start_steps (Some cookie) v u ch is = ap (λ (a : Reply × View). (a.0 ∷ [], a.1)) is
 
 -- steps after others
 joined : (v u w : View) (ch m n : ℕ) (first rest : List Reply) → (first, u) ≡ answers v (replicate m (Step ch)) → (rest, w) ≡ answers u (replicate n (Step ch)) → (first ++ rest, w) ≡ answers v (replicate (m + n) (Step ch))
 joined v u w ch m n first rest are more =
     let step = Step ch in
-    sym (ap (answers v) (sym (replicate-append-replicate m n step)) ∙ answers-append v (replicate m step) (replicate n step)
+    sym (ap (answers v) (sym (replicate-append-replicate m n step)) ∙ answers_append_law v (replicate m step) (replicate n step)
     ∙ ap (λ (a : List Reply × View). (let b = answers a.1 (replicate n step) in (a.0 ++ b.0, b.1))) (sym are)
     ∙ ap (λ (b : List Reply × View). (first ++ b.0, b.1)) (sym more))
 
@@ -73,51 +73,51 @@ joined v u w ch m n first rest are more =
 abbrev pub replies_before : Advanced → List Reply
 replies_before a = start_replies a.started ++ replicate a.moved (Turned Moved)
 
-steps-before : (v w : View) (ch : ℕ) (a : Advanced) → (h : IsAdvance v ch a w) → (replies_before a, h.stopped) ≡ answers v (replicate (steps_before a) (Step ch))
-steps-before v w ch a h =
+steps_before_law : (v w : View) (ch : ℕ) (a : Advanced) → (h : IsAdvance v ch a w) → (replies_before a, h.stopped) ≡ answers v (replicate (steps_before a) (Step ch))
+steps_before_law v w ch a h =
     joined v h.running h.stopped ch (if is_some a.started then 1 else 0) a.moved (start_replies a.started) (replicate a.moved (Turned Moved))
-    (start-steps a.started v h.running ch h.start) (moved-steps h.running h.stopped ch a.moved h.moves)
+    (start_steps a.started v h.running ch h.start) (moved_steps h.running h.stopped ch a.moved h.moves)
 
 -- without a last one
-pub all-steps : (v w : View) (ch : ℕ) (a : Advanced) → IsAdvance v ch a w → a.last ≡ None → (replies_before a, w) ≡ answers v (replicate (steps_before a) (Step ch))
-all-steps v w ch a h none =
+pub all_steps : (v w : View) (ch : ℕ) (a : Advanced) → IsAdvance v ch a w → a.last ≡ None → (replies_before a, w) ≡ answers v (replicate (steps_before a) (Step ch))
+all_steps v w ch a h none =
     let same : w ≡ h.stopped = subst (λ (l : Option (Result Turn EngineFault)). TakesStep h.stopped ch l w) none h.last in
-    ap (λ (x : View). (replies_before a, x)) same ∙ steps-before v w ch a h
+    ap (λ (x : View). (replies_before a, x)) same ∙ steps_before_law v w ch a h
 
 -- with the last one repeated
-pub steps-then : (v w : View) (ch : ℕ) (a : Advanced) (many : ℕ) (last : Result Turn EngineFault) (reply : Reply) → IsAdvance v ch a w → a.last ≡ Some last → (reply ≡ reply_of Turned last) × (reply ≢ Refused NoMemory) → (many ≡ 1) ⊎ IsIdle last → (replies_before a ++ replicate many reply, w) ≡ answers v (replicate (steps_before a + many) (Step ch))
-steps-then v w ch a many last reply h some is times =
+pub steps_then : (v w : View) (ch : ℕ) (a : Advanced) (many : ℕ) (last : Result Turn EngineFault) (reply : Reply) → IsAdvance v ch a w → a.last ≡ Some last → (reply ≡ reply_of Turned last) × (reply ≢ Refused NoMemory) → (many ≡ 1) ⊎ IsIdle last → (replies_before a ++ replicate many reply, w) ≡ answers v (replicate (steps_before a + many) (Step ch))
+steps_then v w ch a many last reply h some is times =
     let u = h.stopped in
     let answered : StepAnswers u ch last w = subst (λ (l : Option (Result Turn EngineFault)). TakesStep u ch l w) some h.last in
-    let answer-is = served-one u (Step ch) reply w is.1 (subst (λ (r : Reply). CallAnswers u (Step ch) r w) (sym is.0) answered) in
-    let stays : IsIdle last → w ≡ u = λ idle. idle_steps_stay u w ch last idle (ap (λ (r : Reply). (r, w)) (sym is.0) ∙ answer-is) in
-    joined v u w ch (steps_before a) many (replies_before a) (replicate many reply) (steps-before v w ch a h)
-    (sym (last-steps u w ch reply many answer-is (once-or-same (many ≡ 1) (IsIdle last) (w ≡ u) stays times)))
+    let answer_is = served_one u (Step ch) reply w is.1 (subst (λ (r : Reply). CallAnswers u (Step ch) r w) (sym is.0) answered) in
+    let stays : IsIdle last → w ≡ u = λ idle. idle_steps_stay u w ch last idle (ap (λ (r : Reply). (r, w)) (sym is.0) ∙ answer_is) in
+    joined v u w ch (steps_before a) many (replies_before a) (replicate many reply) (steps_before_law v w ch a h)
+    (sym (last_steps u w ch reply many answer_is (once_or_same (many ≡ 1) (IsIdle last) (w ≡ u) stays times)))
 
 -- ---- their texts
 
-map-replicate : {X Y : Type 0} (f : X → Y) (n : ℕ) (x : X) → map f (replicate n x) ≡ replicate n (f x)
-map-replicate f zero x = refl
-map-replicate f (suc n) x = ap (λ l. f x ∷ l) (map-replicate f n x)
+map_replicate : {X Y : Type 0} (f : X → Y) (n : ℕ) (x : X) → map f (replicate n x) ≡ replicate n (f x)
+map_replicate f zero x = refl
+map_replicate f (suc n) x = ap (λ l. f x ∷ l) (map_replicate f n x)
 
 -- of those before the last
-before-texts : (a : Advanced) (rest : List (List ℕ)) → map reply_text (start_replies a.started) ++ (replicate a.moved (reply_text (Turned Moved)) ++ rest) ≡ map reply_text (replies_before a) ++ rest
-before-texts a rest =
+before_texts : (a : Advanced) (rest : List (List ℕ)) → map reply_text (start_replies a.started) ++ (replicate a.moved (reply_text (Turned Moved)) ++ rest) ≡ map reply_text (replies_before a) ++ rest
+before_texts a rest =
     let f = start_replies a.started in
     let m = replicate a.moved (Turned Moved) in
-    ap (λ t. map reply_text f ++ (t ++ rest)) (sym (map-replicate reply_text a.moved (Turned Moved)))
+    ap (λ t. map reply_text f ++ (t ++ rest)) (sym (map_replicate reply_text a.moved (Turned Moved)))
     ∙ sym (append_assoc (map reply_text f) (map reply_text m) rest)
     ∙ ap (λ t. t ++ rest) (sym (map-append reply_text f m))
 
-pub all-texts : (a : Advanced) (w : View) (all : List Reply × View) (rest : List (List ℕ)) → (replies_before a, w) ≡ all → map reply_text (start_replies a.started) ++ (replicate a.moved (reply_text (Turned Moved)) ++ rest) ≡ map reply_text all.0 ++ rest
-all-texts a w all rest is = before-texts a rest ∙ ap (λ (x : List Reply × View). map reply_text x.0 ++ rest) is
+pub all_texts : (a : Advanced) (w : View) (all : List Reply × View) (rest : List (List ℕ)) → (replies_before a, w) ≡ all → map reply_text (start_replies a.started) ++ (replicate a.moved (reply_text (Turned Moved)) ++ rest) ≡ map reply_text all.0 ++ rest
+all_texts a w all rest is = before_texts a rest ∙ ap (λ (x : List Reply × View). map reply_text x.0 ++ rest) is
 
-pub both-texts : (a : Advanced) (n : ℕ) (last : Reply) (w : View) (all : List Reply × View) (rest : List (List ℕ)) → (replies_before a ++ replicate n last, w) ≡ all → map reply_text (start_replies a.started) ++ (replicate a.moved (reply_text (Turned Moved)) ++ (replicate n (reply_text last) ++ rest)) ≡ map reply_text all.0 ++ rest
-both-texts a n last w all rest is =
+pub both_texts : (a : Advanced) (n : ℕ) (last : Reply) (w : View) (all : List Reply × View) (rest : List (List ℕ)) → (replies_before a ++ replicate n last, w) ≡ all → map reply_text (start_replies a.started) ++ (replicate a.moved (reply_text (Turned Moved)) ++ (replicate n (reply_text last) ++ rest)) ≡ map reply_text all.0 ++ rest
+both_texts a n last w all rest is =
     let f = replies_before a in
     let l = replicate n last in
-    before-texts a (replicate n (reply_text last) ++ rest)
-    ∙ ap (λ t. map reply_text f ++ (t ++ rest)) (sym (map-replicate reply_text n last))
+    before_texts a (replicate n (reply_text last) ++ rest)
+    ∙ ap (λ t. map reply_text f ++ (t ++ rest)) (sym (map_replicate reply_text n last))
     ∙ sym (append_assoc (map reply_text f) (map reply_text l) rest)
     ∙ ap (λ t. t ++ rest) (sym (map-append reply_text f l) ∙ ap (λ (x : List Reply × View). map reply_text x.0) is)
 
@@ -127,12 +127,12 @@ transfer_steps : (v w : View) (ch count : ℕ) (a : Advanced) (cookie finished :
     → (text_of (step_answer v ch count).0 ≡ transfer_text ch cookie a.moved finished) × (w ≡ (step_answer v ch count).1)
 transfer_steps v w ch count a cookie finished h started last some sum =
     let finish = Finished finished NoError 0 in
-    let all = steps-then v w ch a 1 (Ok finish) (Turned finish) h last (refl, λ e. cc) (inl refl) in
+    let all = steps_then v w ch a 1 (Ok finish) (Turned finish) h last (refl, λ e. cc) (inl refl) in
     let two : 1 + a.moved + 1 ≡ count = omega (arith, sum) in
     let number : steps_before a + 1 ≡ count = ap (λ (o : Option ℕ). (if is_some o then 1 else 0) + a.moved + 1) started ∙ two in
     let steps = all ∙ ap (λ (k : ℕ). answers v (replicate k (Step ch))) number in
     let texts = ap (λ (o : Option ℕ). map reply_text (start_replies o) ++ (replicate a.moved (turn_text Moved) ++ turn_text finish ∷ [])) (sym started)
-    ∙ both-texts a 1 (Turned finish) w (answers v (replicate count (Step ch))) [] steps
+    ∙ both_texts a 1 (Turned finish) w (answers v (replicate count (Step ch))) [] steps
     ∙ append-nil (map reply_text (answers v (replicate count (Step ch))).0) in
     (ap (λ t. text_of (step_lines ch t)) (sym texts) ∙ transfer_lines ch cookie a.moved finished some, ap (λ (x : List Reply × View). x.1) steps)
 

@@ -25,8 +25,8 @@ use Rattle.dma_engine.specs.Object.{Object, ChannelState, after, channel, finish
 use Rattle.dma_engine.specs.View.{View, RunningTransfer, channels, idle, object_of, schedule_at, size}
 use Rattle.dma_engine.specs.Turn.{Stepped, front_turn, first_conflicting, insn_turn, last_step, next_moved, start_turn, turn, with_entry, with_taken}
 use Rattle.dma_engine.specs.Answer.{answer, cause, reply_of, unless}
-use Rattle.dma_engine.proofs.Boards.{with_channel-at}
-use Rattle.dma_engine.proofs.Histories.{object_after-append}
+use Rattle.dma_engine.proofs.Boards.{with_channel_at}
+use Rattle.dma_engine.proofs.Histories.{object_after_append}
 use Rattle.dma_commands.specs.Run.{most_copy_steps, CopiesEnd, goes_on, is_in_use, stepped_to_end}
 
 -- ---- a view in which channel 0 runs a transfer
@@ -45,88 +45,88 @@ either : (P : Stepped → Type 0) (b : Bool) (x y : Stepped) → P x → P y →
 either P true x y f g = f
 either P false x y f g = g
 
-taken-at : (u : View) (k : Option ℕ) → 0 < length u.schedule → (schedule_at (with_taken u 0 k) 0).taken ≡ k
-taken-at u k there = ap (λ s. s.taken) (get_or-set_same u.schedule 0 (record (schedule_at u 0) { taken = k }) idle there)
+taken_at : (u : View) (k : Option ℕ) → 0 < length u.schedule → (schedule_at (with_taken u 0 k) 0).taken ≡ k
+taken_at u k there = ap (λ s. s.taken) (get_or-set_same u.schedule 0 (record (schedule_at u 0) { taken = k }) idle there)
 
-moved-on : (u : View) (t : Descriptor) (k : ℕ) → 0 < length u.schedule → issued_front (channel (object_of u) 0) ≡ Some t → k + 1 < cost t → GoesOn t k (next_moved u 0 k)
-moved-on u t k there front less = λ _. (
+moved_on_law : (u : View) (t : Descriptor) (k : ℕ) → 0 < length u.schedule → issued_front (channel (object_of u) 0) ≡ Some t → k + 1 < cost t → GoesOn t k (next_moved u 0 k)
+moved_on_law u t k there front less = λ _. (
   less,
   record {
     there = omega (arith, there, length-set u.schedule 0 (record (schedule_at u 0) { taken = Some (k + 1) }));
     front = front;
-    taken = taken-at u (Some (k + 1)) there;
+    taken = taken_at u (Some (k + 1)) there;
   },
 )
 
 -- ---- the front after an entry
 
-entry-is : (v : View) (e : Entry) → object_of (with_entry v e) ≡ after (object_of v) e
-entry-is v e = object_after-append v.base v.history (e ∷ [])
+entry_is : (v : View) (e : Entry) → object_of (with_entry v e) ≡ after (object_of v) e
+entry_is v e = object_after_append v.base v.history (e ∷ [])
 
-same-front : (o : Object) (c : ChannelState) → issued_front c ≡ issued_front (channel o 0) → issued_front (channel (with_channel o 0 c) 0) ≡ issued_front (channel o 0)
-same-front o c same = elim (with_channel-at o 0 c) [
+same_front : (o : Object) (c : ChannelState) → issued_front c ≡ issued_front (channel o 0) → issued_front (channel (with_channel o 0 c) 0) ≡ issued_front (channel o 0)
+same_front o c same = elim (with_channel_at o 0 c) [
   | inl e ↦ ap issued_front e ∙ same
   | inr e ↦ ap issued_front e
 ]
 
-passed-front : (v : View) (event : ℕ) → issued_front (channel (object_of (with_entry v (Passed 0 event))) 0) ≡ issued_front (channel (object_of v) 0)
-passed-front v event = ap (λ o. issued_front (channel o 0)) (entry-is v (Passed 0 event)) ∙ same-front (with_flag (object_of v) event false) (record (channel (object_of v) 0) { passed = true }) refl
+passed_front : (v : View) (event : ℕ) → issued_front (channel (object_of (with_entry v (Passed 0 event))) 0) ≡ issued_front (channel (object_of v) 0)
+passed_front v event = ap (λ o. issued_front (channel o 0)) (entry_is v (Passed 0 event)) ∙ same_front (with_flag (object_of v) event false) (record (channel (object_of v) 0) { passed = true }) refl
 
-signalled-front : (v : View) (event : ℕ) → issued_front (channel (object_of (with_entry v (Signalled (Channel 0) event))) 0) ≡ issued_front (channel (object_of v) 0)
-signalled-front v event = ap (λ o. issued_front (channel o 0)) (entry-is v (Signalled (Channel 0) event)) ∙ same-front (with_flag (object_of v) event true) (record (channel (object_of v) 0) { signalled = true }) refl
+signalled_front : (v : View) (event : ℕ) → issued_front (channel (object_of (with_entry v (Signalled (Channel 0) event))) 0) ≡ issued_front (channel (object_of v) 0)
+signalled_front v event = ap (λ o. issued_front (channel o 0)) (entry_is v (Signalled (Channel 0) event)) ∙ same_front (with_flag (object_of v) event true) (record (channel (object_of v) 0) { signalled = true }) refl
 
 -- ---- one step
 
-insn-goes : (v : View) (t : Descriptor) (k : ℕ) → At v t k → (i : Insn) → (i ≢ End → k + 1 < cost t) → GoesOn t k (insn_turn v 0 t k i)
-insn-goes v t k at (Wfe event invalid) less =
+insn_goes : (v : View) (t : Descriptor) (k : ℕ) → At v t k → (i : Insn) → (i ≢ End → k + 1 < cost t) → GoesOn t k (insn_turn v 0 t k i)
+insn_goes v t k at (Wfe event invalid) less =
     either (GoesOn t k) (is_set (object_of v) event) _ _
-    (moved-on (with_entry v (Passed 0 event)) t k at.there (passed-front v event ∙ at.front) (less (λ e. absurd cc)))
+    (moved_on_law (with_entry v (Passed 0 event)) t k at.there (passed_front v event ∙ at.front) (less (λ e. absurd cc)))
     (λ e. absurd cc)
-insn-goes v t k at (Sev event) less =
-    moved-on (with_entry v (Signalled (Channel 0) event)) t k at.there (signalled-front v event ∙ at.front) (less (λ e. absurd cc))
-insn-goes v t k at End less = λ e. absurd cc
-insn-goes v t k at Ld less =
-    either (GoesOn t k) (meets_mark Reading (object_of v).marks (read_places t k)) _ _ (λ e. absurd cc) (moved-on v t k at.there at.front (less (λ e. absurd cc)))
-insn-goes v t k at St less =
-    either (GoesOn t k) (meets_mark Writing (object_of v).marks (written_places t k)) _ _ (λ e. absurd cc) (moved-on v t k at.there at.front (less (λ e. absurd cc)))
-insn-goes v t k at (Mov a b) less = moved-on v t k at.there at.front (less (λ e. absurd cc))
-insn-goes v t k at Rmb less = moved-on v t k at.there at.front (less (λ e. absurd cc))
-insn-goes v t k at Wmb less = moved-on v t k at.there at.front (less (λ e. absurd cc))
-insn-goes v t k at Nop less = moved-on v t k at.there at.front (less (λ e. absurd cc))
-insn-goes v t k at (Lp a b) less = moved-on v t k at.there at.front (less (λ e. absurd cc))
-insn-goes v t k at (LpEnd a b) less = moved-on v t k at.there at.front (less (λ e. absurd cc))
+insn_goes v t k at (Sev event) less =
+    moved_on_law (with_entry v (Signalled (Channel 0) event)) t k at.there (signalled_front v event ∙ at.front) (less (λ e. absurd cc))
+insn_goes v t k at End less = λ e. absurd cc
+insn_goes v t k at Ld less =
+    either (GoesOn t k) (meets_mark Reading (object_of v).marks (read_places t k)) _ _ (λ e. absurd cc) (moved_on_law v t k at.there at.front (less (λ e. absurd cc)))
+insn_goes v t k at St less =
+    either (GoesOn t k) (meets_mark Writing (object_of v).marks (written_places t k)) _ _ (λ e. absurd cc) (moved_on_law v t k at.there at.front (less (λ e. absurd cc)))
+insn_goes v t k at (Mov a b) less = moved_on_law v t k at.there at.front (less (λ e. absurd cc))
+insn_goes v t k at Rmb less = moved_on_law v t k at.there at.front (less (λ e. absurd cc))
+insn_goes v t k at Wmb less = moved_on_law v t k at.there at.front (less (λ e. absurd cc))
+insn_goes v t k at Nop less = moved_on_law v t k at.there at.front (less (λ e. absurd cc))
+insn_goes v t k at (Lp a b) less = moved_on_law v t k at.there at.front (less (λ e. absurd cc))
+insn_goes v t k at (LpEnd a b) less = moved_on_law v t k at.there at.front (less (λ e. absurd cc))
 
 -- an instruction that is the last one, or would be after it, is the end
-member-late : (t : Descriptor) (k : ℕ) → HasShape t → cost t ≤ k + 1 → member t k ≡ End
+member_late : (t : Descriptor) (k : ℕ) → HasShape t → cost t ≤ k + 1 → member t k ≡ End
 unfolding member
-member-late t k shape late = elim (cases_lt k (cost t)) [
+member_late t k shape late = elim (cases_lt k (cost t)) [
   | inl less ↦ let last : k ≡ cost t - 1 = omega (arith, less, late) in ap (λ n. slice_index_or (members t) n End) last ∙ shape.end_last
   | inr past ↦ get_or_past (members t) k End (omega (arith, past, shape.all))
 ]
 
-member-less : (t : Descriptor) (k : ℕ) → HasShape t → member t k ≢ End → k + 1 < cost t
-member-less t k shape other = elim (cases_lt (k + 1) (cost t)) [
+member_less : (t : Descriptor) (k : ℕ) → HasShape t → member t k ≢ End → k + 1 < cost t
+member_less t k shape other = elim (cases_lt (k + 1) (cost t)) [
   | inl less ↦ less
-  | inr past ↦ absurd (other (member-late t k shape past))
+  | inr past ↦ absurd (other (member_late t k shape past))
 ]
 
-front-goes : (v : View) (t : Descriptor) (k : ℕ) → IsTransfer t → At v t k → GoesOn t k (front_turn v 0 (Some t) (Some k))
-front-goes v t k rules at =
-    either (GoesOn t k) (v.steps == last_step) _ _ (λ e. absurd cc) (insn-goes v t k at (member t k) (member-less t k (shape_is t rules)))
+front_goes : (v : View) (t : Descriptor) (k : ℕ) → IsTransfer t → At v t k → GoesOn t k (front_turn v 0 (Some t) (Some k))
+front_goes v t k rules at =
+    either (GoesOn t k) (v.steps == last_step) _ _ (λ e. absurd cc) (insn_goes v t k at (member t k) (member_less t k (shape_is t rules)))
 
 -- a property of each step that ends the copy, and of the front's step, is one of what a step does
-stepped-by : (P : Stepped → Type 0) (v : View) (x : Option Descriptor) (taken : Option ℕ) → ((s : Stepped) → goes_on (reply_of Turned s.0) ≡ false → P s) → issued_front (channel (object_of v) 0) ≡ x → (schedule_at v 0).taken ≡ taken → P (front_turn v 0 x taken) → P (turn v 0)
-stepped-by P v x taken quiet front is h =
+stepped_by : (P : Stepped → Type 0) (v : View) (x : Option Descriptor) (taken : Option ℕ) → ((s : Stepped) → goes_on (reply_of Turned s.0) ≡ false → P s) → issued_front (channel (object_of v) 0) ≡ x → (schedule_at v 0).taken ≡ taken → P (front_turn v 0 x taken) → P (turn v 0)
+stepped_by P v x taken quiet front is h =
     either P (nat_le (channels v) 0) _ _ (quiet _ refl)
     (either P (channel (object_of v) 0).halted _ _ (quiet _ refl)
     (either P (schedule_at v 0).paused _ _ (quiet _ refl)
     (subst (λ y. P (front_turn v 0 y (schedule_at v 0).taken)) (sym front) (subst (λ n. P (front_turn v 0 x n)) (sym is) h))))
 
-quiet-goes : (t : Descriptor) (k : ℕ) (s : Stepped) → goes_on (reply_of Turned s.0) ≡ false → GoesOn t k s
-quiet-goes t k s off = λ on. absurd (false≢true (sym off ∙ on))
+quiet_goes : (t : Descriptor) (k : ℕ) (s : Stepped) → goes_on (reply_of Turned s.0) ≡ false → GoesOn t k s
+quiet_goes t k s off = λ on. absurd (false≢true (sym off ∙ on))
 
-step-goes : (v : View) (t : Descriptor) (k : ℕ) → IsTransfer t → At v t k → GoesOn t k (turn v 0)
-step-goes v t k rules at = stepped-by (GoesOn t k) v (Some t) (Some k) (quiet-goes t k) at.front at.taken (front-goes v t k rules at)
+step_goes : (v : View) (t : Descriptor) (k : ℕ) → IsTransfer t → At v t k → GoesOn t k (turn v 0)
+step_goes v t k rules at = stepped_by (GoesOn t k) v (Some t) (Some k) (quiet_goes t k) at.front at.taken (front_goes v t k rules at)
 
 -- ---- all steps
 
@@ -134,93 +134,93 @@ abbrev Ends : ℕ → View → Type 0
 Ends n v = goes_on (stepped_to_end n v).0 ≡ false
 
 -- where the only step doesn't go on, and where the others end if the first one goes on
-ends-last : (v : View) → goes_on (answer v (calls.Step 0)).0 ≡ false → Ends zero v
+ends_last : (v : View) → goes_on (answer v (calls.Step 0)).0 ≡ false → Ends zero v
 unfolding stepped_to_end
-ends-last v off = off
+ends_last v off = off
 
-ends-by : (n : ℕ) (a : Reply × View) → (goes_on a.0 ≡ true → Ends n a.1) → goes_on (if goes_on a.0 then stepped_to_end n a.1 else a).0 ≡ false
-ends-by n a more =
+ends_by_law : (n : ℕ) (a : Reply × View) → (goes_on a.0 ≡ true → Ends n a.1) → goes_on (if goes_on a.0 then stepped_to_end n a.1 else a).0 ≡ false
+ends_by_law n a more =
     let by : (b : Bool) → goes_on a.0 ≡ b → goes_on (if b then stepped_to_end n a.1 else a).0 ≡ false = λ b. elim b as (λ b. goes_on a.0 ≡ b → goes_on (if b then stepped_to_end n a.1 else a).0 ≡ false) [
       | true ↦ λ on. more on
       | false ↦ λ off. off
     ] in
     by (goes_on a.0) refl
 
-ends-next : (n : ℕ) (v : View) → (goes_on (answer v (calls.Step 0)).0 ≡ true → Ends n (answer v (calls.Step 0)).1) → Ends (suc n) v
+ends_next : (n : ℕ) (v : View) → (goes_on (answer v (calls.Step 0)).0 ≡ true → Ends n (answer v (calls.Step 0)).1) → Ends (suc n) v
 unfolding stepped_to_end
-ends-next n v more = ends-by n (answer v (calls.Step 0)) more
+ends_next n v more = ends_by_law n (answer v (calls.Step 0)) more
 
 never : (b : Bool) → (b ≡ true → ⊥) → b ≡ false
 never true h = absurd (h refl)
 never false h = refl
 
 -- a transfer that runs ends within the instructions that are left
-runs-out : (n : ℕ) (v : View) (t : Descriptor) (k : ℕ) → IsTransfer t → At v t k → cost t ≤ n + k + 1 → Ends n v
-runs-out zero v t k rules at left =
-    ends-last v (never _ (λ on. let next = step-goes v t k rules at on in omega (arith, next.0, left)))
-runs-out (suc n) v t k rules at left =
-    ends-next n v (λ on.
-    let next = step-goes v t k rules at on in
-    runs-out n (turn v 0).1 t (k + 1) rules next.1 (omega (arith, left)))
+runs_out : (n : ℕ) (v : View) (t : Descriptor) (k : ℕ) → IsTransfer t → At v t k → cost t ≤ n + k + 1 → Ends n v
+runs_out zero v t k rules at left =
+    ends_last v (never _ (λ on. let next = step_goes v t k rules at on in omega (arith, next.0, left)))
+runs_out (suc n) v t k rules at left =
+    ends_next n v (λ on.
+    let next = step_goes v t k rules at on in
+    runs_out n (turn v 0).1 t (k + 1) rules next.1 (omega (arith, left)))
 
 -- ---- from the start
 
 -- nothing goes on where no front is issued
-none-ends : (n : ℕ) (v : View) → issued_front (channel (object_of v) 0) ≡ None → Ends n v
-none-ends n v none =
-    let off : goes_on (answer v (calls.Step 0)).0 ≡ false = stepped-by (λ s. goes_on (reply_of Turned s.0) ≡ false) v None _ (λ s h. h) none refl refl in
+none_ends : (n : ℕ) (v : View) → issued_front (channel (object_of v) 0) ≡ None → Ends n v
+none_ends n v none =
+    let off : goes_on (answer v (calls.Step 0)).0 ≡ false = stepped_by (λ s. goes_on (reply_of Turned s.0) ≡ false) v None _ (λ s h. h) none refl refl in
     elim n as (λ n. Ends n v) [
-      | zero ↦ ends-last v off
-      | suc n ↦ ends-next n v (λ on. absurd (false≢true (sym off ∙ on)))
+      | zero ↦ ends_last v off
+      | suc n ↦ ends_next n v (λ on. absurd (false≢true (sym off ∙ on)))
     ]
 
 -- if the copy goes on after this, the front has started
 abbrev Starts : Descriptor → Stepped → Type 0
 Starts t s = goes_on (reply_of Turned s.0) ≡ true → At s.1 t 0
 
-start-goes : (v : View) (t : Descriptor) (x : Option RunningTransfer) → 0 < length v.schedule → issued_front (channel (object_of v) 0) ≡ Some t → Starts t (start_turn v 0 x)
-start-goes v t (Some r) there front = λ e. absurd cc
-start-goes v t None there front = λ _. record {
+start_goes : (v : View) (t : Descriptor) (x : Option RunningTransfer) → 0 < length v.schedule → issued_front (channel (object_of v) 0) ≡ Some t → Starts t (start_turn v 0 x)
+start_goes v t (Some r) there front = λ e. absurd cc
+start_goes v t None there front = λ _. record {
   there = omega (arith, there, length-set v.schedule 0 (record (schedule_at v 0) { taken = Some 0 }));
   front = front;
-  taken = taken-at v (Some 0) there;
+  taken = taken_at v (Some 0) there;
 }
 
 -- a transfer ends that hasn't started, within one step more than its instructions
-idle-ends : (n : ℕ) (v : View) (t : Descriptor) → IsTransfer t → 0 < length v.schedule → issued_front (channel (object_of v) 0) ≡ Some t → (schedule_at v 0).taken ≡ None → cost t ≤ n → Ends n v
-idle-ends zero v t rules there front taken left = absurd (omega (arith, (shape_is t rules).some, left))
-idle-ends (suc n) v t rules there front taken left =
-    let starts : Starts t (turn v 0) = stepped-by (Starts t) v (Some t) None (λ s off on. absurd (false≢true (sym off ∙ on))) front taken (start-goes v t (first_conflicting v t) there front) in
-    ends-next n v (λ on. runs-out n (turn v 0).1 t 0 rules (starts on) (omega (arith, left)))
+idle_ends : (n : ℕ) (v : View) (t : Descriptor) → IsTransfer t → 0 < length v.schedule → issued_front (channel (object_of v) 0) ≡ Some t → (schedule_at v 0).taken ≡ None → cost t ≤ n → Ends n v
+idle_ends zero v t rules there front taken left = absurd (omega (arith, (shape_is t rules).some, left))
+idle_ends (suc n) v t rules there front taken left =
+    let starts : Starts t (turn v 0) = stepped_by (Starts t) v (Some t) None (λ s off on. absurd (false≢true (sym off ∙ on))) front taken (start_goes v t (first_conflicting v t) there front) in
+    ends_next n v (λ on. runs_out n (turn v 0).1 t 0 rules (starts on) (omega (arith, left)))
 
-front-ends : (n : ℕ) (v : View) (t : Descriptor) → IsTransfer t → 0 < length v.schedule → issued_front (channel (object_of v) 0) ≡ Some t → cost t ≤ n → Ends n v
-front-ends n v t rules there front left =
+front_ends : (n : ℕ) (v : View) (t : Descriptor) → IsTransfer t → 0 < length v.schedule → issued_front (channel (object_of v) 0) ≡ Some t → cost t ≤ n → Ends n v
+front_ends n v t rules there front left =
     let by : (taken : Option ℕ) → (schedule_at v 0).taken ≡ taken → Ends n v = λ taken. elim taken as (λ taken. (schedule_at v 0).taken ≡ taken → Ends n v) [
-      | None ↦ λ is. idle-ends n v t rules there front is left
-      | Some k ↦ λ is. runs-out n v t k rules (record { there = there; front = front; taken = is }) (omega (arith, left))
+      | None ↦ λ is. idle_ends n v t rules there front is left
+      | Some k ↦ λ is. runs_out n v t k rules (record { there = there; front = front; taken = is }) (omega (arith, left))
     ] in
     by _ refl
 
 -- ---- from the submission
 
 -- an index at or past the end of the first list finds the appended element, or none
-pushed-at : (xs : List Descriptor) (t : Descriptor) (f : ℕ) → length xs ≤ f → (slice_get (xs ++ t ∷ []) f ≡ Some t) ⊎ (slice_get (xs ++ t ∷ []) f ≡ None)
-pushed-at [] t zero h = inl refl
-pushed-at [] t (suc f) h = inr refl
-pushed-at (x ∷ xs) t zero h = absurd (omega (arith, h))
-pushed-at (x ∷ xs) t (suc f) h = pushed-at xs t f (omega (arith, h))
+pushed_at : (xs : List Descriptor) (t : Descriptor) (f : ℕ) → length xs ≤ f → (slice_get (xs ++ t ∷ []) f ≡ Some t) ⊎ (slice_get (xs ++ t ∷ []) f ≡ None)
+pushed_at [] t zero h = inl refl
+pushed_at [] t (suc f) h = inr refl
+pushed_at (x ∷ xs) t zero h = absurd (omega (arith, h))
+pushed_at (x ∷ xs) t (suc f) h = pushed_at xs t f (omega (arith, h))
 
 abbrev all_issued : ChannelState → ChannelState
 all_issued c = record c { issued = used c }
 
 -- a transfer that was submitted and issued is the front, where none was unfinished before
-issued-is : (c : ChannelState) (t : Descriptor) → used c ≤ finished c → (issued_front (all_issued (with_transfer c t)) ≡ Some t) ⊎ (issued_front (all_issued (with_transfer c t)) ≡ None)
-issued-is c t none =
+issued_is : (c : ChannelState) (t : Descriptor) → used c ≤ finished c → (issued_front (all_issued (with_transfer c t)) ≡ Some t) ⊎ (issued_front (all_issued (with_transfer c t)) ≡ None)
+issued_is c t none =
     let all = c.submitted ++ t ∷ [] in
     let n = length c.outcomes in
     let at : Bool → Option Descriptor = λ b. if b then slice_get all n else None in
     let by : (b : Bool) → (at b ≡ Some t) ⊎ (at b ≡ None) = λ b. elim b as (λ b. (at b ≡ Some t) ⊎ (at b ≡ None)) [
-      | true ↦ pushed-at c.submitted t n (omega (arith, none))
+      | true ↦ pushed_at c.submitted t n (omega (arith, none))
       | false ↦ inr refl
     ] in
     by (nat_lt (finished c) (c.forgotten + length all))
@@ -233,8 +233,8 @@ accepted false false true v u w k cookie is = let e = ap (λ x. x.0) is in absur
 accepted false false false v u w k cookie is = (refl, ap (λ x. x.1) is)
 
 -- channel 0 isn't in use
-free-none : (v : View) → is_in_use v ≡ false → used (channel (object_of v) 0) ≤ finished (channel (object_of v) 0)
-free-none v free =
+free_none : (v : View) → is_in_use v ≡ false → used (channel (object_of v) 0) ≤ finished (channel (object_of v) 0)
+free_none v free =
     let c = channel (object_of v) 0 in
     let by : (b rest : Bool) → (b || rest) ≡ false → b ≡ false = λ b rest. elim b as (λ b. (b || rest) ≡ false → b ≡ false) [
       | true ↦ λ e. absurd cc
@@ -248,23 +248,23 @@ free-none v free =
 abbrev with_submitted : View → Descriptor → View
 with_submitted v t = with_entry v (Submitted 0 t (used (channel (object_of v) 0) + 1))
 
-many-after : (v : View) (t : Descriptor) → channels (with_submitted v t) ≡ channels v
-many-after v t =
+many_after : (v : View) (t : Descriptor) → channels (with_submitted v t) ≡ channels v
+many_after v t =
     let o = object_of v in
-    ap (λ o. length o.channels) (entry-is v (Submitted 0 t (used (channel o 0) + 1))) ∙ length-set o.channels 0 (with_transfer (channel o 0) t)
+    ap (λ o. length o.channels) (entry_is v (Submitted 0 t (used (channel o 0) + 1))) ∙ length-set o.channels 0 (with_transfer (channel o 0) t)
 
-channel-submitted : (v : View) (t : Descriptor) → 0 < channels v → channel (object_of (with_submitted v t)) 0 ≡ with_transfer (channel (object_of v) 0) t
-channel-submitted v t some =
+channel_submitted : (v : View) (t : Descriptor) → 0 < channels v → channel (object_of (with_submitted v t)) 0 ≡ with_transfer (channel (object_of v) 0) t
+channel_submitted v t some =
     let o = object_of v in
-    ap (λ o. channel o 0) (entry-is v (Submitted 0 t (used (channel o 0) + 1))) ∙ get_or-set_same o.channels 0 (with_transfer (channel o 0) t) empty_channel some
+    ap (λ o. channel o 0) (entry_is v (Submitted 0 t (used (channel o 0) + 1))) ∙ get_or-set_same o.channels 0 (with_transfer (channel o 0) t) empty_channel some
 
-channel-issued : (v : View) → 0 < channels v → channel (object_of (with_entry v (Issued 0))) 0 ≡ all_issued (channel (object_of v) 0)
-channel-issued v some =
+channel_issued : (v : View) → 0 < channels v → channel (object_of (with_entry v (Issued 0))) 0 ≡ all_issued (channel (object_of v) 0)
+channel_issued v some =
     let o = object_of v in
-    ap (λ o. channel o 0) (entry-is v (Issued 0)) ∙ get_or-set_same o.channels 0 (all_issued (channel o 0)) empty_channel some
+    ap (λ o. channel o 0) (entry_is v (Issued 0)) ∙ get_or-set_same o.channels 0 (all_issued (channel o 0)) empty_channel some
 
-issue-after : (v : View) → 0 < channels v → (answer v (calls.Issue 0)).1 ≡ with_entry v (Issued 0)
-issue-after v some =
+issue_after : (v : View) → 0 < channels v → (answer v (calls.Issue 0)).1 ≡ with_entry v (Issued 0)
+issue_after v some =
     let c = channel (object_of v) 0 in
     ap (λ b. (unless (cause b NoChannel None) v (Count (used c - c.issued), with_entry v (Issued 0))).1) (lt-leb (channels v) 0 some)
 
@@ -273,17 +273,17 @@ within : (t : Descriptor) → IsTransfer t → cost t ≤ most_copy_steps
 within t rules = omega (arith, cost_is t rules)
 
 -- what was submitted and issued ends
-issued-ends : (n : ℕ) (v : View) (t : Descriptor) → IsTransfer t → 0 < length v.schedule → 0 < channels v → used (channel (object_of v) 0) ≤ finished (channel (object_of v) 0) → cost t ≤ n → Ends n (answer (with_submitted v t) (calls.Issue 0)).1
-issued-ends n v t rules there some none left =
+issued_ends : (n : ℕ) (v : View) (t : Descriptor) → IsTransfer t → 0 < length v.schedule → 0 < channels v → used (channel (object_of v) 0) ≤ finished (channel (object_of v) 0) → cost t ≤ n → Ends n (answer (with_submitted v t) (calls.Issue 0)).1
+issued_ends n v t rules there some none left =
     let x = with_submitted v t in
     let y = with_entry x (Issued 0) in
-    let still : 0 < channels x = omega (arith, some, many-after v t) in
-    let front : issued_front (channel (object_of y) 0) ≡ issued_front (all_issued (with_transfer (channel (object_of v) 0) t)) = ap issued_front (channel-issued x still ∙ ap all_issued (channel-submitted v t some)) in
-    let ends : Ends n y = elim (issued-is (channel (object_of v) 0) t none) [
-      | inl is ↦ front-ends n y t rules there (front ∙ is) left
-      | inr is ↦ none-ends n y (front ∙ is)
+    let still : 0 < channels x = omega (arith, some, many_after v t) in
+    let front : issued_front (channel (object_of y) 0) ≡ issued_front (all_issued (with_transfer (channel (object_of v) 0) t)) = ap issued_front (channel_issued x still ∙ ap all_issued (channel_submitted v t some)) in
+    let ends : Ends n y = elim (issued_is (channel (object_of v) 0) t none) [
+      | inl is ↦ front_ends n y t rules there (front ∙ is) left
+      | inr is ↦ none_ends n y (front ∙ is)
     ] in
-    subst (Ends n) (sym (issue-after x still)) ends
+    subst (Ends n) (sym (issue_after x still)) ends
 
 pub copies_end : CopiesEnd
 copies_end v t cookie w sound rules free submit =
@@ -292,5 +292,5 @@ copies_end v t cookie w sound rules free submit =
     let took = accepted (nat_le (channels v) 0) (not (lies_below t (size v))) (nat_le last_cookie (used c)) v (with_submitted v t) w (used c + 1) cookie submit in
     let some : 0 < channels v = leb-false (channels v) 0 took.0 in
     let there : 0 < length v.schedule = omega (arith, some, sound.fits.many) in
-    let ends = issued-ends most_copy_steps v t rules there some (free-none v free) (within t rules) in
+    let ends = issued_ends most_copy_steps v t rules there some (free_none v free) (within t rules) in
     subst (λ u. Ends most_copy_steps (answer u (calls.Issue 0)).1) took.1 ends

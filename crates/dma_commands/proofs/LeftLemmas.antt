@@ -8,9 +8,9 @@ use Rattle.dma_commands.specs.Run.{Answered}
 use Rattle.dma_commands.proofs.RunLemmas.{AnswersSeen}
 
 -- the view after lines that were executed one after another
-pub left-in_turn : {S : Type 0} (seen : S → View) (lines : List Statement) (found left : S) (groups : List (List (List ℕ))) → ActsInTurn (AnswersSeen seen) lines found groups left → seen left ≡ lines_left (seen found) lines
-left-in_turn seen [] found left [] done = ap seen done
-left-in_turn seen [] found left (g ∷ groups) done = absurd done
-left-in_turn seen (line ∷ lines) found left [] done = absurd done
-left-in_turn seen (line ∷ lines) found left (g ∷ groups) (next, acts, rest) =
-    left-in_turn seen lines next left groups rest ∙ ap (λ (b : Answered). lines_left b.1 lines) (sym acts)
+pub left_in_turn : {S : Type 0} (seen : S → View) (lines : List Statement) (found left : S) (groups : List (List (List ℕ))) → ActsInTurn (AnswersSeen seen) lines found groups left → seen left ≡ lines_left (seen found) lines
+left_in_turn seen [] found left [] done = ap seen done
+left_in_turn seen [] found left (g ∷ groups) done = absurd done
+left_in_turn seen (line ∷ lines) found left [] done = absurd done
+left_in_turn seen (line ∷ lines) found left (g ∷ groups) (next, acts, rest) =
+    left_in_turn seen lines next left groups rest ∙ ap (λ (b : Answered). lines_left b.1 lines) (sym acts)

@@ -16,13 +16,13 @@ use Rattle.dma_commands.specs.Planned.{transfer_printed, plan_printed, plan_prin
 use Rattle.dma_commands.specs.Transfers.{transfer_of}
 
 -- one group is printed, for the program or the fault
-pub transfer_printed-some : (line : PlanLine) (unfit : Option TransferFault) → 0 < length (transfer_printed line unfit).groups
-transfer_printed-some line None = zero-lt-suc _
-transfer_printed-some line (Some fault) = zero-lt-suc _
+pub transfer_printed_some : (line : PlanLine) (unfit : Option TransferFault) → 0 < length (transfer_printed line unfit).groups
+transfer_printed_some line None = zero-lt-suc _
+transfer_printed_some line (Some fault) = zero-lt-suc _
 
-plan_printed_of-some : (read : Result PlanLine ScriptFault) → 0 < length (plan_printed_of read).groups
-plan_printed_of-some (Ok line) = transfer_printed-some line (refusal_of (transfer_of line.transfer))
-plan_printed_of-some (Err fault) = zero-lt-suc _
+plan_printed_of_some : (read : Result PlanLine ScriptFault) → 0 < length (plan_printed_of read).groups
+plan_printed_of_some (Ok line) = transfer_printed_some line (refusal_of (transfer_of line.transfer))
+plan_printed_of_some (Err fault) = zero-lt-suc _
 
 -- the first groups of one group are none
 pub nothing : (group : List (List ℕ)) (old new : List ℕ) → AppendsGroups (group ∷ []) old new → new ≡ old
@@ -37,5 +37,5 @@ plan_refused input NoMemory (Ok status) old new is answers printed = absurd (pri
 plan_refused input NoMemory (Err e) old new is answers printed = record {
   text = tt;
   status = tt;
-  refused = record { count = 0; some_left = plan_printed_of-some (plan_of input); whole = nothing _ old new answers.refused ∙ sym (append-nil old) };
+  refused = record { count = 0; some_left = plan_printed_of_some (plan_of input); whole = nothing _ old new answers.refused ∙ sym (append-nil old) };
 }

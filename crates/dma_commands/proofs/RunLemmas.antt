@@ -16,7 +16,7 @@ use Rattle.dma_engine.specs.declared.fault.EngineFault.{EngineFault}
 use Rattle.dma_engine.specs.declared.fault.EngineFault.TheVariants.{NoMemory}
 use Rattle.dma_engine.specs.Answer.{CallAnswers, answer, read_fault, unless}
 use Rattle.dma_engine.specs.Turn.{with_entry}
-use Rattle.dma_engine.proofs.Queues.{slice_get-push_last}
+use Rattle.dma_engine.proofs.Queues.{slice_get_push_last}
 use Rattle.dma_mem.specs.declared.transfer.TransferFault.{TransferFault}
 use Rattle.std.specs.Option.{option_map}
 use Rattle.dma_engine.specs.Object.{Object}
@@ -28,8 +28,8 @@ use Rattle.dma_text.specs.Digits.{hex_digits, spaced_bytes}
 use Rattle.dma_commands.specs.Printed.{call_line, fault_text, transfer_fault_name, refused_line}
 use Rattle.dma_commands.specs.Run.{Answered, call_answer, copied, copied_after, is_in_use, line_answer, lines_answered, most_copy_steps, stepped_to_end, last_answer_line, one_line, unless_invalid}
 use Rattle.dma_commands.specs.inner.RunSteps.{RunsLine, read_at, read_in}
-use Rattle.dma_script.proofs.InterpretedLemmas.{printed_text-append}
-use Rattle.dma_commands.proofs.Served.{refused-served, served-one}
+use Rattle.dma_script.proofs.InterpretedLemmas.{printed_text_append}
+use Rattle.dma_commands.proofs.Served.{refused_served, served_one}
 
 -- ---- a line that was printed
 
@@ -41,7 +41,7 @@ printed_runs answered w (Err e) out out' acts prints kept = record { ok = tt; er
 -- the line of a call and its reply
 pub call_runs : {A E : Type 0} (v w : View) (call : Call) (reply : Reply) (result : Result A E) (out out' : List ℕ) → CallAnswers v call reply w → OnOk result (reply ≢ Refused NoMemory) → OnOk result (out' ≡ out ++ text_of (call_line call reply ∷ [])) → OnErr result (out' ≡ out) → RunsLine (call_answer v call) w result out out'
 call_runs {A = A} {E = E} v w call reply (Ok a) out out' is served prints kept =
-    subst (λ (x : Reply × View). RunsLine {A = A} {E = E} (one_line (call_line call x.0) x.1) w (Ok a) out out') (served-one v call reply w served is) (printed_runs {A = A} {E = E} (one_line (call_line call reply) w) w (Ok a) out out' refl prints tt)
+    subst (λ (x : Reply × View). RunsLine {A = A} {E = E} (one_line (call_line call x.0) x.1) w (Ok a) out out') (served_one v call reply w served is) (printed_runs {A = A} {E = E} (one_line (call_line call reply) w) w (Ok a) out out' refl prints tt)
 call_runs v w call reply (Err e) out out' is served prints kept = record { ok = tt; err = kept }
 
 -- ---- a transfer's rules
@@ -64,7 +64,7 @@ kept_read v w addr b bytes None is =
     let reported_bytes : Bytes b ≡ Bytes bytes = ap (λ (x : Reply × View). x.0) is in
     let same : b ≡ bytes = cc in
     let after : w ≡ with_entry v (ReadBack addr bytes) = ap (λ (x : Reply × View). x.1) is in
-    ap (λ (u : View). read_at u.history (length v.history)) after ∙ ap read_in (slice_get-push_last v.history (ReadBack addr bytes) (length v.history) refl) ∙ sym same
+    ap (λ (u : View). read_at u.history (length v.history)) after ∙ ap read_in (slice_get_push_last v.history (ReadBack addr bytes) (length v.history) refl) ∙ sym same
 
 -- a read, whose bytes are printed from the history
 pub read_runs : {A E : Type 0} (v w : View) (addr n : ℕ) (bytes : List ℕ) (result : Result A E) (out out' : List ℕ) → (Bytes bytes, w) ≡ answer v (Read addr n) → OnOk result (out' ≡ out ++ text_of ((codes "read 0x" ++ hex_digits addr ++ spaced_bytes (read_at w.history (length v.history))) ∷ [])) → OnErr result (out' ≡ out) → RunsLine (call_answer v (Read addr n)) w result out out'
@@ -85,7 +85,7 @@ where_free start v t free = ap (λ b. if b then one_line (refused_line (codes "C
 -- the submit of a copy was refused
 pub refused_copy_runs : {A E : Type 0} (start : List ℕ) (v w : View) (t : Descriptor) (fault : EngineFault) (result : Result A E) (out out' : List ℕ) → CallAnswers v (SubmitCall 0 t) (Refused fault) w → OnOk result (fault ≢ NoMemory) → OnOk result (out' ≡ out ++ text_of (refused_line (fault_text fault) ∷ [])) → OnErr result (out' ≡ out) → RunsLine (copied_after start (answer v (SubmitCall 0 t))) w result out out'
 refused_copy_runs {A = A} {E = E} start v w t fault (Ok a) out out' is served prints kept =
-    subst (λ (x : Reply × View). RunsLine {A = A} {E = E} (copied_after start x) w (Ok a) out out') (served-one v (SubmitCall 0 t) (Refused fault) w (refused-served fault served) is)
+    subst (λ (x : Reply × View). RunsLine {A = A} {E = E} (copied_after start x) w (Ok a) out out') (served_one v (SubmitCall 0 t) (Refused fault) w (refused_served fault served) is)
     (printed_runs {A = A} {E = E} (one_line (refused_line (fault_text fault)) w) w (Ok a) out out' refl prints tt)
 refused_copy_runs start v w t fault (Err e) out out' is served prints kept = record { ok = tt; err = kept }
 
@@ -99,57 +99,57 @@ copy_runs {A = A} {E = E} start v u x w t cookie issued last result out out' sub
 
 -- ---- what runs
 
-counted-one : {X Y : Type 0} (f : X → Y) (x : Option X) (n : ℕ) (more : List X) → length more ≡ n → length (cons_option x more) ≡ cond (is_some (option_map f x)) (1 + n) n
-counted-one f None n more is = is
-counted-one f (Some x) n more is = omega (arith, is)
+counted_one : {X Y : Type 0} (f : X → Y) (x : Option X) (n : ℕ) (more : List X) → length more ≡ n → length (cons_option x more) ≡ cond (is_some (option_map f x)) (1 + n) n
+counted_one f None n more is = is
+counted_one f (Some x) n more is = omega (arith, is)
 
 -- the values are as many as the numbers that have one
 pub counted : {X Y : Type 0} (f : X → Y) (g : ℕ → Option X) (xs : List ℕ) → length (filter_map g xs) ≡ count_by (λ n. is_some (option_map f (g n))) xs
-counted f g xs = is_count_by (λ l. length (filter_map g l)) (λ n. is_some (option_map f (g n))) refl (λ x l. counted-one f (g x) _ (filter_map g l) refl) xs
+counted f g xs = is_count_by (λ l. length (filter_map g l)) (λ n. is_some (option_map f (g n))) refl (λ x l. counted_one f (g x) _ (filter_map g l) refl) xs
 
-pub running-is : (o : Object) (schedule : List ChannelSchedule) → running o schedule ≡ filter_map (runs o schedule) (range_with_len 0 (length o.channels))
+pub running_is : (o : Object) (schedule : List ChannelSchedule) → running o schedule ≡ filter_map (runs o schedule) (range_with_len 0 (length o.channels))
 unfolding running
-running-is o schedule = refl
+running_is o schedule = refl
 
 -- ---- the lines of a script, one after another
 
-pub length-lines_answered : (v : View) (lines : List Statement) → length (lines_answered v lines) ≡ length lines
-length-lines_answered v [] = refl
-length-lines_answered v (line ∷ rest) = ap (λ n. suc n) (length-lines_answered (line_answer v line).1 rest)
+pub length_lines_answered : (v : View) (lines : List Statement) → length (lines_answered v lines) ≡ length lines
+length_lines_answered v [] = refl
+length_lines_answered v (line ∷ rest) = ap (λ n. suc n) (length_lines_answered (line_answer v line).1 rest)
 
 -- an interpreter with this view executes a line as `run` does
 abbrev pub AnswersSeen : {S : Type 0} → (S → View) → S → Statement → List (List ℕ) → S → Type 0
 AnswersSeen seen found line group left = line_answer (seen found) line ≡ (group, seen left)
 
 -- what lines print that are executed one after another
-answered-in_turn : {S : Type 0} (seen : S → View) (lines : List Statement) (found left : S) (groups : List (List (List ℕ))) → ActsInTurn (AnswersSeen seen) lines found groups left → groups ≡ lines_answered (seen found) lines
-answered-in_turn seen [] found left [] done = refl
-answered-in_turn seen [] found left (g ∷ groups) done = absurd done
-answered-in_turn seen (line ∷ lines) found left [] done = absurd done
-answered-in_turn seen (line ∷ lines) found left (g ∷ groups) (next, acts, rest) =
-    let more = answered-in_turn seen lines next left groups rest in
+answered_in_turn : {S : Type 0} (seen : S → View) (lines : List Statement) (found left : S) (groups : List (List (List ℕ))) → ActsInTurn (AnswersSeen seen) lines found groups left → groups ≡ lines_answered (seen found) lines
+answered_in_turn seen [] found left [] done = refl
+answered_in_turn seen [] found left (g ∷ groups) done = absurd done
+answered_in_turn seen (line ∷ lines) found left [] done = absurd done
+answered_in_turn seen (line ∷ lines) found left (g ∷ groups) (next, acts, rest) =
+    let more = answered_in_turn seen lines next left groups rest in
     let a = line_answer (seen found) line in
     ap (λ (b : Answered). b.0 ∷ groups) (sym acts) ∙ ap (λ l. a.0 ∷ l) (more ∙ ap (λ (b : Answered). lines_answered b.1 lines) (sym acts))
 
 -- the first lines print the same without the others
-answered-first : (v : View) (before behind : List Statement) → take (length before) (lines_answered v (before ++ behind)) ≡ lines_answered v before
-answered-first v [] behind = refl
-answered-first v (line ∷ before) behind = ap (λ l. (line_answer v line).0 ∷ l) (answered-first (line_answer v line).1 before behind)
+answered_first : (v : View) (before behind : List Statement) → take (length before) (lines_answered v (before ++ behind)) ≡ lines_answered v before
+answered_first v [] behind = refl
+answered_first v (line ∷ before) behind = ap (λ l. (line_answer v line).0 ∷ l) (answered_first (line_answer v line).1 before behind)
 
 -- all lines were executed
-pub answered-all : {S : Type 0} (seen : S → View) (found left : S) (lines : List Statement) (old new : List ℕ) → PrintsLines (AnswersSeen seen) found lines left old new → new ≡ old ++ printed_text (lines_answered (seen found) lines)
-answered-all seen found left lines old new done = done.text ∙ ap (λ g. old ++ printed_text g) (answered-in_turn seen lines found left done.groups done.acted)
+pub answered_all : {S : Type 0} (seen : S → View) (found left : S) (lines : List Statement) (old new : List ℕ) → PrintsLines (AnswersSeen seen) found lines left old new → new ≡ old ++ printed_text (lines_answered (seen found) lines)
+answered_all seen found left lines old new done = done.text ∙ ap (λ g. old ++ printed_text g) (answered_in_turn seen lines found left done.groups done.acted)
 
 -- a line was out of memory
-pub answered-some : {S : Type 0} (seen : S → View) (is_refused : S → Statement → S → Type 0) (found left : S) (lines : List Statement) (old new : List ℕ) → StopsAtALine (AnswersSeen seen) is_refused found lines left old new → AppendsGroups (lines_answered (seen found) lines) old new
-answered-some seen is_refused found left lines old new stop =
+pub answered_some : {S : Type 0} (seen : S → View) (is_refused : S → Statement → S → Type 0) (found left : S) (lines : List Statement) (old new : List ℕ) → StopsAtALine (AnswersSeen seen) is_refused found lines left old new → AppendsGroups (lines_answered (seen found) lines) old new
+answered_some seen is_refused found left lines old new stop =
     let v = seen found in
     let first : take (length stop.before) (lines_answered v lines) ≡ lines_answered v stop.before =
-    ap (λ l. take (length stop.before) (lines_answered v l)) stop.split ∙ answered-first v stop.before (stop.line ∷ stop.behind) in
+    ap (λ l. take (length stop.before) (lines_answered v l)) stop.split ∙ answered_first v stop.before (stop.line ∷ stop.behind) in
     record {
       count = length stop.before;
-      some_left = omega (arith, length-lines_answered v lines, ap length stop.split, length-append stop.before (stop.line ∷ stop.behind));
-      whole = answered-all seen found stop.between stop.before old new stop.printed ∙ ap (λ g. old ++ printed_text g) (sym first);
+      some_left = omega (arith, length_lines_answered v lines, ap length stop.split, length-append stop.before (stop.line ∷ stop.behind));
+      whole = answered_all seen found stop.between stop.before old new stop.printed ∙ ap (λ g. old ++ printed_text g) (sym first);
     }
 
 -- an answer that is out of memory
@@ -166,7 +166,7 @@ answers_none printed result old new err some same =
 pub answers_after : {E : Type 0} (front groups : List (List (List ℕ))) (status : ℕ) (result : Result ℕ E) (old mid new : List ℕ) → mid ≡ old ++ printed_text front → Answers (record { groups = groups; status = status }) result mid new → Answers (record { groups = front ++ groups; status = status }) result old new
 answers_after front groups status result old mid new before a =
     let text : (more : List (List (List ℕ))) → mid ++ printed_text more ≡ old ++ printed_text (front ++ more) = λ more.
-    ap (λ o. o ++ printed_text more) before ∙ append_assoc old (printed_text front) (printed_text more) ∙ ap (λ t. old ++ t) (sym (printed_text-append front more)) in
+    ap (λ o. o ++ printed_text more) before ∙ append_assoc old (printed_text front) (printed_text more) ∙ ap (λ t. old ++ t) (sym (printed_text_append front more)) in
     record {
       text = on_ok_weaker result (λ whole. whole ∙ text groups) a.text;
       status = a.status;

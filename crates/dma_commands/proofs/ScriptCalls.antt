@@ -16,7 +16,7 @@ use Rattle.dma_commands.specs.Printed.{refused_line, reply_text}
 use Rattle.dma_commands.specs.Run.{Answered, call_answer, issued_and_stepped, copied, copied_after, goes_on, is_in_use, is_refused, line_answer, lines_answered, most_copy_steps, start_of, stepped_to_end, last_answer_line, one_line, unless_invalid}
 use Rattle.dma_commands.specs.Transfers.{transfer_of}
 use Rattle.dma_commands.specs.Laws.{call_lines, calls_after, calls_in, calls_of, issue_and_step_calls, groups_from, if_valid, last_of, lines_from, rule_or, steps_taken, transfer_calls, transfer_lines, view_after}
-use Rattle.dma_commands.proofs.Served.{answers-append}
+use Rattle.dma_commands.proofs.Served.{answers_append_law}
 
 -- ---- a copy's steps
 
@@ -29,9 +29,9 @@ step_more : (n : ℕ) (first : Reply × View) (b : Bool) → stepped_to_end n fi
 step_more n first true more = more
 step_more n first false more = refl
 
-pub one-more : (n : ℕ) (w : View) (b : Bool) → (if b then suc (steps_taken n w) else 1) ≡ suc (if b then steps_taken n w else 0)
-one-more n w true = refl
-one-more n w false = refl
+pub one_more_law : (n : ℕ) (w : View) (b : Bool) → (if b then suc (steps_taken n w) else 1) ≡ suc (if b then steps_taken n w else 0)
+one_more_law n w true = refl
+one_more_law n w false = refl
 
 -- the last of a copy's steps is where it ends
 pub steps_end : (n : ℕ) (v : View) (before : Reply) → stepped_to_end n v ≡ (let q = step_replies (steps_taken n v) v in (last_of before q.0, q.1))
@@ -41,7 +41,7 @@ steps_end (suc n) v before =
     let first = answer v (calls.Step 0) in
     let b = goes_on first.0 in
     step_more n first b (steps_end n first.1 first.0)
-    ∙ ap (λ (k : ℕ). let q = step_replies k v in (last_of before q.0, q.1)) (sym (one-more n first.1 b))
+    ∙ ap (λ (k : ℕ). let q = step_replies k v in (last_of before q.0, q.1)) (sym (one_more_law n first.1 b))
 
 -- ---- a copy's line
 
@@ -96,26 +96,26 @@ line_is v statements.Totals = refl
 
 -- ---- the lines of a script
 
-length-answers : (v : View) (cs : List Call) → length (answers v cs).0 ≡ length cs
-length-answers v [] = refl
-length-answers v (call ∷ cs) = ap suc (length-answers (answer v call).1 cs)
+length_answers : (v : View) (cs : List Call) → length (answers v cs).0 ≡ length cs
+length_answers v [] = refl
+length_answers v (call ∷ cs) = ap suc (length_answers (answer v call).1 cs)
 
 -- the replies to a line's own calls, and those to the calls of the lines behind it
-pub first-replies : (v : View) (line : Statement) (rest : List Statement) → take (length (calls_of v line)) (answers v (calls_in v (line ∷ rest))).0 ≡ (answers v (calls_of v line)).0
-first-replies v line rest =
+pub first_replies : (v : View) (line : Statement) (rest : List Statement) → take (length (calls_of v line)) (answers v (calls_in v (line ∷ rest))).0 ≡ (answers v (calls_of v line)).0
+first_replies v line rest =
     let own = calls_of v line in
     let a = answers v own in
     let b = answers a.1 (calls_in a.1 rest) in
-    ap (λ (x : List Reply × View). take (length own) x.0) (answers-append v own (calls_in a.1 rest))
-    ∙ ap (λ (k : ℕ). take k (a.0 ++ b.0)) (sym (length-answers v own)) ∙ take-append_seam a.0 b.0
+    ap (λ (x : List Reply × View). take (length own) x.0) (answers_append_law v own (calls_in a.1 rest))
+    ∙ ap (λ (k : ℕ). take k (a.0 ++ b.0)) (sym (length_answers v own)) ∙ take-append_seam a.0 b.0
 
-pub later-replies : (v : View) (line : Statement) (rest : List Statement) → drop (length (calls_of v line)) (answers v (calls_in v (line ∷ rest))).0 ≡ (answers (view_after v line) (calls_in (view_after v line) rest)).0
-later-replies v line rest =
+pub later_replies : (v : View) (line : Statement) (rest : List Statement) → drop (length (calls_of v line)) (answers v (calls_in v (line ∷ rest))).0 ≡ (answers (view_after v line) (calls_in (view_after v line) rest)).0
+later_replies v line rest =
     let own = calls_of v line in
     let a = answers v own in
     let b = answers a.1 (calls_in a.1 rest) in
-    ap (λ (x : List Reply × View). drop (length own) x.0) (answers-append v own (calls_in a.1 rest))
-    ∙ ap (λ (k : ℕ). drop k (a.0 ++ b.0)) (sym (length-answers v own)) ∙ drop-append_seam a.0 b.0
+    ap (λ (x : List Reply × View). drop (length own) x.0) (answers_append_law v own (calls_in a.1 rest))
+    ∙ ap (λ (k : ℕ). drop k (a.0 ++ b.0)) (sym (length_answers v own)) ∙ drop-append_seam a.0 b.0
 
 pub groups_are : (v : View) (lines : List Statement) → lines_answered v lines ≡ groups_from v lines (answers v (calls_in v lines)).0
 groups_are v [] = refl
@@ -126,5 +126,5 @@ groups_are v (line ∷ rest) =
     let own = (answers v (calls_of v line)).0 in
     ap (λ (x : Answered). x.0 ∷ lines_answered x.1 rest) (line_is v line)
     ∙ ap (λ (g : List (List (List ℕ))). lines_from v line own ∷ g) (groups_are w rest)
-    ∙ sym (ap (λ (r : List Reply). lines_from v line r ∷ groups_from w rest (drop n all)) (first-replies v line rest)
-    ∙ ap (λ (r : List Reply). lines_from v line own ∷ groups_from w rest r) (later-replies v line rest))
+    ∙ sym (ap (λ (r : List Reply). lines_from v line r ∷ groups_from w rest (drop n all)) (first_replies v line rest)
+    ∙ ap (λ (r : List Reply). lines_from v line own ∷ groups_from w rest r) (later_replies v line rest))

@@ -16,56 +16,56 @@ use Rattle.dma_script.specs.declared.statements.RunScript.{RunScript}
 use Rattle.dma_commands.specs.Run.{Answered, printed, printed_of}
 use Rattle.dma_commands.specs.Laws.{HaveMemory, LinesPrintAnswers, ScriptsPrintAnswers, ScriptsPrintReplies, calls_of, opening_of, printed_from, script_calls}
 use Rattle.dma_commands.proofs.ScriptCalls.{groups_are, line_is}
-use Rattle.dma_commands.proofs.ScriptSubmits.{calls-made}
-use Rattle.dma_commands.proofs.ScriptsWithin.{can-be-made, script_within}
+use Rattle.dma_commands.proofs.ScriptSubmits.{calls_made_law}
+use Rattle.dma_commands.proofs.ScriptsWithin.{can_be_made, script_within}
 
 -- ---- an answer with enough memory isn't out of memory
 
 -- a checkpoint that stores a base answers `Done`
-stored-done : (v : View) (fault : Option EngineFault) → is_none fault ≡ true → (unless fault v (Done, checkpointed v)).0 ≡ Done
-stored-done v None is = refl
-stored-done v (Some fault) is = absurd (false≢true is)
+stored_done : (v : View) (fault : Option EngineFault) → is_none fault ≡ true → (unless fault v (Done, checkpointed v)).0 ≡ Done
+stored_done v None is = refl
+stored_done v (Some fault) is = absurd (false≢true is)
 
-no-base : (v : View) (call : Call) → (answer v call).0 ≡ Refused NoMemory → stores_base v call ≡ false
-no-base v Checkpoint is =
+no_base : (v : View) (call : Call) → (answer v call).0 ≡ Refused NoMemory → stores_base v call ≡ false
+no_base v Checkpoint is =
     let by : (b : Bool) → is_none (checkpoint_fault v) ≡ b → b ≡ false = λ b. elim b as (λ b. is_none (checkpoint_fault v) ≡ b → b ≡ false) [
-      | true ↦ λ none. absurd (let bad : Done ≡ Refused NoMemory = sym (stored-done v (checkpoint_fault v) none) ∙ is in cc)
+      | true ↦ λ none. absurd (let bad : Done ≡ Refused NoMemory = sym (stored_done v (checkpoint_fault v) none) ∙ is in cc)
       | false ↦ λ _. refl
     ] in
     by _ refl
-no-base v (Write addr bytes) is = refl
-no-base v (Read addr len) is = refl
-no-base v (Submit ch t) is = refl
-no-base v (Issue ch) is = refl
-no-base v (Pause ch) is = refl
-no-base v (Resume ch) is = refl
-no-base v (Terminate ch) is = refl
-no-base v (Step ch) is = refl
-no-base v (Status ch cookie) is = refl
-no-base v (ResultOf ch cookie) is = refl
-no-base v (Mark kind segment) is = refl
-no-base v Unmark is = refl
-no-base v (Raise event) is = refl
+no_base v (Write addr bytes) is = refl
+no_base v (Read addr len) is = refl
+no_base v (Submit ch t) is = refl
+no_base v (Issue ch) is = refl
+no_base v (Pause ch) is = refl
+no_base v (Resume ch) is = refl
+no_base v (Terminate ch) is = refl
+no_base v (Step ch) is = refl
+no_base v (Status ch cookie) is = refl
+no_base v (ResultOf ch cookie) is = refl
+no_base v (Mark kind segment) is = refl
+no_base v Unmark is = refl
+no_base v (Raise event) is = refl
 
 -- a number isn't below itself
-not-below : (n : ℕ) → nat_lt n n ≡ false
-not-below n = grind arith
+not_below_law : (n : ℕ) → nat_lt n n ≡ false
+not_below_law n = grind arith
 
-answer-served : (v : View) (call : Call) → (answer v call).0 ≢ Refused NoMemory
-answer-served v call is =
+answer_served : (v : View) (call : Call) → (answer v call).0 ≢ Refused NoMemory
+answer_served v call is =
     let w = (answer v call).1 in
     let starved : CallAnswers v call (Refused NoMemory) w = subst (λ (r : Reply). CallAnswers v call r w) is (answer_is_one v call) in
     let same : w ≡ v = starved.1 in
     let none : takes_memory v call ≡ false =
-    ap (λ b. b || (is_started (answer v call).0 || nat_lt (length v.history) (length w.history))) (no-base v call is)
+    ap (λ b. b || (is_started (answer v call).0 || nat_lt (length v.history) (length w.history))) (no_base v call is)
     ∙ ap (λ (r : Reply). is_started r || nat_lt (length v.history) (length w.history)) is
-    ∙ ap (λ (u : View). nat_lt (length v.history) (length u.history)) same ∙ not-below (length v.history) in
+    ∙ ap (λ (u : View). nat_lt (length v.history) (length u.history)) same ∙ not_below_law (length v.history) in
     false≢true (sym none ∙ starved.0)
 
 -- and so of calls in order
 have_memory : (v : View) (cs : List Call) → HaveMemory (answers v cs).0
 have_memory v [] k d less = absurd (omega (arith, less))
-have_memory v (call ∷ cs) zero d less = answer-served v call
+have_memory v (call ∷ cs) zero d less = answer_served v call
 have_memory v (call ∷ cs) (suc k) d less = have_memory (answer v call).1 cs k d (omega (arith, less))
 
 -- ---- lines and scripts
@@ -82,8 +82,8 @@ lines_print_answers v line =
     )
 
 -- what is printed, by the answers with enough memory
-printed-is : (input : List ℕ) (script : RunScript) → run_script_of input ≡ Ok script → printed input ≡ printed_from script (answers (opening_of script) (script_calls script)).0
-printed-is input script read =
+printed_is : (input : List ℕ) (script : RunScript) → run_script_of input ≡ Ok script → printed input ≡ printed_from script (answers (opening_of script) (script_calls script)).0
+printed_is input script read =
     ap printed_of read
     ∙ ap (λ (g : List (List (List ℕ))). record { groups = [] ∷ g; status = 0 }) (groups_are (opening_of script) script.statements)
 
@@ -93,14 +93,14 @@ scripts_print_answers input script read =
     let v = opening_of script in
     let cs = script_calls script in
     let a = answers v cs in (
-      can-be-made script within.0,
-      calls-made v script.statements within.1,
-      (a.0, a.1, have_memory v cs, answers_are_answers v cs, printed-is input script read),
+      can_be_made script within.0,
+      calls_made_law v script.statements within.1,
+      (a.0, a.1, have_memory v cs, answers_are_answers v cs, printed_is input script read),
     )
 
 pub scripts_print_replies : ScriptsPrintReplies
 scripts_print_replies input script replies left read served made =
     let v = opening_of script in
     let cs = script_calls script in
-    printed-is input script read
+    printed_is input script read
     ∙ ap (λ (x : List Reply × View). printed_from script x.0) (sym (answers_unless_no_memory v left cs replies served made))

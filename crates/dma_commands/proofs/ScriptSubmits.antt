@@ -8,7 +8,7 @@ use Rattle.dma_mem.specs.Refusals.{refusal_of}
 use Rattle.dma_mem.specs.Rules.{HasOneByte, IsTransfer}
 use Rattle.dma_mem.specs.declared.segment.Segment.{Segment}
 use Rattle.dma_mem.specs.declared.transfer.TransferFault.{TransferFault}
-use Rattle.dma_mem.proofs.TransferRules.{IsTransfer-from_no_refusal}
+use Rattle.dma_mem.proofs.TransferRules.{IsTransfer_from_no_refusal}
 use Rattle.dma_mem.specs.declared.call.Call.{Call}
 use Rattle.dma_mem.specs.declared.call.Call.TheVariants as calls
 use Rattle.dma_engine.specs.View.{View}
@@ -26,24 +26,24 @@ use Rattle.dma_commands.specs.Laws.{calls_after, calls_in, calls_of, issue_and_s
 
 -- ---- lists of which all can be made
 
-none-made : All IsCall []
-none-made k d less = absurd (omega (arith, less))
+none_made_law : All IsCall []
+none_made_law k d less = absurd (omega (arith, less))
 
-one-before : (call : Call) (cs : List Call) → IsCall call → All IsCall cs → All IsCall (call ∷ cs)
-one-before call cs one rest zero d less = one
-one-before call cs one rest (suc k) d less = rest k d (omega (arith, less))
+one_before : (call : Call) (cs : List Call) → IsCall call → All IsCall cs → All IsCall (call ∷ cs)
+one_before call cs one rest zero d less = one
+one_before call cs one rest (suc k) d less = rest k d (omega (arith, less))
 
 both : (xs ys : List Call) → All IsCall xs → All IsCall ys → All IsCall (xs ++ ys)
 both [] ys first rest = rest
 both (x ∷ xs) ys first rest =
-    one-before x (xs ++ ys) (first zero x (omega arith)) (both xs ys (λ k d less. first (suc k) d (omega (arith, less))) rest)
+    one_before x (xs ++ ys) (first zero x (omega arith)) (both xs ys (λ k d less. first (suc k) d (omega (arith, less))) rest)
 
 alone : (call : Call) → IsCall call → All IsCall (call ∷ [])
-alone call one = one-before call [] one none-made
+alone call one = one_before call [] one none_made_law
 
-equal-calls : (n : ℕ) (call : Call) → IsCall call → All IsCall (replicate n call)
-equal-calls zero call one = none-made
-equal-calls (suc n) call one = one-before call (replicate n call) one (equal-calls n call one)
+equal_calls : (n : ℕ) (call : Call) → IsCall call → All IsCall (replicate n call)
+equal_calls zero call one = none_made_law
+equal_calls (suc n) call one = one_before call (replicate n call) one (equal_calls n call one)
 
 either : (b : Bool) (xs ys : List Call) → All IsCall xs → All IsCall ys → All IsCall (if b then xs else ys)
 either true xs ys f g = f
@@ -51,46 +51,46 @@ either false xs ys f g = g
 
 -- ---- the transfers of lines
 
-from-byte : (src : Origin) (dst : List Segment) (wait signal : Option ℕ) → HasOneByte (transfer_from src dst wait signal)
-from-byte (origins.List src) dst wait signal = λ e. absurd cc
-from-byte (origins.Place src) dst wait signal = λ _. (src, refl)
+from_byte : (src : Origin) (dst : List Segment) (wait signal : Option ℕ) → HasOneByte (transfer_from src dst wait signal)
+from_byte (origins.List src) dst wait signal = λ e. absurd cc
+from_byte (origins.Place src) dst wait signal = λ _. (src, refl)
 
-pub line-byte : (line : TransferLine) → HasOneByte (transfer_of line)
-line-byte line = from-byte line.src line.dst line.wait line.signal
+pub line_byte : (line : TransferLine) → HasOneByte (transfer_of line)
+line_byte line = from_byte line.src line.dst line.wait line.signal
 
 -- the calls of a transfer that is made where it breaks no rule
-fit-made : (t : Descriptor) (fault : Option TransferFault) (cs : List Call) → HasOneByte t → refusal_of t ≡ fault → (IsTransfer t → All IsCall cs) → All IsCall (if_valid fault cs)
-fit-made t None cs one none made = made (IsTransfer-from_no_refusal t one none)
-fit-made t (Some fault) cs one some made = none-made
+fit_made : (t : Descriptor) (fault : Option TransferFault) (cs : List Call) → HasOneByte t → refusal_of t ≡ fault → (IsTransfer t → All IsCall cs) → All IsCall (if_valid fault cs)
+fit_made t None cs one none made = made (IsTransfer_from_no_refusal t one none)
+fit_made t (Some fault) cs one some made = none_made_law
 
-through-made : (v : View) (t : Descriptor) → IsTransfer t → All IsCall (transfer_calls v t)
-through-made v t rules =
+through_made_law : (v : View) (t : Descriptor) → IsTransfer t → All IsCall (transfer_calls v t)
+through_made_law v t rules =
     let s = answer v (calls.Submit 0 t) in
     let w = (answer s.1 (calls.Issue 0)).1 in
-    either (is_in_use v) [] (calls.Submit 0 t ∷ calls_after s) none-made
-    (one-before (calls.Submit 0 t) (calls_after s) rules
-    (either (is_refused s.0) [] (issue_and_step_calls s.1) none-made
-    (one-before (calls.Issue 0) (replicate (steps_taken most_copy_steps w) (calls.Step 0)) tt
-    (equal-calls (steps_taken most_copy_steps w) (calls.Step 0) tt))))
+    either (is_in_use v) [] (calls.Submit 0 t ∷ calls_after s) none_made_law
+    (one_before (calls.Submit 0 t) (calls_after s) rules
+    (either (is_refused s.0) [] (issue_and_step_calls s.1) none_made_law
+    (one_before (calls.Issue 0) (replicate (steps_taken most_copy_steps w) (calls.Step 0)) tt
+    (equal_calls (steps_taken most_copy_steps w) (calls.Step 0) tt))))
 
 -- the call of a line that is read
-plain-made : (call : Call) → IsNoSubmit (statements.Call call) → IsCall call
-plain-made (calls.Submit ch t) read = absurd read
-plain-made _ read = tt
+plain_made : (call : Call) → IsNoSubmit (statements.Call call) → IsCall call
+plain_made (calls.Submit ch t) read = absurd read
+plain_made _ read = tt
 
-pub line-made : (v : View) (line : Statement) → IsNoSubmit line → All IsCall (calls_of v line)
-line-made v (statements.Call call) read = alone call (plain-made call read)
-line-made v (statements.Submit ch line) read =
+pub line_made_law : (v : View) (line : Statement) → IsNoSubmit line → All IsCall (calls_of v line)
+line_made_law v (statements.Call call) read = alone call (plain_made call read)
+line_made_law v (statements.Submit ch line) read =
     let t = transfer_of line in
-    fit-made t (refusal_of t) (calls.Submit ch t ∷ []) (line-byte line) refl (alone (calls.Submit ch t))
-line-made v (statements.Copy line) read =
+    fit_made t (refusal_of t) (calls.Submit ch t ∷ []) (line_byte line) refl (alone (calls.Submit ch t))
+line_made_law v (statements.Copy line) read =
     let t = transfer_of line in
-    fit-made t (refusal_of t) (transfer_calls v t) (line-byte line) refl (through-made v t)
-line-made v (statements.Step ch count) read = equal-calls count (calls.Step ch) tt
-line-made v statements.Totals read = none-made
+    fit_made t (refusal_of t) (transfer_calls v t) (line_byte line) refl (through_made_law v t)
+line_made_law v (statements.Step ch count) read = equal_calls count (calls.Step ch) tt
+line_made_law v statements.Totals read = none_made_law
 
 -- all calls of a script can be made
-pub calls-made : (v : View) (lines : List Statement) → All IsNoSubmit lines → All IsCall (calls_in v lines)
-calls-made v [] read = none-made
-calls-made v (line ∷ rest) read =
-    both (calls_of v line) (calls_in (view_after v line) rest) (line-made v line (All-head IsNoSubmit line rest read)) (calls-made (view_after v line) rest (All-tail IsNoSubmit line rest read))
+pub calls_made_law : (v : View) (lines : List Statement) → All IsNoSubmit lines → All IsCall (calls_in v lines)
+calls_made_law v [] read = none_made_law
+calls_made_law v (line ∷ rest) read =
+    both (calls_of v line) (calls_in (view_after v line) rest) (line_made_law v line (All-head IsNoSubmit line rest read)) (calls_made_law (view_after v line) rest (All-tail IsNoSubmit line rest read))

@@ -15,14 +15,14 @@ script_within input script is = subst (λ (r : Result RunScript Fault). IfOk r (
 
 -- ---- the engine
 
-no-fault : (a b c : Bool) (x y : NewFault) → a ≡ false → b ≡ false → c ≡ true → (if a || b then Some x else (if not c then Some y else None)) ≡ None
-no-fault a b c x y none few sized = rw (none, few, sized) refl
+no_fault : (a b c : Bool) (x y : NewFault) → a ≡ false → b ≡ false → c ≡ true → (if a || b then Some x else (if not c then Some y else None)) ≡ None
+no_fault a b c x y none few sized = rw (none, few, sized) refl
 
-pub can-be-made : (script : RunScript) → IsWithin script → new_fault script.size script.channels ≡ None
-can-be-made script within =
+pub can_be_made : (script : RunScript) → IsWithin script → new_fault script.size script.channels ≡ None
+can_be_made script within =
     let none : (script.channels == 0) ≡ false = ne_eqb _ _ (λ e. omega (arith, e, within.2)) in
     let few : nat_lt 8 script.channels ≡ false = le-ltb _ _ within.3 in
     let least : nat_le 1 script.size ≡ true = le-leb _ _ within.0 in
     let most : nat_le script.size 4294963200 ≡ true = le-leb _ _ within.1 in
     let sized : is_size script.size ≡ true = ap (λ b. b && nat_le script.size 4294963200) least ∙ most in
-    no-fault _ _ _ _ _ none few sized
+    no_fault _ _ _ _ _ none few sized

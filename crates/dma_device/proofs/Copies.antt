@@ -7,7 +7,7 @@ use borrow.Author.Tests.{ltb-true}
 use Rattle.dma_mem.specs.Image.{laid}
 use Rattle.dma_mem.specs.Places.{Descriptor, destinations, size_of}
 use Rattle.dma_mem.specs.declared.regions.Region.{Region}
-use Rattle.dma_mem.proofs.OverTransfers.{Contains-take}
+use Rattle.dma_mem.proofs.OverTransfers.{Contains_take}
 use Rattle.dma_chan.specs.Explains.{IsSignal, IsWait, traced}
 use Rattle.dma_chan.specs.Others.{Misses, Touches}
 use Rattle.dma_chan.specs.Channel.{ChannelValue}
@@ -29,7 +29,7 @@ use Rattle.dma_device.specs.declared.thread.Thread.{Thread}
 use Rattle.dma_device.proofs.Answered.{answer_fine}
 use Rattle.dma_device.proofs.CallKeeps.{if_config, if_places, if_read_only}
 use Rattle.dma_device.proofs.Driven.{After, Before, Call, Copying, Going, Has, Keeps, Leaves, Steps, after_steps_of, after_turn, along, at_answer, channel_after, copying, first_call, from, new, second_call, to}
-use Rattle.dma_device.proofs.InOrder.{marks-kept}
+use Rattle.dma_device.proofs.InOrder.{marks_kept}
 use Rattle.dma_device.proofs.Starts.{reads_fine, reads_stopped}
 use Rattle.dma_device.proofs.Stored.{call_grows}
 use Rattle.dma_device.proofs.TurnRaises.{turn_raises}
@@ -81,7 +81,7 @@ laid_copied c image least stored same enough =
     let w = laid_by_fits c.t c.first stored c.explains.copy c.fits in
     record {
       copied = λ p few within. same (get_or (destinations c.t) p 0) (inr (Contains-get_or (destinations c.t) p 0 within)) ∙ w.copied p (enough p few within) within;
-      kept = λ a i. same a (inl i) ∙ w.kept a (inl i) (λ j. c.explains.copy.apart a i (Contains-take stored (destinations c.t) a j));
+      kept = λ a i. same a (inl i) ∙ w.kept a (inl i) (λ j. c.explains.copy.apart a i (Contains_take stored (destinations c.t) a j));
     }
 
 -- ---- without a failure
@@ -102,7 +102,7 @@ module _ (c : Copying) (n : ℕ) where
   fit_kept d regions most e left turn x fit =
       let starts = begins d n most in
       let config = if_config starts d regions n most x.middle x.lent x.first x.call in
-      let marks = marks-kept regions x.lent (if_places starts d regions n most x.middle x.lent x.first x.call) (if_read_only starts d regions n most x.middle x.lent x.first x.call) in
+      let marks = marks_kept regions x.lent (if_places starts d regions n most x.middle x.lent x.first x.call) (if_read_only starts d regions n most x.middle x.lent x.first x.call) in
       record {
         misses = rw marks fit.misses;
         knows = record {

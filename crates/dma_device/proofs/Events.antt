@@ -13,7 +13,7 @@ use Rattle.dma_mem.specs.Flags.{flags_of}
 use Rattle.dma_mem.specs.Marking.{MarkList}
 use Rattle.dma_mem.specs.Regions.{image_of, pieces_of}
 use Rattle.dma_mem.specs.declared.regions.Region.{Region}
-use Rattle.dma_mem.proofs.FlagBits.{get_or-flags_of, length-flags_of}
+use Rattle.dma_mem.proofs.FlagBits.{get_or_flags_of, length_flags_of}
 use Rattle.dma_chan.specs.Bus.{accepts}
 use Rattle.dma_chan.specs.declared.exec.Registers.{Registers}
 use Rattle.dma_chan.specs.declared.turn.ChanTurn.{ChanTurn}
@@ -226,7 +226,7 @@ pub seen_bit : (d : DeviceValue) (k : ℕ) → k < 32 → d.inten < 2 ^ 32 → b
 seen_bit d k below range = bit_at_and d.events (bit_not w32 d.inten) k ∙ ap (λ (m : ℕ). min (bit_at d.events k) m) (bit_at_not w32 d.inten k range below)
 
 pub flag_of_bit : (flags k : ℕ) → k < 32 → bit_at flags k ≡ 1 → Is k (flags_of flags)
-flag_of_bit flags k below on = get_or-flags_of flags k below ∙ eq-eqb (bit_at flags k) 1 on
+flag_of_bit flags k below on = get_or_flags_of flags k below ∙ eq-eqb (bit_at flags k) 1 on
 
 module _ (d : DeviceValue) (t : Thread) (regions : List Region) (n most : ℕ) (e : DeviceValue) (left : List Region) (called : Called) (k : ℕ) (has : HasLine d k) (x : CallsThread d t regions n most e left called) where
   below : k < 32
@@ -245,7 +245,7 @@ module _ (d : DeviceValue) (t : Thread) (regions : List Region) (n most : ℕ) (
   NonePass = (j : ℕ) → j < x.taken → ¬ PassesIn j
 
   flags_exact : Is k (flags_of x.flags) ↔ ((signal_after marks from x.taken ≡ Some k) ⊎ (Is k from.flags × NonePass))
-  flags_exact = flag_exact marks from k (machine x.channel (image_of (pieces_of left)) (flags_of x.flags)) most x.taken x.last x.steps (length-flags_of x.flags) below
+  flags_exact = flag_exact marks from k (machine x.channel (image_of (pieces_of left)) (flags_of x.flags)) most x.taken x.last x.steps (length_flags_of x.flags) below
 
   bit_after : bit_at e.events k ≡ max (min (bit_at d.events k) (bit_at d.inten k)) (min (min (bit_at x.flags k) 1) (1 - bit_at d.inten k))
   bit_after = ap (λ (v : DeviceValue). bit_at v.events k) x.device ∙ event_after x.flags k d below has.event has.inten

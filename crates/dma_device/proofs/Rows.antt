@@ -26,20 +26,20 @@ largest = record { channels = 8; events = 32; nonsecure = false; bus = Bits128; 
 
 -- ---- after a reset
 
-cr0-reset : read_at (reset_device largest) 0xE00 ≡ 0x003E0070
-cr0-reset = refl
+cr0_reset : read_at (reset_device largest) 0xE00 ≡ 0x003E0070
+cr0_reset = refl
 
-cr1-reset : read_at (reset_device largest) 0xE04 ≡ 0x75
-cr1-reset = refl
+cr1_reset : read_at (reset_device largest) 0xE04 ≡ 0x75
+cr1_reset = refl
 
-crd-reset : read_at (reset_device largest) 0xE14 ≡ 0x07FF7F74
-crd-reset = refl
+crd_reset : read_at (reset_device largest) 0xE14 ≡ 0x07FF7F74
+crd_reset = refl
 
-cr3-nonsecure : read_at (reset_device (record largest { nonsecure = true })) 0xE0C ≡ 0xFFFFFFFF
-cr3-nonsecure = refl
+cr3_nonsecure : read_at (reset_device (record largest { nonsecure = true })) 0xE0C ≡ 0xFFFFFFFF
+cr3_nonsecure = refl
 
-inten-reset : read_at (reset_device largest) 0x020 ≡ 0
-inten-reset = refl
+inten_reset : read_at (reset_device largest) 0x020 ≡ 0
+inten_reset = refl
 
 -- ---- chips, and the limits of the buffer's lines
 
@@ -47,48 +47,48 @@ inten-reset = refl
 abbrev stratix : Config
 stratix = record { channels = 8; events = 32; nonsecure = false; bus = Bits64; lines = 512; revision = R1p2 }
 
-valid-stratix : is_valid stratix ≡ true
-valid-stratix = refl
+valid_stratix : is_valid stratix ≡ true
+valid_stratix = refl
 
-crd-stratix : read_at (reset_device stratix) 0xE14 ≡ 0x1FFF7F73
-crd-stratix = refl
+crd_stratix : read_at (reset_device stratix) 0xE14 ≡ 0x1FFF7F73
+crd_stratix = refl
 
 -- Juno: 1,024 lines of 128 bits, as many as CRD has room for
 abbrev juno : Config
 juno = record { channels = 8; events = 8; nonsecure = false; bus = Bits128; lines = 1024; revision = R1p2 }
 
-valid-juno : is_valid juno ≡ true
-valid-juno = refl
+valid_juno : is_valid juno ≡ true
+valid_juno = refl
 
-crd-juno : read_at (reset_device juno) 0xE14 ≡ 0x3FFF7F74
-crd-juno = refl
+crd_juno : read_at (reset_device juno) 0xE14 ≡ 0x3FFF7F74
+crd_juno = refl
 
 -- Exynos 5420: 4 lines of 64 bits for 6 channels
-valid-exynos : is_valid (record stratix { channels = 6; lines = 4 }) ≡ true
-valid-exynos = refl
+valid_exynos : is_valid (record stratix { channels = 6; lines = 4 }) ≡ true
+valid_exynos = refl
 
-refused-lines : is_valid (record juno { lines = 1025 }) ≡ false
-refused-lines = refl
+refused_lines : is_valid (record juno { lines = 1025 }) ≡ false
+refused_lines = refl
 
-refused-no_lines : is_valid (record juno { lines = 0 }) ≡ false
-refused-no_lines = refl
+refused_no_lines : is_valid (record juno { lines = 0 }) ≡ false
+refused_no_lines = refl
 
 -- channel 7 has its registers, and a device with one channel has none of channel 1
-csr-reset : read_at (reset_device largest) 0x138 ≡ 0
-csr-reset = refl
+csr_reset : read_at (reset_device largest) 0x138 ≡ 0
+csr_reset = refl
 
-no-channel : read_at (reset_device (record largest { channels = 1 })) 0x108 ≡ 0
-no-channel = refl
+no_channel_law : read_at (reset_device (record largest { channels = 1 })) 0x108 ≡ 0
+no_channel_law = refl
 
 -- a bus of 32 bits, and r0p0
-crd-narrow : read_at (reset_device (record largest { bus = Bits32 })) 0xE14 ≡ 0x07FF7F72
-crd-narrow = refl
+crd_narrow : read_at (reset_device (record largest { bus = Bits32 })) 0xE14 ≡ 0x07FF7F72
+crd_narrow = refl
 
-periph_id_2-r1p2 : read_at (reset_device largest) 0xFE8 ≡ 0x34
-periph_id_2-r1p2 = refl
+periph_id_2_r1p2 : read_at (reset_device largest) 0xFE8 ≡ 0x34
+periph_id_2_r1p2 = refl
 
-periph_id_2-r0p0 : read_at (reset_device (record largest { revision = R0p0 })) 0xFE8 ≡ 0x04
-periph_id_2-r0p0 = refl
+periph_id_2_r0p0 : read_at (reset_device (record largest { revision = R0p0 })) 0xFE8 ≡ 0x04
+periph_id_2_r0p0 = refl
 
 periph_id_0 : read_at (reset_device largest) 0xFE0 ≡ 0x30
 periph_id_0 = refl
@@ -106,38 +106,38 @@ ready = written ram 0x020 0x2 (reset_device largest)
 abbrev going : DeviceValue
 going = written ram 0xD04 0 (written ram 0xD0C 0x100 (written ram 0xD08 0x03A00000 ready))
 
-csr-going : read_at going 0x118 ≡ 1
-csr-going = refl
+csr_going : read_at going 0x118 ≡ 1
+csr_going = refl
 
-cpc-going : read_at going 0x11C ≡ 0x100
-cpc-going = refl
+cpc_going : read_at going 0x11C ≡ 0x100
+cpc_going = refl
 
-runs-going : runs_at going 3 ≡ true
-runs-going = refl
+runs_going : runs_at going 3 ≡ true
+runs_going = refl
 
 -- its channel after the first step, and what that sets and answers; then DMAEND
 abbrev began : Machine
 began = machine (loaded_on (Chip Bits128) (record { bytes = 0x34 ∷ 0x08 ∷ 0x00 ∷ []; cost = None })) [] (flags_of (visible_events going))
 
-first-flags : (after_steps [] began 1).flags ≡ flags_of 0x2
+first_flags : (after_steps [] began 1).flags ≡ flags_of 0x2
 unfolding flags_of
-first-flags = refl
+first_flags = refl
 
-first-signal : signal_after [] began 1 ≡ Some 1
-first-signal = refl
+first_signal : signal_after [] began 1 ≡ Some 1
+first_signal = refl
 
-interrupts-first : (with_flags 0x2 going).interrupts ≡ 0x2
-interrupts-first = refl
+interrupts_first : (with_flags 0x2 going).interrupts ≡ 0x2
+interrupts_first = refl
 
-events-first : (with_flags 0x2 going).events ≡ 0
-events-first = refl
+events_first : (with_flags 0x2 going).events ≡ 0
+events_first = refl
 
-raises-first : raises going (Some 1) ≡ true
-raises-first = refl
+raises_first : raises going (Some 1) ≡ true
+raises_first = refl
 
-second-answer : last_of [] began 2 ≡ Some Ended
+second_answer : last_of [] began 2 ≡ Some Ended
 unfolding flags_of
-second-answer = refl
+second_answer = refl
 
 -- ---- a bus of 32 bits
 
@@ -155,34 +155,34 @@ abbrev wide_turn : Access
 wide_turn = Turns 3 10
 
 -- after a turn the channel fails at the second, with operand_invalid
-csr-wide : (next (Reads 0x118) (next wide_turn narrow).0).1 ≡ Value 15
+csr_wide : (next (Reads 0x118) (next wide_turn narrow).0).1 ≡ Value 15
 unfolding flags_of is_control control_of end_at
-csr-wide = refl
+csr_wide = refl
 
-ftr-wide : (next (Reads 0x04C) (next wide_turn narrow).0).1 ≡ Value 2
+ftr_wide : (next (Reads 0x04C) (next wide_turn narrow).0).1 ≡ Value 2
 unfolding flags_of is_control control_of end_at
-ftr-wide = refl
+ftr_wide = refl
 
-cpc-wide : (next (Reads 0x11C) (next wide_turn narrow).0).1 ≡ Value 0x106
+cpc_wide : (next (Reads 0x11C) (next wide_turn narrow).0).1 ≡ Value 0x106
 unfolding flags_of is_control control_of end_at
-cpc-wide = refl
+cpc_wide = refl
 
 -- DMAGO of channel 8, which no device has
 abbrev lost : DeviceValue
 lost = written ram 0xD04 0 (written ram 0xD08 0x08A00000 ready)
 
-ftrd-lost : read_at lost 0x038 ≡ 0x40000002
-ftrd-lost = refl
+ftrd_lost : read_at lost 0x038 ≡ 0x40000002
+ftrd_lost = refl
 
-fsrd-lost : read_at lost 0x030 ≡ 1
-fsrd-lost = refl
+fsrd_lost : read_at lost 0x030 ≡ 1
+fsrd_lost = refl
 
-abort-lost : irq_abort lost ≡ true
-abort-lost = refl
+abort_lost : irq_abort lost ≡ true
+abort_lost = refl
 
 -- a DMAKILL of the manager
-abort-killed : irq_abort (written ram 0xD04 0 (written ram 0xD08 0x00010000 lost)) ≡ false
-abort-killed = refl
+abort_killed : irq_abort (written ram 0xD04 0 (written ram 0xD08 0x00010000 lost)) ≡ false
+abort_killed = refl
 
 -- ---- INTCLR
 
@@ -190,19 +190,19 @@ abort-killed = refl
 abbrev both : DeviceValue
 both = written ram 0xD04 0 (written ram 0xD08 0x10340000 (written ram 0xD04 0 (written ram 0xD08 0x08340000 ready)))
 
-ris-both : read_at both 0x024 ≡ 0x6
-ris-both = refl
+ris_both : read_at both 0x024 ≡ 0x6
+ris_both = refl
 
-irqs-both : irqs both ≡ 0x2
-irqs-both = refl
+irqs_both : irqs both ≡ 0x2
+irqs_both = refl
 
 -- the interrupt is cleared, and the event is not
-ris-cleared : read_at (written ram 0x02C 0x6 both) 0x024 ≡ 0x4
-ris-cleared = refl
+ris_cleared : read_at (written ram 0x02C 0x6 both) 0x024 ≡ 0x4
+ris_cleared = refl
 
 -- channels see the event alone
-events-both : visible_events both ≡ 0x4
-events-both = refl
+events_both : visible_events both ≡ 0x4
+events_both = refl
 
 -- ---- INTEN
 
@@ -210,15 +210,15 @@ events-both = refl
 abbrev turned_over : DeviceValue
 turned_over = written ram 0x020 0x4 both
 
-irqs-turned_over : irqs turned_over ≡ 0x2
-irqs-turned_over = refl
+irqs_turned_over : irqs turned_over ≡ 0x2
+irqs_turned_over = refl
 
-events-turned_over : visible_events turned_over ≡ 0
-events-turned_over = refl
+events_turned_over : visible_events turned_over ≡ 0
+events_turned_over = refl
 
 -- INTCLR clears an interrupt only while INTEN makes it one
-ris-turned_over : read_at (written ram 0x02C 0x6 turned_over) 0x024 ≡ 0x6
-ris-turned_over = refl
+ris_turned_over : read_at (written ram 0x02C 0x6 turned_over) 0x024 ≡ 0x6
+ris_turned_over = refl
 
 -- ---- a run: INTEN, DMAGO of channel 3, a turn, INTCLR
 
@@ -234,21 +234,21 @@ abbrev start : Board
 start = record { device = reset_device largest; ram = record { pieces = ram; read_only = [] } }
 
 -- the turn raises the interrupt and ends the program, and writes nothing
-turn-run : (next (access 4) (run access start 4)).1 ≡ Turned (record { written = range_at 0 0; lines_changed = true })
+turn_run : (next (access 4) (run access start 4)).1 ≡ Turned (record { written = range_at 0 0; lines_changed = true })
 unfolding flags_of
-turn-run = refl
+turn_run = refl
 
-line-run : irqs (run access start 5).device ≡ 0x2
+line_run : irqs (run access start 5).device ≡ 0x2
 unfolding flags_of
-line-run = refl
+line_run = refl
 
-csr-run : (next (access 5) (run access start 5)).1 ≡ Value 0
+csr_run : (next (access 5) (run access start 5)).1 ≡ Value 0
 unfolding flags_of
-csr-run = refl
+csr_run = refl
 
-intmis-run : (next (access 7) (run access start 7)).1 ≡ Value 0
+intmis_run : (next (access 7) (run access start 7)).1 ≡ Value 0
 unfolding flags_of
-intmis-run = refl
+intmis_run = refl
 
 -- ---- a program in RAM
 
@@ -257,8 +257,8 @@ abbrev two_pieces : List Piece
 two_pieces =
     record { addr = 0x100; bytes = 7 ∷ (0x18 ∷ []) } ∷ (record { addr = 0x102; bytes = 0x18 ∷ (0 ∷ []) } ∷ [])
 
-across-two : HasProgram two_pieces 0x101 (0x18 ∷ (0x18 ∷ (0 ∷ [])))
-across-two = record { order = refl; short = omega arith; lies = lies; bytes = bytes }
+across_two : HasProgram two_pieces 0x101 (0x18 ∷ (0x18 ∷ (0 ∷ [])))
+across_two = record { order = refl; short = omega arith; lies = lies; bytes = bytes }
   where
     lies : (k : ℕ) → k < 3 → IsTrue (list_any (has (0x101 + k)) two_pieces)
     lies zero less = refl
@@ -273,9 +273,9 @@ across-two = record { order = refl; short = omega arith; lies = lies; bytes = by
     bytes (suc (suc (suc k))) less = absurd (omega arith)
 
 -- the address after the last piece isn't in RAM, whatever byte the program has there
-past-the_end : (b : ℕ) → ¬ HasProgram two_pieces 0x103 (0 ∷ (b ∷ []))
-past-the_end b h = true≢false (sym (h.lies 1 (omega arith)))
+past_the_end : (b : ℕ) → ¬ HasProgram two_pieces 0x103 (0 ∷ (b ∷ []))
+past_the_end b h = true≢false (sym (h.lies 1 (omega arith)))
 
 -- another byte
-other-byte : ¬ HasProgram two_pieces 0x100 (8 ∷ [])
-other-byte h = let bad : 7 ≡ 8 = h.bytes 0 (omega arith) in omega (arith, bad)
+other_byte_law : ¬ HasProgram two_pieces 0x100 (8 ∷ [])
+other_byte_law h = let bad : 7 ≡ 8 = h.bytes 0 (omega arith) in omega (arith, bad)

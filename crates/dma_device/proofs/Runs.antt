@@ -11,7 +11,7 @@ use Rattle.dma_mem.specs.Marking.{MarkList}
 use Rattle.dma_mem.specs.Regions.{Piece, bytes_above, end_of, image_of, piece_of, pieces_of, read_only_of}
 use Rattle.dma_mem.specs.declared.regions.Region.{Region}
 use Rattle.dma_mem.specs.declared.segment.Segment.{Segment}
-use Rattle.dma_mem.proofs.FlagBits.{get_or-flags_of, length-flags_of}
+use Rattle.dma_mem.proofs.FlagBits.{get_or_flags_of, length_flags_of}
 use Rattle.dma_chan.specs.declared.turn.ChanTurn.{ChanTurn}
 use Rattle.dma_chan.specs.Channel.{last_count}
 use Rattle.dma_chan.specs.LentRegions.{segment_of, with_gaps_of}
@@ -101,10 +101,10 @@ flag_of_bit (suc (suc m)) h = absurd (omega arith)
 
 pub number_is : (n : ℕ) → n < 2 ^ 32 → number_of (flags_of n) ≡ n
 number_is n range =
-    let below : number_of (flags_of n) < 2 ^ 32 = subst (λ (k : ℕ). number_of (flags_of n) < 2 ^ k) (length-flags_of n) (number_below (flags_of n)) in
+    let below : number_of (flags_of n) < 2 ^ 32 = subst (λ (k : ℕ). number_of (flags_of n) < 2 ^ k) (length_flags_of n) (number_below (flags_of n)) in
     same_from_bits_below 32 (number_of (flags_of n)) n below range (λ i less.
-    number_bit (flags_of n) i (omega (arith, length-flags_of n))
-    ∙ ap flag (get_or-flags_of n i less) ∙ flag_of_bit (bit_at n i) (bit_at-lt n i))
+    number_bit (flags_of n) i (omega (arith, length_flags_of n))
+    ∙ ap flag (get_or_flags_of n i less) ∙ flag_of_bit (bit_at n i) (bit_at-lt n i))
 
 -- ---- the pieces of a memory
 

@@ -10,7 +10,7 @@ use Rattle.dma_mem.specs.Flags.{flags_of}
 use Rattle.dma_mem.specs.Marking.{MarkList}
 use Rattle.dma_mem.specs.Regions.{image_of, pieces_of}
 use Rattle.dma_mem.specs.declared.regions.Region.{Region}
-use Rattle.dma_mem.proofs.FlagBits.{get_or-flags_of}
+use Rattle.dma_mem.proofs.FlagBits.{get_or_flags_of}
 use Rattle.dma_chan.specs.Channel.{ChannelValue, after_turn, ahead_of, state_of, step_of, stored_by}
 use Rattle.dma_chan.specs.Exec.{State, exec_fetched}
 use Rattle.dma_chan.specs.Stepping.{Machine, TakesSteps, after_step, after_steps, answer_at, machine, signal_after, signal_of}
@@ -119,7 +119,7 @@ by_turn events seen t at s marks (Waiting e) few can same flags is answers =
             let status : t.status ≡ WaitingForEvent e = sym i ∙ waits.0 in
             let high : nat_eq (bit_at seen e) 1 ≡ true = sym (ap (is_signalled seen) status) ∙ parts.1 in
             let below : e < 32 = omega (arith, few, waits.1) in
-            set_moves marks s e answers (ap (λ (fs : List Bool). get_or fs e false) flags ∙ get_or-flags_of seen e below ∙ high)),
+            set_moves marks s e answers (ap (λ (fs : List Bool). get_or fs e false) flags ∙ get_or_flags_of seen e below ∙ high)),
         quiet,
       )
     ]

@@ -13,7 +13,7 @@ use Rattle.dma_mem.specs.Flags.{flags_of}
 use Rattle.dma_mem.specs.Marking.{MarkList}
 use Rattle.dma_mem.specs.Regions.{image_of, pieces_of}
 use Rattle.dma_mem.specs.declared.regions.Region.{Region}
-use Rattle.dma_mem.proofs.FlagBits.{get_or-flags_of, length-flags_of}
+use Rattle.dma_mem.proofs.FlagBits.{get_or_flags_of, length_flags_of}
 use Rattle.dma_chan.specs.Bus.{accepts}
 use Rattle.dma_chan.specs.declared.exec.Registers.{Registers}
 use Rattle.dma_chan.specs.declared.turn.ChanTurn.{ChanTurn}
@@ -178,13 +178,13 @@ by_bits r i f line signal k rb ib fb is flag = (
 )
 
 pub flag_bit : (flags k : ℕ) → k < 32 → get_or (flags_of flags) k false ≡ true → bit_at flags k ≡ 1
-flag_bit flags k below h = elim (cases_eq (bit_at flags k) 1) [ inl one ↦ one | inr other ↦ absurd (true≢false (sym h ∙ get_or-flags_of flags k below ∙ ne_eqb (bit_at flags k) 1 other)) ]
+flag_bit flags k below h = elim (cases_eq (bit_at flags k) 1) [ inl one ↦ one | inr other ↦ absurd (true≢false (sym h ∙ get_or_flags_of flags k below ∙ ne_eqb (bit_at flags k) 1 other)) ]
 
 pub no_bit : (flags k : ℕ) → k < 32 → IsClear k (flags_of flags) → bit_at flags k ≡ 0
 no_bit flags k below h =
     let few = bit_at-lt flags k in
     elim (cases_eq (bit_at flags k) 1) [
-      | inl one ↦ absurd (true≢false (sym (ap (λ (m : ℕ). nat_eq m 1) one) ∙ sym (get_or-flags_of flags k below) ∙ h))
+      | inl one ↦ absurd (true≢false (sym (ap (λ (m : ℕ). nat_eq m 1) one) ∙ sym (get_or_flags_of flags k below) ∙ h))
       | inr other ↦ omega arith
     ]
 
@@ -193,7 +193,7 @@ pub hidden : (d : DeviceValue) (k : ℕ) → k < 32 → d.inten < 2 ^ 32 → IsH
 hidden d k below range on =
     let out : bit_at (visible_events d) k ≡ min (bit_at d.events k) (1 - bit_at d.inten k) = bit_at_and d.events (bit_not w32 d.inten) k ∙ ap (λ (m : ℕ). min (bit_at d.events k) m) (bit_at_not w32 d.inten k range below) in
     let none : bit_at (visible_events d) k ≡ 0 = omega arith in
-    get_or-flags_of (visible_events d) k below ∙ ap (λ (m : ℕ). nat_eq m 1) none
+    get_or_flags_of (visible_events d) k below ∙ ap (λ (m : ℕ). nat_eq m 1) none
 
 call_raises : (d : DeviceValue) (t : Thread) (regions : List Region) (n most : ℕ) (e : DeviceValue) (left : List Region) (called : Called) (k : ℕ) → HasLine d k → CallsThread d t regions n most e left called → CallRaises d e called.signal k
 call_raises d t regions n most e left called k has x =
@@ -203,7 +203,7 @@ call_raises d t regions n most e left called k has x =
     (bit_at-lt d.interrupts k) (bit_at-lt d.inten k) (bit_at-lt x.flags k)
     (ap (λ (m : ℕ). bit_at m k) lines ∙ line_after x.flags k d has.event)
     (λ on.
-    elim (flag_after (with_gaps_of regions []) (machine t.channel (image_of (pieces_of regions)) (flags_of (visible_events d))) (machine x.channel (image_of (pieces_of left)) (flags_of x.flags)) most x.taken k x.last x.steps (length-flags_of x.flags) below (hidden d k below has.inten on) called.signal x.signal) [
+    elim (flag_after (with_gaps_of regions []) (machine t.channel (image_of (pieces_of regions)) (flags_of (visible_events d))) (machine x.channel (image_of (pieces_of left)) (flags_of x.flags)) most x.taken k x.last x.steps (length_flags_of x.flags) below (hidden d k below has.inten on) called.signal x.signal) [
       | inl here ↦ inl (here.0, flag_bit x.flags k below here.1)
       | inr other ↦ inr (other.0, no_bit x.flags k below other.1)
     ])

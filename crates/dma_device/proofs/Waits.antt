@@ -18,7 +18,7 @@ use Rattle.dma_mem.specs.Marking.{MarkList}
 use Rattle.dma_mem.specs.Regions.{image_of, pieces_of, read_only_of}
 use Rattle.dma_mem.specs.declared.regions.Region.{Region}
 use Rattle.dma_mem.specs.declared.segment.Segment.{Segment}
-use Rattle.dma_mem.proofs.FlagBits.{get_or-flags_of}
+use Rattle.dma_mem.proofs.FlagBits.{get_or_flags_of}
 use Rattle.dma_chan.specs.Channel.{ChannelValue, ahead_of, last_count, state_of}
 use Rattle.dma_chan.specs.Exec.{ChangesNothing, exec_fetched}
 use Rattle.dma_chan.specs.LentRegions.{segment_of, with_gaps_of}
@@ -204,7 +204,7 @@ waits_still d t regions n most e left called h found some w x =
     let marks = with_gaps_of regions [] in
     let s = machine_in d t regions in
     let below : w.event < 32 = omega (arith, h.few, w.known) in
-    let clear : get_or s.flags w.event false ≡ false = get_or-flags_of (visible_events d) w.event below ∙ w.clear in
+    let clear : get_or s.flags w.event false ≡ false = get_or_flags_of (visible_events d) w.event below ∙ w.clear in
     let still = still_call marks s (machine x.channel (image_of (pieces_of left)) (flags_of x.flags)) most x.taken w.event w.invalid x.last some x.steps w.next w.few (wait_answers marks s w.event w.invalid w.next clear) in
     let channel : x.channel ≡ t.channel = ap (λ (m : Machine). m.channel) still.machine in
     let image : image_of (pieces_of left) ≡ image_of (pieces_of regions) = ap (λ (m : Machine). m.image) still.machine in

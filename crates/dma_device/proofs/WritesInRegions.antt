@@ -13,7 +13,7 @@ use Rattle.dma_mem.specs.Regions.{Piece, bytes_above, end_of, gaps_above, gaps_o
 use Rattle.dma_mem.specs.declared.marks.MarkKind.TheVariants.{Writing}
 use Rattle.dma_mem.specs.declared.regions.Region.{Region}
 use Rattle.dma_mem.specs.declared.segment.Segment.{Segment}
-use Rattle.dma_mem.proofs.GapMarks.{is_marked-at, stores_in}
+use Rattle.dma_mem.proofs.GapMarks.{is_marked_at, stores_in}
 use Rattle.dma_mem.proofs.Pieces.{first}
 use Rattle.dma_chan.specs.declared.turn.ChanTurn.TheVariants.{Moved}
 use Rattle.dma_chan.specs.declared.turn.FaultKind.{FaultKind}
@@ -31,7 +31,7 @@ use Rattle.dma_device.specs.Device.{DeviceValue}
 use Rattle.dma_device.specs.Turns.{TakesTurn, begins, follows}
 use Rattle.dma_device.specs.Writes.{CallWrote, TurnWritesInRegions}
 use Rattle.dma_device.proofs.CallKeeps.{if_places, if_read_only}
-use Rattle.dma_device.proofs.InOrder.{in_order-kept}
+use Rattle.dma_device.proofs.InOrder.{in_order_kept}
 use Rattle.dma_device.proofs.Writes.{turn_writes_each}
 
 -- ---- a store that moved
@@ -100,7 +100,7 @@ call_within b d regions n most e left called a order w =
     let parts = and_parts (nat_lt a (length (image_of (pieces_of regions)))) (not (is_marked Writing marks a)) test in
     let free : is_marked Writing marks a ≡ false = not-true (is_marked Writing marks a) parts.1 in
     let others = stores_at (read_only_of regions) ++ [] in
-    let both = or_parts (lies_in_any (gaps_of (pieces_of regions)) a) (is_marked Writing others a) (sym (is_marked-at Writing (gaps_of (pieces_of regions)) others a) ∙ free) in
+    let both = or_parts (lies_in_any (gaps_of (pieces_of regions)) a) (is_marked Writing others a) (sym (is_marked_at Writing (gaps_of (pieces_of regions)) others a) ∙ free) in
     let writable = or_parts (lies_in_any (read_only_of regions) a) (is_marked Writing [] a) (sym (stores_in (read_only_of regions) [] a) ∙ both.1) in
     (in_piece 0 (pieces_of regions) a order (omega arith) (omega (arith, ltb-true a (length (image_of (pieces_of regions))) parts.0)) both.0, writable.0)
 
@@ -118,7 +118,7 @@ turn_writes_in_regions d regions n most e left turn a order x i =
     by y (inr w) =
         let places = if_places (begins d n most) d regions n most y.middle y.lent y.first y.call in
         let access = if_read_only (begins d n most) d regions n most y.middle y.lent y.first y.call in
-        let there = call_within (follows y.middle n y.first) y.middle y.lent n 1 e left y.second a (in_order-kept regions y.lent places order) w in (
+        let there = call_within (follows y.middle n y.first) y.middle y.lent n 1 e left y.second a (in_order_kept regions y.lent places order) w in (
           has_is regions a ∙ ap (λ (ss : List Segment). list_any (lies_in a) ss) (sym places) ∙ sym (has_is y.lent a) ∙ there.0,
           ap (λ (ss : List Segment). lies_in_any ss a) (sym access) ∙ there.1,
         )

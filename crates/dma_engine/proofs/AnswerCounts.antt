@@ -23,32 +23,32 @@ use Rattle.dma_engine.specs.View.{View, object_of, channels}
 use Rattle.dma_engine.specs.Turn.{Stepped, turn, ends, next_moved, finishes, with_entry}
 use Rattle.dma_engine.specs.Answer.{CallAnswers, answer, unless, write_fault, read_fault, submit_fault, channel_fault, mark_fault, raise_fault, with_pause, terminated, done_on}
 use Rattle.dma_engine.specs.Laws.{Adds, SameCounts, IsQuiet, QuietCallsKeepCounts, StepsAdd, EndsByTurn, ticks_in, steps_in, finishes_in}
-use Rattle.dma_engine.proofs.Endings.{length-aborted}
-use Rattle.dma_engine.proofs.Histories.{object_after-append}
-use Rattle.dma_engine.proofs.Turns.{answer-is, step-is, turn-cases}
+use Rattle.dma_engine.proofs.Endings.{length_aborted}
+use Rattle.dma_engine.proofs.Histories.{object_after_append}
+use Rattle.dma_engine.proofs.Turns.{answer_is, step_is_law, turn_cases}
 
 -- ---- lists of ticks
 
-pub ticks-append : (xs ys : List Entry) → ticks_of (xs ++ ys) ≡ ticks_of xs ++ ticks_of ys
-ticks-append [] ys = refl
-ticks-append (Wrote addr bytes ∷ xs) ys = ticks-append xs ys
-ticks-append (ReadBack addr bytes ∷ xs) ys = ticks-append xs ys
-ticks-append (SubmittedEntry ch t cookie ∷ xs) ys = ap (λ l. Submitted ch ∷ l) (ticks-append xs ys)
-ticks-append (Issued ch ∷ xs) ys = ticks-append xs ys
-ticks-append (Passed ch event ∷ xs) ys = ticks-append xs ys
-ticks-append (Signalled by event ∷ xs) ys = ticks-append xs ys
-ticks-append (FinishedEntry ch result done ∷ xs) ys = ap (λ l. Finished ch 1 ∷ l) (ticks-append xs ys)
-ticks-append (Terminated ch done count ∷ xs) ys = ap (λ l. Finished ch count ∷ l) (ticks-append xs ys)
-ticks-append (Marked kind segment ∷ xs) ys = ticks-append xs ys
-ticks-append (Unmarked ∷ xs) ys = ticks-append xs ys
+pub ticks_append : (xs ys : List Entry) → ticks_of (xs ++ ys) ≡ ticks_of xs ++ ticks_of ys
+ticks_append [] ys = refl
+ticks_append (Wrote addr bytes ∷ xs) ys = ticks_append xs ys
+ticks_append (ReadBack addr bytes ∷ xs) ys = ticks_append xs ys
+ticks_append (SubmittedEntry ch t cookie ∷ xs) ys = ap (λ l. Submitted ch ∷ l) (ticks_append xs ys)
+ticks_append (Issued ch ∷ xs) ys = ticks_append xs ys
+ticks_append (Passed ch event ∷ xs) ys = ticks_append xs ys
+ticks_append (Signalled by event ∷ xs) ys = ticks_append xs ys
+ticks_append (FinishedEntry ch result done ∷ xs) ys = ap (λ l. Finished ch 1 ∷ l) (ticks_append xs ys)
+ticks_append (Terminated ch done count ∷ xs) ys = ap (λ l. Finished ch count ∷ l) (ticks_append xs ys)
+ticks_append (Marked kind segment ∷ xs) ys = ticks_append xs ys
+ticks_append (Unmarked ∷ xs) ys = ticks_append xs ys
 
 -- ---- the number of finished cookies
 
-finished-with : (o : Object) (ch : ℕ) (c : ChannelState) → ch < length o.channels → finished_all (with_channel o ch c) + finished (channel o ch) ≡ finished_all o + finished c
-finished-with o ch c less = sum_by-set finished o.channels ch c empty_channel less
+finished_with : (o : Object) (ch : ℕ) (c : ChannelState) → ch < length o.channels → finished_all (with_channel o ch c) + finished (channel o ch) ≡ finished_all o + finished c
+finished_with o ch c less = sum_by-set finished o.channels ch c empty_channel less
 
-finished-same : (o : Object) (ch : ℕ) (c : ChannelState) → finished c ≡ finished (channel o ch) → finished_all (with_channel o ch c) ≡ finished_all o
-finished-same o ch c e =
+finished_same : (o : Object) (ch : ℕ) (c : ChannelState) → finished c ≡ finished (channel o ch) → finished_all (with_channel o ch c) ≡ finished_all o
+finished_same o ch c e =
     sym (sum-map finished (slice_set o.channels ch c))
     ∙ ap sum (map-set finished o.channels ch c ∙ ap (slice_set (map finished o.channels) ch) (e ∙ sym (get_or-map finished o.channels ch empty_channel)) ∙ set-get_or (map finished o.channels) ch 0)
     ∙ sum-map finished o.channels
@@ -65,76 +65,76 @@ IsQuietEntry (FinishedEntry ch result done) = ⊥
 IsQuietEntry (Terminated ch done count) = ⊥
 IsQuietEntry _ = Unit {0}
 
-quiet-ticks : (e : Entry) → IsQuietEntry e → ticks_of (e ∷ []) ≡ []
-quiet-ticks (Wrote addr bytes) q = refl
-quiet-ticks (ReadBack addr bytes) q = refl
-quiet-ticks (SubmittedEntry ch t cookie) q = absurd q
-quiet-ticks (Issued ch) q = refl
-quiet-ticks (Passed ch event) q = refl
-quiet-ticks (Signalled by event) q = refl
-quiet-ticks (FinishedEntry ch result done) q = absurd q
-quiet-ticks (Terminated ch done count) q = absurd q
-quiet-ticks (Marked kind segment) q = refl
-quiet-ticks Unmarked q = refl
+quiet_ticks : (e : Entry) → IsQuietEntry e → ticks_of (e ∷ []) ≡ []
+quiet_ticks (Wrote addr bytes) q = refl
+quiet_ticks (ReadBack addr bytes) q = refl
+quiet_ticks (SubmittedEntry ch t cookie) q = absurd q
+quiet_ticks (Issued ch) q = refl
+quiet_ticks (Passed ch event) q = refl
+quiet_ticks (Signalled by event) q = refl
+quiet_ticks (FinishedEntry ch result done) q = absurd q
+quiet_ticks (Terminated ch done count) q = absurd q
+quiet_ticks (Marked kind segment) q = refl
+quiet_ticks Unmarked q = refl
 
-quiet-after : (o : Object) (e : Entry) → IsQuietEntry e → finished_all (after o e) ≡ finished_all o
-quiet-after o (Wrote addr bytes) q = refl
-quiet-after o (ReadBack addr bytes) q = refl
-quiet-after o (SubmittedEntry ch t cookie) q = absurd q
-quiet-after o (Issued ch) q = finished-same o ch _ refl
-quiet-after o (Passed ch event) q = finished-same (with_flag o event false) ch _ refl
-quiet-after o (Signalled (Channel ch) event) q = finished-same (with_flag o event true) ch _ refl
-quiet-after o (Signalled Host event) q = refl
-quiet-after o (FinishedEntry ch result done) q = absurd q
-quiet-after o (Terminated ch done count) q = absurd q
-quiet-after o (Marked kind segment) q = refl
-quiet-after o Unmarked q = refl
+quiet_after : (o : Object) (e : Entry) → IsQuietEntry e → finished_all (after o e) ≡ finished_all o
+quiet_after o (Wrote addr bytes) q = refl
+quiet_after o (ReadBack addr bytes) q = refl
+quiet_after o (SubmittedEntry ch t cookie) q = absurd q
+quiet_after o (Issued ch) q = finished_same o ch _ refl
+quiet_after o (Passed ch event) q = finished_same (with_flag o event false) ch _ refl
+quiet_after o (Signalled (Channel ch) event) q = finished_same (with_flag o event true) ch _ refl
+quiet_after o (Signalled Host event) q = refl
+quiet_after o (FinishedEntry ch result done) q = absurd q
+quiet_after o (Terminated ch done count) q = absurd q
+quiet_after o (Marked kind segment) q = refl
+quiet_after o Unmarked q = refl
 
-pub object-one : (v : View) (e : Entry) → object_of (with_entry v e) ≡ after (object_of v) e
-object-one v e = object_after-append v.base v.history (e ∷ [])
+pub object_one : (v : View) (e : Entry) → object_of (with_entry v e) ≡ after (object_of v) e
+object_one v e = object_after_append v.base v.history (e ∷ [])
 
-entry-still : (v : View) (e : Entry) → IsQuietEntry e → SameCounts v (with_entry v e)
-entry-still v e q = record {
-  ticks = ticks-append v.history (e ∷ []) ∙ ap (λ l. ticks_of v.history ++ l) (quiet-ticks e q) ∙ append-nil (ticks_of v.history);
+entry_still : (v : View) (e : Entry) → IsQuietEntry e → SameCounts v (with_entry v e)
+entry_still v e q = record {
+  ticks = ticks_append v.history (e ∷ []) ∙ ap (λ l. ticks_of v.history ++ l) (quiet_ticks e q) ∙ append-nil (ticks_of v.history);
   steps = refl;
-  finished = ap finished_all (object-one v e) ∙ quiet-after (object_of v) e q;
+  finished = ap finished_all (object_one v e) ∙ quiet_after (object_of v) e q;
 }
 
-unless-still : (v : View) (f : Option EngineFault) (x : Reply × View) → SameCounts v x.1 → SameCounts v (unless f v x).1
-unless-still v None x h = h
-unless-still v (Some fault) x h = same v
+unless_still : (v : View) (f : Option EngineFault) (x : Reply × View) → SameCounts v x.1 → SameCounts v (unless f v x).1
+unless_still v None x h = h
+unless_still v (Some fault) x h = same v
 
 -- ---- a fact of an answer, from the answer with enough memory
 
-by-answer : (v w : View) (call : Call) (reply : Reply) (P : View → Type 0) → P (answer v call).1 → (reply, w) ≡ answer v call → P w
-by-answer v w call reply P h is = subst P (sym (ap (λ (x : Reply × View). x.1) is)) h
+by_answer_law : (v w : View) (call : Call) (reply : Reply) (P : View → Type 0) → P (answer v call).1 → (reply, w) ≡ answer v call → P w
+by_answer_law v w call reply P h is = subst P (sym (ap (λ (x : Reply × View). x.1) is)) h
 
 pub answered : (v w : View) (call : Call) (reply : Reply) (P : View → Type 0) → P v → P (answer v call).1 → CallAnswers v call reply w → P w
-answered v w call reply P o h a = elim (answer-is v w call reply a) [
+answered v w call reply P o h a = elim (answer_is v w call reply a) [
   | inl none ↦ subst P (sym none.1) o
-  | inr is ↦ by-answer v w call reply P h is
+  | inr is ↦ by_answer_law v w call reply P h is
 ]
 
 -- ---- the calls that give no cookie and finish none
 
-call-still : (v : View) (call : Call) → IsQuiet call → SameCounts v (answer v call).1
-call-still v (Write addr bytes) q = unless-still v (write_fault v addr (length bytes)) _ (entry-still v (Wrote addr bytes) tt)
-call-still v (Read addr len) q = unless-still v (read_fault v addr len) _ (entry-still v (ReadBack addr _) tt)
-call-still v (Submit ch t) q = absurd q
-call-still v (Issue ch) q = unless-still v (channel_fault v ch) _ (entry-still v (Issued ch) tt)
-call-still v (Pause ch) q = unless-still v (channel_fault v ch) (Done, with_pause v ch true) (record { ticks = refl; steps = refl; finished = refl })
-call-still v (Resume ch) q = unless-still v (channel_fault v ch) (Done, with_pause v ch false) (record { ticks = refl; steps = refl; finished = refl })
-call-still v (Terminate ch) q = absurd q
-call-still v (Step ch) q = absurd q
-call-still v (Status ch cookie) q = same v
-call-still v (ResultOf ch cookie) q = same v
-call-still v (Mark kind segment) q = unless-still v (mark_fault segment) _ (entry-still v (Marked kind segment) tt)
-call-still v Unmark q = entry-still v Unmarked tt
-call-still v (Raise event) q = unless-still v (raise_fault event) _ (entry-still v (Signalled Host event) tt)
-call-still v Checkpoint q = absurd q
+call_still : (v : View) (call : Call) → IsQuiet call → SameCounts v (answer v call).1
+call_still v (Write addr bytes) q = unless_still v (write_fault v addr (length bytes)) _ (entry_still v (Wrote addr bytes) tt)
+call_still v (Read addr len) q = unless_still v (read_fault v addr len) _ (entry_still v (ReadBack addr _) tt)
+call_still v (Submit ch t) q = absurd q
+call_still v (Issue ch) q = unless_still v (channel_fault v ch) _ (entry_still v (Issued ch) tt)
+call_still v (Pause ch) q = unless_still v (channel_fault v ch) (Done, with_pause v ch true) (record { ticks = refl; steps = refl; finished = refl })
+call_still v (Resume ch) q = unless_still v (channel_fault v ch) (Done, with_pause v ch false) (record { ticks = refl; steps = refl; finished = refl })
+call_still v (Terminate ch) q = absurd q
+call_still v (Step ch) q = absurd q
+call_still v (Status ch cookie) q = same v
+call_still v (ResultOf ch cookie) q = same v
+call_still v (Mark kind segment) q = unless_still v (mark_fault segment) _ (entry_still v (Marked kind segment) tt)
+call_still v Unmark q = entry_still v Unmarked tt
+call_still v (Raise event) q = unless_still v (raise_fault event) _ (entry_still v (Signalled Host event) tt)
+call_still v Checkpoint q = absurd q
 
 pub quiet_calls_keep_counts : QuietCallsKeepCounts
-quiet_calls_keep_counts v w call reply q h = answered v w call reply (SameCounts v) (same v) (call-still v call q) h
+quiet_calls_keep_counts v w call reply q h = answered v w call reply (SameCounts v) (same v) (call_still v call q) h
 
 -- ---- a step
 
@@ -148,63 +148,63 @@ Deed v ch (Ok Moved, w) =
     (ticks_of w.history ≡ ticks_of v.history) × (w.steps ≡ v.steps + 1) × (finished_all (object_of w) ≡ finished_all (object_of v))
 Deed v ch (_, w) = SameCounts v w
 
-entry-moves : (v : View) (ch n : ℕ) (e : Entry) → IsQuietEntry e → Deed v ch (next_moved (with_entry v e) ch n)
-entry-moves v ch n e q = let s = entry-still v e q in (s.ticks, refl, s.finished)
+entry_moves : (v : View) (ch n : ℕ) (e : Entry) → IsQuietEntry e → Deed v ch (next_moved (with_entry v e) ch n)
+entry_moves v ch n e q = let s = entry_still v e q in (s.ticks, refl, s.finished)
 
-finish-deed : (v : View) (ch n : ℕ) (t : Descriptor) (how : TransResult) → ch < channels v → Deed v ch (finishes v ch t n how)
-finish-deed v ch n t how less =
+finish_deed : (v : View) (ch n : ℕ) (t : Descriptor) (how : TransResult) → ch < channels v → Deed v ch (finishes v ch t n how)
+finish_deed v ch n t how less =
     let done = stored_after t n in
     let e = FinishedEntry ch how done in
     let o = object_of v in
     let c = channel o ch in
-    let set = finished-with (with_front_laid o ch done) ch (with_outcome c how done) less in
+    let set = finished_with (with_front_laid o ch done) ch (with_outcome c how done) less in
     let more = length_push c.outcomes (outcome_of how (front_of c) done) in
     let all : finished_all (after o e) ≡ finished_all o + 1 = omega (arith, set, more) in
-    (ticks-append v.history (e ∷ []), refl, ap finished_all (object-one v e) ∙ all, length_push v.history e)
+    (ticks_append v.history (e ∷ []), refl, ap finished_all (object_one v e) ∙ all, length_push v.history e)
 
-turn-deed : (v : View) (ch : ℕ) → Deed v ch (turn v ch)
-turn-deed v ch = turn-cases v ch (Deed v ch) (record {
+turn_deed : (v : View) (ch : ℕ) → Deed v ch (turn v ch)
+turn_deed v ch = turn_cases v ch (Deed v ch) (record {
   idle = (same v, same v, same v, same v, same v, λ _. same v, λ _. same v);
   starts = λ _ _. record { ticks = refl; steps = refl; finished = refl };
   moves = λ _ _. (refl, refl, refl);
-  passes = λ _ n event. entry-moves v ch n (Passed ch event) tt;
-  signals = λ _ n event. entry-moves v ch n (Signalled (Channel ch) event) tt;
-  ends = λ there n t how. finish-deed v ch n t how there;
+  passes = λ _ n event. entry_moves v ch n (Passed ch event) tt;
+  signals = λ _ n event. entry_moves v ch n (Signalled (Channel ch) event) tt;
+  ends = λ there n t how. finish_deed v ch n t how there;
 })
 
 -- ---- what a step adds
 
-still-adds : (v w : View) → SameCounts v w → Adds v w [] 0 0
-still-adds v w s = record {
+still_adds : (v w : View) → SameCounts v w → Adds v w [] 0 0
+still_adds v w s = record {
   ticks = s.ticks ∙ sym (append-nil (ticks_of v.history));
   steps = omega (arith, s.steps);
   finished = omega (arith, s.finished);
 }
 
-deed-adds : (v w : View) (ch : ℕ) (r : Result Turn EngineFault) → Deed v ch (r, w) → Adds v w (ticks_in ch r) (steps_in r) (finishes_in r)
-deed-adds v w ch (Ok (FinishedTurn a b c)) d = record { ticks = d.0; steps = d.1; finished = d.2 }
-deed-adds v w ch (Ok Moved) d = record {
+deed_adds : (v w : View) (ch : ℕ) (r : Result Turn EngineFault) → Deed v ch (r, w) → Adds v w (ticks_in ch r) (steps_in r) (finishes_in r)
+deed_adds v w ch (Ok (FinishedTurn a b c)) d = record { ticks = d.0; steps = d.1; finished = d.2 }
+deed_adds v w ch (Ok Moved) d = record {
   ticks = d.0 ∙ sym (append-nil (ticks_of v.history));
   steps = d.1;
   finished = omega (arith, d.2);
 }
-deed-adds v w ch (Ok Nothing) d = still-adds v w d
-deed-adds v w ch (Ok (Held a b)) d = still-adds v w d
-deed-adds v w ch (Ok (Started a)) d = still-adds v w d
-deed-adds v w ch (Ok (Waiting a)) d = still-adds v w d
-deed-adds v w ch (Ok Paused) d = still-adds v w d
-deed-adds v w ch (Ok Halted) d = still-adds v w d
-deed-adds v w ch (Err f) d = still-adds v w d
+deed_adds v w ch (Ok Nothing) d = still_adds v w d
+deed_adds v w ch (Ok (Held a b)) d = still_adds v w d
+deed_adds v w ch (Ok (Started a)) d = still_adds v w d
+deed_adds v w ch (Ok (Waiting a)) d = still_adds v w d
+deed_adds v w ch (Ok Paused) d = still_adds v w d
+deed_adds v w ch (Ok Halted) d = still_adds v w d
+deed_adds v w ch (Err f) d = still_adds v w d
 
 pub steps_add : StepsAdd
-steps_add v w ch r h = elim (step-is v w ch r h) [
+steps_add v w ch r h = elim (step_is_law v w ch r h) [
   | inl none ↦
-      subst (λ x. Adds v w (ticks_in ch x) (steps_in x) (finishes_in x)) (sym none.0) (subst (λ u. Adds v u [] 0 0) (sym none.1) (still-adds v v (same v)))
-  | inr is ↦ deed-adds v w ch r (subst (λ (s : Stepped). Deed v ch s) is (turn-deed v ch))
+      subst (λ x. Adds v w (ticks_in ch x) (steps_in x) (finishes_in x)) (sym none.0) (subst (λ u. Adds v u [] 0 0) (sym none.1) (still_adds v v (same v)))
+  | inr is ↦ deed_adds v w ch r (subst (λ (s : Stepped). Deed v ch s) is (turn_deed v ch))
 ]
 
 pub ends_as_reported : EndsByTurn
-ends_as_reported v w ch r h = elim (step-is v w ch r h) [
+ends_as_reported v w ch r h = elim (step_is_law v w ch r h) [
   | inl none ↦ inl none.0
   | inr is ↦ inr (ap (λ (s : Stepped). ends s.0) (sym is))
 ]
@@ -217,8 +217,8 @@ submitted v w ch k t none h =
     let e = SubmittedEntry ch t (used (channel (object_of v) ch) + 1) in
     let given : answer v (Submit ch t) ≡ (Cookie (used (channel (object_of v) ch) + 1), with_entry v e) = rw none refl in
     let is : w ≡ with_entry v e = ap (λ (x : Reply × View). x.1) (h ∙ given) in
-    let one : finished_all (object_of (with_entry v e)) ≡ finished_all (object_of v) = ap finished_all (object-one v e) ∙ finished-same (object_of v) ch _ refl in (
-      ap (λ (u : View). ticks_of u.history) is ∙ ticks-append v.history (e ∷ []),
+    let one : finished_all (object_of (with_entry v e)) ≡ finished_all (object_of v) = ap finished_all (object_one v e) ∙ finished_same (object_of v) ch _ refl in (
+      ap (λ (u : View). ticks_of u.history) is ∙ ticks_append v.history (e ∷ []),
       ap (λ (u : View). u.steps) is,
       ap (λ (u : View). finished_all (object_of u)) is ∙ one,
     )
@@ -234,11 +234,11 @@ closed v w ch n none less h =
     let given : answer v (Terminate ch) ≡ (Count m, terminated v ch) = rw none refl in
     let number : n ≡ m = let both : Count n ≡ Count m = ap (λ (x : Reply × View). x.0) (h ∙ given) in cc in
     let is : w ≡ terminated v ch = ap (λ (x : Reply × View). x.1) (h ∙ given) in
-    let set = finished-with (with_front_laid o ch done) ch (with_all_aborted c done) less in
-    let more : finished (with_all_aborted c done) ≡ finished c + m = omega (arith, length-append c.outcomes (aborted done (drop (length c.outcomes) c.submitted)), length-aborted done (drop (length c.outcomes) c.submitted), length-drop (length c.outcomes) c.submitted) in
+    let set = finished_with (with_front_laid o ch done) ch (with_all_aborted c done) less in
+    let more : finished (with_all_aborted c done) ≡ finished c + m = omega (arith, length-append c.outcomes (aborted done (drop (length c.outcomes) c.submitted)), length_aborted done (drop (length c.outcomes) c.submitted), length-drop (length c.outcomes) c.submitted) in
     let all : finished_all (after o e) ≡ finished_all o + m = omega (arith, set, more) in (
       number,
-      ap (λ (u : View). ticks_of u.history) is ∙ ticks-append v.history (e ∷ []) ∙ ap (λ k. ticks_of v.history ++ Finished ch k ∷ []) (sym number),
+      ap (λ (u : View). ticks_of u.history) is ∙ ticks_append v.history (e ∷ []) ∙ ap (λ k. ticks_of v.history ++ Finished ch k ∷ []) (sym number),
       ap (λ (u : View). u.steps) is,
-      omega (arith, ap (λ (u : View). finished_all (object_of u)) is, ap finished_all (object-one v e), all, number),
+      omega (arith, ap (λ (u : View). finished_all (object_of u)) is, ap finished_all (object_one v e), all, number),
     )

@@ -22,15 +22,15 @@ use Rattle.dma_engine.specs.inner.Accesses.{named, conflicts}
 
 -- ---- a call that adds an entry takes memory
 
-or-true : (b : Bool) → (b || true) ≡ true
-or-true true = refl
-or-true false = refl
+or_true_law : (b : Bool) → (b || true) ≡ true
+or_true_law true = refl
+or_true_law false = refl
 
 pub starved : (v : View) (call : Call) (reply : Reply) (w : View) (e : Entry) → answer v call ≡ (reply, w) → w.history ≡ v.history ++ e ∷ [] → CallAnswers v call (Refused NoMemory) v
 starved v call reply w e is more =
     let longer : nat_lt (length v.history) (length w.history) ≡ true = lt-ltb _ _ (omega (arith, ap length more, length_push v.history e)) in
-    let grown : (is_started (answer v call).0 || nat_lt (length v.history) (length (answer v call).1.history)) ≡ true = ap (λ (x : Reply × View). is_started x.0 || nat_lt (length v.history) (length x.1.history)) is ∙ ap (λ b. is_started reply || b) longer ∙ or-true (is_started reply) in
-    let takes : takes_memory v call ≡ true = ap (λ b. stores_base v call || b) grown ∙ or-true (stores_base v call) in
+    let grown : (is_started (answer v call).0 || nat_lt (length v.history) (length (answer v call).1.history)) ≡ true = ap (λ (x : Reply × View). is_started x.0 || nat_lt (length v.history) (length x.1.history)) is ∙ ap (λ b. is_started reply || b) longer ∙ or_true_law (is_started reply) in
+    let takes : takes_memory v call ≡ true = ap (λ b. stores_base v call || b) grown ∙ or_true_law (stores_base v call) in
     (takes, refl)
 
 -- a result that is an error, which is this fault
@@ -40,206 +40,206 @@ refusal reply v w call fault (Err e) h a = rw h a
 
 -- ---- a running transfer that conflicts
 
-busy-known : (x : Option RunningTransfer) (ch cookie : ℕ) → Some (ch, cookie) ≡ named x → busy x ≡ Some (Busy ch cookie)
-busy-known None ch cookie h = absurd cc
-busy-known (Some r) ch cookie h =
+busy_known : (x : Option RunningTransfer) (ch cookie : ℕ) → Some (ch, cookie) ≡ named x → busy x ≡ Some (Busy ch cookie)
+busy_known None ch cookie h = absurd cc
+busy_known (Some r) ch cookie h =
     let pair : Option (ℕ × ℕ) → ℕ × ℕ = λ o. unwrap_or o (0, 0) in
     let a : ch ≡ r.ch = ap (λ o. (pair o).0) h in
     let b : cookie ≡ r.cookie = ap (λ o. (pair o).1) h in
     rw (a, b) refl
 
-busy-none : (x : Option RunningTransfer) → None ≡ named x → busy x ≡ None
-busy-none None h = refl
-busy-none (Some r) h = absurd cc
+busy_none : (x : Option RunningTransfer) → None ≡ named x → busy x ≡ None
+busy_none None h = refl
+busy_none (Some r) h = absurd cc
 
 -- ---- write
 
-pub write-out : (v : View) (addr : ℕ) (bytes : List ℕ) → size v < addr + length bytes → CallAnswers v (Write addr bytes) (Refused OutOfMemoryRange) v
-write-out v addr bytes h = let e : nat_lt (size v) (addr + length bytes) ≡ true = lt-ltb _ _ h in rw e refl
+pub write_out : (v : View) (addr : ℕ) (bytes : List ℕ) → size v < addr + length bytes → CallAnswers v (Write addr bytes) (Refused OutOfMemoryRange) v
+write_out v addr bytes h = let e : nat_lt (size v) (addr + length bytes) ≡ true = lt-ltb _ _ h in rw e refl
 
-pub write-busy : (v : View) (addr : ℕ) (bytes : List ℕ) (ch cookie : ℕ) → addr + length bytes ≤ size v → Some (ch, cookie) ≡ named (first_running v (conflicts (WriteWay (record { addr = addr; len = length bytes })))) → CallAnswers v (Write addr bytes) (Refused (Busy ch cookie)) v
-write-busy v addr bytes ch cookie within h =
+pub write_busy : (v : View) (addr : ℕ) (bytes : List ℕ) (ch cookie : ℕ) → addr + length bytes ≤ size v → Some (ch, cookie) ≡ named (first_running v (conflicts (WriteWay (record { addr = addr; len = length bytes })))) → CallAnswers v (Write addr bytes) (Refused (Busy ch cookie)) v
+write_busy v addr bytes ch cookie within h =
     let e : nat_lt (size v) (addr + length bytes) ≡ false = le-ltb _ _ within in
-    let f = busy-known (first_running v (conflicts (WriteWay (record { addr = addr; len = length bytes })))) ch cookie h in
+    let f = busy_known (first_running v (conflicts (WriteWay (record { addr = addr; len = length bytes })))) ch cookie h in
     rw (e, f) refl
 
-pub write-free : (v : View) (addr n : ℕ) → addr + n ≤ size v → None ≡ named (first_running v (conflicts (WriteWay (record { addr = addr; len = n })))) → write_fault v addr n ≡ None
-write-free v addr n within h =
+pub write_free : (v : View) (addr n : ℕ) → addr + n ≤ size v → None ≡ named (first_running v (conflicts (WriteWay (record { addr = addr; len = n })))) → write_fault v addr n ≡ None
+write_free v addr n within h =
     let e : nat_lt (size v) (addr + n) ≡ false = le-ltb _ _ within in
-    let f = busy-none (first_running v (conflicts (WriteWay (record { addr = addr; len = n })))) h in
+    let f = busy_none (first_running v (conflicts (WriteWay (record { addr = addr; len = n })))) h in
     rw (e, f) refl
 
-pub write-answer : (v : View) (addr : ℕ) (bytes : List ℕ) → write_fault v addr (length bytes) ≡ None → answer v (Write addr bytes) ≡ (Done, with_entry v (Wrote addr bytes))
-write-answer v addr bytes free = rw free refl
+pub write_answer : (v : View) (addr : ℕ) (bytes : List ℕ) → write_fault v addr (length bytes) ≡ None → answer v (Write addr bytes) ≡ (Done, with_entry v (Wrote addr bytes))
+write_answer v addr bytes free = rw free refl
 
-pub write-starved : (v : View) (addr : ℕ) (bytes : List ℕ) → write_fault v addr (length bytes) ≡ None → CallAnswers v (Write addr bytes) (Refused NoMemory) v
-write-starved v addr bytes free = starved v (Write addr bytes) Done _ (Wrote addr bytes) (write-answer v addr bytes free) refl
+pub write_starved : (v : View) (addr : ℕ) (bytes : List ℕ) → write_fault v addr (length bytes) ≡ None → CallAnswers v (Write addr bytes) (Refused NoMemory) v
+write_starved v addr bytes free = starved v (Write addr bytes) Done _ (Wrote addr bytes) (write_answer v addr bytes free) refl
 
-pub write-done : (v w : View) (addr : ℕ) (bytes : List ℕ) → write_fault v addr (length bytes) ≡ None → w ≡ with_entry v (Wrote addr bytes) → CallAnswers v (Write addr bytes) Done w
-write-done v w addr bytes free is = ap (λ x. (Done, x)) is ∙ sym (write-answer v addr bytes free)
+pub write_done : (v w : View) (addr : ℕ) (bytes : List ℕ) → write_fault v addr (length bytes) ≡ None → w ≡ with_entry v (Wrote addr bytes) → CallAnswers v (Write addr bytes) Done w
+write_done v w addr bytes free is = ap (λ x. (Done, x)) is ∙ sym (write_answer v addr bytes free)
 
 -- ---- read
 
-pub read-out : (v : View) (addr n : ℕ) → size v < addr + n → CallAnswers v (Read addr n) (Refused OutOfMemoryRange) v
-read-out v addr n h = let e : nat_lt (size v) (addr + n) ≡ true = lt-ltb _ _ h in rw e refl
+pub read_out : (v : View) (addr n : ℕ) → size v < addr + n → CallAnswers v (Read addr n) (Refused OutOfMemoryRange) v
+read_out v addr n h = let e : nat_lt (size v) (addr + n) ≡ true = lt-ltb _ _ h in rw e refl
 
-pub read-busy : (v : View) (addr n ch cookie : ℕ) → addr + n ≤ size v → Some (ch, cookie) ≡ named (first_running v (conflicts (ReadWay (record { addr = addr; len = n })))) → CallAnswers v (Read addr n) (Refused (Busy ch cookie)) v
-read-busy v addr n ch cookie within h =
+pub read_busy : (v : View) (addr n ch cookie : ℕ) → addr + n ≤ size v → Some (ch, cookie) ≡ named (first_running v (conflicts (ReadWay (record { addr = addr; len = n })))) → CallAnswers v (Read addr n) (Refused (Busy ch cookie)) v
+read_busy v addr n ch cookie within h =
     let e : nat_lt (size v) (addr + n) ≡ false = le-ltb _ _ within in
-    let f = busy-known (first_running v (conflicts (ReadWay (record { addr = addr; len = n })))) ch cookie h in
+    let f = busy_known (first_running v (conflicts (ReadWay (record { addr = addr; len = n })))) ch cookie h in
     rw (e, f) refl
 
-pub read-free : (v : View) (addr n : ℕ) → addr + n ≤ size v → None ≡ named (first_running v (conflicts (ReadWay (record { addr = addr; len = n })))) → read_fault v addr n ≡ None
-read-free v addr n within h =
+pub read_free : (v : View) (addr n : ℕ) → addr + n ≤ size v → None ≡ named (first_running v (conflicts (ReadWay (record { addr = addr; len = n })))) → read_fault v addr n ≡ None
+read_free v addr n within h =
     let e : nat_lt (size v) (addr + n) ≡ false = le-ltb _ _ within in
-    let f = busy-none (first_running v (conflicts (ReadWay (record { addr = addr; len = n })))) h in
+    let f = busy_none (first_running v (conflicts (ReadWay (record { addr = addr; len = n })))) h in
     rw (e, f) refl
 
-pub read-answer : (v : View) (addr n : ℕ) → read_fault v addr n ≡ None → let bytes = take n (drop addr (object_of v).image) in answer v (Read addr n) ≡ (Bytes bytes, with_entry v (ReadBack addr bytes))
-read-answer v addr n free = rw free refl
+pub read_answer : (v : View) (addr n : ℕ) → read_fault v addr n ≡ None → let bytes = take n (drop addr (object_of v).image) in answer v (Read addr n) ≡ (Bytes bytes, with_entry v (ReadBack addr bytes))
+read_answer v addr n free = rw free refl
 
-pub read-starved : (v : View) (addr n : ℕ) → read_fault v addr n ≡ None → CallAnswers v (Read addr n) (Refused NoMemory) v
-read-starved v addr n free =
+pub read_starved : (v : View) (addr n : ℕ) → read_fault v addr n ≡ None → CallAnswers v (Read addr n) (Refused NoMemory) v
+read_starved v addr n free =
     let bytes = take n (drop addr (object_of v).image) in
-    starved v (Read addr n) (Bytes bytes) _ (ReadBack addr bytes) (read-answer v addr n free) refl
+    starved v (Read addr n) (Bytes bytes) _ (ReadBack addr bytes) (read_answer v addr n free) refl
 
-pub read-done : (v w : View) (addr n : ℕ) (bytes : List ℕ) → read_fault v addr n ≡ None → bytes ≡ take n (drop addr (object_of v).image) → w ≡ with_entry v (ReadBack addr bytes) → CallAnswers v (Read addr n) (Bytes bytes) w
-read-done v w addr n bytes free read is =
-    ap (λ x. (Bytes bytes, x)) is ∙ ap (λ b. (Bytes b, with_entry v (ReadBack addr b))) read ∙ sym (read-answer v addr n free)
+pub read_done : (v w : View) (addr n : ℕ) (bytes : List ℕ) → read_fault v addr n ≡ None → bytes ≡ take n (drop addr (object_of v).image) → w ≡ with_entry v (ReadBack addr bytes) → CallAnswers v (Read addr n) (Bytes bytes) w
+read_done v w addr n bytes free read is =
+    ap (λ x. (Bytes bytes, x)) is ∙ ap (λ b. (Bytes b, with_entry v (ReadBack addr b))) read ∙ sym (read_answer v addr n free)
 
 -- ---- channels
 
-pub channel-gone : (v : View) (ch : ℕ) → channels v ≤ ch → channel_fault v ch ≡ Some NoChannel
-channel-gone v ch h = let e : nat_le (channels v) ch ≡ true = le-leb _ _ h in rw e refl
+pub channel_gone : (v : View) (ch : ℕ) → channels v ≤ ch → channel_fault v ch ≡ Some NoChannel
+channel_gone v ch h = let e : nat_le (channels v) ch ≡ true = le-leb _ _ h in rw e refl
 
-pub channel-there : (v : View) (ch : ℕ) → ch < channels v → channel_fault v ch ≡ None
-channel-there v ch h = let e : nat_le (channels v) ch ≡ false = lt-leb _ _ h in rw e refl
+pub channel_there : (v : View) (ch : ℕ) → ch < channels v → channel_fault v ch ≡ None
+channel_there v ch h = let e : nat_le (channels v) ch ≡ false = lt-leb _ _ h in rw e refl
 
-pub issue-answer : (v : View) (ch : ℕ) → ch < channels v → let c = channel (object_of v) ch in answer v (Issue ch) ≡ (Count (used c - c.issued), with_entry v (Issued ch))
-issue-answer v ch h = rw (channel-there v ch h) refl
+pub issue_answer : (v : View) (ch : ℕ) → ch < channels v → let c = channel (object_of v) ch in answer v (Issue ch) ≡ (Count (used c - c.issued), with_entry v (Issued ch))
+issue_answer v ch h = rw (channel_there v ch h) refl
 
-pub issue-done : (v w : View) (ch count : ℕ) → ch < channels v → count ≡ used (channel (object_of v) ch) - (channel (object_of v) ch).issued → w ≡ with_entry v (Issued ch) → CallAnswers v (Issue ch) (Count count) w
-issue-done v w ch count h n is = ap (λ x. (Count count, x)) is ∙ ap (λ k. (Count k, with_entry v (Issued ch))) n ∙ sym (issue-answer v ch h)
+pub issue_done : (v w : View) (ch count : ℕ) → ch < channels v → count ≡ used (channel (object_of v) ch) - (channel (object_of v) ch).issued → w ≡ with_entry v (Issued ch) → CallAnswers v (Issue ch) (Count count) w
+issue_done v w ch count h n is = ap (λ x. (Count count, x)) is ∙ ap (λ k. (Count k, with_entry v (Issued ch))) n ∙ sym (issue_answer v ch h)
 
-pub paused-gone : (v : View) (ch : ℕ) (paused : Bool) → channels v ≤ ch → CallAnswers v (if paused then Pause ch else Resume ch) (Refused NoChannel) v
-paused-gone v ch true h = rw (channel-gone v ch h) refl
-paused-gone v ch false h = rw (channel-gone v ch h) refl
+pub paused_gone : (v : View) (ch : ℕ) (paused : Bool) → channels v ≤ ch → CallAnswers v (if paused then Pause ch else Resume ch) (Refused NoChannel) v
+paused_gone v ch true h = rw (channel_gone v ch h) refl
+paused_gone v ch false h = rw (channel_gone v ch h) refl
 
-pub paused-done : (v w : View) (ch : ℕ) (paused : Bool) → ch < channels v → w ≡ with_pause v ch paused → CallAnswers v (if paused then Pause ch else Resume ch) Done w
-paused-done v w ch true h is = rw (channel-there v ch h, is) refl
-paused-done v w ch false h is = rw (channel-there v ch h, is) refl
+pub paused_done : (v w : View) (ch : ℕ) (paused : Bool) → ch < channels v → w ≡ with_pause v ch paused → CallAnswers v (if paused then Pause ch else Resume ch) Done w
+paused_done v w ch true h is = rw (channel_there v ch h, is) refl
+paused_done v w ch false h is = rw (channel_there v ch h, is) refl
 
-pub terminate-answer : (v : View) (ch : ℕ) → ch < channels v → answer v (Terminate ch) ≡ (Count (unfinished (channel (object_of v) ch)), terminated v ch)
-terminate-answer v ch h = rw (channel-there v ch h) refl
+pub terminate_answer : (v : View) (ch : ℕ) → ch < channels v → answer v (Terminate ch) ≡ (Count (unfinished (channel (object_of v) ch)), terminated v ch)
+terminate_answer v ch h = rw (channel_there v ch h) refl
 
-pub terminate-done : (v w : View) (ch count : ℕ) → ch < channels v → count ≡ unfinished (channel (object_of v) ch) → w ≡ terminated v ch → CallAnswers v (Terminate ch) (Count count) w
-terminate-done v w ch count h n is = ap (λ x. (Count count, x)) is ∙ ap (λ k. (Count k, terminated v ch)) n ∙ sym (terminate-answer v ch h)
+pub terminate_done : (v w : View) (ch count : ℕ) → ch < channels v → count ≡ unfinished (channel (object_of v) ch) → w ≡ terminated v ch → CallAnswers v (Terminate ch) (Count count) w
+terminate_done v w ch count h n is = ap (λ x. (Count count, x)) is ∙ ap (λ k. (Count k, terminated v ch)) n ∙ sym (terminate_answer v ch h)
 
 -- ---- submit
 
-pub submit-done : (v w : View) (ch cookie : ℕ) (t : Descriptor) → submit_fault v ch t ≡ None → cookie ≡ used (channel (object_of v) ch) + 1 → w ≡ with_entry v (Submitted ch t cookie) → CallAnswers v (Submit ch t) (Cookie cookie) w
-submit-done v w ch cookie t none number is =
+pub submit_done : (v w : View) (ch cookie : ℕ) (t : Descriptor) → submit_fault v ch t ≡ None → cookie ≡ used (channel (object_of v) ch) + 1 → w ≡ with_entry v (Submitted ch t cookie) → CallAnswers v (Submit ch t) (Cookie cookie) w
+submit_done v w ch cookie t none number is =
     let given : answer v (Submit ch t) ≡ (Cookie (used (channel (object_of v) ch) + 1), with_entry v (Submitted ch t (used (channel (object_of v) ch) + 1))) = rw none refl in
     ap (λ x. (Cookie cookie, x)) is ∙ ap (λ k. (Cookie k, with_entry v (Submitted ch t k))) number ∙ sym given
 
-no-cause : (b : Bool) (f : EngineFault) (others : Option EngineFault) → cause b f others ≡ None → (b ≡ false) × (others ≡ None)
-no-cause true f others h = absurd cc
-no-cause false f others h = (refl, h)
+no_cause : (b : Bool) (f : EngineFault) (others : Option EngineFault) → cause b f others ≡ None → (b ≡ false) × (others ≡ None)
+no_cause true f others h = absurd cc
+no_cause false f others h = (refl, h)
 
-not-false : (b : Bool) → not b ≡ false → b ≡ true
-not-false true h = refl
-not-false false h = absurd cc
+not_false_law : (b : Bool) → not b ≡ false → b ≡ true
+not_false_law true h = refl
+not_false_law false h = absurd cc
 
 -- what holds if nothing refuses a submit
-pub submit-open : (v : View) (ch : ℕ) (t : Descriptor) → submit_fault v ch t ≡ None → (ch < channels v) × (lies_below t (size v) ≡ true) × (used (channel (object_of v) ch) < last_cookie)
-submit-open v ch t none =
-    let first = no-cause (nat_le (channels v) ch) NoChannel _ none in
-    let second = no-cause (not (lies_below t (size v))) OutOfMemoryRange _ first.1 in
-    let third = no-cause (nat_le last_cookie (used (channel (object_of v) ch))) CookiesSpent None second.1 in
-    (leb-false _ _ first.0, not-false (lies_below t (size v)) second.0, leb-false _ _ third.0)
+pub submit_open : (v : View) (ch : ℕ) (t : Descriptor) → submit_fault v ch t ≡ None → (ch < channels v) × (lies_below t (size v) ≡ true) × (used (channel (object_of v) ch) < last_cookie)
+submit_open v ch t none =
+    let first = no_cause (nat_le (channels v) ch) NoChannel _ none in
+    let second = no_cause (not (lies_below t (size v))) OutOfMemoryRange _ first.1 in
+    let third = no_cause (nat_le last_cookie (used (channel (object_of v) ch))) CookiesSpent None second.1 in
+    (leb-false _ _ first.0, not_false_law (lies_below t (size v)) second.0, leb-false _ _ third.0)
 
 -- ---- a submit that is checked first
 
-pub check-out : (v : View) (ch n : ℕ) (t : Descriptor) → ch < channels v → lies_below t (size v) ≡ false → Err OutOfMemoryRange ≡ checked (submit_fault v ch t) n
-check-out v ch n t h out = let e : nat_le (channels v) ch ≡ false = lt-leb _ _ h in rw (e, out) refl
+pub check_out : (v : View) (ch n : ℕ) (t : Descriptor) → ch < channels v → lies_below t (size v) ≡ false → Err OutOfMemoryRange ≡ checked (submit_fault v ch t) n
+check_out v ch n t h out = let e : nat_le (channels v) ch ≡ false = lt-leb _ _ h in rw (e, out) refl
 
-pub check-spent : (v : View) (ch n : ℕ) (t : Descriptor) → ch < channels v → lies_below t (size v) ≡ true → last_cookie ≤ used (channel (object_of v) ch) → Err CookiesSpent ≡ checked (submit_fault v ch t) n
-check-spent v ch n t h below spent =
+pub check_spent : (v : View) (ch n : ℕ) (t : Descriptor) → ch < channels v → lies_below t (size v) ≡ true → last_cookie ≤ used (channel (object_of v) ch) → Err CookiesSpent ≡ checked (submit_fault v ch t) n
+check_spent v ch n t h below spent =
     let e : nat_le (channels v) ch ≡ false = lt-leb _ _ h in
     let f : nat_le last_cookie (used (channel (object_of v) ch)) ≡ true = le-leb _ _ spent in
     rw (e, below, f) refl
 
-pub check-fine : (v : View) (ch n : ℕ) (t : Descriptor) → ch < channels v → lies_below t (size v) ≡ true → used (channel (object_of v) ch) < last_cookie → Ok n ≡ checked (submit_fault v ch t) n
-check-fine v ch n t h below few =
+pub check_fine : (v : View) (ch n : ℕ) (t : Descriptor) → ch < channels v → lies_below t (size v) ≡ true → used (channel (object_of v) ch) < last_cookie → Ok n ≡ checked (submit_fault v ch t) n
+check_fine v ch n t h below few =
     let e : nat_le (channels v) ch ≡ false = lt-leb _ _ h in
     let f : nat_le last_cookie (used (channel (object_of v) ch)) ≡ false = lt-leb _ _ few in
     rw (e, below, f) refl
 
-pub checked-none : (x : Option EngineFault) (n k : ℕ) → Ok k ≡ checked x n → x ≡ None
-checked-none None n k h = refl
-checked-none (Some f) n k h = absurd cc
+pub checked_none : (x : Option EngineFault) (n k : ℕ) → Ok k ≡ checked x n → x ≡ None
+checked_none None n k h = refl
+checked_none (Some f) n k h = absurd cc
 
-checked-some : (x : Option EngineFault) (n : ℕ) (fault : EngineFault) → Err fault ≡ checked x n → x ≡ Some fault
-checked-some None n fault h = absurd cc
-checked-some (Some f) n fault h = let e : f ≡ fault = cc in ap (λ y. Some y) e
+checked_some : (x : Option EngineFault) (n : ℕ) (fault : EngineFault) → Err fault ≡ checked x n → x ≡ Some fault
+checked_some None n fault h = absurd cc
+checked_some (Some f) n fault h = let e : f ≡ fault = cc in ap (λ y. Some y) e
 
 -- a fault that a check names is not `NoMemory`
 abbrev IsNamed : EngineFault → Type 0
 IsNamed NoMemory = ⊥
 IsNamed f = Unit {0}
 
-named-cause : (b : Bool) (f : EngineFault) (others : Option EngineFault) (fault : EngineFault) → IsNamed f → (others ≡ Some fault → IsNamed fault) → cause b f others ≡ Some fault → IsNamed fault
-named-cause true f others fault n rest h = let e : f ≡ fault = cc in subst IsNamed e n
-named-cause false f others fault n rest h = rest h
+named_cause : (b : Bool) (f : EngineFault) (others : Option EngineFault) (fault : EngineFault) → IsNamed f → (others ≡ Some fault → IsNamed fault) → cause b f others ≡ Some fault → IsNamed fault
+named_cause true f others fault n rest h = let e : f ≡ fault = cc in subst IsNamed e n
+named_cause false f others fault n rest h = rest h
 
-refused-as : (v : View) (call : Call) (fault : EngineFault) → IsNamed fault → answer v call ≡ (Refused fault, v) → CallAnswers v call (Refused fault) v
-refused-as v call OutOfMemoryRange n is = sym is
-refused-as v call (Busy ch cookie) n is = sym is
-refused-as v call (Running ch cookie) n is = sym is
-refused-as v call NoChannel n is = sym is
-refused-as v call CookiesSpent n is = sym is
-refused-as v call StepsSpent n is = sym is
-refused-as v call BadEvent n is = sym is
-refused-as v call BadRange n is = sym is
-refused-as v call NoMemory n is = absurd n
+refused_as : (v : View) (call : Call) (fault : EngineFault) → IsNamed fault → answer v call ≡ (Refused fault, v) → CallAnswers v call (Refused fault) v
+refused_as v call OutOfMemoryRange n is = sym is
+refused_as v call (Busy ch cookie) n is = sym is
+refused_as v call (Running ch cookie) n is = sym is
+refused_as v call NoChannel n is = sym is
+refused_as v call CookiesSpent n is = sym is
+refused_as v call StepsSpent n is = sym is
+refused_as v call BadEvent n is = sym is
+refused_as v call BadRange n is = sym is
+refused_as v call NoMemory n is = absurd n
 
-pub submit-checked : (v : View) (ch n : ℕ) (t : Descriptor) (fault : EngineFault) → Err fault ≡ checked (submit_fault v ch t) n → CallAnswers v (Submit ch t) (Refused fault) v
-submit-checked v ch n t fault h =
-    let is = checked-some (submit_fault v ch t) n fault h in
+pub submit_checked : (v : View) (ch n : ℕ) (t : Descriptor) (fault : EngineFault) → Err fault ≡ checked (submit_fault v ch t) n → CallAnswers v (Submit ch t) (Refused fault) v
+submit_checked v ch n t fault h =
+    let is = checked_some (submit_fault v ch t) n fault h in
     let no_more : None ≡ Some fault → IsNamed fault = λ e. absurd cc in
-    let third = named-cause (nat_le last_cookie (used (channel (object_of v) ch))) CookiesSpent None fault tt no_more in
-    let second = named-cause (not (lies_below t (size v))) OutOfMemoryRange _ fault tt third in
-    let first = named-cause (nat_le (channels v) ch) NoChannel _ fault tt second in
-    refused-as v (Submit ch t) fault (first is) (rw is refl)
+    let third = named_cause (nat_le last_cookie (used (channel (object_of v) ch))) CookiesSpent None fault tt no_more in
+    let second = named_cause (not (lies_below t (size v))) OutOfMemoryRange _ fault tt third in
+    let first = named_cause (nat_le (channels v) ch) NoChannel _ fault tt second in
+    refused_as v (Submit ch t) fault (first is) (rw is refl)
 
-pub checked-cookie : (x : Option EngineFault) (n k : ℕ) → Ok k ≡ checked x n → k ≡ n
-checked-cookie None n k h = cc
-checked-cookie (Some f) n k h = absurd cc
+pub checked_cookie : (x : Option EngineFault) (n k : ℕ) → Ok k ≡ checked x n → k ≡ n
+checked_cookie None n k h = cc
+checked_cookie (Some f) n k h = absurd cc
 
 -- ---- checkpoint
 
-running-known : (x : Option RunningTransfer) (ch cookie : ℕ) → Some (ch, cookie) ≡ named x → option_map (λ (r : RunningTransfer). Running r.ch r.cookie) x ≡ Some (Running ch cookie)
-running-known None ch cookie h = absurd cc
-running-known (Some r) ch cookie h =
+running_known : (x : Option RunningTransfer) (ch cookie : ℕ) → Some (ch, cookie) ≡ named x → option_map (λ (r : RunningTransfer). Running r.ch r.cookie) x ≡ Some (Running ch cookie)
+running_known None ch cookie h = absurd cc
+running_known (Some r) ch cookie h =
     let pair : Option (ℕ × ℕ) → ℕ × ℕ = λ x. unwrap_or x (ch, cookie) in
     let e : r.ch ≡ ch = sym (ap (λ x. (pair x).0) h) in
     let f : r.cookie ≡ cookie = sym (ap (λ x. (pair x).1) h) in
     rw (e, f) refl
 
-running-none : (x : Option RunningTransfer) → None ≡ named x → x ≡ None
-running-none None h = refl
-running-none (Some r) h = absurd cc
+running_none : (x : Option RunningTransfer) → None ≡ named x → x ≡ None
+running_none None h = refl
+running_none (Some r) h = absurd cc
 
-pub checkpoint-refused : (v : View) (ch cookie : ℕ) → Some (ch, cookie) ≡ named (first_running v (λ _. true)) → CallAnswers v Checkpoint (Refused (Running ch cookie)) v
-checkpoint-refused v ch cookie h = rw (running-known (first_running v (λ _. true)) ch cookie h) refl
+pub checkpoint_refused : (v : View) (ch cookie : ℕ) → Some (ch, cookie) ≡ named (first_running v (λ _. true)) → CallAnswers v Checkpoint (Refused (Running ch cookie)) v
+checkpoint_refused v ch cookie h = rw (running_known (first_running v (λ _. true)) ch cookie h) refl
 
-pub checkpoint-open : (v : View) → None ≡ named (first_running v (λ _. true)) → first_running v (λ _. true) ≡ None
-checkpoint-open v h = running-none (first_running v (λ _. true)) h
+pub checkpoint_open : (v : View) → None ≡ named (first_running v (λ _. true)) → first_running v (λ _. true) ≡ None
+checkpoint_open v h = running_none (first_running v (λ _. true)) h
 
-pub checkpoint-starved : (v : View) → first_running v (λ _. true) ≡ None → CallAnswers v Checkpoint (Refused NoMemory) v
-checkpoint-starved v h = (rw h refl, refl)
+pub checkpoint_starved : (v : View) → first_running v (λ _. true) ≡ None → CallAnswers v Checkpoint (Refused NoMemory) v
+checkpoint_starved v h = (rw h refl, refl)
 
-pub checkpoint-done : (v w : View) → first_running v (λ _. true) ≡ None → w ≡ checkpointed v → CallAnswers v Checkpoint Done w
-checkpoint-done v w h is =
+pub checkpoint_done : (v w : View) → first_running v (λ _. true) ≡ None → w ≡ checkpointed v → CallAnswers v Checkpoint Done w
+checkpoint_done v w h is =
     let given : answer v Checkpoint ≡ (Done, checkpointed v) = rw h refl in
     ap (λ x. (Done, x)) is ∙ sym given

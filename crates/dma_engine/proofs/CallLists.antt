@@ -15,30 +15,30 @@ use Rattle.dma_engine.specs.View.{View, object_of}
 use Rattle.dma_engine.specs.Turn.{turn, with_entry}
 use Rattle.dma_engine.specs.Laws.{IsQuiet}
 use Rattle.dma_engine.specs.Answer.{CallAnswers, AreAnswers, Extends, answer, unless, write_fault, read_fault, submit_fault, channel_fault, mark_fault, raise_fault, with_pause, terminated, done_on, checkpoint_fault, checkpointed, is_checkpoint, has_checkpoint}
-use Rattle.dma_engine.proofs.Turns.{answer-is, turn-cases}
+use Rattle.dma_engine.proofs.Turns.{answer_is, turn_cases}
 
 -- ---- the chain of answers
 
-pub AreAnswers-push : (v w x : View) (calls : List Call) (replies : List Reply) (call : Call) (reply : Reply) → AreAnswers v calls replies w → CallAnswers w call reply x → AreAnswers v (calls ++ call ∷ []) (replies ++ reply ∷ []) x
-AreAnswers-push v w x [] [] call reply h a = (x, subst (λ (u : View). CallAnswers u call reply x) h a, refl)
-AreAnswers-push v w x [] (r ∷ rs) call reply h a = absurd h
-AreAnswers-push v w x (c ∷ cs) [] call reply h a = absurd h
-AreAnswers-push v w x (c ∷ cs) (r ∷ rs) call reply h a = (h.0, h.1, AreAnswers-push h.0 w x cs rs call reply h.2 a)
+pub AreAnswers_push : (v w x : View) (calls : List Call) (replies : List Reply) (call : Call) (reply : Reply) → AreAnswers v calls replies w → CallAnswers w call reply x → AreAnswers v (calls ++ call ∷ []) (replies ++ reply ∷ []) x
+AreAnswers_push v w x [] [] call reply h a = (x, subst (λ (u : View). CallAnswers u call reply x) h a, refl)
+AreAnswers_push v w x [] (r ∷ rs) call reply h a = absurd h
+AreAnswers_push v w x (c ∷ cs) [] call reply h a = absurd h
+AreAnswers_push v w x (c ∷ cs) (r ∷ rs) call reply h a = (h.0, h.1, AreAnswers_push h.0 w x cs rs call reply h.2 a)
 
 -- ---- histories that begin with the one before
 
-pub extends-same : (v w : View) → w ≡ v → Extends v w
-extends-same v w is = (ap (λ (u : View). u.base) is, ([], ap (λ (u : View). u.history) is ∙ sym (append-nil v.history)))
+pub extends_same : (v w : View) → w ≡ v → Extends v w
+extends_same v w is = (ap (λ (u : View). u.base) is, ([], ap (λ (u : View). u.history) is ∙ sym (append-nil v.history)))
 
-pub extends-trans : (u v w : View) → Extends u v → Extends v w → Extends u w
-extends-trans u v w a b =
+pub extends_trans : (u v w : View) → Extends u v → Extends v w → Extends u w
+extends_trans u v w a b =
     let more = a.1 in
     let rest = b.1 in
     (b.0 ∙ a.0, (more.0 ++ rest.0, rest.1 ∙ ap (λ h. h ++ rest.0) more.1 ∙ append_assoc u.history more.0 rest.0))
 
-unless-extends : (v : View) (f : Option EngineFault) (x : Reply × View) → Extends v x.1 → Extends v (unless f v x).1
-unless-extends v None x h = h
-unless-extends v (Some fault) x h = extends-same v v refl
+unless_extends : (v : View) (f : Option EngineFault) (x : Reply × View) → Extends v x.1 → Extends v (unless f v x).1
+unless_extends v None x h = h
+unless_extends v (Some fault) x h = extends_same v v refl
 
 -- by what is said of a base and a history alone
 still : (v : View) → (v.base ≡ v.base) × ((more : List Entry) × (v.history ≡ v.history ++ more))
@@ -47,8 +47,8 @@ still v = (refl, ([], sym (append-nil v.history)))
 one : (v : View) (e : Entry) → (v.base ≡ v.base) × ((more : List Entry) × (v.history ++ e ∷ [] ≡ v.history ++ more))
 one v e = (refl, (e ∷ [], refl))
 
-turn-extends : (v : View) (ch : ℕ) → Extends v (turn v ch).1
-turn-extends v ch = turn-cases v ch (λ s. Extends v s.1) (record {
+turn_extends : (v : View) (ch : ℕ) → Extends v (turn v ch).1
+turn_extends v ch = turn_cases v ch (λ s. Extends v s.1) (record {
   idle = (still v, still v, still v, still v, still v, λ _. still v, λ _. still v);
   starts = λ _ _. still v;
   moves = λ _ _. still v;
@@ -57,14 +57,14 @@ turn-extends v ch = turn-cases v ch (λ s. Extends v s.1) (record {
   ends = λ _ n t how. one v (Finished ch how (stored_after t n));
 })
 
-refused-still : (v : View) (f : Option EngineFault) (x : Reply × View) (reply : Reply) (w : View) → (reply, w) ≡ unless f v x → (f ≡ None → ⊥) → Extends v w
-refused-still v None x reply w is h = absurd (h refl)
-refused-still v (Some fault) x reply w is h = extends-same v w (ap (λ (y : Reply × View). y.1) is)
+refused_still : (v : View) (f : Option EngineFault) (x : Reply × View) (reply : Reply) (w : View) → (reply, w) ≡ unless f v x → (f ≡ None → ⊥) → Extends v w
+refused_still v None x reply w is h = absurd (h refl)
+refused_still v (Some fault) x reply w is h = extends_same v w (ap (λ (y : Reply × View). y.1) is)
 
 -- a checkpoint with a reply other than Done was not accepted
-checkpoint-extends : (v w : View) (reply : Reply) → (reply, w) ≡ answer v Checkpoint → is_checkpoint Checkpoint reply ≡ false → Extends v w
-checkpoint-extends v w reply is other =
-    refused-still v (checkpoint_fault v) (Done, checkpointed v) reply w is (λ e.
+checkpoint_extends : (v w : View) (reply : Reply) → (reply, w) ≡ answer v Checkpoint → is_checkpoint Checkpoint reply ≡ false → Extends v w
+checkpoint_extends v w reply is other =
+    refused_still v (checkpoint_fault v) (Done, checkpointed v) reply w is (λ e.
     let done : (reply, w) ≡ (Done, checkpointed v) = is ∙ ap (λ f. unless f v (Done, checkpointed v)) e in
     let same : reply ≡ Done = ap (λ (y : Reply × View). y.0) done in
     true≢false (sym (ap (is_checkpoint Checkpoint) same) ∙ other))
@@ -73,77 +73,77 @@ abbrev IsOther : Call → Type 0
 IsOther Checkpoint = ⊥
 IsOther _ = Unit {0}
 
-answer-extends : (v : View) (call : Call) → IsOther call → Extends v (answer v call).1
-answer-extends v (Write addr bytes) o = unless-extends v (write_fault v addr (length bytes)) (Done, with_entry v (Wrote addr bytes)) (one v (Wrote addr bytes))
-answer-extends v (Read addr len) o =
+answer_extends : (v : View) (call : Call) → IsOther call → Extends v (answer v call).1
+answer_extends v (Write addr bytes) o = unless_extends v (write_fault v addr (length bytes)) (Done, with_entry v (Wrote addr bytes)) (one v (Wrote addr bytes))
+answer_extends v (Read addr len) o =
     let bytes = take len (drop addr (object_of v).image) in
-    unless-extends v (read_fault v addr len) (Bytes bytes, with_entry v (ReadBack addr bytes)) (one v (ReadBack addr bytes))
-answer-extends v (Submit ch t) o =
+    unless_extends v (read_fault v addr len) (Bytes bytes, with_entry v (ReadBack addr bytes)) (one v (ReadBack addr bytes))
+answer_extends v (Submit ch t) o =
     let cookie = used (channel (object_of v) ch) + 1 in
-    unless-extends v (submit_fault v ch t) (Cookie cookie, with_entry v (Submitted ch t cookie)) (one v (Submitted ch t cookie))
-answer-extends v (Issue ch) o =
+    unless_extends v (submit_fault v ch t) (Cookie cookie, with_entry v (Submitted ch t cookie)) (one v (Submitted ch t cookie))
+answer_extends v (Issue ch) o =
     let c = channel (object_of v) ch in
-    unless-extends v (channel_fault v ch) (Count (used c - c.issued), with_entry v (Issued ch)) (one v (Issued ch))
-answer-extends v (Pause ch) o = unless-extends v (channel_fault v ch) (Done, with_pause v ch true) (still v)
-answer-extends v (Resume ch) o = unless-extends v (channel_fault v ch) (Done, with_pause v ch false) (still v)
-answer-extends v (Terminate ch) o =
+    unless_extends v (channel_fault v ch) (Count (used c - c.issued), with_entry v (Issued ch)) (one v (Issued ch))
+answer_extends v (Pause ch) o = unless_extends v (channel_fault v ch) (Done, with_pause v ch true) (still v)
+answer_extends v (Resume ch) o = unless_extends v (channel_fault v ch) (Done, with_pause v ch false) (still v)
+answer_extends v (Terminate ch) o =
     let count = unfinished (channel (object_of v) ch) in
-    unless-extends v (channel_fault v ch) (Count count, terminated v ch) (one v (Terminated ch (done_on v ch) count))
-answer-extends v (Step ch) o = turn-extends v ch
-answer-extends v (Status ch cookie) o = still v
-answer-extends v (ResultOf ch cookie) o = still v
-answer-extends v (Mark kind segment) o = unless-extends v (mark_fault segment) (Done, with_entry v (Marked kind segment)) (one v (Marked kind segment))
-answer-extends v Unmark o = one v Unmarked
-answer-extends v (Raise event) o = unless-extends v (raise_fault event) (Done, with_entry v (Signalled Host event)) (one v (Signalled Host event))
-answer-extends v Checkpoint o = absurd o
+    unless_extends v (channel_fault v ch) (Count count, terminated v ch) (one v (Terminated ch (done_on v ch) count))
+answer_extends v (Step ch) o = turn_extends v ch
+answer_extends v (Status ch cookie) o = still v
+answer_extends v (ResultOf ch cookie) o = still v
+answer_extends v (Mark kind segment) o = unless_extends v (mark_fault segment) (Done, with_entry v (Marked kind segment)) (one v (Marked kind segment))
+answer_extends v Unmark o = one v Unmarked
+answer_extends v (Raise event) o = unless_extends v (raise_fault event) (Done, with_entry v (Signalled Host event)) (one v (Signalled Host event))
+answer_extends v Checkpoint o = absurd o
 
-by-other : (v w : View) (call : Call) (reply : Reply) → IsOther call → (reply, w) ≡ answer v call → Extends v w
-by-other v w call reply o is = subst (λ (u : View). Extends v u) (sym (ap (λ (x : Reply × View). x.1) is)) (answer-extends v call o)
+by_other_law : (v w : View) (call : Call) (reply : Reply) → IsOther call → (reply, w) ≡ answer v call → Extends v w
+by_other_law v w call reply o is = subst (λ (u : View). Extends v u) (sym (ap (λ (x : Reply × View). x.1) is)) (answer_extends v call o)
 
-by-answer : (v w : View) (call : Call) (reply : Reply) → is_checkpoint call reply ≡ false → (reply, w) ≡ answer v call → Extends v w
-by-answer v w Checkpoint reply n is = checkpoint-extends v w reply is n
-by-answer v w (Write addr bytes) reply n is = by-other v w (Write addr bytes) reply tt is
-by-answer v w (Read addr len) reply n is = by-other v w (Read addr len) reply tt is
-by-answer v w (Submit ch t) reply n is = by-other v w (Submit ch t) reply tt is
-by-answer v w (Issue ch) reply n is = by-other v w (Issue ch) reply tt is
-by-answer v w (Pause ch) reply n is = by-other v w (Pause ch) reply tt is
-by-answer v w (Resume ch) reply n is = by-other v w (Resume ch) reply tt is
-by-answer v w (Terminate ch) reply n is = by-other v w (Terminate ch) reply tt is
-by-answer v w (Step ch) reply n is = by-other v w (Step ch) reply tt is
-by-answer v w (Status ch cookie) reply n is = by-other v w (Status ch cookie) reply tt is
-by-answer v w (ResultOf ch cookie) reply n is = by-other v w (ResultOf ch cookie) reply tt is
-by-answer v w (Mark kind segment) reply n is = by-other v w (Mark kind segment) reply tt is
-by-answer v w Unmark reply n is = by-other v w Unmark reply tt is
-by-answer v w (Raise event) reply n is = by-other v w (Raise event) reply tt is
+by_answer_law : (v w : View) (call : Call) (reply : Reply) → is_checkpoint call reply ≡ false → (reply, w) ≡ answer v call → Extends v w
+by_answer_law v w Checkpoint reply n is = checkpoint_extends v w reply is n
+by_answer_law v w (Write addr bytes) reply n is = by_other_law v w (Write addr bytes) reply tt is
+by_answer_law v w (Read addr len) reply n is = by_other_law v w (Read addr len) reply tt is
+by_answer_law v w (Submit ch t) reply n is = by_other_law v w (Submit ch t) reply tt is
+by_answer_law v w (Issue ch) reply n is = by_other_law v w (Issue ch) reply tt is
+by_answer_law v w (Pause ch) reply n is = by_other_law v w (Pause ch) reply tt is
+by_answer_law v w (Resume ch) reply n is = by_other_law v w (Resume ch) reply tt is
+by_answer_law v w (Terminate ch) reply n is = by_other_law v w (Terminate ch) reply tt is
+by_answer_law v w (Step ch) reply n is = by_other_law v w (Step ch) reply tt is
+by_answer_law v w (Status ch cookie) reply n is = by_other_law v w (Status ch cookie) reply tt is
+by_answer_law v w (ResultOf ch cookie) reply n is = by_other_law v w (ResultOf ch cookie) reply tt is
+by_answer_law v w (Mark kind segment) reply n is = by_other_law v w (Mark kind segment) reply tt is
+by_answer_law v w Unmark reply n is = by_other_law v w Unmark reply tt is
+by_answer_law v w (Raise event) reply n is = by_other_law v w (Raise event) reply tt is
 
-pub answers-extend : (v w : View) (call : Call) (reply : Reply) → is_checkpoint call reply ≡ false → CallAnswers v call reply w → Extends v w
-answers-extend v w call reply n h = elim (answer-is v w call reply h) [
-  | inl none ↦ extends-same v w none.1
-  | inr is ↦ by-answer v w call reply n is
+pub answers_extend : (v w : View) (call : Call) (reply : Reply) → is_checkpoint call reply ≡ false → CallAnswers v call reply w → Extends v w
+answers_extend v w call reply n h = elim (answer_is v w call reply h) [
+  | inl none ↦ extends_same v w none.1
+  | inr is ↦ by_answer_law v w call reply n is
 ]
 
-pub chain-extends : (v w : View) (calls : List Call) (replies : List Reply) → has_checkpoint calls replies ≡ false → AreAnswers v calls replies w → Extends v w
-chain-extends v w [] [] n h = extends-same v w h
-chain-extends v w [] (r ∷ rs) n h = absurd h
-chain-extends v w (c ∷ cs) [] n h = absurd h
-chain-extends v w (c ∷ cs) (r ∷ rs) n h =
+pub chain_extends : (v w : View) (calls : List Call) (replies : List Reply) → has_checkpoint calls replies ≡ false → AreAnswers v calls replies w → Extends v w
+chain_extends v w [] [] n h = extends_same v w h
+chain_extends v w [] (r ∷ rs) n h = absurd h
+chain_extends v w (c ∷ cs) [] n h = absurd h
+chain_extends v w (c ∷ cs) (r ∷ rs) n h =
     let both = or_parts (is_checkpoint c r) (has_checkpoint cs rs) n in
-    extends-trans v h.0 w (answers-extend v h.0 c r both.0 h.1) (chain-extends h.0 w cs rs both.1 h.2)
+    extends_trans v h.0 w (answers_extend v h.0 c r both.0 h.1) (chain_extends h.0 w cs rs both.1 h.2)
 
 -- ---- calls that are no checkpoint
 
-pub quiet-extends : (call : Call) (reply : Reply) → IsQuiet call → is_checkpoint call reply ≡ false
-quiet-extends (Write addr bytes) reply q = refl
-quiet-extends (Read addr len) reply q = refl
-quiet-extends (Submit ch t) reply q = refl
-quiet-extends (Issue ch) reply q = refl
-quiet-extends (Pause ch) reply q = refl
-quiet-extends (Resume ch) reply q = refl
-quiet-extends (Terminate ch) reply q = refl
-quiet-extends (Step ch) reply q = refl
-quiet-extends (Status ch cookie) reply q = refl
-quiet-extends (ResultOf ch cookie) reply q = refl
-quiet-extends (Mark kind segment) reply q = refl
-quiet-extends Unmark reply q = refl
-quiet-extends (Raise event) reply q = refl
-quiet-extends Checkpoint reply q = absurd q
+pub quiet_extends : (call : Call) (reply : Reply) → IsQuiet call → is_checkpoint call reply ≡ false
+quiet_extends (Write addr bytes) reply q = refl
+quiet_extends (Read addr len) reply q = refl
+quiet_extends (Submit ch t) reply q = refl
+quiet_extends (Issue ch) reply q = refl
+quiet_extends (Pause ch) reply q = refl
+quiet_extends (Resume ch) reply q = refl
+quiet_extends (Terminate ch) reply q = refl
+quiet_extends (Step ch) reply q = refl
+quiet_extends (Status ch cookie) reply q = refl
+quiet_extends (ResultOf ch cookie) reply q = refl
+quiet_extends (Mark kind segment) reply q = refl
+quiet_extends Unmark reply q = refl
+quiet_extends (Raise event) reply q = refl
+quiet_extends Checkpoint reply q = absurd q

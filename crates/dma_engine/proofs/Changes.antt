@@ -6,8 +6,8 @@ use Rattle.std.proofs.lemmas.Bool.{cases_eq}
 use Rattle.std.proofs.lemmas.List.{map-set, set-get_or, length-set, get_or-map, get_or-set_same, get_or-set_other}
 use Rattle.dma_mem.specs.Places.{Descriptor, is_free_of, sources, destinations}
 use Rattle.dma_mem.specs.Meeting.{IsFree}
-use Rattle.dma_mem.proofs.SharedPlaces.{share_none, is_free_of-true}
-use Rattle.dma_mem.proofs.OverTransfers.{IsFree-sym}
+use Rattle.dma_mem.proofs.SharedPlaces.{share_none, is_free_of_true}
+use Rattle.dma_mem.proofs.OverTransfers.{IsFree_sym}
 use Rattle.dma_chan.specs.Channel.{ChannelValue}
 use Rattle.dma_chan.specs.inner.At.{IsAt}
 use Rattle.dma_mem.specs.Marking.{MarkList}
@@ -20,30 +20,30 @@ use Rattle.dma_engine.specs.History.{object_after, IsLegal}
 use Rattle.dma_engine.specs.View.{View, ChannelSchedule, RunningTransfer, Fits, Agrees, AreFree, IsSound, running_in, runs, idle, object_of, memory_of, memory_shown}
 use Rattle.dma_engine.specs.inner.Ranges.{AreOfRunning}
 use Rattle.dma_engine.specs.inner.Holds.{Holds, IsPrepared, IsQueue, IsRun, Parts, view_of, schedule_of}
-use Rattle.dma_engine.proofs.Histories.{object_after-append, IsLegal-append}
-use Rattle.dma_engine.proofs.Queues.{slice_get-push}
+use Rattle.dma_engine.proofs.Histories.{object_after_append, IsLegal_append}
+use Rattle.dma_engine.proofs.Queues.{slice_get_push}
 
 -- ---- free in both directions
 
-pub free-true : (t u : Descriptor) → IsFree t u → is_free_of t u ≡ true
-free-true t u h =
+pub free_true : (t u : Descriptor) → IsFree t u → is_free_of t u ≡ true
+free_true t u h =
     let a = share_none (destinations t) (destinations u) h.writes_none in
     let b = share_none (destinations t) (sources u) h.writes_no_source in
     let c = share_none (sources t) (destinations u) h.reads_none in
     rw (a, b, c) refl
 
-pub AreFree-sym : (x y : Option RunningTransfer) → AreFree x y → AreFree y x
-AreFree-sym None None h = tt
-AreFree-sym None (Some s) h = tt
-AreFree-sym (Some r) None h = tt
-AreFree-sym (Some r) (Some s) h =
-    free-true s.transfer r.transfer (IsFree-sym r.transfer s.transfer (is_free_of-true r.transfer s.transfer h))
+pub AreFree_sym : (x y : Option RunningTransfer) → AreFree x y → AreFree y x
+AreFree_sym None None h = tt
+AreFree_sym None (Some s) h = tt
+AreFree_sym (Some r) None h = tt
+AreFree_sym (Some r) (Some s) h =
+    free_true s.transfer r.transfer (IsFree_sym r.transfer s.transfer (is_free_of_true r.transfer s.transfer h))
 
 -- ---- what a machine keeps
 
 -- a machine stays where it is over a memory that has the same at its front's sources
-pub run-kept : (memory other : List ℕ) (m : ChannelValue) (c : ChannelState) → ((t : Descriptor) → is_some m.program ≡ true → front c ≡ Some t → (a : ℕ) → Contains (sources t) a → slice_index other a ≡ slice_index memory a) → IsRun memory m c → IsRun other m c
-run-kept memory other m c same h =
+pub run_kept : (memory other : List ℕ) (m : ChannelValue) (c : ChannelState) → ((t : Descriptor) → is_some m.program ≡ true → front c ≡ Some t → (a : ℕ) → Contains (sources t) a → slice_index other a ≡ slice_index memory a) → IsRun memory m c → IsRun other m c
+run_kept memory other m c same h =
     let by : (o : Option ProgramValue) (f : Option Descriptor) → m.program ≡ o → front c ≡ f → IfSome o (λ _. IsSomeAnd f (λ t. IsAt t m.taken memory m)) → IfSome o (λ _. IsSomeAnd f (λ t. IsAt t m.taken other m)) = λ o f. elim o as (λ o. m.program ≡ o → front c ≡ f → IfSome o (λ _. IsSomeAnd f (λ t. IsAt t m.taken memory m)) → IfSome o (λ _. IsSomeAnd f (λ t. IsAt t m.taken other m))) [
       | None ↦ λ _ _ g. g
       | Some p ↦ λ e. elim f as (λ f. front c ≡ f → IsSomeAnd f (λ t. IsAt t m.taken memory m) → IsSomeAnd f (λ t. IsAt t m.taken other m)) [
@@ -54,8 +54,8 @@ run-kept memory other m c same h =
     by _ _ refl refl h
 
 -- a queue stays as it is when the history grows
-pub queue-kept : (ch : ℕ) (kept : List Descriptor) (history longer : List Entry) (memory other : List ℕ) (q : Queue) (c : ChannelState) → ((k : ℕ) (e : Entry) → slice_get history k ≡ Some e → slice_get longer k ≡ Some e) → IsRun other q.channel c → IsQueue ch kept history memory q c → IsQueue ch kept longer other q c
-queue-kept ch kept history longer memory other q c grows machine h = record {
+pub queue_kept : (ch : ℕ) (kept : List Descriptor) (history longer : List Entry) (memory other : List ℕ) (q : Queue) (c : ChannelState) → ((k : ℕ) (e : Entry) → slice_get history k ≡ Some e → slice_get longer k ≡ Some e) → IsRun other q.channel c → IsQueue ch kept history memory q c → IsQueue ch kept longer other q c
+queue_kept ch kept history longer memory other q c grows machine h = record {
   forgotten = h.forgotten;
   given = h.given;
   many = h.many;
@@ -70,8 +70,8 @@ queue-kept ch kept history longer memory other q c grows machine h = record {
 -- ---- an entry that changes no channel
 
 -- a schedule fits an object by its channels alone
-pub fits-channels : (o p : Object) (s : List ChannelSchedule) → o.channels ≡ p.channels → Fits o s → Fits p s
-fits-channels o p s e h = record {
+pub fits_channels : (o p : Object) (s : List ChannelSchedule) → o.channels ≡ p.channels → Fits o s → Fits p s
+fits_channels o p s e h = record {
   many = rw (← e) h.many;
   each = rw (← e) h.each;
   free = rw (← e) h.free;
@@ -91,27 +91,27 @@ pub record EntersWith (p : Parts) (e : Entry) (memory : List ℕ) (flags : List 
       IsRun p.memory (slice_index_or p.queues ch d).channel (channel (object_of (view_of p)) ch) →
       IsRun memory (slice_index_or p.queues ch d).channel (channel (object_of (view_of p)) ch)
 
-pub holds-entered : (p : Parts) (e : Entry) (memory : List ℕ) (events : List Bool) (marks : MarkList) → Holds p → EntersWith p e memory events marks → Holds (with_entry_at p e memory events marks)
-holds-entered p e memory events marks h w =
+pub holds_entered : (p : Parts) (e : Entry) (memory : List ℕ) (events : List Bool) (marks : MarkList) → Holds p → EntersWith p e memory events marks → Holds (with_entry_at p e memory events marks)
+holds_entered p e memory events marks h w =
     let v : View = view_of p in
     let u : View = view_of (with_entry_at p e memory events marks) in
     let o = object_of v in
-    let step : object_of u ≡ after o e = object_after-append v.base p.history (e ∷ []) in
+    let step : object_of u ≡ after o e = object_after_append v.base p.history (e ∷ []) in
     let channels = ap (λ (x : Object). x.channels) step ∙ w.stay in
     let same : (ch : ℕ) → runs (object_of u) u.schedule ch ≡ runs o v.schedule ch = λ ch. ap (λ l. running_in ch (slice_index_or l ch empty_channel) (slice_index_or v.schedule ch idle).taken) channels in
     record {
       sound = record {
         opens = h.sound.opens;
         makes = h.sound.makes;
-        legal = IsLegal-append v.base p.history (e ∷ []) h.sound.legal (w.allowed, tt);
-        fits = rw step (fits-channels o (after o e) v.schedule (sym w.stay) h.sound.fits);
+        legal = IsLegal_append v.base p.history (e ∷ []) h.sound.legal (w.allowed, tt);
+        fits = rw step (fits_channels o (after o e) v.schedule (sym w.stay) h.sound.fits);
       };
       shown = rw step w.shown;
       events = rw step w.events;
       marks = rw step w.marks;
       size = h.size;
       each = λ ch d less.
-          let kept = queue-kept ch (channel p.base ch).submitted p.history (p.history ++ e ∷ []) p.memory memory (slice_index_or p.queues ch d) (channel o ch) (λ k x. slice_get-push p.history e x k) (w.machines ch d less (h.each ch d less).machine) (h.each ch d less) in
+          let kept = queue_kept ch (channel p.base ch).submitted p.history (p.history ++ e ∷ []) p.memory memory (slice_index_or p.queues ch d) (channel o ch) (λ k x. slice_get_push p.history e x k) (w.machines ch d less (h.each ch d less).machine) (h.each ch d less) in
           rw (step, w.stay) kept;
       prepared = λ ch. subst (IsPrepared p.made) (sym (same ch)) (h.prepared ch);
       ranges = λ ch d less. subst (AreOfRunning (slice_index_or p.queues ch d).ranges) (sym (same ch)) (h.ranges ch d less);
@@ -120,30 +120,30 @@ holds-entered p e memory events marks h w =
 -- ---- pages
 
 -- a transfer whose destinations lie on made pages keeps them when more pages are made
-pub prepared-more : (made more : List Bool) (x : Option RunningTransfer) → ((page : ℕ) → slice_index_or made page false ≡ true → slice_index_or more page false ≡ true) → IsPrepared made x → IsPrepared more x
-prepared-more made more None keeps h = tt
-prepared-more made more (Some r) keeps h = λ a i. keeps (a / 4096) (h a i)
+pub prepared_more : (made more : List Bool) (x : Option RunningTransfer) → ((page : ℕ) → slice_index_or made page false ≡ true → slice_index_or more page false ≡ true) → IsPrepared made x → IsPrepared more x
+prepared_more made more None keeps h = tt
+prepared_more made more (Some r) keeps h = λ a i. keeps (a / 4096) (h a i)
 
 -- pages that are made change nothing else
-pub holds-pages : (p : Parts) (more : List Bool) → Holds p → ((page : ℕ) → slice_index_or p.made page false ≡ true → slice_index_or more page false ≡ true) → Holds (record p { made = more })
-holds-pages p more h keeps = record {
+pub holds_pages : (p : Parts) (more : List Bool) → Holds p → ((page : ℕ) → slice_index_or p.made page false ≡ true → slice_index_or more page false ≡ true) → Holds (record p { made = more })
+holds_pages p more h keeps = record {
   sound = h.sound;
   size = h.size;
   shown = h.shown;
   events = h.events;
   marks = h.marks;
   each = h.each;
-  prepared = λ ch. prepared-more p.made more (runs (object_of (view_of p)) (view_of p).schedule ch) keeps (h.prepared ch);
+  prepared = λ ch. prepared_more p.made more (runs (object_of (view_of p)) (view_of p).schedule ch) keeps (h.prepared ch);
   ranges = h.ranges;
 }
 
 -- ---- one channel changes
 
-pub runs-here : (o : Object) (s : List ChannelSchedule) (ch : ℕ) (x : ChannelSchedule) → ch < length s → runs o (slice_set s ch x) ch ≡ running_in ch (channel o ch) x.taken
-runs-here o s ch x less = ap (λ (y : ChannelSchedule). running_in ch (channel o ch) y.taken) (get_or-set_same s ch x idle less)
+pub runs_here_law : (o : Object) (s : List ChannelSchedule) (ch : ℕ) (x : ChannelSchedule) → ch < length s → runs o (slice_set s ch x) ch ≡ running_in ch (channel o ch) x.taken
+runs_here_law o s ch x less = ap (λ (y : ChannelSchedule). running_in ch (channel o ch) y.taken) (get_or-set_same s ch x idle less)
 
-pub runs-other : (o p : Object) (s : List ChannelSchedule) (ch c : ℕ) (x : ChannelSchedule) → c ≢ ch → channel p c ≡ channel o c → runs p (slice_set s ch x) c ≡ runs o s c
-runs-other o p s ch c x differs same =
+pub runs_other : (o p : Object) (s : List ChannelSchedule) (ch c : ℕ) (x : ChannelSchedule) → c ≢ ch → channel p c ≡ channel o c → runs p (slice_set s ch x) c ≡ runs o s c
+runs_other o p s ch c x differs same =
     ap (λ (y : ChannelSchedule). running_in c (channel p c) y.taken) (get_or-set_other s ch c x idle differs)
     ∙ ap (λ d. running_in c d (slice_index_or s c idle).taken) same
 
@@ -155,11 +155,11 @@ pub record FitsStill (o p : Object) (s : List ChannelSchedule) (ch : ℕ) (x : C
   pub agrees : Agrees (channel p ch) x.taken
   pub free : (d : ℕ) → d < length o.channels → d ≢ ch → AreFree (running_in ch (channel p ch) x.taken) (runs o s d)
 
-pub fits-changed : (o p : Object) (s : List ChannelSchedule) (ch : ℕ) (x : ChannelSchedule) → Fits o s → FitsStill o p s ch x → Fits p (slice_set s ch x)
-fits-changed o p s ch x h w =
+pub fits_changed : (o p : Object) (s : List ChannelSchedule) (ch : ℕ) (x : ChannelSchedule) → Fits o s → FitsStill o p s ch x → Fits p (slice_set s ch x)
+fits_changed o p s ch x h w =
     let less : ch < length s = omega (arith, h.many, w.there) in
-    let here = runs-here p s ch x less in
-    let other : (c : ℕ) → c ≢ ch → runs p (slice_set s ch x) c ≡ runs o s c = λ c d. runs-other o p s ch c x d (w.others c d) in
+    let here = runs_here_law p s ch x less in
+    let other : (c : ℕ) → c ≢ ch → runs p (slice_set s ch x) c ≡ runs o s c = λ c d. runs_other o p s ch c x d (w.others c d) in
     record {
       many = length-set s ch x ∙ h.many ∙ sym w.many;
       each = λ c l. elim (cases_eq c ch) [
@@ -172,7 +172,7 @@ fits-changed o p s ch x h w =
           | inr g ↦ rw (e, here, other d g) (w.free d (omega (arith, w.many, j)) g)
         ]
         | inr f ↦ elim (cases_eq d ch) [
-          | inl e ↦ rw (e, here, other c f) (AreFree-sym _ _ (w.free c (omega (arith, w.many, i)) f))
+          | inl e ↦ rw (e, here, other c f) (AreFree_sym _ _ (w.free c (omega (arith, w.many, i)) f))
           | inr g ↦ rw (other c f, other d g) (h.free c d (omega (arith, w.many, i)) (omega (arith, w.many, j)) k)
         ]
       ];
@@ -186,8 +186,8 @@ changed p ch q memory events history steps = record { size = p.size; memory = me
 abbrev pub changed_view : Parts → ℕ → Queue → List Entry → ℕ → View
 changed_view p ch q history steps = record { base = (view_of p).base; history = history; steps = steps; schedule = slice_set (view_of p).schedule ch (schedule_of q) }
 
-pub view-changed : (p : Parts) (ch : ℕ) (q : Queue) (memory : List ℕ) (events : List Bool) (history : List Entry) (steps : ℕ) → view_of (changed p ch q memory events history steps) ≡ changed_view p ch q history steps
-view-changed p ch q memory events history steps =
+pub view_changed : (p : Parts) (ch : ℕ) (q : Queue) (memory : List ℕ) (events : List Bool) (history : List Entry) (steps : ℕ) → view_of (changed p ch q memory events history steps) ≡ changed_view p ch q history steps
+view_changed p ch q memory events history steps =
     let s = map-set schedule_of p.queues ch q in
     rw s refl
 
@@ -207,25 +207,25 @@ pub record ChangesTo (p : Parts) (ch : ℕ) (q : Queue) (memory : List ℕ) (fla
       IsRun p.memory (slice_index_or p.queues c d).channel (channel (object_of (view_of p)) c) →
       IsRun memory (slice_index_or p.queues c d).channel (channel (object_of (view_of p)) c)
 
-pub holds-changed : (p : Parts) (ch : ℕ) (q : Queue) (memory : List ℕ) (events : List Bool) (history : List Entry) (steps : ℕ) (o : Object) → Holds p → ch < length p.queues → ChangesTo p ch q memory events history o → Holds (changed p ch q memory events history steps)
-holds-changed p ch q memory events history steps o h less w =
+pub holds_changed : (p : Parts) (ch : ℕ) (q : Queue) (memory : List ℕ) (events : List Bool) (history : List Entry) (steps : ℕ) (o : Object) → Holds p → ch < length p.queues → ChangesTo p ch q memory events history o → Holds (changed p ch q memory events history steps)
+holds_changed p ch q memory events history steps o h less w =
     let v : View = view_of p in
     let r = changed p ch q memory events history steps in
     let u : View = changed_view p ch q history steps in
-    let is : u ≡ view_of r = sym (view-changed p ch q memory events history steps) in
+    let is : u ≡ view_of r = sym (view_changed p ch q memory events history steps) in
     let sound : IsSound u = record {
       opens = h.sound.opens;
       makes = h.sound.makes;
       legal = w.legal;
-      fits = rw w.becomes (fits-changed (object_of v) o v.schedule ch (schedule_of q) h.sound.fits w.fits);
+      fits = rw w.becomes (fits_changed (object_of v) o v.schedule ch (schedule_of q) h.sound.fits w.fits);
     } in
     let becomes : object_of (view_of r) ≡ o = ap object_of (sym is) ∙ w.becomes in
     let x : ChannelSchedule = schedule_of q in
     let within : ch < length v.schedule = omega (arith, h.sound.fits.many, w.fits.there) in
     let runs_new : ℕ → Option RunningTransfer = runs (object_of (view_of r)) (view_of r).schedule in
     let new : (c : ℕ) → runs_new c ≡ runs o (slice_set v.schedule ch x) c = λ c. ap (λ (y : View). runs (object_of y) y.schedule c) (sym is) ∙ ap (λ (y : Object). runs y (slice_set v.schedule ch x) c) w.becomes in
-    let here : (c : ℕ) → c ≡ ch → runs_new c ≡ running_in ch (channel o ch) x.taken = λ c e. new c ∙ ap (runs o (slice_set v.schedule ch x)) e ∙ runs-here o v.schedule ch x within in
-    let elsewhere : (c : ℕ) → c ≢ ch → runs_new c ≡ runs (object_of v) v.schedule c = λ c f. new c ∙ runs-other (object_of v) o v.schedule ch c x f (w.fits.others c f) in
+    let here : (c : ℕ) → c ≡ ch → runs_new c ≡ running_in ch (channel o ch) x.taken = λ c e. new c ∙ ap (runs o (slice_set v.schedule ch x)) e ∙ runs_here_law o v.schedule ch x within in
+    let elsewhere : (c : ℕ) → c ≢ ch → runs_new c ≡ runs (object_of v) v.schedule c = λ c f. new c ∙ runs_other (object_of v) o v.schedule ch c x f (w.fits.others c f) in
     record {
       sound = subst IsSound is sound;
       shown = w.shown ∙ ap (λ x. memory_shown x (slice_set v.schedule ch (schedule_of q))) (sym w.becomes) ∙ ap memory_of is;
@@ -237,7 +237,7 @@ holds-changed p ch q memory events history steps o h less w =
         | inr f ↦
             let l' : c < length p.queues = omega (arith, l, length-set p.queues ch q) in
             let old = h.each c d l' in
-            let kept = queue-kept c (channel p.base c).submitted p.history history p.memory memory (slice_index_or p.queues c d) (channel (object_of v) c) w.grows (w.machines c d l' f old.machine) old in
+            let kept = queue_kept c (channel p.base c).submitted p.history history p.memory memory (slice_index_or p.queues c d) (channel (object_of v) c) w.grows (w.machines c d l' f old.machine) old in
             rw (becomes, get_or-set_other p.queues ch c q d f, w.fits.others c f) kept
       ];
       prepared = λ c. elim (cases_eq c ch) [
@@ -256,7 +256,7 @@ holds-changed p ch q memory events history steps o h less w =
     }
 
 -- the schedule stays where a queue's does
-pub schedule-kept : (p : Parts) (ch : ℕ) (q r : Queue) → ch < length p.queues → q ≡ slice_index_or p.queues ch q → schedule_of r ≡ schedule_of q → slice_set (view_of p).schedule ch (schedule_of r) ≡ (view_of p).schedule
-schedule-kept p ch q r less read same =
+pub schedule_kept : (p : Parts) (ch : ℕ) (q r : Queue) → ch < length p.queues → q ≡ slice_index_or p.queues ch q → schedule_of r ≡ schedule_of q → slice_set (view_of p).schedule ch (schedule_of r) ≡ (view_of p).schedule
+schedule_kept p ch q r less read same =
     ap (slice_set (view_of p).schedule ch) (same ∙ ap schedule_of read ∙ sym (get_or-map schedule_of p.queues ch q idle less))
     ∙ set-get_or (view_of p).schedule ch idle

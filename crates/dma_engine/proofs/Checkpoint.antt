@@ -6,7 +6,7 @@ use Rattle.std.proofs.lemmas.List.{get_or-map, get_or_past, get_or-drop, length-
 use Rattle.std.proofs.lemmas.List.Sums.{sum_by-cons}
 use Rattle.std.proofs.lemmas.Option.{slice_get-get_or}
 use Rattle.dma_mem.specs.Image.{over, after_moves}
-use Rattle.dma_engine.proofs.Endings.{put-nil}
+use Rattle.dma_engine.proofs.Endings.{put_nil}
 use Rattle.dma_chan.specs.Channel.{ChannelValue}
 use Rattle.dma_chan.specs.Programs.{ProgramValue}
 use Rattle.dma_chan.specs.inner.At.{IsAt}
@@ -24,17 +24,17 @@ use Rattle.dma_engine.specs.inner.Ranges.{AreOfRunning}
 use Rattle.dma_engine.specs.View.{View, ChannelSchedule, RunningTransfer, Agrees, Fits, runs, running_in, running, idle, object_of, memory_of, IsSound, with_stored}
 use Rattle.dma_engine.specs.Ticks.{board_of, counts_of}
 use Rattle.dma_engine.specs.inner.Holds.{Holds, IsPrepared, IsQueue, IsRun, Parts, view_of, schedule_of, taken_of, queue_forgotten}
-use Rattle.dma_engine.proofs.Boards.{counted-at, counted-base, counted-object}
-use Rattle.dma_engine.proofs.Queues.{front_where, runs_front, holds-at, many-queues, get_or_any}
-use Rattle.dma_engine.proofs.QueueCalls.{shown-both}
-use Rattle.dma_engine.proofs.TransferRules.{IsGood, marked-object, ruled-object, ruled-base}
-use Rattle.dma_engine.proofs.Sizes.{flags-object, size-object, many-channels}
-use Rattle.dma_engine.proofs.WhatRuns.{find-none_at, running-same}
+use Rattle.dma_engine.proofs.Boards.{counted_at, counted_base, counted_object}
+use Rattle.dma_engine.proofs.Queues.{front_where, runs_front, holds_at, many_queues, get_or_any}
+use Rattle.dma_engine.proofs.QueueCalls.{shown_both}
+use Rattle.dma_engine.proofs.TransferRules.{IsGood, marked_object, ruled_object, ruled_base}
+use Rattle.dma_engine.proofs.Sizes.{flags_object, size_object, many_channels}
+use Rattle.dma_engine.proofs.WhatRuns.{find_none_at, running_same}
 
 -- ---- the channels of the next base
 
-pub forgotten-at : (o : Object) (ch : ℕ) → channel (base_from o) ch ≡ forget (channel o ch)
-forgotten-at o ch = elim (cases_lt ch (length o.channels)) [
+pub forgotten_at : (o : Object) (ch : ℕ) → channel (base_from o) ch ≡ forget (channel o ch)
+forgotten_at o ch = elim (cases_lt ch (length o.channels)) [
   | inl less ↦ get_or-map forget o.channels ch empty_channel empty_channel less
   | inr past ↦ get_or_past (map forget o.channels) ch empty_channel (omega (arith, past, length-map o.channels forget)) ∙ sym (ap forget (get_or_past o.channels ch empty_channel past))
 ]
@@ -44,8 +44,8 @@ abbrev pub NothingRuns : Object → List ChannelSchedule → Type 0
 NothingRuns o s = find (λ (r : RunningTransfer). true) (running o s) ≡ None
 
 -- so no schedule has one
-pub none-taken : (o : Object) (s : List ChannelSchedule) (ch : ℕ) → Fits o s → NothingRuns o s → ch < length o.channels → (slice_index_or s ch idle).taken ≡ None
-none-taken o s ch h none less =
+pub none_taken : (o : Object) (s : List ChannelSchedule) (ch : ℕ) → Fits o s → NothingRuns o s → ch < length o.channels → (slice_index_or s ch idle).taken ≡ None
+none_taken o s ch h none less =
     let c = channel o ch in
     let by : (x : Option ℕ) → (slice_index_or s ch idle).taken ≡ x → x ≡ None = λ x. elim x as (λ x. (slice_index_or s ch idle).taken ≡ x → x ≡ None) [
       | None ↦ λ e. refl
@@ -53,32 +53,32 @@ none-taken o s ch h none less =
           let agrees : Agrees c (Some n) = rw e at (h.each ch less) in
           let f = front_where c _ agrees.1 in
           let is : runs o s ch ≡ Some (record { ch = ch; cookie = finished c + 1; transfer = f.transfer; taken = n }) = ap (running_in ch c) e ∙ runs_front ch c f.transfer n f.is in
-          absurd (true≢false (find-none_at (λ (r : RunningTransfer). true) o s ch _ less none is))
+          absurd (true≢false (find_none_at (λ (r : RunningTransfer). true) o s ch _ less none is))
     ] in
     by _ refl
 
 -- so no front has passed or signalled
-none-passed : (o : Object) (s : List ChannelSchedule) (ch : ℕ) → Fits o s → NothingRuns o s → ((channel o ch).passed ≡ false) × ((channel o ch).signalled ≡ false)
-none-passed o s ch h none = elim (cases_lt ch (length o.channels)) [
-  | inl less ↦ let agrees : Agrees (channel o ch) None = rw (none-taken o s ch h none less) at (h.each ch less) in agrees
+none_passed : (o : Object) (s : List ChannelSchedule) (ch : ℕ) → Fits o s → NothingRuns o s → ((channel o ch).passed ≡ false) × ((channel o ch).signalled ≡ false)
+none_passed o s ch h none = elim (cases_lt ch (length o.channels)) [
+  | inl less ↦ let agrees : Agrees (channel o ch) None = rw (none_taken o s ch h none less) at (h.each ch less) in agrees
   | inr past ↦ rw (get_or_past o.channels ch empty_channel past) (refl, refl)
 ]
 
 -- the next base is one
-base-next : (v : View) → IsSound v → NothingRuns (object_of v) v.schedule → IsBase (base_from (object_of v))
-base-next v h none =
+base_next : (v : View) → IsSound v → NothingRuns (object_of v) v.schedule → IsBase (base_from (object_of v))
+base_next v h none =
     let o = object_of v in
-    let ruled = ruled-object (length v.base.image) v.base v.history refl (ruled-base v.base h.opens) h.legal in
-    let same : length v.base.image ≡ length o.image = sym (size-object v.base v.history) in
+    let ruled = ruled_object (length v.base.image) v.base v.history refl (ruled_base v.base h.opens) h.legal in
+    let same : length v.base.image ≡ length o.image = sym (size_object v.base v.history) in
     record {
-      flags = flags-object v.base v.history ∙ h.opens.flags;
-      marks = marked-object v.base v.history h.opens.marks h.legal;
+      flags = flags_object v.base v.history ∙ h.opens.flags;
+      marks = marked_object v.base v.history h.opens.marks h.legal;
       each = λ ch.
           let c = channel o ch in
           let n = length c.outcomes in
-          let counted = counted-object v.base v.history (counted-base v.base h.opens) h.legal ch in
-          let rests = none-passed o v.schedule ch h.fits none in
-          rw (forgotten-at o ch) (record {
+          let counted = counted_object v.base v.history (counted_base v.base h.opens) h.legal ch in
+          let rests = none_passed o v.schedule ch h.fits none in
+          rw (forgotten_at o ch) (record {
             outcomes = refl;
             rests = rests;
             counts = (
@@ -96,33 +96,33 @@ base-next v h none =
 
 -- ---- the queues after it
 
-take-all : {X : Type 0} (xs : List X) → take (length xs) xs ≡ xs
-take-all [] = refl
-take-all (x ∷ xs) = ap (λ l. x ∷ l) (take-all xs)
+take_all_law : {X : Type 0} (xs : List X) → take (length xs) xs ≡ xs
+take_all_law [] = refl
+take_all_law (x ∷ xs) = ap (λ l. x ∷ l) (take_all_law xs)
 
-run-none : (memory : List ℕ) (m : ChannelValue) (c : ChannelState) → taken_of m ≡ None → IsRun memory m c
-run-none memory m c h =
+run_none : (memory : List ℕ) (m : ChannelValue) (c : ChannelState) → taken_of m ≡ None → IsRun memory m c
+run_none memory m c h =
     let by : (o : Option ProgramValue) → m.program ≡ o → IfSome o (λ _. IsSomeAnd (front c) (λ t. IsAt t m.taken memory m)) = λ o. elim o as (λ o. m.program ≡ o → IfSome o (λ _. IsSomeAnd (front c) (λ t. IsAt t m.taken memory m))) [
       | None ↦ λ e. tt
       | Some x ↦ λ e. let f : Some m.taken ≡ None = rw e at h in absurd cc
     ] in
     by _ refl
 
-pub queue-next : (p : Parts) → Holds p → (ch : ℕ) (q : Queue) → ch < length p.queues → q ≡ slice_index_or p.queues ch q → taken_of q.channel ≡ None → let c = channel (object_of (view_of p)) ch in IsQueue ch (forget c).submitted [] p.memory (queue_forgotten q) (forget c)
-queue-next p h ch q less read none =
+pub queue_next : (p : Parts) → Holds p → (ch : ℕ) (q : Queue) → ch < length p.queues → q ≡ slice_index_or p.queues ch q → taken_of q.channel ≡ None → let c = channel (object_of (view_of p)) ch in IsQueue ch (forget c).submitted [] p.memory (queue_forgotten q) (forget c)
+queue_next p h ch q less read none =
     let c = channel (object_of (view_of p)) ch in
-    let t = (holds-at p h ch q less read).tied in
-    let counted = counted-at p h ch in
+    let t = (holds_at p h ch q less read).tied in
+    let counted = counted_at p h ch in
     record {
       forgotten = omega (arith, t.forgotten, ap length t.outcomes);
       given = omega (arith, t.given, counted.finish, length-drop (length c.outcomes) c.submitted);
       many = omega arith;
-      first = take-all (drop (length c.outcomes) c.submitted);
+      first = take_all_law (drop (length c.outcomes) c.submitted);
       indexed = λ k l. absurd (omega (arith, l));
       outcomes = refl;
       issued = t.issued;
       halted = t.halted;
-      machine = run-none p.memory q.channel (forget c) none;
+      machine = run_none p.memory q.channel (forget c) none;
     }
 
 -- ---- the parts after it
@@ -130,61 +130,61 @@ queue-next p h ch q less read none =
 abbrev pub parts_forgotten : Parts → Parts
 parts_forgotten p = record p { base = base_from (object_of (view_of p)); history = []; queues = map queue_forgotten p.queues }
 
-same-schedule : (qs : List Queue) → map schedule_of (map queue_forgotten qs) ≡ map schedule_of qs
-same-schedule [] = refl
-same-schedule (q ∷ qs) = ap (λ l. schedule_of q ∷ l) (same-schedule qs)
+same_schedule : (qs : List Queue) → map schedule_of (map queue_forgotten qs) ≡ map schedule_of qs
+same_schedule [] = refl
+same_schedule (q ∷ qs) = ap (λ l. schedule_of q ∷ l) (same_schedule qs)
 
-pub view-next : (p : Parts) → view_of (parts_forgotten p) ≡ checkpointed (view_of p)
-view-next p = ap (λ s. record { base = base_from (object_of (view_of p)); history = []; steps = p.steps; schedule = s }) (same-schedule p.queues)
+pub view_next : (p : Parts) → view_of (parts_forgotten p) ≡ checkpointed (view_of p)
+view_next p = ap (λ s. record { base = base_from (object_of (view_of p)); history = []; steps = p.steps; schedule = s }) (same_schedule p.queues)
 
-fits-next : (o : Object) (s : List ChannelSchedule) → Fits o s → NothingRuns o s → Fits (base_from o) s
-fits-next o s h none =
+fits_next : (o : Object) (s : List ChannelSchedule) → Fits o s → NothingRuns o s → Fits (base_from o) s
+fits_next o s h none =
     let many : length (base_from o).channels ≡ length o.channels = length-map o.channels forget in
-    let nothing : (ch : ℕ) → ch < length o.channels → (slice_index_or s ch idle).taken ≡ None = λ ch l. none-taken o s ch h none l in
+    let nothing : (ch : ℕ) → ch < length o.channels → (slice_index_or s ch idle).taken ≡ None = λ ch l. none_taken o s ch h none l in
     record {
       many = h.many ∙ sym many;
       each = λ ch l.
           let l' : ch < length o.channels = omega (arith, l, many) in
           let agrees = rw (nothing ch l') at (h.each ch l') in
-          rw (nothing ch l', forgotten-at o ch) agrees;
+          rw (nothing ch l', forgotten_at o ch) agrees;
       free = λ c d i j k.
           let i' : c < length o.channels = omega (arith, i, many) in
           rw (nothing c i') tt;
     }
 
 -- a sound view stays sound
-pub checkpoint-sound : (v : View) → IsSound v → NothingRuns (object_of v) v.schedule → IsSound (checkpointed v)
-checkpoint-sound v h none =
+pub checkpoint_sound : (v : View) → IsSound v → NothingRuns (object_of v) v.schedule → IsSound (checkpointed v)
+checkpoint_sound v h none =
     let many : length (base_from (object_of v)).channels ≡ length (object_of v).channels = length-map (object_of v).channels forget in
     record {
-      opens = base-next v h none;
-      makes = rw (size-object v.base v.history, many, many-channels v.base v.history) h.makes;
+      opens = base_next v h none;
+      makes = rw (size_object v.base v.history, many, many_channels v.base v.history) h.makes;
       legal = tt;
-      fits = fits-next (object_of v) v.schedule h.fits none;
+      fits = fits_next (object_of v) v.schedule h.fits none;
     }
 
 -- nothing is taken on any channel
-nothing-taken : (o : Object) (s : List ChannelSchedule) (ch : ℕ) → Fits o s → NothingRuns o s → (slice_index_or s ch idle).taken ≡ None
-nothing-taken o s ch h none = elim (cases_lt ch (length o.channels)) [
-  | inl less ↦ none-taken o s ch h none less
+nothing_taken : (o : Object) (s : List ChannelSchedule) (ch : ℕ) → Fits o s → NothingRuns o s → (slice_index_or s ch idle).taken ≡ None
+nothing_taken o s ch h none = elim (cases_lt ch (length o.channels)) [
+  | inl less ↦ none_taken o s ch h none less
   | inr past ↦ ap (λ (x : ChannelSchedule). x.taken) (get_or_past s ch idle (omega (arith, past, h.many)))
 ]
 
-pub holds-next : (p : Parts) → Holds p → NothingRuns (object_of (view_of p)) (view_of p).schedule → Holds (parts_forgotten p)
-holds-next p h none =
+pub holds_next : (p : Parts) → Holds p → NothingRuns (object_of (view_of p)) (view_of p).schedule → Holds (parts_forgotten p)
+holds_next p h none =
     let v : View = view_of p in
     let o = object_of v in
     let s = v.schedule in
-    let is = view-next p in
+    let is = view_next p in
     let many : length (base_from o).channels ≡ length o.channels = length-map o.channels forget in
-    let rest : (x : Object) (ch : ℕ) → runs x s ch ≡ None = λ x ch. ap (running_in ch (channel x ch)) (nothing-taken o s ch h.sound.fits none) in
+    let rest : (x : Object) (ch : ℕ) → runs x s ch ≡ None = λ x ch. ap (running_in ch (channel x ch)) (nothing_taken o s ch h.sound.fits none) in
     let later : (ch : ℕ) → runs (object_of (view_of (parts_forgotten p))) (view_of (parts_forgotten p)).schedule ch ≡ None = λ ch.
     ap (λ (w : View). runs (object_of w) w.schedule ch) is ∙ rest (base_from o) ch in
-    let same : running o s ≡ running (base_from o) s = sym (running-same o (base_from o) s s (sym many) (λ c l. rest (base_from o) c ∙ sym (rest o c))) in
+    let same : running o s ≡ running (base_from o) s = sym (running_same o (base_from o) s s (sym many) (λ c l. rest (base_from o) c ∙ sym (rest o c))) in
     record {
-      sound = subst IsSound (sym is) (checkpoint-sound v h.sound none);
-      size = h.size ∙ sym (size-object p.base p.history);
-      shown = h.shown ∙ shown-both o (base_from o) s s refl same ∙ ap memory_of (sym is);
+      sound = subst IsSound (sym is) (checkpoint_sound v h.sound none);
+      size = h.size ∙ sym (size_object p.base p.history);
+      shown = h.shown ∙ shown_both o (base_from o) s s refl same ∙ ap memory_of (sym is);
       events = h.events;
       marks = h.marks;
       each = λ ch d less.
@@ -192,9 +192,9 @@ holds-next p h none =
           let q = slice_index_or p.queues ch d in
           let at = get_or-map queue_forgotten p.queues ch d d l in
           let read : q ≡ slice_index_or p.queues ch q = get_or_any p.queues ch d q l in
-          let there = (holds-at p h ch q l read).schedule_is in
-          let taken : taken_of q.channel ≡ None = ap (λ (x : ChannelSchedule). x.taken) (sym there) ∙ none-taken o s ch h.sound.fits none (omega (arith, l, many-queues p h)) in
-          rw (at, forgotten-at o ch) (queue-next p h ch q l read taken);
+          let there = (holds_at p h ch q l read).schedule_is in
+          let taken : taken_of q.channel ≡ None = ap (λ (x : ChannelSchedule). x.taken) (sym there) ∙ none_taken o s ch h.sound.fits none (omega (arith, l, many_queues p h)) in
+          rw (at, forgotten_at o ch) (queue_next p h ch q l read taken);
       prepared = λ ch. subst (IsPrepared p.made) (sym (later ch)) tt;
       ranges = λ ch d less.
           let l : ch < length p.queues = omega (arith, less, length-map p.queues queue_forgotten) in
@@ -204,59 +204,59 @@ holds-next p h none =
 
 -- ---- the image, where nothing runs
 
-find-any : (l : List RunningTransfer) → find (λ (r : RunningTransfer). true) l ≡ None → l ≡ []
-find-any [] h = refl
-find-any (r ∷ rs) h = absurd cc
+find_any : (l : List RunningTransfer) → find (λ (r : RunningTransfer). true) l ≡ None → l ≡ []
+find_any [] h = refl
+find_any (r ∷ rs) h = absurd cc
 
-pub image-now : (p : Parts) → Holds p → NothingRuns (object_of (view_of p)) (view_of p).schedule → p.memory ≡ (object_of (view_of p)).image
+pub image_now : (p : Parts) → Holds p → NothingRuns (object_of (view_of p)) (view_of p).schedule → p.memory ≡ (object_of (view_of p)).image
 unfolding after_moves
-image-now p h none =
+image_now p h none =
     let o = object_of (view_of p) in
-    h.shown ∙ ap (λ l. over o.image (map with_stored l)) (find-any (running o (view_of p).schedule) none) ∙ put-nil o.image
+    h.shown ∙ ap (λ l. over o.image (map with_stored l)) (find_any (running o (view_of p).schedule) none) ∙ put_nil o.image
 
 -- ---- one queue after another
 
-pub at-next : (xs : List Queue) (i : ℕ) (d : Queue) → i < length xs → slice_index_or (map queue_forgotten (take i xs) ++ drop i xs) i d ≡ slice_index_or xs i d
-at-next [] i d h = absurd (omega arith)
-at-next (x ∷ xs) zero d h = refl
-at-next (x ∷ xs) (suc i) d h = at-next xs i d (omega arith)
+pub at_next_law : (xs : List Queue) (i : ℕ) (d : Queue) → i < length xs → slice_index_or (map queue_forgotten (take i xs) ++ drop i xs) i d ≡ slice_index_or xs i d
+at_next_law [] i d h = absurd (omega arith)
+at_next_law (x ∷ xs) zero d h = refl
+at_next_law (x ∷ xs) (suc i) d h = at_next_law xs i d (omega arith)
 
-pub set-next : (xs : List Queue) (i : ℕ) (q d : Queue) → i < length xs → q ≡ queue_forgotten (slice_index_or xs i d) → slice_set (map queue_forgotten (take i xs) ++ drop i xs) i q ≡ map queue_forgotten (take (suc i) xs) ++ drop (suc i) xs
-set-next [] i q d h e = absurd (omega arith)
-set-next (x ∷ xs) zero q d h e = ap (λ y. y ∷ xs) e
-set-next (x ∷ xs) (suc i) q d h e = ap (λ l. queue_forgotten x ∷ l) (set-next xs i q d (omega arith) e)
+pub set_next_law : (xs : List Queue) (i : ℕ) (q d : Queue) → i < length xs → q ≡ queue_forgotten (slice_index_or xs i d) → slice_set (map queue_forgotten (take i xs) ++ drop i xs) i q ≡ map queue_forgotten (take (suc i) xs) ++ drop (suc i) xs
+set_next_law [] i q d h e = absurd (omega arith)
+set_next_law (x ∷ xs) zero q d h e = ap (λ y. y ∷ xs) e
+set_next_law (x ∷ xs) (suc i) q d h e = ap (λ l. queue_forgotten x ∷ l) (set_next_law xs i q d (omega arith) e)
 
 -- ---- a checkpoint frees the room
 
-pub no-room-next : (qs : List Queue) (ch : ℕ) → slice_index_or (map queue_room (map queue_forgotten qs)) ch no_room ≡ no_room
-no-room-next [] ch = refl
-no-room-next (q ∷ qs) zero = refl
-no-room-next (q ∷ qs) (suc ch) = no-room-next qs ch
+pub no_room_next : (qs : List Queue) (ch : ℕ) → slice_index_or (map queue_room (map queue_forgotten qs)) ch no_room ≡ no_room
+no_room_next [] ch = refl
+no_room_next (q ∷ qs) zero = refl
+no_room_next (q ∷ qs) (suc ch) = no_room_next qs ch
 
 -- ---- a checkpoint keeps the board
 
-pub counts-next : (c : ChannelState) → finished c ≤ used c → counts_of (forget c) ≡ counts_of c
-counts-next c h =
+pub counts_next : (c : ChannelState) → finished c ≤ used c → counts_of (forget c) ≡ counts_of c
+counts_next c h =
     let same : used (forget c) ≡ used c = omega (arith, h, length-drop (length c.outcomes) c.submitted) in
     let done : finished (forget c) ≡ finished c = omega arith in
     rw (same, done) refl
 
-counts-all : (cs : List ChannelState) → ((k : ℕ) → finished (slice_index_or cs k empty_channel) ≤ used (slice_index_or cs k empty_channel)) → map counts_of (map forget cs) ≡ map counts_of cs
-counts-all [] h = refl
-counts-all (c ∷ cs) h =
-    let first : counts_of (forget c) ≡ counts_of c = counts-next c (h 0) in
-    let rest = counts-all cs (λ k. h (suc k)) in
+counts_all_law : (cs : List ChannelState) → ((k : ℕ) → finished (slice_index_or cs k empty_channel) ≤ used (slice_index_or cs k empty_channel)) → map counts_of (map forget cs) ≡ map counts_of cs
+counts_all_law [] h = refl
+counts_all_law (c ∷ cs) h =
+    let first : counts_of (forget c) ≡ counts_of c = counts_next c (h 0) in
+    let rest = counts_all_law cs (λ k. h (suc k)) in
     rw (first, rest) refl
 
-pub board-next : (v : View) → IsSound v → board_of (base_from (object_of v)) ≡ board_of (object_of v)
-board-next v h = counts-all (object_of v).channels (λ k. (counted-object v.base v.history (counted-base v.base h.opens) h.legal k).finish)
+pub board_next : (v : View) → IsSound v → board_of (base_from (object_of v)) ≡ board_of (object_of v)
+board_next v h = counts_all_law (object_of v).channels (λ k. (counted_object v.base v.history (counted_base v.base h.opens) h.legal k).finish)
 
 -- nor do the finished cookies change
-sum-forgotten : (cs : List ChannelState) → sum_by finished (map forget cs) ≡ sum_by finished cs
-sum-forgotten [] = refl
-sum-forgotten (c ∷ cs) =
+sum_forgotten : (cs : List ChannelState) → sum_by finished (map forget cs) ≡ sum_by finished cs
+sum_forgotten [] = refl
+sum_forgotten (c ∷ cs) =
     let one : finished (forget c) ≡ finished c = omega arith in
-    let rest = sum-forgotten cs in
+    let rest = sum_forgotten cs in
     omega (arith, sum_by-cons finished (forget c) (map forget cs), sum_by-cons finished c cs)
 
 pub accepted : (f : Option EngineFault) (v w x : View) → (Done, w) ≡ unless f v (Done, x) → w ≡ x
@@ -267,7 +267,7 @@ pub checkpoints_keep : CheckpointsKeep
 checkpoints_keep v w h done =
     let is : w ≡ checkpointed v = accepted (checkpoint_fault v) v w (checkpointed v) done in (
       ap (λ (x : View). x.history) is,
-      ap (λ (x : View). board_of x.base) is ∙ board-next v h,
+      ap (λ (x : View). board_of x.base) is ∙ board_next v h,
       ap (λ (x : View). x.steps) is,
-      ap (λ (x : View). finished_all (object_of x)) is ∙ sum-forgotten (object_of v).channels,
+      ap (λ (x : View). finished_all (object_of x)) is ∙ sum_forgotten (object_of v).channels,
     )

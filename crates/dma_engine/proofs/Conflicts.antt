@@ -15,10 +15,10 @@ use Rattle.dma_engine.specs.View.{ChannelSchedule, RunningTransfer, object_of, r
 use Rattle.dma_engine.specs.inner.Accesses.{named}
 use Rattle.dma_engine.specs.inner.Found.{front_in, transfer_at}
 use Rattle.dma_engine.specs.inner.Holds.{Holds, Parts, view_of, taken_of}
-use Rattle.dma_engine.proofs.Boards.{counted-at}
-use Rattle.dma_engine.proofs.Queues.{Front, HoldsAt, holds-at, transfer_found}
-use Rattle.dma_engine.proofs.ConflictsByRanges.{kept-ranges, no-ranges}
-use Rattle.dma_engine.proofs.WhatRuns.{below, find-here}
+use Rattle.dma_engine.proofs.Boards.{counted_at}
+use Rattle.dma_engine.proofs.Queues.{Front, HoldsAt, holds_at, transfer_found}
+use Rattle.dma_engine.proofs.ConflictsByRanges.{kept_ranges, no_ranges}
+use Rattle.dma_engine.proofs.WhatRuns.{below, find_here}
 
 -- ---- the issued front
 
@@ -31,8 +31,8 @@ some_within (x ∷ xs) (suc k) h = some_within xs k (omega arith)
 pub front_queued : (p : Parts) → Holds p → (ch : ℕ) (q : Queue) → ch < length p.queues → q ≡ slice_index_or p.queues ch q → q.forgotten + length q.outcomes.items < q.issued → Front (channel (object_of (view_of p)) ch) (λ t. Unit {0})
 front_queued p h ch q less read open_one =
     let c = channel (object_of (view_of p)) ch in
-    let at = holds-at p h ch q less read in
-    let counted = counted-at p h ch in
+    let at = holds_at p h ch q less read in
+    let counted = counted_at p h ch in
     let many : length q.outcomes.items ≡ length c.outcomes = ap length at.tied.outcomes in
     let before : finished c < c.issued = omega (arith, many, at.tied.forgotten, at.tied.issued, open_one) in
     let inside : finished c < used c = omega (arith, counted.issue, before) in
@@ -47,7 +47,7 @@ front_found p h ch q less read = by (nat_lt (length q.outcomes.items) (q.issued 
   c = channel (object_of (view_of p)) ch
 
   at : HoldsAt p ch q
-  at = holds-at p h ch q less read
+  at = holds_at p h ch q less read
 
   n : ℕ
   n = length q.outcomes.items
@@ -74,16 +74,16 @@ front_found p h ch q less read = by (nat_lt (length q.outcomes.items) (q.issued 
       rw (e, d) refl
 
 -- no more are issued than are known
-pub few-issued : (p : Parts) → Holds p → (ch : ℕ) (q : Queue) → ch < length p.queues → q ≡ slice_index_or p.queues ch q → q.issued ≤ q.forgotten + length (channel p.base ch).submitted + length q.indices.items
-few-issued p h ch q less read =
-    let at = holds-at p h ch q less read in
-    let counted = counted-at p h ch in
+pub few_issued : (p : Parts) → Holds p → (ch : ℕ) (q : Queue) → ch < length p.queues → q ≡ slice_index_or p.queues ch q → q.issued ≤ q.forgotten + length (channel p.base ch).submitted + length q.indices.items
+few_issued p h ch q less read =
+    let at = holds_at p h ch q less read in
+    let counted = counted_at p h ch in
     omega (arith, at.tied.issued, at.tied.forgotten, at.tied.many, counted.issue)
 
 -- ---- what runs
 
-pub taken-none : (m : ChannelValue) → is_some m.program ≡ false → taken_of m ≡ None
-taken-none m h =
+pub taken_none : (m : ChannelValue) → is_some m.program ≡ false → taken_of m ≡ None
+taken_none m h =
     let by : (o : Option ProgramValue) → is_some o ≡ false → o ≡ m.program → taken_of m ≡ None = λ o. elim o as (λ o. is_some o ≡ false → o ≡ m.program → taken_of m ≡ None) [
       | None ↦ λ _ e. rw (← e) refl
       | Some p ↦ λ e _. absurd (false≢true (sym e))
@@ -92,15 +92,15 @@ taken-none m h =
 
 pub runs_none : (p : Parts) → Holds p → (ch : ℕ) (q : Queue) → ch < length p.queues → q ≡ slice_index_or p.queues ch q → is_some q.channel.program ≡ false → None ≡ runs (object_of (view_of p)) (view_of p).schedule ch
 runs_none p h ch q less read unloaded =
-    let at = holds-at p h ch q less read in
-    sym (at.runs_is ∙ ap (running_in ch (channel (object_of (view_of p)) ch)) (taken-none q.channel unloaded))
+    let at = holds_at p h ch q less read in
+    sym (at.runs_is ∙ ap (running_in ch (channel (object_of (view_of p)) ch)) (taken_none q.channel unloaded))
 
 -- ---- the first transfer that conflicts
 
 -- a running transfer is named by its channel and the cookie of the front
-runs-named : (ch : ℕ) (c : ChannelState) (taken : Option ℕ) (r : RunningTransfer) → running_in ch c taken ≡ Some r → (r.ch ≡ ch) × (r.cookie ≡ finished c + 1)
-runs-named ch c None r h = absurd cc
-runs-named ch c (Some n) r h =
+runs_named : (ch : ℕ) (c : ChannelState) (taken : Option ℕ) (r : RunningTransfer) → running_in ch c taken ≡ Some r → (r.ch ≡ ch) × (r.cookie ≡ finished c + 1)
+runs_named ch c None r h = absurd cc
+runs_named ch c (Some n) r h =
     let by : (o : Option Descriptor) → option_map (λ t. record { ch = ch; cookie = finished c + 1; transfer = t; taken = n }) o ≡ Some r → (r.ch ≡ ch) × (r.cookie ≡ finished c + 1) = λ o. elim o as (λ o. option_map (λ t. record { ch = ch; cookie = finished c + 1; transfer = t; taken = n }) o ≡ Some r → (r.ch ≡ ch) × (r.cookie ≡ finished c + 1)) [
       | None ↦ λ e. absurd cc
       | Some t ↦ λ e. (sym (ap (λ (x : Option RunningTransfer). (unwrap_or x r).ch) e), sym (ap (λ (x : Option RunningTransfer). (unwrap_or x r).cookie) e))
@@ -108,20 +108,20 @@ runs-named ch c (Some n) r h =
     by (front c) h
 
 -- the first transfer that conflicts is the one with these ranges
-pub way-here : (q : Descriptor → Bool) (o : Object) (s : List ChannelSchedule) (ch cookie : ℕ) (r : Ranges) → ch < length o.channels → find (λ x. q x.transfer) (below o s ch) ≡ None → AreOfRunning (Some r) (runs o s ch) → cookie ≡ finished (channel o ch) + 1 → ((t : Descriptor) → HasRangesOf r t → true ≡ q t) → Some (ch, cookie) ≡ named (find (λ x. q x.transfer) (running o s))
-way-here q o s ch cookie r less none kept number passes =
-    let k = kept-ranges r (runs o s ch) kept in
+pub way_here : (q : Descriptor → Bool) (o : Object) (s : List ChannelSchedule) (ch cookie : ℕ) (r : Ranges) → ch < length o.channels → find (λ x. q x.transfer) (below o s ch) ≡ None → AreOfRunning (Some r) (runs o s ch) → cookie ≡ finished (channel o ch) + 1 → ((t : Descriptor) → HasRangesOf r t → true ≡ q t) → Some (ch, cookie) ≡ named (find (λ x. q x.transfer) (running o s))
+way_here q o s ch cookie r less none kept number passes =
+    let k = kept_ranges r (runs o s ch) kept in
     let x = k.it in
-    let names = runs-named ch (channel o ch) (slice_index_or s ch idle).taken x k.is in
-    let first : find (λ y. q y.transfer) (running o s) ≡ Some x = find-here (λ y. q y.transfer) o s ch x less none k.is (sym (passes x.transfer k.ranges)) in
+    let names = runs_named ch (channel o ch) (slice_index_or s ch idle).taken x k.is in
+    let first : find (λ y. q y.transfer) (running o s) ≡ Some x = find_here (λ y. q y.transfer) o s ch x less none k.is (sym (passes x.transfer k.ranges)) in
     let pair : Some (x.ch, x.cookie) ≡ Some (ch, cookie) = ap (λ n. Some (n, x.cookie)) names.0 ∙ ap (λ n. Some (ch, n)) (names.1 ∙ sym number) in
     sym (ap named first ∙ pair)
 
 -- a transfer that doesn't conflict is passed over
-pub passed-over : (q : Descriptor → Bool) (x : Option RunningTransfer) (r : Ranges) → AreOfRunning (Some r) x → ((t : Descriptor) → HasRangesOf r t → false ≡ q t) → find (λ y. q y.transfer) (option_to_list x) ≡ None
-passed-over q x r kept fails =
-    let k = kept-ranges r x kept in
+pub passed_over : (q : Descriptor → Bool) (x : Option RunningTransfer) (r : Ranges) → AreOfRunning (Some r) x → ((t : Descriptor) → HasRangesOf r t → false ≡ q t) → find (λ y. q y.transfer) (option_to_list x) ≡ None
+passed_over q x r kept fails =
+    let k = kept_ranges r x kept in
     ap (λ y. find (λ z. q z.transfer) (option_to_list y)) k.is ∙ ap (λ b. cond b (Some k.it) None) (sym (fails k.it.transfer k.ranges))
 
-pub nothing-there : (q : Descriptor → Bool) (x : Option RunningTransfer) → AreOfRunning None x → find (λ r. q r.transfer) (option_to_list x) ≡ None
-nothing-there q x kept = ap (λ y. find (λ z. q z.transfer) (option_to_list y)) (no-ranges x kept)
+pub nothing_there : (q : Descriptor → Bool) (x : Option RunningTransfer) → AreOfRunning None x → find (λ r. q r.transfer) (option_to_list x) ≡ None
+nothing_there q x kept = ap (λ y. find (λ z. q z.transfer) (option_to_list y)) (no_ranges x kept)

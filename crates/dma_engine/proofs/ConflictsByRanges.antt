@@ -7,49 +7,49 @@ use Rattle.std.proofs.Math.Bool.{or_assoc}
 use Rattle.dma_mem.specs.declared.segment.Segment.{Segment}
 use Rattle.dma_mem.specs.Places.{Descriptor, all_below, destinations, is_free_of, lies_below, places, range_of, share, sources, touches, writes}
 use Rattle.dma_mem.proofs.SharedPlaces.{ends_below}
-use Rattle.dma_mem.proofs.RangeSets.{is_free_of-ranges, touches-ranges, writes-ranges}
+use Rattle.dma_mem.proofs.RangeSets.{is_free_of_ranges, touches_ranges, writes_ranges}
 use Rattle.dma_engine.specs.declared.access.Ranges.{Ranges}
 use Rattle.dma_engine.specs.inner.Ranges.{AreOfRunning, HasRangesOf}
 use Rattle.dma_engine.specs.View.{RunningTransfer}
 
 -- ---- below a higher address
 
-all-below-more : (list : List Segment) (n m : ℕ) → n ≤ m → all_below list n ≡ true → all_below list m ≡ true
-all-below-more list n m l h =
+all_below_more : (list : List Segment) (n m : ℕ) → n ≤ m → all_below list n ≡ true → all_below list m ≡ true
+all_below_more list n m l h =
     list_all-from_AllPass (λ (s : Segment). nat_le (s.addr + s.len) m) list (λ i d k. le-leb _ _ (omega (arith, ends_below list n i d h k, l)))
 
-pub below-more : (t : Descriptor) (n m : ℕ) → n ≤ m → lies_below t n ≡ true → lies_below t m ≡ true
-below-more t n m l h =
+pub below_more_law : (t : Descriptor) (n m : ℕ) → n ≤ m → lies_below t n ≡ true → lies_below t m ≡ true
+below_more_law t n m l h =
     let parts = and_parts (all_below t.src n) (all_below t.dst n) h in
-    let src = all-below-more t.src n m l parts.0 in
-    let dst = all-below-more t.dst n m l parts.1 in
+    let src = all_below_more t.src n m l parts.0 in
+    let dst = all_below_more t.dst n m l parts.1 in
     rw (src, dst) refl
 
 -- ---- what conflicts
 
-pub or-first : (a x y : Bool) → a ≡ x → a ≡ true → a ≡ (x || y)
-or-first a x y is h = h ∙ ap (λ b. b || y) (sym h ∙ is)
+pub or_first : (a x y : Bool) → a ≡ x → a ≡ true → a ≡ (x || y)
+or_first a x y is h = h ∙ ap (λ b. b || y) (sym h ∙ is)
 
-pub or-second : (a b x y : Bool) → a ≡ x → a ≡ false → b ≡ y → b ≡ (x || y)
-or-second a b x y is h next = next ∙ ap (λ c. c || y) (sym h ∙ is)
+pub or_second : (a b x y : Bool) → a ≡ x → a ≡ false → b ≡ y → b ≡ (x || y)
+or_second a b x y is h next = next ∙ ap (λ c. c || y) (sym h ∙ is)
 
-pub write-way : (r : Ranges) (t : Descriptor) (range : Segment) (b : Bool) → HasRangesOf r t → b ≡ (share (range_of range) (places r.destinations) || share (range_of range) (places r.sources)) → b ≡ touches t range
-write-way r t range b h is = is ∙ touches-ranges t range r.sources r.destinations h.sources h.destinations
+pub write_way : (r : Ranges) (t : Descriptor) (range : Segment) (b : Bool) → HasRangesOf r t → b ≡ (share (range_of range) (places r.destinations) || share (range_of range) (places r.sources)) → b ≡ touches t range
+write_way r t range b h is = is ∙ touches_ranges t range r.sources r.destinations h.sources h.destinations
 
-pub read-way : (r : Ranges) (t : Descriptor) (range : Segment) (b : Bool) → HasRangesOf r t → b ≡ share (range_of range) (places r.destinations) → b ≡ writes t range
-read-way r t range b h is = is ∙ writes-ranges t range r.destinations h.destinations
+pub read_way : (r : Ranges) (t : Descriptor) (range : Segment) (b : Bool) → HasRangesOf r t → b ≡ share (range_of range) (places r.destinations) → b ≡ writes t range
+read_way r t range b h is = is ∙ writes_ranges t range r.destinations h.destinations
 
-not-not : (b : Bool) → not (not b) ≡ b
-not-not true = refl
-not-not false = refl
+not_not : (b : Bool) → not (not b) ≡ b
+not_not true = refl
+not_not false = refl
 
-pub start-way : (r : Ranges) (t other : Descriptor) (b : Bool) → HasRangesOf r t → b ≡ ((share (destinations other) (places r.destinations) || share (destinations other) (places r.sources)) || share (sources other) (places r.destinations)) → b ≡ not (is_free_of other t)
-start-way r t other b h is =
+pub start_way : (r : Ranges) (t other : Descriptor) (b : Bool) → HasRangesOf r t → b ≡ ((share (destinations other) (places r.destinations) || share (destinations other) (places r.sources)) || share (sources other) (places r.destinations)) → b ≡ not (is_free_of other t)
+start_way r t other b h is =
     let one = share (destinations other) (places r.destinations) in
     let two = share (destinations other) (places r.sources) in
     let three = share (sources other) (places r.destinations) in
-    is ∙ or_assoc one two three ∙ sym (not-not (one || (two || three)))
-    ∙ ap not (is_free_of-ranges other t r.sources r.destinations h.sources h.destinations)
+    is ∙ or_assoc one two three ∙ sym (not_not (one || (two || three)))
+    ∙ ap not (is_free_of_ranges other t r.sources r.destinations h.sources h.destinations)
 
 -- ---- ranges that are kept
 
@@ -59,16 +59,16 @@ pub record Kept (r : Ranges) (x : Option RunningTransfer) : Type 0 where
   pub is : x ≡ Some it
   pub ranges : HasRangesOf r it.transfer
 
-pub kept-ranges : (r : Ranges) (x : Option RunningTransfer) → AreOfRunning (Some r) x → Kept r x
-kept-ranges r None h = absurd h
-kept-ranges r (Some y) h = record { it = y; is = refl; ranges = h }
+pub kept_ranges : (r : Ranges) (x : Option RunningTransfer) → AreOfRunning (Some r) x → Kept r x
+kept_ranges r None h = absurd h
+kept_ranges r (Some y) h = record { it = y; is = refl; ranges = h }
 
 -- nothing runs if none are kept
-pub no-ranges : (x : Option RunningTransfer) → AreOfRunning None x → x ≡ None
-no-ranges None h = refl
-no-ranges (Some y) h = absurd h
+pub no_ranges : (x : Option RunningTransfer) → AreOfRunning None x → x ≡ None
+no_ranges None h = refl
+no_ranges (Some y) h = absurd h
 
 -- they stay while the transfer does
-pub ranges-stay : (r : Option Ranges) (x y : RunningTransfer) → x.transfer ≡ y.transfer → AreOfRunning r (Some x) → AreOfRunning r (Some y)
-ranges-stay None x y same h = h
-ranges-stay (Some r) x y same h = subst (HasRangesOf r) same h
+pub ranges_stay : (r : Option Ranges) (x y : RunningTransfer) → x.transfer ≡ y.transfer → AreOfRunning r (Some x) → AreOfRunning r (Some y)
+ranges_stay None x y same h = h
+ranges_stay (Some r) x y same h = subst (HasRangesOf r) same h

@@ -24,17 +24,17 @@ use Rattle.dma_engine.specs.Object.{Allows, ChannelState, FrontIs, Object, after
 use Rattle.dma_engine.specs.Ticks.{Counts, Finished, Submitted, counts_of, tick_channel, ticks_of}
 use Rattle.dma_engine.specs.Turn.{with_entry}
 use Rattle.dma_engine.specs.View.{IsSound, View, object_of, channels}
-use Rattle.dma_engine.proofs.CallCases.{submit-open}
-use Rattle.dma_engine.proofs.Boards.{AreCounted, board-is, counted-base, counted-object, status-by-board}
-use Rattle.dma_engine.proofs.AnswerCounts.{object-one, submitted, closed}
-use Rattle.dma_engine.proofs.Endings.{length-aborted}
-use Rattle.dma_engine.proofs.Sizes.{made, many-after as channels-after, many-channels as channels-object}
+use Rattle.dma_engine.proofs.CallCases.{submit_open}
+use Rattle.dma_engine.proofs.Boards.{AreCounted, board_is, counted_base, counted_object, status_by_board}
+use Rattle.dma_engine.proofs.AnswerCounts.{object_one, submitted, closed}
+use Rattle.dma_engine.proofs.Endings.{length_aborted}
+use Rattle.dma_engine.proofs.Sizes.{made, many_after as channels-after, many_channels as channels-object}
 
 -- ---- a reply that is no refusal
 
-no-refusal : (f : Option EngineFault) (v w : View) (x : Reply × View) (reply : Reply) → ((fault : EngineFault) → reply ≡ Refused fault → ⊥) → (reply, w) ≡ unless f v x → f ≡ None
-no-refusal None v w x reply is_answer h = refl
-no-refusal (Some fault) v w x reply is_answer h = absurd (is_answer fault (ap (λ (y : Reply × View). y.0) h))
+no_refusal : (f : Option EngineFault) (v w : View) (x : Reply × View) (reply : Reply) → ((fault : EngineFault) → reply ≡ Refused fault → ⊥) → (reply, w) ≡ unless f v x → f ≡ None
+no_refusal None v w x reply is_answer h = refl
+no_refusal (Some fault) v w x reply is_answer h = absurd (is_answer fault (ap (λ (y : Reply × View). y.0) h))
 
 -- ---- a submit
 
@@ -43,21 +43,21 @@ given : (v w : View) (ch k : ℕ) (t : Descriptor) → submit_fault v ch t ≡ N
 given v w ch k t none h =
     let c = channel (object_of v) ch in
     let e = SubmittedEntry ch t (used c + 1) in
-    let less = (submit-open v ch t none).0 in
+    let less = (submit_open v ch t none).0 in
     let is_answer : answer v (Submit ch t) ≡ (Cookie (used c + 1), with_entry v e) = rw none refl in
     let number : k ≡ used c + 1 = let both : Cookie k ≡ Cookie (used c + 1) = ap (λ (x : Reply × View). x.0) (h ∙ is_answer) in cc in
     let is : w ≡ with_entry v e = ap (λ (x : Reply × View). x.1) (h ∙ is_answer) in
-    let many : channels w ≡ channels v = ap channels is ∙ ap (λ (o : Object). length o.channels) (object-one v e) ∙ channels-after (object_of v) e in
+    let many : channels w ≡ channels v = ap channels is ∙ ap (λ (o : Object). length o.channels) (object_one v e) ∙ channels-after (object_of v) e in
     let more : used (with_transfer c t) ≡ used c + 1 = omega (arith, length_push c.submitted t) in (
       number,
-      ap (λ (u : View). used (channel (object_of u) ch)) is ∙ ap (λ o. used (channel o ch)) (object-one v e)
+      ap (λ (u : View). used (channel (object_of u) ch)) is ∙ ap (λ o. used (channel o ch)) (object_one v e)
           ∙ ap used (get_or-set_same (object_of v).channels ch (with_transfer c t) empty_channel less) ∙ more,
       omega (arith, many, less),
     )
 
 pub submits_add : SubmitsAdd
 submits_add v w ch cookie t h =
-    let none = no-refusal (submit_fault v ch t) v w _ (Cookie cookie) (λ fault e. absurd cc) h in
+    let none = no_refusal (submit_fault v ch t) v w _ (Cookie cookie) (λ fault e. absurd cc) h in
     let s = submitted v w ch cookie t none h in
     let g = given v w ch cookie t none h in (
       record { ticks = s.0; steps = omega (arith, s.1); finished = omega (arith, s.2) },
@@ -86,15 +86,15 @@ closes v w ch n none h =
     let less = inside v ch none in
     let is_answer : answer v (Terminate ch) ≡ (Count (unfinished c), terminated v ch) = rw none refl in
     let is : w ≡ terminated v ch = ap (λ (x : Reply × View). x.1) (h ∙ is_answer) in
-    let becomes : object_of w ≡ after o e = ap object_of is ∙ object-one v e in
+    let becomes : object_of w ≡ after o e = ap object_of is ∙ object_one v e in
     let here : channel (object_of w) ch ≡ with_all_aborted c done = ap (λ x. channel x ch) becomes ∙ get_or-set_same o.channels ch (with_all_aborted c done) empty_channel less in
     let more = length-append c.outcomes (aborted done (drop (length c.outcomes) c.submitted)) in
     let many : channels w ≡ channels v = ap (λ (x : Object). length x.channels) becomes ∙ channels-after o e in
-    (omega (arith, ap used here, ap finished here, more, length-aborted done (drop (length c.outcomes) c.submitted), length-drop (length c.outcomes) c.submitted), omega (arith, many, less))
+    (omega (arith, ap used here, ap finished here, more, length_aborted done (drop (length c.outcomes) c.submitted), length-drop (length c.outcomes) c.submitted), omega (arith, many, less))
 
 pub terminates_add : TerminatesAdd
 terminates_add v w ch count h =
-    let none = no-refusal (channel_fault v ch) v w _ (Count count) (λ fault e. absurd cc) h in
+    let none = no_refusal (channel_fault v ch) v w _ (Count count) (λ fault e. absurd cc) h in
     let s = closed v w ch count none (inside v ch none) h in
     let c = closes v w ch count none h in (
       record { ticks = s.1; steps = omega (arith, s.2); finished = s.3 },
@@ -107,18 +107,18 @@ terminates_add v w ch count h =
 
 pub boards_count : BoardsCount
 boards_count v h =
-    let counted : AreCounted v.base = counted-base v.base h.opens in
-    board-is v.base v.history counted h.legal
+    let counted : AreCounted v.base = counted_base v.base h.opens in
+    board_is v.base v.history counted h.legal
 
 pub status_by_ticks : StatusByTicks
 status_by_ticks v ch cookie h =
-    let counted : AreCounted v.base = counted-base v.base h.opens in
-    status-by-board v ch cookie counted h.legal
+    let counted : AreCounted v.base = counted_base v.base h.opens in
+    status_by_board v ch cookie counted h.legal
 
 pub base_counts_bounded : BaseCountsBounded
 base_counts_bounded v h =
     let many : channels v ≡ length v.base.channels = channels-object v.base v.history in
-    let counted : AreCounted v.base = counted-base v.base h.opens in (
+    let counted : AreCounted v.base = counted_base v.base h.opens in (
       omega (arith, many, length-map v.base.channels counts_of),
       omega (arith, many, (made (length v.base.image) (length v.base.channels) h.makes).0),
       (λ ch.
@@ -131,40 +131,40 @@ base_counts_bounded v h =
 pub finished_bounded : (v : View) → IsSound v → finished_all (object_of v) < 2 ^ 64
 finished_bounded v h =
     let o = object_of v in
-    let counted : AreCounted o = counted-object v.base v.history (counted-base v.base h.opens) h.legal in
+    let counted : AreCounted o = counted_object v.base v.history (counted_base v.base h.opens) h.legal in
     let P : ChannelState → Type 0 = λ c. finished c ≤ last_cookie in
     let each : All P o.channels = All-from_get_or P o.channels empty_channel (λ i less. omega (arith, (counted i).finish, (counted i).give)) in
     omega (arith, sum_by-le finished last_cookie o.channels each, (base_counts_bounded v h).0, (base_counts_bounded v h).1)
 
 -- a channel with a front exists
-front-there : (o : Object) (ch : ℕ) (P : Descriptor → Type 0) → FrontIs (channel o ch) P → ch < length o.channels
-front-there o ch P h = elim (cases_lt ch (length o.channels)) [
+front_there_law : (o : Object) (ch : ℕ) (P : Descriptor → Type 0) → FrontIs (channel o ch) P → ch < length o.channels
+front_there_law o ch P h = elim (cases_lt ch (length o.channels)) [
   | inl less ↦ less
   | inr past ↦ let g : FrontIs empty_channel P = rw (get_or_past o.channels ch empty_channel past) at h in absurd g.1
 ]
 
-finish-there : (o : Object) (ch : ℕ) (result : TransResult) (done : ℕ) → Allows o (FinishedEntry ch result done) → ch < length o.channels
-finish-there o ch NoError done h = front-there o ch _ h
-finish-there o ch ReadFailed done h = front-there o ch _ h
-finish-there o ch WriteFailed done h = front-there o ch _ h
-finish-there o ch Aborted done h = absurd h
+finish_there : (o : Object) (ch : ℕ) (result : TransResult) (done : ℕ) → Allows o (FinishedEntry ch result done) → ch < length o.channels
+finish_there o ch NoError done h = front_there_law o ch _ h
+finish_there o ch ReadFailed done h = front_there_law o ch _ h
+finish_there o ch WriteFailed done h = front_there_law o ch _ h
+finish_there o ch Aborted done h = absurd h
 
 -- the ticks of a legal history are of channels that are there
-ticks-there : (n : ℕ) (o : Object) (es : List Entry) → length o.channels ≡ n → IsLegal o es → All (λ t. tick_channel t < n) (ticks_of es)
-ticks-there n o [] many h = All-nil (λ t. tick_channel t < n)
-ticks-there n o (Wrote addr bytes ∷ es) many h = ticks-there n (after o (Wrote addr bytes)) es (channels-after o (Wrote addr bytes) ∙ many) h.1
-ticks-there n o (ReadBack addr bytes ∷ es) many h = ticks-there n (after o (ReadBack addr bytes)) es (channels-after o (ReadBack addr bytes) ∙ many) h.1
-ticks-there n o (SubmittedEntry ch t cookie ∷ es) many h = All-cons (λ t. tick_channel t < n) (Submitted ch) (ticks_of es) (omega (arith, h.0.0, many)) (ticks-there n (after o (SubmittedEntry ch t cookie)) es (channels-after o (SubmittedEntry ch t cookie) ∙ many) h.1)
-ticks-there n o (Issued ch ∷ es) many h = ticks-there n (after o (Issued ch)) es (channels-after o (Issued ch) ∙ many) h.1
-ticks-there n o (Passed ch event ∷ es) many h = ticks-there n (after o (Passed ch event)) es (channels-after o (Passed ch event) ∙ many) h.1
-ticks-there n o (Signalled by event ∷ es) many h = ticks-there n (after o (Signalled by event)) es (channels-after o (Signalled by event) ∙ many) h.1
-ticks-there n o (FinishedEntry ch result done ∷ es) many h = All-cons (λ t. tick_channel t < n) (Finished ch 1) (ticks_of es) (omega (arith, finish-there o ch result done h.0, many)) (ticks-there n (after o (FinishedEntry ch result done)) es (channels-after o (FinishedEntry ch result done) ∙ many) h.1)
-ticks-there n o (TerminatedEntry ch done count ∷ es) many h = All-cons (λ t. tick_channel t < n) (Finished ch count) (ticks_of es) (omega (arith, h.0.0, many)) (ticks-there n (after o (TerminatedEntry ch done count)) es (channels-after o (TerminatedEntry ch done count) ∙ many) h.1)
-ticks-there n o (Marked kind segment ∷ es) many h = ticks-there n (after o (Marked kind segment)) es (channels-after o (Marked kind segment) ∙ many) h.1
-ticks-there n o (Unmarked ∷ es) many h = ticks-there n (after o Unmarked) es (channels-after o Unmarked ∙ many) h.1
+ticks_there : (n : ℕ) (o : Object) (es : List Entry) → length o.channels ≡ n → IsLegal o es → All (λ t. tick_channel t < n) (ticks_of es)
+ticks_there n o [] many h = All-nil (λ t. tick_channel t < n)
+ticks_there n o (Wrote addr bytes ∷ es) many h = ticks_there n (after o (Wrote addr bytes)) es (channels-after o (Wrote addr bytes) ∙ many) h.1
+ticks_there n o (ReadBack addr bytes ∷ es) many h = ticks_there n (after o (ReadBack addr bytes)) es (channels-after o (ReadBack addr bytes) ∙ many) h.1
+ticks_there n o (SubmittedEntry ch t cookie ∷ es) many h = All-cons (λ t. tick_channel t < n) (Submitted ch) (ticks_of es) (omega (arith, h.0.0, many)) (ticks_there n (after o (SubmittedEntry ch t cookie)) es (channels-after o (SubmittedEntry ch t cookie) ∙ many) h.1)
+ticks_there n o (Issued ch ∷ es) many h = ticks_there n (after o (Issued ch)) es (channels-after o (Issued ch) ∙ many) h.1
+ticks_there n o (Passed ch event ∷ es) many h = ticks_there n (after o (Passed ch event)) es (channels-after o (Passed ch event) ∙ many) h.1
+ticks_there n o (Signalled by event ∷ es) many h = ticks_there n (after o (Signalled by event)) es (channels-after o (Signalled by event) ∙ many) h.1
+ticks_there n o (FinishedEntry ch result done ∷ es) many h = All-cons (λ t. tick_channel t < n) (Finished ch 1) (ticks_of es) (omega (arith, finish_there o ch result done h.0, many)) (ticks_there n (after o (FinishedEntry ch result done)) es (channels-after o (FinishedEntry ch result done) ∙ many) h.1)
+ticks_there n o (TerminatedEntry ch done count ∷ es) many h = All-cons (λ t. tick_channel t < n) (Finished ch count) (ticks_of es) (omega (arith, h.0.0, many)) (ticks_there n (after o (TerminatedEntry ch done count)) es (channels-after o (TerminatedEntry ch done count) ∙ many) h.1)
+ticks_there n o (Marked kind segment ∷ es) many h = ticks_there n (after o (Marked kind segment)) es (channels-after o (Marked kind segment) ∙ many) h.1
+ticks_there n o (Unmarked ∷ es) many h = ticks_there n (after o Unmarked) es (channels-after o Unmarked ∙ many) h.1
 
 pub ticks_name_channels : TicksNameChannels
-ticks_name_channels v h = ticks-there (channels v) v.base v.history (sym (channels-object v.base v.history)) h.legal
+ticks_name_channels v h = ticks_there (channels v) v.base v.history (sym (channels-object v.base v.history)) h.legal
 
 pub ticks_at_most_entries : TicksAtMostEntries
 ticks_at_most_entries [] = omega arith

@@ -8,7 +8,7 @@ use Rattle.dma_mem.specs.Image.{put, after_moves, laid}
 use Rattle.dma_mem.specs.Limits.{most_transfer_bytes}
 use Rattle.dma_mem.specs.Places.{Descriptor, size_of}
 use Rattle.dma_mem.specs.Meeting.{IsFree}
-use Rattle.dma_mem.proofs.ImagePut.{length-put, get_or-put}
+use Rattle.dma_mem.proofs.ImagePut.{length_put, get_or_put}
 use Rattle.dma_chan.specs.Traffic.{stored_after}
 use Rattle.dma_chan.proofs.ShapeLaws.{stored_is}
 use Rattle.dma_engine.specs.declared.entry.Entry.TheVariants.{Finished, Terminated}
@@ -20,67 +20,67 @@ use Rattle.dma_engine.specs.Object.{Object, ChannelState, Allows, after, channel
 use Rattle.dma_engine.specs.View.{View, ChannelSchedule, RunningTransfer, runs, running_in, memory_shown, object_of, channels}
 use Rattle.dma_engine.specs.Answer.{done_by, done_on, terminated}
 use Rattle.dma_engine.specs.inner.Holds.{Holds, Parts, view_of, schedule_of, queue_finished, queue_terminated}
-use Rattle.dma_engine.proofs.Changes.{changed, changed_view, view-changed, holds-changed, runs-here, runs-other}
-use Rattle.dma_engine.proofs.Fronts.{stored-there}
-use Rattle.dma_engine.proofs.Conflicts.{taken-none}
-use Rattle.dma_engine.proofs.Histories.{object_after-append, IsLegal-append}
-use Rattle.dma_engine.proofs.Memory.{shown-ended}
-use Rattle.dma_engine.proofs.Queues.{holds-at, slice_get-push}
-use Rattle.dma_engine.proofs.QueueCalls.{shown-both}
-use Rattle.dma_engine.proofs.TransferRules.{running, free-others}
-use Rattle.dma_engine.proofs.WhatRuns.{running-same, below, above}
+use Rattle.dma_engine.proofs.Changes.{changed, changed_view, view_changed, holds_changed, runs_here_law, runs_other}
+use Rattle.dma_engine.proofs.Fronts.{stored_there}
+use Rattle.dma_engine.proofs.Conflicts.{taken_none}
+use Rattle.dma_engine.proofs.Histories.{object_after_append, IsLegal_append}
+use Rattle.dma_engine.proofs.Memory.{shown_ended}
+use Rattle.dma_engine.proofs.Queues.{holds_at, slice_get_push}
+use Rattle.dma_engine.proofs.QueueCalls.{shown_both}
+use Rattle.dma_engine.proofs.TransferRules.{running, free_others}
+use Rattle.dma_engine.proofs.WhatRuns.{running_same, below, above}
 
 -- ---- nothing laid
 
-pub put-nil : (image : List ℕ) → put image [] ≡ image
-put-nil image = ext_get_or 0 _ _ (length-put image []) (λ a l. get_or-put image [] a (omega (arith, length-put image [])))
+pub put_nil : (image : List ℕ) → put image [] ≡ image
+put_nil image = ext_get_or 0 _ _ (length_put image []) (λ a l. get_or_put image [] a (omega (arith, length_put image [])))
 
-laid-nothing : (image : List ℕ) (t : Descriptor) → laid image t 0 ≡ image
+laid_nothing : (image : List ℕ) (t : Descriptor) → laid image t 0 ≡ image
 unfolding after_moves
-laid-nothing image t = put-nil image
+laid_nothing image t = put_nil image
 
 -- a front that is known
-pub front-is : (c : ChannelState) (t : Descriptor) → front c ≡ Some t → front_of c ≡ t
-front-is c t h = ap (λ o. unwrap_or o no_transfer) h
+pub front_is_law : (c : ChannelState) (t : Descriptor) → front c ≡ Some t → front_of c ≡ t
+front_is_law c t h = ap (λ o. unwrap_or o no_transfer) h
 
 -- ---- a queue whose front, or all of whose cookies, have finished
 
 -- a transfer's first bytes laid and its channel unloaded show the memory as it was
-pub shown-over : (p : Parts) → Holds p → (ch : ℕ) (q : Queue) (o : Object) (x : ChannelSchedule) → ch < length p.queues → q ≡ slice_index_or p.queues ch q → length o.channels ≡ channels (view_of p) → ((c : ℕ) → c ≢ ch → channel o c ≡ channel (object_of (view_of p)) c) → x.taken ≡ None → o.image ≡ laid (object_of (view_of p)).image (front_of (channel (object_of (view_of p)) ch)) (done_on (view_of p) ch) → p.memory ≡ memory_shown o (slice_set (view_of p).schedule ch x)
-shown-over p h ch q o x less read many others none image =
+pub shown_over : (p : Parts) → Holds p → (ch : ℕ) (q : Queue) (o : Object) (x : ChannelSchedule) → ch < length p.queues → q ≡ slice_index_or p.queues ch q → length o.channels ≡ channels (view_of p) → ((c : ℕ) → c ≢ ch → channel o c ≡ channel (object_of (view_of p)) c) → x.taken ≡ None → o.image ≡ laid (object_of (view_of p)).image (front_of (channel (object_of (view_of p)) ch)) (done_on (view_of p) ch) → p.memory ≡ memory_shown o (slice_set (view_of p).schedule ch x)
+shown_over p h ch q o x less read many others none image =
     let v : View = view_of p in
     let old = object_of v in
     let s = v.schedule in
     let t = slice_set s ch x in
-    let at = holds-at p h ch q less read in
+    let at = holds_at p h ch q less read in
     let within : ch < length s = omega (arith, h.sound.fits.many, at.there) in
-    let now : runs o t ch ≡ None = runs-here o s ch x within ∙ ap (running_in ch (channel o ch)) none in
-    let rest : (c : ℕ) → c ≢ ch → runs old s c ≡ runs o t c = λ c d. sym (runs-other old o s ch c x d (others c d)) in
+    let now : runs o t ch ≡ None = runs_here_law o s ch x within ∙ ap (running_in ch (channel o ch)) none in
+    let rest : (c : ℕ) → c ≢ ch → runs old s c ≡ runs o t c = λ c d. sym (runs_other old o s ch c x d (others c d)) in
     let by : (b : Bool) → is_some q.channel.program ≡ b → memory_shown old s ≡ memory_shown o t = λ b. elim b as (λ b. is_some q.channel.program ≡ b → memory_shown old s ≡ memory_shown o t) [
       | true ↦ λ loaded.
           let r = running p h ch q less read loaded in
           let here : RunningTransfer = record { ch = ch; cookie = finished (channel old ch) + 1; transfer = r.transfer; taken = q.channel.taken } in
-          let laid_is : o.image ≡ laid old.image here.transfer (stored_after here.transfer here.taken) = image ∙ ap (λ y. laid old.image (front_of (channel old ch)) (done_by y)) r.runs_is ∙ ap (λ u. laid old.image u (stored_after here.transfer here.taken)) (front-is (channel old ch) r.transfer r.is) in
-          let free = free-others old s ch here h.sound.fits at.there r.runs_is in
-          sym (shown-ended ch old o s t here (record { channels = sym many; there = at.there; others = rest }) r.runs_is now laid_is (All-append (λ y. IsFree here.transfer y.transfer) (below old s ch) (above old s ch) free.0 free.1))
+          let laid_is : o.image ≡ laid old.image here.transfer (stored_after here.transfer here.taken) = image ∙ ap (λ y. laid old.image (front_of (channel old ch)) (done_by y)) r.runs_is ∙ ap (λ u. laid old.image u (stored_after here.transfer here.taken)) (front_is_law (channel old ch) r.transfer r.is) in
+          let free = free_others old s ch here h.sound.fits at.there r.runs_is in
+          sym (shown_ended ch old o s t here (record { channels = sym many; there = at.there; others = rest }) r.runs_is now laid_is (All-append (λ y. IsFree here.transfer y.transfer) (below old s ch) (above old s ch) free.0 free.1))
       | false ↦ λ unloaded.
-          let before : runs old s ch ≡ None = at.runs_is ∙ ap (running_in ch (channel old ch)) (taken-none q.channel unloaded) in
-          let nothing : o.image ≡ old.image = image ∙ ap (λ y. laid old.image (front_of (channel old ch)) (done_by y)) before ∙ laid-nothing old.image (front_of (channel old ch)) in
-          let same = running-same old o s t (sym many) (λ c l. elim (cases_eq c ch) [ inl e ↦ rw e (now ∙ sym before) | inr d ↦ sym (rest c d) ]) in
-          shown-both old o s t (sym nothing) (sym same)
+          let before : runs old s ch ≡ None = at.runs_is ∙ ap (running_in ch (channel old ch)) (taken_none q.channel unloaded) in
+          let nothing : o.image ≡ old.image = image ∙ ap (λ y. laid old.image (front_of (channel old ch)) (done_by y)) before ∙ laid_nothing old.image (front_of (channel old ch)) in
+          let same = running_same old o s t (sym many) (λ c l. elim (cases_eq c ch) [ inl e ↦ rw e (now ∙ sym before) | inr d ↦ sym (rest c d) ]) in
+          shown_both old o s t (sym nothing) (sym same)
     ] in
     h.shown ∙ by _ refl
 
 -- ---- terminate
 
-pub holds-terminated : (p : Parts) (ch spare count issued : ℕ) (q : Queue) (outcomes : List Outcome) → Holds p → ch < length p.queues → q ≡ slice_index_or p.queues ch q → let c = channel (object_of (view_of p)) ch in let done = done_on (view_of p) ch in outcomes ≡ aborted done (drop (length c.outcomes) c.submitted) → issued ≡ q.given → count ≡ unfinished c → Holds (changed p ch (queue_terminated q spare outcomes issued) p.memory p.events (p.history ++ Terminated ch done count ∷ []) p.steps)
-holds-terminated p ch spare count issued q outcomes h less read all_of many number =
+pub holds_terminated : (p : Parts) (ch spare count issued : ℕ) (q : Queue) (outcomes : List Outcome) → Holds p → ch < length p.queues → q ≡ slice_index_or p.queues ch q → let c = channel (object_of (view_of p)) ch in let done = done_on (view_of p) ch in outcomes ≡ aborted done (drop (length c.outcomes) c.submitted) → issued ≡ q.given → count ≡ unfinished c → Holds (changed p ch (queue_terminated q spare outcomes issued) p.memory p.events (p.history ++ Terminated ch done count ∷ []) p.steps)
+holds_terminated p ch spare count issued q outcomes h less read all_of many number =
     let v : View = view_of p in
     let o = object_of v in
     let c = channel o ch in
     let done = done_on v ch in
     let e = Terminated ch done count in
-    let at = holds-at p h ch q less read in
+    let at = holds_at p h ch q less read in
     let t = at.tied in
     let r = queue_terminated q spare outcomes issued in
     let x = schedule_of r in
@@ -89,12 +89,12 @@ holds-terminated p ch spare count issued q outcomes h less read all_of many numb
     let here : channel w ch ≡ with_all_aborted c done = get_or-set_same o.channels ch (with_all_aborted c done) empty_channel at.there in
     let other : (d : ℕ) → d ≢ ch → channel w d ≡ channel o d = λ d k. get_or-set_other o.channels ch d (with_all_aborted c done) empty_channel k in
     let all : length w.channels ≡ length o.channels = length-set o.channels ch (with_all_aborted c done) in
-    holds-changed p ch r p.memory p.events history p.steps w h less (record {
-      legal = IsLegal-append v.base p.history (e ∷ []) h.sound.legal ((at.there, number, stored-there v ch h.sound at.there), tt);
-      becomes = object_after-append v.base p.history (e ∷ []);
-      grows = λ k y. slice_get-push p.history e y k;
+    holds_changed p ch r p.memory p.events history p.steps w h less (record {
+      legal = IsLegal_append v.base p.history (e ∷ []) h.sound.legal ((at.there, number, stored_there v ch h.sound at.there), tt);
+      becomes = object_after_append v.base p.history (e ∷ []);
+      grows = λ k y. slice_get_push p.history e y k;
       fits = record { there = at.there; many = all; others = other; agrees = rw here (refl, refl); free = λ d l k. tt };
-      shown = shown-over p h ch q w x less read all other refl refl;
+      shown = shown_over p h ch q w x less read all other refl refl;
       events = h.events;
       marks = refl;
       tied = rw here (record {
@@ -102,7 +102,7 @@ holds-terminated p ch spare count issued q outcomes h less read all_of many numb
         given = t.given;
         many = t.many;
         first = t.first;
-        indexed = λ k l. let s = t.indexed k l in (s.0, slice_get-push p.history e _ _ s.1);
+        indexed = λ k l. let s = t.indexed k l in (s.0, slice_get_push p.history e _ _ s.1);
         outcomes = ap (λ l. l ++ outcomes) t.outcomes ∙ ap (λ l. c.outcomes ++ l) all_of;
         issued = many ∙ t.given;
         halted = refl;
@@ -113,22 +113,22 @@ holds-terminated p ch spare count issued q outcomes h less read all_of many numb
       machines = λ d i l k machine. machine;
     })
 
-pub view-terminated : (p : Parts) (ch spare count issued : ℕ) (q : Queue) (outcomes : List Outcome) → count ≡ unfinished (channel (object_of (view_of p)) ch) → view_of (changed p ch (queue_terminated q spare outcomes issued) p.memory p.events (p.history ++ Terminated ch (done_on (view_of p) ch) count ∷ []) p.steps) ≡ terminated (view_of p) ch
-view-terminated p ch spare count issued q outcomes number =
+pub view_terminated : (p : Parts) (ch spare count issued : ℕ) (q : Queue) (outcomes : List Outcome) → count ≡ unfinished (channel (object_of (view_of p)) ch) → view_of (changed p ch (queue_terminated q spare outcomes issued) p.memory p.events (p.history ++ Terminated ch (done_on (view_of p) ch) count ∷ []) p.steps) ≡ terminated (view_of p) ch
+view_terminated p ch spare count issued q outcomes number =
     let done = done_on (view_of p) ch in
-    view-changed p ch (queue_terminated q spare outcomes issued) p.memory p.events (p.history ++ Terminated ch done count ∷ []) p.steps
+    view_changed p ch (queue_terminated q spare outcomes issued) p.memory p.events (p.history ++ Terminated ch done count ∷ []) p.steps
     ∙ ap (λ n. changed_view p ch (queue_terminated q spare outcomes issued) (p.history ++ Terminated ch done n ∷ []) p.steps) number
 
 -- ---- a finish
 
-pub holds-finished : (p : Parts) (ch spare steps : ℕ) (result : TransResult) (q : Queue) (outcome : Outcome) (halted : Bool) → Holds p → ch < length p.queues → q ≡ slice_index_or p.queues ch q → let c = channel (object_of (view_of p)) ch in let done = done_on (view_of p) ch in outcome ≡ outcome_of result (front_of c) done → halted ≡ is_failure result → Allows (object_of (view_of p)) (Finished ch result done) → Holds (changed p ch (queue_finished q spare outcome halted) p.memory p.events (p.history ++ Finished ch result done ∷ []) steps)
-holds-finished p ch spare steps result q outcome halted h less read outcome_is fails allowed =
+pub holds_finished : (p : Parts) (ch spare steps : ℕ) (result : TransResult) (q : Queue) (outcome : Outcome) (halted : Bool) → Holds p → ch < length p.queues → q ≡ slice_index_or p.queues ch q → let c = channel (object_of (view_of p)) ch in let done = done_on (view_of p) ch in outcome ≡ outcome_of result (front_of c) done → halted ≡ is_failure result → Allows (object_of (view_of p)) (Finished ch result done) → Holds (changed p ch (queue_finished q spare outcome halted) p.memory p.events (p.history ++ Finished ch result done ∷ []) steps)
+holds_finished p ch spare steps result q outcome halted h less read outcome_is fails allowed =
     let v : View = view_of p in
     let o = object_of v in
     let c = channel o ch in
     let done = done_on v ch in
     let e = Finished ch result done in
-    let at = holds-at p h ch q less read in
+    let at = holds_at p h ch q less read in
     let t = at.tied in
     let r = queue_finished q spare outcome halted in
     let x = schedule_of r in
@@ -137,12 +137,12 @@ holds-finished p ch spare steps result q outcome halted h less read outcome_is f
     let here : channel w ch ≡ with_outcome c result done = get_or-set_same o.channels ch (with_outcome c result done) empty_channel at.there in
     let other : (d : ℕ) → d ≢ ch → channel w d ≡ channel o d = λ d k. get_or-set_other o.channels ch d (with_outcome c result done) empty_channel k in
     let all : length w.channels ≡ length o.channels = length-set o.channels ch (with_outcome c result done) in
-    holds-changed p ch r p.memory p.events history steps w h less (record {
-      legal = IsLegal-append v.base p.history (e ∷ []) h.sound.legal (allowed, tt);
-      becomes = object_after-append v.base p.history (e ∷ []);
-      grows = λ k y. slice_get-push p.history e y k;
+    holds_changed p ch r p.memory p.events history steps w h less (record {
+      legal = IsLegal_append v.base p.history (e ∷ []) h.sound.legal (allowed, tt);
+      becomes = object_after_append v.base p.history (e ∷ []);
+      grows = λ k y. slice_get_push p.history e y k;
       fits = record { there = at.there; many = all; others = other; agrees = rw here (refl, refl); free = λ d l k. tt };
-      shown = shown-over p h ch q w x less read all other refl refl;
+      shown = shown_over p h ch q w x less read all other refl refl;
       events = h.events;
       marks = refl;
       tied = rw here (record {
@@ -150,7 +150,7 @@ holds-finished p ch spare steps result q outcome halted h less read outcome_is f
         given = t.given;
         many = t.many;
         first = t.first;
-        indexed = λ k l. let s = t.indexed k l in (s.0, slice_get-push p.history e _ _ s.1);
+        indexed = λ k l. let s = t.indexed k l in (s.0, slice_get_push p.history e _ _ s.1);
         outcomes = ap (λ l. l ++ outcome ∷ []) t.outcomes ∙ ap (λ y. c.outcomes ++ y ∷ []) outcome_is;
         issued = t.issued;
         halted = fails;
@@ -163,43 +163,43 @@ holds-finished p ch spare steps result q outcome halted h less read outcome_is f
 
 -- ---- the outcomes of a terminate
 
-pub aborted-more : (done : ℕ) (ts : List Descriptor) (k : ℕ) → k < length ts → aborted done (take (k + 1) ts) ≡ aborted done (take k ts) ++ outcome_of Aborted (slice_index_or ts k no_transfer) (if k == 0 then done else 0) ∷ []
-aborted-more done [] k h = absurd (omega arith)
-aborted-more done (t ∷ ts) zero h = refl
-aborted-more done (t ∷ ts) (suc k) h =
+pub aborted_more : (done : ℕ) (ts : List Descriptor) (k : ℕ) → k < length ts → aborted done (take (k + 1) ts) ≡ aborted done (take k ts) ++ outcome_of Aborted (slice_index_or ts k no_transfer) (if k == 0 then done else 0) ∷ []
+aborted_more done [] k h = absurd (omega arith)
+aborted_more done (t ∷ ts) zero h = refl
+aborted_more done (t ∷ ts) (suc k) h =
     let f : Descriptor → Outcome = λ u. outcome_of Aborted u 0 in
     let e : (suc k == 0) ≡ false = ne_eqb (suc k) 0 (λ z. omega arith) in
     let more : map f (take (suc k) ts) ≡ map f (take k ts) ++ f (slice_index_or ts k no_transfer) ∷ [] = rw add-one at (map_more f ts k no_transfer (omega arith)) in
     rw (add-one, e) (ap (λ l. outcome_of Aborted t done ∷ l) more)
 
-same-test : (k n first : ℕ) → first + k ≡ n → (k == 0) ≡ (n == first)
-same-test zero n first e = sym (eq-eqb n first (omega arith))
-same-test (suc k) n first e = ne_eqb (suc k) 0 (λ z. omega arith) ∙ sym (ne_eqb n first (λ f. omega arith))
+same_test : (k n first : ℕ) → first + k ≡ n → (k == 0) ≡ (n == first)
+same_test zero n first e = sym (eq-eqb n first (omega arith))
+same_test (suc k) n first e = ne_eqb (suc k) 0 (λ z. omega arith) ∙ sym (ne_eqb n first (λ f. omega arith))
 
-pub aborted-step : (done : ℕ) (ts : List Descriptor) (first n stored residue : ℕ) (u : Descriptor) (list : List Outcome) → first ≤ n → n < length ts → list ≡ aborted done (take (n - first) (drop first ts)) → u ≡ slice_index_or ts n no_transfer → stored ≡ (if n == first then done else 0) → residue ≡ size_of u - stored → list ++ record { result = Aborted; residue = residue } ∷ [] ≡ aborted done (take (n + 1 - first) (drop first ts))
-aborted-step done ts first n stored residue u list low high so_far is part rest =
+pub aborted_step : (done : ℕ) (ts : List Descriptor) (first n stored residue : ℕ) (u : Descriptor) (list : List Outcome) → first ≤ n → n < length ts → list ≡ aborted done (take (n - first) (drop first ts)) → u ≡ slice_index_or ts n no_transfer → stored ≡ (if n == first then done else 0) → residue ≡ size_of u - stored → list ++ record { result = Aborted; residue = residue } ∷ [] ≡ aborted done (take (n + 1 - first) (drop first ts))
+aborted_step done ts first n stored residue u list low high so_far is part rest =
     let k = n - first in
     let less : k < length (drop first ts) = omega (arith, length-drop first ts) in
     let next : n + 1 - first ≡ k + 1 = omega arith in
     let back : first + k ≡ n = omega arith in
     let at : slice_index_or (drop first ts) k no_transfer ≡ u = get_or-drop first ts k no_transfer ∙ ap (λ i. slice_index_or ts i no_transfer) back ∙ sym is in
-    let test : (k == 0) ≡ (n == first) = same-test k n first back in
+    let test : (k == 0) ≡ (n == first) = same_test k n first back in
     let made : residue ≡ size_of u - (if k == 0 then done else 0) = rest ∙ ap (λ x. size_of u - x) (part ∙ ap (λ b. if b then done else 0) (sym test)) in
     ap (λ l. l ++ record { result = Aborted; residue = residue } ∷ []) so_far
     ∙ ap (λ r. aborted done (take k (drop first ts)) ++ record { result = Aborted; residue = r } ∷ []) made
     ∙ ap (λ x. aborted done (take k (drop first ts)) ++ outcome_of Aborted x (if k == 0 then done else 0) ∷ []) (sym at)
-    ∙ sym (aborted-more done (drop first ts) k less)
+    ∙ sym (aborted_more done (drop first ts) k less)
     ∙ ap (λ i. aborted done (take i (drop first ts))) (sym next)
 
-pub length-aborted : (done : ℕ) (ts : List Descriptor) → length (aborted done ts) ≡ length ts
-length-aborted done [] = refl
-length-aborted done (t ∷ ts) = ap suc (length-map ts _)
+pub length_aborted : (done : ℕ) (ts : List Descriptor) → length (aborted done ts) ≡ length ts
+length_aborted done [] = refl
+length_aborted done (t ∷ ts) = ap suc (length-map ts _)
 
 -- ---- the readings of what runs
 
 -- what its machine has stored
-pub stored-small : (p : Parts) → Holds p → (ch : ℕ) (q : Queue) → ch < length p.queues → q ≡ slice_index_or p.queues ch q → is_some q.channel.program ≡ true → (q.channel.stored ≤ most_transfer_bytes) × (q.channel.stored ≡ done_on (view_of p) ch)
-stored-small p h ch q less read loaded =
+pub stored_small : (p : Parts) → Holds p → (ch : ℕ) (q : Queue) → ch < length p.queues → q ≡ slice_index_or p.queues ch q → is_some q.channel.program ≡ true → (q.channel.stored ≤ most_transfer_bytes) × (q.channel.stored ≡ done_on (view_of p) ch)
+stored_small p h ch q less read loaded =
     let r = running p h ch q less read loaded in
     let stores = stored_is r.transfer r.rules in
     let is : q.channel.stored ≡ stored_after r.transfer q.channel.taken = r.machine.stored in

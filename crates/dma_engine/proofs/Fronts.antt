@@ -22,37 +22,37 @@ use Rattle.dma_engine.specs.Answer.{done_by, done_on}
 use Rattle.dma_engine.specs.inner.Due.{Finishes}
 use Rattle.dma_engine.specs.inner.Holds.{Parts, view_of}
 use Rattle.dma_engine.proofs.Queues.{front_where, runs_front}
-use Rattle.dma_engine.proofs.TransferRules.{Runs, ruled-front}
+use Rattle.dma_engine.proofs.TransferRules.{Runs, ruled_front}
 
 -- ---- truth values and marks
 
-pub and-false : (b : Bool) → (b && false) ≡ false
-and-false true = refl
-and-false false = refl
+pub and_false_law : (b : Bool) → (b && false) ≡ false
+and_false_law true = refl
+and_false_law false = refl
 
-still-zero : (w : Bool) (n : ℕ) → w ≡ true → (w && nat_lt 0 n) ≡ false → n ≡ 0
-still-zero true n h e = let z = ltb-false 0 n e in omega arith
-still-zero false n h e = absurd cc
+still_zero : (w : Bool) (n : ℕ) → w ≡ true → (w && nat_lt 0 n) ≡ false → n ≡ 0
+still_zero true n h e = let z = ltb-false 0 n e in omega arith
+still_zero false n h e = absurd cc
 
-at-last : (s : Bool) (n m : ℕ) → (s && n == m) ≡ true → n ≡ m
-at-last true n m h = eqb-true n m h
-at-last false n m h = absurd cc
+at_last_law : (s : Bool) (n m : ℕ) → (s && n == m) ≡ true → n ≡ m
+at_last_law true n m h = eqb-true n m h
+at_last_law false n m h = absurd cc
 
 either : (a b c : Bool) → (b ≡ true → c ≡ true) → (a || b) ≡ true → (a || c) ≡ true
 either true b c f h = refl
 either false b c f h = f h
 
-any-longer : (p : ℕ → Bool) (xs : List ℕ) (b c : ℕ) → b ≤ c → list_any p (take b xs) ≡ true → list_any p (take c xs) ≡ true
-any-longer p xs zero c l h = absurd (false≢true h)
-any-longer p xs (suc b) zero l h = absurd (omega arith)
-any-longer p [] (suc b) (suc c) l h = h
-any-longer p (x ∷ xs) (suc b) (suc c) l h =
-    let rest : list_any p (take b xs) ≡ true → list_any p (take c xs) ≡ true = any-longer p xs b c (omega arith) in
+any_longer : (p : ℕ → Bool) (xs : List ℕ) (b c : ℕ) → b ≤ c → list_any p (take b xs) ≡ true → list_any p (take c xs) ≡ true
+any_longer p xs zero c l h = absurd (false≢true h)
+any_longer p xs (suc b) zero l h = absurd (omega arith)
+any_longer p [] (suc b) (suc c) l h = h
+any_longer p (x ∷ xs) (suc b) (suc c) l h =
+    let rest : list_any p (take b xs) ≡ true → list_any p (take c xs) ≡ true = any_longer p xs b c (omega arith) in
     either (p x) (list_any p (take b xs)) (list_any p (take c xs)) rest h
 
-more-marked : (kind : MarkKind) (marks : MarkList) (xs : List ℕ) (b : ℕ) → b ≤ 256 → meets_mark kind marks (take b xs) ≡ true → meets_mark kind marks (take 256 xs) ≡ true
+more_marked : (kind : MarkKind) (marks : MarkList) (xs : List ℕ) (b : ℕ) → b ≤ 256 → meets_mark kind marks (take b xs) ≡ true → meets_mark kind marks (take 256 xs) ≡ true
 unfolding meets_mark
-more-marked kind marks xs b small h = any-longer _ xs b 256 small h
+more_marked kind marks xs b small h = any_longer _ xs b 256 small h
 
 -- ---- what is known of a front
 
@@ -67,16 +67,16 @@ pub record IsFront (c : ChannelState) (t : Descriptor) (n : ℕ) : Type 0 where
   pub rules : IsTransfer t
 
 -- what an engine's channel runs is such a front
-pub front-of : (p : Parts) (ch : ℕ) (q : Queue) (r : Runs p ch q) → IsFront (channel (object_of (view_of p)) ch) r.transfer q.channel.taken
-front-of p ch q r = record { is = r.is; issued = r.issued; goes = r.goes; within = r.within; passed = r.passed; signalled = r.signalled; rules = r.rules }
+pub front_of_law : (p : Parts) (ch : ℕ) (q : Queue) (r : Runs p ch q) → IsFront (channel (object_of (view_of p)) ch) r.transfer q.channel.taken
+front_of_law p ch q r = record { is = r.is; issued = r.issued; goes = r.goes; within = r.within; passed = r.passed; signalled = r.signalled; rules = r.rules }
 
 -- and so is what runs on a channel of a sound view
 pub record RunsAt (v : View) (ch n : ℕ) : Type 0 where
   pub transfer : Descriptor
   pub it : IsFront (channel (object_of v) ch) transfer n
 
-pub runs-at : (v : View) (ch n : ℕ) → IsSound v → ch < channels v → (schedule_at v ch).taken ≡ Some n → RunsAt v ch n
-runs-at v ch n h less taken =
+pub runs_at_law : (v : View) (ch n : ℕ) → IsSound v → ch < channels v → (schedule_at v ch).taken ≡ Some n → RunsAt v ch n
+runs_at_law v ch n h less taken =
     let c = channel (object_of v) ch in
     let agrees : Agrees c (Some n) = rw taken at (h.fits.each ch less) in
     let f = front_where c _ agrees.1 in
@@ -89,15 +89,15 @@ runs-at v ch n h less taken =
         within = f.holds.0;
         passed = f.holds.1;
         signalled = f.holds.2;
-        rules = (ruled-front v ch f.transfer h f.is).0;
+        rules = (ruled_front v ch f.transfer h f.is).0;
       };
     }
 
 -- ---- after one more instruction
 
 -- it has passed if it waits
-pub passed-next : (c : ChannelState) (t : Descriptor) (n : ℕ) → IsFront c t n → ((e : ℕ) (v : Bool) → member t n ≢ Wfe e v) → c.passed ≡ (is_some t.wait && nat_lt 0 (n + 1))
-passed-next c t n f other =
+pub passed_next : (c : ChannelState) (t : Descriptor) (n : ℕ) → IsFront c t n → ((e : ℕ) (v : Bool) → member t n ≢ Wfe e v) → c.passed ≡ (is_some t.wait && nat_lt 0 (n + 1))
+passed_next c t n f other =
     let shape = shape_is t f.rules in
     let by : (w : Option ℕ) → IfSome w (λ e. member t 0 ≡ Wfe e false) → (is_some w && nat_lt 0 n) ≡ (is_some w && nat_lt 0 (n + 1)) = λ w. elim w as (λ w. IfSome w (λ e. member t 0 ≡ Wfe e false) → (is_some w && nat_lt 0 n) ≡ (is_some w && nat_lt 0 (n + 1))) [
       | None ↦ λ _. refl
@@ -108,8 +108,8 @@ passed-next c t n f other =
     f.passed ∙ by t.wait shape.wait_first
 
 -- it hasn't signalled where it doesn't signal now
-pub signalled-next : (c : ChannelState) (t : Descriptor) (n : ℕ) → IsFront c t n → ((e : ℕ) → member t n ≢ Sev e) → n + 1 < cost t → c.signalled ≡ (is_some t.signal && n + 1 == cost t - 1)
-signalled-next c t n f other next =
+pub signalled_next : (c : ChannelState) (t : Descriptor) (n : ℕ) → IsFront c t n → ((e : ℕ) → member t n ≢ Sev e) → n + 1 < cost t → c.signalled ≡ (is_some t.signal && n + 1 == cost t - 1)
+signalled_next c t n f other next =
     let shape = shape_is t f.rules in
     let by : (w : Option ℕ) → IfSome w (λ e. (2 ≤ cost t) × (member t (cost t - 2) ≡ Sev e)) → (is_some w && n == cost t - 1) ≡ (is_some w && n + 1 == cost t - 1) = λ w. elim w as (λ w. IfSome w (λ e. (2 ≤ cost t) × (member t (cost t - 2) ≡ Sev e)) → (is_some w && n == cost t - 1) ≡ (is_some w && n + 1 == cost t - 1)) [
       | None ↦ λ _. refl
@@ -120,8 +120,8 @@ signalled-next c t n f other next =
     f.signalled ∙ by t.signal shape.signal_last
 
 -- one is left where it doesn't end now
-pub within-next : (c : ChannelState) (t : Descriptor) (n : ℕ) → IsFront c t n → member t n ≢ End → n + 1 < cost t
-within-next c t n f other = elim (cases_lt (n + 1) (cost t)) [
+pub within_next : (c : ChannelState) (t : Descriptor) (n : ℕ) → IsFront c t n → member t n ≢ End → n + 1 < cost t
+within_next c t n f other = elim (cases_lt (n + 1) (cost t)) [
   | inl less ↦ less
   | inr past ↦
       let last : n ≡ cost t - 1 = omega (arith, f.within, past) in
@@ -129,49 +129,49 @@ within-next c t n f other = elim (cases_lt (n + 1) (cost t)) [
 ]
 
 -- it hasn't signalled before the end
-pub not-signalled : (c : ChannelState) (t : Descriptor) (n : ℕ) → IsFront c t n → member t n ≢ End → c.signalled ≡ false
-not-signalled c t n f other =
+pub not_signalled : (c : ChannelState) (t : Descriptor) (n : ℕ) → IsFront c t n → member t n ≢ End → c.signalled ≡ false
+not_signalled c t n f other =
     f.signalled ∙ ap (λ b. is_some t.signal && b) (ne_eqb n (cost t - 1) (λ z. other (ap (member t) z ∙ (shape_is t f.rules).end_last)))
-    ∙ and-false (is_some t.signal)
+    ∙ and_false_law (is_some t.signal)
 
 -- ---- its end
 
 -- the result that the next instruction gives it may come
-pub finish-may : (v : View) (ch n : ℕ) (t : Descriptor) (how : TransResult) → IsFront (channel (object_of v) ch) t n → Finishes v how t n → Allows (object_of v) (Finished ch how (stored_after t n))
-finish-may v ch n t NoError f is =
+pub finish_may : (v : View) (ch n : ℕ) (t : Descriptor) (how : TransResult) → IsFront (channel (object_of v) ch) t n → Finishes v how t n → Allows (object_of v) (Finished ch how (stored_after t n))
+finish_may v ch n t NoError f is =
     let c = channel (object_of v) ch in
     let last : n + 1 ≡ cost t = (shape_is t f.rules).end_only n f.within is in
     let at_last : n ≡ cost t - 1 = omega arith in
     let not_wfe : (k : ℕ) (i : Bool) → member t n ≢ Wfe k i = λ k i g. let e = sym is ∙ g in absurd cc in
-    let passed : IsSome t.wait → c.passed ≡ true = λ w. passed-next c t n f not_wfe ∙ ap (λ b. b && nat_lt 0 (n + 1)) w ∙ lt-ltb 0 (n + 1) (omega arith) in
+    let passed : IsSome t.wait → c.passed ≡ true = λ w. passed_next c t n f not_wfe ∙ ap (λ b. b && nat_lt 0 (n + 1)) w ∙ lt-ltb 0 (n + 1) (omega arith) in
     let signalled : IsSome t.signal → c.signalled ≡ true = λ w. f.signalled ∙ ap (λ b. b && n == cost t - 1) w ∙ eq-eqb n (cost t - 1) at_last in
     (f.goes, rw f.issued (passed, signalled, ap (stored_after t) at_last ∙ (stored_is t f.rules).all))
-finish-may v ch n t ReadFailed f is =
+finish_may v ch n t ReadFailed f is =
     let c = channel (object_of v) ch in
     let load = (stored_is t f.rules).load n is.0 in
     let not_wfe : (k : ℕ) (i : Bool) → member t n ≢ Wfe k i = λ k i g. let e = sym is.0 ∙ g in absurd cc in
     let not_end : member t n ≢ End = λ g. let e = sym is.0 ∙ g in absurd cc in
-    let passed : IsSome t.wait → c.passed ≡ true = λ w. passed-next c t n f not_wfe ∙ ap (λ b. b && nat_lt 0 (n + 1)) w ∙ lt-ltb 0 (n + 1) (omega arith) in
-    let hit = more-marked Reading (object_of v).marks (drop (stored_after t n) (sources t)) (burst t n) load.1 is.1 in
-    (f.goes, rw f.issued (passed, not-signalled c t n f not_end, omega (arith, load.0, load.2), hit))
-finish-may v ch n t WriteFailed f is =
+    let passed : IsSome t.wait → c.passed ≡ true = λ w. passed_next c t n f not_wfe ∙ ap (λ b. b && nat_lt 0 (n + 1)) w ∙ lt-ltb 0 (n + 1) (omega arith) in
+    let hit = more_marked Reading (object_of v).marks (drop (stored_after t n) (sources t)) (burst t n) load.1 is.1 in
+    (f.goes, rw f.issued (passed, not_signalled c t n f not_end, omega (arith, load.0, load.2), hit))
+finish_may v ch n t WriteFailed f is =
     let c = channel (object_of v) ch in
     let store = (stored_is t f.rules).store n is.0 in
     let not_wfe : (k : ℕ) (i : Bool) → member t n ≢ Wfe k i = λ k i g. let e = sym is.0 ∙ g in absurd cc in
     let not_end : member t n ≢ End = λ g. let e = sym is.0 ∙ g in absurd cc in
-    let passed : IsSome t.wait → c.passed ≡ true = λ w. passed-next c t n f not_wfe ∙ ap (λ b. b && nat_lt 0 (n + 1)) w ∙ lt-ltb 0 (n + 1) (omega arith) in
-    let hit = more-marked Writing (object_of v).marks (drop (stored_after t n) (destinations t)) (burst t n) store.1 is.1 in
-    (f.goes, rw f.issued (passed, not-signalled c t n f not_end, omega (arith, store.0, store.2), hit))
-finish-may v ch n t Aborted f is = absurd is
+    let passed : IsSome t.wait → c.passed ≡ true = λ w. passed_next c t n f not_wfe ∙ ap (λ b. b && nat_lt 0 (n + 1)) w ∙ lt-ltb 0 (n + 1) (omega arith) in
+    let hit = more_marked Writing (object_of v).marks (drop (stored_after t n) (destinations t)) (burst t n) store.1 is.1 in
+    (f.goes, rw f.issued (passed, not_signalled c t n f not_end, omega (arith, store.0, store.2), hit))
+finish_may v ch n t Aborted f is = absurd is
 
 -- this many bytes may be stored when it is terminated
-pub stored-may : (c : ChannelState) (t : Descriptor) (n : ℕ) → IsFront c t n → CanHaveStored c (stored_after t n)
-stored-may c t n f =
+pub stored_may : (c : ChannelState) (t : Descriptor) (n : ℕ) → IsFront c t n → CanHaveStored c (stored_after t n)
+stored_may c t n f =
     let stores = stored_is t f.rules in
     let none : IsSome t.wait → c.passed ≡ false → stored_after t n ≡ 0 = λ w e.
-    let zero : n ≡ 0 = still-zero (is_some t.wait) n w (sym f.passed ∙ e) in ap (stored_after t) zero ∙ stores.none in
+    let zero : n ≡ 0 = still_zero (is_some t.wait) n w (sym f.passed ∙ e) in ap (stored_after t) zero ∙ stores.none in
     let whole : c.signalled ≡ true → stored_after t n ≡ size_of t = λ e.
-    let last : n ≡ cost t - 1 = at-last (is_some t.signal) n (cost t - 1) (sym f.signalled ∙ e) in ap (stored_after t) last ∙ stores.all in
+    let last : n ≡ cost t - 1 = at_last_law (is_some t.signal) n (cost t - 1) (sym f.signalled ∙ e) in ap (stored_after t) last ∙ stores.all in
     rw f.issued (stores.at_most n, λ e. absurd (true≢false (sym e ∙ f.goes)), none, whole)
 
 -- if nothing runs, nothing is stored
@@ -180,8 +180,8 @@ Fitting c done o =
     MatchOption o (done ≡ 0) (λ t.
     (done ≤ size_of t) × (c.halted ≡ true → done ≡ 0) × (IsSome t.wait → c.passed ≡ false → done ≡ 0) × (c.signalled ≡ true → done ≡ size_of t))
 
-nothing-stored : (c : ChannelState) → c.signalled ≡ false → CanHaveStored c 0
-nothing-stored c h =
+nothing_stored : (c : ChannelState) → c.signalled ≡ false → CanHaveStored c 0
+nothing_stored c h =
     let by : (o : Option Descriptor) → Fitting c 0 o = λ o. elim o as (λ o. Fitting c 0 o) [
       | None ↦ refl
       | Some t ↦ (omega arith, λ _. refl, λ _ _. refl, λ e. absurd (true≢false (sym e ∙ h)))
@@ -189,17 +189,17 @@ nothing-stored c h =
     by (issued_front c)
 
 -- how many bytes of the front are stored when its channel is terminated
-pub stored-there : (v : View) (ch : ℕ) → IsSound v → ch < channels v → CanHaveStored (channel (object_of v) ch) (done_on v ch)
-stored-there v ch h less =
+pub stored_there : (v : View) (ch : ℕ) → IsSound v → ch < channels v → CanHaveStored (channel (object_of v) ch) (done_on v ch)
+stored_there v ch h less =
     let c = channel (object_of v) ch in
     let by : (x : Option ℕ) → (schedule_at v ch).taken ≡ x → CanHaveStored c (done_on v ch) = λ x. elim x as (λ x. (schedule_at v ch).taken ≡ x → CanHaveStored c (done_on v ch)) [
       | None ↦ λ e.
           let agrees : Agrees c None = rw e at (h.fits.each ch less) in
           let none : done_on v ch ≡ 0 = ap (λ x. done_by (running_in ch c x)) e in
-          subst (CanHaveStored c) (sym none) (nothing-stored c agrees.1)
+          subst (CanHaveStored c) (sym none) (nothing_stored c agrees.1)
       | Some n ↦ λ e.
-          let r = runs-at v ch n h less e in
+          let r = runs_at_law v ch n h less e in
           let some : done_on v ch ≡ stored_after r.transfer n = ap (λ x. done_by (running_in ch c x)) e ∙ ap done_by (runs_front ch c r.transfer n r.it.is) in
-          subst (CanHaveStored c) (sym some) (stored-may c r.transfer n r.it)
+          subst (CanHaveStored c) (sym some) (stored_may c r.transfer n r.it)
     ] in
     by _ refl

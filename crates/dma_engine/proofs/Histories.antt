@@ -4,10 +4,10 @@ use Rattle.dma_engine.specs.declared.entry.Entry.{Entry}
 use Rattle.dma_engine.specs.Object.{Object, after}
 use Rattle.dma_engine.specs.History.{object_after, IsLegal}
 
-pub object_after-append : (o : Object) (h more : List Entry) → object_after o (h ++ more) ≡ object_after (object_after o h) more
-object_after-append o [] more = refl
-object_after-append o (e ∷ es) more = object_after-append (after o e) es more
+pub object_after_append : (o : Object) (h more : List Entry) → object_after o (h ++ more) ≡ object_after (object_after o h) more
+object_after_append o [] more = refl
+object_after_append o (e ∷ es) more = object_after_append (after o e) es more
 
-pub IsLegal-append : (o : Object) (h more : List Entry) → IsLegal o h → IsLegal (object_after o h) more → IsLegal o (h ++ more)
-IsLegal-append o [] more legal new = new
-IsLegal-append o (e ∷ es) more legal new = (legal.0, IsLegal-append (after o e) es more legal.1 new)
+pub IsLegal_append : (o : Object) (h more : List Entry) → IsLegal o h → IsLegal (object_after o h) more → IsLegal o (h ++ more)
+IsLegal_append o [] more legal new = new
+IsLegal_append o (e ∷ es) more legal new = (legal.0, IsLegal_append (after o e) es more legal.1 new)

@@ -11,7 +11,7 @@ use Rattle.dma_engine.specs.Answer.{answer, reply_of}
 use Rattle.dma_engine.specs.Room.{IsIdle}
 use Rattle.dma_engine.specs.View.{View}
 use Rattle.dma_engine.specs.Turn.{Stepped, turn}
-use Rattle.dma_engine.proofs.Turns.{turn-cases}
+use Rattle.dma_engine.proofs.Turns.{turn_cases}
 
 -- ---- an idle answer, by its reply
 
@@ -21,24 +21,24 @@ is_idle (Turned Moved) = false
 is_idle (Turned (Finished cookie result residue)) = false
 is_idle _ = true
 
-idle-reply : (r : Result Turn EngineFault) → IsIdle r → is_idle (reply_of Turned r) ≡ true
-idle-reply (Err fault) idle = refl
-idle-reply (Ok Nothing) idle = refl
-idle-reply (Ok (Held ch cookie)) idle = refl
-idle-reply (Ok (Started cookie)) idle = absurd idle
-idle-reply (Ok Moved) idle = absurd idle
-idle-reply (Ok (Waiting event)) idle = refl
-idle-reply (Ok Paused) idle = refl
-idle-reply (Ok Halted) idle = refl
-idle-reply (Ok (Finished cookie result residue)) idle = absurd idle
+idle_reply : (r : Result Turn EngineFault) → IsIdle r → is_idle (reply_of Turned r) ≡ true
+idle_reply (Err fault) idle = refl
+idle_reply (Ok Nothing) idle = refl
+idle_reply (Ok (Held ch cookie)) idle = refl
+idle_reply (Ok (Started cookie)) idle = absurd idle
+idle_reply (Ok Moved) idle = absurd idle
+idle_reply (Ok (Waiting event)) idle = refl
+idle_reply (Ok Paused) idle = refl
+idle_reply (Ok Halted) idle = refl
+idle_reply (Ok (Finished cookie result residue)) idle = absurd idle
 
 -- ---- the table of cases
 
 abbrev Stays : View → Stepped → Type 0
 Stays v x = is_idle (reply_of Turned x.0) ≡ true → x.1 ≡ v
 
-turn-stays : (v : View) (ch : ℕ) → Stays v (turn v ch)
-turn-stays v ch = turn-cases v ch (Stays v) (record {
+turn_stays_law : (v : View) (ch : ℕ) → Stays v (turn v ch)
+turn_stays_law v ch = turn_cases v ch (Stays v) (record {
   idle = (λ _. refl, λ _. refl, λ _. refl, λ _. refl, λ _. refl, λ _ _. refl, λ _ _. refl);
   starts = λ _ _ is. absurd cc;
   moves = λ _ _ is. absurd cc;
@@ -50,4 +50,4 @@ turn-stays v ch = turn-cases v ch (Stays v) (record {
 -- the view after such an answer
 pub idle_steps_stay : (v w : View) (ch : ℕ) (r : Result Turn EngineFault) → IsIdle r → (reply_of Turned r, w) ≡ answer v (Step ch) → w ≡ v
 idle_steps_stay v w ch r idle is =
-    ap (λ (a : Reply × View). a.1) is ∙ turn-stays v ch (ap is_idle (sym (ap (λ (a : Reply × View). a.0) is)) ∙ idle-reply r idle)
+    ap (λ (a : Reply × View). a.1) is ∙ turn_stays_law v ch (ap is_idle (sym (ap (λ (a : Reply × View). a.0) is)) ∙ idle_reply r idle)

@@ -17,7 +17,7 @@ use Rattle.dma_engine.specs.View.{View, RunningTransfer, object_of, channels, si
 use Rattle.dma_engine.specs.Turn.{Stepped, turn, with_entry}
 use Rattle.dma_engine.specs.Answer.{CallAnswers, AreAnswers, answer, answers, busy, cause, first_running, reply_of, unless, write_fault, read_fault, submit_fault, channel_fault, mark_fault, raise_fault, checkpoint_fault}
 use Rattle.dma_engine.specs.Laws.{AnswersOne, AnswersAppend, AnswersSplit, AnswerIsOne, AnswersAreAnswers, AnswerUnlessNoMemory, AnswersUnlessNoMemory}
-use Rattle.dma_engine.proofs.Turns.{answer-is, turn-cases}
+use Rattle.dma_engine.proofs.Turns.{answer_is, turn_cases}
 
 -- ---- calls in a row
 
@@ -45,61 +45,61 @@ IsOther (Refused NoMemory) = ⊥
 IsOther reply = Unit {0}
 
 -- an answer other than that is one by its definition
-by-answer : (v w : View) (call : Call) (reply : Reply) → IsOther reply → (reply, w) ≡ answer v call → CallAnswers v call reply w
-by-answer v w call Done o is = is
-by-answer v w call (Bytes b) o is = is
-by-answer v w call (Cookie n) o is = is
-by-answer v w call (Count n) o is = is
-by-answer v w call (Turned t) o is = is
-by-answer v w call (State s) o is = is
-by-answer v w call (Resulted x) o is = is
-by-answer v w call (Refused NoMemory) o is = absurd o
-by-answer v w call (Refused OutOfMemoryRange) o is = is
-by-answer v w call (Refused (Busy ch cookie)) o is = is
-by-answer v w call (Refused (Running ch cookie)) o is = is
-by-answer v w call (Refused NoChannel) o is = is
-by-answer v w call (Refused CookiesSpent) o is = is
-by-answer v w call (Refused StepsSpent) o is = is
-by-answer v w call (Refused BadEvent) o is = is
-by-answer v w call (Refused BadRange) o is = is
+by_answer_law : (v w : View) (call : Call) (reply : Reply) → IsOther reply → (reply, w) ≡ answer v call → CallAnswers v call reply w
+by_answer_law v w call Done o is = is
+by_answer_law v w call (Bytes b) o is = is
+by_answer_law v w call (Cookie n) o is = is
+by_answer_law v w call (Count n) o is = is
+by_answer_law v w call (Turned t) o is = is
+by_answer_law v w call (State s) o is = is
+by_answer_law v w call (Resulted x) o is = is
+by_answer_law v w call (Refused NoMemory) o is = absurd o
+by_answer_law v w call (Refused OutOfMemoryRange) o is = is
+by_answer_law v w call (Refused (Busy ch cookie)) o is = is
+by_answer_law v w call (Refused (Running ch cookie)) o is = is
+by_answer_law v w call (Refused NoChannel) o is = is
+by_answer_law v w call (Refused CookiesSpent) o is = is
+by_answer_law v w call (Refused StepsSpent) o is = is
+by_answer_law v w call (Refused BadEvent) o is = is
+by_answer_law v w call (Refused BadRange) o is = is
 
 -- no cause of a refusal is `NoMemory`
 abbrev IsCause : Option EngineFault → Type 0
 IsCause None = Unit {0}
 IsCause (Some fault) = IsOther (Refused fault)
 
-one-cause : (b : Bool) (fault : EngineFault) (others : Option EngineFault) → IsOther (Refused fault) → IsCause others → IsCause (cause b fault others)
-one-cause true fault others h g = h
-one-cause false fault others h g = g
+one_cause : (b : Bool) (fault : EngineFault) (others : Option EngineFault) → IsOther (Refused fault) → IsCause others → IsCause (cause b fault others)
+one_cause true fault others h g = h
+one_cause false fault others h g = g
 
-busy-cause : (x : Option RunningTransfer) → IsCause (busy x)
-busy-cause None = tt
-busy-cause (Some r) = tt
+busy_cause : (x : Option RunningTransfer) → IsCause (busy x)
+busy_cause None = tt
+busy_cause (Some r) = tt
 
-running-cause : (x : Option RunningTransfer) → IsCause (option_map (λ (r : RunningTransfer). Running r.ch r.cookie) x)
-running-cause None = tt
-running-cause (Some r) = tt
+running_cause : (x : Option RunningTransfer) → IsCause (option_map (λ (r : RunningTransfer). Running r.ch r.cookie) x)
+running_cause None = tt
+running_cause (Some r) = tt
 
-channel-cause : (v : View) (ch : ℕ) → IsCause (channel_fault v ch)
-channel-cause v ch = one-cause (nat_le (channels v) ch) NoChannel None tt tt
+channel_cause : (v : View) (ch : ℕ) → IsCause (channel_fault v ch)
+channel_cause v ch = one_cause (nat_le (channels v) ch) NoChannel None tt tt
 
-submit-cause : (v : View) (ch : ℕ) (t : Descriptor) → IsCause (submit_fault v ch t)
-submit-cause v ch t =
-    one-cause (nat_le (channels v) ch) NoChannel _ tt
-    (one-cause (not (lies_below t (size v))) OutOfMemoryRange _ tt
-    (one-cause (nat_le last_cookie (used (channel (object_of v) ch))) CookiesSpent None tt tt))
+submit_cause : (v : View) (ch : ℕ) (t : Descriptor) → IsCause (submit_fault v ch t)
+submit_cause v ch t =
+    one_cause (nat_le (channels v) ch) NoChannel _ tt
+    (one_cause (not (lies_below t (size v))) OutOfMemoryRange _ tt
+    (one_cause (nat_le last_cookie (used (channel (object_of v) ch))) CookiesSpent None tt tt))
 
-unless-other : (v : View) (f : Option EngineFault) (x : Reply × View) → IsCause f → IsOther x.0 → IsOther (unless f v x).0
-unless-other v None x f h = h
-unless-other v (Some fault) x f h = f
+unless_other : (v : View) (f : Option EngineFault) (x : Reply × View) → IsCause f → IsOther x.0 → IsOther (unless f v x).0
+unless_other v None x f h = h
+unless_other v (Some fault) x f h = f
 
 -- ---- nor is the answer of a step
 
 abbrev IsOtherStep : Stepped → Type 0
 IsOtherStep x = IsOther (reply_of Turned x.0)
 
-turn-other : (v : View) (ch : ℕ) → IsOtherStep (turn v ch)
-turn-other v ch = turn-cases v ch IsOtherStep (record {
+turn_other : (v : View) (ch : ℕ) → IsOtherStep (turn v ch)
+turn_other v ch = turn_cases v ch IsOtherStep (record {
   idle = (tt, tt, tt, tt, tt, λ _. tt, λ _. tt);
   starts = λ _ _. tt;
   moves = λ _ _. tt;
@@ -108,31 +108,31 @@ turn-other v ch = turn-cases v ch IsOtherStep (record {
   ends = λ _ _ _ _. tt;
 })
 
-answer-other : (v : View) (call : Call) → IsOther (answer v call).0
-answer-other v (Write addr bytes) =
-    unless-other v (write_fault v addr (length bytes)) (Done, with_entry v (Wrote addr bytes)) (one-cause (nat_lt (size v) (addr + length bytes)) OutOfMemoryRange _ tt (busy-cause _)) tt
-answer-other v (Read addr len) =
+answer_other : (v : View) (call : Call) → IsOther (answer v call).0
+answer_other v (Write addr bytes) =
+    unless_other v (write_fault v addr (length bytes)) (Done, with_entry v (Wrote addr bytes)) (one_cause (nat_lt (size v) (addr + length bytes)) OutOfMemoryRange _ tt (busy_cause _)) tt
+answer_other v (Read addr len) =
     let bytes = take len (drop addr (object_of v).image) in
-    unless-other v (read_fault v addr len) (Bytes bytes, with_entry v (ReadBack addr bytes)) (one-cause (nat_lt (size v) (addr + len)) OutOfMemoryRange _ tt (busy-cause _)) tt
-answer-other v (Submit ch t) =
+    unless_other v (read_fault v addr len) (Bytes bytes, with_entry v (ReadBack addr bytes)) (one_cause (nat_lt (size v) (addr + len)) OutOfMemoryRange _ tt (busy_cause _)) tt
+answer_other v (Submit ch t) =
     let cookie = used (channel (object_of v) ch) + 1 in
-    unless-other v (submit_fault v ch t) (Cookie cookie, with_entry v (Submitted ch t cookie)) (submit-cause v ch t) tt
-answer-other v (Issue ch) = unless-other v (channel_fault v ch) _ (channel-cause v ch) tt
-answer-other v (Pause ch) = unless-other v (channel_fault v ch) _ (channel-cause v ch) tt
-answer-other v (Resume ch) = unless-other v (channel_fault v ch) _ (channel-cause v ch) tt
-answer-other v (Terminate ch) = unless-other v (channel_fault v ch) _ (channel-cause v ch) tt
-answer-other v (Step ch) = turn-other v ch
-answer-other v (Status ch cookie) = tt
-answer-other v (ResultOf ch cookie) = tt
-answer-other v (Mark kind s) =
-    unless-other v (mark_fault s) (Done, with_entry v (Marked kind s)) (one-cause (s.len == 0 || nat_lt 4294967296 (s.addr + s.len)) BadRange None tt tt) tt
-answer-other v Unmark = tt
-answer-other v (Raise event) =
-    unless-other v (raise_fault event) (Done, with_entry v (Signalled Host event)) (one-cause (nat_lt 31 event) BadEvent None tt tt) tt
-answer-other v Checkpoint = unless-other v (checkpoint_fault v) _ (running-cause (first_running v (λ _. true))) tt
+    unless_other v (submit_fault v ch t) (Cookie cookie, with_entry v (Submitted ch t cookie)) (submit_cause v ch t) tt
+answer_other v (Issue ch) = unless_other v (channel_fault v ch) _ (channel_cause v ch) tt
+answer_other v (Pause ch) = unless_other v (channel_fault v ch) _ (channel_cause v ch) tt
+answer_other v (Resume ch) = unless_other v (channel_fault v ch) _ (channel_cause v ch) tt
+answer_other v (Terminate ch) = unless_other v (channel_fault v ch) _ (channel_cause v ch) tt
+answer_other v (Step ch) = turn_other v ch
+answer_other v (Status ch cookie) = tt
+answer_other v (ResultOf ch cookie) = tt
+answer_other v (Mark kind s) =
+    unless_other v (mark_fault s) (Done, with_entry v (Marked kind s)) (one_cause (s.len == 0 || nat_lt 4294967296 (s.addr + s.len)) BadRange None tt tt) tt
+answer_other v Unmark = tt
+answer_other v (Raise event) =
+    unless_other v (raise_fault event) (Done, with_entry v (Signalled Host event)) (one_cause (nat_lt 31 event) BadEvent None tt tt) tt
+answer_other v Checkpoint = unless_other v (checkpoint_fault v) _ (running_cause (first_running v (λ _. true))) tt
 
 pub answer_is_one : AnswerIsOne
-answer_is_one v call = by-answer v (answer v call).1 call (answer v call).0 (answer-other v call) refl
+answer_is_one v call = by_answer_law v (answer v call).1 call (answer v call).0 (answer_other v call) refl
 
 pub answers_are_answers : AnswersAreAnswers
 answers_are_answers v [] = refl
@@ -141,7 +141,7 @@ answers_are_answers v (c ∷ cs) = ((answer v c).1, answer_is_one v c, answers_a
 -- ---- answers of which none is out of memory
 
 pub answer_unless_no_memory : AnswerUnlessNoMemory
-answer_unless_no_memory v w call reply n h = elim (answer-is v w call reply h) [ inl none ↦ absurd (n none.0) | inr is ↦ is ]
+answer_unless_no_memory v w call reply n h = elim (answer_is v w call reply h) [ inl none ↦ absurd (n none.0) | inr is ↦ is ]
 
 pub answers_unless_no_memory : AnswersUnlessNoMemory
 answers_unless_no_memory v w [] [] all h = ap (λ (x : View). ([], x)) h

@@ -28,53 +28,53 @@ use Rattle.dma_engine.specs.View.{View, channels, object_of, schedule_at}
 use Rattle.dma_engine.specs.inner.Accesses.{named}
 use Rattle.dma_engine.specs.inner.Due.{Finishes, IsAny, IsDue, MayStart, failure_of}
 use Rattle.dma_engine.specs.inner.Holds.{Holds, Parts, view_of}
-use Rattle.dma_engine.proofs.Entries.{taken-some}
-use Rattle.dma_engine.proofs.Fronts.{front-of, not-signalled}
-use Rattle.dma_engine.proofs.InstructionAnswers.{failed, only-so, went_on}
+use Rattle.dma_engine.proofs.Entries.{taken_some}
+use Rattle.dma_engine.proofs.Fronts.{front_of_law, not_signalled}
+use Rattle.dma_engine.proofs.InstructionAnswers.{failed, only_so, went_on}
 use Rattle.dma_engine.proofs.InstructionSteps.{shared}
-use Rattle.dma_engine.proofs.Queues.{holds-at}
-use Rattle.dma_engine.proofs.Starts.{held-answers, way-clear}
-use Rattle.dma_engine.proofs.StepCases.{Due, GoesOn, finish-turn, make-due, plain-turn, start-turn}
+use Rattle.dma_engine.proofs.Queues.{holds_at}
+use Rattle.dma_engine.proofs.Starts.{held_answers, way_clear}
+use Rattle.dma_engine.proofs.StepCases.{Due, GoesOn, finish_turn, make_due, plain_turn, start_turn_law}
 use Rattle.dma_engine.proofs.TransferRules.{Runs, running}
 
 -- the turn that an answer names
-turned-is : (x : Turn) (r : Result Turn EngineFault) → Turned x ≡ reply_of (λ t. Turned t) r → Ok x ≡ r
-turned-is x (Ok y) h = cc
-turned-is x (Err f) h = absurd cc
+turned_is_law : (x : Turn) (r : Result Turn EngineFault) → Turned x ≡ reply_of (λ t. Turned t) r → Ok x ≡ r
+turned_is_law x (Ok y) h = cc
+turned_is_law x (Err f) h = absurd cc
 
-pub turn-from : (v w : View) (ch : ℕ) (x : Turn) → CallAnswers v (Step ch) (Turned x) w → Ok x ≡ (turn v ch).0
-turn-from v w ch x h = turned-is x (turn v ch).0 (ap (λ (a : Reply × View). a.0) h)
+pub turn_from : (v w : View) (ch : ℕ) (x : Turn) → CallAnswers v (Step ch) (Turned x) w → Ok x ≡ (turn v ch).0
+turn_from v w ch x h = turned_is_law x (turn v ch).0 (ap (λ (a : Reply × View). a.0) h)
 
 -- ---- a start
 
-pub held-turn : (v : View) (ch other cookie : ℕ) (t : Descriptor) → MayStart v ch → issued_front (channel (object_of v) ch) ≡ Some t → Some (other, cookie) ≡ named (first_conflicting v t) → Ok (Held other cookie) ≡ (turn v ch).0
-held-turn v ch other cookie t may some held =
-    turn-from v v ch (Held other cookie) (held-answers v ch other cookie t may some held)
+pub held_turn : (v : View) (ch other cookie : ℕ) (t : Descriptor) → MayStart v ch → issued_front (channel (object_of v) ch) ≡ Some t → Some (other, cookie) ≡ named (first_conflicting v t) → Ok (Held other cookie) ≡ (turn v ch).0
+held_turn v ch other cookie t may some held =
+    turn_from v v ch (Held other cookie) (held_answers v ch other cookie t may some held)
 
-pub started-turn : (v : View) (ch cookie : ℕ) (t : Descriptor) → MayStart v ch → issued_front (channel (object_of v) ch) ≡ Some t → None ≡ named (first_conflicting v t) → cookie ≡ finished (channel (object_of v) ch) + 1 → Ok (Started cookie) ≡ (turn v ch).0
-started-turn v ch cookie t may some none number =
+pub started_turn : (v : View) (ch cookie : ℕ) (t : Descriptor) → MayStart v ch → issued_front (channel (object_of v) ch) ≡ Some t → None ≡ named (first_conflicting v t) → cookie ≡ finished (channel (object_of v) ch) + 1 → Ok (Started cookie) ≡ (turn v ch).0
+started_turn v ch cookie t may some none number =
     ap (λ k. Ok (Started k)) number
-    ∙ sym (ap (λ (s : Stepped). s.0) (start-turn v ch t may some ∙ ap (start_turn v ch) (way-clear v t none)))
+    ∙ sym (ap (λ (s : Stepped). s.0) (start_turn_law v ch t may some ∙ ap (start_turn v ch) (way_clear v t none)))
 
 -- ---- an instruction that neither waits, signals nor ends
 
-fault-is : (x : ChanTurn) (kind : FaultKind) → Some kind ≡ fault_in x → x ≡ turns.Fault kind
-fault-is turns.Moved kind h = absurd cc
-fault-is (turns.Waiting e) kind h = absurd cc
-fault-is turns.Ended kind h = absurd cc
-fault-is (turns.Fault k) kind h = cc
+fault_is_law : (x : ChanTurn) (kind : FaultKind) → Some kind ≡ fault_in x → x ≡ turns.Fault kind
+fault_is_law turns.Moved kind h = absurd cc
+fault_is_law (turns.Waiting e) kind h = absurd cc
+fault_is_law turns.Ended kind h = absurd cc
+fault_is_law (turns.Fault k) kind h = cc
 
-pub fails-next : (p : Parts) (ch : ℕ) (q : Queue) (kind : FaultKind) → Holds p → (d : Due p ch q GoesOn) → Some kind ≡ fault_in (step_at d.it.transfer q.channel.taken p.marks (shared p)).0 → Finishes (view_of p) (failure_of kind) d.it.transfer q.channel.taken
-fails-next p ch q kind h d is = failed p d.it.transfer q.channel.taken kind h d.holds (fault-is _ kind is)
+pub fails_next : (p : Parts) (ch : ℕ) (q : Queue) (kind : FaultKind) → Holds p → (d : Due p ch q GoesOn) → Some kind ≡ fault_in (step_at d.it.transfer q.channel.taken p.marks (shared p)).0 → Finishes (view_of p) (failure_of kind) d.it.transfer q.channel.taken
+fails_next p ch q kind h d is = failed p d.it.transfer q.channel.taken kind h d.holds (fault_is_law _ kind is)
 
-pub moves-next : (p : Parts) (ch : ℕ) (q : Queue) → Holds p → (d : Due p ch q GoesOn) → None ≡ fault_in (step_at d.it.transfer q.channel.taken p.marks (shared p)).0 → (turn (view_of p) ch).0 ≡ Ok Moved
-moves-next p ch q h d is =
+pub moves_next : (p : Parts) (ch : ℕ) (q : Queue) → Holds p → (d : Due p ch q GoesOn) → None ≡ fault_in (step_at d.it.transfer q.channel.taken p.marks (shared p)).0 → (turn (view_of p) ch).0 ≡ Ok Moved
+moves_next p ch q h d is =
     let v : View = view_of p in
     let n = q.channel.taken in
     let t = d.it.transfer in
     let goes : (step_at t n p.marks (shared p)).0 ≡ turns.Moved → (turn v ch).0 ≡ Ok Moved = λ moved.
-    let w = went_on p ch q h d.less d.read d moved in ap (λ (s : Stepped). s.0) (d.turn_is ∙ plain-turn v ch n t d.holds w.clear) in
-    elim (only-so p t n d.holds) [
+    let w = went_on p ch q h d.less d.read d moved in ap (λ (s : Stepped). s.0) (d.turn_is ∙ plain_turn v ch n t d.holds w.clear) in
+    elim (only_so p t n d.holds) [
       | inl moved ↦ goes moved
       | inr which ↦ elim which [
         | inl read ↦ let never = is ∙ ap fault_in read in absurd cc
@@ -84,8 +84,8 @@ moves-next p ch q h d is =
 
 -- ---- an end
 
-pub finished-turn : (p : Parts) (ch cookie residue : ℕ) (how : TransResult) (q : Queue) (u : Descriptor) → (d : Due p ch q (Finishes (view_of p) how)) → issued_front (channel (object_of (view_of p)) ch) ≡ Some u → cookie ≡ finished (channel (object_of (view_of p)) ch) + 1 → residue ≡ size_of u - done_on (view_of p) ch → Ok (Finished cookie how residue) ≡ (turn (view_of p) ch).0
-finished-turn p ch cookie residue how q u d some number rest =
+pub finished_turn : (p : Parts) (ch cookie residue : ℕ) (how : TransResult) (q : Queue) (u : Descriptor) → (d : Due p ch q (Finishes (view_of p) how)) → issued_front (channel (object_of (view_of p)) ch) ≡ Some u → cookie ≡ finished (channel (object_of (view_of p)) ch) + 1 → residue ≡ size_of u - done_on (view_of p) ch → Ok (Finished cookie how residue) ≡ (turn (view_of p) ch).0
+finished_turn p ch cookie residue how q u d some number rest =
     let v : View = view_of p in
     let t = d.it.transfer in
     let n = q.channel.taken in
@@ -93,36 +93,36 @@ finished-turn p ch cookie residue how q u d some number rest =
     let same : u ≡ t = sym (ap (λ o. unwrap_or o u) (sym d.it.issued ∙ some)) in
     let left : residue ≡ size_of t - stored_after t n = rest ∙ ap (λ x. size_of x - done_on v ch) same ∙ ap (λ k. size_of t - k) done in
     ap (λ k. Ok (Finished k how residue)) number ∙ ap (λ k. Ok (Finished (front_cookie v ch) how k)) left
-    ∙ sym (ap (λ (s : Stepped). s.0) (d.turn_is ∙ finish-turn v ch n t how d.holds))
+    ∙ sym (ap (λ (s : Stepped). s.0) (d.turn_is ∙ finish_turn v ch n t how d.holds))
 
 -- ---- the end of the step count
 
-pub spent-turn : (p : Parts) → Holds p → (ch : ℕ) (q : Queue) → ch < length p.queues → q ≡ slice_index_or p.queues ch q → q.paused ≡ false → is_some q.channel.program ≡ true → p.steps < 2 ^ 64 → (IsDue (view_of p) ch IsAny → ⊥) → (turn (view_of p) ch).0 ≡ Err StepsSpent
-spent-turn p h ch q less read goes loaded few none =
+pub spent_turn : (p : Parts) → Holds p → (ch : ℕ) (q : Queue) → ch < length p.queues → q ≡ slice_index_or p.queues ch q → q.paused ≡ false → is_some q.channel.program ≡ true → p.steps < 2 ^ 64 → (IsDue (view_of p) ch IsAny → ⊥) → (turn (view_of p) ch).0 ≡ Err StepsSpent
+spent_turn p h ch q less read goes loaded few none =
     let v : View = view_of p in
-    let at = holds-at p h ch q less read in
+    let at = holds_at p h ch q less read in
     let r = running p h ch q less read loaded in
     let e1 : nat_le (channels v) ch ≡ false = lt-leb _ _ at.there in
     let e2 : (schedule_at v ch).paused ≡ false = ap (λ x. x.paused) at.schedule_is ∙ goes in
-    let e5 : (schedule_at v ch).taken ≡ Some q.channel.taken = ap (λ x. x.taken) at.schedule_is ∙ taken-some q.channel loaded in
-    let past : p.steps < last_step → ⊥ = λ less_steps. none (make-due p h ch q IsAny less read goes less_steps r tt) in
+    let e5 : (schedule_at v ch).taken ≡ Some q.channel.taken = ap (λ x. x.taken) at.schedule_is ∙ taken_some q.channel loaded in
+    let past : p.steps < last_step → ⊥ = λ less_steps. none (make_due p h ch q IsAny less read goes less_steps r tt) in
     let e6 : (v.steps == last_step) ≡ true = eq-eqb v.steps last_step (omega (arith, few, past)) in
     let is : turn v ch ≡ (Err StepsSpent, v) = rw (e1, r.goes, e2, r.issued, e5, e6) refl in
     ap (λ (s : Stepped). s.0) is
 
 -- ---- whether a front has signalled
 
-and-true : (b : Bool) → (b && true) ≡ b
-and-true true = refl
-and-true false = refl
+and_true : (b : Bool) → (b && true) ≡ b
+and_true true = refl
+and_true false = refl
 
-pub signalled-end : (p : Parts) (ch : ℕ) (q : Queue) → (r : Runs p ch q) → member r.transfer q.channel.taken ≡ End → (channel (object_of (view_of p)) ch).signalled ≡ is_some r.transfer.signal
-signalled-end p ch q r is =
+pub signalled_end : (p : Parts) (ch : ℕ) (q : Queue) → (r : Runs p ch q) → member r.transfer q.channel.taken ≡ End → (channel (object_of (view_of p)) ch).signalled ≡ is_some r.transfer.signal
+signalled_end p ch q r is =
     let t = r.transfer in
     let n = q.channel.taken in
     let last : n + 1 ≡ cost t = (shape_is t r.rules).end_only n r.within is in
     let at : n ≡ cost t - 1 = omega arith in
-    r.signalled ∙ ap (λ b. is_some t.signal && b) (eq-eqb n (cost t - 1) at) ∙ and-true (is_some t.signal)
+    r.signalled ∙ ap (λ b. is_some t.signal && b) (eq-eqb n (cost t - 1) at) ∙ and_true (is_some t.signal)
 
-pub signalled-before : (p : Parts) (ch : ℕ) (q : Queue) → (r : Runs p ch q) → (member r.transfer q.channel.taken ≡ End → ⊥) → (channel (object_of (view_of p)) ch).signalled ≡ false
-signalled-before p ch q r other = not-signalled (channel (object_of (view_of p)) ch) r.transfer q.channel.taken (front-of p ch q r) other
+pub signalled_before : (p : Parts) (ch : ℕ) (q : Queue) → (r : Runs p ch q) → (member r.transfer q.channel.taken ≡ End → ⊥) → (channel (object_of (view_of p)) ch).signalled ≡ false
+signalled_before p ch q r other = not_signalled (channel (object_of (view_of p)) ch) r.transfer q.channel.taken (front_of_law p ch q r) other

@@ -11,104 +11,104 @@ use Rattle.dma_engine.specs.View.{View, ChannelSchedule, RunningTransfer, Fits, 
 use Rattle.dma_engine.specs.declared.queue.Queue.{Queue}
 use Rattle.dma_engine.specs.inner.Ranges.{AreOfRunning}
 use Rattle.dma_engine.specs.inner.Holds.{Holds, IsPrepared, Parts, view_of, schedule_of, new_queue}
-use Rattle.dma_engine.proofs.Endings.{put-nil}
-use Rattle.dma_engine.proofs.Sizes.{opening-size, opening-many, opening-flags}
+use Rattle.dma_engine.proofs.Endings.{put_nil}
+use Rattle.dma_engine.proofs.Sizes.{opening_size, opening_many, opening_flags}
 use Rattle.dma_engine.proofs.TransferRules.{AreMarks}
 
-pub replicate-push : {X : Type 0} (n : ℕ) (x : X) → replicate n x ++ x ∷ [] ≡ replicate (n + 1) x
-replicate-push zero x = refl
-replicate-push (suc n) x = rw add-one (ap (λ l. x ∷ l) (rw add-one at (replicate-push n x)))
+pub replicate_push : {X : Type 0} (n : ℕ) (x : X) → replicate n x ++ x ∷ [] ≡ replicate (n + 1) x
+replicate_push zero x = refl
+replicate_push (suc n) x = rw add-one (ap (λ l. x ∷ l) (rw add-one at (replicate_push n x)))
 
-map-same : (n : ℕ) → map schedule_of (replicate n new_queue) ≡ replicate n idle
-map-same zero = refl
-map-same (suc n) = ap (λ l. idle ∷ l) (map-same n)
+map_same : (n : ℕ) → map schedule_of (replicate n new_queue) ≡ replicate n idle
+map_same zero = refl
+map_same (suc n) = ap (λ l. idle ∷ l) (map_same n)
 
-idle-at : (n ch : ℕ) → slice_index_or (replicate n idle) ch idle ≡ idle
-idle-at n ch = elim (cases_lt ch n) [
+idle_at : (n ch : ℕ) → slice_index_or (replicate n idle) ch idle ≡ idle
+idle_at n ch = elim (cases_lt ch n) [
   | inl less ↦ get_or-replicate n ch idle idle less
   | inr past ↦ get_or_past (replicate n idle) ch idle (omega (arith, length-replicate n idle))
 ]
 
-new-at : (bytes n ch : ℕ) → channel (opening bytes n) ch ≡ empty_channel
+new_at : (bytes n ch : ℕ) → channel (opening bytes n) ch ≡ empty_channel
 unfolding opening
-new-at bytes n ch = elim (cases_lt ch n) [
+new_at bytes n ch = elim (cases_lt ch n) [
   | inl less ↦ get_or-replicate n ch empty_channel empty_channel less
   | inr past ↦ get_or_past (replicate n empty_channel) ch empty_channel (omega (arith, length-replicate n empty_channel))
 ]
 
-none-runs : (bytes n ch : ℕ) → runs (opening bytes n) (replicate n idle) ch ≡ None
-none-runs bytes n ch = ap (λ (x : ChannelSchedule). running_in ch (channel (opening bytes n) ch) x.taken) (idle-at n ch)
+none_runs : (bytes n ch : ℕ) → runs (opening bytes n) (replicate n idle) ch ≡ None
+none_runs bytes n ch = ap (λ (x : ChannelSchedule). running_in ch (channel (opening bytes n) ch) x.taken) (idle_at n ch)
 
-filter-none : (f : ℕ → Option RunningTransfer) (a n : ℕ) → ((c : ℕ) → f c ≡ None) → filter_map f (range_with_len a n) ≡ []
-filter-none f a zero h = refl
-filter-none f a (suc n) h =
+filter_none : (f : ℕ → Option RunningTransfer) (a n : ℕ) → ((c : ℕ) → f c ≡ None) → filter_map f (range_with_len a n) ≡ []
+filter_none f a zero h = refl
+filter_none f a (suc n) h =
     let head = h a in
-    let rest : filter_map f (range_with_len (a + 1) n) ≡ [] = filter-none f (a + 1) n h in
+    let rest : filter_map f (range_with_len (a + 1) n) ≡ [] = filter_none f (a + 1) n h in
     cc
 
-nothing-runs : (bytes n : ℕ) → running (opening bytes n) (replicate n idle) ≡ []
+nothing_runs : (bytes n : ℕ) → running (opening bytes n) (replicate n idle) ≡ []
 unfolding running
-nothing-runs bytes n = filter-none (runs (opening bytes n) (replicate n idle)) 0 (length (opening bytes n).channels) (none-runs bytes n)
+nothing_runs bytes n = filter_none (runs (opening bytes n) (replicate n idle)) 0 (length (opening bytes n).channels) (none_runs bytes n)
 
-opening-shown : (bytes n : ℕ) → replicate bytes 0 ≡ memory_shown (opening bytes n) (replicate n idle)
+opening_shown : (bytes n : ℕ) → replicate bytes 0 ≡ memory_shown (opening bytes n) (replicate n idle)
 unfolding opening after_moves
-opening-shown bytes n = sym (ap (λ l. over (opening bytes n).image (map with_stored l)) (nothing-runs bytes n) ∙ put-nil (replicate bytes 0))
+opening_shown bytes n = sym (ap (λ l. over (opening bytes n).image (map with_stored l)) (nothing_runs bytes n) ∙ put_nil (replicate bytes 0))
 
-opening-fits : (bytes n : ℕ) → Fits (opening bytes n) (replicate n idle)
-opening-fits bytes n = record {
-  many = length-replicate n idle ∙ sym (opening-many bytes n);
-  each = λ ch less. rw (new-at bytes n ch, idle-at n ch) (refl, refl);
-  free = λ c d i j k. rw (none-runs bytes n c) tt;
+opening_fits : (bytes n : ℕ) → Fits (opening bytes n) (replicate n idle)
+opening_fits bytes n = record {
+  many = length-replicate n idle ∙ sym (opening_many bytes n);
+  each = λ ch less. rw (new_at bytes n ch, idle_at n ch) (refl, refl);
+  free = λ c d i j k. rw (none_runs bytes n c) tt;
 }
 
-opening-events : (bytes n : ℕ) → all_clear ≡ (opening bytes n).events
+opening_events : (bytes n : ℕ) → all_clear ≡ (opening bytes n).events
 unfolding opening all_clear
-opening-events bytes n = refl
+opening_events bytes n = refl
 
-opening-marks : (bytes n : ℕ) → [] ≡ (opening bytes n).marks
+opening_marks : (bytes n : ℕ) → [] ≡ (opening bytes n).marks
 unfolding opening
-opening-marks bytes n = refl
+opening_marks bytes n = refl
 
 -- the opening object is a base
-pub base-opening : (bytes n : ℕ) → IsBase (opening bytes n)
-base-opening bytes n = record {
-  flags = opening-flags bytes n;
-  marks = subst AreMarks (opening-marks bytes n) (λ k d l. absurd (omega (arith, l)));
-  each = λ ch. rw (new-at bytes n ch) (record { outcomes = refl; rests = (refl, refl); counts = (omega arith, omega arith, omega arith); rules = λ k d l. absurd (omega (arith, l)) });
+pub base_opening : (bytes n : ℕ) → IsBase (opening bytes n)
+base_opening bytes n = record {
+  flags = opening_flags bytes n;
+  marks = subst AreMarks (opening_marks bytes n) (λ k d l. absurd (omega (arith, l)));
+  each = λ ch. rw (new_at bytes n ch) (record { outcomes = refl; rests = (refl, refl); counts = (omega arith, omega arith, omega arith); rules = λ k d l. absurd (omega (arith, l)) });
 }
 
 -- the view of a new engine is sound
-pub new-sound : (bytes n : ℕ) → new_fault bytes n ≡ None → IsSound (new_view bytes n)
-new-sound bytes n made = record {
-  opens = base-opening bytes n;
-  makes = rw (opening-size bytes n, opening-many bytes n) made;
+pub new_sound : (bytes n : ℕ) → new_fault bytes n ≡ None → IsSound (new_view bytes n)
+new_sound bytes n made = record {
+  opens = base_opening bytes n;
+  makes = rw (opening_size bytes n, opening_many bytes n) made;
   legal = tt;
-  fits = opening-fits bytes n;
+  fits = opening_fits bytes n;
 }
 
 -- the parts of a new engine
 abbrev pub new_parts : ℕ → List Bool → ℕ → Parts
 new_parts bytes made n = record { size = bytes; memory = replicate bytes 0; made = made; events = all_clear; marks = []; queues = replicate n new_queue; base = opening bytes n; history = []; steps = 0 }
 
-pub new-view : (bytes : ℕ) (made : List Bool) (n : ℕ) → view_of (new_parts bytes made n) ≡ new_view bytes n
-new-view bytes made n =
-    ap (λ s. record { base = opening bytes n; history = []; steps = 0; schedule = s }) (map-same n)
+pub new_view_law : (bytes : ℕ) (made : List Bool) (n : ℕ) → view_of (new_parts bytes made n) ≡ new_view bytes n
+new_view_law bytes made n =
+    ap (λ s. record { base = opening bytes n; history = []; steps = 0; schedule = s }) (map_same n)
 
-pub holds-new : (bytes : ℕ) (pages : List Bool) (n : ℕ) → new_fault bytes n ≡ None → Holds (new_parts bytes pages n)
-holds-new bytes pages n made =
+pub holds_new : (bytes : ℕ) (pages : List Bool) (n : ℕ) → new_fault bytes n ≡ None → Holds (new_parts bytes pages n)
+holds_new bytes pages n made =
     let v : View = view_of (new_parts bytes pages n) in
-    let is : v ≡ new_view bytes n = new-view bytes pages n in
+    let is : v ≡ new_view bytes n = new_view_law bytes pages n in
     let o = opening bytes n in
-    let none : (ch : ℕ) → runs (object_of v) v.schedule ch ≡ None = λ ch. ap (λ (w : View). runs (object_of w) w.schedule ch) is ∙ none-runs bytes n ch in
+    let none : (ch : ℕ) → runs (object_of v) v.schedule ch ≡ None = λ ch. ap (λ (w : View). runs (object_of w) w.schedule ch) is ∙ none_runs bytes n ch in
     record {
-      sound = subst IsSound (sym is) (new-sound bytes n made);
-      size = sym (opening-size bytes n);
-      shown = opening-shown bytes n ∙ ap memory_of (sym is);
-      events = opening-events bytes n ∙ ap (λ (w : View). (object_of w).events) (sym is);
-      marks = opening-marks bytes n ∙ ap (λ (w : View). (object_of w).marks) (sym is);
+      sound = subst IsSound (sym is) (new_sound bytes n made);
+      size = sym (opening_size bytes n);
+      shown = opening_shown bytes n ∙ ap memory_of (sym is);
+      events = opening_events bytes n ∙ ap (λ (w : View). (object_of w).events) (sym is);
+      marks = opening_marks bytes n ∙ ap (λ (w : View). (object_of w).marks) (sym is);
       each = λ ch d less.
           let inside : ch < n = omega (arith, less, length-replicate n new_queue) in
-          let here : channel (object_of v) ch ≡ empty_channel = ap (λ (w : View). channel (object_of w) ch) is ∙ new-at bytes n ch in
+          let here : channel (object_of v) ch ≡ empty_channel = ap (λ (w : View). channel (object_of w) ch) is ∙ new_at bytes n ch in
           rw (get_or-replicate n ch new_queue d inside, here) (record {
             forgotten = refl;
             given = refl;
@@ -127,8 +127,8 @@ holds-new bytes pages n made =
           subst (λ (q : Queue). AreOfRunning q.ranges (runs (object_of v) v.schedule ch)) (sym slot) (subst (AreOfRunning None) (sym (none ch)) tt);
     }
 
-pub made-from : (bytes many : ℕ) → many ≢ 0 → many ≤ 8 → is_size bytes ≡ true → new_fault bytes many ≡ None
-made-from bytes many some few size =
+pub made_from : (bytes many : ℕ) → many ≢ 0 → many ≤ 8 → is_size bytes ≡ true → new_fault bytes many ≡ None
+made_from bytes many some few size =
     let e : (many == 0) ≡ false = ne_eqb many 0 some in
     let f : nat_lt 8 many ≡ false = le-ltb 8 many few in
     rw (e, f, size) refl

@@ -11,8 +11,8 @@ use Rattle.dma_engine.specs.Object.{Object, ChannelState, after, channel, empty_
 use Rattle.dma_engine.specs.History.{object_after}
 use Rattle.dma_engine.specs.View.{View, object_of}
 use Rattle.dma_engine.specs.Answer.{Extends, KeepsOutcomes, result_of}
-use Rattle.dma_engine.proofs.Boards.{with_channel-at}
-use Rattle.dma_engine.proofs.Histories.{object_after-append}
+use Rattle.dma_engine.proofs.Boards.{with_channel_at}
+use Rattle.dma_engine.proofs.Histories.{object_after_append}
 
 longer : {X : Type 0} (xs ys : List X) (k : ℕ) (x : X) → slice_get xs k ≡ Some x → slice_get (xs ++ ys) k ≡ Some x
 longer [] ys k x h = absurd cc
@@ -24,48 +24,48 @@ record Keeps (c d : ChannelState) : Type 0 where
   forgotten : d.forgotten ≡ c.forgotten
   outcomes : (k : ℕ) (x : Outcome) → slice_get c.outcomes k ≡ Some x → slice_get d.outcomes k ≡ Some x
 
-keeps-all : (c : ChannelState) → Keeps c c
-keeps-all c = record { forgotten = refl; outcomes = λ k x g. g }
+keeps_all_law : (c : ChannelState) → Keeps c c
+keeps_all_law c = record { forgotten = refl; outcomes = λ k x g. g }
 
-keeps-with : (o : Object) (ch : ℕ) (c : ChannelState) → Keeps (channel o ch) c → (d : ℕ) → Keeps (channel o d) (channel (with_channel o ch c) d)
-keeps-with o ch c h d = elim (cases_eq d ch) [
-  | inl e ↦ elim (with_channel-at o ch c) [ inl f ↦ rw (e, f) h | inr f ↦ rw (e, f) (keeps-all (channel o ch)) ]
-  | inr e ↦ rw (get_or-set_other o.channels ch d c empty_channel e) (keeps-all (channel o d))
+keeps_with : (o : Object) (ch : ℕ) (c : ChannelState) → Keeps (channel o ch) c → (d : ℕ) → Keeps (channel o d) (channel (with_channel o ch c) d)
+keeps_with o ch c h d = elim (cases_eq d ch) [
+  | inl e ↦ elim (with_channel_at o ch c) [ inl f ↦ rw (e, f) h | inr f ↦ rw (e, f) (keeps_all_law (channel o ch)) ]
+  | inr e ↦ rw (get_or-set_other o.channels ch d c empty_channel e) (keeps_all_law (channel o d))
 ]
 
-keeps-after : (o : Object) (e : Entry) (d : ℕ) → Keeps (channel o d) (channel (after o e) d)
-keeps-after o (Wrote addr bytes) d = keeps-all (channel o d)
-keeps-after o (ReadBack addr bytes) d = keeps-all (channel o d)
-keeps-after o (Submitted ch t cookie) d = keeps-with o ch _ (record { forgotten = refl; outcomes = λ k x g. g }) d
-keeps-after o (Issued ch) d = keeps-with o ch _ (record { forgotten = refl; outcomes = λ k x g. g }) d
-keeps-after o (Passed ch event) d = keeps-with (with_flag o event false) ch _ (record { forgotten = refl; outcomes = λ k x g. g }) d
-keeps-after o (Signalled (Channel ch) event) d = keeps-with (with_flag o event true) ch _ (record { forgotten = refl; outcomes = λ k x g. g }) d
-keeps-after o (Signalled Host event) d = keeps-all (channel o d)
-keeps-after o (Finished ch result done) d = keeps-with (with_front_laid o ch done) ch _ (record { forgotten = refl; outcomes = λ k x g. longer (channel o ch).outcomes _ k x g }) d
-keeps-after o (Terminated ch done count) d = keeps-with (with_front_laid o ch done) ch _ (record { forgotten = refl; outcomes = λ k x g. longer (channel o ch).outcomes _ k x g }) d
-keeps-after o (Marked kind segment) d = keeps-all (channel o d)
-keeps-after o Unmarked d = keeps-all (channel o d)
+keeps_after : (o : Object) (e : Entry) (d : ℕ) → Keeps (channel o d) (channel (after o e) d)
+keeps_after o (Wrote addr bytes) d = keeps_all_law (channel o d)
+keeps_after o (ReadBack addr bytes) d = keeps_all_law (channel o d)
+keeps_after o (Submitted ch t cookie) d = keeps_with o ch _ (record { forgotten = refl; outcomes = λ k x g. g }) d
+keeps_after o (Issued ch) d = keeps_with o ch _ (record { forgotten = refl; outcomes = λ k x g. g }) d
+keeps_after o (Passed ch event) d = keeps_with (with_flag o event false) ch _ (record { forgotten = refl; outcomes = λ k x g. g }) d
+keeps_after o (Signalled (Channel ch) event) d = keeps_with (with_flag o event true) ch _ (record { forgotten = refl; outcomes = λ k x g. g }) d
+keeps_after o (Signalled Host event) d = keeps_all_law (channel o d)
+keeps_after o (Finished ch result done) d = keeps_with (with_front_laid o ch done) ch _ (record { forgotten = refl; outcomes = λ k x g. longer (channel o ch).outcomes _ k x g }) d
+keeps_after o (Terminated ch done count) d = keeps_with (with_front_laid o ch done) ch _ (record { forgotten = refl; outcomes = λ k x g. longer (channel o ch).outcomes _ k x g }) d
+keeps_after o (Marked kind segment) d = keeps_all_law (channel o d)
+keeps_after o Unmarked d = keeps_all_law (channel o d)
 
-keeps-object : (o : Object) (es : List Entry) (d : ℕ) → Keeps (channel o d) (channel (object_after o es) d)
-keeps-object o [] d = keeps-all (channel o d)
-keeps-object o (e ∷ es) d =
-    let first = keeps-after o e d in
-    let rest = keeps-object (after o e) es d in
+keeps_object : (o : Object) (es : List Entry) (d : ℕ) → Keeps (channel o d) (channel (object_after o es) d)
+keeps_object o [] d = keeps_all_law (channel o d)
+keeps_object o (e ∷ es) d =
+    let first = keeps_after o e d in
+    let rest = keeps_object (after o e) es d in
     record { forgotten = rest.forgotten ∙ first.forgotten; outcomes = λ k x g. rest.outcomes k x (first.outcomes k x g) }
 
 -- what is forgotten stays so
-pub forgotten-stays : (o : Object) (es : List Entry) (ch : ℕ) → (channel (object_after o es) ch).forgotten ≡ (channel o ch).forgotten
-forgotten-stays o es ch = (keeps-object o es ch).forgotten
+pub forgotten_stays : (o : Object) (es : List Entry) (ch : ℕ) → (channel (object_after o es) ch).forgotten ≡ (channel o ch).forgotten
+forgotten_stays o es ch = (keeps_object o es ch).forgotten
 
 pub kept : (old new : View) → Extends old new → KeepsOutcomes old new
 kept old new h =
     let more = h.1 in
     let o = object_of old in
-    let is : object_of new ≡ object_after o more.0 = ap (λ b. object_after b new.history) h.0 ∙ ap (object_after old.base) more.1 ∙ object_after-append old.base old.history more.0 in
+    let is : object_of new ≡ object_after o more.0 = ap (λ b. object_after b new.history) h.0 ∙ ap (object_after old.base) more.1 ∙ object_after_append old.base old.history more.0 in
     λ ch cookie x g.
     let c = channel o ch in
     let d = channel (object_after o more.0) ch in
-    let keeps = keeps-object o more.0 ch in
+    let keeps = keeps_object o more.0 ch in
     let n = cookie - c.forgotten - 1 in
     let by : (b : Bool) → (if b then None else slice_get c.outcomes n) ≡ Some x → (if b then None else slice_get d.outcomes n) ≡ Some x = λ b. elim b as (λ b. (if b then None else slice_get c.outcomes n) ≡ Some x → (if b then None else slice_get d.outcomes n) ≡ Some x) [
       | true ↦ λ e. absurd cc
@@ -75,8 +75,8 @@ kept old new h =
     ∙ ap (λ f. if nat_le cookie f then None else slice_get d.outcomes (cookie - f - 1)) keeps.forgotten
     ∙ by (nat_le cookie c.forgotten) g
 
-pub extends-forgotten : (old new : View) → Extends old new → (ch : ℕ) → (channel (object_of new) ch).forgotten ≡ (channel (object_of old) ch).forgotten
-extends-forgotten old new h ch =
+pub extends_forgotten : (old new : View) → Extends old new → (ch : ℕ) → (channel (object_of new) ch).forgotten ≡ (channel (object_of old) ch).forgotten
+extends_forgotten old new h ch =
     let more = h.1 in
-    let is : object_of new ≡ object_after (object_of old) more.0 = ap (λ b. object_after b new.history) h.0 ∙ ap (object_after old.base) more.1 ∙ object_after-append old.base old.history more.0 in
-    ap (λ (o : Object). (channel o ch).forgotten) is ∙ forgotten-stays (object_of old) more.0 ch
+    let is : object_of new ≡ object_after (object_of old) more.0 = ap (λ b. object_after b new.history) h.0 ∙ ap (object_after old.base) more.1 ∙ object_after_append old.base old.history more.0 in
+    ap (λ (o : Object). (channel o ch).forgotten) is ∙ forgotten_stays (object_of old) more.0 ch

@@ -20,13 +20,13 @@ use Rattle.dma_engine.specs.Turn.{with_entry}
 use Rattle.dma_engine.specs.Answer.{with_pause}
 use Rattle.dma_engine.specs.inner.Ranges.{AreOfRunning}
 use Rattle.dma_engine.specs.inner.Holds.{Holds, IsPrepared, IsQueue, IsRun, Parts, queue_submitted, view_of, schedule_of}
-use Rattle.dma_engine.proofs.Changes.{ChangesTo, changed, view-changed, holds-changed, runs-here, runs-other, schedule-kept}
-use Rattle.dma_engine.proofs.Histories.{object_after-append, IsLegal-append}
-use Rattle.dma_engine.proofs.Queues.{front_where, holds-at, runs_front, slice_get-push, slice_get-push_last}
-use Rattle.dma_engine.proofs.WhatRuns.{running-same}
+use Rattle.dma_engine.proofs.Changes.{ChangesTo, changed, view_changed, holds_changed, runs_here_law, runs_other, schedule_kept}
+use Rattle.dma_engine.proofs.Histories.{object_after_append, IsLegal_append}
+use Rattle.dma_engine.proofs.Queues.{front_where, holds_at, runs_front, slice_get_push, slice_get_push_last}
+use Rattle.dma_engine.proofs.WhatRuns.{running_same}
 
-pub shown-both : (o p : Object) (s t : List ChannelSchedule) → o.image ≡ p.image → running o s ≡ running p t → memory_shown o s ≡ memory_shown p t
-shown-both o p s t image runs_same = ap (λ l. over o.image (map with_stored l)) runs_same ∙ ap (λ m. over m (map with_stored (running p t))) image
+pub shown_both : (o p : Object) (s t : List ChannelSchedule) → o.image ≡ p.image → running o s ≡ running p t → memory_shown o s ≡ memory_shown p t
+shown_both o p s t image runs_same = ap (λ l. over o.image (map with_stored l)) runs_same ∙ ap (λ m. over m (map with_stored (running p t))) image
 
 -- ---- a change that keeps what runs
 
@@ -50,13 +50,13 @@ stays p ch q r flags history o h less read w =
     let old = object_of v in
     let s = v.schedule in
     let x = schedule_of r in
-    let at = holds-at p h ch q less read in
+    let at = holds_at p h ch q less read in
     let within : ch < length s = omega (arith, h.sound.fits.many, at.there) in
     let still : (c : ℕ) → runs o (slice_set s ch x) c ≡ runs old s c = λ c. elim (cases_eq c ch) [
-      | inl e ↦ rw e (runs-here o s ch x within ∙ w.runs_still ∙ sym at.runs_is)
-      | inr d ↦ runs-other old o s ch c x d (w.others c d)
+      | inl e ↦ rw e (runs_here_law o s ch x within ∙ w.runs_still ∙ sym at.runs_is)
+      | inr d ↦ runs_other old o s ch c x d (w.others c d)
     ] in
-    let same : running o (slice_set s ch x) ≡ running old s = running-same old o s (slice_set s ch x) (sym w.many) (λ c l. still c) in
+    let same : running o (slice_set s ch x) ≡ running old s = running_same old o s (slice_set s ch x) (sym w.many) (λ c l. still c) in
     record {
       legal = w.legal;
       becomes = w.becomes;
@@ -68,7 +68,7 @@ stays p ch q r flags history o h less read w =
         agrees = w.agrees;
         free = λ d l k. rw (w.runs_still, ← at.runs_is) (h.sound.fits.free ch d at.there l (λ e. k (sym e)));
       };
-      shown = h.shown ∙ shown-both old o s (slice_set s ch x) w.image (sym same);
+      shown = h.shown ∙ shown_both old o s (slice_set s ch x) w.image (sym same);
       events = w.events;
       marks = w.marks;
       tied = w.tied;
@@ -85,13 +85,13 @@ with_room_paused q a b paused =
     record q { indices = record { items = q.indices.items; spare = a }; outcomes = record { items = q.outcomes.items; spare = b }; paused = paused }
 
 -- neither the room of a queue nor its pause changes what its channel does
-pub holds-besides : (p : Parts) (ch a b : ℕ) (paused : Bool) (q : Queue) → Holds p → ch < length p.queues → q ≡ slice_index_or p.queues ch q → Holds (changed p ch (with_room_paused q a b paused) p.memory p.events p.history p.steps)
-holds-besides p ch a b paused q h less read =
+pub holds_besides : (p : Parts) (ch a b : ℕ) (paused : Bool) (q : Queue) → Holds p → ch < length p.queues → q ≡ slice_index_or p.queues ch q → Holds (changed p ch (with_room_paused q a b paused) p.memory p.events p.history p.steps)
+holds_besides p ch a b paused q h less read =
     let v : View = view_of p in
-    let at = holds-at p h ch q less read in
+    let at = holds_at p h ch q less read in
     let t = at.tied in
     let r = with_room_paused q a b paused in
-    holds-changed p ch r p.memory p.events p.history p.steps (object_of v) h less (stays p ch q r p.events p.history (object_of v) h less read (record {
+    holds_changed p ch r p.memory p.events p.history p.steps (object_of v) h less (stays p ch q r p.events p.history (object_of v) h less read (record {
       legal = h.sound.legal;
       becomes = refl;
       grows = λ k e x. x;
@@ -106,58 +106,58 @@ holds-besides p ch a b paused q h less read =
       tied = record { forgotten = t.forgotten; given = t.given; many = t.many; first = t.first; indexed = t.indexed; outcomes = t.outcomes; issued = t.issued; halted = t.halted; machine = t.machine };
     }))
 
-pub holds-paused : (p : Parts) (ch : ℕ) (q : Queue) (b : Bool) → Holds p → ch < length p.queues → q ≡ slice_index_or p.queues ch q → Holds (changed p ch (record q { paused = b }) p.memory p.events p.history p.steps)
-holds-paused p ch q b h less read = holds-besides p ch q.indices.spare q.outcomes.spare b q h less read
+pub holds_paused : (p : Parts) (ch : ℕ) (q : Queue) (b : Bool) → Holds p → ch < length p.queues → q ≡ slice_index_or p.queues ch q → Holds (changed p ch (record q { paused = b }) p.memory p.events p.history p.steps)
+holds_paused p ch q b h less read = holds_besides p ch q.indices.spare q.outcomes.spare b q h less read
 
-pub view-paused : (p : Parts) (ch : ℕ) (q : Queue) (b : Bool) → Holds p → ch < length p.queues → q ≡ slice_index_or p.queues ch q → view_of (changed p ch (record q { paused = b }) p.memory p.events p.history p.steps) ≡ with_pause (view_of p) ch b
-view-paused p ch q b h less read =
+pub view_paused : (p : Parts) (ch : ℕ) (q : Queue) (b : Bool) → Holds p → ch < length p.queues → q ≡ slice_index_or p.queues ch q → view_of (changed p ch (record q { paused = b }) p.memory p.events p.history p.steps) ≡ with_pause (view_of p) ch b
+view_paused p ch q b h less read =
     let v : View = view_of p in
-    let at = holds-at p h ch q less read in
-    view-changed p ch (record q { paused = b }) p.memory p.events p.history p.steps
+    let at = holds_at p h ch q less read in
+    view_changed p ch (record q { paused = b }) p.memory p.events p.history p.steps
     ∙ ap (λ (x : ChannelSchedule). record v { schedule = slice_set v.schedule ch (record x { paused = b }) }) (sym at.schedule_is)
 
 -- ---- issue
 
-pub agrees-issued : (c : ChannelState) (taken : Option ℕ) → Agrees c taken → Agrees (record c { issued = used c }) taken
-agrees-issued c None h = h
-agrees-issued c (Some n) h =
+pub agrees_issued : (c : ChannelState) (taken : Option ℕ) → Agrees c taken → Agrees (record c { issued = used c }) taken
+agrees_issued c None h = h
+agrees_issued c (Some n) h =
     let f = front_where c _ h.1 in
     let e : nat_lt (finished c) (used c) ≡ true = lt-ltb _ _ f.within in
     (h.0, rw (e, f.is) f.holds)
 
-pub runs-issued : (ch : ℕ) (c : ChannelState) (taken : Option ℕ) → running_in ch (record c { issued = used c }) taken ≡ running_in ch c taken
-runs-issued ch c None = refl
-runs-issued ch c (Some n) = refl
+pub runs_issued : (ch : ℕ) (c : ChannelState) (taken : Option ℕ) → running_in ch (record c { issued = used c }) taken ≡ running_in ch c taken
+runs_issued ch c None = refl
+runs_issued ch c (Some n) = refl
 
-pub holds-issued : (p : Parts) (ch : ℕ) (q : Queue) (n : ℕ) → Holds p → ch < length p.queues → q ≡ slice_index_or p.queues ch q → n ≡ q.given → Holds (changed p ch (record q { issued = n }) p.memory p.events (p.history ++ Issued ch ∷ []) p.steps)
-holds-issued p ch q n h less read all =
+pub holds_issued : (p : Parts) (ch : ℕ) (q : Queue) (n : ℕ) → Holds p → ch < length p.queues → q ≡ slice_index_or p.queues ch q → n ≡ q.given → Holds (changed p ch (record q { issued = n }) p.memory p.events (p.history ++ Issued ch ∷ []) p.steps)
+holds_issued p ch q n h less read all =
     let v : View = view_of p in
     let o = object_of v in
     let e = Issued ch in
     let c = channel o ch in
-    let at = holds-at p h ch q less read in
+    let at = holds_at p h ch q less read in
     let t = at.tied in
     let r = record q { issued = n } in
     let history = p.history ++ e ∷ [] in
     let here : channel (after o e) ch ≡ record c { issued = used c } = get_or-set_same o.channels ch (record c { issued = used c }) empty_channel at.there in
-    holds-changed p ch r p.memory p.events history p.steps (after o e) h less (stays p ch q r p.events history (after o e) h less read (record {
-      legal = IsLegal-append v.base p.history (e ∷ []) h.sound.legal (at.there, tt);
-      becomes = object_after-append v.base p.history (e ∷ []);
-      grows = λ k x. slice_get-push p.history e x k;
+    holds_changed p ch r p.memory p.events history p.steps (after o e) h less (stays p ch q r p.events history (after o e) h less read (record {
+      legal = IsLegal_append v.base p.history (e ∷ []) h.sound.legal (at.there, tt);
+      becomes = object_after_append v.base p.history (e ∷ []);
+      grows = λ k x. slice_get_push p.history e x k;
       image = refl;
       events = h.events;
       marks = refl;
       many = length-set o.channels ch _;
       others = λ d k. get_or-set_other o.channels ch d _ empty_channel k;
-      agrees = rw here (agrees-issued c (schedule_of q).taken at.agrees);
-      runs_still = ap (λ x. running_in ch x (schedule_of q).taken) here ∙ runs-issued ch c (schedule_of q).taken;
+      agrees = rw here (agrees_issued c (schedule_of q).taken at.agrees);
+      runs_still = ap (λ x. running_in ch x (schedule_of q).taken) here ∙ runs_issued ch c (schedule_of q).taken;
       ranges_still = refl;
       tied = rw here (record {
         forgotten = t.forgotten;
         given = t.given;
         many = t.many;
         first = t.first;
-        indexed = λ k l. let s = t.indexed k l in (s.0, slice_get-push p.history e _ _ s.1);
+        indexed = λ k l. let s = t.indexed k l in (s.0, slice_get_push p.history e _ _ s.1);
         outcomes = t.outcomes;
         issued = all ∙ t.given;
         halted = t.halted;
@@ -165,41 +165,41 @@ holds-issued p ch q n h less read all =
       });
     }))
 
-pub view-entered : (p : Parts) (ch : ℕ) (q r : Queue) (memory : List ℕ) (flags : List Bool) (e : Entry) → ch < length p.queues → q ≡ slice_index_or p.queues ch q → schedule_of r ≡ schedule_of q → view_of (changed p ch r memory flags (p.history ++ e ∷ []) p.steps) ≡ with_entry (view_of p) e
-view-entered p ch q r memory flags e less read same =
+pub view_entered : (p : Parts) (ch : ℕ) (q r : Queue) (memory : List ℕ) (flags : List Bool) (e : Entry) → ch < length p.queues → q ≡ slice_index_or p.queues ch q → schedule_of r ≡ schedule_of q → view_of (changed p ch r memory flags (p.history ++ e ∷ []) p.steps) ≡ with_entry (view_of p) e
+view_entered p ch q r memory flags e less read same =
     let v : View = view_of p in
-    view-changed p ch r memory flags (p.history ++ e ∷ []) p.steps
-    ∙ ap (λ s. record { base = v.base; history = p.history ++ e ∷ []; steps = p.steps; schedule = s }) (schedule-kept p ch q r less read same)
+    view_changed p ch r memory flags (p.history ++ e ∷ []) p.steps
+    ∙ ap (λ s. record { base = v.base; history = p.history ++ e ∷ []; steps = p.steps; schedule = s }) (schedule_kept p ch q r less read same)
 
 -- ---- submit
 
-front-submitted : (c : ChannelState) (t u : Descriptor) → front c ≡ Some t → front (with_transfer c u) ≡ Some t
-front-submitted c t u h = slice_get-push c.submitted u t (length c.outcomes) h
+front_submitted : (c : ChannelState) (t u : Descriptor) → front c ≡ Some t → front (with_transfer c u) ≡ Some t
+front_submitted c t u h = slice_get_push c.submitted u t (length c.outcomes) h
 
-issued-below : (c : ChannelState) (t : Descriptor) → issued_front c ≡ Some t → nat_lt (finished c) c.issued ≡ true
-issued-below c t h =
+issued_below : (c : ChannelState) (t : Descriptor) → issued_front c ≡ Some t → nat_lt (finished c) c.issued ≡ true
+issued_below c t h =
     let by : (b : Bool) → nat_lt (finished c) c.issued ≡ b → nat_lt (finished c) c.issued ≡ true = λ b. elim b as (λ b. nat_lt (finished c) c.issued ≡ b → nat_lt (finished c) c.issued ≡ true) [
       | true ↦ λ e. e
       | false ↦ λ e. let none : issued_front c ≡ None = rw e refl in absurd cc
     ] in
     by _ refl
 
-pub agrees-submitted : (c : ChannelState) (u : Descriptor) (taken : Option ℕ) → Agrees c taken → Agrees (with_transfer c u) taken
-agrees-submitted c u None h = h
-agrees-submitted c u (Some n) h =
+pub agrees_submitted : (c : ChannelState) (u : Descriptor) (taken : Option ℕ) → Agrees c taken → Agrees (with_transfer c u) taken
+agrees_submitted c u None h = h
+agrees_submitted c u (Some n) h =
     let f = front_where c _ h.1 in
-    let e : nat_lt (finished c) c.issued ≡ true = issued-below c f.transfer f.issued in
-    (h.0, rw (e, front-submitted c f.transfer u f.is) f.holds)
+    let e : nat_lt (finished c) c.issued ≡ true = issued_below c f.transfer f.issued in
+    (h.0, rw (e, front_submitted c f.transfer u f.is) f.holds)
 
-pub runs-submitted : (ch : ℕ) (c : ChannelState) (u : Descriptor) (taken : Option ℕ) → Agrees c taken → running_in ch (with_transfer c u) taken ≡ running_in ch c taken
-runs-submitted ch c u None h = refl
-runs-submitted ch c u (Some n) h =
+pub runs_submitted : (ch : ℕ) (c : ChannelState) (u : Descriptor) (taken : Option ℕ) → Agrees c taken → running_in ch (with_transfer c u) taken ≡ running_in ch c taken
+runs_submitted ch c u None h = refl
+runs_submitted ch c u (Some n) h =
     let f = front_where c _ h.1 in
-    runs_front ch (with_transfer c u) f.transfer n (front-submitted c f.transfer u f.is) ∙ sym (runs_front ch c f.transfer n f.is)
+    runs_front ch (with_transfer c u) f.transfer n (front_submitted c f.transfer u f.is) ∙ sym (runs_front ch c f.transfer n f.is)
 
 -- a machine stays where the front stays
-pub run-front : (memory : List ℕ) (m : ChannelValue) (c d : ChannelState) → ((t : Descriptor) → front c ≡ Some t → front d ≡ Some t) → IsRun memory m c → IsRun memory m d
-run-front memory m c d same h =
+pub run_front : (memory : List ℕ) (m : ChannelValue) (c d : ChannelState) → ((t : Descriptor) → front c ≡ Some t → front d ≡ Some t) → IsRun memory m c → IsRun memory m d
+run_front memory m c d same h =
     let by : (o : Option ProgramValue) (f : Option Descriptor) → front c ≡ f → IfSome o (λ _. IsSomeAnd f (λ t. IsAt t m.taken memory m)) → IfSome o (λ _. IsSomeAnd (front d) (λ t. IsAt t m.taken memory m)) = λ o f. elim o as (λ o. front c ≡ f → IfSome o (λ _. IsSomeAnd f (λ t. IsAt t m.taken memory m)) → IfSome o (λ _. IsSomeAnd (front d) (λ t. IsAt t m.taken memory m))) [
       | None ↦ λ _ g. g
       | Some p ↦ elim f as (λ f. front c ≡ f → IsSomeAnd f (λ t. IsAt t m.taken memory m) → IsSomeAnd (front d) (λ t. IsAt t m.taken memory m)) [
@@ -210,8 +210,8 @@ run-front memory m c d same h =
     by m.program (front c) refl h
 
 -- the queue with one more index and one more cookie
-pub queue-submitted : (ch spare : ℕ) (kept : List Descriptor) (history : List Entry) (memory : List ℕ) (q : Queue) (c : ChannelState) (t : Descriptor) (cookie : ℕ) → IsQueue ch kept history memory q c → cookie ≡ used c + 1 → IsQueue ch kept (history ++ Submitted ch t cookie ∷ []) memory (queue_submitted q spare (length history) cookie) (with_transfer c t)
-queue-submitted ch spare kept history memory q c t cookie h number = record {
+pub queue_submitted_law : (ch spare : ℕ) (kept : List Descriptor) (history : List Entry) (memory : List ℕ) (q : Queue) (c : ChannelState) (t : Descriptor) (cookie : ℕ) → IsQueue ch kept history memory q c → cookie ≡ used c + 1 → IsQueue ch kept (history ++ Submitted ch t cookie ∷ []) memory (queue_submitted q spare (length history) cookie) (with_transfer c t)
+queue_submitted_law ch spare kept history memory q c t cookie h number = record {
   forgotten = h.forgotten;
   given = omega (arith, number, length_push c.submitted t);
   many = omega (arith, length_push q.indices.items (length history), length_push c.submitted t, h.many);
@@ -221,45 +221,45 @@ queue-submitted ch spare kept history memory q c t cookie h number = record {
         let index = get_or_append_left q.indices.items (length history ∷ []) 0 k old in
         let is = get_or_append_left c.submitted (t ∷ []) no_transfer (length kept + k) (omega (arith, h.many, old)) in
         let s = h.indexed k old in
-        (s.0, rw (index, is) (slice_get-push history _ _ _ s.1))
+        (s.0, rw (index, is) (slice_get_push history _ _ _ s.1))
     | inr new ↦
         let last : k ≡ length q.indices.items = omega (arith, length_push q.indices.items (length history)) in
         let index = get_or_push q.indices.items (length history) 0 k (sym last) in
         let is = get_or_push c.submitted t no_transfer (length kept + k) (omega (arith, h.many, last)) in
-        (cookie, rw (index, is) (slice_get-push_last history _ (length history) refl))
+        (cookie, rw (index, is) (slice_get_push_last history _ (length history) refl))
   ];
   outcomes = h.outcomes;
   issued = h.issued;
   halted = h.halted;
-  machine = run-front memory q.channel c (with_transfer c t) (λ u is. front-submitted c u t is) h.machine;
+  machine = run_front memory q.channel c (with_transfer c t) (λ u is. front_submitted c u t is) h.machine;
 }
 
-pub holds-submitted : (p : Parts) (ch spare cookie : ℕ) (t : Descriptor) (q : Queue) → Holds p → ch < length p.queues → q ≡ slice_index_or p.queues ch q → Allows (object_of (view_of p)) (Submitted ch t cookie) → Holds (changed p ch (queue_submitted q spare (length p.history) cookie) p.memory p.events (p.history ++ Submitted ch t cookie ∷ []) p.steps)
-holds-submitted p ch spare cookie t q h less read allowed =
+pub holds_submitted : (p : Parts) (ch spare cookie : ℕ) (t : Descriptor) (q : Queue) → Holds p → ch < length p.queues → q ≡ slice_index_or p.queues ch q → Allows (object_of (view_of p)) (Submitted ch t cookie) → Holds (changed p ch (queue_submitted q spare (length p.history) cookie) p.memory p.events (p.history ++ Submitted ch t cookie ∷ []) p.steps)
+holds_submitted p ch spare cookie t q h less read allowed =
     let v : View = view_of p in
     let o = object_of v in
     let e = Submitted ch t cookie in
     let c = channel o ch in
-    let at = holds-at p h ch q less read in
+    let at = holds_at p h ch q less read in
     let r = queue_submitted q spare (length p.history) cookie in
     let history = p.history ++ e ∷ [] in
     let here : channel (after o e) ch ≡ with_transfer c t = get_or-set_same o.channels ch (with_transfer c t) empty_channel at.there in
-    holds-changed p ch r p.memory p.events history p.steps (after o e) h less (stays p ch q r p.events history (after o e) h less read (record {
-      legal = IsLegal-append v.base p.history (e ∷ []) h.sound.legal (allowed, tt);
-      becomes = object_after-append v.base p.history (e ∷ []);
-      grows = λ k x. slice_get-push p.history e x k;
+    holds_changed p ch r p.memory p.events history p.steps (after o e) h less (stays p ch q r p.events history (after o e) h less read (record {
+      legal = IsLegal_append v.base p.history (e ∷ []) h.sound.legal (allowed, tt);
+      becomes = object_after_append v.base p.history (e ∷ []);
+      grows = λ k x. slice_get_push p.history e x k;
       image = refl;
       events = h.events;
       marks = refl;
       many = length-set o.channels ch _;
       others = λ d k. get_or-set_other o.channels ch d _ empty_channel k;
-      agrees = rw here (agrees-submitted c t (schedule_of q).taken at.agrees);
-      runs_still = ap (λ x. running_in ch x (schedule_of q).taken) here ∙ runs-submitted ch c t (schedule_of q).taken at.agrees;
+      agrees = rw here (agrees_submitted c t (schedule_of q).taken at.agrees);
+      runs_still = ap (λ x. running_in ch x (schedule_of q).taken) here ∙ runs_submitted ch c t (schedule_of q).taken at.agrees;
       ranges_still = refl;
-      tied = rw here (queue-submitted ch spare (channel p.base ch).submitted p.history p.memory q c t cookie at.tied allowed.3);
+      tied = rw here (queue_submitted_law ch spare (channel p.base ch).submitted p.history p.memory q c t cookie at.tied allowed.3);
     }))
 
-pub submitted-allowed : (p : Parts) (ch given : ℕ) (t : Descriptor) (q : Queue) → Holds p → ch < length p.queues → q ≡ slice_index_or p.queues ch q → given ≡ q.given → given < last_cookie → IsTransfer t → lies_below t (length (object_of (view_of p)).image) ≡ true → Allows (object_of (view_of p)) (Submitted ch t (given + 1))
-submitted-allowed p ch given t q h less read many few rules below =
-    let at = holds-at p h ch q less read in
+pub submitted_allowed : (p : Parts) (ch given : ℕ) (t : Descriptor) (q : Queue) → Holds p → ch < length p.queues → q ≡ slice_index_or p.queues ch q → given ≡ q.given → given < last_cookie → IsTransfer t → lies_below t (length (object_of (view_of p)).image) ≡ true → Allows (object_of (view_of p)) (Submitted ch t (given + 1))
+submitted_allowed p ch given t q h less read many few rules below =
+    let at = holds_at p h ch q less read in
     (at.there, rules, below, ap (λ n. n + 1) (many ∙ at.tied.given), omega arith)

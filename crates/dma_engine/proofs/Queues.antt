@@ -62,17 +62,17 @@ pub record HoldsAt (p : Parts) (ch : ℕ) (q : Queue) : Type 0 where
   pub schedule_is : slice_index_or (view_of p).schedule ch idle ≡ schedule_of q
   pub ranges : AreOfRunning q.ranges (runs (object_of (view_of p)) (view_of p).schedule ch)
 
-pub many-queues : (p : Parts) → Holds p → length p.queues ≡ channels (view_of p)
-many-queues p h = sym (length-map p.queues schedule_of) ∙ h.sound.fits.many
+pub many_queues : (p : Parts) → Holds p → length p.queues ≡ channels (view_of p)
+many_queues p h = sym (length-map p.queues schedule_of) ∙ h.sound.fits.many
 
 -- the index of a channel that is there has a queue
-pub queue-there : (p : Parts) (v : View) (ch i : ℕ) → Holds p → view_of p ≡ v → (i ≡ ch) × (ch < channels v) → i < length p.queues
-queue-there p v ch i h is there = omega (arith, many-queues p h, ap channels is, there.0, there.1)
+pub queue_there : (p : Parts) (v : View) (ch i : ℕ) → Holds p → view_of p ≡ v → (i ≡ ch) × (ch < channels v) → i < length p.queues
+queue_there p v ch i h is there = omega (arith, many_queues p h, ap channels is, there.0, there.1)
 
-pub holds-at : (p : Parts) → Holds p → (ch : ℕ) (q : Queue) → ch < length p.queues → q ≡ slice_index_or p.queues ch q → HoldsAt p ch q
-holds-at p h ch q less read =
+pub holds_at : (p : Parts) → Holds p → (ch : ℕ) (q : Queue) → ch < length p.queues → q ≡ slice_index_or p.queues ch q → HoldsAt p ch q
+holds_at p h ch q less read =
     let v : View = view_of p in
-    let inside : ch < channels v = omega (arith, many-queues p h, less) in
+    let inside : ch < channels v = omega (arith, many_queues p h, less) in
     let at : slice_index_or v.schedule ch idle ≡ schedule_of q = get_or-map schedule_of p.queues ch q idle less ∙ ap schedule_of (sym read) in
     record {
       there = inside;
@@ -116,12 +116,12 @@ transfer_found ch kept history memory q c n tied less = elim (cases_lt n (length
 -- ---- lists with one more item
 
 -- an entry keeps its index when more are added
-pub slice_get-push : {X : Type 0} (xs : List X) (y x : X) (k : ℕ) → slice_get xs k ≡ Some x → slice_get (xs ++ y ∷ []) k ≡ Some x
-slice_get-push [] y x k h = absurd cc
-slice_get-push (z ∷ xs) y x zero h = h
-slice_get-push (z ∷ xs) y x (suc k) h = slice_get-push xs y x k h
+pub slice_get_push : {X : Type 0} (xs : List X) (y x : X) (k : ℕ) → slice_get xs k ≡ Some x → slice_get (xs ++ y ∷ []) k ≡ Some x
+slice_get_push [] y x k h = absurd cc
+slice_get_push (z ∷ xs) y x zero h = h
+slice_get_push (z ∷ xs) y x (suc k) h = slice_get_push xs y x k h
 
-pub slice_get-push_last : {X : Type 0} (xs : List X) (y : X) (k : ℕ) → k ≡ length xs → slice_get (xs ++ y ∷ []) k ≡ Some y
-slice_get-push_last [] y k h = rw h refl
-slice_get-push_last (x ∷ xs) y zero h = absurd (omega arith)
-slice_get-push_last (x ∷ xs) y (suc k) h = slice_get-push_last xs y k (omega arith)
+pub slice_get_push_last : {X : Type 0} (xs : List X) (y : X) (k : ℕ) → k ≡ length xs → slice_get (xs ++ y ∷ []) k ≡ Some y
+slice_get_push_last [] y k h = rw h refl
+slice_get_push_last (x ∷ xs) y zero h = absurd (omega arith)
+slice_get_push_last (x ∷ xs) y (suc k) h = slice_get_push_last xs y k (omega arith)

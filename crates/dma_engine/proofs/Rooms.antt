@@ -28,8 +28,8 @@ use Rattle.dma_engine.specs.Room.{no_room, room_on, KeepsRoom}
 use Rattle.dma_engine.specs.Turn.{Stepped, ends, insn_turn, front_turn, start_turn, finishes, next_moved, first_conflicting}
 use Rattle.dma_engine.specs.View.{View, EngineState, RunningTransfer, object_of}
 use Rattle.dma_engine.specs.inner.Holds.{Holds, IsQueue, Parts, view_of}
-use Rattle.dma_engine.proofs.Changes.{changed, view-changed, schedule-kept}
-use Rattle.dma_engine.proofs.QueueCalls.{holds-besides}
+use Rattle.dma_engine.proofs.Changes.{changed, view_changed, schedule_kept}
+use Rattle.dma_engine.proofs.QueueCalls.{holds_besides}
 
 -- ---- room
 
@@ -38,75 +38,75 @@ abbrev pub with_room : Queue → ℕ → ℕ → Queue
 with_room q a b =
     record q { indices = record { items = q.indices.items; spare = a }; outcomes = record { items = q.outcomes.items; spare = b } }
 
-pub holds-room : (p : Parts) (ch a b : ℕ) (q : Queue) → Holds p → ch < length p.queues → q ≡ slice_index_or p.queues ch q → Holds (changed p ch (with_room q a b) p.memory p.events p.history p.steps)
-holds-room p ch a b q h less read = holds-besides p ch a b q.paused q h less read
+pub holds_room : (p : Parts) (ch a b : ℕ) (q : Queue) → Holds p → ch < length p.queues → q ≡ slice_index_or p.queues ch q → Holds (changed p ch (with_room q a b) p.memory p.events p.history p.steps)
+holds_room p ch a b q h less read = holds_besides p ch a b q.paused q h less read
 
-pub view-room : (p : Parts) (ch a b : ℕ) (q : Queue) → ch < length p.queues → q ≡ slice_index_or p.queues ch q → view_of (changed p ch (with_room q a b) p.memory p.events p.history p.steps) ≡ view_of p
-view-room p ch a b q less read =
+pub view_room : (p : Parts) (ch a b : ℕ) (q : Queue) → ch < length p.queues → q ≡ slice_index_or p.queues ch q → view_of (changed p ch (with_room q a b) p.memory p.events p.history p.steps) ≡ view_of p
+view_room p ch a b q less read =
     let v : View = view_of p in
     let r = with_room q a b in
-    view-changed p ch r p.memory p.events p.history p.steps
-    ∙ ap (λ s. record { base = v.base; history = p.history; steps = p.steps; schedule = s }) (schedule-kept p ch q r less read refl)
+    view_changed p ch r p.memory p.events p.history p.steps
+    ∙ ap (λ s. record { base = v.base; history = p.history; steps = p.steps; schedule = s }) (schedule_kept p ch q r less read refl)
 
 -- the room of a channel is that of its queue
-pub room-at : (queues : List Queue) (ch : ℕ) (q : Queue) → ch < length queues → q ≡ slice_index_or queues ch q → slice_index_or (map queue_room queues) ch no_room ≡ queue_room q
-room-at queues ch q less read = get_or-map queue_room queues ch q no_room less ∙ ap queue_room (sym read)
+pub room_at : (queues : List Queue) (ch : ℕ) (q : Queue) → ch < length queues → q ≡ slice_index_or queues ch q → slice_index_or (map queue_room queues) ch no_room ≡ queue_room q
+room_at queues ch q less read = get_or-map queue_room queues ch q no_room less ∙ ap queue_room (sym read)
 
-pub room-set : (queues : List Queue) (ch : ℕ) (q : Queue) → ch < length queues → slice_index_or (map queue_room (slice_set queues ch q)) ch no_room ≡ queue_room q
-room-set queues ch q less =
+pub room_set : (queues : List Queue) (ch : ℕ) (q : Queue) → ch < length queues → slice_index_or (map queue_room (slice_set queues ch q)) ch no_room ≡ queue_room q
+room_set queues ch q less =
     ap (λ l. slice_index_or l ch no_room) (map-set queue_room queues ch q)
     ∙ get_or-set_same (map queue_room queues) ch (queue_room q) no_room (omega (arith, less, length-map queues queue_room))
 
 -- room stays if the object does and no list's room falls
-pub room-grows : (e f : EngineState) → object_of f.view ≡ object_of e.view → e.room.entries ≤ f.room.entries → ((ch : ℕ) → ((room_on e.room ch).indices ≤ (room_on f.room ch).indices) × ((room_on e.room ch).outcomes ≤ (room_on f.room ch).outcomes)) → KeepsRoom e f
-room-grows e f object entries queues ch h = record {
+pub room_grows : (e f : EngineState) → object_of f.view ≡ object_of e.view → e.room.entries ≤ f.room.entries → ((ch : ℕ) → ((room_on e.room ch).indices ≤ (room_on f.room ch).indices) × ((room_on e.room ch).outcomes ≤ (room_on f.room ch).outcomes)) → KeepsRoom e f
+room_grows e f object entries queues ch h = record {
   entry = omega (arith, entries, h.entry);
   cookie = omega (arith, (queues ch).0, h.cookie);
   outcomes = subst (λ (o : Object). unfinished (channel o ch) ≤ (room_on f.room ch).outcomes) (sym object) (omega (arith, (queues ch).1, h.outcomes));
 }
 
 -- a queue that is replaced by one with no less room
-pub queues-grow : (queues : List Queue) (i : ℕ) (q r : Queue) → i < length queues → q ≡ slice_index_or queues i q → q.indices.spare ≤ r.indices.spare → q.outcomes.spare ≤ r.outcomes.spare → (ch : ℕ) → ((slice_index_or (map queue_room queues) ch no_room).indices ≤ (slice_index_or (map queue_room (slice_set queues i r)) ch no_room).indices) × ((slice_index_or (map queue_room queues) ch no_room).outcomes ≤ (slice_index_or (map queue_room (slice_set queues i r)) ch no_room).outcomes)
-queues-grow queues i q r less read indices outcomes ch =
+pub queues_grow : (queues : List Queue) (i : ℕ) (q r : Queue) → i < length queues → q ≡ slice_index_or queues i q → q.indices.spare ≤ r.indices.spare → q.outcomes.spare ≤ r.outcomes.spare → (ch : ℕ) → ((slice_index_or (map queue_room queues) ch no_room).indices ≤ (slice_index_or (map queue_room (slice_set queues i r)) ch no_room).indices) × ((slice_index_or (map queue_room queues) ch no_room).outcomes ≤ (slice_index_or (map queue_room (slice_set queues i r)) ch no_room).outcomes)
+queues_grow queues i q r less read indices outcomes ch =
     elim (cases_eq ch i) [
-      | inl same ↦ rw (same, room-at queues i q less read, room-set queues i r less) (indices, outcomes)
+      | inl same ↦ rw (same, room_at queues i q less read, room_set queues i r less) (indices, outcomes)
       | inr other ↦ rw (map-set queue_room queues i r, get_or-set_other (map queue_room queues) i ch (queue_room r) no_room other) (omega arith, omega arith)
     ]
 
 -- ---- transfers that are found by their indices
 
-map-same : (f : ℕ → Descriptor) (xs : List ℕ) (ts : List Descriptor) → length xs ≡ length ts → ((k : ℕ) → k < length ts → f (slice_index xs k) ≡ slice_index_or ts k no_transfer) → map f xs ≡ ts
-map-same f [] [] n h = refl
-map-same f [] (t ∷ ts) n h = absurd (omega arith)
-map-same f (x ∷ xs) [] n h = absurd (omega arith)
-map-same f (x ∷ xs) (t ∷ ts) n h =
+map_same : (f : ℕ → Descriptor) (xs : List ℕ) (ts : List Descriptor) → length xs ≡ length ts → ((k : ℕ) → k < length ts → f (slice_index xs k) ≡ slice_index_or ts k no_transfer) → map f xs ≡ ts
+map_same f [] [] n h = refl
+map_same f [] (t ∷ ts) n h = absurd (omega arith)
+map_same f (x ∷ xs) [] n h = absurd (omega arith)
+map_same f (x ∷ xs) (t ∷ ts) n h =
     let first : f x ≡ t = h 0 (omega arith) in
-    let rest = map-same f xs ts (omega (arith, n)) (λ k l. h (suc k) (omega arith)) in
+    let rest = map_same f xs ts (omega (arith, n)) (λ k l. h (suc k) (omega arith)) in
     ap (λ u. u ∷ map f xs) first ∙ ap (λ l. t ∷ l) rest
 
-pub map-dropped : (f : ℕ → Descriptor) (k : ℕ) (xs : List ℕ) → map f (drop k xs) ≡ drop k (map f xs)
-map-dropped f zero xs = refl
-map-dropped f (suc k) [] = refl
-map-dropped f (suc k) (x ∷ xs) = map-dropped f k xs
+pub map_dropped : (f : ℕ → Descriptor) (k : ℕ) (xs : List ℕ) → map f (drop k xs) ≡ drop k (map f xs)
+map_dropped f zero xs = refl
+map_dropped f (suc k) [] = refl
+map_dropped f (suc k) (x ∷ xs) = map_dropped f k xs
 
 -- the transfers of a queue that its entries give
-later-all : (ch : ℕ) (kept : List Descriptor) (history : List Entry) (memory : List ℕ) (q : Queue) (c : ChannelState) → IsQueue ch kept history memory q c → map (transfer_in history) q.indices.items ≡ drop (length kept) c.submitted
-later-all ch kept history memory q c t =
+later_all : (ch : ℕ) (kept : List Descriptor) (history : List Entry) (memory : List ℕ) (q : Queue) (c : ChannelState) → IsQueue ch kept history memory q c → map (transfer_in history) q.indices.items ≡ drop (length kept) c.submitted
+later_all ch kept history memory q c t =
     let n = length kept in
     let many : length q.indices.items ≡ length (drop n c.submitted) = omega (arith, t.many, length-drop n c.submitted) in
-    map-same (transfer_in history) q.indices.items (drop n c.submitted) many
+    map_same (transfer_in history) q.indices.items (drop n c.submitted) many
     (λ k less. ap transfer_of (t.indexed k (omega (arith, less, many))).1 ∙ sym (get_or-drop n c.submitted k no_transfer))
 
 -- all its transfers, with those that the base has
-pub found-all : (ch : ℕ) (kept : List Descriptor) (history : List Entry) (memory : List ℕ) (q : Queue) (c : ChannelState) → IsQueue ch kept history memory q c → transfers_in kept history q.indices.items ≡ c.submitted
-found-all ch kept history memory q c t =
+pub found_all : (ch : ℕ) (kept : List Descriptor) (history : List Entry) (memory : List ℕ) (q : Queue) (c : ChannelState) → IsQueue ch kept history memory q c → transfers_in kept history q.indices.items ≡ c.submitted
+found_all ch kept history memory q c t =
     ap (λ l. l ++ map (transfer_in history) q.indices.items) (sym t.first)
-    ∙ ap (λ l. take (length kept) c.submitted ++ l) (later-all ch kept history memory q c t)
+    ∙ ap (λ l. take (length kept) c.submitted ++ l) (later_all ch kept history memory q c t)
     ∙ take-append-drop (length kept) c.submitted
 
 -- a transfer of the base or of an entry is the one at its place among all
-pub transfer-at-all : (kept : List Descriptor) (history : List Entry) (indices : List ℕ) (n : ℕ) → n < length kept + length indices → unwrap_or (transfer_at kept history indices n) no_transfer ≡ slice_index_or (transfers_in kept history indices) n no_transfer
-transfer-at-all kept history indices n less = elim (cases_lt n (length kept)) [
+pub transfer_at_all : (kept : List Descriptor) (history : List Entry) (indices : List ℕ) (n : ℕ) → n < length kept + length indices → unwrap_or (transfer_at kept history indices n) no_transfer ≡ slice_index_or (transfers_in kept history indices) n no_transfer
+transfer_at_all kept history indices n less = elim (cases_lt n (length kept)) [
   | inl early ↦
       let e : nat_lt n (length kept) ≡ true = lt-ltb n (length kept) early in
       let is : slice_get kept n ≡ Some (slice_index_or kept n no_transfer) = slice_get-get_or kept n no_transfer early in
@@ -137,37 +137,37 @@ transfer-at-all kept history indices n less = elim (cases_lt n (length kept)) [
 
 -- ---- which steps end
 
-start-ends : (v : View) (ch : ℕ) (x : Option RunningTransfer) → false ≡ ends (start_turn v ch x).0
-start-ends v ch None = refl
-start-ends v ch (Some r) = refl
+start_ends : (v : View) (ch : ℕ) (x : Option RunningTransfer) → false ≡ ends (start_turn v ch x).0
+start_ends v ch None = refl
+start_ends v ch (Some r) = refl
 
-front-ends : (v : View) (ch : ℕ) (o : Option Descriptor) → false ≡ ends (front_turn v ch o None).0
-front-ends v ch None = refl
-front-ends v ch (Some t) = start-ends v ch (first_conflicting v t)
+front_ends : (v : View) (ch : ℕ) (o : Option Descriptor) → false ≡ ends (front_turn v ch o None).0
+front_ends v ch None = refl
+front_ends v ch (Some t) = start_ends v ch (first_conflicting v t)
 
-by-mark : (b : Bool) (v : View) (ch n : ℕ) (t : Descriptor) (how : TransResult) (kind : FaultKind) (m w : Shared) → ends (if◌then◌else◌ {A = Stepped} b (finishes v ch t n how) (next_moved v ch n)).0 ≡ is_some (fault_in (if◌then◌else◌ {A = ChanTurn × Shared} b (Fault kind, m) (Moved, w)).0)
-by-mark true v ch n t how kind m w = refl
-by-mark false v ch n t how kind m w = refl
+by_mark_law : (b : Bool) (v : View) (ch n : ℕ) (t : Descriptor) (how : TransResult) (kind : FaultKind) (m w : Shared) → ends (if◌then◌else◌ {A = Stepped} b (finishes v ch t n how) (next_moved v ch n)).0 ≡ is_some (fault_in (if◌then◌else◌ {A = ChanTurn × Shared} b (Fault kind, m) (Moved, w)).0)
+by_mark_law true v ch n t how kind m w = refl
+by_mark_law false v ch n t how kind m w = refl
 
-by-flag : (b : Bool) (x y : Stepped) → ends x.0 ≡ false → ends y.0 ≡ false → ends (if◌then◌else◌ {A = Stepped} b x y).0 ≡ false
-by-flag true x y h g = h
-by-flag false x y h g = g
+by_flag_law : (b : Bool) (x y : Stepped) → ends x.0 ≡ false → ends y.0 ≡ false → ends (if◌then◌else◌ {A = Stepped} b x y).0 ≡ false
+by_flag_law true x y h g = h
+by_flag_law false x y h g = g
 
-no-fault : (b : Bool) (e : ℕ) (m w : Shared) → is_some (fault_in (if◌then◌else◌ {A = ChanTurn × Shared} b (Moved, w) (Waiting e, m)).0) ≡ false
-no-fault true e m w = refl
-no-fault false e m w = refl
+no_fault : (b : Bool) (e : ℕ) (m w : Shared) → is_some (fault_in (if◌then◌else◌ {A = ChanTurn × Shared} b (Moved, w) (Waiting e, m)).0) ≡ false
+no_fault true e m w = refl
+no_fault false e m w = refl
 
 -- an instruction that isn't the end finishes the front where the channel fails at it
-pub ends-insn : (v : View) (ch n : ℕ) (t : Descriptor) (m : Shared) (i : Insn) → i ≢ End → ends (insn_turn v ch t n i).0 ≡ is_some (fault_in (effect_of i (read_places t n) (written_places t n) (object_of v).marks m).0)
-ends-insn v ch n t m End h = absurd (h refl)
-ends-insn v ch n t m Ld h = by-mark (meets_mark Reading (object_of v).marks (read_places t n)) v ch n t ReadFailed DataReadErr m m
-ends-insn v ch n t m St h = by-mark (meets_mark Writing (object_of v).marks (written_places t n)) v ch n t WriteFailed DataWriteErr m _
-ends-insn v ch n t m (Sev e) h = refl
-ends-insn v ch n t m (Wfe e x) h =
-    by-flag (is_set (object_of v) e) _ _ refl refl ∙ sym (no-fault (slice_index_or m.flags e false) e m _)
-ends-insn v ch n t m (Mov a b) h = refl
-ends-insn v ch n t m Rmb h = refl
-ends-insn v ch n t m Wmb h = refl
-ends-insn v ch n t m Nop h = refl
-ends-insn v ch n t m (Lp a b) h = refl
-ends-insn v ch n t m (LpEnd a b) h = refl
+pub ends_insn : (v : View) (ch n : ℕ) (t : Descriptor) (m : Shared) (i : Insn) → i ≢ End → ends (insn_turn v ch t n i).0 ≡ is_some (fault_in (effect_of i (read_places t n) (written_places t n) (object_of v).marks m).0)
+ends_insn v ch n t m End h = absurd (h refl)
+ends_insn v ch n t m Ld h = by_mark_law (meets_mark Reading (object_of v).marks (read_places t n)) v ch n t ReadFailed DataReadErr m m
+ends_insn v ch n t m St h = by_mark_law (meets_mark Writing (object_of v).marks (written_places t n)) v ch n t WriteFailed DataWriteErr m _
+ends_insn v ch n t m (Sev e) h = refl
+ends_insn v ch n t m (Wfe e x) h =
+    by_flag_law (is_set (object_of v) e) _ _ refl refl ∙ sym (no_fault (slice_index_or m.flags e false) e m _)
+ends_insn v ch n t m (Mov a b) h = refl
+ends_insn v ch n t m Rmb h = refl
+ends_insn v ch n t m Wmb h = refl
+ends_insn v ch n t m Nop h = refl
+ends_insn v ch n t m (Lp a b) h = refl
+ends_insn v ch n t m (LpEnd a b) h = refl

@@ -5,7 +5,7 @@ use Rattle.dma_mem.specs.Places.{Descriptor, filling, lies_below, share}
 use Rattle.dma_mem.specs.Image.{put, after_moves}
 use Rattle.dma_mem.specs.declared.marks.MarkKind.{MarkKind}
 use Rattle.dma_mem.specs.declared.marks.MarkKind.TheVariants.{Reading, Writing}
-use Rattle.dma_mem.proofs.TransferRules.{IsTransfer-from_no_refusal}
+use Rattle.dma_mem.proofs.TransferRules.{IsTransfer_from_no_refusal}
 use Rattle.dma_chan.specs.Compiled.{beat_of, parts, members}
 use Rattle.dma_chan.specs.Traffic.{member, stored_after, burst}
 use Rattle.dma_chan.specs.Bursts.{burst_at}
@@ -55,7 +55,7 @@ unfolding opening put after_moves share
 copied_is_legal = (
   omega arith,
   (
-    (omega arith, IsTransfer-from_no_refusal (copy 0 2 2) (λ e. absurd (cc)) refl, refl, refl, omega arith),
+    (omega arith, IsTransfer_from_no_refusal (copy 0 2 2) (λ e. absurd (cc)) refl, refl, refl, omega arith),
     (omega arith, ((refl, ((λ waits. waits), (λ signals. signals), refl)), ((omega arith, refl), tt))),
   ),
 )

@@ -5,8 +5,8 @@ use Rattle.std.proofs.lemmas.Bool.{and_parts, leb-true, ltb-false, or_parts}
 use Rattle.std.proofs.lemmas.List.{length-replicate, length-set, length-map}
 use Rattle.dma_mem.specs.Image.{bytes_at, is_size}
 use Rattle.dma_mem.specs.Limits.{largest_size}
-use Rattle.dma_mem.proofs.ImageOver.{length-after_moves}
-use Rattle.dma_mem.proofs.ImagePut.{length-put}
+use Rattle.dma_mem.proofs.ImageOver.{length_after_moves}
+use Rattle.dma_mem.proofs.ImagePut.{length_put}
 use Rattle.dma_engine.specs.declared.entry.Entry.{Entry}
 use Rattle.dma_engine.specs.declared.entry.Entry.TheVariants.{Wrote, ReadBack, Submitted, Issued, Passed, Signalled, Finished, Terminated, Marked, Unmarked}
 use Rattle.dma_engine.specs.declared.entry.Signaller.TheVariants.{Channel, Host}
@@ -17,83 +17,83 @@ use Rattle.dma_engine.specs.View.{View, object_of, size, new_fault}
 use Rattle.dma_engine.specs.inner.Holds.{Holds, Parts, view_of, schedule_of}
 
 -- no entry changes the size of the memory
-pub size-after : (o : Object) (e : Entry) → length (after o e).image ≡ length o.image
-size-after o (Wrote addr bytes) = length-put o.image (bytes_at addr bytes)
-size-after o (ReadBack addr bytes) = refl
-size-after o (Submitted ch t cookie) = refl
-size-after o (Issued ch) = refl
-size-after o (Passed ch event) = refl
-size-after o (Signalled (Channel ch) event) = refl
-size-after o (Signalled Host event) = refl
-size-after o (Finished ch result done) = length-after_moves _ _
-size-after o (Terminated ch done count) = length-after_moves _ _
-size-after o (Marked kind segment) = refl
-size-after o Unmarked = refl
+pub size_after : (o : Object) (e : Entry) → length (after o e).image ≡ length o.image
+size_after o (Wrote addr bytes) = length_put o.image (bytes_at addr bytes)
+size_after o (ReadBack addr bytes) = refl
+size_after o (Submitted ch t cookie) = refl
+size_after o (Issued ch) = refl
+size_after o (Passed ch event) = refl
+size_after o (Signalled (Channel ch) event) = refl
+size_after o (Signalled Host event) = refl
+size_after o (Finished ch result done) = length_after_moves _ _
+size_after o (Terminated ch done count) = length_after_moves _ _
+size_after o (Marked kind segment) = refl
+size_after o Unmarked = refl
 
 -- nor the number of channels
-pub many-after : (o : Object) (e : Entry) → length (after o e).channels ≡ length o.channels
-many-after o (Wrote addr bytes) = refl
-many-after o (ReadBack addr bytes) = refl
-many-after o (Submitted ch t cookie) = length-set _ _ _
-many-after o (Issued ch) = length-set _ _ _
-many-after o (Passed ch event) = length-set _ _ _
-many-after o (Signalled (Channel ch) event) = length-set _ _ _
-many-after o (Signalled Host event) = refl
-many-after o (Finished ch result done) = length-set _ _ _
-many-after o (Terminated ch done count) = length-set _ _ _
-many-after o (Marked kind segment) = refl
-many-after o Unmarked = refl
+pub many_after : (o : Object) (e : Entry) → length (after o e).channels ≡ length o.channels
+many_after o (Wrote addr bytes) = refl
+many_after o (ReadBack addr bytes) = refl
+many_after o (Submitted ch t cookie) = length-set _ _ _
+many_after o (Issued ch) = length-set _ _ _
+many_after o (Passed ch event) = length-set _ _ _
+many_after o (Signalled (Channel ch) event) = length-set _ _ _
+many_after o (Signalled Host event) = refl
+many_after o (Finished ch result done) = length-set _ _ _
+many_after o (Terminated ch done count) = length-set _ _ _
+many_after o (Marked kind segment) = refl
+many_after o Unmarked = refl
 
-pub many-channels : (o : Object) (h : List Entry) → length (object_after o h).channels ≡ length o.channels
-many-channels o [] = refl
-many-channels o (e ∷ es) = many-channels (after o e) es ∙ many-after o e
+pub many_channels : (o : Object) (h : List Entry) → length (object_after o h).channels ≡ length o.channels
+many_channels o [] = refl
+many_channels o (e ∷ es) = many_channels (after o e) es ∙ many_after o e
 
-pub size-object : (o : Object) (h : List Entry) → length (object_after o h).image ≡ length o.image
-size-object o [] = refl
-size-object o (e ∷ es) = size-object (after o e) es ∙ size-after o e
+pub size_object : (o : Object) (h : List Entry) → length (object_after o h).image ≡ length o.image
+size_object o [] = refl
+size_object o (e ∷ es) = size_object (after o e) es ∙ size_after o e
 
 -- nor the number of flags
-pub flags-after : (o : Object) (e : Entry) → length (after o e).events ≡ length o.events
-flags-after o (Wrote addr bytes) = refl
-flags-after o (ReadBack addr bytes) = refl
-flags-after o (Submitted ch t cookie) = refl
-flags-after o (Issued ch) = refl
-flags-after o (Passed ch event) = length-set _ _ _
-flags-after o (Signalled (Channel ch) event) = length-set _ _ _
-flags-after o (Signalled Host event) = length-set _ _ _
-flags-after o (Finished ch result done) = refl
-flags-after o (Terminated ch done count) = refl
-flags-after o (Marked kind segment) = refl
-flags-after o Unmarked = refl
+pub flags_after_law : (o : Object) (e : Entry) → length (after o e).events ≡ length o.events
+flags_after_law o (Wrote addr bytes) = refl
+flags_after_law o (ReadBack addr bytes) = refl
+flags_after_law o (Submitted ch t cookie) = refl
+flags_after_law o (Issued ch) = refl
+flags_after_law o (Passed ch event) = length-set _ _ _
+flags_after_law o (Signalled (Channel ch) event) = length-set _ _ _
+flags_after_law o (Signalled Host event) = length-set _ _ _
+flags_after_law o (Finished ch result done) = refl
+flags_after_law o (Terminated ch done count) = refl
+flags_after_law o (Marked kind segment) = refl
+flags_after_law o Unmarked = refl
 
-pub flags-object : (o : Object) (h : List Entry) → length (object_after o h).events ≡ length o.events
-flags-object o [] = refl
-flags-object o (e ∷ es) = flags-object (after o e) es ∙ flags-after o e
+pub flags_object : (o : Object) (h : List Entry) → length (object_after o h).events ≡ length o.events
+flags_object o [] = refl
+flags_object o (e ∷ es) = flags_object (after o e) es ∙ flags_after_law o e
 
-pub opening-size : (bytes many : ℕ) → length (opening bytes many).image ≡ bytes
+pub opening_size : (bytes many : ℕ) → length (opening bytes many).image ≡ bytes
 unfolding opening
-opening-size bytes many = length-replicate bytes 0
+opening_size bytes many = length-replicate bytes 0
 
-pub opening-many : (bytes many : ℕ) → length (opening bytes many).channels ≡ many
+pub opening_many : (bytes many : ℕ) → length (opening bytes many).channels ≡ many
 unfolding opening
-opening-many bytes many = length-replicate many _
+opening_many bytes many = length-replicate many _
 
-pub opening-flags : (bytes many : ℕ) → length (opening bytes many).events ≡ 32
+pub opening_flags : (bytes many : ℕ) → length (opening bytes many).events ≡ 32
 unfolding opening
-opening-flags bytes many = refl
+opening_flags bytes many = refl
 
-pub size-is : (p : Parts) → Holds p → p.size ≡ size (view_of p)
-size-is p h = h.size ∙ sym (size-object p.base p.history)
+pub size_is : (p : Parts) → Holds p → p.size ≡ size (view_of p)
+size_is p h = h.size ∙ sym (size_object p.base p.history)
 
-pub memory-size : (p : Parts) → Holds p → length p.memory ≡ size (view_of p)
-memory-size p h = ap length h.shown ∙ length-after_moves _ _
+pub memory_size : (p : Parts) → Holds p → length p.memory ≡ size (view_of p)
+memory_size p h = ap length h.shown ∙ length_after_moves _ _
 
-pub flags-many : (p : Parts) → Holds p → length (object_of (view_of p)).events ≡ 32
-flags-many p h = flags-object p.base p.history ∙ h.sound.opens.flags
+pub flags_many : (p : Parts) → Holds p → length (object_of (view_of p)).events ≡ 32
+flags_many p h = flags_object p.base p.history ∙ h.sound.opens.flags
 
-not-false : (b : Bool) → not b ≡ false → b ≡ true
-not-false true h = refl
-not-false false h = absurd cc
+not_false_law : (b : Bool) → not b ≡ false → b ≡ true
+not_false_law true h = refl
+not_false_law false h = absurd cc
 
 -- an engine that can be made has 1 to 8 channels and a memory's size
 pub made : (bytes many : ℕ) → new_fault bytes many ≡ None → (many ≤ 8) × (is_size bytes ≡ true)
@@ -102,20 +102,20 @@ made bytes many h =
       | true ↦ λ _ _ e. absurd cc
       | false ↦ λ d. elim c as (λ c. not (is_size bytes) ≡ c → (if c then Some SizeOutOfRange else None) ≡ None → (many ≤ 8) × (is_size bytes ≡ true)) [
         | true ↦ λ _ e. absurd cc
-        | false ↦ λ f _. (ltb-false 8 many (or_parts _ _ d).1, not-false (is_size bytes) f)
+        | false ↦ λ f _. (ltb-false 8 many (or_parts _ _ d).1, not_false_law (is_size bytes) f)
       ]
     ] in
     by _ _ refl refl h
 
-pub few-queues : (p : Parts) → Holds p → length p.queues ≤ 8
-few-queues p h =
+pub few_queues : (p : Parts) → Holds p → length p.queues ≤ 8
+few_queues p h =
     let v : View = view_of p in
     let m = made (length v.base.image) (length v.base.channels) h.sound.makes in
-    omega (arith, m.0, many-channels v.base p.history, h.sound.fits.many, length-map p.queues schedule_of)
+    omega (arith, m.0, many_channels v.base p.history, h.sound.fits.many, length-map p.queues schedule_of)
 
-pub size-small : (p : Parts) → Holds p → size (view_of p) ≤ 4294967295
-size-small p h =
+pub size_small : (p : Parts) → Holds p → size (view_of p) ≤ 4294967295
+size_small p h =
     let v : View = view_of p in
     let m = made (length v.base.image) (length v.base.channels) h.sound.makes in
     let parts = and_parts (nat_le 1 (length v.base.image)) (nat_le (length v.base.image) largest_size) m.1 in
-    omega (arith, leb-true _ _ parts.1, size-object v.base p.history)
+    omega (arith, leb-true _ _ parts.1, size_object v.base p.history)

@@ -9,7 +9,7 @@ use Rattle.std.proofs.lemmas.Option.{slice_get_within, get_or_from_slice_get}
 use Rattle.dma_mem.specs.Places.{Descriptor, lies_below}
 use Rattle.dma_mem.specs.Meeting.{IsFree}
 use Rattle.dma_mem.specs.Rules.{IsTransfer}
-use Rattle.dma_mem.proofs.SharedPlaces.{is_free_of-true}
+use Rattle.dma_mem.proofs.SharedPlaces.{is_free_of_true}
 use Rattle.dma_chan.specs.Channel.{ChannelValue}
 use Rattle.dma_chan.specs.Compiled.{cost}
 use Rattle.dma_chan.specs.inner.At.{IsAt}
@@ -24,11 +24,11 @@ use Rattle.dma_engine.specs.Object.{Object, ChannelState, Allows, IsMark, after,
 use Rattle.dma_engine.specs.History.{object_after, IsLegal}
 use Rattle.dma_engine.specs.View.{View, ChannelSchedule, RunningTransfer, Agrees, AreFree, Fits, IsSound, runs, object_of, size}
 use Rattle.dma_engine.specs.inner.Holds.{Holds, IsRun, Parts, view_of}
-use Rattle.dma_engine.proofs.Boards.{with_channel-at}
-use Rattle.dma_engine.proofs.Entries.{taken-some, runs_at}
-use Rattle.dma_engine.proofs.Queues.{front_where, holds-at}
-use Rattle.dma_engine.proofs.Sizes.{size-after, size-object}
-use Rattle.dma_engine.proofs.WhatRuns.{All-filter_map, below, above}
+use Rattle.dma_engine.proofs.Boards.{with_channel_at}
+use Rattle.dma_engine.proofs.Entries.{taken_some, runs_at}
+use Rattle.dma_engine.proofs.Queues.{front_where, holds_at}
+use Rattle.dma_engine.proofs.Sizes.{size_after, size_object}
+use Rattle.dma_engine.proofs.WhatRuns.{All_filter_map, below, above}
 
 -- ---- submitted transfers
 
@@ -39,45 +39,45 @@ IsGood n t = IsTransfer t × (lies_below t n ≡ true)
 abbrev pub AreRuled : ℕ → Object → Type 0
 AreRuled n o = (ch k : ℕ) (t : Descriptor) → slice_get (channel o ch).submitted k ≡ Some t → IsGood n t
 
-ruled-with : (n : ℕ) (o : Object) (ch : ℕ) (c : ChannelState) → AreRuled n o → ((k : ℕ) (t : Descriptor) → slice_get c.submitted k ≡ Some t → IsGood n t) → AreRuled n (with_channel o ch c)
-ruled-with n o ch c h g = λ d k t is. elim (cases_eq d ch) [
-  | inl e ↦ elim (with_channel-at o ch c) [
+ruled_with : (n : ℕ) (o : Object) (ch : ℕ) (c : ChannelState) → AreRuled n o → ((k : ℕ) (t : Descriptor) → slice_get c.submitted k ≡ Some t → IsGood n t) → AreRuled n (with_channel o ch c)
+ruled_with n o ch c h g = λ d k t is. elim (cases_eq d ch) [
+  | inl e ↦ elim (with_channel_at o ch c) [
     | inl f ↦ g k t (let is' : slice_get (channel (with_channel o ch c) ch).submitted k ≡ Some t = rw e at is in sym (ap (λ (x : ChannelState). slice_get x.submitted k) f) ∙ is')
     | inr f ↦ h ch k t (let is' : slice_get (channel (with_channel o ch c) ch).submitted k ≡ Some t = rw e at is in sym (ap (λ (x : ChannelState). slice_get x.submitted k) f) ∙ is')
   ]
   | inr e ↦ h d k t (sym (ap (λ (x : ChannelState). slice_get x.submitted k) (get_or-set_other o.channels ch d c empty_channel e)) ∙ is)
 ]
 
-push-cases : {X : Type 0} (xs : List X) (y x : X) (k : ℕ) → slice_get (xs ++ y ∷ []) k ≡ Some x → (slice_get xs k ≡ Some x) ⊎ (y ≡ x)
-push-cases [] y x zero h = inr cc
-push-cases [] y x (suc k) h = absurd cc
-push-cases (z ∷ xs) y x zero h = inl h
-push-cases (z ∷ xs) y x (suc k) h = push-cases xs y x k h
+push_cases : {X : Type 0} (xs : List X) (y x : X) (k : ℕ) → slice_get (xs ++ y ∷ []) k ≡ Some x → (slice_get xs k ≡ Some x) ⊎ (y ≡ x)
+push_cases [] y x zero h = inr cc
+push_cases [] y x (suc k) h = absurd cc
+push_cases (z ∷ xs) y x zero h = inl h
+push_cases (z ∷ xs) y x (suc k) h = push_cases xs y x k h
 
-pub ruled-after : (n : ℕ) (o : Object) (e : Entry) → length o.image ≡ n → AreRuled n o → Allows o e → AreRuled n (after o e)
-ruled-after n o (Wrote addr bytes) m h a = h
-ruled-after n o (ReadBack addr bytes) m h a = h
-ruled-after n o (Submitted ch t cookie) m h a =
+pub ruled_after : (n : ℕ) (o : Object) (e : Entry) → length o.image ≡ n → AreRuled n o → Allows o e → AreRuled n (after o e)
+ruled_after n o (Wrote addr bytes) m h a = h
+ruled_after n o (ReadBack addr bytes) m h a = h
+ruled_after n o (Submitted ch t cookie) m h a =
     let below : lies_below t n ≡ true = rw m at a.2 in
-    ruled-with n o ch _ h (λ k u is. elim (push-cases (channel o ch).submitted t u k is) [
+    ruled_with n o ch _ h (λ k u is. elim (push_cases (channel o ch).submitted t u k is) [
       | inl old ↦ h ch k u old
       | inr new ↦ subst (IsGood n) new (a.1, below)
     ])
-ruled-after n o (Issued ch) m h a = ruled-with n o ch _ h (λ k u is. h ch k u is)
-ruled-after n o (Passed ch event) m h a = ruled-with n (with_flag o event false) ch _ h (λ k u is. h ch k u is)
-ruled-after n o (Signalled (Channel ch) event) m h a = ruled-with n (with_flag o event true) ch _ h (λ k u is. h ch k u is)
-ruled-after n o (Signalled Host event) m h a = h
-ruled-after n o (Finished ch result done) m h a = ruled-with n (with_front_laid o ch done) ch _ h (λ k u is. h ch k u is)
-ruled-after n o (Terminated ch done count) m h a = ruled-with n (with_front_laid o ch done) ch _ h (λ k u is. h ch k u is)
-ruled-after n o (Marked kind segment) m h a = h
-ruled-after n o Unmarked m h a = h
+ruled_after n o (Issued ch) m h a = ruled_with n o ch _ h (λ k u is. h ch k u is)
+ruled_after n o (Passed ch event) m h a = ruled_with n (with_flag o event false) ch _ h (λ k u is. h ch k u is)
+ruled_after n o (Signalled (Channel ch) event) m h a = ruled_with n (with_flag o event true) ch _ h (λ k u is. h ch k u is)
+ruled_after n o (Signalled Host event) m h a = h
+ruled_after n o (Finished ch result done) m h a = ruled_with n (with_front_laid o ch done) ch _ h (λ k u is. h ch k u is)
+ruled_after n o (Terminated ch done count) m h a = ruled_with n (with_front_laid o ch done) ch _ h (λ k u is. h ch k u is)
+ruled_after n o (Marked kind segment) m h a = h
+ruled_after n o Unmarked m h a = h
 
-pub ruled-object : (n : ℕ) (o : Object) (es : List Entry) → length o.image ≡ n → AreRuled n o → IsLegal o es → AreRuled n (object_after o es)
-ruled-object n o [] m h a = h
-ruled-object n o (e ∷ es) m h a = ruled-object n (after o e) es (size-after o e ∙ m) (ruled-after n o e m h a.0) a.1
+pub ruled_object : (n : ℕ) (o : Object) (es : List Entry) → length o.image ≡ n → AreRuled n o → IsLegal o es → AreRuled n (object_after o es)
+ruled_object n o [] m h a = h
+ruled_object n o (e ∷ es) m h a = ruled_object n (after o e) es (size_after o e ∙ m) (ruled_after n o e m h a.0) a.1
 
-pub ruled-base : (o : Object) → IsBase o → AreRuled (length o.image) o
-ruled-base o h = λ ch k t is.
+pub ruled_base : (o : Object) → IsBase o → AreRuled (length o.image) o
+ruled_base o h = λ ch k t is.
     let ts = (channel o ch).submitted in
     let rules = (h.each ch).rules k t (slice_get_within ts k t is) in
     subst (IsGood (length o.image)) (get_or_from_slice_get ts k t t is) rules
@@ -87,22 +87,22 @@ ruled-base o h = λ ch k t is.
 abbrev pub AreMarks : List (MarkKind × Segment) → Type 0
 AreMarks = All (λ m. IsMark m.1)
 
-marked-after : (o : Object) (e : Entry) → AreMarks o.marks → Allows o e → AreMarks (after o e).marks
-marked-after o (Wrote addr bytes) h a = h
-marked-after o (ReadBack addr bytes) h a = h
-marked-after o (Submitted ch t cookie) h a = h
-marked-after o (Issued ch) h a = h
-marked-after o (Passed ch event) h a = h
-marked-after o (Signalled (Channel ch) event) h a = h
-marked-after o (Signalled Host event) h a = h
-marked-after o (Finished ch result done) h a = h
-marked-after o (Terminated ch done count) h a = h
-marked-after o (Marked kind segment) h a = All-push (λ m. IsMark m.1) o.marks (kind, segment) h a
-marked-after o Unmarked h a = All-nil (λ m. IsMark m.1)
+marked_after : (o : Object) (e : Entry) → AreMarks o.marks → Allows o e → AreMarks (after o e).marks
+marked_after o (Wrote addr bytes) h a = h
+marked_after o (ReadBack addr bytes) h a = h
+marked_after o (Submitted ch t cookie) h a = h
+marked_after o (Issued ch) h a = h
+marked_after o (Passed ch event) h a = h
+marked_after o (Signalled (Channel ch) event) h a = h
+marked_after o (Signalled Host event) h a = h
+marked_after o (Finished ch result done) h a = h
+marked_after o (Terminated ch done count) h a = h
+marked_after o (Marked kind segment) h a = All-push (λ m. IsMark m.1) o.marks (kind, segment) h a
+marked_after o Unmarked h a = All-nil (λ m. IsMark m.1)
 
-pub marked-object : (o : Object) (es : List Entry) → AreMarks o.marks → IsLegal o es → AreMarks (object_after o es).marks
-marked-object o [] h a = h
-marked-object o (e ∷ es) h a = marked-object (after o e) es (marked-after o e h a.0) a.1
+pub marked_object : (o : Object) (es : List Entry) → AreMarks o.marks → IsLegal o es → AreMarks (object_after o es).marks
+marked_object o [] h a = h
+marked_object o (e ∷ es) h a = marked_object (after o e) es (marked_after o e h a.0) a.1
 
 -- ---- a transfer that runs
 
@@ -120,8 +120,8 @@ pub record Runs (p : Parts) (ch : ℕ) (q : Queue) : Type 0 where
   pub below : lies_below transfer (size (view_of p)) ≡ true
   pub machine : IsAt transfer q.channel.taken p.memory q.channel
 
-machine-at : (memory : List ℕ) (m : ChannelValue) (c : ChannelState) (t : Descriptor) → is_some m.program ≡ true → front c ≡ Some t → IsRun memory m c → IsAt t m.taken memory m
-machine-at memory m c t loaded is h =
+machine_at : (memory : List ℕ) (m : ChannelValue) (c : ChannelState) (t : Descriptor) → is_some m.program ≡ true → front c ≡ Some t → IsRun memory m c → IsAt t m.taken memory m
+machine_at memory m c t loaded is h =
     let by : (o : Option ProgramValue) (f : Option Descriptor) → is_some o ≡ true → f ≡ Some t → IfSome o (λ _. IsSomeAnd f (λ u. IsAt u m.taken memory m)) → IsAt t m.taken memory m = λ o f. elim o as (λ o. is_some o ≡ true → f ≡ Some t → IfSome o (λ _. IsSomeAnd f (λ u. IsAt u m.taken memory m)) → IsAt t m.taken memory m) [
       | None ↦ λ e. absurd cc
       | Some x ↦ λ _ e g. let g' : IsSomeAnd (Some t) (λ u. IsAt u m.taken memory m) = rw e at g in g'
@@ -129,22 +129,22 @@ machine-at memory m c t loaded is h =
     by m.program (front c) loaded is h
 
 -- each front of a sound view meets the rules and lies below the size
-pub ruled-front : (v : View) (ch : ℕ) (t : Descriptor) → IsSound v → front (channel (object_of v) ch) ≡ Some t → IsGood (size v) t
-ruled-front v ch t h is =
-    let good = ruled-object (length v.base.image) v.base v.history refl (ruled-base v.base h.opens) h.legal ch _ t is in
-    let same : size v ≡ length v.base.image = size-object v.base v.history in
+pub ruled_front : (v : View) (ch : ℕ) (t : Descriptor) → IsSound v → front (channel (object_of v) ch) ≡ Some t → IsGood (size v) t
+ruled_front v ch t h is =
+    let good = ruled_object (length v.base.image) v.base v.history refl (ruled_base v.base h.opens) h.legal ch _ t is in
+    let same : size v ≡ length v.base.image = size_object v.base v.history in
     (good.0, ap (lies_below t) same ∙ good.1)
 
-pub good-front : (p : Parts) → Holds p → (ch : ℕ) (t : Descriptor) → front (channel (object_of (view_of p)) ch) ≡ Some t → IsGood (size (view_of p)) t
-good-front p h ch t is = ruled-front (view_of p) ch t h.sound is
+pub good_front : (p : Parts) → Holds p → (ch : ℕ) (t : Descriptor) → front (channel (object_of (view_of p)) ch) ≡ Some t → IsGood (size (view_of p)) t
+good_front p h ch t is = ruled_front (view_of p) ch t h.sound is
 
 pub running : (p : Parts) → Holds p → (ch : ℕ) (q : Queue) → ch < length p.queues → q ≡ slice_index_or p.queues ch q → is_some q.channel.program ≡ true → Runs p ch q
 running p h ch q less read loaded =
     let c = channel (object_of (view_of p)) ch in
-    let at = holds-at p h ch q less read in
-    let agrees : Agrees c (Some q.channel.taken) = rw (taken-some q.channel loaded) at at.agrees in
+    let at = holds_at p h ch q less read in
+    let agrees : Agrees c (Some q.channel.taken) = rw (taken_some q.channel loaded) at at.agrees in
     let f = front_where c _ agrees.1 in
-    let good = good-front p h ch f.transfer f.is in
+    let good = good_front p h ch f.transfer f.is in
     record {
       transfer = f.transfer;
       is = f.is;
@@ -156,20 +156,20 @@ running p h ch q less read loaded =
       signalled = f.holds.2;
       rules = good.0;
       below = good.1;
-      machine = machine-at p.memory q.channel c f.transfer loaded f.is at.tied.machine;
+      machine = machine_at p.memory q.channel c f.transfer loaded f.is at.tied.machine;
     }
 
 -- ---- what else runs is free of it
 
-free-at : (x : Option RunningTransfer) (r : RunningTransfer) → AreFree (Some r) x → IfSome x (λ s. IsFree r.transfer s.transfer)
-free-at None r h = tt
-free-at (Some s) r h = is_free_of-true r.transfer s.transfer h
+free_at : (x : Option RunningTransfer) (r : RunningTransfer) → AreFree (Some r) x → IfSome x (λ s. IsFree r.transfer s.transfer)
+free_at None r h = tt
+free_at (Some s) r h = is_free_of_true r.transfer s.transfer h
 
-pub free-others : (o : Object) (s : List ChannelSchedule) (ch : ℕ) (r : RunningTransfer) → Fits o s → ch < length o.channels → runs o s ch ≡ Some r → All (λ x. IsFree r.transfer x.transfer) (below o s ch) × All (λ x. IsFree r.transfer x.transfer) (above o s ch)
-free-others o s ch r h less is =
+pub free_others : (o : Object) (s : List ChannelSchedule) (ch : ℕ) (r : RunningTransfer) → Fits o s → ch < length o.channels → runs o s ch ≡ Some r → All (λ x. IsFree r.transfer x.transfer) (below o s ch) × All (λ x. IsFree r.transfer x.transfer) (above o s ch)
+free_others o s ch r h less is =
     let P : RunningTransfer → Type 0 = λ x. IsFree r.transfer x.transfer in
     let each : (d : ℕ) → d < length o.channels → ch ≢ d → IfSome (runs o s d) P = λ d l k.
-    let f : AreFree (Some r) (runs o s d) = rw is at (h.free ch d less l k) in free-at (runs o s d) r f in (
-      All-filter_map P (runs o s) 0 ch (λ d l m. each d (omega arith) (omega arith)),
-      All-filter_map P (runs o s) (ch + 1) (length o.channels - ch - 1) (λ d l m. each d (omega arith) (omega arith)),
+    let f : AreFree (Some r) (runs o s d) = rw is at (h.free ch d less l k) in free_at (runs o s d) r f in (
+      All_filter_map P (runs o s) 0 ch (λ d l m. each d (omega arith) (omega arith)),
+      All_filter_map P (runs o s) (ch + 1) (length o.channels - ch - 1) (λ d l m. each d (omega arith) (omega arith)),
     )

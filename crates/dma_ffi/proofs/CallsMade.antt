@@ -37,9 +37,9 @@ one_more v u w (c ∷ cs) [] call reply same answers = absurd same
 one_more v u w (c ∷ cs) (r ∷ rs) call reply made answers =
     (made.0, made.1, one_more made.0 u w cs rs call reply made.2 answers)
 
-replicate-end : {A : Type 0} (n : ℕ) (x : A) → replicate n x ++ x ∷ [] ≡ replicate (suc n) x
-replicate-end zero x = refl
-replicate-end (suc n) x = ap (λ l. x ∷ l) (replicate-end n x)
+replicate_end : {A : Type 0} (n : ℕ) (x : A) → replicate n x ++ x ∷ [] ≡ replicate (suc n) x
+replicate_end zero x = refl
+replicate_end (suc n) x = ap (λ l. x ∷ l) (replicate_end n x)
 
 steps_made : (v w : View) (ch n : ℕ) (last : Option Turn) → InARow v ch n last w → Made v (replicate n (Step ch)) (stepped n last) w
 steps_made v w ch zero last row = ([], subst (λ (l : Option Turn). AreReplies (stepped zero l) []) (sym row.0) refl, row.1)
@@ -48,7 +48,7 @@ steps_made v w ch (suc n) last (u, before, turn, row, goes, answers, is) =
     let replies : List Reply = made.0 ++ Turned turn ∷ [] in (
       replies,
       subst (λ (l : Option Turn). AreReplies (stepped (suc n) l) replies) (sym is) (made.0, refl),
-      subst (λ (calls : List Call). AreAnswers v calls replies w) (replicate-end n (Step ch))
+      subst (λ (calls : List Call). AreAnswers v calls replies w) (replicate_end n (Step ch))
           (one_more v u w (replicate n (Step ch)) made.0 (Step ch) (Turned turn) made.2 answers),
     )
 

@@ -12,7 +12,7 @@ use Rattle.dma_mem.specs.declared.marks.MarkKind.{MarkKind}
 use Rattle.dma_mem.specs.declared.segment.Segment.{Segment}
 use Rattle.dma_mem.specs.declared.transfer.TransferFault.{TransferFault}
 use Rattle.dma_mem.specs.declared.transfer.TransferFault.TheVariants.{EmptyList, TooManySegments, EmptySegment, SegmentWraps, TooLong, DestinationsMeet, SourceMeetsDestination, BadEvent}
-use Rattle.dma_mem.proofs.TransferRules.{IsTransfer-from_no_refusal, fill-from_no_refusal}
+use Rattle.dma_mem.proofs.TransferRules.{IsTransfer_from_no_refusal, fill_from_no_refusal}
 use Rattle.dma_mem.specs.declared.call.Call.{Call}
 use Rattle.dma_mem.specs.declared.call.Call.TheVariants.{Submit, Step, Mark}
 use Rattle.dma_engine.specs.View.{View}
@@ -35,57 +35,57 @@ refusal_by dst wait signal wraps met =
     cause met SourceMeetsDestination (
     cause (is_bad_event wait || is_bad_event signal) BadEvent None)))))))
 
-or-false : (b : Bool) → (b || false) ≡ b
-or-false true = refl
-or-false false = refl
+or_false_law : (b : Bool) → (b || false) ≡ b
+or_false_law true = refl
+or_false_law false = refl
 
-no-wrap : (inside wraps : Bool) → inside ≡ false → ((inside || false) || wraps) ≡ wraps
-no-wrap true wraps is = cc
-no-wrap false wraps is = refl
+no_wrap : (inside wraps : Bool) → inside ≡ false → ((inside || false) || wraps) ≡ wraps
+no_wrap true wraps is = cc
+no_wrap false wraps is = refl
 
 -- a fill whose byte has a 32-bit address breaks the same rule of transfers as of fills
-fill-refusal : (src : ℕ) (dst : List Segment) (wait signal : Option ℕ) → src < 4294967296 → refusal_of (filling src dst wait signal) ≡ refusal_of_fill src dst wait signal
-fill-refusal src dst wait signal below =
+fill_refusal : (src : ℕ) (dst : List Segment) (wait signal : Option ℕ) → src < 4294967296 → refusal_of (filling src dst wait signal) ≡ refusal_of_fill src dst wait signal
+fill_refusal src dst wait signal below =
     let inside : nat_lt 4294967296 (src + 1) ≡ false = le-ltb 4294967296 (src + 1) (omega (arith, below)) in
     let met : Bool = list_any (meets (record { addr = src; len = 1 })) dst in
-    ap (λ b. refusal_by dst wait signal b (met || false)) (no-wrap (nat_lt 4294967296 (src + 1)) (has_wrapping_segment dst) inside)
-    ∙ ap (λ b. refusal_by dst wait signal (has_wrapping_segment dst) b) (or-false met)
+    ap (λ b. refusal_by dst wait signal b (met || false)) (no_wrap (nat_lt 4294967296 (src + 1)) (has_wrapping_segment dst) inside)
+    ∙ ap (λ b. refusal_by dst wait signal (has_wrapping_segment dst) b) (or_false_law met)
 
 -- ---- the calls of each request
 
-pub none-made : All IsCall []
-none-made k d less = absurd (omega (arith, less))
+pub none_made_law : All IsCall []
+none_made_law k d less = absurd (omega (arith, less))
 
 alone : (call : Call) → IsCall call → All IsCall (call ∷ [])
-alone call can = All-cons IsCall call [] can none-made
+alone call can = All-cons IsCall call [] can none_made_law
 
-marks-made : (kind : Option MarkKind) (range : Segment) → All IsCall (marking kind range)
-marks-made None range = none-made
-marks-made (Some kind) range = alone (Mark kind range) tt
+marks_made : (kind : Option MarkKind) (range : Segment) → All IsCall (marking kind range)
+marks_made None range = none_made_law
+marks_made (Some kind) range = alone (Mark kind range) tt
 
-submit-made : (v w : View) (ch : ℕ) (t : Descriptor) (refusal : Option TransferFault) (answer : Answer) → (refusal ≡ None → IsTransfer t) → AnswersSubmit v ch refusal t answer w → All IsCall (if_replied answer (Submit ch t))
-submit-made v w ch t refusal answer fits (inl h) =
-    subst (λ (a : Answer). All IsCall (if_replied a (Submit ch t))) (sym h.0) none-made
-submit-made v w ch t refusal answer fits (inr h) =
+submit_made_law : (v w : View) (ch : ℕ) (t : Descriptor) (refusal : Option TransferFault) (answer : Answer) → (refusal ≡ None → IsTransfer t) → AnswersSubmit v ch refusal t answer w → All IsCall (if_replied answer (Submit ch t))
+submit_made_law v w ch t refusal answer fits (inl h) =
+    subst (λ (a : Answer). All IsCall (if_replied a (Submit ch t))) (sym h.0) none_made_law
+submit_made_law v w ch t refusal answer fits (inr h) =
     subst (λ (a : Answer). All IsCall (if_replied a (Submit ch t))) (sym h.1.1) (alone (Submit ch t) (fits h.0))
 
-steps-made : (ch most : ℕ) (answer : Answer) → All IsCall (calls_made (ask_steps ch most) answer)
-steps-made ch most (replied reply) = alone (Step ch) tt
-steps-made ch most (stepped taken last) = All-replicate IsCall taken (Step ch) tt
-steps-made ch most closed = none-made
-steps-made ch most (unfit fault) = none-made
-steps-made ch most no_kind = none-made
-steps-made ch most (known x) = none-made
+steps_made_law : (ch most : ℕ) (answer : Answer) → All IsCall (calls_made (ask_steps ch most) answer)
+steps_made_law ch most (replied reply) = alone (Step ch) tt
+steps_made_law ch most (stepped taken last) = All-replicate IsCall taken (Step ch) tt
+steps_made_law ch most closed = none_made_law
+steps_made_law ch most (unfit fault) = none_made_law
+steps_made_law ch most no_kind = none_made_law
+steps_made_law ch most (known x) = none_made_law
 
 -- the calls that a request of C makes, given its answer, can be made
-pub can-be-made : (v w : View) (request : Request) (answer : Answer) → CanBeRequested request → Answers v request answer w → All IsCall (calls_made request answer)
-can-be-made v w (ask_call call) answer can h = alone call can
-can-be-made v w (ask_mark kind range) answer can h = marks-made (mark_kind kind) range
-can-be-made v w (ask_copy ch t) answer can h =
-    submit-made v w ch t (refusal_of t) answer
-    (λ none. IsTransfer-from_no_refusal t (λ is. absurd (true≢false (sym is ∙ can))) none) h
-can-be-made v w (ask_fill ch src dst wait signal) answer can h =
-    submit-made v w ch (filling src dst wait signal) (refusal_of_fill src dst wait signal) answer
-    (λ none. fill-from_no_refusal src dst wait signal (fill-refusal src dst wait signal can ∙ none)) h
-can-be-made v w (ask_steps ch most) answer can h = steps-made ch most answer
-can-be-made v w (ask_value value) answer can h = none-made
+pub can_be_made : (v w : View) (request : Request) (answer : Answer) → CanBeRequested request → Answers v request answer w → All IsCall (calls_made request answer)
+can_be_made v w (ask_call call) answer can h = alone call can
+can_be_made v w (ask_mark kind range) answer can h = marks_made (mark_kind kind) range
+can_be_made v w (ask_copy ch t) answer can h =
+    submit_made_law v w ch t (refusal_of t) answer
+    (λ none. IsTransfer_from_no_refusal t (λ is. absurd (true≢false (sym is ∙ can))) none) h
+can_be_made v w (ask_fill ch src dst wait signal) answer can h =
+    submit_made_law v w ch (filling src dst wait signal) (refusal_of_fill src dst wait signal) answer
+    (λ none. fill_from_no_refusal src dst wait signal (fill_refusal src dst wait signal can ∙ none)) h
+can_be_made v w (ask_steps ch most) answer can h = steps_made_law ch most answer
+can_be_made v w (ask_value value) answer can h = none_made_law

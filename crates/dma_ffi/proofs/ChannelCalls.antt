@@ -14,7 +14,7 @@ use Rattle.dma_mem.specs.declared.segment.Segment.{Segment}
 use Rattle.dma_mem.specs.declared.transfer.TransferFault.{TransferFault}
 use Rattle.dma_mem.specs.declared.transfer.TransferFault.TheVariants as transfers
 use Rattle.dma_mem.proofs.Pieces.{first as first_piece, has_parts}
-use Rattle.dma_mem.proofs.TransferRules.{copy-from_no_refusal, fill-from_no_refusal}
+use Rattle.dma_mem.proofs.TransferRules.{copy_from_no_refusal, fill_from_no_refusal}
 use Rattle.dma_chan.specs.declared.bus.Bus.TheVariants.{Ideal}
 use Rattle.dma_chan.specs.Channel.{ChannelValue}
 use Rattle.dma_chan.specs.Changes as chan
@@ -84,11 +84,11 @@ loads_a_transfer = record {
   copy = λ src dst wait signal c d h.
       let t = copying src dst wait signal in
       let w = was_loaded (refusal_of t) t c d h in
-      has_compiled t d (copy-from_no_refusal src dst wait signal w.0) w.1;
+      has_compiled t d (copy_from_no_refusal src dst wait signal w.0) w.1;
   fill = λ src dst wait signal c d small h.
       let t = filling src dst wait signal in
       let w = was_loaded (refusal_of_fill src dst wait signal) t c d h in
-      has_compiled t d (fill-from_no_refusal src dst wait signal (fill_made src dst wait signal small w.0)) w.1;
+      has_compiled t d (fill_from_no_refusal src dst wait signal (fill_made src dst wait signal small w.0)) w.1;
   from = λ program t n regions addr rest c d h e loads. record { explains = h; loaded = was_read program regions addr rest c d e loads };
 }
 

@@ -12,13 +12,13 @@ use Rattle.dma_engine.specs.declared.turn.Turn.{Turn}
 use Rattle.dma_engine.specs.View.{View}
 use Rattle.dma_engine.specs.Answer.{StepAnswers}
 use Rattle.dma_engine.proofs.IdleSteps.{idle_steps_stay}
-use Rattle.dma_engine.proofs.Turns.{answer-is}
+use Rattle.dma_engine.proofs.Turns.{answer_is}
 use Rattle.dma_ffi.specs.Requests.{InARow, TakesSteps, goes_on}
 use Rattle.dma_ffi.specs.inner.InRow.{turn_before}
 
 -- a refused step changes nothing
 refused_stays : (v w : View) (ch : ℕ) (fault : EngineFault) → StepAnswers v ch (Err fault) w → w ≡ v
-refused_stays v w ch fault h = elim (answer-is v w (Step ch) (Refused fault) h) [
+refused_stays v w ch fault h = elim (answer_is v w (Step ch) (Refused fault) h) [
   | inl none ↦ none.1
   | inr is ↦ idle_steps_stay v w ch (Err fault) tt is
 ]

@@ -11,19 +11,19 @@ use Rattle.dma_insn.specs.declared.control.ControlFault.TheVariants.{ReservedSiz
 use Rattle.std.specs.Prelude.{IfOk}
 use Rattle.dma_insn.specs.ControlWord.{field, flag, size_code, size_of, end_with, end_at, end_bits, with_ends, control_of, bits_of, HasEndRanges, HasFields}
 
-pub size_of-size_code : (s : BeatSize) → size_of (size_code s) ≡ Some s
-size_of-size_code One = refl
-size_of-size_code Two = refl
-size_of-size_code Four = refl
-size_of-size_code Eight = refl
-size_of-size_code Sixteen = refl
+pub size_of_size_code : (s : BeatSize) → size_of (size_code s) ≡ Some s
+size_of_size_code One = refl
+size_of_size_code Two = refl
+size_of_size_code Four = refl
+size_of_size_code Eight = refl
+size_of_size_code Sixteen = refl
 
-pub size_code-le : (s : BeatSize) → size_code s ≤ 4
-size_code-le One = omega arith
-size_code-le Two = omega arith
-size_code-le Four = omega arith
-size_code-le Eight = omega arith
-size_code-le Sixteen = omega arith
+pub size_code_le : (s : BeatSize) → size_code s ≤ 4
+size_code_le One = omega arith
+size_code_le Two = omega arith
+size_code_le Four = omega arith
+size_code_le Eight = omega arith
+size_code_le Sixteen = omega arith
 
 -- one test of the chain of size codes
 by_code : (n c : ℕ) (s t : BeatSize) (rest : Option BeatSize) (b : Bool) → eqb n c ≡ b → size_code t ≡ c → (rest ≡ Some s → size_code s ≡ n) → cond b (Some t) rest ≡ Some s → size_code s ≡ n
@@ -35,8 +35,8 @@ by_code n c s t rest false is code more e = more e
 none_some : (s : BeatSize) (n : ℕ) → None ≡ Some s → size_code s ≡ n
 none_some s n e = cc
 
-pub size_code-size_of : (n : ℕ) (s : BeatSize) → size_of n ≡ Some s → size_code s ≡ n
-size_code-size_of n s e =
+pub size_code_size_of : (n : ℕ) (s : BeatSize) → size_of n ≡ Some s → size_code s ≡ n
+size_code_size_of n s e =
     by_code n 0 s One _ (eqb n 0) refl refl (by_code n 1 s Two _ (eqb n 1) refl refl (by_code n 2 s Four _ (eqb n 2) refl refl
     (by_code n 3 s Eight _ (eqb n 3) refl refl (by_code n 4 s Sixteen _ (eqb n 4) refl refl (none_some s n))))) e
 
@@ -57,9 +57,9 @@ flag_bit : (b : Bool) (n : ℕ) → flag b ≡ n → eqb n 1 ≡ b
 flag_bit true n e = rw (← e) refl
 flag_bit false n e = rw (← e) refl
 
-flag-le : (b : Bool) → flag b ≤ 1
-flag-le true = omega arith
-flag-le false = omega arith
+flag_le : (b : Bool) → flag b ≤ 1
+flag_le true = omega arith
+flag_le false = omega arith
 
 some_same : (a b : BurstEnd) → Some a ≡ Some b → a ≡ b
 some_same a b e = cc
@@ -72,7 +72,7 @@ end_fields k w None e is h = absurd (none_end e h)
 end_fields k w (Some s) e is h =
     subst (IsEnd k w) (some_same (end_with k w s) e h) (record {
       increments = bit_flag (field k 1 w) (omega arith);
-      size = size_code-size_of (field (k + 1) 3 w) s is;
+      size = size_code_size_of (field (k + 1) 3 w) s is;
       beats = refl;
       protection = refl;
       cache = refl;
@@ -91,7 +91,7 @@ same_end i j s t b c p q x y e1 e2 e3 e4 e5 = rw (e1, e2, e3, e4, e5) refl
 end_again : (k w : ℕ) (e : BurstEnd) → IsEnd k w e → end_at k w ≡ Some e
 unfolding end_at
 end_again k w e h =
-    let size : size_of (field (k + 1) 3 w) ≡ Some e.size = ap size_of (sym h.size) ∙ size_of-size_code e.size in
+    let size : size_of (field (k + 1) 3 w) ≡ Some e.size = ap size_of (sym h.size) ∙ size_of_size_code e.size in
     let same : end_with k w e.size ≡ e = same_end (eqb (field k 1 w) 1) e.increments e.size e.size (field (k + 4) 4 w + 1) e.beats (field (k + 8) 3 w) e.protection (field (k + 11) 3 w) e.cache (flag_bit e.increments (field k 1 w) h.increments) refl (sym h.beats) (sym h.protection) (sym h.cache) in
     rw size (ap Some same)
 
@@ -157,10 +157,10 @@ bits_of_fields w c small h =
 pub fields_of_bits : (c : Control) → HasEndRanges c.src → HasEndRanges c.dst → HasFields (bits_of c) c
 unfolding bits_of end_bits
 fields_of_bits c s d =
-    let i = flag-le c.src.increments in
-    let j = flag-le c.dst.increments in
-    let m = size_code-le c.src.size in
-    let n = size_code-le c.dst.size in
+    let i = flag_le c.src.increments in
+    let j = flag_le c.dst.increments in
+    let m = size_code_le c.src.size in
+    let n = size_code_le c.dst.size in
     record {
       src_increments = omega arith;
       src_size = omega arith;

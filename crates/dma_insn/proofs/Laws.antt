@@ -41,33 +41,33 @@ set_again r v rest h =
     rw (le-ltb (length bytes) 5 long, little_number-reads_back 4 v rest h) (elim r as (λ q. set_at (register_byte q) v ≡ Ok (Mov q v, 6)) [ Sar ↦ refl | Ccr ↦ refl | Dar ↦ refl ])
 
 -- an encoded instruction is decoded, whatever follows
-pub decoded-spelling : (i : Insn) (rest : List ℕ) → HasRanges i → decoded (spelling i ++ rest) ≡ Ok (i, length (spelling i))
-decoded-spelling End rest h = refl
-decoded-spelling Ld rest h = refl
-decoded-spelling St rest h = refl
-decoded-spelling Rmb rest h = refl
-decoded-spelling Wmb rest h = refl
-decoded-spelling Nop rest h = refl
-decoded-spelling (Lp Lc0 n) rest h = let e : n - 1 + 1 ≡ n = omega (arith, h.0) in ap (λ (m : ℕ). Ok (Lp Lc0 m, 2)) e
-decoded-spelling (Lp Lc1 n) rest h = let e : n - 1 + 1 ≡ n = omega (arith, h.0) in ap (λ (m : ℕ). Ok (Lp Lc1 m, 2)) e
-decoded-spelling (LpEnd Lc0 b) rest h = refl
-decoded-spelling (LpEnd Lc1 b) rest h = refl
-decoded-spelling (Sev e) rest h = signal_again e
-decoded-spelling (Wfe e v) rest h = wait_again e v
-decoded-spelling (Mov r v) rest h = set_again r v rest h
+pub decoded_spelling : (i : Insn) (rest : List ℕ) → HasRanges i → decoded (spelling i ++ rest) ≡ Ok (i, length (spelling i))
+decoded_spelling End rest h = refl
+decoded_spelling Ld rest h = refl
+decoded_spelling St rest h = refl
+decoded_spelling Rmb rest h = refl
+decoded_spelling Wmb rest h = refl
+decoded_spelling Nop rest h = refl
+decoded_spelling (Lp Lc0 n) rest h = let e : n - 1 + 1 ≡ n = omega (arith, h.0) in ap (λ (m : ℕ). Ok (Lp Lc0 m, 2)) e
+decoded_spelling (Lp Lc1 n) rest h = let e : n - 1 + 1 ≡ n = omega (arith, h.0) in ap (λ (m : ℕ). Ok (Lp Lc1 m, 2)) e
+decoded_spelling (LpEnd Lc0 b) rest h = refl
+decoded_spelling (LpEnd Lc1 b) rest h = refl
+decoded_spelling (Sev e) rest h = signal_again e
+decoded_spelling (Wfe e v) rest h = wait_again e v
+decoded_spelling (Mov r v) rest h = set_again r v rest h
 
 pub decoded_at : (bytes : List ℕ) (i : Insn) (n : ℕ) → IsSpelledAt bytes i n → decoded bytes ≡ Ok (i, n)
 decoded_at bytes i n h =
     let split : bytes ≡ spelling i ++ drop n bytes = sym (take-append-drop n bytes) ∙ ap (λ (front : List ℕ). front ++ drop n bytes) h.bytes_are in
-    ap decoded split ∙ decoded-spelling i (drop n bytes) h.in_range ∙ ap (λ (m : ℕ). Ok (i, m)) (sym h.count_is)
+    ap decoded split ∙ decoded_spelling i (drop n bytes) h.in_range ∙ ap (λ (m : ℕ). Ok (i, m)) (sym h.count_is)
 
 same_ok : (r : Decoded) (x y : Insn × ℕ) → r ≡ Ok x → r ≡ Ok y → x ≡ y
 same_ok r x y left right = cc
 
 pub one_front : NoSpellingBeginsAnother
 one_front i j xs ys hi hj e =
-    let left = decoded-spelling i xs hi in
-    let right = decoded-spelling j ys hj in
+    let left = decoded_spelling i xs hi in
+    let right = decoded_spelling j ys hj in
     let both = same_ok (decoded (spelling i ++ xs)) (i, length (spelling i)) (j, length (spelling j)) left (ap decoded e ∙ right) in
     let same : i ≡ j = ap (λ (p : Insn × ℕ). p.0) both in
     (same, append_cancel_left (spelling i) xs ys (e ∙ ap (λ (k : Insn). spelling k ++ ys) (sym same)))
@@ -128,12 +128,12 @@ wait_right (b ∷ rest) h =
     two (Wfe (b / 8) true) rest 0x36 b (omega arith) (let s : b / 8 * 8 + 2 ≡ b = omega arith in ap (λ (m : ℕ). 0x36 ∷ m ∷ []) s)) (λ t. bad_two (Wfe 0 false) 0x36 0 b rest (omega arith) refl))
 
 -- The bytes of the number that four bytes read as, the lowest first, are those bytes again.
-pub little_bytes-little_number : (bytes : List ℕ) → IsBytes bytes → 4 ≤ length bytes → little_bytes 4 (little_number 4 bytes) ≡ take 4 bytes
-little_bytes-little_number [] h n = absurd (omega arith)
-little_bytes-little_number (b ∷ []) h n = absurd (omega arith)
-little_bytes-little_number (b ∷ c ∷ []) h n = absurd (omega arith)
-little_bytes-little_number (b ∷ c ∷ d ∷ []) h n = absurd (omega arith)
-little_bytes-little_number (b ∷ c ∷ d ∷ e ∷ rest) h n =
+pub little_bytes_little_number : (bytes : List ℕ) → IsBytes bytes → 4 ≤ length bytes → little_bytes 4 (little_number 4 bytes) ≡ take 4 bytes
+little_bytes_little_number [] h n = absurd (omega arith)
+little_bytes_little_number (b ∷ []) h n = absurd (omega arith)
+little_bytes_little_number (b ∷ c ∷ []) h n = absurd (omega arith)
+little_bytes_little_number (b ∷ c ∷ d ∷ []) h n = absurd (omega arith)
+little_bytes_little_number (b ∷ c ∷ d ∷ e ∷ rest) h n =
     let v = little_number 4 (b ∷ c ∷ d ∷ e ∷ rest) in
     let bounds : (b < 256) × (c < 256) × (d < 256) × (e < 256) = (h 0, h 1, h 2, h 3) in
     let e0 : b ≡ v % 256 = omega (arith, bounds) in
@@ -156,7 +156,7 @@ set_whole : (r : Reg) (rest : List ℕ) → IsBytes rest → 4 ≤ length rest �
 set_whole r rest h n = record {
   in_range = omega (arith, h 0, h 1, h 2, h 3);
   count_is = refl;
-  bytes_are = ap (λ (xs : List ℕ). 0xbc ∷ register_byte r ∷ xs) (sym (little_bytes-little_number rest h n));
+  bytes_are = ap (λ (xs : List ℕ). 0xbc ∷ register_byte r ∷ xs) (sym (little_bytes_little_number rest h n));
 }
 
 set_field : (a : ℕ) (rest : List ℕ) → IsBytes rest → ltb (length (a ∷ rest)) 5 ≡ false → Right (0xbc ∷ a ∷ rest) (set_at a (little_number 4 rest))

@@ -23,11 +23,11 @@ use Rattle.dma_insn.proofs.ProgramLaws.{write_more, assembles_once}
 abbrev above : ℕ → List ℕ → Bool
 above k bytes = list_all (λ b. ltb k b) bytes
 
-above-append : (k : ℕ) (xs ys : List ℕ) → above k xs ≡ true → above k ys ≡ true → above k (xs ++ ys) ≡ true
-above-append k [] ys p q = q
-above-append k (x ∷ xs) ys p q =
+above_append : (k : ℕ) (xs ys : List ℕ) → above k xs ≡ true → above k ys ≡ true → above k (xs ++ ys) ≡ true
+above_append k [] ys p q = q
+above_append k (x ∷ xs) ys p q =
     let t = and_parts (ltb k x) (above k xs) p in
-    and_from (ltb k x) (above k (xs ++ ys)) t.0 (above-append k xs ys t.1 q)
+    and_from (ltb k x) (above k (xs ++ ys)) t.0 (above_append k xs ys t.1 q)
 
 -- a word without spaces is one word
 words_plain : (w : List ℕ) → above 32 w ≡ true → words_of w ≡ w ∷ []
@@ -57,7 +57,7 @@ above_decimal : (k n : ℕ) → k < 48 → n < 2 ^ 64 → above k (decimal n) �
 above_decimal k n low small =
     decimal_by_steps (λ m ds. above k ds ≡ true)
     (λ m h. and_from (ltb k (48 + m)) true (lt-ltb k (48 + m) (omega arith)) refl)
-    (λ m ds h p. above-append k ds ((48 + m % 10) ∷ []) p (and_from (ltb k (48 + m % 10)) true (lt-ltb k (48 + m % 10) (omega arith)) refl))
+    (λ m ds h p. above_append k ds ((48 + m % 10) ∷ []) p (and_from (ltb k (48 + m % 10)) true (lt-ltb k (48 + m % 10) (omega arith)) refl))
     n small
 
 pub own : IsNumeralModel (λ ds. all_ascii_digits ds ≡ true) (digits_value 10)
@@ -89,17 +89,17 @@ above_glyph k d low =
 above_digits : (k : ℕ) (places : List ℕ) (v : ℕ) → k < 48 → above k (map (λ place. digit_glyph true (v / place % 16)) places) ≡ true
 above_digits k [] v low = refl
 above_digits k (place ∷ places) v low =
-    above-append k (digit_glyph true (v / place % 16) ∷ []) (map (λ p. digit_glyph true (v / p % 16)) places) (above_glyph k (v / place % 16) low) (above_digits k places v low)
+    above_append k (digit_glyph true (v / place % 16) ∷ []) (map (λ p. digit_glyph true (v / p % 16)) places) (above_glyph k (v / place % 16) low) (above_digits k places v low)
 
 above_value : (k v : ℕ) → k < 48 → above k (value_word v) ≡ true
 above_value k v low =
-    above-append k (codes "0x") (hex_digits v) (rw (lt-ltb k 48 (omega arith), lt-ltb k 120 (omega arith)) refl)
+    above_append k (codes "0x") (hex_digits v) (rw (lt-ltb k 48 (omega arith), lt-ltb k 120 (omega arith)) refl)
     (above_digits k (0x10000000 ∷ 0x1000000 ∷ 0x100000 ∷ 0x10000 ∷ 0x1000 ∷ 0x100 ∷ 0x10 ∷ 0x1 ∷ []) v low)
 
 -- two numbers behind a name
 two_above : (m n : ℕ) → m < 2 ^ 64 → n < 2 ^ 64 → above 10 (decimal m ++ 32 ∷ (decimal n ++ [])) ≡ true
 two_above m n hm hn =
-    above-append 10 (decimal m) (32 ∷ (decimal n ++ [])) (above_decimal 10 m (omega arith) hm) (above-append 10 (decimal n) [] (above_decimal 10 n (omega arith) hn) refl)
+    above_append 10 (decimal m) (32 ∷ (decimal n ++ [])) (above_decimal 10 m (omega arith) hm) (above_append 10 (decimal n) [] (above_decimal 10 n (omega arith) hn) refl)
 
 two_words_are : (m n : ℕ) → m < 2 ^ 64 → n < 2 ^ 64 → words_of (decimal m ++ 32 ∷ (decimal n ++ [])) ≡ decimal m ∷ decimal n ∷ []
 two_words_are m n hm hn =
@@ -107,19 +107,19 @@ two_words_are m n hm hn =
     ∙ ap (λ (w : List ℕ). decimal m ∷ words_of w) (append-nil (decimal n)) ∙ ap (λ (ws : List (List ℕ)). decimal m ∷ ws) (words_plain (decimal n) (above_decimal 32 n (omega arith) hn))
 
 one_above : (n : ℕ) → n < 2 ^ 64 → above 10 (decimal n ++ []) ≡ true
-one_above n h = above-append 10 (decimal n) [] (above_decimal 10 n (omega arith) h) refl
+one_above n h = above_append 10 (decimal n) [] (above_decimal 10 n (omega arith) h) refl
 
 one_word_is : (n : ℕ) → n < 2 ^ 64 → words_of (decimal n ++ []) ≡ decimal n ∷ []
 one_word_is n h = ap words_of (append-nil (decimal n)) ∙ words_plain (decimal n) (above_decimal 32 n (omega arith) h)
 
 invalid_above : (n : ℕ) → n < 2 ^ 64 → above 10 (decimal n ++ (codes " invalid" ++ [])) ≡ true
-invalid_above n h = above-append 10 (decimal n) (codes " invalid" ++ []) (above_decimal 10 n (omega arith) h) refl
+invalid_above n h = above_append 10 (decimal n) (codes " invalid" ++ []) (above_decimal 10 n (omega arith) h) refl
 
 invalid_words_are : (n : ℕ) → n < 2 ^ 64 → words_of (decimal n ++ (codes " invalid" ++ [])) ≡ decimal n ∷ codes "invalid" ∷ []
 invalid_words_are n h = words_space (decimal n) (codes "invalid" ++ []) (above_decimal 32 n (omega arith) h)
 
 value_above : (v : ℕ) → above 10 (value_word v ++ []) ≡ true
-value_above v = above-append 10 (value_word v) [] (above_value 10 v (omega arith)) refl
+value_above v = above_append 10 (value_word v) [] (above_value 10 v (omega arith)) refl
 
 value_words_are : (v : ℕ) → words_of (value_word v ++ []) ≡ value_word v ∷ []
 value_words_are v = ap words_of (append-nil (value_word v)) ∙ words_plain (value_word v) (above_value 32 v (omega arith))

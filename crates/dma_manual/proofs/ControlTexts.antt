@@ -23,8 +23,8 @@ use Rattle.dma_manual.specs.ManualText.{cache_signals, control_text, control_tex
 use Rattle.dma_manual.specs.Words.{is_word_byte, next_of, plain_byte}
 use Rattle.dma_manual.specs.Fields.{cache_of, end_of, fields_at, fields_from, no_end, no_fields, set_end, set_field, word_of}
 use Rattle.dma_manual.specs.Statements.{control_line}
-use Rattle.dma_manual.proofs.Cuts.{all-append, gap_spaces, has_bytes, is_gap, is_inline, is_space, next_none, next_space, next_word}
-use Rattle.dma_manual.proofs.Numerals.{decimal_read, each, each_at, hex_read, hex_words, plain, plain-append}
+use Rattle.dma_manual.proofs.Cuts.{all_append, gap_spaces, has_bytes, is_gap, is_inline, is_space, next_none, next_space, next_word}
+use Rattle.dma_manual.proofs.Numerals.{decimal_read, each, each_at, hex_read, hex_words, plain, plain_append_law}
 use Rattle.dma_manual.proofs.Said.{control_fields, number_control}
 
 -- words, each after a space, in front of a tail
@@ -32,9 +32,9 @@ abbrev pub spaced : List (List ℕ) → List ℕ → List ℕ
 spaced [] tail = tail
 spaced (w ∷ ws) tail = 32 ∷ (w ++ spaced ws tail)
 
-spaced-append : (ws vs : List (List ℕ)) (tail : List ℕ) → spaced (ws ++ vs) tail ≡ spaced ws (spaced vs tail)
-spaced-append [] vs tail = refl
-spaced-append (w ∷ ws) vs tail = ap (λ (l : List ℕ). 32 ∷ (w ++ l)) (spaced-append ws vs tail)
+spaced_append : (ws vs : List (List ℕ)) (tail : List ℕ) → spaced (ws ++ vs) tail ≡ spaced ws (spaced vs tail)
+spaced_append [] vs tail = refl
+spaced_append (w ∷ ws) vs tail = ap (λ (l : List ℕ). 32 ∷ (w ++ l)) (spaced_append ws vs tail)
 
 gap_spaced : (ws : List (List ℕ)) (tail : List ℕ) → list_all is_space tail ≡ true → is_gap (spaced ws tail) ≡ true
 gap_spaced [] tail spaces = gap_spaces tail spaces
@@ -46,9 +46,9 @@ AreSet f [] g = f ≡ g
 AreSet f (w ∷ ws) g =
     (h : Fields) × (has_bytes w ≡ true) × (list_all is_word_byte w ≡ true) × ((rest : List ℕ) → set_field f w rest ≡ Ok h) × AreSet h ws g
 
-are_set-append : (ws vs : List (List ℕ)) (f g h : Fields) → AreSet f ws g → AreSet g vs h → AreSet f (ws ++ vs) h
-are_set-append [] vs f g h a b = subst (λ (x : Fields). AreSet x vs h) (sym a) b
-are_set-append (w ∷ ws) vs f g h a b = (a.0, a.1, a.2, a.3, are_set-append ws vs a.0 g h a.4 b)
+are_set_append : (ws vs : List (List ℕ)) (f g h : Fields) → AreSet f ws g → AreSet g vs h → AreSet f (ws ++ vs) h
+are_set_append [] vs f g h a b = subst (λ (x : Fields). AreSet x vs h) (sym a) b
+are_set_append (w ∷ ws) vs f g h a b = (a.0, a.1, a.2, a.3, are_set_append ws vs a.0 g h a.4 b)
 
 fields_space : (k : ℕ) (f : Fields) (rest : List ℕ) → fields_from k f (32 ∷ rest) ≡ fields_from k f rest
 unfolding fields_from
@@ -73,9 +73,9 @@ EndSet side e [] d = e ≡ d
 EndSet side e (name ∷ names) d =
     (c : EndFields) × (list_all is_word_byte name ≡ true) × ((word rest : List ℕ) → set_end e side name word rest ≡ Ok c) × EndSet side c names d
 
-end_set-append : (side : Side) (ws vs : List (List ℕ)) (e d c : EndFields) → EndSet side e ws d → EndSet side d vs c → EndSet side e (ws ++ vs) c
-end_set-append side [] vs e d c a b = subst (λ (x : EndFields). EndSet side x vs c) (sym a) b
-end_set-append side (w ∷ ws) vs e d c a b = (a.0, a.1, a.2, end_set-append side ws vs a.0 d c a.3 b)
+end_set_append : (side : Side) (ws vs : List (List ℕ)) (e d c : EndFields) → EndSet side e ws d → EndSet side d vs c → EndSet side e (ws ++ vs) c
+end_set_append side [] vs e d c a b = subst (λ (x : EndFields). EndSet side x vs c) (sym a) b
+end_set_append side (w ∷ ws) vs e d c a b = (a.0, a.1, a.2, end_set_append side ws vs a.0 d c a.3 b)
 
 abbrev key : Side → ℕ
 key Source = 115
@@ -110,12 +110,12 @@ first_names e = (98 ∷ plain (decimal e.beats)) ∷ (115 ∷ plain (decimal (8 
 abbrev names_of : Side → BurstEnd → List (List ℕ)
 names_of side e = first_names e ++ (flag_name 112 e.protection ++ flag_name 99 (cache_signals side e.cache))
 
-flag_name-le : (k n : ℕ) → length (flag_name k n) ≤ 1
-flag_name-le k n = elim (eqb n 0) as (λ (t : Bool). length (cond t [] ((k ∷ plain (decimal n)) ∷ [])) ≤ 1) [ true ↦ omega arith | false ↦ omega arith ]
+flag_name_le : (k n : ℕ) → length (flag_name k n) ≤ 1
+flag_name_le k n = elim (eqb n 0) as (λ (t : Bool). length (cond t [] ((k ∷ plain (decimal n)) ∷ [])) ≤ 1) [ true ↦ omega arith | false ↦ omega arith ]
 
-names_of-le : (side : Side) (e : BurstEnd) → length (names_of side e) ≤ 5
-names_of-le side e =
-    omega (arith, length-append (flag_name 112 e.protection) (flag_name 99 (cache_signals side e.cache)), flag_name-le 112 e.protection, flag_name-le 99 (cache_signals side e.cache))
+names_of_le : (side : Side) (e : BurstEnd) → length (names_of side e) ≤ 5
+names_of_le side e =
+    omega (arith, length-append (flag_name 112 e.protection) (flag_name 99 (cache_signals side e.cache)), flag_name_le 112 e.protection, flag_name_le 99 (cache_signals side e.cache))
 
 -- some fields of an end
 abbrev with_three : ℕ → BeatSize → Bool → Option ℕ → Option ℕ → EndFields
@@ -204,9 +204,9 @@ cache_flag side b s i p n c small back =
     ]
 
 -- each cache field is read from its signals
-signals-le : (side : Side) (c : ℕ) → c < 8 → cache_signals side c ≤ 15
-signals-le Source c small = omega arith
-signals-le Destination c small = omega arith
+signals_le : (side : Side) (c : ℕ) → c < 8 → cache_signals side c ≤ 15
+signals_le Source c small = omega arith
+signals_le Destination c small = omega arith
 
 caches : (side : Side) → each 8 (λ c. cache_of side (cache_signals side c)) ≡ each 8 (λ c. Some c)
 caches Source = refl
@@ -230,10 +230,10 @@ end_set : (side : Side) (e : BurstEnd) → HasEndRanges e → EndSet side no_end
 end_set side e h =
     let n = cache_signals side e.cache in
     let p = flag e.protection e.protection in
-    end_set-append side (first_names e) (flag_name 112 e.protection ++ flag_name 99 n) no_end (with_three e.beats e.size e.increments None None) (fields_of side e) (first_set side e h)
-    (end_set-append side (flag_name 112 e.protection) (flag_name 99 n) (with_three e.beats e.size e.increments None None) (with_three e.beats e.size e.increments p None) (fields_of side e)
+    end_set_append side (first_names e) (flag_name 112 e.protection ++ flag_name 99 n) no_end (with_three e.beats e.size e.increments None None) (fields_of side e) (first_set side e h)
+    (end_set_append side (flag_name 112 e.protection) (flag_name 99 n) (with_three e.beats e.size e.increments None None) (with_three e.beats e.size e.increments p None) (fields_of side e)
     (protection_flag side e.beats e.size e.increments e.protection h.protection)
-    (cache_flag side e.beats e.size e.increments p n e.cache (signals-le side e.cache h.cache) (cache_back side e.cache h.cache)))
+    (cache_flag side e.beats e.size e.increments p n e.cache (signals_le side e.cache h.cache) (cache_back side e.cache h.cache)))
 
 end_again : (side : Side) (e : BurstEnd) → HasEndRanges e → end_of (fields_of side e) ≡ e
 end_again side e h =
@@ -274,7 +274,7 @@ end_plain side e rest =
     let ps = with_key side (flag_name 112 e.protection) in
     let cs = with_key side (flag_name 99 n) in
     let flags_are : plain p ++ (plain c ++ rest) ≡ spaced (with_key side (flag_name 112 e.protection ++ flag_name 99 n)) rest =
-    ap (λ (l : List ℕ). plain p ++ l) (flag_plain side 67 n rest) ∙ flag_plain side 80 e.protection (spaced cs rest) ∙ sym (spaced-append ps cs rest)
+    ap (λ (l : List ℕ). plain p ++ l) (flag_plain side 67 n rest) ∙ flag_plain side 80 e.protection (spaced cs rest) ∙ sym (spaced_append ps cs rest)
     ∙ ap (λ (l : List (List ℕ)). spaced l rest) (sym (map-append (λ name. key side ∷ name) (flag_name 112 e.protection) (flag_name 99 n))) in
     five b s a p c rest ∙ field_plain side 66 (decimal e.beats) (plain s ++ (plain a ++ (plain p ++ (plain c ++ rest))))
     ∙ ap (λ (l : List ℕ). 32 ∷ ((key side ∷ 98 ∷ plain (decimal e.beats)) ++ l)) (field_plain side 83 (decimal (8 * beat_bytes e.size)) (plain a ++ (plain p ++ (plain c ++ rest)))
@@ -286,15 +286,15 @@ control_plain : (c : Control) (tail : List ℕ) → plain (end_text Source c.src
 control_plain c tail =
     let s = end_text Source c.src in
     let d = end_text Destination c.dst in
-    plain-append s d tail ∙ ap (λ (l : List ℕ). plain s ++ l) (end_plain Destination c.dst tail) ∙ end_plain Source c.src (spaced (with_key Destination (names_of Destination c.dst)) tail)
-    ∙ sym (spaced-append (with_key Source (names_of Source c.src)) (with_key Destination (names_of Destination c.dst)) tail)
+    plain_append_law s d tail ∙ ap (λ (l : List ℕ). plain s ++ l) (end_plain Destination c.dst tail) ∙ end_plain Source c.src (spaced (with_key Destination (names_of Destination c.dst)) tail)
+    ∙ sym (spaced_append (with_key Source (names_of Source c.src)) (with_key Destination (names_of Destination c.dst)) tail)
 
 -- The words of a control word's ends set its fields.
 ends_set : (c : Control) → HasEndRanges c.src → HasEndRanges c.dst
     → AreSet no_fields (with_key Source (names_of Source c.src) ++ with_key Destination (names_of Destination c.dst)) (record { src = fields_of Source c.src; dst = fields_of Destination c.dst })
 ends_set c s d =
     let f = record no_fields { src = fields_of Source c.src } in
-    are_set-append (with_key Source (names_of Source c.src)) (with_key Destination (names_of Destination c.dst)) no_fields f (record f { dst = fields_of Destination c.dst })
+    are_set_append (with_key Source (names_of Source c.src)) (with_key Destination (names_of Destination c.dst)) no_fields f (record f { dst = fields_of Destination c.dst })
     (source_set (names_of Source c.src) no_fields (fields_of Source c.src) (end_set Source c.src s))
     (destination_set (names_of Destination c.dst) f (fields_of Destination c.dst) (end_set Destination c.dst d))
 
@@ -304,7 +304,7 @@ ends_read c tail s d spaces =
     let ss = with_key Source (names_of Source c.src) in
     let ds = with_key Destination (names_of Destination c.dst) in
     let fits : length (ss ++ ds) ≤ 11 =
-    omega (arith, length-append ss ds, length-map (names_of Source c.src) (λ name. key Source ∷ name), length-map (names_of Destination c.dst) (λ name. key Destination ∷ name), names_of-le Source c.src, names_of-le Destination c.dst) in
+    omega (arith, length-append ss ds, length-map (names_of Source c.src) (λ name. key Source ∷ name), length-map (names_of Destination c.dst) (λ name. key Destination ∷ name), names_of_le Source c.src, names_of_le Destination c.dst) in
     fields_space 11 no_fields (spaced (ss ++ ds) tail)
     ∙ fields_read (ss ++ ds) 11 no_fields (record { src = fields_of Source c.src; dst = fields_of Destination c.dst }) tail fits (ends_set c s d) spaces
     ∙ ap₂ (λ (x y : BurstEnd). Ok (bits_of (record { src = x; dst = y }))) (end_again Source c.src s) (end_again Destination c.dst d)
@@ -363,12 +363,12 @@ increments_inline Source false = refl
 increments_inline Destination true = refl
 increments_inline Destination false = refl
 
-size-le : (s : BeatSize) → 8 * beat_bytes s ≤ 256
-size-le One = omega arith
-size-le Two = omega arith
-size-le Four = omega arith
-size-le Eight = omega arith
-size-le Sixteen = omega arith
+size_le : (s : BeatSize) → 8 * beat_bytes s ≤ 256
+size_le One = omega arith
+size_le Two = omega arith
+size_le Four = omega arith
+size_le Eight = omega arith
+size_le Sixteen = omega arith
 
 end_inline : (side : Side) (e : BurstEnd) → HasEndRanges e → list_all is_inline (end_text side e) ≡ true
 end_inline side e h =
@@ -380,16 +380,16 @@ end_inline side e h =
     let c = flag_text (letter side) (codes "C") n in
     let beats = h.beats in
     let protection = h.protection in
-    let signals = signals-le side e.cache h.cache in
-    all-append is_inline (((b ++ s) ++ a) ++ p) c (all-append is_inline ((b ++ s) ++ a) p (all-append is_inline (b ++ s) a
-    (all-append is_inline b s (field_inline side 66 e.beats (omega arith) refl) (field_inline side 83 (8 * beat_bytes e.size) (size-le e.size) refl))
+    let signals = signals_le side e.cache h.cache in
+    all_append is_inline (((b ++ s) ++ a) ++ p) c (all_append is_inline ((b ++ s) ++ a) p (all_append is_inline (b ++ s) a
+    (all_append is_inline b s (field_inline side 66 e.beats (omega arith) refl) (field_inline side 83 (8 * beat_bytes e.size) (size_le e.size) refl))
     (increments_inline side e.increments)) (flag_inline side 80 e.protection (omega arith) refl)) (flag_inline side 67 n (omega arith) refl)
 
 inline_by : (v : ℕ) (r : Result Control ControlFault) → control_of v ≡ r → list_all is_inline (control_text_of v r) ≡ true
 inline_by v (Err fault) is = (hex_words v).1
 inline_by v (Ok c) is =
     let ranges = ranges_of v c (control_of_fields v c is) in
-    all-append is_inline (end_text Source c.src) (end_text Destination c.dst) (end_inline Source c.src ranges.0) (end_inline Destination c.dst ranges.1)
+    all_append is_inline (end_text Source c.src) (end_text Destination c.dst) (end_inline Source c.src ranges.0) (end_inline Destination c.dst ranges.1)
 
 pub control_inline : (v : ℕ) → list_all is_inline (control_text v) ≡ true
 control_inline v = inline_by v (control_of v) refl

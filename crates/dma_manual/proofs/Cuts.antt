@@ -6,10 +6,10 @@ use Rattle.std.proofs.lemmas.List.{take_min, drop_min}
 use Rattle.dma_insn.specs.AssemblyText.{onto_first, text_lines}
 use Rattle.dma_manual.specs.Words.{begins_comment, code_of, cut_at_gap, is_word_byte, next_of, place_or_len}
 
-pub all-append : (p : ℕ → Bool) (xs ys : List ℕ) → list_all p xs ≡ true → list_all p ys ≡ true → list_all p (xs ++ ys) ≡ true
-all-append p [] ys h k = k
-all-append p (x ∷ xs) ys h k =
-    let parts = and_parts (p x) (list_all p xs) h in and_from (p x) (list_all p (xs ++ ys)) parts.0 (all-append p xs ys parts.1 k)
+pub all_append : (p : ℕ → Bool) (xs ys : List ℕ) → list_all p xs ≡ true → list_all p ys ≡ true → list_all p (xs ++ ys) ≡ true
+all_append p [] ys h k = k
+all_append p (x ∷ xs) ys h k =
+    let parts = and_parts (p x) (list_all p xs) h in and_from (p x) (list_all p (xs ++ ys)) parts.0 (all_append p xs ys parts.1 k)
 
 -- the place of a test's first byte, or the length of the bytes
 place_is : (p : ℕ → Bool) (xs : List ℕ) → place_or_len (position p xs) xs ≡ min (position_or_len p xs) (length xs)

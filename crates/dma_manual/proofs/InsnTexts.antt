@@ -12,8 +12,8 @@ use Rattle.dma_manual.specs.Statements.{Label, by_name}
 use Rattle.dma_manual.specs.declared.statements.End.TheVariants as ends
 use Rattle.dma_manual.specs.declared.statements.Statement.{Statement}
 use Rattle.dma_manual.specs.declared.statements.Statement.TheVariants as says
-use Rattle.dma_manual.proofs.Cuts.{all-append, is_inline, is_space}
-use Rattle.dma_manual.proofs.Numerals.{decimal_read, hex_read, hex_words, plain, plain-append}
+use Rattle.dma_manual.proofs.Cuts.{all_append, is_inline, is_space}
+use Rattle.dma_manual.proofs.Numerals.{decimal_read, hex_read, hex_words, plain, plain_append_law}
 use Rattle.dma_manual.proofs.Said.{Says, says_back, says_bare, says_control, says_dar, says_invalid, says_loop, says_sar, says_signal, says_wait}
 use Rattle.dma_manual.proofs.ControlTexts.{control_inline, control_read}
 
@@ -45,7 +45,7 @@ insn_says labels (LpEnd Lc1 b) tail h spaces = says_back labels tail spaces Lc1 
 insn_says labels (Sev e) tail h spaces = says_signal labels tail spaces e (omega arith)
 insn_says labels (Wfe e false) tail h spaces = says_wait labels tail spaces e (omega arith)
 insn_says labels (Wfe e true) tail h spaces =
-    subst (λ (l : List ℕ). Says labels (codes "dmawfe e" ++ l) (says.Plain (Wfe e true))) (sym (plain-append (decimal e) (codes ", invalid") tail)) (says_invalid labels tail spaces e (omega arith))
+    subst (λ (l : List ℕ). Says labels (codes "dmawfe e" ++ l) (says.Plain (Wfe e true))) (sym (plain_append_law (decimal e) (codes ", invalid") tail)) (says_invalid labels tail spaces e (omega arith))
 insn_says labels (Mov Sar v) tail h spaces =
     says_sar labels tail spaces (48 ∷ 120 ∷ plain (hex_digits v)) v refl (hex_words v).0 (hex_read v h) (omega arith)
 insn_says labels (Mov Dar v) tail h spaces =
@@ -66,7 +66,7 @@ insn_inline (LpEnd Lc0 b) h = let r = decimal_read b (omega arith) in r.inline
 insn_inline (LpEnd Lc1 b) h = let r = decimal_read b (omega arith) in r.inline
 insn_inline (Sev e) h = let r = decimal_read e (omega arith) in r.inline
 insn_inline (Wfe e false) h = let r = decimal_read e (omega arith) in r.inline
-insn_inline (Wfe e true) h = let r = decimal_read e (omega arith) in all-append is_inline (decimal e) (codes ", invalid") r.inline refl
+insn_inline (Wfe e true) h = let r = decimal_read e (omega arith) in all_append is_inline (decimal e) (codes ", invalid") r.inline refl
 insn_inline (Mov Sar v) h = (hex_words v).1
 insn_inline (Mov Dar v) h = (hex_words v).1
 insn_inline (Mov Ccr v) h = control_inline v

@@ -10,7 +10,7 @@ use Rattle.dma_manual.specs.Operands.{digits_in}
 use Rattle.dma_manual.specs.Statements.{Label, label_of}
 use Rattle.dma_manual.specs.Listing.{label_name}
 use Rattle.dma_manual.specs.Assembled.{Read, label_by, label_in, take_line, with_statement}
-use Rattle.dma_manual.proofs.Cuts.{all-append, code_all, is_inline, next_word}
+use Rattle.dma_manual.proofs.Cuts.{all_append, code_all, is_inline, next_word}
 use Rattle.dma_manual.proofs.Numerals.{pair_words, pairs_read, plain}
 
 abbrev pub label_word : ℕ → List ℕ
@@ -82,8 +82,8 @@ four_words : (o : ℕ) → (list_all is_word_byte (plain (hex_pair (o / 256 % 25
 four_words o =
     let high = pair_words (o / 256 % 256) (omega arith) in
     let low = pair_words (o % 256) (omega arith) in (
-      all-append is_word_byte (plain (hex_pair (o / 256 % 256))) (plain (hex_pair (o % 256))) high.0 low.0,
-      all-append is_inline (hex_pair (o / 256 % 256)) (hex_pair (o % 256)) high.1 low.1,
+      all_append is_word_byte (plain (hex_pair (o / 256 % 256))) (plain (hex_pair (o % 256))) high.0 low.0,
+      all_append is_inline (hex_pair (o / 256 % 256)) (hex_pair (o % 256)) high.1 low.1,
     )
 
 pub label_words : (o : ℕ) → list_all is_word_byte (label_word o) ≡ true
@@ -94,7 +94,7 @@ label_inline o = (four_words o).1
 
 label_line : (o : ℕ) → label_in (plain (code_of (label_name o ++ codes ":"))) ≡ Some (label_word o, [])
 label_line o =
-    let inline = all-append is_inline (label_name o) (codes ":") (label_inline o) refl in
+    let inline = all_append is_inline (label_name o) (codes ":") (label_inline o) refl in
     ap (λ (l : List ℕ). label_in (plain l)) (code_all (label_name o ++ codes ":") inline) ∙ label_shape _ _ _ _ (four_words o).0
 
 -- The line of a label adds it.

@@ -24,7 +24,7 @@ use Rattle.dma_manual.specs.declared.draft.Loops.{Loops}
 use Rattle.dma_manual.specs.declared.statements.End.TheVariants as ends
 use Rattle.dma_manual.specs.declared.statements.Statement.{Statement}
 use Rattle.dma_manual.specs.declared.statements.Statement.TheVariants as says
-use Rattle.dma_manual.proofs.Cuts.{all-append, code_before, inline_no_feed, is_inline, is_space, lines_feed, no_feed}
+use Rattle.dma_manual.proofs.Cuts.{all_append, code_before, inline_no_feed, is_inline, is_space, lines_feed, no_feed}
 use Rattle.dma_manual.proofs.Numerals.{decimal_feed, hex_feed, plain, spaced_feed}
 use Rattle.dma_manual.proofs.Said.{Says, end_label, says_end, says_spaced}
 use Rattle.dma_manual.proofs.InsnTexts.{insn_inline, insn_says, statement_of}
@@ -129,7 +129,7 @@ abbrev gap_behind : ℕ → List ℕ
 gap_behind width = blanks_behind width ++ 32 ∷ []
 
 gap_is : (width : ℕ) → list_all is_space (gap_behind width) ≡ true
-gap_is width = all-append is_space (blanks_behind width) (32 ∷ []) (spaces_dropped (min width 43) (replicate 43 32) refl) refl
+gap_is width = all_append is_space (blanks_behind width) (32 ∷ []) (spaces_dropped (min width 43) (replicate 43 32) refl) refl
 
 -- a line is its code, a comment and a line feed
 line_split : (text blanks address bytes more : List ℕ) → (text ++ (blanks ++ (codes " ; " ++ address ++ codes " " ++ (bytes ++ codes "\n")))) ++ more
@@ -150,7 +150,7 @@ front_says labels text s h =
 
 front_inline : (text : List ℕ) → list_all is_inline text ≡ true → list_all is_inline (code_front text) ≡ true
 front_inline text h =
-    all-append is_inline (codes "    " ++ text) (gap_behind (length (codes "    " ++ text))) (all-append is_inline (codes "    ") text refl h) (spaces_inline (gap_behind (length (codes "    " ++ text))) (gap_is (length (codes "    " ++ text))))
+    all_append is_inline (codes "    " ++ text) (gap_behind (length (codes "    " ++ text))) (all_append is_inline (codes "    ") text refl h) (spaces_inline (gap_behind (length (codes "    " ++ text))) (gap_is (length (codes "    " ++ text))))
 
 -- The line of an instruction adds its bytes.
 abbrev comment_of : ℕ → ℕ → Insn → List ℕ
@@ -158,7 +158,7 @@ comment_of at o i = 32 ∷ (hex_digits ((at + o) % 2 ^ 32) ++ 32 ∷ spaced_byte
 
 comment_feed : (at o : ℕ) (i : Insn) → list_all no_feed (comment_of at o i) ≡ true
 comment_feed at o i =
-    all-append no_feed (hex_digits ((at + o) % 2 ^ 32)) (32 ∷ spaced_bytes (spelling i)) (hex_feed ((at + o) % 2 ^ 32)) (spaced_feed (spelling i))
+    all_append no_feed (hex_digits ((at + o) % 2 ^ 32)) (32 ∷ spaced_bytes (spelling i)) (hex_feed ((at + o) % 2 ^ 32)) (spaced_feed (spelling i))
 
 record ReadsLine (r : Read) (n : ℕ) (text more bytes : List ℕ) : Type 0 where
   next : Read
@@ -174,7 +174,7 @@ line_read r n at labels o i more h =
     let inline = front_inline text h.inline in
     let comment = comment_of at o i in
     let line = front ++ 59 ∷ comment in
-    let feed = all-append no_feed front (59 ∷ comment) (inline_no_feed front inline) (comment_feed at o i) in
+    let feed = all_append no_feed front (59 ∷ comment) (inline_no_feed front inline) (comment_feed at o i) in
     let split : line_text at labels o i ++ more ≡ line ++ 10 ∷ more =
     line_split (codes "    " ++ text) (blanks_behind (length (codes "    " ++ text))) (hex_digits ((at + o) % 2 ^ 32)) (spaced_bytes (spelling i)) more in
     let spot = place_of (n + 1) (length (plain front)) (next_of (plain front)) in
@@ -223,7 +223,7 @@ label_read r n labels p o more behind here is before quiet later small (inl none
 label_read r n labels p o more behind here is before quiet later small (inr some) =
     let line = label_name o ++ codes ":" in
     let next = record r { labels = r.labels ++ named_at o ∷ [] } in
-    let feed = all-append no_feed (label_name o) (codes ":") (inline_no_feed (label_name o) (label_inline o)) refl in
+    let feed = all_append no_feed (label_name o) (codes ":") (inline_no_feed (label_name o) (label_inline o)) refl in
     let split : (label_name o ++ codes ":\n") ++ more ≡ line ++ 10 ∷ more = simp append_assoc in
     subst (λ (b : Option ℕ). ReadsLabel r n (more_labels labels b) o (label_text b) more) (sym some) (record {
       next = next;
@@ -234,7 +234,7 @@ label_read r n labels p o more behind here is before quiet later small (inr some
       at = record {
         here = here;
         labels_are = ap (λ (l : List Label). l ++ named_at o ∷ []) is ∙ sym (map-append named_at labels (o ∷ []));
-        before = all-append _ labels (o ∷ []) (labels_later p o labels (omega arith) before) (and_from _ _ (and_from _ _ (le-leb o o (omega arith)) (lt-ltb o 65536 small)) refl);
+        before = all_append _ labels (o ∷ []) (labels_later p o labels (omega arith) before) (and_from _ _ (and_from _ _ (le-leb o o (omega arith)) (lt-ltb o 65536 small)) refl);
         quiet = quiet;
       };
     })
@@ -283,7 +283,7 @@ unfolding take_lines
 last_read r n count true = refl
 last_read r n count false =
     let comment = 32 ∷ (decimal count ++ codes " bytes follow") in
-    let feed = all-append no_feed (decimal count) (codes " bytes follow") (decimal_feed count) refl in
+    let feed = all_append no_feed (decimal count) (codes " bytes follow") (decimal_feed count) refl in
     let split : codes "; " ++ decimal count ++ codes " bytes follow\n" ≡ (59 ∷ comment) ++ 10 ∷ [] = simp append_assoc in
     ap (λ (l : List ℕ). take_lines r n (text_lines l)) split ∙ ap (take_lines r n) (lines_feed (59 ∷ comment) [] feed)
     ∙ lines_step r r n (59 ∷ comment) [] (ap (λ (l : List ℕ). take_line r (n + 1) (plain l)) (code_before [] comment refl) ∙ no_line r (n + 1))

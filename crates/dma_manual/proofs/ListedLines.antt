@@ -11,7 +11,7 @@ use Rattle.dma_insn.specs.declared.insn.Insn.TheVariants.{Mov, Ld, St, Rmb, Wmb,
 use Rattle.dma_insn.proofs.Laws.{IsBytes, Right, decoded_right, spelled_within}
 use Rattle.dma_manual.specs.Listing.{Listing, follow, stop, is_end, label_behind, label_text, line_text, listed_from, more_labels, with_text}
 use Rattle.dma_manual.specs.Laws.{shown}
-use Rattle.dma_manual.proofs.Listings.{listed_from-first}
+use Rattle.dma_manual.proofs.Listings.{listed_from_first}
 
 -- the lines of instructions from the offset o on
 abbrev pub lines_of : ℕ → List ℕ → ℕ → List Insn → List ℕ
@@ -75,7 +75,7 @@ listed_by at labels o n xs program i true ends total read at_front more =
     let within = spelled_within xs i n at_front in
     let is : i ≡ End = end_is i ends in
     let one : n ≡ 1 = at_front.count_is ∙ ap (λ (k : Insn). length (spelling k)) is in
-    let first = listed_from-first at labels o n xs i read within.0 within.1 in
+    let first = listed_from_first at labels o n xs i read within.0 within.1 in
     let split : xs ≡ 0 ∷ drop 1 xs =
     sym (take-append-drop n xs) ∙ ap (λ (front : List ℕ). front ++ drop n xs) (at_front.bytes_are ∙ ap spelling is) ∙ ap (λ (k : ℕ). 0 ∷ drop k xs) one in
     let line : listed_from at labels o 0 xs ≡ with_text (line_text at labels o i) (record { text = []; ending = follow (length xs - n) }) = first ∙ rw ends refl in
@@ -85,7 +85,7 @@ listed_by at labels o n xs program i true ends total read at_front more =
 listed_by at labels o n xs program i false goes total read at_front more =
     let within = spelled_within xs i n at_front in
     let size = at_front.count_is in
-    let first = listed_from-first at labels o n xs i read within.0 within.1 in
+    let first = listed_from_first at labels o n xs i read within.0 within.1 in
     let split : xs ≡ spelling i ++ drop (length (spelling i)) xs =
     sym (take-append-drop n xs) ∙ ap (λ (front : List ℕ). front ++ drop n xs) at_front.bytes_are ∙ ap (λ (k : ℕ). spelling i ++ drop k xs) size in
     let ls = more_labels labels (label_behind i (o + length (spelling i))) in

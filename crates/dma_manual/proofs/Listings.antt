@@ -6,13 +6,13 @@ use Rattle.dma_insn.specs.Decoding.{decoded}
 use Rattle.dma_manual.specs.Listing.{Listing, follow, with_text, line_text, is_end, label_text, label_behind, more_labels, listed_from}
 
 -- bytes that are skipped are only counted
-listed_from-skipped : (at : ℕ) (labels : List ℕ) (o k : ℕ) (xs : List ℕ) → k ≤ length xs
+listed_from_skipped : (at : ℕ) (labels : List ℕ) (o k : ℕ) (xs : List ℕ) → k ≤ length xs
     → listed_from at labels o k xs ≡ listed_from at labels (o + k) 0 (drop k xs)
-listed_from-skipped at labels o zero xs h = let e : o ≡ o + 0 = omega arith in ap (λ p. listed_from at labels p 0 xs) e
-listed_from-skipped at labels o (suc k) [] h = absurd (omega arith)
-listed_from-skipped at labels o (suc k) (x ∷ xs) h =
+listed_from_skipped at labels o zero xs h = let e : o ≡ o + 0 = omega arith in ap (λ p. listed_from at labels p 0 xs) e
+listed_from_skipped at labels o (suc k) [] h = absurd (omega arith)
+listed_from_skipped at labels o (suc k) (x ∷ xs) h =
     let e : o + 1 + k ≡ o + suc k = omega arith in
-    listed_from-skipped at labels (o + 1) k xs (omega arith) ∙ ap (λ p. listed_from at labels p 0 (drop k xs)) e
+    listed_from_skipped at labels (o + 1) k xs (omega arith) ∙ ap (λ p. listed_from at labels p 0 (drop k xs)) e
 
 -- the listing of bytes that begin with an instruction of n bytes
 abbrev pub listed_first : ℕ → List ℕ → ℕ → Insn → ℕ → List ℕ → Listing
@@ -21,16 +21,16 @@ listed_first at labels o i n xs =
     (cond (is_end i) (record { text = []; ending = follow (length xs - n) })
     (with_text (label_text (label_behind i (o + n))) (listed_from at (more_labels labels (label_behind i (o + n))) (o + n) 0 (drop n xs))))
 
-pub listed_from-first : (at : ℕ) (labels : List ℕ) (o n : ℕ) (xs : List ℕ) (i : Insn) → decoded xs ≡ Ok (i, n) → 0 < n → n ≤ length xs
+pub listed_from_first : (at : ℕ) (labels : List ℕ) (o n : ℕ) (xs : List ℕ) (i : Insn) → decoded xs ≡ Ok (i, n) → 0 < n → n ≤ length xs
     → listed_from at labels o 0 xs ≡ listed_first at labels o i n xs
-listed_from-first at labels o zero xs i is some within = absurd (omega arith)
-listed_from-first at labels o (suc n) [] i is some within = absurd (omega arith)
-listed_from-first at labels o (suc n) (x ∷ xs) i is some within =
+listed_from_first at labels o zero xs i is some within = absurd (omega arith)
+listed_from_first at labels o (suc n) [] i is some within = absurd (omega arith)
+listed_from_first at labels o (suc n) (x ∷ xs) i is some within =
     let less : suc n - 1 ≡ n = omega arith in
     let e : o + 1 + n ≡ o + suc n = omega arith in
     let more = more_labels labels (label_behind i (o + suc n)) in
     let rest : listed_from at more (o + 1) (suc n - 1) xs ≡ listed_from at more (o + suc n) 0 (drop n xs) =
-    ap (λ k. listed_from at more (o + 1) k xs) less ∙ listed_from-skipped at more (o + 1) n xs (omega arith) ∙ ap (λ p. listed_from at more p 0 (drop n xs)) e in
+    ap (λ k. listed_from at more (o + 1) k xs) less ∙ listed_from_skipped at more (o + 1) n xs (omega arith) ∙ ap (λ p. listed_from at more p 0 (drop n xs)) e in
     rw is (ap (λ (l : Listing). with_text (line_text at labels o i) (cond (is_end i) (record { text = []; ending = follow (length (x ∷ xs) - suc n) }) (with_text (label_text (label_behind i (o + suc n))) l))) rest)
 
 -- the lines of an instruction that is not DMAEND
@@ -43,7 +43,7 @@ listed_step at labels o n xs i out one two after more read some within goes show
     let line = line_text at labels o i in
     let label = label_text (label_behind i (o + n)) in
     let rest = listed_from at (more_labels labels (label_behind i (o + n))) (o + n) 0 (drop n xs) in
-    let whole : listed_from at labels o 0 xs ≡ with_text line (with_text label rest) = rw (listed_from-first at labels o n xs i read some within, goes) refl in
+    let whole : listed_from at labels o 0 xs ≡ with_text line (with_text label rest) = rw (listed_from_first at labels o n xs i read some within, goes) refl in
     let same : listed_from at more (o + n) 0 after ≡ rest = ap (λ (m : List ℕ). listed_from at m (o + n) 0 after) g ∙ ap (λ (a : List ℕ). listed_from at (more_labels labels (label_behind i (o + n))) (o + n) 0 a) h in
     let made : two ≡ (out ++ line) ++ label = f ∙ ap (λ (l : List ℕ). l ++ label) (e ∙ ap (λ (ls : List ℕ). out ++ line_text at ls o i) also) in
     let joined : ((out ++ line) ++ label) ++ rest.text ≡ out ++ (line ++ (label ++ rest.text)) = append_assoc (out ++ line) label rest.text ∙ append_assoc out line (label ++ rest.text) in (

@@ -14,8 +14,8 @@ use Rattle.dma_manual.proofs.Cuts.{is_inline, no_feed, has_bytes}
 abbrev pub plain : List ℕ → List ℕ
 plain bytes = map plain_byte bytes
 
-pub plain-append : (xs ys tail : List ℕ) → plain (xs ++ ys) ++ tail ≡ plain xs ++ (plain ys ++ tail)
-plain-append xs ys tail = ap (λ (l : List ℕ). l ++ tail) (map-append plain_byte xs ys) ∙ append_assoc (plain xs) (plain ys) tail
+pub plain_append_law : (xs ys tail : List ℕ) → plain (xs ++ ys) ++ tail ≡ plain xs ++ (plain ys ++ tail)
+plain_append_law xs ys tail = ap (λ (l : List ℕ). l ++ tail) (map-append plain_byte xs ys) ∙ append_assoc (plain xs) (plain ys) tail
 
 -- what a function gives at each number below n
 abbrev pub each : {A : Type 0} → ℕ → (ℕ → A) → List A

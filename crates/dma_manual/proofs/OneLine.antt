@@ -37,24 +37,24 @@ text_some (Mov Sar v) = refl
 text_some (Mov Ccr v) = refl
 text_some (Mov Dar v) = refl
 
-spelling-le : (i : Insn) → length (spelling i) ≤ most_program_bytes
-spelling-le End = omega arith
-spelling-le Ld = omega arith
-spelling-le St = omega arith
-spelling-le Rmb = omega arith
-spelling-le Wmb = omega arith
-spelling-le Nop = omega arith
-spelling-le (Lp c n) = omega arith
-spelling-le (LpEnd c b) = omega arith
-spelling-le (Sev e) = omega arith
-spelling-le (Wfe e v) = omega arith
-spelling-le (Mov r v) = omega arith
+spelling_le : (i : Insn) → length (spelling i) ≤ most_program_bytes
+spelling_le End = omega arith
+spelling_le Ld = omega arith
+spelling_le St = omega arith
+spelling_le Rmb = omega arith
+spelling_le Wmb = omega arith
+spelling_le Nop = omega arith
+spelling_le (Lp c n) = omega arith
+spelling_le (LpEnd c b) = omega arith
+spelling_le (Sev e) = omega arith
+spelling_le (Wfe e v) = omega arith
+spelling_le (Mov r v) = omega arith
 
 pub texts_assemble : TextsAssemble
 texts_assemble i h =
     let text = manual_text i in
     let inline = insn_inline i h in
-    let fits = spelling-le i in
+    let fits = spelling_le i in
     let line : text_lines text ≡ text ∷ [] = one_line text (text_some i) (inline_no_feed text inline) in
     let said : Says [] (plain text) (statement_of i) = subst (λ (l : List ℕ). Says [] l (statement_of i)) (append-nil (plain text)) (insn_says [] i [] h refl) in
     let g = insn_grown empty i (place_of 1 (length (plain text)) (next_of (plain text))) (omega arith) (refl, refl) in

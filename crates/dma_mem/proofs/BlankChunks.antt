@@ -8,74 +8,74 @@ use Rattle.std.proofs.lemmas.List.{ext_get_or, length-replicate, append-nil, len
 use Rattle.dma_mem.specs.Image.{put, bytes_at}
 use Rattle.dma_mem.specs.inner.Blocks.{filled}
 use Rattle.dma_mem.specs.inner.ChunkTable.{blank, bytes_shown, is_blank}
-use Rattle.dma_mem.proofs.BytesPut.{lookup-bytes_before, lookup-bytes_at, lookup-bytes_past}
+use Rattle.dma_mem.proofs.BytesPut.{lookup_bytes_before, lookup_bytes_at, lookup_bytes_past}
 use Rattle.dma_mem.proofs.ChunkTables.{zero_at}
-use Rattle.dma_mem.proofs.ImagePut.{length-put, get_or-put}
+use Rattle.dma_mem.proofs.ImagePut.{length_put, get_or_put}
 
 -- ---- the zeros that a blank chunk shows
 
-pub blank-is : blank ≡ replicate 16384 0
+pub blank_is : blank ≡ replicate 16384 0
 unfolding blank
-blank-is = refl
+blank_is = refl
 
-pub length-blank : length blank ≡ 16384
-length-blank = ap length blank-is ∙ length-replicate {A = ℕ} 16384 0
+pub length_blank : length blank ≡ 16384
+length_blank = ap length blank_is ∙ length-replicate {A = ℕ} 16384 0
 
 pub blank_at : (k : ℕ) → get_or blank k 0 ≡ 0
-blank_at k = ap (λ xs. get_or xs k 0) blank-is ∙ zero_at 16384 k
+blank_at k = ap (λ xs. get_or xs k 0) blank_is ∙ zero_at 16384 k
 
 -- A fill of a blank chunk with 0 changes nothing.
-pub filled-blank : (start len : ℕ) → filled blank start len 0 ≡ blank
-filled-blank start len =
+pub filled_blank : (start len : ℕ) → filled blank start len 0 ≡ blank
+filled_blank start len =
     let zeros : List ℕ = replicate len 0 in
-    ext_get_or 0 _ _ (length-put blank (bytes_at start zeros)) (λ k l.
-    let m : k < length blank = omega (arith, length-put blank (bytes_at start zeros)) in
-    let shows : (o : Option ℕ) → lookup (nat_eq k) (bytes_at start zeros) ≡ o → unwrap_or o (get_or blank k 0) ≡ 0 → get_or (put blank (bytes_at start zeros)) k 0 ≡ get_or blank k 0 = λ o e z. get_or-put blank (bytes_at start zeros) k m ∙ ap (λ o. unwrap_or o (get_or blank k 0)) e ∙ z ∙ sym (blank_at k) in
+    ext_get_or 0 _ _ (length_put blank (bytes_at start zeros)) (λ k l.
+    let m : k < length blank = omega (arith, length_put blank (bytes_at start zeros)) in
+    let shows : (o : Option ℕ) → lookup (nat_eq k) (bytes_at start zeros) ≡ o → unwrap_or o (get_or blank k 0) ≡ 0 → get_or (put blank (bytes_at start zeros)) k 0 ≡ get_or blank k 0 = λ o e z. get_or_put blank (bytes_at start zeros) k m ∙ ap (λ o. unwrap_or o (get_or blank k 0)) e ∙ z ∙ sym (blank_at k) in
     elim (cases_lt k start) [
-      | inl before ↦ shows None (lookup-bytes_before start zeros k before) (blank_at k)
+      | inl before ↦ shows None (lookup_bytes_before start zeros k before) (blank_at k)
       | inr after ↦ elim (cases_lt k (start + length zeros)) [
-        | inl within ↦ shows (Some (get_or zeros (k - start) 0)) (lookup-bytes_at start zeros (k - start) k (omega arith) (omega arith)) (zero_at len (k - start))
-        | inr past ↦ shows None (lookup-bytes_past start zeros k past) (blank_at k)
+        | inl within ↦ shows (Some (get_or zeros (k - start) 0)) (lookup_bytes_at start zeros (k - start) k (omega arith) (omega arith)) (zero_at len (k - start))
+        | inr past ↦ shows None (lookup_bytes_past start zeros k past) (blank_at k)
       ]
     ])
 
 -- ---- what a chunk shows, by its list
 
 -- A blank list shows zeros.
-pub shown-blank : (capacity : ℕ) (items : List ℕ) → is_blank capacity items ≡ true → bytes_shown capacity items ≡ blank
-shown-blank capacity items e = rw e refl
+pub shown_blank : (capacity : ℕ) (items : List ℕ) → is_blank capacity items ≡ true → bytes_shown capacity items ≡ blank
+shown_blank capacity items e = rw e refl
 
 -- Any other list shows its items.
-pub shown-as_is : (capacity : ℕ) (items : List ℕ) → is_blank capacity items ≡ false → bytes_shown capacity items ≡ items
-shown-as_is capacity items e = rw e refl
+pub shown_as_is : (capacity : ℕ) (items : List ℕ) → is_blank capacity items ≡ false → bytes_shown capacity items ≡ items
+shown_as_is capacity items e = rw e refl
 
 -- A list with items shows them.
-pub shown-items : (capacity : ℕ) (items : List ℕ) → 0 < length items → bytes_shown capacity items ≡ items
-shown-items capacity items some = rw (ne_eqb (length items) 0 (λ e. omega arith)) refl
+pub shown_items : (capacity : ℕ) (items : List ℕ) → 0 < length items → bytes_shown capacity items ≡ items
+shown_items capacity items some = rw (ne_eqb (length items) 0 (λ e. omega arith)) refl
 
-length-shown_by : (b : Bool) (capacity : ℕ) (items : List ℕ) → is_blank capacity items ≡ b → (0 < length items → 16384 ≤ length items) → length items ≤ 16384 → 0 < length (bytes_shown capacity items) → length (bytes_shown capacity items) ≡ 16384
-length-shown_by true capacity items e whole most some = ap length (shown-blank capacity items e) ∙ length-blank
-length-shown_by false capacity items e whole most some =
-    let same : length (bytes_shown capacity items) ≡ length items = ap length (shown-as_is capacity items e) in
+length_shown_by : (b : Bool) (capacity : ℕ) (items : List ℕ) → is_blank capacity items ≡ b → (0 < length items → 16384 ≤ length items) → length items ≤ 16384 → 0 < length (bytes_shown capacity items) → length (bytes_shown capacity items) ≡ 16384
+length_shown_by true capacity items e whole most some = ap length (shown_blank capacity items e) ∙ length_blank
+length_shown_by false capacity items e whole most some =
+    let same : length (bytes_shown capacity items) ≡ length items = ap length (shown_as_is capacity items e) in
     let here : 0 < length items = omega (arith, some, same) in
     omega (arith, whole here, same)
 
 -- A chunk that shows a byte shows 16,384.
-pub length-shown : (capacity : ℕ) (items : List ℕ) → (0 < length items → 16384 ≤ length items) → length items ≤ 16384 → 0 < length (bytes_shown capacity items) → length (bytes_shown capacity items) ≡ 16384
-length-shown capacity items = length-shown_by (is_blank capacity items) capacity items refl
+pub length_shown : (capacity : ℕ) (items : List ℕ) → (0 < length items → 16384 ≤ length items) → length items ≤ 16384 → 0 < length (bytes_shown capacity items) → length (bytes_shown capacity items) ≡ 16384
+length_shown capacity items = length_shown_by (is_blank capacity items) capacity items refl
 
 -- A chunk with memory shows 16,384 bytes.
-pub length-with_memory : (capacity : ℕ) (items : List ℕ) → (0 < length items → 16384 ≤ length items) → length items ≤ 16384 → 0 < capacity → length (bytes_shown capacity items) ≡ 16384
-length-with_memory capacity items whole most some = elim (cases_eq (length items) 0) [
-  | inl none ↦ ap length (shown-blank capacity items (rw (eq-eqb (length items) 0 none, lt-ltb 0 capacity some) refl)) ∙ length-blank
+pub length_with_memory : (capacity : ℕ) (items : List ℕ) → (0 < length items → 16384 ≤ length items) → length items ≤ 16384 → 0 < capacity → length (bytes_shown capacity items) ≡ 16384
+length_with_memory capacity items whole most some = elim (cases_eq (length items) 0) [
+  | inl none ↦ ap length (shown_blank capacity items (rw (eq-eqb (length items) 0 none, lt-ltb 0 capacity some) refl)) ∙ length_blank
   | inr more ↦
       let here : 0 < length items = omega arith in
-      ap length (shown-items capacity items here) ∙ omega (arith, whole here)
+      ap length (shown_items capacity items here) ∙ omega (arith, whole here)
 ]
 
 -- A blank list has no items.
-pub blank-none : (capacity : ℕ) (items : List ℕ) → is_blank capacity items ≡ true → length items ≡ 0
-blank-none capacity items e = elim (cases_eq (length items) 0) [
+pub blank_none : (capacity : ℕ) (items : List ℕ) → is_blank capacity items ≡ true → length items ≡ 0
+blank_none capacity items e = elim (cases_eq (length items) 0) [
   | inl none ↦ none
   | inr more ↦
       let not : is_blank capacity items ≡ false = rw (ne_eqb (length items) 0 more) refl in
@@ -83,34 +83,34 @@ blank-none capacity items e = elim (cases_eq (length items) 0) [
 ]
 
 -- An empty list with memory shows zeros.
-pub shown-new : (capacity : ℕ) (items : List ℕ) → items ≡ [] → 0 < capacity → bytes_shown capacity items ≡ blank
-shown-new capacity items none some =
-    shown-blank capacity items (rw (none, lt-ltb 0 capacity some) refl)
+pub shown_new : (capacity : ℕ) (items : List ℕ) → items ≡ [] → 0 < capacity → bytes_shown capacity items ≡ blank
+shown_new capacity items none some =
+    shown_blank capacity items (rw (none, lt-ltb 0 capacity some) refl)
 
 -- An empty list that is resized to n items, all 0, is n zeros.
-pub zeros-fill : (n used : ℕ) (items : List ℕ) → length items ≡ 0 → used ≡ length items → take n items ++ replicate (n - used) 0 ≡ replicate n 0
-zeros-fill n used [] none e =
+pub zeros_fill : (n used : ℕ) (items : List ℕ) → length items ≡ 0 → used ≡ length items → take n items ++ replicate (n - used) 0 ≡ replicate n 0
+zeros_fill n used [] none e =
     let all : n - used ≡ n = omega (arith, e) in
     let empty : take {A = ℕ} n [] ≡ [] = nil_from_length (take {A = ℕ} n []) (omega (arith, length-take {A = ℕ} n [])) in
     rw (empty, all) refl
-zeros-fill n used (b ∷ bs) none e = absurd (omega arith)
+zeros_fill n used (b ∷ bs) none e = absurd (omega arith)
 
 -- ---- what is written through the list
 
 -- all bytes of a list, replaced by as many others
-pub replaced-all : (len : ℕ) (all items : List ℕ) → len ≡ length items → length all ≡ length items → take len (all ++ drop (length all) items) ≡ all
-replaced-all len all items e f =
+pub replaced_all : (len : ℕ) (all items : List ℕ) → len ≡ length items → length all ≡ length items → take len (all ++ drop (length all) items) ≡ all
+replaced_all len all items e f =
     let rest : drop (length all) items ≡ [] = nil_from_length (drop (length all) items) (omega (arith, length-drop {A = ℕ} (length all) items)) in
     let long : len ≡ length all = omega (arith, e, f) in
     rw (rest, append-nil, long) (take-length all)
 
 -- After all bytes of a list are replaced, it shows the new ones.
-pub shown-replaced : (capacity len : ℕ) (all items : List ℕ) → len ≡ length items → length all ≡ length items → 0 < length items → bytes_shown capacity (take len (all ++ drop (length all) items)) ≡ all
-shown-replaced capacity len all items e f some =
-    let same : take len (all ++ drop (length all) items) ≡ all = replaced-all len all items e f in
-    shown-items capacity (take len (all ++ drop (length all) items)) (omega (arith, ap length same, f)) ∙ same
+pub shown_replaced : (capacity len : ℕ) (all items : List ℕ) → len ≡ length items → length all ≡ length items → 0 < length items → bytes_shown capacity (take len (all ++ drop (length all) items)) ≡ all
+shown_replaced capacity len all items e f some =
+    let same : take len (all ++ drop (length all) items) ≡ all = replaced_all len all items e f in
+    shown_items capacity (take len (all ++ drop (length all) items)) (omega (arith, ap length same, f)) ∙ same
 
 -- Once the list of a made chunk has its zeros, it has 16,384 items.
-pub length-with_zeros : (capacity : ℕ) (items new shown : List ℕ) → new ≡ bytes_shown capacity items → bytes_shown capacity items ≡ shown → (0 < length items → 16384 ≤ length items) → length items ≤ 16384 → 0 < length shown → length new ≡ 16384
-length-with_zeros capacity items new shown e view whole most some =
-    ap length e ∙ length-shown capacity items whole most (omega (arith, ap length view))
+pub length_with_zeros : (capacity : ℕ) (items new shown : List ℕ) → new ≡ bytes_shown capacity items → bytes_shown capacity items ≡ shown → (0 < length items → 16384 ≤ length items) → length items ≤ 16384 → 0 < length shown → length new ≡ 16384
+length_with_zeros capacity items new shown e view whole most some =
+    ap length e ∙ length_shown capacity items whole most (omega (arith, ap length view))

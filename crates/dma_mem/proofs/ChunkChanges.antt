@@ -5,8 +5,8 @@ use Rattle.std.proofs.lemmas.List.{get_or-set_same, get_or-set_other, set-set, l
 use Rattle.dma_mem.specs.Image.{put, bytes_at}
 use Rattle.dma_mem.specs.inner.Blocks.{CopiesBlock}
 use Rattle.dma_mem.specs.inner.ChunkTable.{chunk_at, flat, image_of}
-use Rattle.dma_mem.proofs.ChunkTables.{within_chunks, chunk_found, group_within, others_kept, chunk_at-flat_same, length-flat_set, laid-put}
-use Rattle.dma_mem.proofs.ChunkImages.{image_of-laid, read_found}
+use Rattle.dma_mem.proofs.ChunkTables.{within_chunks, chunk_found, group_within, others_kept, chunk_at_flat_same, length_flat_set, laid_put}
+use Rattle.dma_mem.proofs.ChunkImages.{image_of_laid, read_found}
 
 -- one chunk of a table was replaced by this one, and the others are as they were
 pub record HasInstead (old new : List (List ℕ)) (n : ℕ) (chunk : List ℕ) : Type 0 where
@@ -31,8 +31,8 @@ replaced groups chunks n group new chunk v made is e =
     let h = group_found groups chunks n v made in
     let inside = within_group groups chunks n group v made is in
     record {
-      count = length-flat_set groups (n / 256) new ∙ ap length v;
-      at = chunk_at-flat_same groups (n / 256) n new h refl ∙ ap (λ g. chunk_at g (n % 256)) e ∙ get_or-set_same group (n % 256) chunk [] inside;
+      count = length_flat_set groups (n / 256) new ∙ ap length v;
+      at = chunk_at_flat_same groups (n / 256) n new h refl ∙ ap (λ g. chunk_at g (n % 256)) e ∙ get_or-set_same group (n % 256) chunk [] inside;
       others = others_kept groups chunks n group new v is h (λ p other. ap (λ g. chunk_at g p) e ∙ get_or-set_other group (n % 256) p chunk [] other);
     }
 
@@ -64,8 +64,8 @@ image_changed size old new start chunk bs change is whole fits =
     let n = start / 16384 in
     let offset = start % 16384 in
     let at : 16384 * n + offset ≡ start = omega arith in
-    image_of-laid size old new n offset bs change.others
-    (λ k. ap (λ (xs : List ℕ). get_or xs k 0) (change.at ∙ is) ∙ laid-put (chunk_at old n) offset bs (omega (arith, whole, fits)) k)
+    image_of_laid size old new n offset bs change.others
+    (λ k. ap (λ (xs : List ℕ). get_or xs k 0) (change.at ∙ is) ∙ laid_put (chunk_at old n) offset bs (omega (arith, whole, fits)) k)
     fits
     ∙ ap (λ a. put (image_of size old) (bytes_at a bs)) at
 

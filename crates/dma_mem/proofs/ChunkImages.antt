@@ -7,60 +7,60 @@ use Rattle.std.proofs.lemmas.List.{length-replicate, get_or-replicate, ext_get_o
 use Rattle.std.proofs.lemmas.List.FromFn.{length-map-range_with_len, get_or-map-range_with_len}
 use Rattle.dma_mem.specs.Image.{put, bytes_at}
 use Rattle.dma_mem.specs.inner.ChunkTable.{PutsInChunk, chunk_at, image_of}
-use Rattle.dma_mem.proofs.ImagePut.{length-put, get_or-put, put-put, put-same, lookup-append}
-use Rattle.dma_mem.proofs.BytesPut.{lookup-bytes_before, lookup-bytes_past, lookup-bytes_at}
+use Rattle.dma_mem.proofs.ImagePut.{length_put, get_or_put, put_put, put_same, lookup_append}
+use Rattle.dma_mem.proofs.BytesPut.{lookup_bytes_before, lookup_bytes_past, lookup_bytes_at}
 
 -- ---- the image
 
-pub length-image_of : (size : ℕ) (chunks : List (List ℕ)) → length (image_of size chunks) ≡ size
+pub length_image_of : (size : ℕ) (chunks : List (List ℕ)) → length (image_of size chunks) ≡ size
 unfolding image_of
-length-image_of size chunks = length-map-range_with_len _ 0 size
+length_image_of size chunks = length-map-range_with_len _ 0 size
 
-pub get_or-image_of : (size : ℕ) (chunks : List (List ℕ)) (a : ℕ) → a < size → get_or (image_of size chunks) a 0 ≡ get_or (chunk_at chunks (a / 16384)) (a % 16384) 0
+pub get_or_image_of : (size : ℕ) (chunks : List (List ℕ)) (a : ℕ) → a < size → get_or (image_of size chunks) a 0 ≡ get_or (chunk_at chunks (a / 16384)) (a % 16384) 0
 unfolding image_of
-get_or-image_of size chunks a h = get_or-map-range_with_len _ 0 size a a 0 h (omega arith)
+get_or_image_of size chunks a h = get_or-map-range_with_len _ 0 size a a 0 h (omega arith)
 
 -- chunks with the same bytes show the same
-pub image_of-same : (size : ℕ) (chunks others : List (List ℕ)) → ((p k : ℕ) → get_or (chunk_at chunks p) k 0 ≡ get_or (chunk_at others p) k 0) → image_of size chunks ≡ image_of size others
-image_of-same size chunks others h =
-    ext_get_or 0 _ _ (length-image_of size chunks ∙ sym (length-image_of size others)) (λ a l.
-    let m : a < size = omega (arith, length-image_of size chunks) in
-    get_or-image_of size chunks a m ∙ h (a / 16384) (a % 16384) ∙ sym (get_or-image_of size others a m))
+pub image_of_same : (size : ℕ) (chunks others : List (List ℕ)) → ((p k : ℕ) → get_or (chunk_at chunks p) k 0 ≡ get_or (chunk_at others p) k 0) → image_of size chunks ≡ image_of size others
+image_of_same size chunks others h =
+    ext_get_or 0 _ _ (length_image_of size chunks ∙ sym (length_image_of size others)) (λ a l.
+    let m : a < size = omega (arith, length_image_of size chunks) in
+    get_or_image_of size chunks a m ∙ h (a / 16384) (a % 16384) ∙ sym (get_or_image_of size others a m))
 
-pub image_of-none : (size : ℕ) (chunks : List (List ℕ)) → ((p : ℕ) → chunk_at chunks p ≡ []) → image_of size chunks ≡ replicate size 0
-image_of-none size chunks h =
-    ext_get_or 0 _ _ (length-image_of size chunks ∙ sym (length-replicate size 0)) (λ a l.
-    let m : a < size = omega (arith, length-image_of size chunks) in
-    get_or-image_of size chunks a m ∙ ap (λ p. get_or p (a % 16384) 0) (h (a / 16384)) ∙ sym (get_or-replicate size a 0 0 m))
+pub image_of_none : (size : ℕ) (chunks : List (List ℕ)) → ((p : ℕ) → chunk_at chunks p ≡ []) → image_of size chunks ≡ replicate size 0
+image_of_none size chunks h =
+    ext_get_or 0 _ _ (length_image_of size chunks ∙ sym (length-replicate size 0)) (λ a l.
+    let m : a < size = omega (arith, length_image_of size chunks) in
+    get_or_image_of size chunks a m ∙ ap (λ p. get_or p (a % 16384) 0) (h (a / 16384)) ∙ sym (get_or-replicate size a 0 0 m))
 
 -- ---- bytes put into a chunk
 
 -- a look-up is the same further up
-pub lookup-bytes_moved : (c a x : ℕ) (bs : List ℕ) → lookup (nat_eq (c + x)) (bytes_at (c + a) bs) ≡ lookup (nat_eq x) (bytes_at a bs)
-lookup-bytes_moved c a x bs = elim (cases_lt x a) [
-  | inl l ↦ lookup-bytes_before (c + a) bs (c + x) (omega arith) ∙ sym (lookup-bytes_before a bs x l)
+pub lookup_bytes_moved : (c a x : ℕ) (bs : List ℕ) → lookup (nat_eq (c + x)) (bytes_at (c + a) bs) ≡ lookup (nat_eq x) (bytes_at a bs)
+lookup_bytes_moved c a x bs = elim (cases_lt x a) [
+  | inl l ↦ lookup_bytes_before (c + a) bs (c + x) (omega arith) ∙ sym (lookup_bytes_before a bs x l)
   | inr l ↦ elim (cases_lt x (a + length bs)) [
-    | inl m ↦ lookup-bytes_at (c + a) bs (x - a) (c + x) (omega arith) (omega arith) ∙ sym (lookup-bytes_at a bs (x - a) x (omega arith) (omega arith))
-    | inr m ↦ lookup-bytes_past (c + a) bs (c + x) (omega arith) ∙ sym (lookup-bytes_past a bs x m)
+    | inl m ↦ lookup_bytes_at (c + a) bs (x - a) (c + x) (omega arith) (omega arith) ∙ sym (lookup_bytes_at a bs (x - a) x (omega arith) (omega arith))
+    | inr m ↦ lookup_bytes_past (c + a) bs (c + x) (omega arith) ∙ sym (lookup_bytes_past a bs x m)
   ]
 ]
 
 -- bytes laid into a chunk are put into the image
-pub image_of-laid : (size : ℕ) (chunks new : List (List ℕ)) (p offset : ℕ) (bs : List ℕ) → ((q : ℕ) → q ≢ p → chunk_at new q ≡ chunk_at chunks q) → PutsInChunk (chunk_at chunks p) offset bs (chunk_at new p) → offset + length bs ≤ 16384 → image_of size new ≡ put (image_of size chunks) (bytes_at (16384 * p + offset) bs)
-image_of-laid size chunks new p offset bs others laid fits =
+pub image_of_laid : (size : ℕ) (chunks new : List (List ℕ)) (p offset : ℕ) (bs : List ℕ) → ((q : ℕ) → q ≢ p → chunk_at new q ≡ chunk_at chunks q) → PutsInChunk (chunk_at chunks p) offset bs (chunk_at new p) → offset + length bs ≤ 16384 → image_of size new ≡ put (image_of size chunks) (bytes_at (16384 * p + offset) bs)
+image_of_laid size chunks new p offset bs others laid fits =
     let image = image_of size chunks in
     let es = bytes_at (16384 * p + offset) bs in
-    ext_get_or 0 _ _ (length-image_of size new ∙ sym (length-put image es ∙ length-image_of size chunks)) (λ a l.
-    let m : a < size = omega (arith, length-image_of size new) in
-    let within : a < length image = omega (arith, length-image_of size chunks) in
+    ext_get_or 0 _ _ (length_image_of size new ∙ sym (length_put image es ∙ length_image_of size chunks)) (λ a l.
+    let m : a < size = omega (arith, length_image_of size new) in
+    let within : a < length image = omega (arith, length_image_of size chunks) in
     let k = a % 16384 in
-    let shown = get_or-image_of size new a m in
-    let wanted = get_or-put image es a within in
+    let shown = get_or_image_of size new a m in
+    let wanted = get_or_put image es a within in
     elim (cases_eq (a / 16384) p) [
       | inl e ↦
           let at : 16384 * p + k ≡ a = omega arith in
-          let found : lookup (nat_eq k) (bytes_at offset bs) ≡ lookup (nat_eq a) es = sym (lookup-bytes_moved (16384 * p) offset k bs) ∙ ap (λ x. lookup (nat_eq x) es) at in
-          let before : get_or (chunk_at chunks p) k 0 ≡ get_or image a 0 = ap (λ x. get_or (chunk_at chunks x) k 0) (sym e) ∙ sym (get_or-image_of size chunks a m) in
+          let found : lookup (nat_eq k) (bytes_at offset bs) ≡ lookup (nat_eq a) es = sym (lookup_bytes_moved (16384 * p) offset k bs) ∙ ap (λ x. lookup (nat_eq x) es) at in
+          let before : get_or (chunk_at chunks p) k 0 ≡ get_or image a 0 = ap (λ x. get_or (chunk_at chunks x) k 0) (sym e) ∙ sym (get_or_image_of size chunks a m) in
           shown
           ∙ ap (λ n. get_or (chunk_at new n) k 0) e
           ∙ laid k
@@ -69,12 +69,12 @@ image_of-laid size chunks new p offset bs others laid fits =
           ∙ sym wanted
       | inr n ↦
           let none : lookup (nat_eq a) es ≡ None = elim (cases_lt a (16384 * p)) [
-            | inl low ↦ lookup-bytes_before (16384 * p + offset) bs a (omega arith)
-            | inr high ↦ lookup-bytes_past (16384 * p + offset) bs a (omega arith)
+            | inl low ↦ lookup_bytes_before (16384 * p + offset) bs a (omega arith)
+            | inr high ↦ lookup_bytes_past (16384 * p + offset) bs a (omega arith)
           ] in
           shown
           ∙ ap (λ x. get_or x k 0) (others (a / 16384) n)
-          ∙ sym (get_or-image_of size chunks a m)
+          ∙ sym (get_or_image_of size chunks a m)
           ∙ sym (ap (λ o. unwrap_or o (get_or image a 0)) none)
           ∙ sym wanted
     ])
@@ -86,31 +86,31 @@ bytes_in_turn image a d n bs h =
     let len1 : length (take d bs) ≡ d = omega (arith, length-take d bs) in
     let len2 : length (take n (drop d bs)) ≡ n = omega (arith, length-take n (drop d bs), length-drop d bs) in
     let len : length (take (d + n) bs) ≡ d + n = omega (arith, length-take (d + n) bs) in
-    put-put image first second
-    ∙ put-same image (second ++ first) (bytes_at a (take (d + n) bs)) (λ x.
-    let join = lookup-append (nat_eq x) second first in
+    put_put image first second
+    ∙ put_same image (second ++ first) (bytes_at a (take (d + n) bs)) (λ x.
+    let join = lookup_append (nat_eq x) second first in
     elim (cases_lt x a) [
       | inl low ↦
-          let s = lookup-bytes_before (a + d) (take n (drop d bs)) x (omega arith) in
-          let f = lookup-bytes_before a (take d bs) x low in
-          join ∙ rw (s, f) (sym (lookup-bytes_before a (take (d + n) bs) x low))
+          let s = lookup_bytes_before (a + d) (take n (drop d bs)) x (omega arith) in
+          let f = lookup_bytes_before a (take d bs) x low in
+          join ∙ rw (s, f) (sym (lookup_bytes_before a (take (d + n) bs) x low))
       | inr high ↦ elim (cases_lt x (a + d)) [
         | inl in_first ↦
-            let s = lookup-bytes_before (a + d) (take n (drop d bs)) x in_first in
-            let f = lookup-bytes_at a (take d bs) (x - a) x (omega arith) (omega arith) in
+            let s = lookup_bytes_before (a + d) (take n (drop d bs)) x in_first in
+            let f = lookup_bytes_at a (take d bs) (x - a) x (omega arith) (omega arith) in
             let same : get_or (take d bs) (x - a) 0 ≡ get_or (take (d + n) bs) (x - a) 0 = get_or-take d bs (x - a) 0 (omega arith) ∙ sym (get_or-take (d + n) bs (x - a) 0 (omega arith)) in
-            join ∙ rw (s, f) (ap Some same ∙ sym (lookup-bytes_at a (take (d + n) bs) (x - a) x (omega arith) (omega arith)))
+            join ∙ rw (s, f) (ap Some same ∙ sym (lookup_bytes_at a (take (d + n) bs) (x - a) x (omega arith) (omega arith)))
         | inr past_first ↦ elim (cases_lt x (a + d + n)) [
           | inl in_second ↦
-              let s = lookup-bytes_at (a + d) (take n (drop d bs)) (x - (a + d)) x (omega arith) (omega arith) in
+              let s = lookup_bytes_at (a + d) (take n (drop d bs)) (x - (a + d)) x (omega arith) (omega arith) in
               let back : d + (x - (a + d)) ≡ x - a = omega arith in
               let same : get_or (take n (drop d bs)) (x - (a + d)) 0 ≡ get_or (take (d + n) bs) (x - a) 0 =
               get_or-take n (drop d bs) (x - (a + d)) 0 (omega arith) ∙ get_or-drop d bs (x - (a + d)) 0 ∙ ap (λ i. get_or bs i 0) back ∙ sym (get_or-take (d + n) bs (x - a) 0 (omega arith)) in
-              join ∙ rw s (ap Some same ∙ sym (lookup-bytes_at a (take (d + n) bs) (x - a) x (omega arith) (omega arith)))
+              join ∙ rw s (ap Some same ∙ sym (lookup_bytes_at a (take (d + n) bs) (x - a) x (omega arith) (omega arith)))
           | inr past ↦
-              let s = lookup-bytes_past (a + d) (take n (drop d bs)) x (omega arith) in
-              let f = lookup-bytes_past a (take d bs) x (omega arith) in
-              join ∙ rw (s, f) (sym (lookup-bytes_past a (take (d + n) bs) x (omega arith)))
+              let s = lookup_bytes_past (a + d) (take n (drop d bs)) x (omega arith) in
+              let f = lookup_bytes_past a (take d bs) x (omega arith) in
+              join ∙ rw (s, f) (sym (lookup_bytes_past a (take (d + n) bs) x (omega arith)))
         ]
       ]
     ])
@@ -119,6 +119,6 @@ bytes_in_turn image a d n bs h =
 pub read_found : (size : ℕ) (chunks : List (List ℕ)) (addr n : ℕ) (buf : List ℕ) → length buf ≡ n → addr + n ≤ size → ((k : ℕ) → k < length buf → get_or buf k 0 ≡ get_or (chunk_at chunks ((addr + k) / 16384)) ((addr + k) % 16384) 0) → buf ≡ take n (drop addr (image_of size chunks))
 read_found size chunks addr n buf e h read =
     let image = image_of size chunks in
-    let long : length (take n (drop addr image)) ≡ n = omega (arith, length-take n (drop addr image), length-drop addr image, length-image_of size chunks) in
+    let long : length (take n (drop addr image)) ≡ n = omega (arith, length-take n (drop addr image), length-drop addr image, length_image_of size chunks) in
     ext_get_or 0 buf (take n (drop addr image)) (e ∙ sym long) (λ k l.
-    read k l ∙ sym (get_or-image_of size chunks (addr + k) (omega arith)) ∙ sym (get_or-take n (drop addr image) k 0 (omega arith) ∙ get_or-drop addr image k 0))
+    read k l ∙ sym (get_or_image_of size chunks (addr + k) (omega arith)) ∙ sym (get_or-take n (drop addr image) k 0 (omega arith) ∙ get_or-drop addr image k 0))

@@ -8,7 +8,7 @@ use Rattle.dma_mem.specs.declared.marks.MarkKind.{MarkKind}
 use Rattle.dma_mem.specs.declared.marks.MarkKind.TheVariants.{Reading, Writing}
 use Rattle.dma_mem.specs.Marking.{MarkList, is_marked, lies_in, NoneMarked}
 use Rattle.dma_mem.specs.Lent.{Loan, Avoids, barred_of, lies_in_any, marks_at, stores_at, with_gaps}
-use Rattle.dma_mem.proofs.MarkHits.{list_any-or, list_any-same, or_assoc}
+use Rattle.dma_mem.proofs.MarkHits.{list_any_or, list_any_same, or_assoc}
 use Rattle.dma_mem.proofs.SharedPlaces.{range_in}
 
 or_parts : (b c : Bool) → (b || c) ≡ false → (b ≡ false) × (c ≡ false)
@@ -21,10 +21,10 @@ or_none b c e f = rw (e, f) refl
 -- ---- one address
 
 -- an address is marked at gaps and marks where it lies in a gap or in a mark
-pub is_marked-at : (kind : MarkKind) (gaps : List Segment) (marks : MarkList) (a : ℕ) → is_marked kind (marks_at gaps ++ marks) a ≡ (lies_in_any gaps a || is_marked kind marks a)
-is_marked-at kind [] marks a = refl
-is_marked-at Reading (s ∷ gaps) marks a = ap (λ b. lies_in a s || b) (is_marked-at Reading gaps marks a) ∙ sym (or_assoc (lies_in a s) _ _)
-is_marked-at Writing (s ∷ gaps) marks a = ap (λ b. lies_in a s || b) (is_marked-at Writing gaps marks a) ∙ sym (or_assoc (lies_in a s) _ _)
+pub is_marked_at : (kind : MarkKind) (gaps : List Segment) (marks : MarkList) (a : ℕ) → is_marked kind (marks_at gaps ++ marks) a ≡ (lies_in_any gaps a || is_marked kind marks a)
+is_marked_at kind [] marks a = refl
+is_marked_at Reading (s ∷ gaps) marks a = ap (λ b. lies_in a s || b) (is_marked_at Reading gaps marks a) ∙ sym (or_assoc (lies_in a s) _ _)
+is_marked_at Writing (s ∷ gaps) marks a = ap (λ b. lies_in a s || b) (is_marked_at Writing gaps marks a) ∙ sym (or_assoc (lies_in a s) _ _)
 
 pub loads_in : (segments : List Segment) (marks : MarkList) (a : ℕ) → is_marked Reading (stores_at segments ++ marks) a ≡ is_marked Reading marks a
 loads_in [] marks a = refl
@@ -35,11 +35,11 @@ stores_in [] marks a = refl
 stores_in (s ∷ segments) marks a = ap (λ b. lies_in a s || b) (stores_in segments marks a) ∙ sym (or_assoc (lies_in a s) _ _)
 
 -- an address is marked where it lies in a gap, for stores in what is read-only, or in a mark
-pub is_marked-gaps : (kind : MarkKind) (loan : Loan) (marks : MarkList) (a : ℕ) → is_marked kind (with_gaps loan marks) a ≡ (lies_in_any (barred_of kind loan) a || is_marked kind marks a)
-is_marked-gaps Reading loan marks a =
-    is_marked-at Reading loan.gaps (stores_at loan.read_only ++ marks) a ∙ ap (λ b. lies_in_any loan.gaps a || b) (loads_in loan.read_only marks a)
-is_marked-gaps Writing loan marks a =
-    is_marked-at Writing loan.gaps (stores_at loan.read_only ++ marks) a
+pub is_marked_gaps : (kind : MarkKind) (loan : Loan) (marks : MarkList) (a : ℕ) → is_marked kind (with_gaps loan marks) a ≡ (lies_in_any (barred_of kind loan) a || is_marked kind marks a)
+is_marked_gaps Reading loan marks a =
+    is_marked_at Reading loan.gaps (stores_at loan.read_only ++ marks) a ∙ ap (λ b. lies_in_any loan.gaps a || b) (loads_in loan.read_only marks a)
+is_marked_gaps Writing loan marks a =
+    is_marked_at Writing loan.gaps (stores_at loan.read_only ++ marks) a
     ∙ ap (λ b. lies_in_any loan.gaps a || b) (stores_in loan.read_only marks a)
     ∙ sym (or_assoc (lies_in_any loan.gaps a) (lies_in_any loan.read_only a) (is_marked Writing marks a))
     ∙ ap (λ b. b || is_marked Writing marks a) (sym (list_any-append (lies_in a) loan.gaps loan.read_only))
@@ -53,20 +53,20 @@ barred_gaps Writing loan addr len clear = λ a low high.
 -- ---- ranges
 
 -- one of some addresses is marked where one lies in a gap or one in a mark
-pub any_marked-gaps : (kind : MarkKind) (loan : Loan) (marks : MarkList) (xs : List ℕ) → list_any (is_marked kind (with_gaps loan marks)) xs ≡ (list_any (lies_in_any (barred_of kind loan)) xs || list_any (is_marked kind marks) xs)
-any_marked-gaps kind loan marks xs =
-    list_any-same (is_marked kind (with_gaps loan marks)) (λ a. lies_in_any (barred_of kind loan) a || is_marked kind marks a) (is_marked-gaps kind loan marks) xs
-    ∙ list_any-or (lies_in_any (barred_of kind loan)) (is_marked kind marks) xs
+pub any_marked_gaps : (kind : MarkKind) (loan : Loan) (marks : MarkList) (xs : List ℕ) → list_any (is_marked kind (with_gaps loan marks)) xs ≡ (list_any (lies_in_any (barred_of kind loan)) xs || list_any (is_marked kind marks) xs)
+any_marked_gaps kind loan marks xs =
+    list_any_same (is_marked kind (with_gaps loan marks)) (λ a. lies_in_any (barred_of kind loan) a || is_marked kind marks a) (is_marked_gaps kind loan marks) xs
+    ∙ list_any_or (lies_in_any (barred_of kind loan)) (is_marked kind marks) xs
 
 -- an unmarked range avoids the gaps
 pub unmarked_avoids : (kind : MarkKind) (loan : Loan) (marks : MarkList) (addr len : ℕ) → NoneMarked kind (with_gaps loan marks) addr len → Avoids loan.gaps addr len
 unmarked_avoids kind loan marks addr len none = barred_gaps kind loan addr len (λ a low high.
-    (or_parts (lies_in_any (barred_of kind loan) a) (is_marked kind marks a) (sym (is_marked-gaps kind loan marks a) ∙ none a low high)).0)
+    (or_parts (lies_in_any (barred_of kind loan) a) (is_marked kind marks a) (sym (is_marked_gaps kind loan marks a) ∙ none a low high)).0)
 
 -- a range that avoids the segments at which bursts of a kind fail and has no mark is unmarked
 pub avoids_unmarked : (kind : MarkKind) (loan : Loan) (marks : MarkList) (addr len : ℕ) → Avoids (barred_of kind loan) addr len → NoneMarked kind marks addr len → NoneMarked kind (with_gaps loan marks) addr len
 avoids_unmarked kind loan marks addr len clear none = λ a low high.
-    is_marked-gaps kind loan marks a ∙ or_none (lies_in_any (barred_of kind loan) a) (is_marked kind marks a) (clear a low high) (none a low high)
+    is_marked_gaps kind loan marks a ∙ or_none (lies_in_any (barred_of kind loan) a) (is_marked kind marks a) (clear a low high) (none a low high)
 
 -- a range that avoids the gaps meets none
 pub avoids_none : (gaps : List Segment) (addr len : ℕ) → Avoids gaps addr len → list_any (lies_in_any gaps) (range_with_len addr len) ≡ false

@@ -14,12 +14,12 @@ use Rattle.dma_mem.specs.Places.{Apart}
 
 -- ---- look-ups
 
-pub lookup-append : {X : Type 0} (test : ℕ → Bool) (xs ys : List (ℕ × X)) → lookup test (xs ++ ys) ≡ option_or (lookup test xs) (lookup test ys)
-lookup-append test [] ys = refl
-lookup-append test (x ∷ xs) ys =
+pub lookup_append : {X : Type 0} (test : ℕ → Bool) (xs ys : List (ℕ × X)) → lookup test (xs ++ ys) ≡ option_or (lookup test xs) (lookup test ys)
+lookup_append test [] ys = refl
+lookup_append test (x ∷ xs) ys =
     elim (test x.0) as (λ b. cond b (Some x.1) (lookup test (xs ++ ys)) ≡ option_or (cond b (Some x.1) (lookup test xs)) (lookup test ys)) [
       | true ↦ refl
-      | false ↦ lookup-append test xs ys
+      | false ↦ lookup_append test xs ys
     ]
 
 -- nothing is found where the address is no key
@@ -38,59 +38,59 @@ lookup_apart {X} xs ys a h =
 
 -- ---- what is put
 
-pub length-put : (image : List ℕ) (es : List (ℕ × ℕ)) → length (put image es) ≡ length image
+pub length_put : (image : List ℕ) (es : List (ℕ × ℕ)) → length (put image es) ≡ length image
 unfolding put
-length-put image es = length-map-range_with_len _ 0 (length image)
+length_put image es = length-map-range_with_len _ 0 (length image)
 
-pub get_or-put : (image : List ℕ) (es : List (ℕ × ℕ)) (a : ℕ) → a < length image → get_or (put image es) a 0 ≡ unwrap_or (lookup (nat_eq a) es) (get_or image a 0)
+pub get_or_put : (image : List ℕ) (es : List (ℕ × ℕ)) (a : ℕ) → a < length image → get_or (put image es) a 0 ≡ unwrap_or (lookup (nat_eq a) es) (get_or image a 0)
 unfolding put
-get_or-put image es a h = get_or-map-range_with_len _ 0 (length image) a a 0 h (omega arith)
+get_or_put image es a h = get_or-map-range_with_len _ 0 (length image) a a 0 h (omega arith)
 
 -- what is put is known by its look-ups
-pub put-same : (image : List ℕ) (xs ys : List (ℕ × ℕ)) → ((a : ℕ) → lookup (nat_eq a) xs ≡ lookup (nat_eq a) ys) → put image xs ≡ put image ys
-put-same image xs ys h =
-    ext_get_or 0 _ _ (length-put image xs ∙ sym (length-put image ys)) (λ a l.
-    let m : a < length image = omega (arith, length-put image xs) in
-    get_or-put image xs a m ∙ ap (λ o. unwrap_or o (get_or image a 0)) (h a) ∙ sym (get_or-put image ys a m))
+pub put_same : (image : List ℕ) (xs ys : List (ℕ × ℕ)) → ((a : ℕ) → lookup (nat_eq a) xs ≡ lookup (nat_eq a) ys) → put image xs ≡ put image ys
+put_same image xs ys h =
+    ext_get_or 0 _ _ (length_put image xs ∙ sym (length_put image ys)) (λ a l.
+    let m : a < length image = omega (arith, length_put image xs) in
+    get_or_put image xs a m ∙ ap (λ o. unwrap_or o (get_or image a 0)) (h a) ∙ sym (get_or_put image ys a m))
 
 -- of what is put twice, the later counts
-pub put-put : (image : List ℕ) (xs ys : List (ℕ × ℕ)) → put (put image xs) ys ≡ put image (ys ++ xs)
-put-put image xs ys =
-    ext_get_or 0 _ _ (simp length-put) (λ a l.
-    let m : a < length image = omega (arith, length-put (put image xs) ys, length-put image xs) in
-    let n : a < length (put image xs) = omega (arith, length-put image xs) in
+pub put_put : (image : List ℕ) (xs ys : List (ℕ × ℕ)) → put (put image xs) ys ≡ put image (ys ++ xs)
+put_put image xs ys =
+    ext_get_or 0 _ _ (simp length_put) (λ a l.
+    let m : a < length image = omega (arith, length_put (put image xs) ys, length_put image xs) in
+    let n : a < length (put image xs) = omega (arith, length_put image xs) in
     let either : (o p : Option ℕ) (d : ℕ) → unwrap_or o (unwrap_or p d) ≡ unwrap_or (option_or o p) d = λ o p d. elim o as (λ o. unwrap_or o (unwrap_or p d) ≡ unwrap_or (option_or o p) d) [ None ↦ refl | Some x ↦ refl ] in
-    get_or-put (put image xs) ys a n
-    ∙ ap (unwrap_or (lookup (nat_eq a) ys)) (get_or-put image xs a m)
+    get_or_put (put image xs) ys a n
+    ∙ ap (unwrap_or (lookup (nat_eq a) ys)) (get_or_put image xs a m)
     ∙ either (lookup (nat_eq a) ys) (lookup (nat_eq a) xs) (get_or image a 0)
-    ∙ ap (λ o. unwrap_or o (get_or image a 0)) (sym (lookup-append (nat_eq a) ys xs))
-    ∙ sym (get_or-put image (ys ++ xs) a m))
+    ∙ ap (λ o. unwrap_or o (get_or image a 0)) (sym (lookup_append (nat_eq a) ys xs))
+    ∙ sym (get_or_put image (ys ++ xs) a m))
 
 -- the order of two parts that share no address doesn't matter
-pub put-exchange : (image : List ℕ) (xs ys zs : List (ℕ × ℕ)) → Apart (keys_of xs) (keys_of ys) → put image (xs ++ (ys ++ zs)) ≡ put image (ys ++ (xs ++ zs))
-put-exchange image xs ys zs h =
-    put-same image _ _ (λ a.
+pub put_exchange : (image : List ℕ) (xs ys zs : List (ℕ × ℕ)) → Apart (keys_of xs) (keys_of ys) → put image (xs ++ (ys ++ zs)) ≡ put image (ys ++ (xs ++ zs))
+put_exchange image xs ys zs h =
+    put_same image _ _ (λ a.
     let x = lookup (nat_eq a) xs in
     let y = lookup (nat_eq a) ys in
     let z = lookup (nat_eq a) zs in
     let either : (o p q : Option ℕ) → (o ≡ None) ⊎ (p ≡ None) → option_or o (option_or p q) ≡ option_or p (option_or o q) = λ o p q. elim o as (λ o. (o ≡ None) ⊎ (p ≡ None) → option_or o (option_or p q) ≡ option_or p (option_or o q)) [ None ↦ λ _. refl | Some x ↦ λ c. elim c [ inl n ↦ cc | inr n ↦ rw n refl ] ] in
-    lookup-append (nat_eq a) xs (ys ++ zs) ∙ ap (option_or x) (lookup-append (nat_eq a) ys zs)
+    lookup_append (nat_eq a) xs (ys ++ zs) ∙ ap (option_or x) (lookup_append (nat_eq a) ys zs)
     ∙ either x y z (lookup_apart xs ys a h)
-    ∙ sym (lookup-append (nat_eq a) ys (xs ++ zs) ∙ ap (option_or y) (lookup-append (nat_eq a) xs zs)))
+    ∙ sym (lookup_append (nat_eq a) ys (xs ++ zs) ∙ ap (option_or y) (lookup_append (nat_eq a) xs zs)))
 
 -- an address at which nothing is put keeps its byte, also past the end
-pub get_or-put_other : (image : List ℕ) (es : List (ℕ × ℕ)) (a : ℕ) → ¬ Contains (keys_of es) a → get_or (put image es) a 0 ≡ get_or image a 0
-get_or-put_other image es a h = elim (cases_lt a (length image)) [
-  | inl l ↦ get_or-put image es a l ∙ ap (λ o. unwrap_or o (get_or image a 0)) (lookup_none es a h)
-  | inr l ↦ get_or_past (put image es) a 0 (omega (arith, length-put image es)) ∙ sym (get_or_past image a 0 l)
+pub get_or_put_other : (image : List ℕ) (es : List (ℕ × ℕ)) (a : ℕ) → ¬ Contains (keys_of es) a → get_or (put image es) a 0 ≡ get_or image a 0
+get_or_put_other image es a h = elim (cases_lt a (length image)) [
+  | inl l ↦ get_or_put image es a l ∙ ap (λ o. unwrap_or o (get_or image a 0)) (lookup_none es a h)
+  | inr l ↦ get_or_past (put image es) a 0 (omega (arith, length_put image es)) ∙ sym (get_or_past image a 0 l)
 ]
 
 -- ---- what moves carry
 
 -- moves carry the same bytes from an image into which bytes were put at none of their sources
-pub carried-put : (image : List ℕ) (es ms : List (ℕ × ℕ)) → ((a : ℕ) → Contains (map (λ m. m.1) ms) a → ¬ Contains (keys_of es) a) → carried (put image es) ms ≡ carried image ms
-carried-put image es [] h = refl
-carried-put image es (m ∷ ms) h =
-    let head : get_or (put image es) m.1 0 ≡ get_or image m.1 0 = get_or-put_other image es m.1 (h m.1 (0, omega arith, refl)) in
-    let tail : carried (put image es) ms ≡ carried image ms = carried-put image es ms (λ a i. h a (Contains-append_right (m.1 ∷ []) (map (λ m. m.1) ms) a i)) in
+pub carried_put : (image : List ℕ) (es ms : List (ℕ × ℕ)) → ((a : ℕ) → Contains (map (λ m. m.1) ms) a → ¬ Contains (keys_of es) a) → carried (put image es) ms ≡ carried image ms
+carried_put image es [] h = refl
+carried_put image es (m ∷ ms) h =
+    let head : get_or (put image es) m.1 0 ≡ get_or image m.1 0 = get_or_put_other image es m.1 (h m.1 (0, omega arith, refl)) in
+    let tail : carried (put image es) ms ≡ carried image ms = carried_put image es ms (λ a i. h a (Contains-append_right (m.1 ∷ []) (map (λ m. m.1) ms) a i)) in
     cc

@@ -18,9 +18,9 @@ use Rattle.std.specs.Bool.{then_some}
 use Rattle.dma_mem.specs.declared.transfer.TransferFault.{TransferFault}
 use Rattle.dma_mem.specs.declared.transfer.TransferFault.TheVariants.{DestinationsMeet, SourceMeetsDestination}
 use Rattle.dma_mem.proofs.SharedPlaces.{ranges_apart, ranges_meet}
-use Rattle.dma_mem.proofs.MarkHits.{share-sym}
-use Rattle.dma_mem.proofs.TransferRules.{All-from_none, meets_any-places}
-use Rattle.dma_mem.proofs.RangeSets.{nowhere, same_permuted, share-each, share_right}
+use Rattle.dma_mem.proofs.MarkHits.{share_sym}
+use Rattle.dma_mem.proofs.TransferRules.{All_from_none, meets_any_places}
+use Rattle.dma_mem.proofs.RangeSets.{nowhere, same_permuted, share_each, share_right}
 
 -- ---- no two of a list meet
 
@@ -31,7 +31,7 @@ pairs_miss : (l : List Segment) → some_meet l ≡ false → AllPairs Miss l
 pairs_miss [] h = λ i j d m n. absurd (omega arith)
 pairs_miss (s ∷ rest) h =
     let parts = or_parts _ _ h in
-    AllPairs-cons Miss s rest (All-from_none (meets s) rest parts.0) (pairs_miss rest parts.1)
+    AllPairs-cons Miss s rest (All_from_none (meets s) rest parts.0) (pairs_miss rest parts.1)
 
 none_meet : (l : List Segment) → AllPairs Miss l → some_meet l ≡ false
 none_meet [] h = refl
@@ -49,7 +49,7 @@ AnyTwoMiss l = (i j : ℕ) → i < length l → j < length l → i ≢ j → Mis
 any_two : (l : List Segment) → AllPairs Miss l → AnyTwoMiss l
 any_two l h i j m n other = elim (cases_lt i j) [
   | inl low ↦ h i j nowhere low n
-  | inr high ↦ share-sym _ _ ∙ h j i nowhere (omega arith) m
+  | inr high ↦ share_sym _ _ ∙ h j i nowhere (omega arith) m
 ]
 
 -- the place before two were swapped of what is then at k
@@ -134,8 +134,8 @@ false_alike false c f g = sym (f refl)
 false_alike true false f g = g refl
 false_alike true true f g = refl
 
-pub some_meet-permutation : (xs ys : List Segment) → IsPermutation xs ys → some_meet xs ≡ some_meet ys
-some_meet-permutation xs ys p = false_alike _ _ (permuted_miss xs ys p) (permuted_miss ys xs (IsPermutation-sym xs ys p))
+pub some_meet_permutation : (xs ys : List Segment) → IsPermutation xs ys → some_meet xs ≡ some_meet ys
+some_meet_permutation xs ys p = false_alike _ _ (permuted_miss xs ys p) (permuted_miss ys xs (IsPermutation-sym xs ys p))
 
 -- ---- neighbours
 
@@ -198,9 +198,9 @@ short_none (s ∷ t ∷ rest) h = absurd (omega arith)
 pub overlap_sorted : (src dst sorted : List Segment) (met touched : Bool) → IsPermutation dst sorted → met ≡ some_meet sorted → touched ≡ list_any (λ s. share (range_of s) (places sorted)) src → overlap_of src dst ≡ cause met DestinationsMeet (cause touched SourceMeetsDestination None)
 overlap_sorted src dst sorted met touched p m t =
     let same = same_permuted dst sorted p in
-    let first : some_meet dst ≡ met = some_meet-permutation dst sorted p ∙ sym m in
+    let first : some_meet dst ≡ met = some_meet_permutation dst sorted p ∙ sym m in
     let second : meets_any src dst ≡ touched =
-    meets_any-places src dst ∙ share_right (places src) (places dst) (places sorted) (λ a. ((same a).1, (same a).0)) ∙ sym (share-each src (places sorted)) ∙ sym t in
+    meets_any_places src dst ∙ share_right (places src) (places dst) (places sorted) (λ a. ((same a).1, (same a).0)) ∙ sym (share_each src (places sorted)) ∙ sym t in
     ap (λ b. cause b DestinationsMeet (cause (meets_any src dst) SourceMeetsDestination None)) first
     ∙ ap (λ b. cause met DestinationsMeet (cause b SourceMeetsDestination None)) second
 

@@ -14,7 +14,7 @@ use Rattle.dma_mem.specs.Places.{Apart, Descriptor, moves, sources, destinations
 use Rattle.dma_mem.specs.Meeting.{IsFree}
 use Rattle.dma_mem.specs.Rules.{IsTransfer}
 use Rattle.dma_mem.proofs.SharedPlaces.{Touches, Writes}
-use Rattle.dma_mem.proofs.ImageOver.{after_moves-put, after_moves-more, after_moves-end, bytes-after_moves, get_or-after_moves_other, Apart-sym}
+use Rattle.dma_mem.proofs.ImageOver.{after_moves_put, after_moves_more, after_moves_end, bytes_after_moves, get_or_after_moves_other, Apart_sym}
 
 -- ---- the places that moves write and read
 
@@ -36,35 +36,35 @@ values_in (suc k) (d ∷ ds) (s ∷ ss) a h = elim (Contains-append_cases (s ∷
   | inr e ↦ Contains-append_right (s ∷ []) (take k ss) a (values_in k ds ss a e)
 ]
 
-pub Contains-take : (k : ℕ) (xs : List ℕ) (a : ℕ) → Contains (take k xs) a → Contains xs a
-Contains-take k xs a h =
+pub Contains_take : (k : ℕ) (xs : List ℕ) (a : ℕ) → Contains (take k xs) a → Contains xs a
+Contains_take k xs a h =
     let short : h.0 < k = omega (arith, h.1, length-take k xs) in
     (h.0, omega (arith, h.1, length-take k xs), sym (get_or-take k xs h.0 a short) ∙ h.2)
 
-pub Contains-drop : (k : ℕ) (xs : List ℕ) (a : ℕ) → Contains (drop k xs) a → Contains xs a
-Contains-drop k xs a h = (k + h.0, omega (arith, h.1, length-drop k xs), sym (get_or-drop k xs h.0 a) ∙ h.2)
+pub Contains_drop : (k : ℕ) (xs : List ℕ) (a : ℕ) → Contains (drop k xs) a → Contains xs a
+Contains_drop k xs a h = (k + h.0, omega (arith, h.1, length-drop k xs), sym (get_or-drop k xs h.0 a) ∙ h.2)
 
 -- a list with no element twice falls into parts that are apart
 pub once_parts : (xs : List ℕ) (k n : ℕ) → AllPairs (λ a b. a ≢ b) xs → Apart (take n (drop k xs)) (take k xs)
 once_parts xs k n h = λ a (i : Contains (take n (drop k xs)) a) (j : Contains (take k xs) a).
-    let i' = Contains-take n (drop k xs) a i in
+    let i' = Contains_take n (drop k xs) a i in
     let low : j.0 < k = omega (arith, j.1, length-take k xs) in
     let high : k + i'.0 < length xs = omega (arith, i'.1, length-drop k xs) in
     h j.0 (k + i'.0) a (omega arith) high (sym (get_or-take k xs j.0 a low) ∙ j.2 ∙ sym (sym (get_or-drop k xs i'.0 a) ∙ i'.2))
 
 -- being free of each other is symmetric
-pub IsFree-sym : (t u : Descriptor) → IsFree t u → IsFree u t
-IsFree-sym t u h = record {
-  writes_none = Apart-sym (destinations t) (destinations u) h.writes_none;
-  writes_no_source = Apart-sym (sources t) (destinations u) h.reads_none;
-  reads_none = Apart-sym (destinations t) (sources u) h.writes_no_source;
+pub IsFree_sym : (t u : Descriptor) → IsFree t u → IsFree u t
+IsFree_sym t u h = record {
+  writes_none = Apart_sym (destinations t) (destinations u) h.writes_none;
+  writes_no_source = Apart_sym (sources t) (destinations u) h.reads_none;
+  reads_none = Apart_sym (destinations t) (sources u) h.writes_no_source;
 }
 
-pub moves-writes : (t : Descriptor) (k a : ℕ) → Contains (keys_of (moves t k)) a → Contains (destinations t) a
-moves-writes t k a h = Contains-take k (destinations t) a (keys_in k (destinations t) (sources t) a h)
+pub moves_writes : (t : Descriptor) (k a : ℕ) → Contains (keys_of (moves t k)) a → Contains (destinations t) a
+moves_writes t k a h = Contains_take k (destinations t) a (keys_in k (destinations t) (sources t) a h)
 
-pub moves-reads : (t : Descriptor) (k a : ℕ) → Contains (values_of (moves t k)) a → Contains (sources t) a
-moves-reads t k a h = Contains-take k (sources t) a (values_in k (destinations t) (sources t) a h)
+pub moves_reads : (t : Descriptor) (k a : ℕ) → Contains (values_of (moves t k)) a → Contains (sources t) a
+moves_reads t k a h = Contains_take k (sources t) a (values_in k (destinations t) (sources t) a h)
 
 -- what running transfers write and read
 abbrev WritesIn : (ℕ → Type 0) → Descriptor × ℕ → Type 0
@@ -73,133 +73,133 @@ WritesIn P r = (a : ℕ) → Contains (destinations r.0) a → P a
 abbrev ReadsIn : (ℕ → Type 0) → Descriptor × ℕ → Type 0
 ReadsIn P r = (a : ℕ) → Contains (sources r.0) a → P a
 
-running-writes : (running : List (Descriptor × ℕ)) (P : ℕ → Type 0) → All (WritesIn P) running → (a : ℕ) → Contains (keys_of (moves_of running)) a → P a
-running-writes [] P all a h = absurd (omega (arith, h.1))
-running-writes (r ∷ rs) P all a h =
+running_writes : (running : List (Descriptor × ℕ)) (P : ℕ → Type 0) → All (WritesIn P) running → (a : ℕ) → Contains (keys_of (moves_of running)) a → P a
+running_writes [] P all a h = absurd (omega (arith, h.1))
+running_writes (r ∷ rs) P all a h =
     elim (Contains-append_cases (keys_of (moves r.0 r.1)) (keys_of (moves_of rs)) a (rw map-append at h)) [
-      | inl i ↦ All-head (WritesIn P) r rs all a (moves-writes r.0 r.1 a i)
-      | inr i ↦ running-writes rs P (All-tail (WritesIn P) r rs all) a i
+      | inl i ↦ All-head (WritesIn P) r rs all a (moves_writes r.0 r.1 a i)
+      | inr i ↦ running_writes rs P (All-tail (WritesIn P) r rs all) a i
     ]
 
-running-reads : (running : List (Descriptor × ℕ)) (P : ℕ → Type 0) → All (ReadsIn P) running → (a : ℕ) → Contains (values_of (moves_of running)) a → P a
-running-reads [] P all a h = absurd (omega (arith, h.1))
-running-reads (r ∷ rs) P all a h =
+running_reads : (running : List (Descriptor × ℕ)) (P : ℕ → Type 0) → All (ReadsIn P) running → (a : ℕ) → Contains (values_of (moves_of running)) a → P a
+running_reads [] P all a h = absurd (omega (arith, h.1))
+running_reads (r ∷ rs) P all a h =
     elim (Contains-append_cases (values_of (moves r.0 r.1)) (values_of (moves_of rs)) a (rw map-append at h)) [
-      | inl i ↦ All-head (ReadsIn P) r rs all a (moves-reads r.0 r.1 a i)
-      | inr i ↦ running-reads rs P (All-tail (ReadsIn P) r rs all) a i
+      | inl i ↦ All-head (ReadsIn P) r rs all a (moves_reads r.0 r.1 a i)
+      | inr i ↦ running_reads rs P (All-tail (ReadsIn P) r rs all) a i
     ]
 
 -- what a transfer writes is apart from what transfers that it is free of write and read
-running-apart : (t : Descriptor) (running : List (Descriptor × ℕ)) → All (λ r. IsFree t r.0) running → Apart (destinations t) (keys_of (moves_of running))
-running-apart t running all =
+running_apart : (t : Descriptor) (running : List (Descriptor × ℕ)) → All (λ r. IsFree t r.0) running → Apart (destinations t) (keys_of (moves_of running))
+running_apart t running all =
     let P : ℕ → Type 0 = λ a. ¬ Contains (destinations t) a in
     let each : All (WritesIn P) running = All-weaker (λ r. IsFree t r.0) (WritesIn P) (λ r f a i j. f.writes_none a j i) running all in
-    λ a i j. running-writes running P each a j i
+    λ a i j. running_writes running P each a j i
 
-pub free-writes : (t : Descriptor) (k : ℕ) (running : List (Descriptor × ℕ)) → All (λ r. IsFree t r.0) running → Apart (keys_of (moves t k)) (keys_of (moves_of running))
-free-writes t k running all = λ a i j. running-apart t running all a (moves-writes t k a i) j
+pub free_writes : (t : Descriptor) (k : ℕ) (running : List (Descriptor × ℕ)) → All (λ r. IsFree t r.0) running → Apart (keys_of (moves t k)) (keys_of (moves_of running))
+free_writes t k running all = λ a i j. running_apart t running all a (moves_writes t k a i) j
 
-pub free-reads : (t : Descriptor) (k : ℕ) (running : List (Descriptor × ℕ)) → All (λ r. IsFree t r.0) running → Apart (values_of (moves_of running)) (keys_of (moves t k))
-free-reads t k running all =
+pub free_reads : (t : Descriptor) (k : ℕ) (running : List (Descriptor × ℕ)) → All (λ r. IsFree t r.0) running → Apart (values_of (moves_of running)) (keys_of (moves t k))
+free_reads t k running all =
     let P : ℕ → Type 0 = λ a. ¬ Contains (destinations t) a in
     let each : All (ReadsIn P) running = All-weaker (λ r. IsFree t r.0) (ReadsIn P) (λ r f a i j. f.writes_no_source a j i) running all in
-    λ a i j. running-reads running P each a i (moves-writes t k a j)
+    λ a i j. running_reads running P each a i (moves_writes t k a j)
 
 -- ---- the laws
 
 -- a transfer that has stored nothing changes nothing
-pub over-started : (image : List ℕ) (xs ys : List (Descriptor × ℕ)) (t : Descriptor) → over image (xs ++ (t, 0) ∷ ys) ≡ over image (xs ++ ys)
-over-started image xs ys t = ap (after_moves image) (flat_map-append _ xs ((t, 0) ∷ ys) ∙ sym (flat_map-append _ xs ys))
+pub over_started : (image : List ℕ) (xs ys : List (Descriptor × ℕ)) (t : Descriptor) → over image (xs ++ (t, 0) ∷ ys) ≡ over image (xs ++ ys)
+over_started image xs ys t = ap (after_moves image) (flat_map-append _ xs ((t, 0) ∷ ys) ∙ sym (flat_map-append _ xs ys))
 
 -- a transfer that ends: the bytes that it stored are in the image from then on
-pub over-ended : (image : List ℕ) (xs ys : List (Descriptor × ℕ)) (t : Descriptor) (k : ℕ) → All (λ r. IsFree t r.0) (xs ++ ys) → over (laid image t k) (xs ++ ys) ≡ over image (xs ++ (t, k) ∷ ys)
-over-ended image xs ys t k free =
+pub over_ended : (image : List ℕ) (xs ys : List (Descriptor × ℕ)) (t : Descriptor) (k : ℕ) → All (λ r. IsFree t r.0) (xs ++ ys) → over (laid image t k) (xs ++ ys) ≡ over image (xs ++ (t, k) ∷ ys)
+over_ended image xs ys t k free =
     let both : moves_of (xs ++ ys) ≡ moves_of xs ++ moves_of ys = flat_map-append _ xs ys in
-    let writes : Apart (keys_of (moves t k)) (keys_of (moves_of xs ++ moves_of ys)) = rw both at (free-writes t k (xs ++ ys) free) in
-    let reads : Apart (values_of (moves_of xs ++ moves_of ys)) (keys_of (moves t k)) = rw both at (free-reads t k (xs ++ ys) free) in
+    let writes : Apart (keys_of (moves t k)) (keys_of (moves_of xs ++ moves_of ys)) = rw both at (free_writes t k (xs ++ ys) free) in
+    let reads : Apart (values_of (moves_of xs ++ moves_of ys)) (keys_of (moves t k)) = rw both at (free_reads t k (xs ++ ys) free) in
     let before : Apart (keys_of (moves t k)) (keys_of (moves_of xs)) = λ a i j. writes a i (rw map-append (Contains-append_left (keys_of (moves_of xs)) (keys_of (moves_of ys)) a j)) in
     ap (after_moves (laid image t k)) both
-    ∙ after_moves-end image (moves_of xs) (moves t k) (moves_of ys) writes reads before
+    ∙ after_moves_end image (moves_of xs) (moves t k) (moves_of ys) writes reads before
     ∙ ap (after_moves image) (sym (flat_map-append _ xs ((t, k) ∷ ys)))
 
 -- the moves from position k on, n of them
 abbrev pub next_moves : Descriptor → ℕ → ℕ → List (ℕ × ℕ)
 next_moves t k n = take n (drop k (zip (destinations t) (sources t)))
 
-pub drop-zip : (k : ℕ) (ds ss : List ℕ) → drop k (zip ds ss) ≡ zip (drop k ds) (drop k ss)
-drop-zip zero ds ss = refl
-drop-zip (suc k) [] ss = refl
-drop-zip (suc k) (d ∷ ds) [] = elim (drop k ds) as (λ l. [] ≡ zip {X = ℕ} l []) [ [] ↦ refl | e ∷ es ↦ refl ]
-drop-zip (suc k) (d ∷ ds) (s ∷ ss) = drop-zip k ds ss
+pub drop_zip : (k : ℕ) (ds ss : List ℕ) → drop k (zip ds ss) ≡ zip (drop k ds) (drop k ss)
+drop_zip zero ds ss = refl
+drop_zip (suc k) [] ss = refl
+drop_zip (suc k) (d ∷ ds) [] = elim (drop k ds) as (λ l. [] ≡ zip {X = ℕ} l []) [ [] ↦ refl | e ∷ es ↦ refl ]
+drop_zip (suc k) (d ∷ ds) (s ∷ ss) = drop_zip k ds ss
 
-next-writes : (t : Descriptor) (k n a : ℕ) → Contains (keys_of (next_moves t k n)) a → Contains (take n (drop k (destinations t))) a
-next-writes t k n a h = keys_in n (drop k (destinations t)) (drop k (sources t)) a (rw drop-zip at h)
+next_writes_law : (t : Descriptor) (k n a : ℕ) → Contains (keys_of (next_moves t k n)) a → Contains (take n (drop k (destinations t))) a
+next_writes_law t k n a h = keys_in n (drop k (destinations t)) (drop k (sources t)) a (rw drop_zip at h)
 
-free-writes-next : (t : Descriptor) (k n : ℕ) (running : List (Descriptor × ℕ)) → All (λ r. IsFree t r.0) running → Apart (keys_of (next_moves t k n)) (keys_of (moves_of running))
-free-writes-next t k n running all = λ a i j. running-apart t running all a (Contains-drop k (destinations t) a (Contains-take n (drop k (destinations t)) a (next-writes t k n a i))) j
+free_writes_next : (t : Descriptor) (k n : ℕ) (running : List (Descriptor × ℕ)) → All (λ r. IsFree t r.0) running → Apart (keys_of (next_moves t k n)) (keys_of (moves_of running))
+free_writes_next t k n running all = λ a i j. running_apart t running all a (Contains_drop k (destinations t) a (Contains_take n (drop k (destinations t)) a (next_writes_law t k n a i))) j
 
 -- a running transfer stores n more bytes
-pub over-stored : (image : List ℕ) (xs ys : List (Descriptor × ℕ)) (t : Descriptor) (k n : ℕ) → IsTransfer t → All (λ r. IsFree t r.0) xs → over image (xs ++ (t, k + n) ∷ ys) ≡ put (over image (xs ++ (t, k) ∷ ys)) (carried image (next_moves t k n))
-over-stored image xs ys t k n copy free =
+pub over_stored : (image : List ℕ) (xs ys : List (Descriptor × ℕ)) (t : Descriptor) (k n : ℕ) → IsTransfer t → All (λ r. IsFree t r.0) xs → over image (xs ++ (t, k + n) ∷ ys) ≡ put (over image (xs ++ (t, k) ∷ ys)) (carried image (next_moves t k n))
+over_stored image xs ys t k n copy free =
     let x = moves_of xs in
     let y = moves_of ys in
     let m = moves t k in
     let more = next_moves t k n in
     let apart : Apart (keys_of more) (keys_of (x ++ m)) =
     λ a i j. elim (Contains-append_cases (keys_of x) (keys_of m) a (rw map-append at j)) [
-      | inl l ↦ free-writes-next t k n xs free a i l
-      | inr l ↦ once_parts (destinations t) k n copy.once a (next-writes t k n a i) (keys_in k (destinations t) (sources t) a l)
+      | inl l ↦ free_writes_next t k n xs free a i l
+      | inr l ↦ once_parts (destinations t) k n copy.once a (next_writes_law t k n a i) (keys_in k (destinations t) (sources t) a l)
     ] in
     ap (after_moves image) (flat_map-append _ xs ((t, k + n) ∷ ys) ∙ ap (λ l. x ++ (l ++ y)) (take-add k n (zip (destinations t) (sources t))) ∙ ap (λ l. x ++ l) (append_assoc m more y) ∙ sym (append_assoc x m (more ++ y)))
-    ∙ after_moves-more image (x ++ m) more y apart
+    ∙ after_moves_more image (x ++ m) more y apart
     ∙ ap (λ l. put (after_moves image l) (carried image more)) (append_assoc x m y ∙ sym (flat_map-append _ xs ((t, k) ∷ ys)))
 
 -- what the host writes to a range that no running transfer touches shows above them and is in the image
-pub over-written : (image : List ℕ) (running : List (Descriptor × ℕ)) (addr : ℕ) (bytes : List ℕ) → All (λ r. ¬ Touches r.0 (range_with_len addr (length bytes))) running → over (put image (bytes_at addr bytes)) running ≡ put (over image running) (bytes_at addr bytes)
-over-written image running addr bytes all =
+pub over_written : (image : List ℕ) (running : List (Descriptor × ℕ)) (addr : ℕ) (bytes : List ℕ) → All (λ r. ¬ Touches r.0 (range_with_len addr (length bytes))) running → over (put image (bytes_at addr bytes)) running ≡ put (over image running) (bytes_at addr bytes)
+over_written image running addr bytes all =
     let range = range_with_len addr (length bytes) in
     let P : ℕ → Type 0 = λ a. ¬ Contains range a in
     let keys : keys_of (bytes_at addr bytes) ≡ range = keys_of-zip range bytes (sym (length-range_with_len addr (length bytes))) in
     let free = λ (r : Descriptor × ℕ). ¬ Touches r.0 (range_with_len addr (length bytes)) in
     let writes : All (WritesIn P) running = All-weaker free (WritesIn P) (λ r f a i j. f (a, j, inl i)) running all in
     let reads : All (ReadsIn P) running = All-weaker free (ReadsIn P) (λ r f a i j. f (a, j, inr i)) running all in
-    let reads' : Apart (values_of (moves_of running)) (keys_of (bytes_at addr bytes)) = rw keys (running-reads running P reads) in
-    let writes' : Apart (keys_of (moves_of running)) (keys_of (bytes_at addr bytes)) = rw keys (running-writes running P writes) in
-    after_moves-put image (bytes_at addr bytes) (moves_of running) reads' writes'
+    let reads' : Apart (values_of (moves_of running)) (keys_of (bytes_at addr bytes)) = rw keys (running_reads running P reads) in
+    let writes' : Apart (keys_of (moves_of running)) (keys_of (bytes_at addr bytes)) = rw keys (running_writes running P writes) in
+    after_moves_put image (bytes_at addr bytes) (moves_of running) reads' writes'
 
 -- what the host reads from a range that no running transfer writes is the image's
-pub over-read : (image : List ℕ) (running : List (Descriptor × ℕ)) (addr n : ℕ) → All (λ r. ¬ Writes r.0 (range_with_len addr n)) running → take n (drop addr (over image running)) ≡ take n (drop addr image)
-over-read image running addr n all =
+pub over_read : (image : List ℕ) (running : List (Descriptor × ℕ)) (addr n : ℕ) → All (λ r. ¬ Writes r.0 (range_with_len addr n)) running → take n (drop addr (over image running)) ≡ take n (drop addr image)
+over_read image running addr n all =
     let P : ℕ → Type 0 = λ a. ¬ Contains (range_with_len addr n) a in
     let writes : All (WritesIn P) running = All-weaker (λ r. ¬ Writes r.0 (range_with_len addr n)) (WritesIn P) (λ r f a i j. f (a, j, i)) running all in
-    bytes-after_moves image (moves_of running) addr n (λ a i j. running-writes running P writes a j i)
+    bytes_after_moves image (moves_of running) addr n (λ a i j. running_writes running P writes a j i)
 
 -- ---- a store, as the memory sees it
 
-pub carried-zip : (image : List ℕ) (ds ss : List ℕ) → carried image (zip ds ss) ≡ zip ds (map (slice_index image) ss)
-carried-zip image [] ss = refl
-carried-zip image (d ∷ ds) [] = refl
-carried-zip image (d ∷ ds) (s ∷ ss) = ap (λ l. (d, slice_index image s) ∷ l) (carried-zip image ds ss)
+pub carried_zip : (image : List ℕ) (ds ss : List ℕ) → carried image (zip ds ss) ≡ zip ds (map (slice_index image) ss)
+carried_zip image [] ss = refl
+carried_zip image (d ∷ ds) [] = refl
+carried_zip image (d ∷ ds) (s ∷ ss) = ap (λ l. (d, slice_index image s) ∷ l) (carried_zip image ds ss)
 
-pub take-zip : (n : ℕ) (ds ss : List ℕ) → take n (zip ds ss) ≡ zip (take n ds) (take n ss)
-take-zip zero ds ss = refl
-take-zip (suc n) [] ss = refl
-take-zip (suc n) (d ∷ ds) [] = refl
-take-zip (suc n) (d ∷ ds) (s ∷ ss) = ap (λ l. (d, s) ∷ l) (take-zip n ds ss)
+pub take_zip : (n : ℕ) (ds ss : List ℕ) → take n (zip ds ss) ≡ zip (take n ds) (take n ss)
+take_zip zero ds ss = refl
+take_zip (suc n) [] ss = refl
+take_zip (suc n) (d ∷ ds) [] = refl
+take_zip (suc n) (d ∷ ds) (s ∷ ss) = ap (λ l. (d, s) ∷ l) (take_zip n ds ss)
 
 -- the memory has the image's byte at each place of a list that no running transfer writes
-pub over-sources : (image : List ℕ) (running : List (Descriptor × ℕ)) (ss : List ℕ) → Apart ss (keys_of (moves_of running)) → map (slice_index (over image running)) ss ≡ map (slice_index image) ss
-over-sources image running [] h = refl
-over-sources image running (s ∷ ss) h =
-    let head : get_or (over image running) s 0 ≡ get_or image s 0 = get_or-after_moves_other image (moves_of running) s (h s (0, omega arith, refl)) in
-    let tail : map (slice_index (over image running)) ss ≡ map (slice_index image) ss = over-sources image running ss (λ a i. h a (Contains-append_right (s ∷ []) ss a i)) in
+pub over_sources : (image : List ℕ) (running : List (Descriptor × ℕ)) (ss : List ℕ) → Apart ss (keys_of (moves_of running)) → map (slice_index (over image running)) ss ≡ map (slice_index image) ss
+over_sources image running [] h = refl
+over_sources image running (s ∷ ss) h =
+    let head : get_or (over image running) s 0 ≡ get_or image s 0 = get_or_after_moves_other image (moves_of running) s (h s (0, omega arith, refl)) in
+    let tail : map (slice_index (over image running)) ss ≡ map (slice_index image) ss = over_sources image running ss (λ a i. h a (Contains-append_right (s ∷ []) ss a i)) in
     cc
 
 -- storing, at the next n destination places, the bytes that the image has at the source places beside them
-pub over-store : (image : List ℕ) (xs ys : List (Descriptor × ℕ)) (t : Descriptor) (k n : ℕ) (bytes : List ℕ) → IsTransfer t → All (λ r. IsFree t r.0) xs → bytes ≡ map (slice_index image) (take n (drop k (sources t))) → put (over image (xs ++ (t, k) ∷ ys)) (zip (take n (drop k (destinations t))) bytes) ≡ over image (xs ++ (t, k + n) ∷ ys)
-over-store image xs ys t k n bytes copy free read =
+pub over_store : (image : List ℕ) (xs ys : List (Descriptor × ℕ)) (t : Descriptor) (k n : ℕ) (bytes : List ℕ) → IsTransfer t → All (λ r. IsFree t r.0) xs → bytes ≡ map (slice_index image) (take n (drop k (sources t))) → put (over image (xs ++ (t, k) ∷ ys)) (zip (take n (drop k (destinations t))) bytes) ≡ over image (xs ++ (t, k + n) ∷ ys)
+over_store image xs ys t k n bytes copy free read =
     let ds = destinations t in
     let ss = sources t in
     ap (λ b. put (over image (xs ++ (t, k) ∷ ys)) (zip (take n (drop k ds)) b)) read
-    ∙ ap (put (over image (xs ++ (t, k) ∷ ys))) (sym (ap (carried image) (ap (take n) (drop-zip k ds ss) ∙ take-zip n (drop k ds) (drop k ss)) ∙ carried-zip image (take n (drop k ds)) (take n (drop k ss))))
-    ∙ sym (over-stored image xs ys t k n copy free)
+    ∙ ap (put (over image (xs ++ (t, k) ∷ ys))) (sym (ap (carried image) (ap (take n) (drop_zip k ds ss) ∙ take_zip n (drop k ds) (drop k ss)) ∙ carried_zip image (take n (drop k ds)) (take n (drop k ss))))
+    ∙ sym (over_stored image xs ys t k n copy free)

@@ -11,10 +11,10 @@ use Rattle.dma_mem.specs.Image.{put, bytes_at}
 use Rattle.dma_mem.specs.Pages.{all_made}
 use Rattle.dma_mem.specs.Regions.{Piece, end_of, piece_of, pieces_of, rises_from, in_order, bytes_above, image_of, gaps_above, gaps_of, has}
 use Rattle.dma_mem.specs.inner.Rewritten.{nowhere, piece_at, Holds, Writable, Rewritten}
-use Rattle.dma_mem.proofs.ImagePut.{length-put}
-use Rattle.dma_mem.proofs.BytesPut.{put-bytes_at, put_parts}
+use Rattle.dma_mem.proofs.ImagePut.{length_put}
+use Rattle.dma_mem.proofs.BytesPut.{put_bytes_at, put_parts}
 use Rattle.dma_mem.proofs.PageImages.{put_none}
-use Rattle.dma_mem.proofs.Pieces.{first, no_region, piece_at_of, found, length-bytes_above, image_of-most}
+use Rattle.dma_mem.proofs.Pieces.{first, no_region, piece_at_of, found, length_bytes_above, image_of_most}
 
 -- the piece at an index with other bytes
 abbrev pub with_bytes : List Piece → ℕ → List ℕ → Piece
@@ -78,10 +78,10 @@ put_middle left old right start bs h =
     let front : take (length left + start) (left ++ (old ++ right)) ≡ left ++ take start old = take-append-add left (old ++ right) start ∙ ap (λ (xs : List ℕ). left ++ xs) (take-append-le start old right (omega arith)) in
     let same : length left + start + length bs ≡ length left + n = omega arith in
     let back : drop (length left + start + length bs) (left ++ (old ++ right)) ≡ drop n old ++ right = ap (λ (k : ℕ). drop k (left ++ (old ++ right))) same ∙ drop-append-add left (old ++ right) n ∙ drop-append-le n old right h in
-    ap (λ (xs : List ℕ). left ++ (xs ++ right)) (put-bytes_at old start bs h)
+    ap (λ (xs : List ℕ). left ++ (xs ++ right)) (put_bytes_at old start bs h)
     ∙ ap (λ (xs : List ℕ). left ++ xs) (append_assoc (take start old) (bs ++ drop n old) right ∙ ap (λ (xs : List ℕ). take start old ++ xs) (append_assoc bs (drop n old) right))
     ∙ sym (append_assoc left (take start old) (bs ++ (drop n old ++ right)))
-    ∙ sym (put-bytes_at (left ++ (old ++ right)) (length left + start) bs (omega (arith, long)) ∙ ap (λ (xs : List ℕ). xs ++ (bs ++ drop (length left + start + length bs) (left ++ (old ++ right)))) front ∙ ap (λ (xs : List ℕ). (left ++ take start old) ++ (bs ++ xs)) back)
+    ∙ sym (put_bytes_at (left ++ (old ++ right)) (length left + start) bs (omega (arith, long)) ∙ ap (λ (xs : List ℕ). xs ++ (bs ++ drop (length left + start + length bs) (left ++ (old ++ right)))) front ∙ ap (λ (xs : List ℕ). (left ++ take start old) ++ (bs ++ xs)) back)
 
 -- the image around a piece
 around : (ps : List Piece) (i : ℕ) (h : in_order ps ≡ true) (l : i < length ps) → image_of ps ≡ (context 0 ps i h l).left ++ ((piece_at ps i).bytes ++ (context 0 ps i h l).right)
@@ -101,7 +101,7 @@ put_piece ps i start bs h l fits =
     let c = context 0 ps i h l in
     let old = (piece_at ps i).bytes in
     let first_of : length c.left ≡ (piece_at ps i).addr = omega (arith, c.long) in
-    c.is (put old (bytes_at start bs)) (length-put old (bytes_at start bs))
+    c.is (put old (bytes_at start bs)) (length_put old (bytes_at start bs))
     ∙ put_middle c.left old c.right start bs fits
     ∙ ap (λ (image : List ℕ). put image (bytes_at (length c.left + start) bs)) (sym (around ps i h l))
     ∙ ap (λ (n : ℕ). put (image_of ps) (bytes_at (n + start) bs)) first_of
@@ -143,7 +143,7 @@ rewritten_at rs i addr new bs order l holds same name access is =
     let inside : i < length ps = omega (arith, length-map rs piece_of) in
     let bytes : new.bytes.now ≡ put (piece_at ps i).bytes (bytes_at start bs) = is ∙ ap (λ (p : Piece). put p.bytes (bytes_at start bs)) (sym here) in
     let fits : start + length bs ≤ length (piece_at ps i).bytes = omega (arith, holds.first, holds.last) in
-    let keeps : length new.bytes.now ≡ length (piece_at ps i).bytes = ap length bytes ∙ length-put (piece_at ps i).bytes (bytes_at start bs) in
+    let keeps : length new.bytes.now ≡ length (piece_at ps i).bytes = ap length bytes ∙ length_put (piece_at ps i).bytes (bytes_at start bs) in
     let pieces : pieces_of (set rs i new) ≡ set ps i (with_bytes ps i new.bytes.now) =
     map-set piece_of rs i new ∙ ap (λ (n : ℕ). set ps i (record { addr = n; bytes = new.bytes.now })) (same ∙ sym begins) in
     let place : (piece_at ps i).addr + start ≡ addr = omega (arith, holds.first) in
@@ -194,7 +194,7 @@ writable_after old new addr len place bs w r =
     let within = w.within in
     record {
       order = r.order ∙ w.order;
-      within = omega (arith, ap length r.image, length-put (image_of (pieces_of old)) (bytes_at place bs));
+      within = omega (arith, ap length r.image, length_put (image_of (pieces_of old)) (bytes_at place bs));
       gaps = λ a first last. ap (λ gaps. lies_in_any gaps a) r.gaps ∙ w.gaps a first last;
     }
 
@@ -205,15 +205,15 @@ place_found rs addr len i w some within none = elim (cases_lt i (length rs)) [
   | inr past ↦
       let ps = pieces_of rs in
       let inside = w.within in
-      absurd (found 0 ps addr w.order (omega arith) (omega (arith, length-bytes_above 0 ps w.order)) (w.gaps addr (omega arith) (omega arith)) (λ k l. none k (omega (arith, length-map rs piece_of))))
+      absurd (found 0 ps addr w.order (omega arith) (omega (arith, length_bytes_above 0 ps w.order)) (w.gaps addr (omega arith) (omega arith)) (λ k l. none k (omega (arith, length-map rs piece_of))))
 ]
 
 -- addresses that may be written fit 32 bits
 pub writable_most : (rs : List Region) (addr len : ℕ) → Writable rs addr len → addr + len ≤ 4294967296
-writable_most rs addr len w = let inside = w.within in omega (arith, image_of-most (pieces_of rs) w.order)
+writable_most rs addr len w = let inside = w.within in omega (arith, image_of_most (pieces_of rs) w.order)
 
 pub rewritten_length : (old new : List Region) (addr : ℕ) (bs : List ℕ) → Rewritten old new addr bs → length (image_of (pieces_of new)) ≡ length (image_of (pieces_of old))
-rewritten_length old new addr bs r = ap length r.image ∙ length-put (image_of (pieces_of old)) (bytes_at addr bs)
+rewritten_length old new addr bs r = ap length r.image ∙ length_put (image_of (pieces_of old)) (bytes_at addr bs)
 
 -- all pages of a memory are made, before a write and after it
 pub rewritten_made : (old new : List Region) (addr : ℕ) (bs : List ℕ) → Rewritten old new addr bs → all_made (length (image_of (pieces_of new))) ≡ all_made (length (image_of (pieces_of old)))

@@ -66,37 +66,37 @@ pub end_from : ℕ → List Piece → ℕ
 end_from at [] = at
 end_from at (p ∷ ps) = end_from (end_of p) ps
 
-pub length-bytes_above : (at : ℕ) (ps : List Piece) → rises_from at ps ≡ true → at + length (bytes_above at ps) ≡ end_from at ps
+pub length_bytes_above : (at : ℕ) (ps : List Piece) → rises_from at ps ≡ true → at + length (bytes_above at ps) ≡ end_from at ps
 unfolding end_from
-length-bytes_above at [] h = omega arith
-length-bytes_above at (p ∷ ps) h =
+length_bytes_above at [] h = omega arith
+length_bytes_above at (p ∷ ps) h =
     let f = first at p ps h in
     let after = f.after in
     let pad : List ℕ = replicate (p.addr - at) 0 in
     let more = p.bytes ++ bytes_above (end_of p) ps in
-    let next = length-bytes_above (end_of p) ps f.rest in
+    let next = length_bytes_above (end_of p) ps f.rest in
     let long : length pad ≡ p.addr - at = length-replicate (p.addr - at) 0 in
     omega (arith, next, long, length-append pad more, length-append p.bytes (bytes_above (end_of p) ps))
 
-pub end_from-last : (at : ℕ) (ps : List Piece) (i : ℕ) → i + 1 ≡ length ps → end_from at ps ≡ end_of (piece_at ps i)
+pub end_from_last : (at : ℕ) (ps : List Piece) (i : ℕ) → i + 1 ≡ length ps → end_from at ps ≡ end_of (piece_at ps i)
 unfolding end_from
-end_from-last at [] i h = absurd (omega arith)
-end_from-last at (p ∷ []) zero h = refl
-end_from-last at (p ∷ []) (suc i) h = absurd (omega arith)
-end_from-last at (p ∷ (q ∷ qs)) zero h = absurd (omega arith)
-end_from-last at (p ∷ (q ∷ qs)) (suc i) h = end_from-last (end_of p) (q ∷ qs) i (omega arith)
+end_from_last at [] i h = absurd (omega arith)
+end_from_last at (p ∷ []) zero h = refl
+end_from_last at (p ∷ []) (suc i) h = absurd (omega arith)
+end_from_last at (p ∷ (q ∷ qs)) zero h = absurd (omega arith)
+end_from_last at (p ∷ (q ∷ qs)) (suc i) h = end_from_last (end_of p) (q ∷ qs) i (omega arith)
 
-end_from-most : (at : ℕ) (ps : List Piece) → at ≤ 4294967296 → rises_from at ps ≡ true → end_from at ps ≤ 4294967296
+end_from_most : (at : ℕ) (ps : List Piece) → at ≤ 4294967296 → rises_from at ps ≡ true → end_from at ps ≤ 4294967296
 unfolding end_from
-end_from-most at [] low h = low
-end_from-most at (p ∷ ps) low h = let f = first at p ps h in end_from-most (end_of p) ps f.most f.rest
+end_from_most at [] low h = low
+end_from_most at (p ∷ ps) low h = let f = first at p ps h in end_from_most (end_of p) ps f.most f.rest
 
 -- the size is the end of the last piece
-pub length-image_of : (ps : List Piece) (i : ℕ) → in_order ps ≡ true → i + 1 ≡ length ps → length (image_of ps) ≡ end_of (piece_at ps i)
-length-image_of ps i h last = omega (arith, length-bytes_above 0 ps h, end_from-last 0 ps i last)
+pub length_image_of : (ps : List Piece) (i : ℕ) → in_order ps ≡ true → i + 1 ≡ length ps → length (image_of ps) ≡ end_of (piece_at ps i)
+length_image_of ps i h last = omega (arith, length_bytes_above 0 ps h, end_from_last 0 ps i last)
 
-pub image_of-most : (ps : List Piece) → in_order ps ≡ true → length (image_of ps) ≤ 4294967296
-image_of-most ps h = omega (arith, length-bytes_above 0 ps h, end_from-most 0 ps (omega arith) h)
+pub image_of_most : (ps : List Piece) → in_order ps ≡ true → length (image_of ps) ≤ 4294967296
+image_of_most ps h = omega (arith, length_bytes_above 0 ps h, end_from_most 0 ps (omega arith) h)
 
 -- ---- the gaps
 

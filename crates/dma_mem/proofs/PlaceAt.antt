@@ -8,14 +8,14 @@ use Rattle.std.proofs.lemmas.Option.{slice_get-get_or, slice_get_past}
 use Rattle.dma_mem.specs.declared.segment.Segment.{Segment}
 use Rattle.dma_mem.specs.Places.{places}
 
-pub slice_get-append_left : (xs ys : List ℕ) (p : ℕ) → p < length xs → slice_get (xs ++ ys) p ≡ slice_get xs p
-slice_get-append_left xs ys p h =
+pub slice_get_append_left : (xs ys : List ℕ) (p : ℕ) → p < length xs → slice_get (xs ++ ys) p ≡ slice_get xs p
+slice_get_append_left xs ys p h =
     slice_get-get_or (xs ++ ys) p 0 (omega (arith, length-append xs ys))
     ∙ ap Some (get_or_append_left xs ys 0 p h)
     ∙ sym (slice_get-get_or xs p 0 h)
 
-pub slice_get-append_right : (xs ys : List ℕ) (p : ℕ) → length xs ≤ p → slice_get (xs ++ ys) p ≡ slice_get ys (p - length xs)
-slice_get-append_right xs ys p h = elim (cases_lt p (length (xs ++ ys))) [
+pub slice_get_append_right : (xs ys : List ℕ) (p : ℕ) → length xs ≤ p → slice_get (xs ++ ys) p ≡ slice_get ys (p - length xs)
+slice_get_append_right xs ys p h = elim (cases_lt p (length (xs ++ ys))) [
   | inl within ↦
       slice_get-get_or (xs ++ ys) p 0 within
       ∙ ap Some (get_or-append_right xs ys (length xs) p 0 refl h)
@@ -32,7 +32,7 @@ place_within list i p d h l =
     let range = range_with_len s.addr s.len in
     let long : p < length range = omega (arith, length-range_with_len s.addr s.len) in
     at_drop_more (λ rest. slice_get (places rest) p) list i d h
-    ∙ slice_get-append_left range (places (drop (i + 1) list)) p long
+    ∙ slice_get_append_left range (places (drop (i + 1) list)) p long
     ∙ slice_get-get_or range p 0 long
     ∙ ap Some (get_or-range_with_len s.addr s.len p 0 l)
 
@@ -43,5 +43,5 @@ place_past list i p d h l =
     let range = range_with_len s.addr s.len in
     let long = length-range_with_len s.addr s.len in
     at_drop_more (λ rest. slice_get (places rest) p) list i d h
-    ∙ slice_get-append_right range (places (drop (i + 1) list)) p (omega arith)
+    ∙ slice_get_append_right range (places (drop (i + 1) list)) p (omega arith)
     ∙ ap (λ n. slice_get (places (drop (i + 1) list)) (p - n)) long

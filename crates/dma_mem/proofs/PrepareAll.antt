@@ -11,9 +11,9 @@ use Rattle.dma_mem.specs.Pages.{Paged, AllMade, Keeps, has_page}
 
 -- ---- the addresses of a list
 
-places-append : (xs ys : List Segment) → places (xs ++ ys) ≡ places xs ++ places ys
-places-append [] ys = refl
-places-append (s ∷ xs) ys = ap (λ rest. range_with_len s.addr s.len ++ rest) (places-append xs ys) ∙ sym (append_assoc (range_with_len s.addr s.len) (places xs) (places ys))
+places_append : (xs ys : List Segment) → places (xs ++ ys) ≡ places xs ++ places ys
+places_append [] ys = refl
+places_append (s ∷ xs) ys = ap (λ rest. range_with_len s.addr s.len ++ rest) (places_append xs ys) ∙ sym (append_assoc (range_with_len s.addr s.len) (places xs) (places ys))
 
 -- an address of the segment at k
 pub in_places : (rs : List Segment) (k : ℕ) (d : Segment) (a : ℕ) → k < length rs → Contains (range_with_len (get_or rs k d).addr (get_or rs k d).len) a → Contains (places rs) a
@@ -22,7 +22,7 @@ in_places (s ∷ rs) zero d a h i = Contains-append_left (range_with_len s.addr 
 in_places (s ∷ rs) (suc k) d a h i = Contains-append_right (range_with_len s.addr s.len) (places rs) a (in_places rs k d a (omega arith) i)
 
 in_push : (rs : List Segment) (s : Segment) (a : ℕ) → Contains (places (rs ++ s ∷ [])) a → Contains (places rs) a ⊎ Contains (range_with_len s.addr s.len) a
-in_push rs s a i = elim (Contains-append_cases (places rs) (range_with_len s.addr s.len ++ []) a (subst (λ xs. Contains xs a) (places-append rs (s ∷ [])) i)) [
+in_push rs s a i = elim (Contains-append_cases (places rs) (range_with_len s.addr s.len ++ []) a (subst (λ xs. Contains xs a) (places_append rs (s ∷ [])) i)) [
   | inl left ↦ inl left
   | inr right ↦ inr (subst (λ xs. Contains xs a) (append-nil (range_with_len s.addr s.len)) right)
 ]
@@ -60,8 +60,8 @@ keeps_made old new xs k h = λ a i.
     let parts = and_parts (nat_lt a (length old.image)) (has_page old (a / 4096)) (h a i) in
     ap (λ n. nat_lt a n && has_page new (a / 4096)) k.size ∙ rw (parts.0, k.made (a / 4096) parts.1) refl
 
-pub Keeps-trans : (a b c : Paged) → Keeps a b → Keeps b c → Keeps a c
-Keeps-trans a b c f g = record { size = g.size ∙ f.size; made = λ p h. g.made p (f.made p h) }
+pub Keeps_trans : (a b c : Paged) → Keeps a b → Keeps b c → Keeps a c
+Keeps_trans a b c f g = record { size = g.size ∙ f.size; made = λ p h. g.made p (f.made p h) }
 
-pub Keeps-refl : (m : Paged) → Keeps m m
-Keeps-refl m = record { size = refl; made = λ p h. h }
+pub Keeps_refl : (m : Paged) → Keeps m m
+Keeps_refl m = record { size = refl; made = λ p h. h }

@@ -16,8 +16,8 @@ use Rattle.dma_mem.proofs.RangeSets.{Lies, in_places, places_in, nowhere, BeginB
 abbrev pub placed : List Segment → ℕ → ℕ → Segment → List Segment
 placed rs first past s = take first rs ++ s ∷ drop past rs
 
-length-placed : (rs : List Segment) (first past : ℕ) (s : Segment) → first ≤ past → past ≤ length rs → length (placed rs first past s) ≡ first + 1 + (length rs - past)
-length-placed rs first past s h l = omega (arith, length-append (take first rs) (s ∷ drop past rs), length-take first rs, length-drop past rs)
+length_placed : (rs : List Segment) (first past : ℕ) (s : Segment) → first ≤ past → past ≤ length rs → length (placed rs first past s) ≡ first + 1 + (length rs - past)
+length_placed rs first past s h l = omega (arith, length-append (take first rs) (s ∷ drop past rs), length-take first rs, length-drop past rs)
 
 at_front : (rs : List Segment) (first past : ℕ) (s : Segment) (k : ℕ) (d : Segment) → first ≤ length rs → k < first → get_or (placed rs first past s) k d ≡ get_or rs k d
 at_front rs first past s k d l h = get_or_append_left (take first rs) (s ∷ drop past rs) d k (omega (arith, length-take first rs)) ∙ get_or-take first rs k d h
@@ -64,7 +64,7 @@ place_of rs first past s k d h l m = elim (cases_lt k first) [
         inr (record {
           from = past + i;
           high = omega arith;
-          within = omega (arith, length-placed rs first past s h l);
+          within = omega (arith, length_placed rs first past s h l);
           at = omega arith;
           is = ap (λ j. get_or (placed rs first past s) j d) is ∙ at_back rs first past s i d (omega arith);
         })
@@ -130,7 +130,7 @@ ordered_placed rs first past s o some order f = record {
 pub adds_placed : (rs : List Segment) (first past : ℕ) (s : Segment) → first ≤ past → Found rs first past s → AddsAddresses rs (placed rs first past s) s
 adds_placed rs first past s order f =
     let all = placed rs first past s in
-    let long = length-placed rs first past s order f.bound in
+    let long = length_placed rs first past s order f.bound in
     let front = f.front in
     λ a. (
       λ i.

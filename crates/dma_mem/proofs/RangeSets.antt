@@ -13,16 +13,16 @@ use Rattle.dma_mem.specs.Places.{Descriptor, places, share, range_of, sources, d
 use Rattle.dma_mem.specs.Rules.{IsTransfer}
 use Rattle.dma_mem.specs.Ranges.{IsCoalesced, HasSources, SameAddresses}
 use Rattle.dma_mem.specs.inner.RangesInOrder.{IsOrdered, IsClearOf, Joins}
-use Rattle.dma_mem.proofs.SharedPlaces.{share-true, share_none, shared_by, in_range, range_in, share-append_left}
-use Rattle.dma_mem.proofs.TransferRules.{same-sources}
+use Rattle.dma_mem.proofs.SharedPlaces.{share_true, share_none, shared_by, in_range, range_in, share_append_left}
+use Rattle.dma_mem.proofs.TransferRules.{same_sources}
 
 -- ---- the addresses of a list
 
 abbrev pub Lies : Segment → ℕ → Type 0
 Lies s a = (s.addr ≤ a) × (a < s.addr + s.len)
 
-pub places-cons : (s : Segment) (rs : List Segment) (a : ℕ) → Contains (places (s ∷ rs)) a → Lies s a ⊎ Contains (places rs) a
-places-cons s rs a i = elim (Contains-append_cases (range_of s) (places rs) a i) [
+pub places_cons : (s : Segment) (rs : List Segment) (a : ℕ) → Contains (places (s ∷ rs)) a → Lies s a ⊎ Contains (places rs) a
+places_cons s rs a i = elim (Contains-append_cases (range_of s) (places rs) a i) [
   | inl here ↦ inl (range_in s.addr s.len a here)
   | inr later ↦ inr later
 ]
@@ -47,7 +47,7 @@ pub record At (rs : List Segment) (d : Segment) (a : ℕ) : Type 0 where
 
 pub places_in : (rs : List Segment) (d : Segment) (a : ℕ) → Contains (places rs) a → At rs d a
 places_in [] d a i = absurd (omega (arith, i.1))
-places_in (s ∷ rs) d a i = elim (places-cons s rs a i) [
+places_in (s ∷ rs) d a i = elim (places_cons s rs a i) [
   | inl here ↦ record { k = 0; within = omega arith; lies = here }
   | inr later ↦ let w = places_in rs d a later in record { k = suc w.k; within = omega (arith, w.within); lies = w.lies }
 ]
@@ -68,8 +68,8 @@ same_permuted xs ys p = λ a.
       λ i. let w = places_in xs nowhere a i in moved xs ys nowhere a w (Contains-permutation xs ys (get_or xs w.k nowhere) p (Contains-get_or xs w.k nowhere w.within)),
     )
 
-pub same-trans : (xs ys zs : List Segment) → SameAddresses xs ys → SameAddresses ys zs → SameAddresses xs zs
-same-trans xs ys zs f g = λ a. (λ i. (g a).0 ((f a).0 i), λ i. (f a).1 ((g a).1 i))
+pub same_trans : (xs ys zs : List Segment) → SameAddresses xs ys → SameAddresses ys zs → SameAddresses xs zs
+same_trans xs ys zs f g = λ a. (λ i. (g a).0 ((f a).0 i), λ i. (f a).1 ((g a).1 i))
 
 -- ---- segments in the order of their first addresses, item after item
 
@@ -82,9 +82,9 @@ abbrev pub Spaced : ℕ → List Segment → Type 0
 Spaced low [] = Unit
 Spaced low (s ∷ rest) = (low ≤ s.addr) × (0 < s.len) × Spaced (s.addr + s.len + 1) rest
 
-Rising-lower : (low high : ℕ) (xs : List Segment) → low ≤ high → Rising high xs → Rising low xs
-Rising-lower low high [] h r = tt
-Rising-lower low high (s ∷ rest) h r = (omega (arith, r.0), r.1, r.2, r.3)
+Rising_lower : (low high : ℕ) (xs : List Segment) → low ≤ high → Rising high xs → Rising low xs
+Rising_lower low high [] h r = tt
+Rising_lower low high (s ∷ rest) h r = (omega (arith, r.0), r.1, r.2, r.3)
 
 pub rising_from : (low : ℕ) (xs : List Segment) → All (λ s. low ≤ s.addr) xs → All (λ s. 0 < s.len) xs → All (λ s. s.addr + s.len ≤ 4294967295) xs → IsNonDecreasingBy (λ (s : Segment). s.addr) xs → Rising low xs
 rising_from low [] l f w r = tt
@@ -134,16 +134,16 @@ pub record Coalesces (low : ℕ) (ys given : List Segment) : Type 0 where
 -- the range that takes in the next segment has the addresses of both
 same_longer : (ys rest : List Segment) (k k' x : Segment) → SameAddresses ys (k' ∷ rest) → k.addr ≤ x.addr → x.addr ≤ k.addr + k.len → k'.addr ≡ k.addr → k'.addr + k'.len ≡ max (k.addr + k.len) (x.addr + x.len) → SameAddresses ys (k ∷ x ∷ rest)
 same_longer ys rest k k' x h order near start end = λ a. (
-  λ i. elim (places-cons k' rest a ((h a).0 i)) [
+  λ i. elim (places_cons k' rest a ((h a).0 i)) [
     | inl here ↦ elim (cases_lt a (k.addr + k.len)) [
       | inl in_k ↦ place_here k (x ∷ rest) a (omega (arith, here.0), in_k)
       | inr past ↦ place_later k (x ∷ rest) a (place_here x rest a (omega arith, omega (arith, here.1)))
     ]
     | inr later ↦ place_later k (x ∷ rest) a (place_later x rest a later)
   ],
-  λ i. (h a).1 (elim (places-cons k (x ∷ rest) a i) [
+  λ i. (h a).1 (elim (places_cons k (x ∷ rest) a i) [
     | inl in_k ↦ place_here k' rest a (omega (arith, in_k.0), omega (arith, in_k.1))
-    | inr other ↦ elim (places-cons x rest a other) [
+    | inr other ↦ elim (places_cons x rest a other) [
       | inl in_x ↦ place_here k' rest a (omega (arith, in_x.0), omega (arith, in_x.1))
       | inr later ↦ place_later k' rest a later
     ]
@@ -152,8 +152,8 @@ same_longer ys rest k k' x h order near start end = λ a. (
 
 same_apart : (ys zs rest : List Segment) (k x : Segment) → ys ≡ k ∷ zs → SameAddresses zs (x ∷ rest) → SameAddresses ys (k ∷ x ∷ rest)
 same_apart ys zs rest k x e h = subst (λ l. SameAddresses l (k ∷ x ∷ rest)) (sym e) (λ a. (
-  λ i. elim (places-cons k zs a i) [ inl here ↦ place_here k (x ∷ rest) a here | inr later ↦ place_later k (x ∷ rest) a ((h a).0 later) ],
-  λ i. elim (places-cons k (x ∷ rest) a i) [ inl here ↦ place_here k zs a here | inr later ↦ place_later k zs a ((h a).1 later) ],
+  λ i. elim (places_cons k zs a i) [ inl here ↦ place_here k (x ∷ rest) a here | inr later ↦ place_later k (x ∷ rest) a ((h a).0 later) ],
+  λ i. elim (places_cons k (x ∷ rest) a i) [ inl here ↦ place_here k zs a here | inr later ↦ place_later k zs a ((h a).1 later) ],
 ))
 
 module _ {S : Type 0} (R : S → Segment → Segment → Bool → S → Segment → Segment → Type 0) (reports : (s : S) (x k : Segment) (b : Bool) (t : S) (x' k' : Segment) → R s x k b t x' k' → Joins x k b x' k') where
@@ -168,7 +168,7 @@ module _ {S : Type 0} (R : S → Segment → Segment → Bool → S → Segment 
         | inl (yes_, more) ↦
             let near : x.addr ≤ k.addr + k.len = leb-true x.addr (k.addr + k.len) (sym j.value ∙ yes_) in
             let end : h.3.addr + h.3.len ≡ max (k.addr + k.len) (x.addr + x.len) = omega (arith, j.end yes_, r.2, w) in
-            let rest = coalesces_from h.1 h.3 xs ys low more (omega (arith, j.start, l)) (omega (arith, end, j.start, f)) (omega (arith, end, r.2, w)) (Rising-lower h.3.addr x.addr xs (omega (arith, j.start, r.0)) r.3) in
+            let rest = coalesces_from h.1 h.3 xs ys low more (omega (arith, j.start, l)) (omega (arith, end, j.start, f)) (omega (arith, end, r.2, w)) (Rising_lower h.3.addr x.addr xs (omega (arith, j.start, r.0)) r.3) in
             record { spaced = rest.spaced; same = same_longer ys xs k h.3 x rest.same r.0 near j.start end }
         | inr (no_, more) ↦
             let far : k.addr + k.len < x.addr = leb-false x.addr (k.addr + k.len) (sym j.value ∙ no_) in
@@ -210,7 +210,7 @@ meets_first rs first s o p within =
     let filled : 0 < r.len = o.filled first nowhere within in
     let after : s.addr < r.addr + r.len = p.1 first nowhere (omega arith) within in
     same_tests _ _
-    (λ h. let w = shared_by _ _ h in share-true _ _ w.0 w.1 (in_places rs first nowhere w.0 within (range_in r.addr r.len w.0 w.2)))
+    (λ h. let w = shared_by _ _ h in share_true _ _ w.0 w.1 (in_places rs first nowhere w.0 within (range_in r.addr r.len w.0 w.2)))
     (λ h.
     let w = shared_by _ _ h in
     let at = places_in rs nowhere w.0 w.2 in
@@ -220,7 +220,7 @@ meets_first rs first s o p within =
       | inr later ↦
           let order = o.starts first at.k nowhere later at.within in
           let a = max s.addr r.addr in
-          share-true _ _ a (in_range s.addr s.len a (omega arith) (omega (arith, in_s.0, in_s.1, order, at.lies.0))) (in_range r.addr r.len a (omega arith) (omega (arith, after, filled)))
+          share_true _ _ a (in_range s.addr s.len a (omega arith) (omega (arith, in_s.0, in_s.1, order, at.lies.0))) (in_range r.addr r.len a (omega arith) (omega (arith, after, filled)))
     ])
 
 pub meets_none : (rs : List Segment) (first : ℕ) (s : Segment) → EndBy s.addr rs first → length rs ≤ first → share (range_of s) (places rs) ≡ false
@@ -286,7 +286,7 @@ ordered_from rs h = record {
 
 -- the first address of coalesced ranges
 first_place : (x : Segment) (xs : List Segment) (a : ℕ) → IsCoalesced (x ∷ xs) → Contains (places (x ∷ xs)) a → x.addr ≤ a
-first_place x xs a h i = elim (places-cons x xs a i) [
+first_place x xs a h i = elim (places_cons x xs a i) [
   | inl here ↦ here.0
   | inr later ↦ let at = places_in xs nowhere a later in omega (arith, h.apart 0 (suc at.k) nowhere (omega arith) (omega (arith, at.within)), at.lies.0)
 ]
@@ -312,7 +312,7 @@ ends_by : (x y : Segment) (xs ys : List Segment) → IsCoalesced (x ∷ xs) → 
 ends_by x y xs ys h same start = elim (cases_lt (x.addr + x.len) (y.addr + y.len)) [
   | inl past ↦
       let e = x.addr + x.len in
-      absurd (elim (places-cons x xs e ((same e).1 (place_here y ys e (omega (arith, start), past)))) [
+      absurd (elim (places_cons x xs e ((same e).1 (place_here y ys e (omega (arith, start), past)))) [
         | inl here ↦ omega (arith, here.1)
         | inr later ↦ omega (arith, later_place x xs e h later)
       ])
@@ -325,8 +325,8 @@ same_segment x y e f = ap (λ a. record { addr = a; len = x.len }) e ∙ ap (λ 
 -- the addresses of the later ranges
 same_rest : (x : Segment) (xs ys : List Segment) → IsCoalesced (x ∷ xs) → IsCoalesced (x ∷ ys) → SameAddresses (x ∷ xs) (x ∷ ys) → SameAddresses xs ys
 same_rest x xs ys h k same = λ a. (
-  λ i. elim (places-cons x ys a ((same a).0 (place_later x xs a i))) [ inl here ↦ absurd (omega (arith, here.1, later_place x xs a h i)) | inr later ↦ later ],
-  λ i. elim (places-cons x xs a ((same a).1 (place_later x ys a i))) [ inl here ↦ absurd (omega (arith, here.1, later_place x ys a k i)) | inr later ↦ later ],
+  λ i. elim (places_cons x ys a ((same a).0 (place_later x xs a i))) [ inl here ↦ absurd (omega (arith, here.1, later_place x xs a h i)) | inr later ↦ later ],
+  λ i. elim (places_cons x xs a ((same a).1 (place_later x ys a i))) [ inl here ↦ absurd (omega (arith, here.1, later_place x ys a k i)) | inr later ↦ later ],
 )
 
 -- so coalesced ranges with the same addresses are the same ranges
@@ -347,31 +347,31 @@ coalesced_same (x ∷ xs) (y ∷ ys) h k same =
     ap (λ (s : Segment). s ∷ xs) (sym one) ∙ ap (λ l. y ∷ l) rest
 
 -- a list has an address of the set where one of its segments has
-pub share-each : (list : List Segment) (ys : List ℕ) → list_any (λ s. share (range_of s) ys) list ≡ share (places list) ys
-share-each [] ys = sym (share_none [] ys (λ a i j. omega (arith, i.1)))
-share-each (s ∷ rest) ys = ap (λ b. share (range_of s) ys || b) (share-each rest ys) ∙ sym (share-append_left (range_of s) (places rest) ys)
+pub share_each : (list : List Segment) (ys : List ℕ) → list_any (λ s. share (range_of s) ys) list ≡ share (places list) ys
+share_each [] ys = sym (share_none [] ys (λ a i j. omega (arith, i.1)))
+share_each (s ∷ rest) ys = ap (λ b. share (range_of s) ys || b) (share_each rest ys) ∙ sym (share_append_left (range_of s) (places rest) ys)
 
 -- ---- sets of addresses in place of the lists that they were made of
 
 pub share_right : (xs ys zs : List ℕ) → ((a : ℕ) → Contains ys a ↔ Contains zs a) → share xs ys ≡ share xs zs
 share_right xs ys zs h =
-    same_tests _ _ (λ e. let w = shared_by xs ys e in share-true xs zs w.0 w.1 ((h w.0).0 w.2)) (λ e. let w = shared_by xs zs e in share-true xs ys w.0 w.1 ((h w.0).1 w.2))
+    same_tests _ _ (λ e. let w = shared_by xs ys e in share_true xs zs w.0 w.1 ((h w.0).0 w.2)) (λ e. let w = shared_by xs zs e in share_true xs ys w.0 w.1 ((h w.0).1 w.2))
 
 -- ranges of a source list are ranges of the sources
-pub sources-from : (src : List Segment) (t : Descriptor) → IsTransfer t → SameAddresses src t.src → HasSources src t
-sources-from src t h same =
-    λ a. (λ i. (same-sources t h a).0 ((same a).0 i), λ i. (same a).1 ((same-sources t h a).1 i))
+pub sources_from : (src : List Segment) (t : Descriptor) → IsTransfer t → SameAddresses src t.src → HasSources src t
+sources_from src t h same =
+    λ a. (λ i. (same_sources t h a).0 ((same a).0 i), λ i. (same a).1 ((same_sources t h a).1 i))
 
 -- the tests of a transfer, by ranges that have its sources' addresses and ranges that have its destinations'
-pub writes-ranges : (u : Descriptor) (s : Segment) (dst : List Segment) → SameAddresses dst u.dst → share (range_of s) (places dst) ≡ writes u s
-writes-ranges u s dst d = share_right (range_of s) (places dst) (destinations u) d
+pub writes_ranges : (u : Descriptor) (s : Segment) (dst : List Segment) → SameAddresses dst u.dst → share (range_of s) (places dst) ≡ writes u s
+writes_ranges u s dst d = share_right (range_of s) (places dst) (destinations u) d
 
-pub touches-ranges : (u : Descriptor) (s : Segment) (src dst : List Segment) → HasSources src u → SameAddresses dst u.dst → (share (range_of s) (places dst) || share (range_of s) (places src)) ≡ touches u s
-touches-ranges u s src dst h d =
-    ap (λ b. b || share (range_of s) (places src)) (writes-ranges u s dst d) ∙ ap (λ b. writes u s || b) (share_right (range_of s) (places src) (sources u) h)
+pub touches_ranges : (u : Descriptor) (s : Segment) (src dst : List Segment) → HasSources src u → SameAddresses dst u.dst → (share (range_of s) (places dst) || share (range_of s) (places src)) ≡ touches u s
+touches_ranges u s src dst h d =
+    ap (λ b. b || share (range_of s) (places src)) (writes_ranges u s dst d) ∙ ap (λ b. writes u s || b) (share_right (range_of s) (places src) (sources u) h)
 
-pub is_free_of-ranges : (t u : Descriptor) (src dst : List Segment) → HasSources src u → SameAddresses dst u.dst → not (share (destinations t) (places dst) || (share (destinations t) (places src) || share (sources t) (places dst))) ≡ is_free_of t u
-is_free_of-ranges t u src dst h d =
+pub is_free_of_ranges : (t u : Descriptor) (src dst : List Segment) → HasSources src u → SameAddresses dst u.dst → not (share (destinations t) (places dst) || (share (destinations t) (places src) || share (sources t) (places dst))) ≡ is_free_of t u
+is_free_of_ranges t u src dst h d =
     let one = share_right (destinations t) (places dst) (destinations u) d in
     let two = share_right (destinations t) (places src) (sources u) h in
     let three = share_right (sources t) (places dst) (destinations u) d in

@@ -14,10 +14,10 @@ use Rattle.dma_mem.specs.Flags.{all_clear}
 use Rattle.dma_mem.specs.Image.{is_size}
 use Rattle.dma_mem.specs.Refusals.{refusal_of, refusal_of_fill}
 use Rattle.dma_mem.specs.Rules.{IsTransfer, IsSegmentList}
-use Rattle.dma_mem.proofs.TransferRules.{copy-from_no_refusal, length-places, meets_any-places, once-places}
-use Rattle.dma_mem.proofs.PageImages.{is_made-from, is_made-parts, segment_made, segment_not_made}
-use Rattle.dma_mem.proofs.RangeSets.{coalesced_same, same-trans, spread_from}
-use Rattle.dma_mem.proofs.SharedPlaces.{in_range, range_in, share-false, share_none}
+use Rattle.dma_mem.proofs.TransferRules.{copy_from_no_refusal, length_places, meets_any_places, once_places}
+use Rattle.dma_mem.proofs.PageImages.{is_made_from, is_made_parts, segment_made, segment_not_made}
+use Rattle.dma_mem.proofs.RangeSets.{coalesced_same, same_trans, spread_from}
+use Rattle.dma_mem.proofs.SharedPlaces.{in_range, range_in, share_false, share_none}
 use Rattle.std.proofs.lemmas.Bool.{cases_lt, eqb-true, false_from_ne_true, true≢false}
 use Rattle.std.proofs.lemmas.List.FromFn.{length-range_with_len, get_or-range_with_len}
 use Rattle.std.proofs.lemmas.List.Sums.{AllPass-from_list_all}
@@ -110,7 +110,7 @@ past_the_last_event_signalled = refl
 -- ---- what a transfer is
 
 sixty_four_segments_are_few : IsTransfer (of_segments 64)
-sixty_four_segments_are_few = copy-from_no_refusal (bytes_from 0 64) (bytes_from 1000 64) None None sixty_four_segments
+sixty_four_segments_are_few = copy_from_no_refusal (bytes_from 0 64) (bytes_from 1000 64) None None sixty_four_segments
 
 no_segment_is_not : IsTransfer (of_segments 0) → ⊥
 no_segment_is_not t = let some : 0 < 0 = t.source_list.some in omega arith
@@ -146,16 +146,16 @@ copies_range from to n some few behind within =
       one_byte = λ e. absurd (cc);
       source_list = one_range from n some (omega arith);
       destination_list = one_range to n some within;
-      same_length = length-places src ∙ sym (length-places dst);
-      short = omega (arith, length-places dst, few);
-      once = once-places dst refl;
-      apart = share-false (places src) (places dst) (sym (meets_any-places src dst) ∙ rw (ranges_apart from n to n behind) refl);
+      same_length = length_places src ∙ sym (length_places dst);
+      short = omega (arith, length_places dst, few);
+      once = once_places dst refl;
+      apart = share_false (places src) (places dst) (sym (meets_any_places src dst) ∙ rw (ranges_apart from n to n behind) refl);
       wait_event = tt;
       signal_event = tt;
     }
 
 copies_at_most : (from to n : ℕ) → IsTransfer (of_bytes from to n None None) → n ≤ 1048576
-copies_at_most from to n t = omega (arith, t.short, length-places (record { addr = to; len = n } ∷ []))
+copies_at_most from to n t = omega (arith, t.short, length_places (record { addr = to; len = n } ∷ []))
 
 most_bytes_are_few : IsTransfer (of_bytes 0 2097152 1048576 None None)
 most_bytes_are_few = copies_range 0 2097152 1048576 (omega arith) (omega arith) (omega arith) (omega arith)
@@ -167,13 +167,13 @@ one_byte_more_is_not : IsTransfer (of_bytes 0 2097152 1048577 None None) → ⊥
 one_byte_more_is_not t = let few = copies_at_most 0 2097152 1048577 t in omega (arith, few)
 
 to_the_last_address : IsTransfer (of_bytes 0 4294967295 1 None None)
-to_the_last_address = copy-from_no_refusal (record { addr = 0; len = 1 } ∷ []) (record { addr = 4294967295; len = 1 } ∷ []) None None up_to_the_last_address
+to_the_last_address = copy_from_no_refusal (record { addr = 0; len = 1 } ∷ []) (record { addr = 4294967295; len = 1 } ∷ []) None None up_to_the_last_address
 
 beyond_the_last_address : IsTransfer (of_bytes 0 4294967295 2 None None) → ⊥
 beyond_the_last_address t = let within : 4294967297 ≤ 4294967296 = t.destination_list.within 0 (record { addr = 0; len = 0 }) (omega arith) in omega arith
 
 both_last_events : IsTransfer (of_bytes 0 1 1 (Some 31) (Some 31))
-both_last_events = copy-from_no_refusal (record { addr = 0; len = 1 } ∷ []) (record { addr = 1; len = 1 } ∷ []) (Some 31) (Some 31) last_events
+both_last_events = copy_from_no_refusal (record { addr = 0; len = 1 } ∷ []) (record { addr = 1; len = 1 } ∷ []) (Some 31) (Some 31) last_events
 
 no_later_event_waited : IsTransfer (of_bytes 0 1 1 (Some 32) None) → ⊥
 no_later_event_waited t = let event : 32 ≤ 31 = t.wait_event in omega arith
@@ -224,7 +224,7 @@ joined_coalesced = (spread_from 0 joined (omega arith, omega arith, (omega arith
 
 -- a set of the four segments has these ranges and no others
 joined_alone : (ranges : List Segment) → SameAddresses ranges given → IsCoalesced ranges → ranges ≡ joined
-joined_alone ranges same h = coalesced_same ranges joined h joined_coalesced (same-trans ranges given joined same (λ a. ((joined_same a).1, (joined_same a).0)))
+joined_alone ranges same h = coalesced_same ranges joined h joined_coalesced (same_trans ranges given joined same (λ a. ((joined_same a).1, (joined_same a).0)))
 
 -- a set of no segment has none
 none_alone : (ranges : List Segment) → SameAddresses ranges [] → IsCoalesced ranges → ranges ≡ []
@@ -281,7 +281,7 @@ page_is a p low high = omega arith
 -- an address on a page without the flag isn't made
 unflagged : (m : Paged) (a p : ℕ) → a / 4096 ≡ p → has_page m p ≡ false → is_made m a ≡ false
 unflagged m a p on none =
-    false_from_ne_true _ (λ e. true≢false (sym (is_made-parts m a e).1 ∙ ap (has_page m) on ∙ none))
+    false_from_ne_true _ (λ e. true≢false (sym (is_made_parts m a e).1 ∙ ap (has_page m) on ∙ none))
 
 not_made_at_first : (m : Paged) → HasNoPage m → list_all (is_made m) (range_of (record { addr = 4096; len = 1 })) ≡ false
 not_made_at_first m h = segment_not_made m 4096 1 4096 (omega arith) (omega arith) (unflagged m 4096 1 (omega arith) (h.none 1))
@@ -290,9 +290,9 @@ not_made_at_first m h = segment_not_made m 4096 1 4096 (omega arith) (omega arit
 second_and_third : (old new : Paged) → HasNoPage old → IsPrepared old new → list_all (is_made new) (range_of (record { addr = 4096; len = 8192 })) ≡ true
 second_and_third old new h k =
     let flag : (a p : ℕ) → 8191 ≤ a → a < 8193 → a / 4096 ≡ p → has_page new p ≡ true = λ a p low high on.
-    ap (has_page new) (sym on) ∙ (is_made-parts new a (k.made a (in_range 8191 2 a low high))).1 in
+    ap (has_page new) (sym on) ∙ (is_made_parts new a (k.made a (in_range 8191 2 a low high))).1 in
     segment_made new 4096 8192 (λ a low high.
-    is_made-from new a (omega (arith, high, k.keeps.size, h.size)) (elim (cases_lt a 8192) [
+    is_made_from new a (omega (arith, high, k.keeps.size, h.size)) (elim (cases_lt a 8192) [
       | inl second ↦ ap (has_page new) (page_is a 1 (omega arith) (omega arith)) ∙ flag 8191 1 (omega arith) (omega arith) (omega arith)
       | inr third ↦ ap (has_page new) (page_is a 2 (omega arith) (omega arith)) ∙ flag 8192 2 (omega arith) (omega arith) (omega arith)
     ]))

@@ -13,9 +13,9 @@ use Rattle.dma_mem.specs.declared.segment.Segment.{Segment}
 use Rattle.dma_mem.specs.Places.{Apart, Descriptor, all_below, share, is_free_of, touches, writes, places, sources, destinations}
 use Rattle.dma_mem.specs.Meeting.{IsFree}
 
-pub share-false : (xs ys : List ℕ) → share xs ys ≡ false → Apart xs ys
+pub share_false : (xs ys : List ℕ) → share xs ys ≡ false → Apart xs ys
 unfolding share
-share-false xs ys h = λ a (i : Contains xs a) (j : Contains ys a).
+share_false xs ys h = λ a (i : Contains xs a) (j : Contains ys a).
     let inner : list_any (nat_eq (get_or xs i.0 a)) ys ≡ true = rw i.2 (list_any-from_Contains nat_eq_equiv a ys j) in
     true≢false (sym (list_any_at (λ b. list_any (nat_eq b) ys) xs i.0 a i.1 inner) ∙ h)
 
@@ -25,20 +25,20 @@ unfolding share
 share_none xs ys h =
     list_any_none (λ b. list_any (nat_eq b) ys) xs (λ k d l. false_from_ne_true _ (λ e. h (get_or xs k d) (Contains-get_or xs k d l) (Contains-from_any eqb-true (get_or xs k d) ys e)))
 
-pub is_free_of-true : (t u : Descriptor) → is_free_of t u ≡ true → IsFree t u
-is_free_of-true t u h =
+pub is_free_of_true : (t u : Descriptor) → is_free_of t u ≡ true → IsFree t u
+is_free_of_true t u h =
     let none = not-true (share (destinations t) (destinations u) || (share (destinations t) (sources u) || share (sources t) (destinations u))) h in
     let parts = or_parts _ _ none in
     let rest = or_parts _ _ parts.1 in
     record {
-      writes_none = share-false (destinations t) (destinations u) parts.0;
-      writes_no_source = share-false (destinations t) (sources u) rest.0;
-      reads_none = share-false (sources t) (destinations u) rest.1;
+      writes_none = share_false (destinations t) (destinations u) parts.0;
+      writes_no_source = share_false (destinations t) (sources u) rest.0;
+      reads_none = share_false (sources t) (destinations u) rest.1;
     }
 
 -- an answer that is the test's is true exactly where the transfer is free of the other
-pub is_free_of-iff : (t u : Descriptor) (r : Bool) → r ≡ is_free_of t u → IsTrue r ↔ IsFree t u
-is_free_of-iff t u r e = (λ h. is_free_of-true t u (sym e ∙ h), λ f. e ∙ rw (share_none (destinations t) (destinations u) f.writes_none, share_none (destinations t) (sources u) f.writes_no_source, share_none (sources t) (destinations u) f.reads_none) refl)
+pub is_free_of_iff : (t u : Descriptor) (r : Bool) → r ≡ is_free_of t u → IsTrue r ↔ IsFree t u
+is_free_of_iff t u r e = (λ h. is_free_of_true t u (sym e ∙ h), λ f. e ∙ rw (share_none (destinations t) (destinations u) f.writes_none, share_none (destinations t) (sources u) f.writes_no_source, share_none (sources t) (destinations u) f.reads_none) refl)
 
 -- the transfer writes one of these addresses; it writes or reads one
 abbrev pub Writes : Descriptor → List ℕ → Type 0
@@ -47,17 +47,17 @@ Writes t range = (a : ℕ) × Contains range a × Contains (destinations t) a
 abbrev pub Touches : Descriptor → List ℕ → Type 0
 Touches t range = (a : ℕ) × Contains range a × (Contains (destinations t) a ⊎ Contains (sources t) a)
 
-pub touches-false : (t : Descriptor) (s : Segment) → touches t s ≡ false → ¬ Touches t (range_with_len s.addr s.len)
-touches-false t s h = λ (a, i, j).
+pub touches_false : (t : Descriptor) (s : Segment) → touches t s ≡ false → ¬ Touches t (range_with_len s.addr s.len)
+touches_false t s h = λ (a, i, j).
     let parts = or_parts _ _ h in
-    elim j [ inl d ↦ share-false (range_with_len s.addr s.len) (destinations t) parts.0 a i d | inr r ↦ share-false (range_with_len s.addr s.len) (sources t) parts.1 a i r ]
+    elim j [ inl d ↦ share_false (range_with_len s.addr s.len) (destinations t) parts.0 a i d | inr r ↦ share_false (range_with_len s.addr s.len) (sources t) parts.1 a i r ]
 
-pub writes-false : (t : Descriptor) (s : Segment) → writes t s ≡ false → ¬ Writes t (range_with_len s.addr s.len)
-writes-false t s h = λ (a, i, j). share-false (range_with_len s.addr s.len) (destinations t) h a i j
+pub writes_false : (t : Descriptor) (s : Segment) → writes t s ≡ false → ¬ Writes t (range_with_len s.addr s.len)
+writes_false t s h = λ (a, i, j). share_false (range_with_len s.addr s.len) (destinations t) h a i j
 
-pub share-true : (xs ys : List ℕ) (a : ℕ) → Contains xs a → Contains ys a → share xs ys ≡ true
+pub share_true : (xs ys : List ℕ) (a : ℕ) → Contains xs a → Contains ys a → share xs ys ≡ true
 unfolding share
-share-true xs ys a i j =
+share_true xs ys a i j =
     let inner : list_any (nat_eq (get_or xs i.0 a)) ys ≡ true = rw i.2 (list_any-from_Contains nat_eq_equiv a ys j) in
     list_any_at (λ b. list_any (nat_eq b) ys) xs i.0 a i.1 inner
 
@@ -83,7 +83,7 @@ ranges_apart a m b n h = share_none _ _ (λ x i j. h x (range_in a m x i).0 (ran
 
 pub ranges_meet : (a m b n : ℕ) → 0 < m → 0 < n → a < b + n → b < a + m → share (range_with_len a m) (range_with_len b n) ≡ true
 ranges_meet a m b n p q r s =
-    share-true _ _ (max a b) (in_range a m (max a b) (omega arith) (omega arith)) (in_range b n (max a b) (omega arith) (omega arith))
+    share_true _ _ (max a b) (in_range a m (max a b) (omega arith) (omega arith)) (in_range b n (max a b) (omega arith) (omega arith))
 
 -- so the test of their ends is the test of their addresses
 pub ranges_past : (a m b n x y : ℕ) → b + n ≤ a → x ≡ a → y ≡ b + n → nat_lt x y ≡ share (range_with_len a m) (range_with_len b n)
@@ -96,33 +96,33 @@ ranges_tested a m b n x y p q h d e = elim (cases_lt x y) [
 ]
 
 -- an answer that is the test's is true exactly where an address is in both lists
-pub share-iff : (xs ys : List ℕ) (r : Bool) → r ≡ share xs ys → IsTrue r ↔ ((a : ℕ) × Contains xs a × Contains ys a)
-share-iff xs ys r e = (λ h. shared_by xs ys (sym e ∙ h), λ (a, i, j). e ∙ share-true xs ys a i j)
+pub share_iff : (xs ys : List ℕ) (r : Bool) → r ≡ share xs ys → IsTrue r ↔ ((a : ℕ) × Contains xs a × Contains ys a)
+share_iff xs ys r e = (λ h. shared_by xs ys (sym e ∙ h), λ (a, i, j). e ∙ share_true xs ys a i j)
 
 or_exchange : (a b c d : Bool) → ((a || b) || (c || d)) ≡ ((a || c) || (b || d))
 or_exchange true b c d = refl
 or_exchange false true c d = elim c as (λ c. true ≡ (c || true)) [ true ↦ refl | false ↦ refl ]
 or_exchange false false c d = refl
 
-pub share-append_right : (xs ys zs : List ℕ) → share xs (ys ++ zs) ≡ (share xs ys || share xs zs)
+pub share_append_right : (xs ys zs : List ℕ) → share xs (ys ++ zs) ≡ (share xs ys || share xs zs)
 unfolding share
-share-append_right [] ys zs = refl
-share-append_right (x ∷ xs) ys zs =
-    let e = share-append_right xs ys zs in
+share_append_right [] ys zs = refl
+share_append_right (x ∷ xs) ys zs =
+    let e = share_append_right xs ys zs in
     ap (λ b. b || share xs (ys ++ zs)) (list_any-append (nat_eq x) ys zs)
     ∙ ap (λ b. (list_any (nat_eq x) ys || list_any (nat_eq x) zs) || b) e
     ∙ or_exchange (list_any (nat_eq x) ys) (list_any (nat_eq x) zs) (share xs ys) (share xs zs)
 
-pub share-append_left : (xs ys zs : List ℕ) → share (xs ++ ys) zs ≡ (share xs zs || share ys zs)
+pub share_append_left : (xs ys zs : List ℕ) → share (xs ++ ys) zs ≡ (share xs zs || share ys zs)
 unfolding share
-share-append_left xs ys zs = list_any-append (λ a. list_any (nat_eq a) zs) xs ys
+share_append_left xs ys zs = list_any-append (λ a. list_any (nat_eq a) zs) xs ys
 
 -- a list is met where one of its segments is
 pub share_places : (xs : List ℕ) (list : List Segment) → list_any (λ s. share xs (range_with_len s.addr s.len)) list ≡ share xs (places list)
 share_places xs [] = sym (share_none xs [] (λ a i j. omega (arith, j.1)))
 share_places xs (s ∷ rest) =
     ap (λ b. share xs (range_with_len s.addr s.len) || b) (share_places xs rest)
-    ∙ sym (share-append_right xs (range_with_len s.addr s.len) (places rest))
+    ∙ sym (share_append_right xs (range_with_len s.addr s.len) (places rest))
 
 -- each segment of a list that lies below a size ends there at most
 pub ends_below : (list : List Segment) (size i : ℕ) (d : Segment) → all_below list size ≡ true → i < length list → (get_or list i d).addr + (get_or list i d).len ≤ size

@@ -16,30 +16,30 @@ use Rattle.dma_mem.specs.declared.transfer.TransferFault.{TransferFault}
 use Rattle.dma_mem.specs.Places.{Apart, Descriptor, filling, places, sources, destinations, size_of, share, touches, is_free_of}
 use Rattle.dma_mem.specs.Rules.{IsTransfer, IsSegmentList, HasOneByte}
 use Rattle.dma_mem.specs.Refusals.{refusal_of, cause, total, some_meet, meets_any, is_bad_event, is_empty_list, has_too_many, has_empty_segment, has_wrapping_segment}
-use Rattle.dma_mem.proofs.SharedPlaces.{share-false, share-true, shared_by, share_places, share_none, share-append_left}
-use Rattle.dma_mem.proofs.MarkHits.{same_bool, share-sym}
+use Rattle.dma_mem.proofs.SharedPlaces.{share_false, share_true, shared_by, share_places, share_none, share_append_left}
+use Rattle.dma_mem.proofs.MarkHits.{same_bool, share_sym}
 
 -- ---- lists of segments
 
 -- no element passes where the test of the whole list fails
-pub All-from_none : {X : Type 0} (p : X → Bool) (xs : List X) → list_any p xs ≡ false → All (λ x. p x ≡ false) xs
-All-from_none p xs h = λ k d l. false_from_ne_true _ (λ e. true≢false (sym (list_any_at p xs k d l e) ∙ h))
+pub All_from_none : {X : Type 0} (p : X → Bool) (xs : List X) → list_any p xs ≡ false → All (λ x. p x ≡ false) xs
+All_from_none p xs h = λ k d l. false_from_ne_true _ (λ e. true≢false (sym (list_any_at p xs k d l e) ∙ h))
 
-pub length-places : (list : List Segment) → length (places list) ≡ total list
-length-places [] = refl
-length-places (s ∷ rest) =
-    omega (arith, length-append (range_with_len s.addr s.len) (places rest), length-range_with_len s.addr s.len, length-places rest, sum_by-cons (λ (t : Segment). t.len) s rest)
+pub length_places : (list : List Segment) → length (places list) ≡ total list
+length_places [] = refl
+length_places (s ∷ rest) =
+    omega (arith, length-append (range_with_len s.addr s.len) (places rest), length-range_with_len s.addr s.len, length_places rest, sum_by-cons (λ (t : Segment). t.len) s rest)
 
 -- segments of two lists meet where a place is in both
-pub meets_any-places : (list others : List Segment) → meets_any list others ≡ share (places list) (places others)
-meets_any-places [] others = sym (share_none [] (places others) (λ a i j. omega (arith, i.1)))
-meets_any-places (s ∷ rest) others =
+pub meets_any_places : (list others : List Segment) → meets_any list others ≡ share (places list) (places others)
+meets_any_places [] others = sym (share_none [] (places others) (λ a i j. omega (arith, i.1)))
+meets_any_places (s ∷ rest) others =
     ap (λ b. b || meets_any rest others) (share_places (range_with_len s.addr s.len) others)
-    ∙ ap (λ b. share (range_with_len s.addr s.len) (places others) || b) (meets_any-places rest others)
-    ∙ sym (share-append_left (range_with_len s.addr s.len) (places rest) (places others))
+    ∙ ap (λ b. share (range_with_len s.addr s.len) (places others) || b) (meets_any_places rest others)
+    ∙ sym (share_append_left (range_with_len s.addr s.len) (places rest) (places others))
 
-AllPairs-append : (R : ℕ → ℕ → Type 0) (xs ys : List ℕ) → AllPairs R xs → AllPairs R ys → ((x y : ℕ) → Contains xs x → Contains ys y → R x y) → AllPairs R (xs ++ ys)
-AllPairs-append R xs ys p q cross = λ i j d l m.
+AllPairs_append : (R : ℕ → ℕ → Type 0) (xs ys : List ℕ) → AllPairs R xs → AllPairs R ys → ((x y : ℕ) → Contains xs x → Contains ys y → R x y) → AllPairs R (xs ++ ys)
+AllPairs_append R xs ys p q cross = λ i j d l m.
     let both = length-append xs ys in
     let n = length xs in
     elim (cases_lt j n) [
@@ -54,8 +54,8 @@ AllPairs-append R xs ys p q cross = λ i j d l m.
           ]
     ]
 
-once-range : (a n : ℕ) → AllPairs (λ x y. x ≢ y) (range_with_len a n)
-once-range a n = λ i j d l m e.
+once_range : (a n : ℕ) → AllPairs (λ x y. x ≢ y) (range_with_len a n)
+once_range a n = λ i j d l m e.
     let long = length-range_with_len a n in
     let j_in : j < n = omega arith in
     let x = get_or-range_with_len a n i d (omega arith) in
@@ -63,13 +63,13 @@ once-range a n = λ i j d l m e.
     omega arith
 
 -- each place is once in a list of which no two segments meet
-pub once-places : (list : List Segment) → some_meet list ≡ false → AllPairs (λ a b. a ≢ b) (places list)
-once-places [] h = λ i j d l m. absurd (omega arith)
-once-places (s ∷ rest) h =
+pub once_places : (list : List Segment) → some_meet list ≡ false → AllPairs (λ a b. a ≢ b) (places list)
+once_places [] h = λ i j d l m. absurd (omega arith)
+once_places (s ∷ rest) h =
     let range = range_with_len s.addr s.len in
     let parts = or_parts _ _ h in
-    let apart : Apart range (places rest) = share-false range (places rest) (sym (share_places range rest) ∙ parts.0) in
-    AllPairs-append (λ x y. x ≢ y) range (places rest) (once-range s.addr s.len) (once-places rest parts.1) (λ x y i j e. apart x i (rw e j))
+    let apart : Apart range (places rest) = share_false range (places rest) (sym (share_places range rest) ∙ parts.0) in
+    AllPairs_append (λ x y. x ≢ y) range (places rest) (once_range s.addr s.len) (once_places rest parts.1) (λ x y i j e. apart x i (rw e j))
 
 -- ---- what follows where a test fails
 
@@ -80,8 +80,8 @@ is_segment_list : (list : List Segment) → is_empty_list list ≡ false → has
 is_segment_list list empty many none wraps = record {
   some = nonempty (length list) empty;
   few = ltb-false 64 (length list) many;
-  filled = All-weaker (λ (s : Segment). (s.len == 0) ≡ false) (λ s. 0 < s.len) (λ s h. nonempty s.len h) list (All-from_none (λ (s : Segment). s.len == 0) list none);
-  within = All-weaker (λ (s : Segment). nat_lt 4294967296 (s.addr + s.len) ≡ false) (λ s. s.addr + s.len ≤ 4294967296) (λ s h. ltb-false 4294967296 (s.addr + s.len) h) list (All-from_none (λ (s : Segment). nat_lt 4294967296 (s.addr + s.len)) list wraps);
+  filled = All-weaker (λ (s : Segment). (s.len == 0) ≡ false) (λ s. 0 < s.len) (λ s h. nonempty s.len h) list (All_from_none (λ (s : Segment). s.len == 0) list none);
+  within = All-weaker (λ (s : Segment). nat_lt 4294967296 (s.addr + s.len) ≡ false) (λ s. s.addr + s.len ≤ 4294967296) (λ s h. ltb-false 4294967296 (s.addr + s.len) h) list (All_from_none (λ (s : Segment). nat_lt 4294967296 (s.addr + s.len)) list wraps);
 }
 
 good_event : (event : Option ℕ) → is_bad_event event ≡ false → IfSome event (λ e. e ≤ 31)
@@ -91,51 +91,51 @@ good_event (Some e) h = ltb-false 31 e h
 -- ---- the places of a fill's sources
 
 -- each is a place of the source list
-source-again : (xs ds : List ℕ) (a : ℕ) → Contains (flat_map (λ (d : ℕ). xs) ds) a → Contains xs a
-source-again xs [] a i = absurd (omega (arith, i.1))
-source-again xs (d ∷ ds) a i = elim (Contains-append_cases xs (flat_map (λ (d : ℕ). xs) ds) a i) [ inl here ↦ here | inr later ↦ source-again xs ds a later ]
+source_again : (xs ds : List ℕ) (a : ℕ) → Contains (flat_map (λ (d : ℕ). xs) ds) a → Contains xs a
+source_again xs [] a i = absurd (omega (arith, i.1))
+source_again xs (d ∷ ds) a i = elim (Contains-append_cases xs (flat_map (λ (d : ℕ). xs) ds) a i) [ inl here ↦ here | inr later ↦ source_again xs ds a later ]
 
-source-in_by : (fill : Bool) (xs ds : List ℕ) (a : ℕ) → Contains (if fill then flat_map (λ (d : ℕ). xs) ds else xs) a → Contains xs a
-source-in_by true xs ds a i = source-again xs ds a i
-source-in_by false xs ds a i = i
+source_in_by : (fill : Bool) (xs ds : List ℕ) (a : ℕ) → Contains (if fill then flat_map (λ (d : ℕ). xs) ds else xs) a → Contains xs a
+source_in_by true xs ds a i = source_again xs ds a i
+source_in_by false xs ds a i = i
 
-pub source-in : (t : Descriptor) (a : ℕ) → Contains (sources t) a → Contains (places t.src) a
-source-in t a i = source-in_by t.fill (places t.src) (destinations t) a i
+pub source_in : (t : Descriptor) (a : ℕ) → Contains (sources t) a → Contains (places t.src) a
+source_in t a i = source_in_by t.fill (places t.src) (destinations t) a i
 
 -- one place again for each of a list is as many
-again-length : (a : ℕ) (ds : List ℕ) → length (flat_map (λ (d : ℕ). a ∷ []) ds) ≡ length ds
-again-length a [] = refl
-again-length a (d ∷ ds) = ap suc (again-length a ds)
+again_length : (a : ℕ) (ds : List ℕ) → length (flat_map (λ (d : ℕ). a ∷ []) ds) ≡ length ds
+again_length a [] = refl
+again_length a (d ∷ ds) = ap suc (again_length a ds)
 
 as_many_by : (fill : Bool) (src dst : List Segment) → (fill ≡ true → (a : ℕ) × (src ≡ record { addr = a; len = 1 } ∷ [])) → (not fill && not (total src == total dst)) ≡ false → length (if fill then flat_map (λ (d : ℕ). places src) (places dst) else places src) ≡ length (places dst)
 as_many_by true src dst one h =
     let w = one refl in
-    rw w.1 (again-length w.0 (places dst))
+    rw w.1 (again_length w.0 (places dst))
 as_many_by false src dst one h =
     let same : total src ≡ total dst = eqb-true _ _ (not-false _ h) in
-    length-places src ∙ same ∙ sym (length-places dst)
+    length_places src ∙ same ∙ sym (length_places dst)
 
 as_many : (t : Descriptor) → HasOneByte t → (not t.fill && not (total t.src == total t.dst)) ≡ false → length (sources t) ≡ length (destinations t)
 as_many t one h = as_many_by t.fill t.src t.dst one h
 
 -- ---- the law
 
-cause-none : (b : Bool) (fault : TransferFault) (others : Option TransferFault) → cause b fault others ≡ None → (b ≡ false) × (others ≡ None)
-cause-none true fault others h = cc
-cause-none false fault others h = (refl, h)
+cause_none : (b : Bool) (fault : TransferFault) (others : Option TransferFault) → cause b fault others ≡ None → (b ≡ false) × (others ≡ None)
+cause_none true fault others h = cc
+cause_none false fault others h = (refl, h)
 
 -- what no rule refuses is a transfer
-pub IsTransfer-from_no_refusal : (t : Descriptor) → HasOneByte t → refusal_of t ≡ None → IsTransfer t
-IsTransfer-from_no_refusal t one h =
-    let empty = cause-none _ _ _ h in
-    let many = cause-none _ _ _ empty.1 in
-    let filled = cause-none _ _ _ many.1 in
-    let wraps = cause-none _ _ _ filled.1 in
-    let totals = cause-none _ _ _ wraps.1 in
-    let long = cause-none _ _ _ totals.1 in
-    let once = cause-none _ _ _ long.1 in
-    let apart = cause-none _ _ _ once.1 in
-    let events = cause-none _ _ _ apart.1 in
+pub IsTransfer_from_no_refusal : (t : Descriptor) → HasOneByte t → refusal_of t ≡ None → IsTransfer t
+IsTransfer_from_no_refusal t one h =
+    let empty = cause_none _ _ _ h in
+    let many = cause_none _ _ _ empty.1 in
+    let filled = cause_none _ _ _ many.1 in
+    let wraps = cause_none _ _ _ filled.1 in
+    let totals = cause_none _ _ _ wraps.1 in
+    let long = cause_none _ _ _ totals.1 in
+    let once = cause_none _ _ _ long.1 in
+    let apart = cause_none _ _ _ once.1 in
+    let events = cause_none _ _ _ apart.1 in
     let empty' = or_parts _ _ empty.0 in
     let many' = or_parts _ _ many.0 in
     let filled' = or_parts _ _ filled.0 in
@@ -146,21 +146,21 @@ IsTransfer-from_no_refusal t one h =
       source_list = is_segment_list t.src empty'.0 many'.0 filled'.0 wraps'.0;
       destination_list = is_segment_list t.dst empty'.1 many'.1 filled'.1 wraps'.1;
       same_length = as_many t one totals.0;
-      short = rw (length-places t.dst) (ltb-false 1048576 (total t.dst) long.0);
-      once = once-places t.dst once.0;
-      apart = λ a i. share-false (places t.src) (destinations t) (sym (meets_any-places t.src t.dst) ∙ apart.0) a (source-in t a i);
+      short = rw (length_places t.dst) (ltb-false 1048576 (total t.dst) long.0);
+      once = once_places t.dst once.0;
+      apart = λ a i. share_false (places t.src) (destinations t) (sym (meets_any_places t.src t.dst) ∙ apart.0) a (source_in t a i);
       wait_event = good_event t.wait events'.0;
       signal_event = good_event t.signal events'.1;
     }
 
 -- the two kinds of transfers
-pub copy-from_no_refusal : (src dst : List Segment) (wait signal : Option ℕ) → refusal_of (record { fill = false; src = src; dst = dst; wait = wait; signal = signal }) ≡ None → IsTransfer (record { fill = false; src = src; dst = dst; wait = wait; signal = signal })
-copy-from_no_refusal src dst wait signal h =
-    IsTransfer-from_no_refusal (record { fill = false; src = src; dst = dst; wait = wait; signal = signal }) (λ e. absurd (cc)) h
+pub copy_from_no_refusal : (src dst : List Segment) (wait signal : Option ℕ) → refusal_of (record { fill = false; src = src; dst = dst; wait = wait; signal = signal }) ≡ None → IsTransfer (record { fill = false; src = src; dst = dst; wait = wait; signal = signal })
+copy_from_no_refusal src dst wait signal h =
+    IsTransfer_from_no_refusal (record { fill = false; src = src; dst = dst; wait = wait; signal = signal }) (λ e. absurd (cc)) h
 
-pub fill-from_no_refusal : (src : ℕ) (dst : List Segment) (wait signal : Option ℕ) → refusal_of (filling src dst wait signal) ≡ None → IsTransfer (filling src dst wait signal)
-fill-from_no_refusal src dst wait signal h =
-    IsTransfer-from_no_refusal (filling src dst wait signal) (λ e. (src, refl)) h
+pub fill_from_no_refusal : (src : ℕ) (dst : List Segment) (wait signal : Option ℕ) → refusal_of (filling src dst wait signal) ≡ None → IsTransfer (filling src dst wait signal)
+fill_from_no_refusal src dst wait signal h =
+    IsTransfer_from_no_refusal (filling src dst wait signal) (λ e. (src, refl)) h
 
 -- a list with a segment, none of them empty, has a place
 pub places_some : (list : List Segment) → IsSegmentList list → 1 ≤ length (places list)
@@ -168,44 +168,44 @@ places_some [] h = omega (arith, h.some)
 places_some (s ∷ rest) h =
     omega (arith, All-head (λ (t : Segment). 0 < t.len) s rest h.filled, length-append (range_with_len s.addr s.len) (places rest), length-range_with_len s.addr s.len)
 
-pub size_of-some : (t : Descriptor) → IsTransfer t → 1 ≤ size_of t
-size_of-some t h = places_some t.dst h.destination_list
+pub size_of_some : (t : Descriptor) → IsTransfer t → 1 ≤ size_of t
+size_of_some t h = places_some t.dst h.destination_list
 
 -- ---- a fill's one place and its sources
 
-share-again : (fill : Bool) (zs xs ds : List ℕ) → 1 ≤ length ds → share zs (if fill then flat_map (λ (d : ℕ). xs) ds else xs) ≡ share zs xs
-share-again false zs xs ds some = refl
-share-again true zs xs [] some = absurd (omega arith)
-share-again true zs xs (d ∷ ds) some =
+share_again_law : (fill : Bool) (zs xs ds : List ℕ) → 1 ≤ length ds → share zs (if fill then flat_map (λ (d : ℕ). xs) ds else xs) ≡ share zs xs
+share_again_law false zs xs ds some = refl
+share_again_law true zs xs [] some = absurd (omega arith)
+share_again_law true zs xs (d ∷ ds) some =
     let again = flat_map (λ (e : ℕ). xs) (d ∷ ds) in
     same_bool (share zs again) (share zs xs)
-    (λ h. let w = shared_by zs again h in share-true zs xs w.0 w.1 (source-again xs (d ∷ ds) w.0 w.2))
-    (λ h. let w = shared_by zs xs h in share-true zs again w.0 w.1 (Contains-append_left xs (flat_map (λ (e : ℕ). xs) ds) w.0 w.2))
+    (λ h. let w = shared_by zs again h in share_true zs xs w.0 w.1 (source_again xs (d ∷ ds) w.0 w.2))
+    (λ h. let w = shared_by zs xs h in share_true zs again w.0 w.1 (Contains-append_left xs (flat_map (λ (e : ℕ). xs) ds) w.0 w.2))
 
-same-again : (fill : Bool) (xs ds : List ℕ) → 1 ≤ length ds → (a : ℕ) → Contains xs a ↔ Contains (if fill then flat_map (λ (d : ℕ). xs) ds else xs) a
-same-again false xs ds some a = (λ i. i, λ i. i)
-same-again true xs [] some a = absurd (omega arith)
-same-again true xs (d ∷ ds) some a =
-    (λ i. Contains-append_left xs (flat_map (λ (e : ℕ). xs) ds) a i, λ i. source-again xs (d ∷ ds) a i)
+same_again : (fill : Bool) (xs ds : List ℕ) → 1 ≤ length ds → (a : ℕ) → Contains xs a ↔ Contains (if fill then flat_map (λ (d : ℕ). xs) ds else xs) a
+same_again false xs ds some a = (λ i. i, λ i. i)
+same_again true xs [] some a = absurd (omega arith)
+same_again true xs (d ∷ ds) some a =
+    (λ i. Contains-append_left xs (flat_map (λ (e : ℕ). xs) ds) a i, λ i. source_again xs (d ∷ ds) a i)
 
 -- a source list has the addresses of the sources
-pub same-sources : (t : Descriptor) → IsTransfer t → (a : ℕ) → Contains (places t.src) a ↔ Contains (sources t) a
-same-sources t h a = same-again t.fill (places t.src) (destinations t) (size_of-some t h) a
+pub same_sources : (t : Descriptor) → IsTransfer t → (a : ℕ) → Contains (places t.src) a ↔ Contains (sources t) a
+same_sources t h a = same_again t.fill (places t.src) (destinations t) (size_of_some t h) a
 
 -- what meets a source list meets the sources
-pub share-sources : (zs : List ℕ) (t : Descriptor) → IsTransfer t → share zs (sources t) ≡ share zs (places t.src)
-share-sources zs t h = share-again t.fill zs (places t.src) (destinations t) (size_of-some t h)
+pub share_sources : (zs : List ℕ) (t : Descriptor) → IsTransfer t → share zs (sources t) ≡ share zs (places t.src)
+share_sources zs t h = share_again_law t.fill zs (places t.src) (destinations t) (size_of_some t h)
 
-pub sources-share : (t : Descriptor) (zs : List ℕ) → IsTransfer t → share (sources t) zs ≡ share (places t.src) zs
-sources-share t zs h = share-sym (sources t) zs ∙ share-sources zs t h ∙ share-sym zs (places t.src)
+pub sources_share : (t : Descriptor) (zs : List ℕ) → IsTransfer t → share (sources t) zs ≡ share (places t.src) zs
+sources_share t zs h = share_sym (sources t) zs ∙ share_sources zs t h ∙ share_sym zs (places t.src)
 
-pub touches-lists : (t : Descriptor) (s : Segment) → IsTransfer t → touches t s ≡ (share (range_with_len s.addr s.len) (destinations t) || share (range_with_len s.addr s.len) (places t.src))
-touches-lists t s h = ap (λ b. share (range_with_len s.addr s.len) (destinations t) || b) (share-sources (range_with_len s.addr s.len) t h)
+pub touches_lists : (t : Descriptor) (s : Segment) → IsTransfer t → touches t s ≡ (share (range_with_len s.addr s.len) (destinations t) || share (range_with_len s.addr s.len) (places t.src))
+touches_lists t s h = ap (λ b. share (range_with_len s.addr s.len) (destinations t) || b) (share_sources (range_with_len s.addr s.len) t h)
 
-pub is_free_of-lists : (t u : Descriptor) → IsTransfer t → IsTransfer u → is_free_of t u ≡ not (share (destinations t) (destinations u) || (share (destinations t) (places u.src) || share (places t.src) (destinations u)))
-is_free_of-lists t u h i =
-    let theirs : share (destinations t) (sources u) ≡ share (destinations t) (places u.src) = share-sources (destinations t) u i in
-    let own : share (sources t) (destinations u) ≡ share (places t.src) (destinations u) = sources-share t (destinations u) h in
+pub is_free_of_lists : (t u : Descriptor) → IsTransfer t → IsTransfer u → is_free_of t u ≡ not (share (destinations t) (destinations u) || (share (destinations t) (places u.src) || share (places t.src) (destinations u)))
+is_free_of_lists t u h i =
+    let theirs : share (destinations t) (sources u) ≡ share (destinations t) (places u.src) = share_sources (destinations t) u i in
+    let own : share (sources t) (destinations u) ≡ share (places t.src) (destinations u) = sources_share t (destinations u) h in
     rw (theirs, own) refl
 
 at_again : (a p : ℕ) (ds : List ℕ) → p < length ds → Some a ≡ slice_get (flat_map (λ (d : ℕ). a ∷ []) ds) p
@@ -220,7 +220,7 @@ place_below a p ds =
       | inl low ↦ ap (λ (b : Bool). then_some b a) (lt-ltb p (length ds) low) ∙ at_again a p ds low
       | inr past ↦
           ap (λ (b : Bool). then_some b a) (le-ltb p (length ds) past)
-          ∙ sym (slice_get_past (flat_map (λ (d : ℕ). a ∷ []) ds) p (omega (arith, past, again-length a ds)))
+          ∙ sym (slice_get_past (flat_map (λ (d : ℕ). a ∷ []) ds) p (omega (arith, past, again_length a ds)))
     ]
 
 place_of_fill_by : (fill : Bool) (src : List Segment) (ds : List ℕ) (s : Segment) (p : ℕ) → fill ≡ true → src ≡ s ∷ [] → (a : ℕ) × (src ≡ record { addr = a; len = 1 } ∷ []) → then_some (nat_lt p (length ds)) s.addr ≡ slice_get (if fill then flat_map (λ (d : ℕ). places src) ds else places src) p

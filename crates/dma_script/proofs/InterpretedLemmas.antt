@@ -6,31 +6,31 @@ use Rattle.std.proofs.lemmas.List.Concat.{flat_map-append}
 use Rattle.dma_script.specs.Command.{text_of, printed_text}
 use Rattle.dma_script.specs.Interpreted.{ActsInTurn, PrintsLine, PrintsLines}
 
-pub printed_text-append : (xs ys : List (List (List ℕ))) → printed_text (xs ++ ys) ≡ printed_text xs ++ printed_text ys
-printed_text-append xs ys = flat_map-append text_of xs ys
+pub printed_text_append : (xs ys : List (List (List ℕ))) → printed_text (xs ++ ys) ≡ printed_text xs ++ printed_text ys
+printed_text_append xs ys = flat_map-append text_of xs ys
 
 -- the text of one group more
 pub text_after : (old mid new : List ℕ) (groups : List (List (List ℕ))) (lines : List (List ℕ)) → mid ≡ old ++ printed_text groups → new ≡ mid ++ text_of lines → new ≡ old ++ printed_text (groups ++ lines ∷ [])
 text_after old mid new groups lines before more =
     more ∙ ap (λ o. o ++ text_of lines) before ∙ append_assoc old (printed_text groups) (text_of lines)
-    ∙ ap (λ t. old ++ (printed_text groups ++ t)) (sym (append-nil (text_of lines))) ∙ ap (λ t. old ++ t) (sym (printed_text-append groups (lines ∷ [])))
+    ∙ ap (λ t. old ++ (printed_text groups ++ t)) (sym (append-nil (text_of lines))) ∙ ap (λ t. old ++ t) (sym (printed_text_append groups (lines ∷ [])))
 
 -- one more line runs
-acts-more : {S L : Type 0} (acts : S → L → List (List ℕ) → S → Type 0) (lines : List L) (line : L) (found between left : S) (groups : List (List (List ℕ))) (group : List (List ℕ)) → ActsInTurn acts lines found groups between → acts between line group left → ActsInTurn acts (lines ++ line ∷ []) found (groups ++ group ∷ []) left
-acts-more acts [] line found between left [] group done act = (left, subst (λ s. acts s line group left) done act, refl)
-acts-more acts [] line found between left (g ∷ groups) group done act = absurd done
-acts-more acts (l ∷ lines) line found between left [] group done act = absurd done
-acts-more acts (l ∷ lines) line found between left (g ∷ groups) group done act = (done.0, done.1, acts-more acts lines line done.0 between left groups group done.2 act)
+acts_more : {S L : Type 0} (acts : S → L → List (List ℕ) → S → Type 0) (lines : List L) (line : L) (found between left : S) (groups : List (List (List ℕ))) (group : List (List ℕ)) → ActsInTurn acts lines found groups between → acts between line group left → ActsInTurn acts (lines ++ line ∷ []) found (groups ++ group ∷ []) left
+acts_more acts [] line found between left [] group done act = (left, subst (λ s. acts s line group left) done act, refl)
+acts_more acts [] line found between left (g ∷ groups) group done act = absurd done
+acts_more acts (l ∷ lines) line found between left [] group done act = absurd done
+acts_more acts (l ∷ lines) line found between left (g ∷ groups) group done act = (done.0, done.1, acts_more acts lines line done.0 between left groups group done.2 act)
 
 -- no line has run yet
-pub prints-none : {S L : Type 0} (acts : S → L → List (List ℕ) → S → Type 0) (found : S) (old : List ℕ) → PrintsLines {L = L} acts found [] found old old
-prints-none acts found old = record { groups = []; acted = refl; text = sym (append-nil old) }
+pub prints_none : {S L : Type 0} (acts : S → L → List (List ℕ) → S → Type 0) (found : S) (old : List ℕ) → PrintsLines {L = L} acts found [] found old old
+prints_none acts found old = record { groups = []; acted = refl; text = sym (append-nil old) }
 
 -- one line more
-pub prints-more : {S L : Type 0} (acts : S → L → List (List ℕ) → S → Type 0) (lines : List L) (line : L) (found between left : S) (old mid new : List ℕ) → PrintsLines acts found lines between old mid → PrintsLine (acts between line) left mid new → PrintsLines acts found (lines ++ line ∷ []) left old new
-prints-more acts lines line found between left old mid new before one = record {
+pub prints_more : {S L : Type 0} (acts : S → L → List (List ℕ) → S → Type 0) (lines : List L) (line : L) (found between left : S) (old mid new : List ℕ) → PrintsLines acts found lines between old mid → PrintsLine (acts between line) left mid new → PrintsLines acts found (lines ++ line ∷ []) left old new
+prints_more acts lines line found between left old mid new before one = record {
   groups = before.groups ++ one.group ∷ [];
-  acted = acts-more acts lines line found between left before.groups one.group before.acted one.acted;
+  acted = acts_more acts lines line found between left before.groups one.group before.acted one.acted;
   text = text_after old mid new before.groups one.group before.text one.text;
 }
 
@@ -41,19 +41,19 @@ pub record RanSoFar {S L : Type 0} (acts : S → L → List (List ℕ) → S →
   pub printed : PrintsLines acts found done now old new
 
 -- None has run yet.
-pub ran-none : {S L : Type 0} (acts : S → L → List (List ℕ) → S → Type 0) (found : S) (all : List L) (old : List ℕ) → RanSoFar acts found all all found old old
-ran-none acts found all old = record { done = []; split = refl; printed = prints-none acts found old }
+pub ran_none : {S L : Type 0} (acts : S → L → List (List ℕ) → S → Type 0) (found : S) (all : List L) (old : List ℕ) → RanSoFar acts found all all found old old
+ran_none acts found all old = record { done = []; split = refl; printed = prints_none acts found old }
 
 -- One line more.
-pub ran-more : {S L : Type 0} (acts : S → L → List (List ℕ) → S → Type 0) (found : S) (all before : List L) (line : L) (left : List L) (between now : S) (old mid new : List ℕ) → RanSoFar acts found all before between old mid → before ≡ line ∷ left → PrintsLine (acts between line) now mid new → RanSoFar acts found all left now old new
-ran-more acts found all before line left between now old mid new ran is one = record {
+pub ran_more : {S L : Type 0} (acts : S → L → List (List ℕ) → S → Type 0) (found : S) (all before : List L) (line : L) (left : List L) (between now : S) (old mid new : List ℕ) → RanSoFar acts found all before between old mid → before ≡ line ∷ left → PrintsLine (acts between line) now mid new → RanSoFar acts found all left now old new
+ran_more acts found all before line left between now old mid new ran is one = record {
   done = ran.done ++ line ∷ [];
   split = ran.split ∙ ap (λ l. ran.done ++ l) is ∙ sym (append_assoc ran.done (line ∷ []) left);
-  printed = prints-more acts ran.done line found between now old mid new ran.printed one;
+  printed = prints_more acts ran.done line found between now old mid new ran.printed one;
 }
 
 -- What holds of all lines holds of those after the first.
-pub taken-rest : {L : Type 0} (takes : L → Type 0) (lines : List L) (line : L) (after : List L) → lines ≡ line ∷ after → All takes lines → All takes after
-taken-rest takes lines line after is every =
+pub taken_rest : {L : Type 0} (takes : L → Type 0) (lines : List L) (line : L) (after : List L) → lines ≡ line ∷ after → All takes lines → All takes after
+taken_rest takes lines line after is every =
     let all : All takes (line ∷ after) = subst (All takes) is every in
     λ k d below. all (suc k) d (omega (arith, below))

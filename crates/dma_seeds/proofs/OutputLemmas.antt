@@ -21,21 +21,21 @@ use Rattle.dma_seeds.specs.inner.Counted.{counted, one_more}
 abbrev has_text : Output → Output → Bool
 has_text new output = bytes_eq output.text new.text
 
-counted-here : (os : List Output) (new d : Output) (k : ℕ) → k < length os → has_text new (get_or os k d) ≡ true → ((j : ℕ) → j < k → has_text new (get_or os j d) ≡ false) → counted os new ≡ set os k (one_more (get_or os k d))
-counted-here [] new d k less here before = absurd (omega arith)
-counted-here (o ∷ os) new d zero less here before = rw here refl
-counted-here (o ∷ os) new d (suc k) less here before =
-    rw (before zero (omega arith)) (ap (λ l. o ∷ l) (counted-here os new d k (omega arith) here (λ j below. before (suc j) (omega arith))))
+counted_here : (os : List Output) (new d : Output) (k : ℕ) → k < length os → has_text new (get_or os k d) ≡ true → ((j : ℕ) → j < k → has_text new (get_or os j d) ≡ false) → counted os new ≡ set os k (one_more (get_or os k d))
+counted_here [] new d k less here before = absurd (omega arith)
+counted_here (o ∷ os) new d zero less here before = rw here refl
+counted_here (o ∷ os) new d (suc k) less here before =
+    rw (before zero (omega arith)) (ap (λ l. o ∷ l) (counted_here os new d k (omega arith) here (λ j below. before (suc j) (omega arith))))
 
-counted-nowhere : (os : List Output) (new d : Output) → ((j : ℕ) → j < length os → has_text new (get_or os j d) ≡ false) → counted os new ≡ os ++ new ∷ []
-counted-nowhere [] new d none = refl
-counted-nowhere (o ∷ os) new d none =
-    rw (none zero (omega arith)) (ap (λ l. o ∷ l) (counted-nowhere os new d (λ j below. none (suc j) (omega arith))))
+counted_nowhere : (os : List Output) (new d : Output) → ((j : ℕ) → j < length os → has_text new (get_or os j d) ≡ false) → counted os new ≡ os ++ new ∷ []
+counted_nowhere [] new d none = refl
+counted_nowhere (o ∷ os) new d none =
+    rw (none zero (omega arith)) (ap (λ l. o ∷ l) (counted_nowhere os new d (λ j below. none (suc j) (omega arith))))
 
-pub counted-Some : (os : List Output) (new d : Output) (place : ℕ) → Some place ≡ position (has_text new) os → counted os new ≡ set os place (one_more (get_or os place d))
-counted-Some os new d place is =
+pub counted_Some : (os : List Output) (new d : Output) (place : ℕ) → Some place ≡ position (has_text new) os → counted os new ≡ set os place (one_more (get_or os place d))
+counted_Some os new d place is =
     let found = position-Some (has_text new) os place d (sym is) in
-    counted-here os new d place found.0 found.1 found.2
+    counted_here os new d place found.0 found.1 found.2
 
 nowhere_in : (p : Output → Bool) (os : List Output) → None ≡ position p os → length os ≤ position_or_len p os
 nowhere_in p os is = elim (cases_lt (position_or_len p os) (length os)) [
@@ -43,28 +43,28 @@ nowhere_in p os is = elim (cases_lt (position_or_len p os) (length os)) [
   | inr more ↦ more
 ]
 
-pub counted-None : (os : List Output) (new d : Output) → None ≡ position (has_text new) os → counted os new ≡ os ++ new ∷ []
-counted-None os new d is =
+pub counted_None : (os : List Output) (new d : Output) → None ≡ position (has_text new) os → counted os new ≡ os ++ new ∷ []
+counted_None os new d is =
     let all = nowhere_in (has_text new) os is in
-    counted-nowhere os new d (λ j below. fails_before_first (has_text new) os j d (omega (arith, all)))
+    counted_nowhere os new d (λ j below. fails_before_first (has_text new) os j d (omega (arith, all)))
 
 -- ---- outputs in two parts
 
 abbrev hits : Output → List Output → Bool
 hits new os = list_any (has_text new) os
 
-counted-front : (xs ys : List Output) (new : Output) → hits new xs ≡ true → counted (xs ++ ys) new ≡ counted xs new ++ ys
-counted-front [] ys new hit = absurd (false≢true hit)
-counted-front (x ∷ xs) ys new hit = elim (cases_Bool (has_text new x)) [
+counted_front : (xs ys : List Output) (new : Output) → hits new xs ≡ true → counted (xs ++ ys) new ≡ counted xs new ++ ys
+counted_front [] ys new hit = absurd (false≢true hit)
+counted_front (x ∷ xs) ys new hit = elim (cases_Bool (has_text new x)) [
   | inl same ↦ rw same refl
-  | inr other ↦ let rest : hits new xs ≡ true = rw other at hit in rw other (ap (λ l. x ∷ l) (counted-front xs ys new rest))
+  | inr other ↦ let rest : hits new xs ≡ true = rw other at hit in rw other (ap (λ l. x ∷ l) (counted_front xs ys new rest))
 ]
 
-counted-back : (xs ys : List Output) (new : Output) → hits new xs ≡ false → counted (xs ++ ys) new ≡ xs ++ counted ys new
-counted-back [] ys new miss = refl
-counted-back (x ∷ xs) ys new miss = elim (cases_Bool (has_text new x)) [
+counted_back : (xs ys : List Output) (new : Output) → hits new xs ≡ false → counted (xs ++ ys) new ≡ xs ++ counted ys new
+counted_back [] ys new miss = refl
+counted_back (x ∷ xs) ys new miss = elim (cases_Bool (has_text new x)) [
   | inl same ↦ absurd (true≢false (let bad : true ≡ false = rw same at miss in bad))
-  | inr other ↦ let rest : hits new xs ≡ false = rw other at miss in rw other (ap (λ l. x ∷ l) (counted-back xs ys new rest))
+  | inr other ↦ let rest : hits new xs ≡ false = rw other at miss in rw other (ap (λ l. x ∷ l) (counted_back xs ys new rest))
 ]
 
 -- ---- lists of seeds
@@ -202,7 +202,7 @@ module _ (text : ℕ → List ℕ) (a n : ℕ) where
       record {
         hit = λ was.
             let front = so_far.hit (seen_same true was) in (
-              ap (λ os. counted os next_output) (all_push n k) ∙ counted-front (olds k) (alone n (a + k)) next_output front.1
+              ap (λ os. counted os next_output) (all_push n k) ∙ counted_front (olds k) (alone n (a + k)) next_output front.1
                   ∙ ap (λ os. os ++ alone n (a + k)) front.0 ∙ ap (λ os. news k ++ os) same.0 ∙ sym (all_push (suc n) k),
               hits_push k true false front.1 same.1,
             );
@@ -226,7 +226,7 @@ module _ (text : ℕ → List ℕ) (a n : ℕ) where
           | inl was ↦
               let front = so_far.hit was in
               let old : is_new text a (a + k) ≡ false = is_here ∙ ap not was in (
-                ap (λ os. counted os next_output) (all_push n k) ∙ counted-front (olds k) (alone n (a + k)) next_output front.1
+                ap (λ os. counted os next_output) (all_push n k) ∙ counted_front (olds k) (alone n (a + k)) next_output front.1
                     ∙ ap (λ os. os ++ alone n (a + k)) front.0
                     ∙ ap (λ os. news k ++ os) (alone_old n (a + k) old ∙ sym (alone_old (suc n) (a + k) old)) ∙ sym (all_push (suc n) k),
                 hits_push k true false front.1 (ap (hits next_output) (alone_old n (a + k) old)),
@@ -235,7 +235,7 @@ module _ (text : ℕ → List ℕ) (a n : ℕ) where
               let front = so_far.miss never in
               let new : is_new text a (a + k) ≡ true = is_here ∙ ap not never in
               let one = alone_new n (a + k) new in (
-                ap (λ os. counted os next_output) (all_push n k) ∙ counted-back (olds k) (alone n (a + k)) next_output front.1
+                ap (λ os. counted os next_output) (all_push n k) ∙ counted_back (olds k) (alone n (a + k)) next_output front.1
                     ∙ ap (λ os. os ++ counted (alone n (a + k)) next_output) front.0
                     ∙ ap (λ os. news k ++ counted os next_output) one
                     ∙ ap (λ os. news k ++ os) (rw same (ap (λ o. o ∷ []) (counted_once (a + k) same)) ∙ sym (alone_new (suc n) (a + k) new))
@@ -272,7 +272,7 @@ module _ (text : ℕ → List ℕ) (a n : ℕ) where
         let front = (counts_all n).miss never in
         let new : is_new text a (a + n) ≡ true = new_here n refl ∙ ap not never in
         let last = alone_new (suc n) (a + n) new ∙ ap (λ o. o ∷ []) (next_alone never) in
-        ap (λ os. counted os next_output) (sym (append-nil (olds n))) ∙ counted-back (olds n) [] next_output front.1
+        ap (λ os. counted os next_output) (sym (append-nil (olds n))) ∙ counted_back (olds n) [] next_output front.1
         ∙ ap (λ os. os ++ next_output ∷ []) front.0 ∙ ap (λ os. news n ++ os) (sym last) ∙ sym (all_push (suc n) n)
   ]
 

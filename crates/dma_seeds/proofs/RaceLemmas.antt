@@ -11,19 +11,19 @@ use Rattle.dma_engine.specs.View.{View}
 use Rattle.dma_script.specs.Command.{printed_text, text_of}
 use Rattle.dma_script.specs.Interpreted.{ActsInTurn}
 use Rattle.dma_script.specs.declared.statements.Statement.{Statement}
-use Rattle.dma_script.proofs.InterpretedLemmas.{printed_text-append}
+use Rattle.dma_script.proofs.InterpretedLemmas.{printed_text_append}
 use Rattle.dma_commands.specs.Run.{Answered}
 use Rattle.dma_commands.proofs.RunLemmas.{AnswersSeen}
 use Rattle.dma_seeds.specs.declared.turns.RaceTurn.{RaceTurn}
 use Rattle.dma_seeds.specs.Race.{finishes_in, lines_left, step_calls, steps_in}
 
 -- the view after lines that were executed one after another
-pub left-in_turn : {S : Type 0} (seen : S → View) (lines : List Statement) (found left : S) (groups : List (List (List ℕ))) → ActsInTurn (AnswersSeen seen) lines found groups left → seen left ≡ lines_left (seen found) lines
-left-in_turn seen [] found left [] done = ap seen done
-left-in_turn seen [] found left (g ∷ groups) done = absurd done
-left-in_turn seen (line ∷ lines) found left [] done = absurd done
-left-in_turn seen (line ∷ lines) found left (g ∷ groups) (next, acts, rest) =
-    left-in_turn seen lines next left groups rest ∙ ap (λ (b : Answered). lines_left b.1 lines) (sym acts)
+pub left_in_turn : {S : Type 0} (seen : S → View) (lines : List Statement) (found left : S) (groups : List (List (List ℕ))) → ActsInTurn (AnswersSeen seen) lines found groups left → seen left ≡ lines_left (seen found) lines
+left_in_turn seen [] found left [] done = ap seen done
+left_in_turn seen [] found left (g ∷ groups) done = absurd done
+left_in_turn seen (line ∷ lines) found left [] done = absurd done
+left_in_turn seen (line ∷ lines) found left (g ∷ groups) (next, acts, rest) =
+    left_in_turn seen lines next left groups rest ∙ ap (λ (b : Answered). lines_left b.1 lines) (sym acts)
 
 -- ---- turns
 
@@ -69,7 +69,7 @@ took_more v w x turns rest left turn steps finished steps' finished' reply took 
 pub both_printed : (old mid new : List ℕ) (early late : List (List (List ℕ))) → mid ≡ old ++ printed_text early → new ≡ mid ++ printed_text late → new ≡ old ++ printed_text (early ++ late)
 both_printed old mid new early late first last =
     last ∙ ap (λ m. m ++ printed_text late) first ∙ append_assoc old (printed_text early) (printed_text late)
-    ∙ ap (λ t. old ++ t) (sym (printed_text-append early late))
+    ∙ ap (λ t. old ++ t) (sym (printed_text_append early late))
 
 -- the line of `go` and the lines after it
 pub go_printed : (old mid new : List ℕ) (line : List ℕ) (after : List (List (List ℕ))) → mid ≡ old ++ text_of (line ∷ []) → new ≡ mid ++ printed_text after → new ≡ old ++ printed_text ((line ∷ []) ∷ after)

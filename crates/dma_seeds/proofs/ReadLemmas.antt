@@ -25,8 +25,8 @@ use Rattle.dma_script.proofs.Within.{race_script_within}
 use Rattle.dma_seeds.specs.declared.turns.RaceTurn.{RaceTurn}
 use Rattle.dma_seeds.specs.Script.{ScriptsAreRead, as_run, script_text_of, text_for, turn_line}
 use Rattle.dma_seeds.specs.Turns.{turns_of_seed}
-use Rattle.dma_seeds.proofs.TextLemmas.{ArePlain, lines-text, plain_append, text_of-append}
-use Rattle.dma_seeds.proofs.TurnLemmas.{AreLow, seeds-low}
+use Rattle.dma_seeds.proofs.TextLemmas.{ArePlain, lines_text, plain_append, text_of_append}
+use Rattle.dma_seeds.proofs.TurnLemmas.{AreLow, seeds_low}
 
 -- ---- results
 
@@ -54,9 +54,9 @@ reads_append : (r s t : Option RunScript) (xs ys : List (List ℕ)) → Reads r 
 reads_append r s t [] ys first rest = subst (λ x. Reads x ys t) first rest
 reads_append r s t (x ∷ xs) ys (next, one, more) rest = (next, one, reads_append next s t xs ys more rest)
 
-reads-lines : (n : ℕ) (r s : Option RunScript) (ls : List (List ℕ)) → Reads r ls s → after_lines run_step n r ls ≡ Ok s
-reads-lines n r s [] same = ap Ok (sym same)
-reads-lines n r s (line ∷ rest) (next, one, more) = rw one (reads-lines (n + 1) next s rest more)
+reads_lines : (n : ℕ) (r s : Option RunScript) (ls : List (List ℕ)) → Reads r ls s → after_lines run_step n r ls ≡ Ok s
+reads_lines n r s [] same = ap Ok (sym same)
+reads_lines n r s (line ∷ rest) (next, one, more) = rw one (reads_lines (n + 1) next s rest more)
 
 -- ---- the state of a run script for that of a race script
 
@@ -230,14 +230,14 @@ texts_are turns (line ∷ rest) =
     let here = lines_for turns line (words_of line) in
     let others = flat_map (λ l. lines_for turns l (words_of l)) rest in
     ap (λ t. t ++ flat_map (λ l. text_for (text_of turns) l (words_of l)) rest) (text_is turns line (words_of line))
-    ∙ ap (λ t. text_of here ++ t) (texts_are turns rest) ∙ sym (text_of-append here others)
+    ∙ ap (λ t. text_of here ++ t) (texts_are turns rest) ∙ sym (text_of_append here others)
 
 -- ---- whole scripts
 
 -- what a whole script gives, given the lines that were read
 from_read : (steps : List Statement) (input : List ℕ) (ls : List (List ℕ)) (read : RaceRead) (script : RaceScript) → read.before ≡ Some script.before → read.after ≡ Some script.after → Reads None ls (state steps read.before read.after) → after_lines run_step 0 None ls ≡ Ok (Some (record (script.before) { statements = (script.before.statements ++ steps) ++ script.after }))
 from_read steps input ls read script before after reads =
-    reads-lines 0 None (Some (record (script.before) { statements = (script.before.statements ++ steps) ++ script.after })) ls
+    reads_lines 0 None (Some (record (script.before) { statements = (script.before.statements ++ steps) ++ script.after })) ls
     (subst (λ b. Reads None ls (state steps b (Some script.after))) before (subst (λ a. Reads None ls (state steps read.before a)) after reads))
 
 -- the parts of a script that was read
@@ -265,12 +265,12 @@ scripts_are_read input script seed is =
     let turns = turns_of_seed script.jobs seed in
     let race = IfOk-at_ok IsRace is (race_script_within input) in
     let parts = IfOk-at_ok (ReadInParts input) is (parts_of input) in
-    let low = seeds-low script.jobs seed race.jobs in
+    let low = seeds_low script.jobs seed race.jobs in
     let steps = map step_of turns in
     let ls = flat_map (λ line. lines_for (map turn_line turns) line (words_of line)) (lines input) in
     let follows = IfOk-at_ok (λ final. Follows steps None None ls final) parts.lines_are
     (lines_follow (map turn_line turns) steps (steps_read turns low) (steps_plain turns script.before low) 0 (lines input) nothing_read tt) in
     let text : script_text_of (race_script_of input) input seed ≡ text_of ls = ap (λ r. script_text_of r input seed) is ∙ texts_are (map turn_line turns) (lines input) in
     let read : after_lines run_step 0 None (lines (text_of ls)) ≡ Ok (Some (as_run script turns)) =
-    ap (λ l. after_lines run_step 0 None l) (lines-text ls follows.plain) ∙ from_read steps input ls parts.read script parts.before parts.after follows.read in
+    ap (λ l. after_lines run_step 0 None l) (lines_text ls follows.plain) ∙ from_read steps input ls parts.read script parts.before parts.after follows.read in
     ap run_script_of text ∙ rw read refl

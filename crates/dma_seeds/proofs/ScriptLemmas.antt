@@ -11,9 +11,9 @@ use Rattle.dma_seeds.specs.declared.turns.RaceTurn.{RaceTurn}
 use Rattle.dma_seeds.specs.Race.{lines_left, step_calls}
 use Rattle.dma_seeds.specs.Script.{RacesAreRuns, step_groups}
 
-lines_answered-append : (v : View) (xs ys : List Statement) → lines_answered v (xs ++ ys) ≡ lines_answered v xs ++ lines_answered (lines_left v xs) ys
-lines_answered-append v [] ys = refl
-lines_answered-append v (x ∷ xs) ys = ap (λ l. (line_answer v x).0 ∷ l) (lines_answered-append (line_answer v x).1 xs ys)
+lines_answered_append : (v : View) (xs ys : List Statement) → lines_answered v (xs ++ ys) ≡ lines_answered v xs ++ lines_answered (lines_left v xs) ys
+lines_answered_append v [] ys = refl
+lines_answered_append v (x ∷ xs) ys = ap (λ l. (line_answer v x).0 ∷ l) (lines_answered_append (line_answer v x).1 xs ys)
 
 -- the step lines of turns
 abbrev steps_of : List RaceTurn → List Statement
@@ -31,5 +31,5 @@ races_are_runs script turns =
     let v = lines_left start before in
     ap (λ (g : List (List (List ℕ))). let p : Printed = record { groups = [] ∷ g; status = 0 } in p)
     (ap (lines_answered start) (append_assoc before (steps_of turns) script.after)
-    ∙ lines_answered-append start before (steps_of turns ++ script.after)
+    ∙ lines_answered_append start before (steps_of turns ++ script.after)
     ∙ ap (λ l. lines_answered start before ++ l) (steps_answered v turns script.after))

@@ -21,9 +21,9 @@ pub plain_append : (xs ys : List (List ℕ)) → ArePlain xs → ArePlain ys →
 plain_append [] ys first rest = rest
 plain_append (x ∷ xs) ys (one, more) rest = (one, plain_append xs ys more rest)
 
-pub text_of-append : (xs ys : List (List ℕ)) → text_of (xs ++ ys) ≡ text_of xs ++ text_of ys
-text_of-append [] ys = refl
-text_of-append (x ∷ xs) ys = ap (λ t. (x ++ 10 ∷ []) ++ t) (text_of-append xs ys) ∙ sym (append_assoc (x ++ 10 ∷ []) (text_of xs) (text_of ys))
+pub text_of_append : (xs ys : List (List ℕ)) → text_of (xs ++ ys) ≡ text_of xs ++ text_of ys
+text_of_append [] ys = refl
+text_of_append (x ∷ xs) ys = ap (λ t. (x ++ 10 ∷ []) ++ t) (text_of_append xs ys) ∙ sym (append_assoc (x ++ 10 ∷ []) (text_of xs) (text_of ys))
 
 -- a plain byte is none that isn't plain
 plain_other : (b c : ℕ) → is_plain b ≡ true → is_plain c ≡ false → eqb b c ≡ false
@@ -54,7 +54,7 @@ first_line line rest plain =
     lines_first bytes (omega (arith, at, many)) ∙ ap (λ l. strip_carriage_return l ∷ lines (after_first p bytes)) front
     ∙ ap (λ l. l ∷ lines (after_first p bytes)) (plain_stripped line plain) ∙ ap (λ l. line ∷ lines l) back
 
-pub lines-text : (ls : List (List ℕ)) → ArePlain ls → lines (text_of ls) ≡ ls
-lines-text [] plain = refl
-lines-text (line ∷ rest) (one, more) =
-    ap lines (append_assoc line (10 ∷ []) (text_of rest)) ∙ first_line line (text_of rest) one ∙ ap (λ l. line ∷ l) (lines-text rest more)
+pub lines_text : (ls : List (List ℕ)) → ArePlain ls → lines (text_of ls) ≡ ls
+lines_text [] plain = refl
+lines_text (line ∷ rest) (one, more) =
+    ap lines (append_assoc line (10 ∷ []) (text_of rest)) ∙ first_line line (text_of rest) one ∙ ap (λ l. line ∷ l) (lines_text rest more)

@@ -15,27 +15,27 @@ use Rattle.dma_seeds.specs.Turns.{after_turn, drawn, Interleaves, all_turns, cha
 -- ---- the job of a turn
 
 -- the first job has the turn, or one of the others
-pub job_at-here : (job : TurnsLeft) (jobs : List TurnsLeft) (place : ℕ) → place < job.left → job_at (job ∷ jobs) place ≡ 0
-job_at-here job jobs place less = ap (λ b. if b then 0 else suc (job_at jobs (place - job.left))) (lt-ltb place job.left less)
+pub job_at_here : (job : TurnsLeft) (jobs : List TurnsLeft) (place : ℕ) → place < job.left → job_at (job ∷ jobs) place ≡ 0
+job_at_here job jobs place less = ap (λ b. if b then 0 else suc (job_at jobs (place - job.left))) (lt-ltb place job.left less)
 
-pub job_at-behind : (job : TurnsLeft) (jobs : List TurnsLeft) (place : ℕ) → job.left ≤ place → job_at (job ∷ jobs) place ≡ suc (job_at jobs (place - job.left))
-job_at-behind job jobs place le = ap (λ b. if b then 0 else suc (job_at jobs (place - job.left))) (le-ltb place job.left le)
+pub job_at_behind : (job : TurnsLeft) (jobs : List TurnsLeft) (place : ℕ) → job.left ≤ place → job_at (job ∷ jobs) place ≡ suc (job_at jobs (place - job.left))
+job_at_behind job jobs place le = ap (λ b. if b then 0 else suc (job_at jobs (place - job.left))) (le-ltb place job.left le)
 
-pub total-cons : (job : TurnsLeft) (jobs : List TurnsLeft) → total_left (job ∷ jobs) ≡ job.left + total_left jobs
-total-cons job jobs = sum_by-cons (λ (j : TurnsLeft). j.left) job jobs
+pub total_cons : (job : TurnsLeft) (jobs : List TurnsLeft) → total_left (job ∷ jobs) ≡ job.left + total_left jobs
+total_cons job jobs = sum_by-cons (λ (j : TurnsLeft). j.left) job jobs
 
 -- the job of a turn that is left exists, and has a turn left
 pub record HasTurn (jobs : List TurnsLeft) (k : ℕ) : Type 0 where
   pub there : k < length jobs
   pub some : 0 < (slice_index_or jobs k no_turns).left
 
-pub job_at-has : (jobs : List TurnsLeft) (place : ℕ) → place < total_left jobs → HasTurn jobs (job_at jobs place)
-job_at-has [] place less = absurd (omega (arith, less))
-job_at-has (job ∷ jobs) place less = elim (cases_lt place job.left) [
-  | inl here ↦ rw (job_at-here job jobs place here) (record { there = omega arith; some = omega (arith, here) })
+pub job_at_has : (jobs : List TurnsLeft) (place : ℕ) → place < total_left jobs → HasTurn jobs (job_at jobs place)
+job_at_has [] place less = absurd (omega (arith, less))
+job_at_has (job ∷ jobs) place less = elim (cases_lt place job.left) [
+  | inl here ↦ rw (job_at_here job jobs place here) (record { there = omega arith; some = omega (arith, here) })
   | inr behind ↦
-      let rest = job_at-has jobs (place - job.left) (omega (arith, less, behind, total-cons job jobs)) in
-      rw (job_at-behind job jobs place behind) (record { there = omega (arith, rest.there); some = rest.some })
+      let rest = job_at_has jobs (place - job.left) (omega (arith, less, behind, total_cons job jobs)) in
+      rw (job_at_behind job jobs place behind) (record { there = omega (arith, rest.there); some = rest.some })
 ]
 
 -- ---- one turn
@@ -48,9 +48,9 @@ module _ (jobs : List TurnsLeft) (k : ℕ) (has : HasTurn jobs k) where
 
 -- ---- all turns
 
-pub drawn-none : (state : ℕ) (jobs : List TurnsLeft) → drawn 0 state jobs ≡ []
+pub drawn_none : (state : ℕ) (jobs : List TurnsLeft) → drawn 0 state jobs ≡ []
 unfolding drawn
-drawn-none state jobs = refl
+drawn_none state jobs = refl
 
 -- the last n + 1 turns, by the generator's word and its next state
 abbrev drawn_with : ℕ → List TurnsLeft → ℕ × ℕ → List RaceTurn
@@ -59,25 +59,25 @@ drawn_with n jobs w =
     let job = slice_index_or jobs k no_turns in
     record { job = k; channel = job.next } ∷ drawn n w.1 (slice_set jobs k (after_turn job))
 
-pub drawn-suc : (n state : ℕ) (jobs : List TurnsLeft) → drawn (suc n) state jobs ≡ drawn_with n jobs (next_word state)
+pub drawn_suc : (n state : ℕ) (jobs : List TurnsLeft) → drawn (suc n) state jobs ≡ drawn_with n jobs (next_word state)
 unfolding drawn
-drawn-suc n state jobs = refl
+drawn_suc n state jobs = refl
 
-pub word-is : (state : ℕ) → next_word state ≡ mix_u64 state
+pub word_is_law : (state : ℕ) → next_word state ≡ mix_u64 state
 unfolding next_word
-word-is state = refl
+word_is_law state = refl
 
 -- one turn is taken, with the generator's next word
-pub drawn-next : (left state word state' : ℕ) (jobs : List TurnsLeft) (k : ℕ) (job after : TurnsLeft) → 0 < left → (word, state') ≡ mix_u64 state → k ≡ job_at jobs (word % left) → job ≡ slice_index_or jobs k no_turns → after ≡ after_turn job → drawn left state jobs ≡ record { job = k; channel = job.next } ∷ drawn (left - 1) state' (slice_set jobs k after)
-drawn-next zero state word state' jobs k job after some words at here fits = absurd (omega arith)
-drawn-next (suc n) state word state' jobs k job after some words at here fits =
+pub drawn_next : (left state word state' : ℕ) (jobs : List TurnsLeft) (k : ℕ) (job after : TurnsLeft) → 0 < left → (word, state') ≡ mix_u64 state → k ≡ job_at jobs (word % left) → job ≡ slice_index_or jobs k no_turns → after ≡ after_turn job → drawn left state jobs ≡ record { job = k; channel = job.next } ∷ drawn (left - 1) state' (slice_set jobs k after)
+drawn_next zero state word state' jobs k job after some words at here fits = absurd (omega arith)
+drawn_next (suc n) state word state' jobs k job after some words at here fits =
     let fewer : suc n - 1 ≡ n = omega arith in
-    drawn-suc n state jobs ∙ ap (drawn_with n jobs) (word-is state ∙ sym words) ∙ rw (fewer, fits, here, at) refl
+    drawn_suc n state jobs ∙ ap (drawn_with n jobs) (word_is_law state ∙ sym words) ∙ rw (fewer, fits, here, at) refl
 
-pub length-drawn : (n state : ℕ) (jobs : List TurnsLeft) → length (drawn n state jobs) ≡ n
+pub length_drawn : (n state : ℕ) (jobs : List TurnsLeft) → length (drawn n state jobs) ≡ n
 unfolding drawn
-length-drawn zero state jobs = refl
-length-drawn (suc n) state jobs = ap suc (length-drawn n _ _)
+length_drawn zero state jobs = refl
+length_drawn (suc n) state jobs = ap suc (length_drawn n _ _)
 
 -- ---- the turns of each job
 
@@ -100,16 +100,16 @@ none_left jobs k none =
     ap (channels_from job.first job.last job.next) zero_left
 
 -- Each job takes the turns that it has left, in its order.
-pub drawn-each : (n state : ℕ) (jobs : List TurnsLeft) (k : ℕ) → total_left jobs ≡ n → channels_of k (drawn n state jobs) ≡ left_channels (slice_index_or jobs k no_turns)
-drawn-each zero state jobs k total = ap (channels_of k) (drawn-none state jobs) ∙ sym (none_left jobs k total)
-drawn-each (suc n) state jobs k total =
+pub drawn_each : (n state : ℕ) (jobs : List TurnsLeft) (k : ℕ) → total_left jobs ≡ n → channels_of k (drawn n state jobs) ≡ left_channels (slice_index_or jobs k no_turns)
+drawn_each zero state jobs k total = ap (channels_of k) (drawn_none state jobs) ∙ sym (none_left jobs k total)
+drawn_each (suc n) state jobs k total =
     let w = next_word state in
     let at = job_at jobs (w.0 % suc n) in
-    let has = job_at-has jobs (w.0 % suc n) (omega (arith, total)) in
+    let has = job_at_has jobs (w.0 % suc n) (omega (arith, total)) in
     let job = slice_index_or jobs at no_turns in
     let rest = slice_set jobs at (after_turn job) in
-    let others = drawn-each n w.1 rest k (total-after jobs at has n total) in
-    ap (channels_of k) (drawn-suc n state jobs)
+    let others = drawn_each n w.1 rest k (total-after jobs at has n total) in
+    ap (channels_of k) (drawn_suc n state jobs)
     ∙ elim (cases_eq at k) [
       | inl same ↦
           ap (λ b. if b then job.next ∷ channels_of k (drawn n w.1 rest) else channels_of k (drawn n w.1 rest)) (eq-eqb at k same)
@@ -122,12 +122,12 @@ drawn-each (suc n) state jobs k total =
     ]
 
 -- The turns for a seed are an interleaving of the jobs' turns.
-pub seeds-interleave : (lines : List JobLine) (seed : ℕ) → Interleaves lines (turns_of_seed lines seed)
-seeds-interleave lines seed =
+pub seeds_interleave_law : (lines : List JobLine) (seed : ℕ) → Interleaves lines (turns_of_seed lines seed)
+seeds_interleave_law lines seed =
     let jobs = map all_turns lines in
     record {
-      each = λ k j less. drawn-each (total_left jobs) seed jobs k refl ∙ ap left_channels (get_or-map all_turns lines k j no_turns less);
-      no_others = λ k past. drawn-each (total_left jobs) seed jobs k refl ∙ ap left_channels (get_or_past jobs k no_turns (omega (arith, past, length-map lines all_turns)));
+      each = λ k j less. drawn_each (total_left jobs) seed jobs k refl ∙ ap left_channels (get_or-map all_turns lines k j no_turns less);
+      no_others = λ k past. drawn_each (total_left jobs) seed jobs k refl ∙ ap left_channels (get_or_past jobs k no_turns (omega (arith, past, length-map lines all_turns)));
     }
 
 -- ---- the channels
@@ -159,17 +159,17 @@ set_low jobs at t low each k = elim (cases_eq k at) [
   | inr apart ↦ subst IsLow (sym (get_or-set_other jobs at k t no_turns apart)) (each k)
 ]
 
-drawn-low : (n state : ℕ) (jobs : List TurnsLeft) → ((k : ℕ) → IsLow (slice_index_or jobs k no_turns)) → AreLow (drawn n state jobs)
-drawn-low zero state jobs each = subst AreLow (sym (drawn-none state jobs)) tt
-drawn-low (suc n) state jobs each =
+drawn_low : (n state : ℕ) (jobs : List TurnsLeft) → ((k : ℕ) → IsLow (slice_index_or jobs k no_turns)) → AreLow (drawn n state jobs)
+drawn_low zero state jobs each = subst AreLow (sym (drawn_none state jobs)) tt
+drawn_low (suc n) state jobs each =
     let w = next_word state in
     let at = job_at jobs (w.0 % suc n) in
     let job = slice_index_or jobs at no_turns in
-    subst AreLow (sym (drawn-suc n state jobs)) ((each at).2, drawn-low n w.1 (slice_set jobs at (after_turn job)) (set_low jobs at (after_turn job) (after_low job (each at)) each))
+    subst AreLow (sym (drawn_suc n state jobs)) ((each at).2, drawn_low n w.1 (slice_set jobs at (after_turn job)) (set_low jobs at (after_turn job) (after_low job (each at)) each))
 
 -- The turns for a seed step channels that a job may name.
-pub seeds-low : (lines : List JobLine) (seed : ℕ) → All IsJob lines → AreLow (turns_of_seed lines seed)
-seeds-low lines seed jobs =
+pub seeds_low : (lines : List JobLine) (seed : ℕ) → All IsJob lines → AreLow (turns_of_seed lines seed)
+seeds_low lines seed jobs =
     let all = map all_turns lines in
     let each : (k : ℕ) → IsLow (slice_index_or all k no_turns) = λ k. elim (cases_lt k (length lines)) [
       | inl less ↦
@@ -178,4 +178,4 @@ seeds-low lines seed jobs =
           subst IsLow (sym (get_or-map all_turns lines k (record { first = 0; last = 0; turns = 0 }) no_turns less)) (omega (arith, is.0, is.1), is.1, omega (arith, is.0, is.1))
       | inr past ↦ subst IsLow (sym (get_or_past all k no_turns (omega (arith, past, length-map lines all_turns)))) (omega arith, omega arith, omega arith)
     ] in
-    drawn-low (total_left all) seed all each
+    drawn_low (total_left all) seed all each

@@ -32,27 +32,27 @@ abbrev rise : ℕ → List Segment → Bool
 rise at [] = true
 rise at (s ∷ ss) = nat_le at s.addr && (nat_le (s.addr + s.len) largest_end && rise (s.addr + s.len) ss)
 
-rise-is : (at : ℕ) (rs : List Region) → rises_from at (pieces_of rs) ≡ rise at (map segment_of rs)
-rise-is at [] = refl
-rise-is at (r ∷ rs) =
+rise_is : (at : ℕ) (rs : List Region) → rises_from at (pieces_of rs) ≡ rise at (map segment_of rs)
+rise_is at [] = refl
+rise_is at (r ∷ rs) =
     let end = (segment_of r).addr + (segment_of r).len in
-    ap (λ (b : Bool). nat_le at r.addr && (nat_le end largest_end && b)) (rise-is end rs)
+    ap (λ (b : Bool). nat_le at r.addr && (nat_le end largest_end && b)) (rise_is end rs)
 
-pub in_order-kept : (rs left : List Region) → map segment_of left ≡ map segment_of rs → in_order (pieces_of rs) ≡ true → in_order (pieces_of left) ≡ true
-in_order-kept rs left same order = rise-is 0 left ∙ ap (rise 0) same ∙ sym (rise-is 0 rs) ∙ order
+pub in_order_kept : (rs left : List Region) → map segment_of left ≡ map segment_of rs → in_order (pieces_of rs) ≡ true → in_order (pieces_of left) ≡ true
+in_order_kept rs left same order = rise_is 0 left ∙ ap (rise 0) same ∙ sym (rise_is 0 rs) ∙ order
 
 abbrev between : ℕ → List Segment → List Segment
 between at [] = []
 between at (s ∷ ss) = record { addr = at; len = s.addr - at } ∷ between (s.addr + s.len) ss
 
-between-is : (at : ℕ) (rs : List Region) → gaps_above at (pieces_of rs) ≡ between at (map segment_of rs)
-between-is at [] = refl
-between-is at (r ∷ rs) =
-    ap (λ (ss : List Segment). record { addr = at; len = r.addr - at } ∷ ss) (between-is ((segment_of r).addr + (segment_of r).len) rs)
+between_is : (at : ℕ) (rs : List Region) → gaps_above at (pieces_of rs) ≡ between at (map segment_of rs)
+between_is at [] = refl
+between_is at (r ∷ rs) =
+    ap (λ (ss : List Segment). record { addr = at; len = r.addr - at } ∷ ss) (between_is ((segment_of r).addr + (segment_of r).len) rs)
 
-pub marks-kept : (rs left : List Region) (marks given : MarkList) → map segment_of left ≡ map segment_of rs → read_only_of left ≡ read_only_of rs → given ≡ marks → with_gaps_of left given ≡ with_gaps_of rs marks
-marks-kept rs left marks given same access is =
-    ap (λ (ss : List Segment). marks_at ss ++ (stores_at (read_only_of left) ++ given)) (between-is 0 left ∙ ap (between 0) same ∙ sym (between-is 0 rs))
+pub marks_kept : (rs left : List Region) (marks given : MarkList) → map segment_of left ≡ map segment_of rs → read_only_of left ≡ read_only_of rs → given ≡ marks → with_gaps_of left given ≡ with_gaps_of rs marks
+marks_kept rs left marks given same access is =
+    ap (λ (ss : List Segment). marks_at ss ++ (stores_at (read_only_of left) ++ given)) (between_is 0 left ∙ ap (between 0) same ∙ sym (between_is 0 rs))
     ∙ ap (λ (ss : List Segment). marks_at (gaps_above 0 (pieces_of rs)) ++ (stores_at ss ++ given)) access
     ∙ ap (λ (ms : MarkList). marks_at (gaps_above 0 (pieces_of rs)) ++ (stores_at (read_only_of rs) ++ ms)) is
 

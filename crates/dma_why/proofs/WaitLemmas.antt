@@ -8,11 +8,11 @@ use Rattle.std.proofs.lemmas.List.FromFn.{map-range_with_len_more}
 use Rattle.std.proofs.lemmas.List.Concat.{flat_map-append}
 use Rattle.std.proofs.lemmas.List.Elements.{filter-append}
 use Rattle.dma_script.specs.Command.{text_of}
-use Rattle.dma_engine.proofs.WhatRuns.{range_with_len-add}
+use Rattle.dma_engine.proofs.WhatRuns.{range_with_len_add}
 
 -- one number more
 pub range_more : (a n : ℕ) → range_with_len a (n + 1) ≡ range_with_len a n ++ (a + n) ∷ []
-range_more a n = range_with_len-add a n 1
+range_more a n = range_with_len_add a n 1
 
 -- the numbers of a range that pass a test, each as a value, and those of one more number
 pub kept_more : {X : Type 0} (mk : ℕ → X) (p : ℕ → Bool) (before : List X) (a n k : ℕ) → a + n ≡ k → (before ++ map mk (filter p (range_with_len a n))) ++ map mk (filter p (k ∷ [])) ≡ before ++ map mk (filter p (range_with_len a (n + 1)))

@@ -14,9 +14,9 @@ board_push b [] t = refl
 board_push b (x ∷ ts) t = board_push (ticked b x) ts t
 
 -- more ticks
-pub board-append : (b : Board) (xs ys : List Tick) → board_after b (xs ++ ys) ≡ board_after (board_after b xs) ys
-board-append b [] ys = refl
-board-append b (x ∷ xs) ys = board-append (ticked b x) xs ys
+pub board_append : (b : Board) (xs ys : List Tick) → board_after b (xs ++ ys) ≡ board_after (board_after b xs) ys
+board_append b [] ys = refl
+board_append b (x ∷ xs) ys = board_append (ticked b x) xs ys
 
 -- a tick of a channel that the board has not
 pub ticked_past : (b : Board) (t : Tick) → length b ≤ channel_of t → ticked b t ≡ b

@@ -21,57 +21,57 @@ use Rattle.dma_engine.specs.Object.{Object, channel, empty_channel, forget, used
 use Rattle.dma_engine.specs.Ticks.{Tick, Submitted, Finished, Board, Counts, added_up, board_after, board_of, counts, counts_of, no_counts, tick_channel, ticked, ticks_of}
 use Rattle.dma_engine.specs.Turn.{ends, turn}
 use Rattle.dma_engine.specs.View.{EngineState, IsSound, View, channels, object_of, size}
-use Rattle.dma_engine.proofs.CallLists.{answers-extend, quiet-extends}
+use Rattle.dma_engine.proofs.CallLists.{answers_extend, quiet_extends}
 use Rattle.dma_engine.proofs.AnswerCounts.{quiet_calls_keep_counts, steps_add, ends_as_reported}
 use Rattle.dma_engine.proofs.Checkpoint.{accepted, checkpoints_keep}
-use Rattle.dma_engine.proofs.Sizes.{many-channels, size-object}
+use Rattle.dma_engine.proofs.Sizes.{many_channels, size_object}
 use Rattle.dma_engine.proofs.CookieCounts.{boards_count, base_counts_bounded, submits_add, terminates_add, ticks_name_channels}
 use Rattle.dma_work.specs.declared.worker.Totals.{Totals}
 use Rattle.dma_work.specs.Desk.{Names, stepped_book}
 use Rattle.dma_work.specs.inner.DeskKept.{IsKept}
 use Rattle.dma_work.specs.inner.Published.{EditionState, HasActed, PublisherState, edition_and, edition_with}
 use Rattle.dma_work.specs.Ticks.{AreFinished, IsGiven, base_of, board_from, eight}
-use Rattle.dma_work.proofs.Boards.{board-append}
+use Rattle.dma_work.proofs.Boards.{board_append}
 
 -- ---- boards that agree at a channel
 
-set-alike : (f : Counts → Counts) (a b : Board) (c ch : ℕ) → ch < length a → ch < length b → counts a ch ≡ counts b ch → counts (slice_set a c (f (counts a c))) ch ≡ counts (slice_set b c (f (counts b c))) ch
-set-alike f a b c ch la lb e = elim (cases_eq c ch) [
+set_alike : (f : Counts → Counts) (a b : Board) (c ch : ℕ) → ch < length a → ch < length b → counts a ch ≡ counts b ch → counts (slice_set a c (f (counts a c))) ch ≡ counts (slice_set b c (f (counts b c))) ch
+set_alike f a b c ch la lb e = elim (cases_eq c ch) [
   | inl is ↦ rw is (get_or-set_same a ch (f (counts a ch)) no_counts la ∙ ap f e ∙ sym (get_or-set_same b ch (f (counts b ch)) no_counts lb))
   | inr apart ↦ get_or-set_other a c ch (f (counts a c)) no_counts (λ k. apart (sym k)) ∙ e ∙ sym (get_or-set_other b c ch (f (counts b c)) no_counts (λ k. apart (sym k)))
 ]
 
-tick-alike : (a b : Board) (t : Tick) (ch : ℕ) → ch < length a → ch < length b → counts a ch ≡ counts b ch → counts (ticked a t) ch ≡ counts (ticked b t) ch
-tick-alike a b (Submitted c) ch la lb e = set-alike (λ x. record x { used = added_up x.used 1 }) a b c ch la lb e
-tick-alike a b (Finished c n) ch la lb e = set-alike (λ x. record x { finished = added_up x.finished n }) a b c ch la lb e
+tick_alike : (a b : Board) (t : Tick) (ch : ℕ) → ch < length a → ch < length b → counts a ch ≡ counts b ch → counts (ticked a t) ch ≡ counts (ticked b t) ch
+tick_alike a b (Submitted c) ch la lb e = set_alike (λ x. record x { used = added_up x.used 1 }) a b c ch la lb e
+tick_alike a b (Finished c n) ch la lb e = set_alike (λ x. record x { finished = added_up x.finished n }) a b c ch la lb e
 
-ticked-length : (a : Board) (t : Tick) → length (ticked a t) ≡ length a
-ticked-length a (Submitted c) = length-set a c _
-ticked-length a (Finished c n) = length-set a c _
+ticked_length : (a : Board) (t : Tick) → length (ticked a t) ≡ length a
+ticked_length a (Submitted c) = length-set a c _
+ticked_length a (Finished c n) = length-set a c _
 
-boards-alike : (a b : Board) (ts : List Tick) (ch : ℕ) → ch < length a → ch < length b → counts a ch ≡ counts b ch → counts (board_after a ts) ch ≡ counts (board_after b ts) ch
-boards-alike a b [] ch la lb e = e
-boards-alike a b (t ∷ ts) ch la lb e =
-    boards-alike (ticked a t) (ticked b t) ts ch (omega (arith, la, ticked-length a t)) (omega (arith, lb, ticked-length b t)) (tick-alike a b t ch la lb e)
+boards_alike : (a b : Board) (ts : List Tick) (ch : ℕ) → ch < length a → ch < length b → counts a ch ≡ counts b ch → counts (board_after a ts) ch ≡ counts (board_after b ts) ch
+boards_alike a b [] ch la lb e = e
+boards_alike a b (t ∷ ts) ch la lb e =
+    boards_alike (ticked a t) (ticked b t) ts ch (omega (arith, la, ticked_length a t)) (omega (arith, lb, ticked_length b t)) (tick_alike a b t ch la lb e)
 
-pub counts-eight : (b : Board) (ch : ℕ) → ch < 8 → counts (eight b) ch ≡ counts b ch
-counts-eight b zero less = refl
-counts-eight b (suc zero) less = refl
-counts-eight b (suc (suc zero)) less = refl
-counts-eight b (suc (suc (suc zero))) less = refl
-counts-eight b (suc (suc (suc (suc zero)))) less = refl
-counts-eight b (suc (suc (suc (suc (suc zero))))) less = refl
-counts-eight b (suc (suc (suc (suc (suc (suc zero)))))) less = refl
-counts-eight b (suc (suc (suc (suc (suc (suc (suc zero))))))) less = refl
-counts-eight b (suc (suc (suc (suc (suc (suc (suc (suc n)))))))) less = absurd (omega arith)
+pub counts_eight : (b : Board) (ch : ℕ) → ch < 8 → counts (eight b) ch ≡ counts b ch
+counts_eight b zero less = refl
+counts_eight b (suc zero) less = refl
+counts_eight b (suc (suc zero)) less = refl
+counts_eight b (suc (suc (suc zero))) less = refl
+counts_eight b (suc (suc (suc (suc zero)))) less = refl
+counts_eight b (suc (suc (suc (suc (suc zero))))) less = refl
+counts_eight b (suc (suc (suc (suc (suc (suc zero)))))) less = refl
+counts_eight b (suc (suc (suc (suc (suc (suc (suc zero))))))) less = refl
+counts_eight b (suc (suc (suc (suc (suc (suc (suc (suc n)))))))) less = absurd (omega arith)
 
-after-length : (b : Board) (ts : List Tick) → length (board_after b ts) ≡ length b
-after-length b [] = refl
-after-length b (t ∷ ts) = after-length (ticked b t) ts ∙ ticked-length b t
+after_length : (b : Board) (ts : List Tick) → length (board_after b ts) ≡ length b
+after_length b [] = refl
+after_length b (t ∷ ts) = after_length (ticked b t) ts ∙ ticked_length b t
 
 -- a board of eight channels is known by its counts
-eight-is : (e b : Board) → length e ≡ 8 → ((i : ℕ) → i < 8 → counts e i ≡ counts b i) → e ≡ eight b
-eight-is (a ∷ c ∷ d ∷ e ∷ f ∷ g ∷ h ∷ i ∷ []) b n same =
+eight_is : (e b : Board) → length e ≡ 8 → ((i : ℕ) → i < 8 → counts e i ≡ counts b i) → e ≡ eight b
+eight_is (a ∷ c ∷ d ∷ e ∷ f ∷ g ∷ h ∷ i ∷ []) b n same =
     let s0 : a ≡ counts b 0 = same 0 (omega arith) in
     let s1 : c ≡ counts b 1 = same 1 (omega arith) in
     let s2 : d ≡ counts b 2 = same 2 (omega arith) in
@@ -81,15 +81,15 @@ eight-is (a ∷ c ∷ d ∷ e ∷ f ∷ g ∷ h ∷ i ∷ []) b n same =
     let s6 : h ≡ counts b 6 = same 6 (omega arith) in
     let s7 : i ≡ counts b 7 = same 7 (omega arith) in
     rw (s0, s1, s2, s3, s4, s5, s6, s7) refl
-eight-is [] b n same = absurd (omega (arith, n))
-eight-is (a ∷ []) b n same = absurd (omega (arith, n))
-eight-is (a ∷ c ∷ []) b n same = absurd (omega (arith, n))
-eight-is (a ∷ c ∷ d ∷ []) b n same = absurd (omega (arith, n))
-eight-is (a ∷ c ∷ d ∷ e ∷ []) b n same = absurd (omega (arith, n))
-eight-is (a ∷ c ∷ d ∷ e ∷ f ∷ []) b n same = absurd (omega (arith, n))
-eight-is (a ∷ c ∷ d ∷ e ∷ f ∷ g ∷ []) b n same = absurd (omega (arith, n))
-eight-is (a ∷ c ∷ d ∷ e ∷ f ∷ g ∷ h ∷ []) b n same = absurd (omega (arith, n))
-eight-is (a ∷ c ∷ d ∷ e ∷ f ∷ g ∷ h ∷ i ∷ j ∷ rest) b n same = absurd (omega (arith, n))
+eight_is [] b n same = absurd (omega (arith, n))
+eight_is (a ∷ []) b n same = absurd (omega (arith, n))
+eight_is (a ∷ c ∷ []) b n same = absurd (omega (arith, n))
+eight_is (a ∷ c ∷ d ∷ []) b n same = absurd (omega (arith, n))
+eight_is (a ∷ c ∷ d ∷ e ∷ []) b n same = absurd (omega (arith, n))
+eight_is (a ∷ c ∷ d ∷ e ∷ f ∷ []) b n same = absurd (omega (arith, n))
+eight_is (a ∷ c ∷ d ∷ e ∷ f ∷ g ∷ []) b n same = absurd (omega (arith, n))
+eight_is (a ∷ c ∷ d ∷ e ∷ f ∷ g ∷ h ∷ []) b n same = absurd (omega (arith, n))
+eight_is (a ∷ c ∷ d ∷ e ∷ f ∷ g ∷ h ∷ i ∷ j ∷ rest) b n same = absurd (omega (arith, n))
 
 -- a channel of which there is no tick keeps its counts
 untouched : (a : Board) (ts : List Tick) (n ch : ℕ) → n ≤ ch → All (λ t. tick_channel t < n) ts → counts (board_after a ts) ch ≡ counts a ch
@@ -101,12 +101,12 @@ untouched a (t ∷ ts) n ch past below =
       one a (Finished c m) n ch past less = get_or-set_other a c ch _ no_counts (λ k. omega (arith, past, less, k))
 
 -- ticks of channels that are there leave the same on a board of eight
-after-eight : (b : Board) (ts : List Tick) → length b ≤ 8 → All (λ t. tick_channel t < length b) ts → board_after (eight b) ts ≡ eight (board_after b ts)
-after-eight b ts few below = eight-is (board_after (eight b) ts) (board_after b ts) (after-length (eight b) ts) (λ i less. elim (cases_lt i (length b)) [
-  | inl inside ↦ boards-alike (eight b) b ts i less inside (counts-eight b i less)
+after_eight : (b : Board) (ts : List Tick) → length b ≤ 8 → All (λ t. tick_channel t < length b) ts → board_after (eight b) ts ≡ eight (board_after b ts)
+after_eight b ts few below = eight_is (board_after (eight b) ts) (board_after b ts) (after_length (eight b) ts) (λ i less. elim (cases_lt i (length b)) [
+  | inl inside ↦ boards_alike (eight b) b ts i less inside (counts_eight b i less)
   | inr past ↦
-      untouched (eight b) ts (length b) i past below ∙ counts-eight b i less ∙ get_or_past b i no_counts past
-      ∙ sym (get_or_past (board_after b ts) i no_counts (omega (arith, past, after-length b ts)))
+      untouched (eight b) ts (length b) i past below ∙ counts_eight b i less ∙ get_or_past b i no_counts past
+      ∙ sym (get_or_past (board_after b ts) i no_counts (omega (arith, past, after_length b ts)))
 ])
 
 -- ---- steps
@@ -137,11 +137,11 @@ no_more p = ap (λ l. record p { shown = record (p.shown) { ticks = l } }) (sym 
 -- the sizes of views with one base
 same_size : (v w : View) → w.base ≡ v.base → size w ≡ size v
 same_size v w same =
-    size-object w.base w.history ∙ ap (λ (o : Object). length o.image) same ∙ sym (size-object v.base v.history)
+    size_object w.base w.history ∙ ap (λ (o : Object). length o.image) same ∙ sym (size_object v.base v.history)
 
 same_many : (v w : View) → w.base ≡ v.base → channels w ≡ channels v
 same_many v w same =
-    many-channels w.base w.history ∙ ap (λ (o : Object). length o.channels) same ∙ sym (many-channels v.base v.history)
+    many_channels w.base w.history ∙ ap (λ (o : Object). length o.channels) same ∙ sym (many_channels v.base v.history)
 
 module _ (opening : View) (base : Board) (log : Book) where
   board : List Tick → EditionState
@@ -173,12 +173,12 @@ module _ (opening : View) (base : Board) (log : Book) where
         steps = omega (arith, t.steps);
         finished = omega (arith, t.finished);
       } in
-      kept_by old new p p b b [] 0 0 a (answers-extend old.view new.view call reply (quiet-extends call reply q) h).0 (no_more p) (omega arith) (omega arith) k
+      kept_by old new p p b b [] 0 0 a (answers_extend old.view new.view call reply (quiet_extends call reply q) h).0 (no_more p) (omega arith) (omega arith) k
 
   -- a step
   pub kept_step : (old new : EngineState) (p q : PublisherState) (b : Totals) (ch : ℕ) (r : Result Turn EngineFault) → StepAnswers old.view ch r new.view → q ≡ record p { shown = edition_and p.shown (ticks_in ch r) } → IsKept opening base log old p b → IsKept opening base log new q (stepped_book b r)
   kept_step old new p q b ch r h is k =
-      kept_by old new p q b (stepped_book b r) (ticks_in ch r) (steps_in r) (finishes_in r) (steps_add old.view new.view ch r h) (answers-extend old.view new.view (Step ch) (reply_of Turned r) refl h).0 is refl (omega arith) k
+      kept_by old new p q b (stepped_book b r) (ticks_in ch r) (steps_in r) (finishes_in r) (steps_add old.view new.view ch r h) (answers_extend old.view new.view (Step ch) (reply_of Turned r) refl h).0 is refl (omega arith) k
 
   -- a step that finishes no cookie, which publishes nothing
   pub kept_on : (old new : EngineState) (p : PublisherState) (b : Totals) (ch : ℕ) (r : Result Turn EngineFault) → ends (turn old.view ch).0 ≡ false → StepAnswers old.view ch r new.view → IsKept opening base log old p b → IsKept opening base log new p (stepped_book b r)
@@ -206,8 +206,8 @@ module _ (opening : View) (base : Board) (log : Book) where
       rw is (record {
         shown = k.shown ∙ ap board (sym before ∙ sym (ap (λ (es : List Entry). p.shown.ticks ++ ticks_of es) c.0 ∙ append-nil p.shown.ticks));
         pending = k.pending;
-        opens = ap (board_from base) before ∙ board-append base p.before ticks ∙ ap (λ x. board_after x ticks) k.opens
-            ∙ after-eight (board_of old.view.base) ticks few there
+        opens = ap (board_from base) before ∙ board_append base p.before ticks ∙ ap (λ x. board_after x ticks) k.opens
+            ∙ after_eight (board_of old.view.base) ticks few there
             ∙ ap eight (boards_count old.view sound ∙ sym c.1);
         small = k.small;
         counts = record { steps = k.counts.steps ∙ sym c.2; finished = k.counts.finished ∙ sym c.3 };
@@ -232,8 +232,8 @@ pub board_counts : (base : Board) (before : List Tick) (v : View) → board_from
 board_counts base before v opens h ch less =
     let o = base_counts_bounded v h in
     let inside : ch < length (board_of v.base) = omega (arith, less, o.0) in
-    ap (λ b. counts b ch) (board-append base before (ticks_of v.history) ∙ ap (λ b. board_after b (ticks_of v.history)) opens)
-    ∙ boards-alike (eight (board_of v.base)) (board_of v.base) (ticks_of v.history) ch (omega (arith, less, o.1)) inside (counts-eight (board_of v.base) ch (omega (arith, less, o.1)))
+    ap (λ b. counts b ch) (board_append base before (ticks_of v.history) ∙ ap (λ b. board_after b (ticks_of v.history)) opens)
+    ∙ boards_alike (eight (board_of v.base)) (board_of v.base) (ticks_of v.history) ch (omega (arith, less, o.1)) inside (counts_eight (board_of v.base) ch (omega (arith, less, o.1)))
     ∙ ap (λ b. counts b ch) (boards_count v h)
     ∙ get_or-map counts_of (object_of v).channels ch empty_channel
 

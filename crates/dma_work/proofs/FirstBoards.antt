@@ -6,11 +6,11 @@ use Rattle.std.proofs.lemmas.List.{get_or_past}
 use Rattle.dma_engine.specs.declared.entry.Entry.{Entry}
 use Rattle.dma_engine.specs.Ticks.{Counts, board_of, counts, no_counts, ticks_of}
 use Rattle.dma_engine.specs.View.{View, IsSound}
-use Rattle.dma_engine.proofs.AnswerCounts.{ticks-append}
+use Rattle.dma_engine.proofs.AnswerCounts.{ticks_append}
 use Rattle.dma_engine.proofs.CookieCounts.{base_counts_bounded}
 use Rattle.dma_work.specs.Laws.{AreCounts}
 use Rattle.dma_work.specs.Ticks.{base_of}
-use Rattle.dma_work.proofs.Desks.{counts-eight}
+use Rattle.dma_work.proofs.Desks.{counts_eight}
 
 -- the ticks of one entry more
 pub ticks_more : (es : List Entry) (i : ℕ) (d : Entry) → i < length es → ticks_of (take (i + 1) es) ≡ ticks_of (take i es) ++ ticks_of (slice_index_or es i d ∷ [])
@@ -18,13 +18,13 @@ ticks_more [] i d h = absurd (omega arith)
 ticks_more (e ∷ es) zero d h = refl
 ticks_more (e ∷ es) (suc i) d h =
     let rest = ticks_more es i d (omega arith) in
-    rw add-one (ticks-append (e ∷ []) (take (suc i) es) ∙ ap (λ l. ticks_of (e ∷ []) ++ l) (rw add-one at rest) ∙ sym (append_assoc (ticks_of (e ∷ [])) (ticks_of (take i es)) (ticks_of (slice_index_or es i d ∷ []))) ∙ ap (λ l. l ++ ticks_of (slice_index_or es i d ∷ [])) (sym (ticks-append (e ∷ []) (take i es))))
+    rw add-one (ticks_append (e ∷ []) (take (suc i) es) ∙ ap (λ l. ticks_of (e ∷ []) ++ l) (rw add-one at rest) ∙ sym (append_assoc (ticks_of (e ∷ [])) (ticks_of (take i es)) (ticks_of (slice_index_or es i d ∷ []))) ∙ ap (λ l. l ++ ticks_of (slice_index_or es i d ∷ [])) (sym (ticks_append (e ∷ []) (take i es))))
 
 -- an engine's history begins with counts of 32 bits
 pub small_base : (v : View) → IsSound v → AreCounts (base_of v)
 small_base v h ch = elim (cases_lt ch 8) [
   | inl less ↦
-      let at = counts-eight (board_of v.base) ch less in
+      let at = counts_eight (board_of v.base) ch less in
       let few = (base_counts_bounded v h).2 ch in
       (omega (arith, ap (λ (c : Counts). c.used) at, few.0), omega (arith, ap (λ (c : Counts). c.finished) at, few.1))
   | inr past ↦

@@ -23,34 +23,34 @@ use Rattle.dma_work.proofs.ItemsOfLists.{some_item}
 
 -- ---- one turn more
 
-leads-more : (turns : List TakenTurn) (t : TakenTurn) (u v w : View) → LeadsTo u turns v → StepAnswers v t.channel t.answer w → LeadsTo u (turns ++ t ∷ []) w
-leads-more [] t u v w same step = (w, subst (λ x. StepAnswers x t.channel t.answer w) same step, refl)
-leads-more (s ∷ turns) t u v w (next, first, rest) step = (next, first, leads-more turns t next v w rest step)
+leads_more : (turns : List TakenTurn) (t : TakenTurn) (u v w : View) → LeadsTo u turns v → StepAnswers v t.channel t.answer w → LeadsTo u (turns ++ t ∷ []) w
+leads_more [] t u v w same step = (w, subst (λ x. StepAnswers x t.channel t.answer w) same step, refl)
+leads_more (s ∷ turns) t u v w (next, first, rest) step = (next, first, leads_more turns t next v w rest step)
 
 in_front : (b : Bool) (x : ℕ) (xs ys zs : List ℕ) → zs ≡ xs ++ ys → (if b then x ∷ zs else zs) ≡ (if b then x ∷ xs else xs) ++ ys
 in_front true x xs ys zs is = ap (λ l. x ∷ l) is
 in_front false x xs ys zs is = is
 
-channels-more : (k : ℕ) (turns more : List TakenTurn) → channels_of k (turns ++ more) ≡ channels_of k turns ++ channels_of k more
-channels-more k [] more = refl
-channels-more k (s ∷ turns) more = in_front (s.worker == k) s.channel _ _ _ (channels-more k turns more)
+channels_more_law : (k : ℕ) (turns more : List TakenTurn) → channels_of k (turns ++ more) ≡ channels_of k turns ++ channels_of k more
+channels_more_law k [] more = refl
+channels_more_law k (s ∷ turns) more = in_front (s.worker == k) s.channel _ _ _ (channels_more_law k turns more)
 
 module _ (turns : List TakenTurn) (t : TakenTurn) where
   -- the worker's channels are one more
   of_worker : (k : ℕ) → k ≡ t.worker → channels_of k (turns ++ t ∷ []) ≡ channels_of k turns ++ t.channel ∷ []
   of_worker k same =
-      channels-more k turns (t ∷ []) ∙ ap (λ b. channels_of k turns ++ (if b then t.channel ∷ [] else [])) (eq-eqb t.worker k (sym same))
+      channels_more_law k turns (t ∷ []) ∙ ap (λ b. channels_of k turns ++ (if b then t.channel ∷ [] else [])) (eq-eqb t.worker k (sym same))
 
   -- those of another are the same
   of_other : (k : ℕ) → k ≢ t.worker → channels_of k (turns ++ t ∷ []) ≡ channels_of k turns
   of_other k apart =
-      channels-more k turns (t ∷ []) ∙ ap (λ b. channels_of k turns ++ (if b then t.channel ∷ [] else [])) (ne_eqb t.worker k (λ e. apart (sym e)))
+      channels_more_law k turns (t ∷ []) ∙ ap (λ b. channels_of k turns ++ (if b then t.channel ∷ [] else [])) (ne_eqb t.worker k (λ e. apart (sym e)))
       ∙ append-nil (channels_of k turns)
 
-jobs-set : (seats : List Seat) (k : ℕ) (seat : Seat) → seat.job ≡ (slice_index_or seats k seat).job → jobs_of (slice_set seats k seat) ≡ jobs_of seats
-jobs-set [] k seat same = refl
-jobs-set (s ∷ seats) zero seat same = ap (λ j. j ∷ jobs_of seats) same
-jobs-set (s ∷ seats) (suc k) seat same = ap (λ l. s.job ∷ l) (jobs-set seats k seat same)
+jobs_set : (seats : List Seat) (k : ℕ) (seat : Seat) → seat.job ≡ (slice_index_or seats k seat).job → jobs_of (slice_set seats k seat) ≡ jobs_of seats
+jobs_set [] k seat same = refl
+jobs_set (s ∷ seats) zero seat same = ap (λ j. j ∷ jobs_of seats) same
+jobs_set (s ∷ seats) (suc k) seat same = ap (λ l. s.job ∷ l) (jobs_set seats k seat same)
 
 -- a seat's next turn
 next_turn : (job : Job) (n m ch : ℕ) (channels : List ℕ) → channels ≡ rotation job.first job.last n → ch ≡ channel_at job.first job.last n → m ≡ n + 1 → channels ++ ch ∷ [] ≡ rotation job.first job.last m
@@ -64,10 +64,10 @@ in_turn_more opening jobs v w book worker ch r old new step next h =
     let many : length after ≡ length old = length-set old worker next.seat in
     subst (IsInTurn opening jobs w (stepped_book book r)) (sym next.now) (record {
       turns = h.turns ++ t ∷ [];
-      leads = leads-more h.turns t opening v w h.leads step;
+      leads = leads_more h.turns t opening v w h.leads step;
       steps = omega (arith, h.steps, sum_by-append (λ (x : TakenTurn). steps_in x.answer) h.turns (t ∷ []));
       finished = omega (arith, h.finished, sum_by-append (λ (x : TakenTurn). finishes_in x.answer) h.turns (t ∷ []));
-      jobs_are = jobs-set old worker next.seat (next.job next.seat) ∙ h.jobs_are;
+      jobs_are = jobs_set old worker next.seat (next.job next.seat) ∙ h.jobs_are;
       each = λ k s less. elim (cases_eq k worker) [
         | inl same ↦
             let was = slice_index_or old worker s in

@@ -46,15 +46,15 @@ goes_round first last k le = (
   λ is. sym (channel_again first last k (channel_at first last k) le refl (omega (arith, is))),
 )
 
-pub rotation-length : (first last turns : ℕ) → length (rotation first last turns) ≡ turns
-rotation-length first last zero = refl
-rotation-length first last (suc n) =
-    omega (arith, length-append (rotation first last n) (channel_at first last n ∷ []), rotation-length first last n)
+pub rotation_length : (first last turns : ℕ) → length (rotation first last turns) ≡ turns
+rotation_length first last zero = refl
+rotation_length first last (suc n) =
+    omega (arith, length-append (rotation first last n) (channel_at first last n ∷ []), rotation_length first last n)
 
 item_at : (first last turns k : ℕ) → k < turns → slice_index (rotation first last turns) k ≡ channel_at first last k
 item_at first last zero k less = absurd (omega arith)
 item_at first last (suc n) k less =
-    let all = rotation-length first last n in
+    let all = rotation_length first last n in
     let last_one = channel_at first last n in
     elim (cases_lt k n) [
       | inl l ↦ get_or_append_left (rotation first last n) (last_one ∷ []) 0 k (omega (arith, all, l)) ∙ item_at first last n k l
@@ -64,4 +64,4 @@ item_at first last (suc n) k less =
     ]
 
 pub lists_channels : ListsChannels
-lists_channels first last turns = (rotation-length first last turns, λ k less. item_at first last turns k less)
+lists_channels first last turns = (rotation_length first last turns, λ k less. item_at first last turns k less)

@@ -9,7 +9,7 @@ use Rattle.dma_engine.specs.declared.turn.Status.{Status}
 use Rattle.dma_engine.specs.declared.turn.Status.TheVariants.{Unknown, InProgress, Complete}
 use Rattle.dma_work.specs.Laws.{AreCounts, StaysKnown, StaysComplete, ClosedIsComplete}
 use Rattle.dma_work.specs.Ticks.{StartsWith, board_from}
-use Rattle.dma_work.proofs.Boards.{board-append}
+use Rattle.dma_work.proofs.Boards.{board_append}
 
 -- the counts of a channel only grow
 record Grows (old new : Counts) : Type 0 where
@@ -20,8 +20,8 @@ grows_self : (c : Counts) → Grows c c
 grows_self c = record { used = omega arith; finished = omega arith }
 
 -- a channel's counts are replaced
-set-counts : (b : Board) (at : ℕ) (c : Counts) → c.used ≤ 4294967295 → c.finished ≤ 4294967295 → AreCounts b → AreCounts (slice_set b at c)
-set-counts b at c u f h = λ ch. elim (cases_eq ch at) [
+set_counts : (b : Board) (at : ℕ) (c : Counts) → c.used ≤ 4294967295 → c.finished ≤ 4294967295 → AreCounts b → AreCounts (slice_set b at c)
+set_counts b at c u f h = λ ch. elim (cases_eq ch at) [
   | inl e ↦ elim (cases_lt at (length b)) [
     | inl less ↦ rw (e, get_or-set_same b at c no_counts less) (u, f)
     | inr past ↦ rw (set_past b at c past) (h ch)
@@ -29,8 +29,8 @@ set-counts b at c u f h = λ ch. elim (cases_eq ch at) [
   | inr apart ↦ rw (get_or-set_other b at ch c no_counts apart) (h ch)
 ]
 
-set-grows : (b : Board) (at : ℕ) (c : Counts) → Grows (counts b at) c → (ch : ℕ) → Grows (counts b ch) (counts (slice_set b at c) ch)
-set-grows b at c g = λ ch. elim (cases_eq ch at) [
+set_grows : (b : Board) (at : ℕ) (c : Counts) → Grows (counts b at) c → (ch : ℕ) → Grows (counts b ch) (counts (slice_set b at c) ch)
+set_grows b at c g = λ ch. elim (cases_eq ch at) [
   | inl e ↦ elim (cases_lt at (length b)) [
     | inl less ↦ rw (e, get_or-set_same b at c no_counts less) g
     | inr past ↦ rw (set_past b at c past) (grows_self (counts b ch))
@@ -38,30 +38,30 @@ set-grows b at c g = λ ch. elim (cases_eq ch at) [
   | inr apart ↦ rw (get_or-set_other b at ch c no_counts apart) (grows_self (counts b ch))
 ]
 
-ticked-counts : (b : Board) (t : Tick) → AreCounts b → AreCounts (ticked b t)
-ticked-counts b (Submitted at) h = set-counts b at _ (omega arith) (h at).1 h
-ticked-counts b (Finished at count) h = set-counts b at _ (h at).0 (omega arith) h
+ticked_counts : (b : Board) (t : Tick) → AreCounts b → AreCounts (ticked b t)
+ticked_counts b (Submitted at) h = set_counts b at _ (omega arith) (h at).1 h
+ticked_counts b (Finished at count) h = set_counts b at _ (h at).0 (omega arith) h
 
-ticked-grows : (b : Board) (t : Tick) → AreCounts b → (ch : ℕ) → Grows (counts b ch) (counts (ticked b t) ch)
-ticked-grows b (Submitted at) h = set-grows b at _ (record { used = omega (arith, (h at).0); finished = omega arith })
-ticked-grows b (Finished at count) h = set-grows b at _ (record { used = omega arith; finished = omega (arith, (h at).1) })
+ticked_grows : (b : Board) (t : Tick) → AreCounts b → (ch : ℕ) → Grows (counts b ch) (counts (ticked b t) ch)
+ticked_grows b (Submitted at) h = set_grows b at _ (record { used = omega (arith, (h at).0); finished = omega arith })
+ticked_grows b (Finished at count) h = set_grows b at _ (record { used = omega arith; finished = omega (arith, (h at).1) })
 
-after-grows : (b : Board) (ts : List Tick) → AreCounts b → (ch : ℕ) → Grows (counts b ch) (counts (board_after b ts) ch)
-after-grows b [] h ch = grows_self (counts b ch)
-after-grows b (t ∷ ts) h ch =
-    let one = ticked-grows b t h ch in
-    let more = after-grows (ticked b t) ts (ticked-counts b t h) ch in
+after_grows : (b : Board) (ts : List Tick) → AreCounts b → (ch : ℕ) → Grows (counts b ch) (counts (board_after b ts) ch)
+after_grows b [] h ch = grows_self (counts b ch)
+after_grows b (t ∷ ts) h ch =
+    let one = ticked_grows b t h ch in
+    let more = after_grows (ticked b t) ts (ticked_counts b t h) ch in
     record { used = omega (arith, one.used, more.used); finished = omega (arith, one.finished, more.finished) }
 
-after-counts : (b : Board) (ts : List Tick) → AreCounts b → AreCounts (board_after b ts)
-after-counts b [] h = h
-after-counts b (t ∷ ts) h = after-counts (ticked b t) ts (ticked-counts b t h)
+after_counts : (b : Board) (ts : List Tick) → AreCounts b → AreCounts (board_after b ts)
+after_counts b [] h = h
+after_counts b (t ∷ ts) h = after_counts (ticked b t) ts (ticked_counts b t h)
 
 -- in a longer list they are no less
 longer : (base : Board) (front all : List Tick) (ch : ℕ) → AreCounts base → StartsWith all front → Grows (counts (board_from base front) ch) (counts (board_from base all) ch)
 longer base front all ch h p =
-    let is : board_from base all ≡ board_after (board_from base front) p.0 = ap (board_from base) (sym p.1) ∙ board-append base front p.0 in
-    subst (λ b. Grows (counts (board_from base front) ch) (counts b ch)) (sym is) (after-grows (board_from base front) p.0 (after-counts base front h) ch)
+    let is : board_from base all ≡ board_after (board_from base front) p.0 = ap (board_from base) (sym p.1) ∙ board_append base front p.0 in
+    subst (λ b. Grows (counts (board_from base front) ch) (counts b ch)) (sym is) (after_grows (board_from base front) p.0 (after_counts base front h) ch)
 
 -- ---- a status by its counts
 

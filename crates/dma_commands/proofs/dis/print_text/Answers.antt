@@ -3,7 +3,7 @@ use Rattle.std.specs.Vec.{vec_len}
 use Rattle.std.proofs.lemmas.Bool.{eqb-true}
 use Rattle.std.proofs.lemmas.List.{nil_from_length}
 use Rattle.dma_script.specs.Command.{Answers, Printed}
-use Rattle.dma_commands.proofs.DisLemmas.{printed-stops, text_answered}
+use Rattle.dma_commands.proofs.DisLemmas.{printed_stops, text_answered}
 use Rattle.dma_commands.proofs.dis.print_text.Goals as goal
 
 pub returns-then-is_empty : goal.returns-then-is_empty
@@ -20,5 +20,5 @@ returns-in_ok-print-in-Ok c =
 pub returns-in-Err-Decode : goal.returns-in-Err-Decode
 returns-in-Err-Decode c =
     let stood = rw c.in-Err-Decode.field-0-is at c.in-Err-Decode.ensures.fault in
-    let stops = printed-stops c.args.bytes.now c.in-Err-Decode.offset c.in-Err-Decode.fault stood in
+    let stops = printed_stops c.args.bytes.now c.in-Err-Decode.offset c.in-Err-Decode.fault stood in
     subst (λ (p : Printed). Answers p c.refuse_decoding.result c.args.out.now.items c.refuse_decoding.new.out.items) (sym stops) c.refuse_decoding.ensures

@@ -1,4 +1,4 @@
-use Rattle.dma_engine.proofs.CallLists.{answers-extend, chain-extends}
+use Rattle.dma_engine.proofs.CallLists.{answers_extend, chain_extends}
 use Rattle.dma_engine.proofs.AnswerCounts.{quiet_calls_keep_counts, steps_add, ends_as_reported}
 use Rattle.dma_engine.proofs.Checkpoint.{checkpoints_keep}
 use Rattle.dma_engine.proofs.OutcomesStay.{kept}
@@ -8,8 +8,8 @@ use Rattle.dma_engine.proofs.laws.calls_add.Goals as goal
 pub returns : goal.returns
 returns c =
     record {
-      extends = answers-extend;
-      outcomes = λ v w calls replies none h. let e = chain-extends v w calls replies none h in (e, kept v w e);
+      extends = answers_extend;
+      outcomes = λ v w calls replies none h. let e = chain_extends v w calls replies none h in (e, kept v w e);
       quiet = quiet_calls_keep_counts;
       checkpoint = checkpoints_keep;
       submit = submits_add;

@@ -1,9 +1,9 @@
 use Rattle.std.proofs.Common.{◌≡◌, ◌+◌, ◌∙◌, ◌++◌, ◌∷◌, [], ap, sym, take, arith}
 use Rattle.std.proofs.lemmas.List.{take_more, take_all}
-use Rattle.dma_engine.proofs.CallLists.{AreAnswers-push, chain-extends}
+use Rattle.dma_engine.proofs.CallLists.{AreAnswers_push, chain_extends}
 use Rattle.dma_engine.proofs.OutcomesStay.{kept}
-use Rattle.dma_engine.proofs.Remembered.{chain-remembers}
-use Rattle.dma_engine.proofs.SoundViews.{sound-push}
+use Rattle.dma_engine.proofs.Remembered.{chain_remembers}
+use Rattle.dma_engine.proofs.SoundViews.{sound_push}
 use Rattle.dma_engine.proofs.run.run.Goals as goal
 
 pub loop-call-preserved : goal.loop-call-preserved
@@ -14,8 +14,8 @@ loop-call-preserved c =
     let inv = c.loop-call.invariant in
     let next : take (i + 1) calls ≡ take i calls ++ call ∷ [] = take_more calls i call (omega (arith, c.loop-call-test.true)) ∙ ap (λ x. take i calls ++ x ∷ []) (sym c.call-item.is) in
     rw (next, c.push_reserved.ensures.items) (record {
-      answers = AreAnswers-push c.args.engine.now.view c.loop-call.engine.view c.carry_out.new.self.view (take i calls) c.loop-call.replies.items call c.carry_out.result inv.answers c.carry_out.ensures;
-      views = sound-push c.args.engine.now.view c.loop-call.engine.view c.carry_out.new.self.view (take i calls) c.loop-call.replies.items call c.carry_out.result inv.views c.carry_out.ensures c.facts-in-loop-call.ensures.sound;
+      answers = AreAnswers_push c.args.engine.now.view c.loop-call.engine.view c.carry_out.new.self.view (take i calls) c.loop-call.replies.items call c.carry_out.result inv.answers c.carry_out.ensures;
+      views = sound_push c.args.engine.now.view c.loop-call.engine.view c.carry_out.new.self.view (take i calls) c.loop-call.replies.items call c.carry_out.result inv.views c.carry_out.ensures c.facts-in-loop-call.ensures.sound;
       sound = c.facts-in-loop-call.ensures.sound;
       memory = c.facts-in-loop-call.ensures.memory;
       len = omega (arith, c.push_reserved.ensures.len, inv.len);
@@ -26,11 +26,11 @@ pub returns-clause-begins : goal.returns-clause-begins
 returns-clause-begins c = λ none.
     let calls = c.args.calls.now in
     let all : take c.loop-call.call-index calls ≡ calls = take_all c.loop-call.call-index calls (omega (arith, c.loop-call-test.false)) in
-    chain-extends c.args.engine.now.view c.loop-call.engine.view calls c.loop-call.replies.items none (rw all at c.loop-call.invariant.answers)
+    chain_extends c.args.engine.now.view c.loop-call.engine.view calls c.loop-call.replies.items none (rw all at c.loop-call.invariant.answers)
 
 pub returns-clause-kept : goal.returns-clause-kept
 returns-clause-kept c = λ none. kept c.args.engine.now.view c.loop-call.engine.view (returns-clause-begins c none)
 
 pub returns-clause-remembers : goal.returns-clause-remembers
 returns-clause-remembers c =
-    chain-remembers c.args.engine.now.view c.loop-call.engine.view (take c.loop-call.call-index c.args.calls.now) c.loop-call.replies.items c.loop-call.invariant.answers
+    chain_remembers c.args.engine.now.view c.loop-call.engine.view (take c.loop-call.call-index c.args.calls.now) c.loop-call.replies.items c.loop-call.invariant.answers

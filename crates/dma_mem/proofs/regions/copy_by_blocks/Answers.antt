@@ -4,7 +4,7 @@ use Rattle.std.proofs.lemmas.List.{length-take-le, length-drop, drop-drop}
 use Rattle.dma_mem.specs.Regions.{pieces_of, image_of}
 use Rattle.dma_mem.specs.inner.Rewritten.{Rewritten}
 use Rattle.dma_mem.proofs.BlockCopies.{read_outside}
-use Rattle.dma_mem.proofs.Pieces.{image_of-most}
+use Rattle.dma_mem.proofs.Pieces.{image_of_most}
 use Rattle.dma_mem.proofs.PieceWrites.{rewritten_none, rewritten_more, rewritten_length, writable_part, writable_after, writable_most}
 use Rattle.dma_mem.proofs.regions.copy_by_blocks.Goals as goal
 
@@ -12,7 +12,7 @@ pub loop-done-init : goal.loop-done-init
 loop-done-init c = record { within = omega arith; copied = rewritten_none c.args.regions.now c.args.to }
 
 pub overflow_add-from : goal.overflow_add-from
-overflow_add-from c = omega (arith, c.requires.source, image_of-most (pieces_of c.args.regions.now) c.requires.writable.order)
+overflow_add-from c = omega (arith, c.requires.source, image_of_most (pieces_of c.args.regions.now) c.requires.writable.order)
 
 pub overflow_add-to : goal.overflow_add-to
 overflow_add-to c = omega (arith, writable_most c.args.regions.now c.args.to c.args.len c.requires.writable)

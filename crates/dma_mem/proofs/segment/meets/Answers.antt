@@ -1,5 +1,5 @@
 use Rattle.std.proofs.Common.{arith, sym}
-use Rattle.dma_mem.proofs.SharedPlaces.{ranges_apart, ranges_past, ranges_tested, share-iff}
+use Rattle.dma_mem.proofs.SharedPlaces.{ranges_apart, ranges_past, ranges_tested, share_iff}
 use Rattle.dma_mem.proofs.segment.meets.Goals as goal
 use Rattle.dma_mem.proofs.segment.meets.Goals.{then-a-eq0-via-then-a-eq0, then-a-eq0-via-else-a-eq0+then-b-eq0}
 
@@ -20,7 +20,7 @@ returns-then-from-end-clause-value c =
 
 pub returns-then-from-end-clause-fact : goal.returns-then-from-end-clause-fact
 returns-then-from-end-clause-fact c =
-    share-iff _ _ _ (returns-then-from-end-clause-value c)
+    share_iff _ _ _ (returns-then-from-end-clause-value c)
 
 pub returns-else-from-end-clause-value : goal.returns-else-from-end-clause-value
 returns-else-from-end-clause-value c =
@@ -30,4 +30,4 @@ returns-else-from-end-clause-value c =
 
 pub returns-else-from-end-clause-fact : goal.returns-else-from-end-clause-fact
 returns-else-from-end-clause-fact c =
-    share-iff _ _ _ (returns-else-from-end-clause-value c)
+    share_iff _ _ _ (returns-else-from-end-clause-value c)

@@ -12,7 +12,7 @@ use Rattle.dma_trace.specs.declared.front.Front.{Front}
 use Rattle.dma_trace.specs.Traced.{marks_over, opening, shown_line}
 use Rattle.dma_trace.specs.Wave.{executing}
 use Rattle.dma_trace.specs.inner.Running.{machine_over}
-use Rattle.dma_trace.proofs.Running.{begins, ends, from_err, goes_on, in_order-kept, marks-kept, moment_there, moves_there, program_there, stops}
+use Rattle.dma_trace.proofs.Running.{begins, ends, from_err, goes_on, in_order_kept, marks_kept, moment_there, moves_there, program_there, stops}
 use Rattle.dma_trace.proofs.Steps.{fetched_there, on_ok, pc_fits, room_moves}
 use Rattle.dma_trace.proofs.Waves.{wave_begins, wave_on}
 use Rattle.dma_trace.proofs.trace.run.Goals as goal
@@ -49,7 +49,7 @@ step-turn-requires g c =
     record {
       loaded = subst IsSome (sym w.program) refl;
       count = omega (arith, w.taken, c.loop-steps-test.true);
-      order = in_order-kept c.args.regions.now c.loop-steps.regions w.places c.requires.order;
+      order = in_order_kept c.args.regions.now c.loop-steps.regions w.places c.requires.order;
     }
 
 pub insn_of-requires : goal.insn_of-requires
@@ -60,7 +60,7 @@ insn_of-requires g c =
     let s = opening o c.args.program.now (image_of (pieces_of first)) in
     let now = c.loop-steps in
     let w = now.invariant.goes in
-    let kept : with_gaps_of now.regions c.in_ok-marks.marks ≡ marks = marks-kept first now.regions (marks_at o.failing.items) c.in_ok-marks.marks w.places w.read_only (c.in_ok-marks.ensures ∙ ap marks_at c.deref.ensures.value) in
+    let kept : with_gaps_of now.regions c.in_ok-marks.marks ≡ marks = marks_kept first now.regions (marks_at o.failing.items) c.in_ok-marks.marks w.places w.read_only (c.in_ok-marks.ensures ∙ ap marks_at c.deref.ensures.value) in
     let here = machine_over now.channel now.regions now.events in
     let answer : c.step-turn.result ≡ answer_at marks here = c.step-turn.ensures.turn ∙ ap (λ (m : MarkList). answer_at m here) kept in
     fetched_there marks here c.ahead-ahead.result c.ahead-ahead.ensures (sym answer ∙ c.in-Moved.is)
@@ -73,7 +73,7 @@ advance-requires g c =
     let s = opening o c.args.program.now (image_of (pieces_of first)) in
     let now = c.loop-steps in
     let w = now.invariant.goes in
-    let kept : with_gaps_of now.regions c.in_ok-marks.marks ≡ marks = marks-kept first now.regions (marks_at o.failing.items) c.in_ok-marks.marks w.places w.read_only (c.in_ok-marks.ensures ∙ ap marks_at c.deref.ensures.value) in
+    let kept : with_gaps_of now.regions c.in_ok-marks.marks ≡ marks = marks_kept first now.regions (marks_at o.failing.items) c.in_ok-marks.marks w.places w.read_only (c.in_ok-marks.ensures ∙ ap marks_at c.deref.ensures.value) in
     let here = machine_over now.channel now.regions now.events in
     let answer : c.step-turn.result ≡ answer_at marks here = c.step-turn.ensures.turn ∙ ap (λ (m : MarkList). answer_at m here) kept in
     let i = c.insn_of.result in
@@ -93,7 +93,7 @@ push_next-requires g c =
     let s = opening o c.args.program.now (image_of (pieces_of first)) in
     let now = c.loop-steps in
     let w = now.invariant.goes in
-    let kept : with_gaps_of now.regions c.in_ok-marks.marks ≡ marks = marks-kept first now.regions (marks_at o.failing.items) c.in_ok-marks.marks w.places w.read_only (c.in_ok-marks.ensures ∙ ap marks_at c.deref.ensures.value) in
+    let kept : with_gaps_of now.regions c.in_ok-marks.marks ≡ marks = marks_kept first now.regions (marks_at o.failing.items) c.in_ok-marks.marks w.places w.read_only (c.in_ok-marks.ensures ∙ ap marks_at c.deref.ensures.value) in
     let here = machine_over now.channel now.regions now.events in
     let answer : c.step-turn.result ≡ answer_at marks here = c.step-turn.ensures.turn ∙ ap (λ (m : MarkList). answer_at m here) kept in
     let to : machine_over c.step-turn.new.channel c.step-turn.new.regions c.step-turn.new.events ≡ after_step marks here = c.step-turn.ensures.after ∙ ap (λ (m : MarkList). after_step m here) kept in
@@ -109,7 +109,7 @@ loop-steps-preserved g c =
     let s = opening o c.args.program.now (image_of (pieces_of first)) in
     let now = c.loop-steps in
     let w = now.invariant.goes in
-    let kept : with_gaps_of now.regions c.in_ok-marks.marks ≡ marks = marks-kept first now.regions (marks_at o.failing.items) c.in_ok-marks.marks w.places w.read_only (c.in_ok-marks.ensures ∙ ap marks_at c.deref.ensures.value) in
+    let kept : with_gaps_of now.regions c.in_ok-marks.marks ≡ marks = marks_kept first now.regions (marks_at o.failing.items) c.in_ok-marks.marks w.places w.read_only (c.in_ok-marks.ensures ∙ ap marks_at c.deref.ensures.value) in
     let here = machine_over now.channel now.regions now.events in
     let answer : c.step-turn.result ≡ answer_at marks here = c.step-turn.ensures.turn ∙ ap (λ (m : MarkList). answer_at m here) kept in
     let to : machine_over c.step-turn.new.channel c.step-turn.new.regions c.step-turn.new.events ≡ after_step marks here = c.step-turn.ensures.after ∙ ap (λ (m : MarkList). after_step m here) kept in
@@ -124,7 +124,7 @@ loop-steps-preserved g c =
       to = to;
       places = c.step-turn.ensures.places;
       read_only = c.step-turn.ensures.read_only;
-      order = in_order-kept first c.step-turn.new.regions (c.step-turn.ensures.places ∙ w.places) c.requires.order;
+      order = in_order_kept first c.step-turn.new.regions (c.step-turn.ensures.places ∙ w.places) c.requires.order;
       registers = c.advance.ensures.registers;
       more = c.advance.ensures.held;
       text = c.in_ok-push_step.ensures.ok ∙ ap (λ (r : Result Insn FaultKind). now.out.items ++ shown_line o (now.steps + 1) r now.front c.advance.new.self (pieces_of c.step-turn.new.regions)) c.insn_of.ensures;
@@ -145,7 +145,7 @@ returns-in_default g c =
     let s = opening o c.args.program.now (image_of (pieces_of first)) in
     let now = c.loop-steps in
     let w = now.invariant.goes in
-    let kept : with_gaps_of now.regions c.in_ok-marks.marks ≡ marks = marks-kept first now.regions (marks_at o.failing.items) c.in_ok-marks.marks w.places w.read_only (c.in_ok-marks.ensures ∙ ap marks_at c.deref.ensures.value) in
+    let kept : with_gaps_of now.regions c.in_ok-marks.marks ≡ marks = marks_kept first now.regions (marks_at o.failing.items) c.in_ok-marks.marks w.places w.read_only (c.in_ok-marks.ensures ∙ ap marks_at c.deref.ensures.value) in
     let here = machine_over now.channel now.regions now.events in
     let answer : c.step-turn.result ≡ answer_at marks here = c.step-turn.ensures.turn ∙ ap (λ (m : MarkList). answer_at m here) kept in
     let to : machine_over c.step-turn.new.channel c.step-turn.new.regions c.step-turn.new.events ≡ after_step marks here = c.step-turn.ensures.after ∙ ap (λ (m : MarkList). after_step m here) kept in

@@ -1,5 +1,5 @@
-use Rattle.dma_why.proofs.CircleLemmas.{circle-found, circle-is}
+use Rattle.dma_why.proofs.CircleLemmas.{circle_found, circle_is}
 use Rattle.dma_why.proofs.laws.circles_are_named.Goals as goal
 
 pub returns : goal.returns
-returns c = record { only = circle-is; all = circle-found }
+returns c = record { only = circle_is; all = circle_found }

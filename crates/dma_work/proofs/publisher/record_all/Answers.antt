@@ -4,7 +4,7 @@ use Rattle.dma_engine.proofs.CookieCounts.{ticks_at_most_entries}
 use Rattle.dma_engine.specs.Ticks.{ticks_of}
 use Rattle.dma_work.specs.inner.Published.{SnapshotState}
 use Rattle.dma_work.specs.Ticks.{board_from}
-use Rattle.dma_work.proofs.Boards.{board-append}
+use Rattle.dma_work.proofs.Boards.{board_append}
 use Rattle.dma_work.proofs.FirstBoards.{small_base, ticks_more}
 use Rattle.dma_work.proofs.publisher.record_all.Goals as goal
 
@@ -26,7 +26,7 @@ loop-index-preserved g c =
       log = ap (λ (r : SnapshotState). r.log) c.record_one.ensures.log ∙ c.loop-index.invariant.log;
       ticks = ap (λ (r : SnapshotState). r.ticks) c.record_one.ensures.log ∙ ap (λ l. l ++ one) c.loop-index.invariant.ticks ∙ sym all;
       counts = c.record_one.ensures.counts ∙ ap (λ b. board_from b one) c.loop-index.invariant.counts
-          ∙ sym (ap (λ (r : SnapshotState). board_from c.args.base r.ticks) c.record_one.ensures.log ∙ board-append c.args.base c.loop-index.log.ticks one);
+          ∙ sym (ap (λ (r : SnapshotState). board_from c.args.base r.ticks) c.record_one.ensures.log ∙ board_append c.args.base c.loop-index.log.ticks one);
     }
 
 pub returns-clause-small : goal.returns-clause-small

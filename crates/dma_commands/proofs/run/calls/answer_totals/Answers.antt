@@ -5,7 +5,7 @@ use Rattle.dma_engine.specs.View.{channels, object_of, runs}
 use Rattle.dma_engine.specs.declared.entry.Entry.{Entry}
 use Rattle.dma_script.specs.Command.{text_of}
 use Rattle.dma_commands.specs.Run.{one_line, totals_line, totals_of}
-use Rattle.dma_commands.proofs.RunLemmas.{counted, printed_runs, running-is}
+use Rattle.dma_commands.proofs.RunLemmas.{counted, printed_runs, running_is}
 use Rattle.dma_commands.proofs.run.calls.answer_totals.Goals as goal
 
 pub returns : goal.returns
@@ -17,7 +17,7 @@ returns c =
     let print = c.print_line.ensures in
     let steps = c.steps.result in
     let running = c.running_count.result in
-    let runs_here = c.running_count.ensures ∙ sym (counted _ (runs o v.schedule) (range_with_len 0 (channels v))) ∙ ap length (sym (running-is o v.schedule)) in
+    let runs_here = c.running_count.ensures ∙ sym (counted _ (runs o v.schedule) (range_with_len 0 (channels v))) ∙ ap length (sym (running_is o v.schedule)) in
     let same : totals_line (length c.history.result.now) steps running ≡ totals_of v =
     ap (λ (h : List Entry). totals_line (length h) steps running) c.history.ensures.entries
     ∙ ap (λ (s : ℕ). totals_line (length v.history) s running) c.steps.ensures

@@ -8,7 +8,7 @@ use Rattle.dma_script.specs.Command.{text_of}
 use Rattle.dma_commands.specs.Printed.{reply_text}
 use Rattle.dma_commands.specs.Run.{step_answer, step_lines}
 use Rattle.dma_commands.proofs.RunLemmas.{printed_runs}
-use Rattle.dma_commands.proofs.StepLemmas.{ended, more-view, more-texts}
+use Rattle.dma_commands.proofs.StepLemmas.{ended, more_view, more_texts}
 use Rattle.dma_commands.proofs.Advances.{whole_runs}
 use Rattle.dma_commands.proofs.run.steps.answer_steps.Goals as goal
 
@@ -45,9 +45,9 @@ loop-left-preserved c =
     record {
       left = omega (arith, inv.left);
       counted = omega (arith, c.in_ok-more.ensures.count, inv.counted, within, inv.left);
-      view = c.in_ok-more.ensures.view w u is ∙ more-view v w step _ (c.args.count - left) many _ sum inv.view refl;
+      view = c.in_ok-more.ensures.view w u is ∙ more_view v w step _ (c.args.count - left) many _ sum inv.view refl;
       text = λ rest. c.in_ok-more.ensures.text w u is rest ∙ inv.text _
-          ∙ ap (λ l. text_of (step_lines c.args.ch l)) (more-texts v w step _ (c.args.count - left) many _ rest sum inv.view refl);
+          ∙ ap (λ l. text_of (step_lines c.args.ch l)) (more_texts v w step _ (c.args.count - left) many _ rest sum inv.view refl);
     }
 
 pub returns : goal.returns

@@ -1,21 +1,21 @@
 use Rattle.std.proofs.Common.{◌∙◌, ap, arith, length}
 use Rattle.dma_engine.specs.inner.Inside.{parts_of}
 use Rattle.dma_engine.specs.View.{EngineState, size}
-use Rattle.dma_engine.proofs.CallCases.{write-out, write-busy, write-free}
-use Rattle.dma_engine.proofs.Sizes.{size-is}
+use Rattle.dma_engine.proofs.CallCases.{write_out, write_busy, write_free}
+use Rattle.dma_engine.proofs.Sizes.{size_is}
 use Rattle.dma_engine.proofs.engine.Engine.check_write.Goals as goal
 
 pub returns-then-addr-bytes-clause-err : goal.returns-then-addr-bytes-clause-err
 returns-then-addr-bytes-clause-err c =
-    let end = size-is (parts_of c.self.inside) c.self.invariant ∙ ap (λ (s : EngineState). size s.view) c.self.view_is in
-    write-out c.args.self.now.view c.args.addr c.args.bytes.now (omega (arith, end, c.if-addr-bytes.true))
+    let end = size_is (parts_of c.self.inside) c.self.invariant ∙ ap (λ (s : EngineState). size s.view) c.self.view_is in
+    write_out c.args.self.now.view c.args.addr c.args.bytes.now (omega (arith, end, c.if-addr-bytes.true))
 
 pub returns-in-Some-clause-err : goal.returns-in-Some-clause-err
 returns-in-Some-clause-err c =
-    let end = size-is (parts_of c.self.inside) c.self.invariant ∙ ap (λ (s : EngineState). size s.view) c.self.view_is in
-    write-busy c.args.self.now.view c.args.addr c.args.bytes.now c.in-Some.ch c.in-Some.cookie (omega (arith, end, c.if-addr-bytes.false)) c.in-Some.ensures
+    let end = size_is (parts_of c.self.inside) c.self.invariant ∙ ap (λ (s : EngineState). size s.view) c.self.view_is in
+    write_busy c.args.self.now.view c.args.addr c.args.bytes.now c.in-Some.ch c.in-Some.cookie (omega (arith, end, c.if-addr-bytes.false)) c.in-Some.ensures
 
 pub returns-in-None-clause-free : goal.returns-in-None-clause-free
 returns-in-None-clause-free c =
-    let end = size-is (parts_of c.self.inside) c.self.invariant ∙ ap (λ (s : EngineState). size s.view) c.self.view_is in
-    write-free c.args.self.now.view c.args.addr (length c.args.bytes.now) (omega (arith, end, c.if-addr-bytes.false)) c.in-None.ensures
+    let end = size_is (parts_of c.self.inside) c.self.invariant ∙ ap (λ (s : EngineState). size s.view) c.self.view_is in
+    write_free c.args.self.now.view c.args.addr (length c.args.bytes.now) (omega (arith, end, c.if-addr-bytes.false)) c.in-None.ensures

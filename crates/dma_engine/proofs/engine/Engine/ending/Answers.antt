@@ -10,15 +10,15 @@ use Rattle.dma_engine.specs.inner.Inside.{parts_of}
 use Rattle.dma_engine.specs.Turn.{Stepped, ends, turn}
 use Rattle.dma_engine.specs.View.{EngineState}
 use Rattle.dma_engine.proofs.InstructionSteps.{the_step, shared}
-use Rattle.dma_engine.proofs.Rooms.{ends-insn}
-use Rattle.dma_engine.proofs.StepCases.{due, due-ahead}
+use Rattle.dma_engine.proofs.Rooms.{ends_insn}
+use Rattle.dma_engine.proofs.StepCases.{due, due_ahead}
 use Rattle.dma_engine.proofs.engine.Engine.ending.Goals as goal
 
 pub failing_at-requires : goal.failing_at-requires
 failing_at-requires c =
     let p = parts_of c.self.inside in
     let q = c.index-queue.result.now in
-    due-ahead p c.args.ch q c.in-Some.next
+    due_ahead p c.args.ch q c.in-Some.next
     (due p c.self.invariant c.args.ch _ q (IsNext c.in-Some.next) c.from.ensures c.index-queue.ensures (rw (← c.self.view_is) at c.in-Some.ensures.due))
 
 pub returns-in_default-insn : goal.returns-in_default-insn
@@ -34,7 +34,7 @@ returns-in_default-insn c =
     let one = the_step p c.self.invariant ch q d.it in
     c.is_some.ensures ∙ ap is_some (c.failing_at.ensures p.events) ∙ ap (λ x. is_some (fault_in x)) one.turn
     ∙ ap (λ k. is_some (fault_in (effect_of (member t n) (read_places t n) (written_places t n) k (shared p)).0)) c.self.invariant.marks
-    ∙ sym (ends-insn v ch n t (shared p) (member t n) not_end)
+    ∙ sym (ends_insn v ch n t (shared p) (member t n) not_end)
     ∙ sym (ap (λ (s : Stepped). ends s.0) d.turn_is)
     ∙ ap (λ (s : EngineState). ends (turn s.view ch).0) c.self.view_is
 

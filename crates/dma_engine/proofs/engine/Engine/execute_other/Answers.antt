@@ -5,9 +5,9 @@ use Rattle.dma_chan.specs.declared.turn.FaultKind.TheVariants.{DataReadErr, Data
 use Rattle.dma_engine.specs.inner.Due.{IsDue, IsNext, Finishes, failure_of}
 use Rattle.dma_engine.specs.inner.Holds.{view_of}
 use Rattle.dma_engine.specs.inner.Inside.{parts_of}
-use Rattle.dma_engine.proofs.InstructionSteps.{ready-here, the_step, shared}
-use Rattle.dma_engine.proofs.InstructionAnswers.{taken-small, went_on, went_on-answers, failed, only-so}
-use Rattle.dma_engine.proofs.StepCases.{GoesOn, due, due-ahead, due-other}
+use Rattle.dma_engine.proofs.InstructionSteps.{ready_here, the_step, shared}
+use Rattle.dma_engine.proofs.InstructionAnswers.{taken_small, went_on, went_on_answers, failed, only_so}
+use Rattle.dma_engine.proofs.StepCases.{GoesOn, due, due_ahead, due_other}
 use Rattle.dma_engine.proofs.engine.Engine.execute_other.Goals as goal
 
 pub execute-turn-requires-clause-next : goal.execute-turn-requires-clause-next
@@ -15,27 +15,27 @@ execute-turn-requires-clause-next c =
     let p = parts_of c.self.inside in
     let q = c.index_mut-queue.result.now in
     let d = due p c.self.invariant c.args.ch _ q (IsNext c.args.next) c.from.ensures c.index_mut-queue.ensures.value (rw (← c.self.view_is) at c.requires.due) in
-    due-ahead p c.args.ch q c.args.next d
+    due_ahead p c.args.ch q c.args.next d
 
 pub execute-turn-requires-clause-count : goal.execute-turn-requires-clause-count
 execute-turn-requires-clause-count c =
     let p = parts_of c.self.inside in
     let q = c.index_mut-queue.result.now in
     let d = due p c.self.invariant c.args.ch _ q (IsNext c.args.next) c.from.ensures c.index_mut-queue.ensures.value (rw (← c.self.view_is) at c.requires.due) in
-    taken-small p c.args.ch q d.it
+    taken_small p c.args.ch q d.it
 
 pub execute-turn-requires-clause-ready : goal.execute-turn-requires-clause-ready
 execute-turn-requires-clause-ready c =
     let p = parts_of c.self.inside in
     let q = c.index_mut-queue.result.now in
     let d = due p c.self.invariant c.args.ch _ q (IsNext c.args.next) c.from.ensures c.index_mut-queue.ensures.value (rw (← c.self.view_is) at c.requires.due) in
-    ready-here p c.self.invariant c.args.ch q d.it c.self.inside.memory refl
+    ready_here p c.self.invariant c.args.ch q d.it c.self.inside.memory refl
 
 pub invariant_of-self : goal.invariant_of-self
 invariant_of-self c =
     let p = parts_of c.self.inside in
     let q = c.index_mut-queue.result.now in
-    let asked = due-other (view_of p) c.args.ch c.args.next c.requires.other (rw (← c.self.view_is) at c.requires.due) in
+    let asked = due_other (view_of p) c.args.ch c.args.next c.requires.other (rw (← c.self.view_is) at c.requires.due) in
     let read = rw c.from.ensures at c.index_mut-queue.ensures.value in
     let d = due p c.self.invariant c.args.ch c.args.ch q GoesOn refl read asked in
     let one = the_step p c.self.invariant c.args.ch q d.it in
@@ -48,11 +48,11 @@ pub unreachable-requires : goal.unreachable-requires
 unreachable-requires c =
     let p = parts_of c.self.inside in
     let q = c.index_mut-queue.result.now in
-    let asked = due-other (view_of p) c.args.ch c.args.next c.requires.other (rw (← c.self.view_is) at c.requires.due) in
+    let asked = due_other (view_of p) c.args.ch c.args.next c.requires.other (rw (← c.self.view_is) at c.requires.due) in
     let d = due p c.self.invariant c.args.ch _ q GoesOn c.from.ensures c.index_mut-queue.ensures.value asked in
     let one = the_step p c.self.invariant c.args.ch q d.it in
     let is = c.execute-turn.ensures.step.turn ∙ one.turn in
-    elim (only-so p d.it.transfer q.channel.taken d.holds) [
+    elim (only_so p d.it.transfer q.channel.taken d.holds) [
       | inl moved ↦ c.in_default.not-Moved (is ∙ moved)
       | inr which ↦ elim which [
         | inl read_fault ↦ c.in_default.not-Fault DataReadErr (is ∙ read_fault)
@@ -64,12 +64,12 @@ pub returns-in-Moved-clause-moved : goal.returns-in-Moved-clause-moved
 returns-in-Moved-clause-moved c =
     let p = parts_of c.self.inside in
     let q = c.index_mut-queue.result.now in
-    let asked = due-other (view_of p) c.args.ch c.args.next c.requires.other (rw (← c.self.view_is) at c.requires.due) in
+    let asked = due_other (view_of p) c.args.ch c.args.next c.requires.other (rw (← c.self.view_is) at c.requires.due) in
     let d = due p c.self.invariant c.args.ch _ q GoesOn c.from.ensures c.index_mut-queue.ensures.value asked in
     let one = the_step p c.self.invariant c.args.ch q d.it in
     let moved : (step_at d.it.transfer q.channel.taken p.marks (shared p)).0 ≡ Moved = sym one.turn ∙ sym c.execute-turn.ensures.step.turn ∙ c.in-Moved.is in
     λ _. rw (← c.self.view_is, c.execute-turn.ensures.step.channel, c.from.ensures)
-    (went_on-answers p c.args.ch q c.execute-turn.new.memory.image c.execute-turn.new.events c.self.invariant d.less d.read d moved)
+    (went_on_answers p c.args.ch q c.execute-turn.new.memory.image c.execute-turn.new.events c.self.invariant d.less d.read d moved)
 
 pub returns-in-Fault-clause-fails : goal.returns-in-Fault-clause-fails
 returns-in-Fault-clause-fails c =
@@ -77,7 +77,7 @@ returns-in-Fault-clause-fails c =
     let ch = c.args.ch in
     let q = c.index_mut-queue.result.now in
     let kind = c.in-Fault.kind in
-    let asked = due-other (view_of p) ch c.args.next c.requires.other (rw (← c.self.view_is) at c.requires.due) in
+    let asked = due_other (view_of p) ch c.args.next c.requires.other (rw (← c.self.view_is) at c.requires.due) in
     let d = due p c.self.invariant ch _ q GoesOn c.from.ensures c.index_mut-queue.ensures.value asked in
     let one = the_step p c.self.invariant ch q d.it in
     let fails : (step_at d.it.transfer q.channel.taken p.marks (shared p)).0 ≡ Fault kind = sym one.turn ∙ sym c.execute-turn.ensures.step.turn ∙ c.in-Fault.is in

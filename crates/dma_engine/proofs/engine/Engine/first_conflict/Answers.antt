@@ -6,31 +6,31 @@ use Rattle.dma_engine.specs.Object.{channel, finished}
 use Rattle.dma_engine.specs.inner.Ranges.{AreOfRunning}
 use Rattle.dma_engine.specs.View.{EngineState, object_of, channels, runs}
 use Rattle.dma_engine.specs.inner.Accesses.{named, conflicts}
-use Rattle.dma_engine.proofs.Boards.{queue-small}
-use Rattle.dma_engine.proofs.Conflicts.{way-here, passed-over, nothing-there}
-use Rattle.dma_engine.proofs.Queues.{holds-at, many-queues}
-use Rattle.dma_engine.proofs.Sizes.{few-queues}
-use Rattle.dma_engine.proofs.WhatRuns.{find-none_more, find-all}
+use Rattle.dma_engine.proofs.Boards.{queue_small}
+use Rattle.dma_engine.proofs.Conflicts.{way_here, passed_over, nothing_there}
+use Rattle.dma_engine.proofs.Queues.{holds_at, many_queues}
+use Rattle.dma_engine.proofs.Sizes.{few_queues}
+use Rattle.dma_engine.proofs.WhatRuns.{find_none_more, find_all}
 use Rattle.dma_engine.proofs.engine.Engine.first_conflict.Goals as goal
 use Rattle.dma_engine.proofs.engine.Engine.first_conflict.Goals.{in-Some+else-conflicts_with, in_default}
 
 pub overflow_cast-result : goal.overflow_cast-result
 overflow_cast-result c =
-    let few = few-queues (parts_of c.self.inside) c.self.invariant in
+    let few = few_queues (parts_of c.self.inside) c.self.invariant in
     omega (arith, few, c.loop-index-test.true, c.len-index-end.ensures, c.self.inside.queues.ok.0)
 
 pub finished-cookie-requires : goal.finished-cookie-requires
 finished-cookie-requires c =
     let p = parts_of c.self.inside in
     let less : c.loop-index.index < length p.queues = omega (arith, c.loop-index-test.true, c.len-index-end.ensures, c.self.inside.queues.ok.0) in
-    let small = queue-small p c.self.invariant c.loop-index.index c.index-queue.result.now less c.index-queue.ensures in
+    let small = queue_small p c.self.invariant c.loop-index.index c.index-queue.result.now less c.index-queue.ensures in
     omega (arith, small)
 
 pub overflow_add-cookie : goal.overflow_add-cookie
 overflow_add-cookie c =
     let p = parts_of c.self.inside in
     let less : c.loop-index.index < length p.queues = omega (arith, c.loop-index-test.true, c.len-index-end.ensures, c.self.inside.queues.ok.0) in
-    let small = queue-small p c.self.invariant c.loop-index.index c.index-queue.result.now less c.index-queue.ensures in
+    let small = queue_small p c.self.invariant c.loop-index.index c.index-queue.result.now less c.index-queue.ensures in
     omega (arith, small, c.finished-cookie.ensures)
 
 pub returns-then-conflicts_with : goal.returns-then-conflicts_with
@@ -40,14 +40,14 @@ returns-then-conflicts_with c =
     let i = c.loop-index.index in
     let q = c.index-queue.result.now in
     let inside : i < length p.queues = omega (arith, c.loop-index-test.true, c.len-index-end.ensures, c.self.inside.queues.ok.0) in
-    let many = many-queues p c.self.invariant ∙ ap (λ (s : EngineState). channels s.view) c.self.view_is in
+    let many = many_queues p c.self.invariant ∙ ap (λ (s : EngineState). channels s.view) c.self.view_is in
     let less : i < length (object_of v).channels = omega (arith, many, inside) in
-    let at = holds-at p c.self.invariant i q inside c.index-queue.ensures in
+    let at = holds_at p c.self.invariant i q inside c.index-queue.ensures in
     let done : c.finished-cookie.result ≡ finished (channel (object_of (view_of p)) i) = omega (arith, c.finished-cookie.ensures, at.tied.forgotten, ap length at.tied.outcomes) in
     let number : c.finished-cookie.result + 1 ≡ finished (channel (object_of v) i) + 1 = ap (λ n. n + 1) (done ∙ ap (λ (s : EngineState). finished (channel (object_of s.view) i)) c.self.view_is) in
     let kept = subst (λ (s : EngineState). AreOfRunning q.ranges (runs (object_of s.view) s.view.schedule i)) c.self.view_is at.ranges in
     let there = subst (λ (o : Option Ranges). AreOfRunning o (runs (object_of v) v.schedule i)) (sym c.in-Some.ensures) kept in
-    search (rules, way-here (conflicts c.args.access.now) (object_of v) v.schedule i (c.finished-cookie.result + 1) c.in-Some.ranges.now less c.loop-index.invariant there number c.if-conflicts_with.ensures)
+    search (rules, way_here (conflicts c.args.access.now) (object_of v) v.schedule i (c.finished-cookie.result + 1) c.in-Some.ranges.now less c.loop-index.invariant there number c.if-conflicts_with.ensures)
 
 pub loop-index-preserved : goal.loop-index-preserved
 loop-index-preserved c =
@@ -58,18 +58,18 @@ loop-index-preserved c =
     let q = c.index-queue.result.now in
     let x = runs (object_of v) v.schedule i in
     let inside : i < length p.queues = omega (arith, c.loop-index-test.true, c.len-index-end.ensures, c.self.inside.queues.ok.0) in
-    let at = holds-at p c.self.invariant i q inside c.index-queue.ensures in
+    let at = holds_at p c.self.invariant i q inside c.index-queue.ensures in
     let kept = subst (λ (s : EngineState). AreOfRunning q.ranges (runs (object_of s.view) s.view.schedule i)) c.self.view_is at.ranges in
-    find-none_more (λ r. test r.transfer) (object_of v) v.schedule i c.loop-index.invariant
+    find_none_more (λ r. test r.transfer) (object_of v) v.schedule i c.loop-index.invariant
     (elim c.match-ranges.branch [
-      | in-Some+else-conflicts_with w ↦ passed-over test x w.in-Some.ranges.now (subst (λ (o : Option Ranges). AreOfRunning o x) (sym w.in-Some.ensures) kept) w.if-conflicts_with.ensures
-      | in_default w ↦ nothing-there test x (subst (λ (o : Option Ranges). AreOfRunning o x) (sym w.in_default.ensures) kept)
+      | in-Some+else-conflicts_with w ↦ passed_over test x w.in-Some.ranges.now (subst (λ (o : Option Ranges). AreOfRunning o x) (sym w.in-Some.ensures) kept) w.if-conflicts_with.ensures
+      | in_default w ↦ nothing_there test x (subst (λ (o : Option Ranges). AreOfRunning o x) (sym w.in_default.ensures) kept)
     ])
 
 pub returns : goal.returns
 returns c =
     let v = c.args.self.now.view in
     let test = conflicts c.args.access.now in
-    let many = many-queues (parts_of c.self.inside) c.self.invariant ∙ ap (λ (s : EngineState). channels s.view) c.self.view_is in
+    let many = many_queues (parts_of c.self.inside) c.self.invariant ∙ ap (λ (s : EngineState). channels s.view) c.self.view_is in
     let all : length (object_of v).channels ≡ c.loop-index.index = omega (arith, many, c.loop-index-test.false, c.len-index-end.ensures, c.self.inside.queues.ok.0) in
-    sym (ap named (find-all (λ r. test r.transfer) (object_of v) v.schedule c.loop-index.index all c.loop-index.invariant))
+    sym (ap named (find_all (λ r. test r.transfer) (object_of v) v.schedule c.loop-index.index all c.loop-index.invariant))

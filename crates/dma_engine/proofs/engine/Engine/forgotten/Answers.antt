@@ -5,10 +5,10 @@ use Rattle.dma_engine.specs.inner.Inside.{parts_of}
 use Rattle.dma_engine.specs.Object.{channel, empty_channel, finished}
 use Rattle.dma_engine.specs.Ticks.{Counts, board_of, counts}
 use Rattle.dma_engine.specs.View.{EngineState}
-use Rattle.dma_engine.proofs.Boards.{counts-at}
-use Rattle.dma_engine.proofs.OutcomesStay.{forgotten-stays}
-use Rattle.dma_engine.proofs.Queues.{holds-at, many-queues}
-use Rattle.dma_engine.proofs.Sizes.{many-channels}
+use Rattle.dma_engine.proofs.Boards.{counts_at}
+use Rattle.dma_engine.proofs.OutcomesStay.{forgotten_stays}
+use Rattle.dma_engine.proofs.Queues.{holds_at, many_queues}
+use Rattle.dma_engine.proofs.Sizes.{many_channels}
 use Rattle.dma_engine.proofs.engine.Engine.forgotten.Goals as goal
 
 pub returns-in-Some-clause-base : goal.returns-in-Some-clause-base
@@ -18,10 +18,10 @@ returns-in-Some-clause-base c =
     let queues = c.self.inside.queues.items in
     let found = rw c.deref.ensures.value at c.in-Some.ensures.lookup in
     let less : i < length queues = ltb-true i (length queues) (sym found.0) in
-    let at = holds-at p c.self.invariant i c.in-Some.queue.now less found.1 in
+    let at = holds_at p c.self.invariant i c.in-Some.queue.now less found.1 in
     let none : length (channel p.base i).outcomes ≡ 0 = ap length (c.self.invariant.sound.opens.each i).outcomes in
-    let same : c.forgotten.result ≡ finished (channel p.base i) = omega (arith, c.forgotten.ensures, at.tied.forgotten, forgotten-stays p.base p.history i, none) in
-    same ∙ sym (ap (λ (x : Counts). x.finished) (counts-at p.base i))
+    let same : c.forgotten.result ≡ finished (channel p.base i) = omega (arith, c.forgotten.ensures, at.tied.forgotten, forgotten_stays p.base p.history i, none) in
+    same ∙ sym (ap (λ (x : Counts). x.finished) (counts_at p.base i))
     ∙ ap (λ n. (counts (board_of p.base) n).finished) c.from.ensures
     ∙ ap (λ (s : EngineState). (counts (board_of s.view.base) c.args.ch).finished) c.self.view_is
 
@@ -30,8 +30,8 @@ returns-in-None-clause-base c =
     let p = parts_of c.self.inside in
     let i = c.from.result in
     let found = rw c.deref.ensures.value at c.in-None.ensures.lookup in
-    let past : length p.base.channels ≤ i = omega (arith, found.3, many-queues p c.self.invariant, many-channels p.base p.history) in
+    let past : length p.base.channels ≤ i = omega (arith, found.3, many_queues p c.self.invariant, many_channels p.base p.history) in
     sym (ap finished (get_or_past p.base.channels i empty_channel past))
-    ∙ sym (ap (λ (x : Counts). x.finished) (counts-at p.base i))
+    ∙ sym (ap (λ (x : Counts). x.finished) (counts_at p.base i))
     ∙ ap (λ n. (counts (board_of p.base) n).finished) c.from.ensures
     ∙ ap (λ (s : EngineState). (counts (board_of s.view.base) c.args.ch).finished) c.self.view_is

@@ -5,27 +5,27 @@ use Rattle.dma_engine.specs.inner.Inside.{parts_of}
 use Rattle.dma_engine.specs.Object.{channel, used}
 use Rattle.dma_engine.specs.Turn.{with_entry}
 use Rattle.dma_engine.specs.View.{View, EngineState, channels, object_of}
-use Rattle.dma_engine.proofs.CallCases.{issue-done}
-use Rattle.dma_engine.proofs.Boards.{counted-at}
-use Rattle.dma_engine.proofs.Queues.{many-queues, holds-at, queue-there}
-use Rattle.dma_engine.proofs.QueueCalls.{holds-issued, view-entered}
+use Rattle.dma_engine.proofs.CallCases.{issue_done}
+use Rattle.dma_engine.proofs.Boards.{counted_at}
+use Rattle.dma_engine.proofs.Queues.{many_queues, holds_at, queue_there}
+use Rattle.dma_engine.proofs.QueueCalls.{holds_issued, view_entered}
 use Rattle.dma_engine.proofs.engine.Engine.issue.Goals as goal
 
 pub issue-requires : goal.issue-requires
 issue-requires c =
     let p = parts_of c.self.inside in
     let q = c.index_mut-queue.result.now in
-    let less : c.in_ok-index.index < length p.queues = queue-there p c.args.self.now.view c.args.ch c.in_ok-index.index c.self.invariant (ap (λ (s : EngineState). s.view) c.self.view_is) c.in_ok-index.ensures.there in
-    let at = holds-at p c.self.invariant c.in_ok-index.index q less c.index_mut-queue.ensures.value in
-    let counted = counted-at p c.self.invariant c.in_ok-index.index in
+    let less : c.in_ok-index.index < length p.queues = queue_there p c.args.self.now.view c.args.ch c.in_ok-index.index c.self.invariant (ap (λ (s : EngineState). s.view) c.self.view_is) c.in_ok-index.ensures.there in
+    let at = holds_at p c.self.invariant c.in_ok-index.index q less c.index_mut-queue.ensures.value in
+    let counted = counted_at p c.self.invariant c.in_ok-index.index in
     omega (arith, counted.issue, at.tied.issued, at.tied.given)
 
 pub invariant_of-self-2 : goal.invariant_of-self-2
 invariant_of-self-2 c =
     let p = parts_of c.self.inside in
-    let less : c.in_ok-index.index < length p.queues = queue-there p c.args.self.now.view c.args.ch c.in_ok-index.index c.self.invariant (ap (λ (s : EngineState). s.view) c.self.view_is) c.in_ok-index.ensures.there in
+    let less : c.in_ok-index.index < length p.queues = queue_there p c.args.self.now.view c.args.ch c.in_ok-index.index c.self.invariant (ap (λ (s : EngineState). s.view) c.self.view_is) c.in_ok-index.ensures.there in
     rw (c.issue.ensures.issued, c.push_reserved.ensures.items, c.reserve.ensures.items, ← c.in_ok-index.ensures.there.0)
-    (holds-issued p c.in_ok-index.index c.index_mut-queue.result.now c.index_mut-queue.result.now.given c.self.invariant less c.index_mut-queue.ensures.value refl)
+    (holds_issued p c.in_ok-index.index c.index_mut-queue.result.now c.index_mut-queue.result.now.given c.self.invariant less c.index_mut-queue.ensures.value refl)
 
 pub returns-clause-answer : goal.returns-clause-answer
 returns-clause-answer c =
@@ -33,10 +33,10 @@ returns-clause-answer c =
     let i = c.in_ok-index.index in
     let q = c.index_mut-queue.result.now in
     let is : view_of p ≡ c.args.self.now.view = ap (λ (s : EngineState). s.view) c.self.view_is in
-    let less : i < length p.queues = queue-there p c.args.self.now.view c.args.ch c.in_ok-index.index c.self.invariant (ap (λ (s : EngineState). s.view) c.self.view_is) c.in_ok-index.ensures.there in
-    let there : i < channels c.args.self.now.view = omega (arith, many-queues p c.self.invariant, ap channels is, less) in
-    let at = holds-at p c.self.invariant i q less c.index_mut-queue.ensures.value in
+    let less : i < length p.queues = queue_there p c.args.self.now.view c.args.ch c.in_ok-index.index c.self.invariant (ap (λ (s : EngineState). s.view) c.self.view_is) c.in_ok-index.ensures.there in
+    let there : i < channels c.args.self.now.view = omega (arith, many_queues p c.self.invariant, ap channels is, less) in
+    let at = holds_at p c.self.invariant i q less c.index_mut-queue.ensures.value in
     let counted : q.given - q.issued ≡ used (channel (object_of (view_of p)) i) - (channel (object_of (view_of p)) i).issued = omega (arith, at.tied.issued, at.tied.given) in
-    let view = view-entered p i q (record q { issued = q.given }) p.memory p.events (Issued i) less c.index_mut-queue.ensures.value refl ∙ ap (λ (w : View). with_entry w (Issued i)) is in
+    let view = view_entered p i q (record q { issued = q.given }) p.memory p.events (Issued i) less c.index_mut-queue.ensures.value refl ∙ ap (λ (w : View). with_entry w (Issued i)) is in
     rw (c.issue.ensures.issued, c.push_reserved.ensures.items, c.reserve.ensures.items, ← c.in_ok-index.ensures.there.0)
-    (issue-done c.args.self.now.view _ i _ there (c.issue.ensures.count ∙ counted ∙ ap (λ (w : View). used (channel (object_of w) i) - (channel (object_of w) i).issued) is) view)
+    (issue_done c.args.self.now.view _ i _ there (c.issue.ensures.count ∙ counted ∙ ap (λ (w : View). used (channel (object_of w) i) - (channel (object_of w) i).issued) is) view)

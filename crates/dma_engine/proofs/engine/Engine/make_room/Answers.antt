@@ -5,38 +5,38 @@ use Rattle.dma_engine.specs.inner.Inside.{parts_of, queue_room, room_of}
 use Rattle.dma_engine.specs.Object.{channel, unfinished}
 use Rattle.dma_engine.specs.Room.{no_room, HasRoom}
 use Rattle.dma_engine.specs.View.{View, EngineState, object_of}
-use Rattle.dma_engine.proofs.Queues.{holds-at, queue-there}
-use Rattle.dma_engine.proofs.Rooms.{holds-room, view-room, room-set, room-grows, queues-grow}
+use Rattle.dma_engine.proofs.Queues.{holds_at, queue_there}
+use Rattle.dma_engine.proofs.Rooms.{holds_room, view_room, room_set, room_grows, queues_grow}
 use Rattle.dma_engine.proofs.engine.Engine.make_room.Goals as goal
 
 pub invariant_of-self-in_err-make_room : goal.invariant_of-self-in_err-make_room
 invariant_of-self-in_err-make_room c =
     let p = parts_of c.self.inside in
-    let less : c.in_ok-index.index < length p.queues = queue-there p c.args.self.now.view c.args.ch c.in_ok-index.index c.self.invariant (ap (λ (s : EngineState). s.view) c.self.view_is) c.in_ok-index.ensures.there in
+    let less : c.in_ok-index.index < length p.queues = queue_there p c.args.self.now.view c.args.ch c.in_ok-index.index c.self.invariant (ap (λ (s : EngineState). s.view) c.self.view_is) c.in_ok-index.ensures.there in
     rw (c.reserve.ensures.items, c.make_room.ensures.same)
-    (holds-room p c.in_ok-index.index c.make_room.new.self.indices.spare c.make_room.new.self.outcomes.spare c.index_mut-queue.result.now c.self.invariant less c.index_mut-queue.ensures.value)
+    (holds_room p c.in_ok-index.index c.make_room.new.self.indices.spare c.make_room.new.self.outcomes.spare c.index_mut-queue.result.now c.self.invariant less c.index_mut-queue.ensures.value)
 
 pub returns-in_err-make_room-clause-view : goal.returns-in_err-make_room-clause-view
 returns-in_err-make_room-clause-view c =
     let p = parts_of c.self.inside in
-    let less : c.in_ok-index.index < length p.queues = queue-there p c.args.self.now.view c.args.ch c.in_ok-index.index c.self.invariant (ap (λ (s : EngineState). s.view) c.self.view_is) c.in_ok-index.ensures.there in
+    let less : c.in_ok-index.index < length p.queues = queue_there p c.args.self.now.view c.args.ch c.in_ok-index.index c.self.invariant (ap (λ (s : EngineState). s.view) c.self.view_is) c.in_ok-index.ensures.there in
     rw (c.reserve.ensures.items, c.make_room.ensures.same)
-    (view-room p c.in_ok-index.index c.make_room.new.self.indices.spare c.make_room.new.self.outcomes.spare c.index_mut-queue.result.now less c.index_mut-queue.ensures.value)
+    (view_room p c.in_ok-index.index c.make_room.new.self.indices.spare c.make_room.new.self.outcomes.spare c.index_mut-queue.result.now less c.index_mut-queue.ensures.value)
     ∙ ap (λ (s : EngineState). s.view) c.self.view_is
 
 pub invariant_of-self-2 : goal.invariant_of-self-2
 invariant_of-self-2 c =
     let p = parts_of c.self.inside in
-    let less : c.in_ok-index.index < length p.queues = queue-there p c.args.self.now.view c.args.ch c.in_ok-index.index c.self.invariant (ap (λ (s : EngineState). s.view) c.self.view_is) c.in_ok-index.ensures.there in
+    let less : c.in_ok-index.index < length p.queues = queue_there p c.args.self.now.view c.args.ch c.in_ok-index.index c.self.invariant (ap (λ (s : EngineState). s.view) c.self.view_is) c.in_ok-index.ensures.there in
     rw (c.reserve.ensures.items, c.make_room.ensures.same)
-    (holds-room p c.in_ok-index.index c.make_room.new.self.indices.spare c.make_room.new.self.outcomes.spare c.index_mut-queue.result.now c.self.invariant less c.index_mut-queue.ensures.value)
+    (holds_room p c.in_ok-index.index c.make_room.new.self.indices.spare c.make_room.new.self.outcomes.spare c.index_mut-queue.result.now c.self.invariant less c.index_mut-queue.ensures.value)
 
 pub returns-clause-view : goal.returns-clause-view
 returns-clause-view c =
     let p = parts_of c.self.inside in
-    let less : c.in_ok-index.index < length p.queues = queue-there p c.args.self.now.view c.args.ch c.in_ok-index.index c.self.invariant (ap (λ (s : EngineState). s.view) c.self.view_is) c.in_ok-index.ensures.there in
+    let less : c.in_ok-index.index < length p.queues = queue_there p c.args.self.now.view c.args.ch c.in_ok-index.index c.self.invariant (ap (λ (s : EngineState). s.view) c.self.view_is) c.in_ok-index.ensures.there in
     rw (c.reserve.ensures.items, c.make_room.ensures.same)
-    (view-room p c.in_ok-index.index c.make_room.new.self.indices.spare c.make_room.new.self.outcomes.spare c.index_mut-queue.result.now less c.index_mut-queue.ensures.value)
+    (view_room p c.in_ok-index.index c.make_room.new.self.indices.spare c.make_room.new.self.outcomes.spare c.index_mut-queue.result.now less c.index_mut-queue.ensures.value)
     ∙ ap (λ (s : EngineState). s.view) c.self.view_is
 
 pub returns-clause-made : goal.returns-clause-made
@@ -45,9 +45,9 @@ returns-clause-made c =
     let i = c.in_ok-index.index in
     let q = c.index_mut-queue.result.now in
     let r = c.make_room.new.self in
-    let less : i < length p.queues = queue-there p c.args.self.now.view c.args.ch c.in_ok-index.index c.self.invariant (ap (λ (s : EngineState). s.view) c.self.view_is) c.in_ok-index.ensures.there in
-    let at = holds-at p c.self.invariant i q less c.index_mut-queue.ensures.value in
-    let room : slice_index_or (map queue_room (slice_set p.queues i r)) i no_room ≡ queue_room r = room-set p.queues i r less in
+    let less : i < length p.queues = queue_there p c.args.self.now.view c.args.ch c.in_ok-index.index c.self.invariant (ap (λ (s : EngineState). s.view) c.self.view_is) c.in_ok-index.ensures.there in
+    let at = holds_at p c.self.invariant i q less c.index_mut-queue.ensures.value in
+    let room : slice_index_or (map queue_room (slice_set p.queues i r)) i no_room ≡ queue_room r = room_set p.queues i r less in
     let cookie : 0 < r.indices.spare = c.in_ok-make_room.ensures.cookie in
     let outcomes : q.given - q.forgotten - length q.outcomes.items ≤ r.outcomes.spare = c.in_ok-make_room.ensures.outcomes in
     let old : unfinished (channel (object_of (view_of p)) i) ≤ r.outcomes.spare = omega (arith, outcomes, at.tied.given, at.tied.forgotten, ap length at.tied.outcomes) in
@@ -62,21 +62,21 @@ returns-in_err-make_room-clause-kept c =
     let p = parts_of c.self.inside in
     let i = c.in_ok-index.index in
     let q = c.index_mut-queue.result.now in
-    let less : i < length p.queues = queue-there p c.args.self.now.view c.args.ch c.in_ok-index.index c.self.invariant (ap (λ (s : EngineState). s.view) c.self.view_is) c.in_ok-index.ensures.there in
+    let less : i < length p.queues = queue_there p c.args.self.now.view c.args.ch c.in_ok-index.index c.self.invariant (ap (λ (s : EngineState). s.view) c.self.view_is) c.in_ok-index.ensures.there in
     let before : EngineState = record { view = view_of p; memory = p.memory; room = room_of c.self.inside } in
     let view = returns-in_err-make_room-clause-view c ∙ sym (ap (λ (s : EngineState). s.view) c.self.view_is) in
     let entries : before.room.entries ≤ vec_capacity c.reserve.new.self - vec_len c.reserve.new.self = omega (arith, c.reserve.ensures.capacity, c.reserve.ensures.len) in
-    let queues = queues-grow p.queues i q c.make_room.new.self less c.index_mut-queue.ensures.value c.make_room.ensures.kept.0 c.make_room.ensures.kept.1 in
-    λ ch h. room-grows before _ (ap object_of view) entries queues ch (subst (λ (s : EngineState). HasRoom s ch) (sym c.self.view_is) h)
+    let queues = queues_grow p.queues i q c.make_room.new.self less c.index_mut-queue.ensures.value c.make_room.ensures.kept.0 c.make_room.ensures.kept.1 in
+    λ ch h. room_grows before _ (ap object_of view) entries queues ch (subst (λ (s : EngineState). HasRoom s ch) (sym c.self.view_is) h)
 
 pub returns-clause-kept : goal.returns-clause-kept
 returns-clause-kept c =
     let p = parts_of c.self.inside in
     let i = c.in_ok-index.index in
     let q = c.index_mut-queue.result.now in
-    let less : i < length p.queues = queue-there p c.args.self.now.view c.args.ch c.in_ok-index.index c.self.invariant (ap (λ (s : EngineState). s.view) c.self.view_is) c.in_ok-index.ensures.there in
+    let less : i < length p.queues = queue_there p c.args.self.now.view c.args.ch c.in_ok-index.index c.self.invariant (ap (λ (s : EngineState). s.view) c.self.view_is) c.in_ok-index.ensures.there in
     let before : EngineState = record { view = view_of p; memory = p.memory; room = room_of c.self.inside } in
     let view = returns-clause-view c ∙ sym (ap (λ (s : EngineState). s.view) c.self.view_is) in
     let entries : before.room.entries ≤ vec_capacity c.reserve.new.self - vec_len c.reserve.new.self = omega (arith, c.reserve.ensures.capacity, c.reserve.ensures.len) in
-    let queues = queues-grow p.queues i q c.make_room.new.self less c.index_mut-queue.ensures.value c.make_room.ensures.kept.0 c.make_room.ensures.kept.1 in
-    λ ch h. room-grows before _ (ap object_of view) entries queues ch (subst (λ (s : EngineState). HasRoom s ch) (sym c.self.view_is) h)
+    let queues = queues_grow p.queues i q c.make_room.new.self less c.index_mut-queue.ensures.value c.make_room.ensures.kept.0 c.make_room.ensures.kept.1 in
+    λ ch h. room_grows before _ (ap object_of view) entries queues ch (subst (λ (s : EngineState). HasRoom s ch) (sym c.self.view_is) h)

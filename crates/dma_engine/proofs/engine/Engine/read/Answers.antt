@@ -8,34 +8,34 @@ use Rattle.dma_engine.specs.inner.Holds.{view_of}
 use Rattle.dma_engine.specs.inner.Inside.{parts_of}
 use Rattle.dma_engine.specs.Turn.{with_entry}
 use Rattle.dma_engine.specs.View.{View, EngineState, size, object_of}
-use Rattle.dma_engine.proofs.CallCases.{read-starved, read-done, refusal}
-use Rattle.dma_engine.proofs.Entries.{holds-read, memory-read}
-use Rattle.dma_engine.proofs.Sizes.{size-is, memory-size}
+use Rattle.dma_engine.proofs.CallCases.{read_starved, read_done, refusal}
+use Rattle.dma_engine.proofs.Entries.{holds_read, memory_read_law}
+use Rattle.dma_engine.proofs.Sizes.{size_is, memory_size}
 use Rattle.dma_engine.proofs.engine.Engine.read.Goals as goal
 
 pub bytes_of-requires : goal.bytes_of-requires
 bytes_of-requires c =
     let p = parts_of c.self.inside in
-    let end = size-is p c.self.invariant ∙ ap (λ (s : EngineState). size s.view) c.self.view_is in
-    omega (arith, memory-size p c.self.invariant, size-is p c.self.invariant, end, c.in_ok-check_read.ensures.within)
+    let end = size_is p c.self.invariant ∙ ap (λ (s : EngineState). size s.view) c.self.view_is in
+    omega (arith, memory_size p c.self.invariant, size_is p c.self.invariant, end, c.in_ok-check_read.ensures.within)
 
 pub returns-in_err-answer-clause-answer : goal.returns-in_err-answer-clause-answer
 returns-in_err-answer-clause-answer c =
     let v = c.args.self.now.view in
     refusal (λ bytes. Bytes bytes) v v (Read c.args.addr c.args.len) NoMemory c.from_residual-in_err-answer.result c.from_residual-in_err-answer.ensures.1
-    (read-starved v c.args.addr c.args.len c.in_ok-check_read.ensures.free)
+    (read_starved v c.args.addr c.args.len c.in_ok-check_read.ensures.free)
 
 pub returns-in_err-kept-clause-answer : goal.returns-in_err-kept-clause-answer
 returns-in_err-kept-clause-answer c =
     let v = c.args.self.now.view in
     refusal (λ bytes. Bytes bytes) v v (Read c.args.addr c.args.len) NoMemory c.from_residual-in_err-kept.result c.from_residual-in_err-kept.ensures.1
-    (read-starved v c.args.addr c.args.len c.in_ok-check_read.ensures.free)
+    (read_starved v c.args.addr c.args.len c.in_ok-check_read.ensures.free)
 
 pub returns-in_err-reserve-clause-answer : goal.returns-in_err-reserve-clause-answer
 returns-in_err-reserve-clause-answer c =
     let v = c.args.self.now.view in
     refusal (λ bytes. Bytes bytes) v _ (Read c.args.addr c.args.len) NoMemory c.from_residual-in_err-reserve.result c.from_residual-in_err-reserve.ensures.1
-    (rw c.reserve.ensures.items ((read-starved v c.args.addr c.args.len c.in_ok-check_read.ensures.free).0, ap (λ (s : EngineState). s.view) c.self.view_is))
+    (rw c.reserve.ensures.items ((read_starved v c.args.addr c.args.len c.in_ok-check_read.ensures.free).0, ap (λ (s : EngineState). s.view) c.self.view_is))
 
 pub invariant_of-self-2 : goal.invariant_of-self-2
 invariant_of-self-2 c =
@@ -43,9 +43,9 @@ invariant_of-self-2 c =
     let is : view_of p ≡ c.args.self.now.view = ap (λ (s : EngineState). s.view) c.self.view_is in
     let free = c.in_ok-check_read.ensures.free in
     let free' : read_fault (view_of p) c.args.addr c.args.len ≡ None = subst (λ (w : View). read_fault w c.args.addr c.args.len ≡ None) (sym is) free in
-    let read = c.in_ok-answer.ensures ∙ memory-read p c.args.addr c.args.len c.self.invariant free' in
+    let read = c.in_ok-answer.ensures ∙ memory_read_law p c.args.addr c.args.len c.self.invariant free' in
     let same = c.in_ok-kept.ensures ∙ c.as_slice.ensures in
-    rw (c.push_reserved.ensures.items, c.reserve.ensures.items, same) (holds-read p c.args.addr c.args.len c.in_ok-answer.answer c.self.invariant free' read)
+    rw (c.push_reserved.ensures.items, c.reserve.ensures.items, same) (holds_read p c.args.addr c.args.len c.in_ok-answer.answer c.self.invariant free' read)
 
 pub returns-clause-answer : goal.returns-clause-answer
 returns-clause-answer c =
@@ -53,7 +53,7 @@ returns-clause-answer c =
     let is : view_of p ≡ c.args.self.now.view = ap (λ (s : EngineState). s.view) c.self.view_is in
     let free = c.in_ok-check_read.ensures.free in
     let free' : read_fault (view_of p) c.args.addr c.args.len ≡ None = subst (λ (w : View). read_fault w c.args.addr c.args.len ≡ None) (sym is) free in
-    let read = c.in_ok-answer.ensures ∙ memory-read p c.args.addr c.args.len c.self.invariant free' ∙ ap (λ (w : View). take c.args.len (drop c.args.addr (object_of w).image)) is in
+    let read = c.in_ok-answer.ensures ∙ memory_read_law p c.args.addr c.args.len c.self.invariant free' ∙ ap (λ (w : View). take c.args.len (drop c.args.addr (object_of w).image)) is in
     let same = c.in_ok-kept.ensures ∙ c.as_slice.ensures in
-    read-done c.args.self.now.view _ c.args.addr c.args.len c.in_ok-answer.answer free read
+    read_done c.args.self.now.view _ c.args.addr c.args.len c.in_ok-answer.answer free read
     (rw (c.push_reserved.ensures.items, c.reserve.ensures.items, same) (ap (λ (w : View). with_entry w (ReadBack c.args.addr c.in_ok-answer.answer)) is))

@@ -8,22 +8,22 @@ use Rattle.dma_engine.specs.inner.Holds.{view_of}
 use Rattle.dma_engine.specs.inner.Inside.{parts_of}
 use Rattle.dma_engine.specs.Turn.{with_entry}
 use Rattle.dma_engine.specs.View.{View, EngineState, size, object_of}
-use Rattle.dma_engine.proofs.CallCases.{read-starved, read-done, refusal}
-use Rattle.dma_engine.proofs.Entries.{holds-read, memory-read}
-use Rattle.dma_engine.proofs.Sizes.{size-is, memory-size}
+use Rattle.dma_engine.proofs.CallCases.{read_starved, read_done, refusal}
+use Rattle.dma_engine.proofs.Entries.{holds_read, memory_read_law}
+use Rattle.dma_engine.proofs.Sizes.{size_is, memory_size}
 use Rattle.dma_engine.proofs.engine.Engine.read_back.Goals as goal
 
 pub bytes_of-requires : goal.bytes_of-requires
 bytes_of-requires c =
     let p = parts_of c.self.inside in
-    let end = size-is p c.self.invariant ∙ ap (λ (s : EngineState). size s.view) c.self.view_is in
-    omega (arith, memory-size p c.self.invariant, size-is p c.self.invariant, end, c.in_ok-check_read.ensures.within)
+    let end = size_is p c.self.invariant ∙ ap (λ (s : EngineState). size s.view) c.self.view_is in
+    omega (arith, memory_size p c.self.invariant, size_is p c.self.invariant, end, c.in_ok-check_read.ensures.within)
 
 pub returns-in_err-reserve-clause-answer : goal.returns-in_err-reserve-clause-answer
 returns-in_err-reserve-clause-answer c =
     let v = c.args.self.now.view in
     refusal (λ _. Bytes (take c.args.len (drop c.args.addr (object_of v).image))) v _ (Read c.args.addr c.args.len) NoMemory c.from_residual-in_err-reserve.result c.from_residual-in_err-reserve.ensures.1
-    (rw c.reserve.ensures.items ((read-starved v c.args.addr c.args.len c.in_ok-check_read.ensures.free).0, ap (λ (s : EngineState). s.view) c.self.view_is))
+    (rw c.reserve.ensures.items ((read_starved v c.args.addr c.args.len c.in_ok-check_read.ensures.free).0, ap (λ (s : EngineState). s.view) c.self.view_is))
 
 pub invariant_of-self-2 : goal.invariant_of-self-2
 invariant_of-self-2 c =
@@ -31,8 +31,8 @@ invariant_of-self-2 c =
     let is : view_of p ≡ c.args.self.now.view = ap (λ (s : EngineState). s.view) c.self.view_is in
     let free = c.in_ok-check_read.ensures.free in
     let free' : read_fault (view_of p) c.args.addr c.args.len ≡ None = subst (λ (w : View). read_fault w c.args.addr c.args.len ≡ None) (sym is) free in
-    let read = c.in_ok-bytes.ensures ∙ memory-read p c.args.addr c.args.len c.self.invariant free' in
-    rw (c.push_reserved.ensures.items, c.reserve.ensures.items) (holds-read p c.args.addr c.args.len c.in_ok-bytes.bytes c.self.invariant free' read)
+    let read = c.in_ok-bytes.ensures ∙ memory_read_law p c.args.addr c.args.len c.self.invariant free' in
+    rw (c.push_reserved.ensures.items, c.reserve.ensures.items) (holds_read p c.args.addr c.args.len c.in_ok-bytes.bytes c.self.invariant free' read)
 
 pub returns-clause-answer : goal.returns-clause-answer
 returns-clause-answer c =
@@ -40,6 +40,6 @@ returns-clause-answer c =
     let is : view_of p ≡ c.args.self.now.view = ap (λ (s : EngineState). s.view) c.self.view_is in
     let free = c.in_ok-check_read.ensures.free in
     let free' : read_fault (view_of p) c.args.addr c.args.len ≡ None = subst (λ (w : View). read_fault w c.args.addr c.args.len ≡ None) (sym is) free in
-    let read = c.in_ok-bytes.ensures ∙ memory-read p c.args.addr c.args.len c.self.invariant free' ∙ ap (λ (w : View). take c.args.len (drop c.args.addr (object_of w).image)) is in
-    read-done c.args.self.now.view _ c.args.addr c.args.len _ free refl
+    let read = c.in_ok-bytes.ensures ∙ memory_read_law p c.args.addr c.args.len c.self.invariant free' ∙ ap (λ (w : View). take c.args.len (drop c.args.addr (object_of w).image)) is in
+    read_done c.args.self.now.view _ c.args.addr c.args.len _ free refl
     (rw (c.push_reserved.ensures.items, c.reserve.ensures.items, ← read) (ap (λ (w : View). with_entry w (ReadBack c.args.addr c.in_ok-bytes.bytes)) is))

@@ -8,41 +8,41 @@ use Rattle.dma_engine.specs.inner.Holds.{view_of}
 use Rattle.dma_engine.specs.inner.Inside.{parts_of}
 use Rattle.dma_engine.specs.Turn.{with_entry}
 use Rattle.dma_engine.specs.View.{View, EngineState, size, object_of}
-use Rattle.dma_engine.proofs.CallCases.{read-out, read-starved, read-done, refusal}
-use Rattle.dma_engine.proofs.Entries.{holds-read, memory-read}
-use Rattle.dma_engine.proofs.Sizes.{size-is, memory-size}
+use Rattle.dma_engine.proofs.CallCases.{read_out, read_starved, read_done, refusal}
+use Rattle.dma_engine.proofs.Entries.{holds_read, memory_read_law}
+use Rattle.dma_engine.proofs.Sizes.{size_is, memory_size}
 use Rattle.std.proofs.lemmas.List.{length-take, length-drop}
 use Rattle.dma_engine.proofs.engine.Engine.read_into.Goals as goal
 
 pub bytes_of-requires : goal.bytes_of-requires
 bytes_of-requires c =
     let p = parts_of c.self.inside in
-    let end = size-is p c.self.invariant ∙ ap (λ (s : EngineState). size s.view) c.self.view_is in
-    omega (arith, memory-size p c.self.invariant, size-is p c.self.invariant, end, c.in_ok-check_read.ensures.within)
+    let end = size_is p c.self.invariant ∙ ap (λ (s : EngineState). size s.view) c.self.view_is in
+    omega (arith, memory_size p c.self.invariant, size_is p c.self.invariant, end, c.in_ok-check_read.ensures.within)
 
 pub returns-then-out-self-clause-answer : goal.returns-then-out-self-clause-answer
 returns-then-out-self-clause-answer c =
-    let end = size-is (parts_of c.self.inside) c.self.invariant ∙ ap (λ (s : EngineState). size s.view) c.self.view_is in
-    read-out c.args.self.now.view c.args.addr (length c.args.out.now) (omega (arith, end, c.if-out-self.true))
+    let end = size_is (parts_of c.self.inside) c.self.invariant ∙ ap (λ (s : EngineState). size s.view) c.self.view_is in
+    read_out c.args.self.now.view c.args.addr (length c.args.out.now) (omega (arith, end, c.if-out-self.true))
 
 pub copy_from_slice-requires : goal.copy_from_slice-requires
 copy_from_slice-requires c =
     let p = parts_of c.self.inside in
-    let end = size-is p c.self.invariant ∙ ap (λ (s : EngineState). size s.view) c.self.view_is in
+    let end = size_is p c.self.invariant ∙ ap (λ (s : EngineState). size s.view) c.self.view_is in
     let long = ap length (c.as_slice.ensures ∙ c.in_ok-bytes.ensures) in
-    omega (arith, long, length-take (length c.args.out.now) (drop c.args.addr c.self.inside.memory.image), length-drop c.args.addr c.self.inside.memory.image, memory-size p c.self.invariant, size-is p c.self.invariant, end, c.in_ok-check_read.ensures.within)
+    omega (arith, long, length-take (length c.args.out.now) (drop c.args.addr c.self.inside.memory.image), length-drop c.args.addr c.self.inside.memory.image, memory_size p c.self.invariant, size_is p c.self.invariant, end, c.in_ok-check_read.ensures.within)
 
 pub returns-in_err-bytes-clause-answer : goal.returns-in_err-bytes-clause-answer
 returns-in_err-bytes-clause-answer c =
     let v = c.args.self.now.view in
     refusal (λ _. Bytes c.args.out.now) v v (Read c.args.addr (length c.args.out.now)) NoMemory c.from_residual-in_err-bytes.result c.from_residual-in_err-bytes.ensures.1
-    (read-starved v c.args.addr (length c.args.out.now) c.in_ok-check_read.ensures.free)
+    (read_starved v c.args.addr (length c.args.out.now) c.in_ok-check_read.ensures.free)
 
 pub returns-in_err-reserve-clause-answer : goal.returns-in_err-reserve-clause-answer
 returns-in_err-reserve-clause-answer c =
     let v = c.args.self.now.view in
     refusal (λ _. Bytes c.args.out.now) v _ (Read c.args.addr (length c.args.out.now)) NoMemory c.from_residual-in_err-reserve.result c.from_residual-in_err-reserve.ensures.1
-    (rw c.reserve.ensures.items ((read-starved v c.args.addr (length c.args.out.now) c.in_ok-check_read.ensures.free).0, ap (λ (s : EngineState). s.view) c.self.view_is))
+    (rw c.reserve.ensures.items ((read_starved v c.args.addr (length c.args.out.now) c.in_ok-check_read.ensures.free).0, ap (λ (s : EngineState). s.view) c.self.view_is))
 
 pub invariant_of-self-2 : goal.invariant_of-self-2
 invariant_of-self-2 c =
@@ -50,8 +50,8 @@ invariant_of-self-2 c =
     let is : view_of p ≡ c.args.self.now.view = ap (λ (s : EngineState). s.view) c.self.view_is in
     let free = c.in_ok-check_read.ensures.free in
     let free' : read_fault (view_of p) c.args.addr (length c.args.out.now) ≡ None = subst (λ (w : View). read_fault w c.args.addr (length c.args.out.now) ≡ None) (sym is) free in
-    let read = c.in_ok-bytes.ensures ∙ memory-read p c.args.addr (length c.args.out.now) c.self.invariant free' in
-    rw (c.push_reserved.ensures.items, c.reserve.ensures.items) (holds-read p c.args.addr (length c.args.out.now) c.in_ok-bytes.bytes c.self.invariant free' read)
+    let read = c.in_ok-bytes.ensures ∙ memory_read_law p c.args.addr (length c.args.out.now) c.self.invariant free' in
+    rw (c.push_reserved.ensures.items, c.reserve.ensures.items) (holds_read p c.args.addr (length c.args.out.now) c.in_ok-bytes.bytes c.self.invariant free' read)
 
 pub returns-clause-answer : goal.returns-clause-answer
 returns-clause-answer c =
@@ -60,8 +60,8 @@ returns-clause-answer c =
     let n = length c.args.out.now in
     let free = c.in_ok-check_read.ensures.free in
     let free' : read_fault (view_of p) c.args.addr n ≡ None = subst (λ (w : View). read_fault w c.args.addr n ≡ None) (sym is) free in
-    let read = c.in_ok-bytes.ensures ∙ memory-read p c.args.addr n c.self.invariant free' ∙ ap (λ (w : View). take n (drop c.args.addr (object_of w).image)) is in
+    let read = c.in_ok-bytes.ensures ∙ memory_read_law p c.args.addr n c.self.invariant free' ∙ ap (λ (w : View). take n (drop c.args.addr (object_of w).image)) is in
     let same = c.copy_from_slice.ensures.after ∙ c.as_slice.ensures in
     rw same
-    (read-done c.args.self.now.view _ c.args.addr n c.in_ok-bytes.bytes free read
+    (read_done c.args.self.now.view _ c.args.addr n c.in_ok-bytes.bytes free read
     (rw (c.push_reserved.ensures.items, c.reserve.ensures.items) (ap (λ (w : View). with_entry w (ReadBack c.args.addr c.in_ok-bytes.bytes)) is)))

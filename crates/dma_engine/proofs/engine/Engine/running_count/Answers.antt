@@ -3,13 +3,13 @@ use Rattle.std.proofs.Common.{◌≡◌, ◌∙◌, ap, arith, length}
 use Rattle.std.specs.Prelude.{is_some}
 use Rattle.std.specs.List.{filter_map, range_with_len}
 use Rattle.dma_engine.specs.View.{channels, object_of, running, runs}
-use Rattle.dma_engine.proofs.WhatRuns.{few_byte, one-more-runs, runs_known}
+use Rattle.dma_engine.proofs.WhatRuns.{few_byte, one_more_runs, runs_known}
 use Rattle.dma_engine.proofs.engine.Engine.running_count.Goals as goal
 
 pub loop-ch-preserved : goal.loop-ch-preserved
 loop-ch-preserved c =
     let v = c.args.self.now.view in
-    let more = one-more-runs (object_of v) v.schedule c.loop-ch.ch in
+    let more = one_more_runs (object_of v) v.schedule c.loop-ch.ch in
     let one : c.from-count.result ≡ bool_byte (is_some (runs (object_of v) v.schedule c.loop-ch.ch)) =
     c.from-count.ensures ∙ ap bool_byte (c.is_some.ensures ∙ ap is_some c.running.ensures ∙ runs_known _ (runs (object_of v) v.schedule c.loop-ch.ch)) in
     (omega (arith, more, one, c.loop-ch.invariant.0), omega (arith, one, few_byte (is_some (runs (object_of v) v.schedule c.loop-ch.ch)), c.loop-ch.invariant.1))

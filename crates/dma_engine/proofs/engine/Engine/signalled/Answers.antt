@@ -8,9 +8,9 @@ use Rattle.dma_engine.specs.Object.{channel, finished, issued_front}
 use Rattle.dma_engine.specs.View.{object_of}
 use Rattle.dma_engine.specs.inner.Holds.{view_of}
 use Rattle.dma_engine.specs.inner.Inside.{parts_of}
-use Rattle.dma_engine.proofs.NextTurns.{signalled-before, signalled-end}
-use Rattle.dma_engine.proofs.Starts.{front-with-cookie}
-use Rattle.dma_engine.proofs.StepCases.{ahead-member}
+use Rattle.dma_engine.proofs.NextTurns.{signalled_before, signalled_end}
+use Rattle.dma_engine.proofs.Starts.{front_with_cookie_law}
+use Rattle.dma_engine.proofs.StepCases.{ahead_member}
 use Rattle.dma_engine.proofs.TransferRules.{running}
 use Rattle.dma_engine.proofs.engine.Engine.signalled.Goals as goal
 
@@ -31,8 +31,8 @@ returns-in_default-insn c =
     let less : ch < length p.queues = omega (arith, c.if-index-len.false, c.from-index.ensures, c.len.ensures, c.self.inside.queues.ok.0) in
     let read = rw c.from-index.ensures at c.index-queue.ensures in
     let r = running p c.self.invariant ch q less read (sym c.if-not-is_loaded.ensures) in
-    let next : member r.transfer q.channel.taken ≡ c.in-Ok.next = ahead-member p c.self.invariant ch q r c.in-Ok.next c.next.result c.next.ensures c.in-Ok.is in
-    rw (← c.self.view_is) (sym (signalled-before p ch q r (λ e. c.in_default-insn.not-End (c.insn.ensures ∙ sym next ∙ e))))
+    let next : member r.transfer q.channel.taken ≡ c.in-Ok.next = ahead_member p c.self.invariant ch q r c.in-Ok.next c.next.result c.next.ensures c.in-Ok.is in
+    rw (← c.self.view_is) (sym (signalled_before p ch q r (λ e. c.in_default-insn.not-End (c.insn.ensures ∙ sym next ∙ e))))
 
 pub returns-in-Some : goal.returns-in-Some
 returns-in-Some c =
@@ -44,9 +44,9 @@ returns-in-Some c =
     let less : ch < length p.queues = omega (arith, c.if-index-len.false, c.from-index.ensures, c.len.ensures, c.self.inside.queues.ok.0) in
     let read = rw c.from-index.ensures at c.index-queue.ensures in
     let r = running p c.self.invariant ch q less read (sym c.if-not-is_loaded.ensures) in
-    let next : member r.transfer q.channel.taken ≡ c.in-Ok.next = ahead-member p c.self.invariant ch q r c.in-Ok.next c.next.result c.next.ensures c.in-Ok.is in
+    let next : member r.transfer q.channel.taken ≡ c.in-Ok.next = ahead_member p c.self.invariant ch q r c.in-Ok.next c.next.result c.next.ensures c.in-Ok.is in
     let ends : member r.transfer q.channel.taken ≡ End = next ∙ sym c.insn.ensures ∙ c.in-End.is in
     let found = rw (c.from-index.ensures, ← c.self.view_is) at c.in-Some.ensures in
-    let known = front-with-cookie (issued_front s) u c.in-Some.field-0-1 (finished s + 1) found in
+    let known = front_with_cookie_law (issued_front s) u c.in-Some.field-0-1 (finished s + 1) found in
     let same : is_some u.signal ≡ is_some r.transfer.signal = ap (λ (o : Option Descriptor). is_some (unwrap_or o u).signal) (sym known.0 ∙ r.issued) in
-    rw (← c.self.view_is) (c.is_some.ensures ∙ ap is_some c.signal.ensures ∙ same ∙ sym (signalled-end p ch q r ends))
+    rw (← c.self.view_is) (c.is_some.ensures ∙ ap is_some c.signal.ensures ∙ same ∙ sym (signalled_end p ch q r ends))

@@ -1,6 +1,6 @@
-use Rattle.dma_engine.proofs.CallCases.{submit-checked}
+use Rattle.dma_engine.proofs.CallCases.{submit_checked}
 use Rattle.dma_engine.proofs.engine.Engine.submit.Goals as goal
 
 pub returns-in-Err-clause-answer : goal.returns-in-Err-clause-answer
 returns-in-Err-clause-answer c =
-    submit-checked c.args.self.now.view c.args.ch _ c.args.transfer c.in-Err.fault c.in-Err.ensures.checked
+    submit_checked c.args.self.now.view c.args.ch _ c.args.transfer c.in-Err.fault c.in-Err.ensures.checked

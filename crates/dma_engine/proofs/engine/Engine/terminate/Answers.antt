@@ -5,24 +5,24 @@ use Rattle.dma_engine.specs.inner.Inside.{parts_of}
 use Rattle.dma_engine.specs.Object.{channel, unfinished, aborted}
 use Rattle.dma_engine.specs.Answer.{done_on, terminated}
 use Rattle.dma_engine.specs.View.{View, EngineState, channels, object_of}
-use Rattle.dma_engine.proofs.CallCases.{terminate-done}
-use Rattle.dma_engine.proofs.Endings.{holds-terminated, view-terminated}
-use Rattle.dma_engine.proofs.Queues.{many-queues, holds-at, queue-there}
-use Rattle.dma_engine.proofs.Rooms.{found-all}
-use Rattle.dma_engine.proofs.Sizes.{many-channels}
+use Rattle.dma_engine.proofs.CallCases.{terminate_done}
+use Rattle.dma_engine.proofs.Endings.{holds_terminated, view_terminated}
+use Rattle.dma_engine.proofs.Queues.{many_queues, holds_at, queue_there}
+use Rattle.dma_engine.proofs.Rooms.{found_all}
+use Rattle.dma_engine.proofs.Sizes.{many_channels}
 use Rattle.dma_engine.proofs.engine.Engine.terminate.Goals as goal
 
 pub kept-requires : goal.kept-requires
 kept-requires c =
     let p = parts_of c.self.inside in
-    let less : c.in_ok-index.index < length p.queues = queue-there p c.args.self.now.view c.args.ch c.in_ok-index.index c.self.invariant (ap (λ (s : EngineState). s.view) c.self.view_is) c.in_ok-index.ensures.there in
-    omega (arith, less, many-queues p c.self.invariant, many-channels p.base p.history)
+    let less : c.in_ok-index.index < length p.queues = queue_there p c.args.self.now.view c.args.ch c.in_ok-index.index c.self.invariant (ap (λ (s : EngineState). s.view) c.self.view_is) c.in_ok-index.ensures.there in
+    omega (arith, less, many_queues p c.self.invariant, many_channels p.base p.history)
 
 pub terminate-requires : goal.terminate-requires
 terminate-requires c =
     let p = parts_of c.self.inside in
-    let less : c.in_ok-index.index < length p.queues = queue-there p c.args.self.now.view c.args.ch c.in_ok-index.index c.self.invariant (ap (λ (s : EngineState). s.view) c.self.view_is) c.in_ok-index.ensures.there in
-    let at = holds-at p c.self.invariant c.in_ok-index.index c.index_mut-queue.result.now less c.index_mut-queue.ensures.value in
+    let less : c.in_ok-index.index < length p.queues = queue_there p c.args.self.now.view c.args.ch c.in_ok-index.index c.self.invariant (ap (λ (s : EngineState). s.view) c.self.view_is) c.in_ok-index.ensures.there in
+    let at = holds_at p c.self.invariant c.in_ok-index.index c.index_mut-queue.result.now less c.index_mut-queue.ensures.value in
     rw c.kept.ensures (omega (arith, at.tied.given, at.tied.forgotten, at.tied.many))
 
 pub invariant_of-self-2 : goal.invariant_of-self-2
@@ -31,15 +31,15 @@ invariant_of-self-2 c =
     let i = c.in_ok-index.index in
     let q = c.index_mut-queue.result.now in
     let s = channel (object_of (view_of p)) i in
-    let less : i < length p.queues = queue-there p c.args.self.now.view c.args.ch c.in_ok-index.index c.self.invariant (ap (λ (s : EngineState). s.view) c.self.view_is) c.in_ok-index.ensures.there in
-    let at = holds-at p c.self.invariant i q less c.index_mut-queue.ensures.value in
+    let less : i < length p.queues = queue_there p c.args.self.now.view c.args.ch c.in_ok-index.index c.self.invariant (ap (λ (s : EngineState). s.view) c.self.view_is) c.in_ok-index.ensures.there in
+    let at = holds_at p c.self.invariant i q less c.index_mut-queue.ensures.value in
     let done = rw (← c.self.view_is) at c.done-done.ensures in
     let count = rw (← c.in_ok-index.ensures.there.0, ← c.self.view_is) at c.unfinished-count.ensures in
     let kept = (channel p.base i).submitted in
     let found = drop (length q.outcomes.items) (transfers_in kept p.history q.indices.items) in
-    let all : found ≡ drop (length s.outcomes) s.submitted = ap (drop (length q.outcomes.items)) (found-all i kept p.history p.memory q s at.tied) ∙ ap (λ l. drop (length l) s.submitted) at.tied.outcomes in
+    let all : found ≡ drop (length s.outcomes) s.submitted = ap (drop (length q.outcomes.items)) (found_all i kept p.history p.memory q s at.tied) ∙ ap (λ l. drop (length l) s.submitted) at.tied.outcomes in
     rw (c.push_reserved.ensures.items, c.in_ok-terminate.ensures.ended, c.kept.ensures, c.deref.ensures.value, c.reserve.ensures.items, done, ← c.in_ok-index.ensures.there.0)
-    (holds-terminated p i c.terminate.new.self.outcomes.spare c.unfinished-count.result q.given q (aborted (done_on (view_of p) i) found) c.self.invariant less c.index_mut-queue.ensures.value (ap (aborted (done_on (view_of p) i)) all) refl count)
+    (holds_terminated p i c.terminate.new.self.outcomes.spare c.unfinished-count.result q.given q (aborted (done_on (view_of p) i) found) c.self.invariant less c.index_mut-queue.ensures.value (ap (aborted (done_on (view_of p) i)) all) refl count)
 
 pub returns-clause-answer : goal.returns-clause-answer
 returns-clause-answer c =
@@ -47,11 +47,11 @@ returns-clause-answer c =
     let i = c.in_ok-index.index in
     let q = c.index_mut-queue.result.now in
     let is : view_of p ≡ c.args.self.now.view = ap (λ (s : EngineState). s.view) c.self.view_is in
-    let less : i < length p.queues = queue-there p c.args.self.now.view c.args.ch c.in_ok-index.index c.self.invariant (ap (λ (s : EngineState). s.view) c.self.view_is) c.in_ok-index.ensures.there in
-    let there : i < channels c.args.self.now.view = omega (arith, many-queues p c.self.invariant, ap channels is, less) in
+    let less : i < length p.queues = queue_there p c.args.self.now.view c.args.ch c.in_ok-index.index c.self.invariant (ap (λ (s : EngineState). s.view) c.self.view_is) c.in_ok-index.ensures.there in
+    let there : i < channels c.args.self.now.view = omega (arith, many_queues p c.self.invariant, ap channels is, less) in
     let done = rw (← c.self.view_is) at c.done-done.ensures in
     let count = rw (← c.in_ok-index.ensures.there.0, ← c.self.view_is) at c.unfinished-count.ensures in
     let found = drop (length q.outcomes.items) (transfers_in (channel p.base i).submitted p.history q.indices.items) in
-    let view = view-terminated p i c.terminate.new.self.outcomes.spare c.unfinished-count.result q.given q (aborted (done_on (view_of p) i) found) count ∙ ap (λ (w : View). terminated w i) is in
+    let view = view_terminated p i c.terminate.new.self.outcomes.spare c.unfinished-count.result q.given q (aborted (done_on (view_of p) i) found) count ∙ ap (λ (w : View). terminated w i) is in
     rw (c.push_reserved.ensures.items, c.in_ok-terminate.ensures.ended, c.kept.ensures, c.deref.ensures.value, c.reserve.ensures.items, done, ← c.in_ok-index.ensures.there.0)
-    (terminate-done c.args.self.now.view _ i _ there (count ∙ ap (λ (w : View). unfinished (channel (object_of w) i)) is) view)
+    (terminate_done c.args.self.now.view _ i _ there (count ∙ ap (λ (w : View). unfinished (channel (object_of w) i)) is) view)

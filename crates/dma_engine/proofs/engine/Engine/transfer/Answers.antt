@@ -5,16 +5,16 @@ use Rattle.dma_engine.specs.inner.Holds.{view_of}
 use Rattle.dma_engine.specs.inner.Inside.{parts_of}
 use Rattle.dma_engine.specs.Object.{channel, no_transfer}
 use Rattle.dma_engine.specs.View.{EngineState, object_of}
-use Rattle.dma_engine.proofs.Queues.{holds-at, many-queues, transfer_found}
-use Rattle.dma_engine.proofs.Sizes.{many-channels}
+use Rattle.dma_engine.proofs.Queues.{holds_at, many_queues, transfer_found}
+use Rattle.dma_engine.proofs.Sizes.{many_channels}
 use Rattle.dma_engine.proofs.engine.Engine.transfer.Goals as goal
 
 pub kept-kept-requires : goal.kept-kept-requires
 kept-kept-requires c =
     let p = parts_of c.self.inside in
     let there = rw (← c.self.view_is) at c.requires.there in
-    let less : c.args.index < length p.queues = omega (arith, there, many-queues p c.self.invariant) in
-    omega (arith, less, many-queues p c.self.invariant, many-channels p.base p.history)
+    let less : c.args.index < length p.queues = omega (arith, there, many_queues p c.self.invariant) in
+    omega (arith, less, many_queues p c.self.invariant, many_channels p.base p.history)
 
 pub transfer-requires : goal.transfer-requires
 transfer-requires c =
@@ -22,8 +22,8 @@ transfer-requires c =
     let i = c.args.index in
     let there = rw (← c.self.view_is) at c.requires.there in
     let given = rw (← c.self.view_is) at c.requires.given in
-    let less : i < length p.queues = omega (arith, there, many-queues p c.self.invariant) in
-    let at = holds-at p c.self.invariant i c.index-queue.result.now less c.index-queue.ensures in
+    let less : i < length p.queues = omega (arith, there, many_queues p c.self.invariant) in
+    let at = holds_at p c.self.invariant i c.index-queue.result.now less c.index-queue.ensures in
     rw c.kept-kept.ensures (omega (arith, given, at.tied.many))
 
 pub unreachable-requires : goal.unreachable-requires
@@ -33,8 +33,8 @@ unreachable-requires c =
     let q = c.index-queue.result.now in
     let there = rw (← c.self.view_is) at c.requires.there in
     let given = rw (← c.self.view_is) at c.requires.given in
-    let less : i < length p.queues = omega (arith, there, many-queues p c.self.invariant) in
-    let at = holds-at p c.self.invariant i q less c.index-queue.ensures in
+    let less : i < length p.queues = omega (arith, there, many_queues p c.self.invariant) in
+    let at = holds_at p c.self.invariant i q less c.index-queue.ensures in
     let found = transfer_found i (channel p.base i).submitted p.history p.memory q (channel (object_of (view_of p)) i) c.args.n at.tied given in
     let none : transfer_at (channel p.base i).submitted p.history q.indices.items c.args.n ≡ None = rw (c.kept-kept.ensures, c.deref.ensures.value) at (sym c.in_default.ensures) in
     absurd (cc (none, found))
@@ -46,8 +46,8 @@ returns c =
     let q = c.index-queue.result.now in
     let there = rw (← c.self.view_is) at c.requires.there in
     let given = rw (← c.self.view_is) at c.requires.given in
-    let less : i < length p.queues = omega (arith, there, many-queues p c.self.invariant) in
-    let at = holds-at p c.self.invariant i q less c.index-queue.ensures in
+    let less : i < length p.queues = omega (arith, there, many_queues p c.self.invariant) in
+    let at = holds_at p c.self.invariant i q less c.index-queue.ensures in
     let t = c.in-Some.transfer.now in
     let found = transfer_found i (channel p.base i).submitted p.history p.memory q (channel (object_of (view_of p)) i) c.args.n at.tied given in
     let listed : Some t ≡ transfer_at (channel p.base i).submitted p.history q.indices.items c.args.n = rw (c.kept-kept.ensures, c.deref.ensures.value) at c.in-Some.ensures in

@@ -5,7 +5,7 @@ use Rattle.dma_engine.specs.inner.Holds.{view_of}
 use Rattle.dma_engine.specs.inner.Inside.{parts_of}
 use Rattle.dma_engine.specs.Object.{channel, no_transfer}
 use Rattle.dma_engine.specs.View.{object_of}
-use Rattle.dma_engine.proofs.Queues.{many-queues, holds-at}
+use Rattle.dma_engine.proofs.Queues.{many_queues, holds_at}
 use Rattle.dma_engine.proofs.engine.Engine.unfinished_copies.Goals as goal
 
 pub loop-n-preserved : goal.loop-n-preserved
@@ -15,8 +15,8 @@ loop-n-preserved c =
     let first = length c.outcomes-first.result.now in
     let ts = (channel (object_of (view_of p)) c.args.index).submitted in
     let asked = rw (← c.self.view_is) at c.requires in
-    let less : c.args.index < length p.queues = omega (arith, asked, many-queues p c.self.invariant) in
-    let at = holds-at p c.self.invariant c.args.index c.index-queue.result.now less c.index-queue.ensures in
+    let less : c.args.index < length p.queues = omega (arith, asked, many_queues p c.self.invariant) in
+    let at = holds_at p c.self.invariant c.args.index c.index-queue.result.now less c.index-queue.ensures in
     let so_far = rw (← c.self.view_is) at c.loop-n.invariant in
     let found = rw (← c.self.view_is) at c.transfer.ensures in
     let back : first + (n - first) ≡ n = omega (arith, c.loop-n.auto.n) in

@@ -2,7 +2,7 @@ use Rattle.std.proofs.Common.{◌∙◌, ap, arith, sym}
 use Rattle.dma_engine.specs.inner.Inside.{parts_of}
 use Rattle.dma_engine.specs.Ticks.{Counts, board_of, counts}
 use Rattle.dma_engine.specs.View.{EngineState}
-use Rattle.dma_engine.proofs.Boards.{counts-at}
+use Rattle.dma_engine.proofs.Boards.{counts_at}
 use Rattle.dma_engine.proofs.engine.Engine.used_at_base.Goals as goal
 
 pub used-requires : goal.used-requires
@@ -13,6 +13,6 @@ used-requires c =
 pub returns : goal.returns
 returns c =
     let p = parts_of c.self.inside in
-    c.used.ensures ∙ sym (ap (λ (x : Counts). x.used) (counts-at p.base c.from.result))
+    c.used.ensures ∙ sym (ap (λ (x : Counts). x.used) (counts_at p.base c.from.result))
     ∙ ap (λ n. (counts (board_of p.base) n).used) c.from.ensures
     ∙ ap (λ (s : EngineState). (counts (board_of s.view.base) c.args.ch).used) c.self.view_is

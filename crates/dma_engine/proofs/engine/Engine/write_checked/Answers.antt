@@ -8,20 +8,20 @@ use Rattle.dma_engine.specs.inner.Holds.{view_of}
 use Rattle.dma_engine.specs.inner.Inside.{parts_of}
 use Rattle.dma_engine.specs.Turn.{with_entry}
 use Rattle.dma_engine.specs.View.{View, EngineState}
-use Rattle.dma_engine.proofs.Changes.{holds-pages}
-use Rattle.dma_engine.proofs.CallCases.{write-starved, write-done, refusal}
-use Rattle.dma_engine.proofs.Entries.{holds-wrote}
+use Rattle.dma_engine.proofs.Changes.{holds_pages}
+use Rattle.dma_engine.proofs.CallCases.{write_starved, write_done, refusal}
+use Rattle.dma_engine.proofs.Entries.{holds_wrote}
 use Rattle.dma_engine.proofs.engine.Engine.write_checked.Goals as goal
 
 pub returns-in_err-reserve-clause-answer : goal.returns-in_err-reserve-clause-answer
 returns-in_err-reserve-clause-answer c =
     let v = c.args.self.now.view in
     refusal (λ _. Done) v _ (Write c.args.addr c.args.bytes) NoMemory c.from_residual.result c.from_residual.ensures.1
-    (rw c.reserve.ensures.items ((write-starved v c.args.addr c.args.bytes c.requires).0, ap (λ (s : EngineState). s.view) c.self.view_is))
+    (rw c.reserve.ensures.items ((write_starved v c.args.addr c.args.bytes c.requires).0, ap (λ (s : EngineState). s.view) c.self.view_is))
 
 pub returns-in_default-clause-answer : goal.returns-in_default-clause-answer
 returns-in_default-clause-answer c =
-    rw c.reserve.ensures.items ((write-starved c.args.self.now.view c.args.addr c.args.bytes c.requires).0, ap (λ (s : EngineState). s.view) c.self.view_is)
+    rw c.reserve.ensures.items ((write_starved c.args.self.now.view c.args.addr c.args.bytes c.requires).0, ap (λ (s : EngineState). s.view) c.self.view_is)
 
 pub invariant_of-self-2 : goal.invariant_of-self-2
 invariant_of-self-2 c =
@@ -29,11 +29,11 @@ invariant_of-self-2 c =
     let is : view_of p ≡ c.args.self.now.view = ap (λ (s : EngineState). s.view) c.self.view_is in
     let free : write_fault (view_of p) c.args.addr (length c.args.bytes) ≡ None = subst (λ (w : View). write_fault w c.args.addr (length c.args.bytes) ≡ None) (sym is) c.requires in
     let paged = record p { made = c.write.new.self.made } in
-    let holds = holds-pages p c.write.new.self.made c.self.invariant c.write.ensures.keeps.made in
-    rw (c.push_reserved.ensures.items, c.reserve.ensures.items, c.in-Ok.ensures.ok, c.as_slice.ensures) (holds-wrote paged c.args.addr c.args.bytes holds free)
+    let holds = holds_pages p c.write.new.self.made c.self.invariant c.write.ensures.keeps.made in
+    rw (c.push_reserved.ensures.items, c.reserve.ensures.items, c.in-Ok.ensures.ok, c.as_slice.ensures) (holds_wrote paged c.args.addr c.args.bytes holds free)
 
 pub returns-clause-answer : goal.returns-clause-answer
 returns-clause-answer c =
     let is : view_of (parts_of c.self.inside) ≡ c.args.self.now.view = ap (λ (s : EngineState). s.view) c.self.view_is in
-    write-done c.args.self.now.view _ c.args.addr c.args.bytes c.requires
+    write_done c.args.self.now.view _ c.args.addr c.args.bytes c.requires
     (rw (c.push_reserved.ensures.items, c.reserve.ensures.items) (ap (λ (w : View). with_entry w (Wrote c.args.addr c.args.bytes)) is))

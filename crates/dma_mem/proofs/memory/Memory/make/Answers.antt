@@ -2,7 +2,7 @@ use Rattle.std.proofs.Common.{◌≡◌, ◌/◌, length, ap, sym, ◌∙◌, ar
 use Rattle.std.proofs.lemmas.Result.{err_from_is_err_and}
 use Rattle.dma_mem.specs.Pages.{Paged, has_page}
 use Rattle.dma_mem.specs.inner.ChunkTable.{image_of, paged, HasChunks}
-use Rattle.dma_mem.proofs.PageImages.{Flagged, size_seen, image_seen, short_of_flag, short_of_chunk, HasChunks-kept, Keeps-same, Keeps-flagged, AllMade-flagged, MakesNoOther-flagged}
+use Rattle.dma_mem.proofs.PageImages.{Flagged, size_seen, image_seen, short_of_flag, short_of_chunk, HasChunks_kept, Keeps_same, Keeps_flagged, AllMade_flagged, MakesNoOther_flagged}
 use Rattle.dma_mem.proofs.memory.Memory.make.Goals as goal
 
 pub make-requires-clause-within : goal.make-requires-clause-within
@@ -21,7 +21,7 @@ returns-in_err-make-clause-short c =
     let flags = c.make_room.new.self in
     let m : Paged = paged c.self.inside.size c.make.new.self flags in
     let before : HasChunks flags c.self.inside.table = λ p flag. c.self.invariant.3 p (sym (c.make_room.ensures.flags p) ∙ flag) in
-    let has = HasChunks-kept flags c.self.inside.table c.make.new.self before (λ p some. omega (arith, some, ap length (c.make.ensures.kept p some))) in
+    let has = HasChunks_kept flags c.self.inside.table c.make.new.self before (λ p some. omega (arith, some, ap length (c.make.ensures.kept p some))) in
     rw p.1 (short_of_chunk m c.make.new.self c.args.segment.addr c.args.segment.len has c.in_err-make.ensures.short)
 
 pub returns-in_err-make-clause-image : goal.returns-in_err-make-clause-image
@@ -31,7 +31,7 @@ returns-in_err-make-clause-image c =
 pub returns-in_err-make-clause-keeps : goal.returns-in_err-make-clause-keeps
 returns-in_err-make-clause-keeps c =
     let image : image_of c.self.inside.size c.make.new.self ≡ c.args.self.now.image = image_seen c.self.inside.size c.self.inside.table c.make.new.self c.self.inside.flags c.args.self.now c.self.view_is c.make.ensures.bytes in
-    Keeps-same c.args.self.now (paged c.self.inside.size c.make.new.self c.make_room.new.self) (ap length image) (λ p. c.make_room.ensures.flags p ∙ ap (λ (m : Paged). has_page m p) c.self.view_is)
+    Keeps_same c.args.self.now (paged c.self.inside.size c.make.new.self c.make_room.new.self) (ap length image) (λ p. c.make_room.ensures.flags p ∙ ap (λ (m : Paged). has_page m p) c.self.view_is)
 
 pub returns : goal.returns
 returns c =
@@ -47,9 +47,9 @@ returns c =
       outside = λ p out. c.set.ensures.outside p out ∙ c.make_room.ensures.flags p ∙ ap (λ (m : Paged). has_page m p) c.self.view_is;
     } in
     record {
-      ok = AllMade-flagged old.made new addr len end (omega (arith, long, c.requires.within)) (omega (arith, c.div_ceil-page_end.ensures)) flagged;
+      ok = AllMade_flagged old.made new addr len end (omega (arith, long, c.requires.within)) (omega (arith, c.div_ceil-page_end.ensures)) flagged;
       short = tt;
       image = image;
-      keeps = Keeps-flagged old new (addr / 4096) end long flagged;
-      others = MakesNoOther-flagged old new addr len end c.requires.some (omega (arith, c.div_ceil-page_end.ensures)) flagged;
+      keeps = Keeps_flagged old new (addr / 4096) end long flagged;
+      others = MakesNoOther_flagged old new addr len end c.requires.some (omega (arith, c.div_ceil-page_end.ensures)) flagged;
     }

@@ -4,11 +4,11 @@ use Rattle.std.proofs.lemmas.Bool.{le-ltb}
 use Rattle.dma_mem.specs.declared.segment.Segment.{Segment}
 use Rattle.dma_mem.specs.Pages.{AllMade}
 use Rattle.dma_mem.specs.Places.{places, all_below}
-use Rattle.dma_mem.proofs.PrepareAll.{in_places, below_at, below_more, made_more, keeps_made, Keeps-trans, Keeps-refl}
+use Rattle.dma_mem.proofs.PrepareAll.{in_places, below_at, below_more, made_more, keeps_made, Keeps_trans, Keeps_refl}
 use Rattle.dma_mem.proofs.memory.Memory.prepare_all.Goals as goal
 
 pub loop-s-init : goal.loop-s-init
-loop-s-init c = record { image = refl; keeps = Keeps-refl c.args.self.now; within = refl; made = λ a i. absurd (omega (arith, i.1)); others = λ p off. refl }
+loop-s-init c = record { image = refl; keeps = Keeps_refl c.args.self.now; within = refl; made = λ a i. absurd (omega (arith, i.1)); others = λ p off. refl }
 
 pub loop-s-preserved : goal.loop-s-preserved
 loop-s-preserved c =
@@ -18,7 +18,7 @@ loop-s-preserved c =
     let i = c.loop-s.s-index in
     record {
       image = c.prepare.ensures.image ∙ inv.image;
-      keeps = Keeps-trans c.args.self.now c.loop-s.self c.prepare.new.self inv.keeps c.prepare.ensures.keeps;
+      keeps = Keeps_trans c.args.self.now c.loop-s.self c.prepare.new.self inv.keeps c.prepare.ensures.keeps;
       within = below_more list i d (length c.args.self.now.image) c.loop-s-test.true inv.within (omega (arith, c.in-Ok.ensures.within, ap length inv.image));
       made = made_more c.prepare.new.self list i d c.loop-s-test.true (keeps_made c.loop-s.self c.prepare.new.self (places (take i list)) c.prepare.ensures.keeps inv.made) c.in-Ok.ensures.ok;
       others = λ p off. c.prepare.ensures.others p (λ a here. off a (in_places list i d a c.loop-s-test.true here)) ∙ inv.others p off;

@@ -3,9 +3,9 @@ use Rattle.std.specs.List.{range_with_len}
 use Rattle.std.proofs.lemmas.Bool.{lt-ltb, le-ltb}
 use Rattle.dma_mem.specs.Image.{bytes_at}
 use Rattle.dma_mem.specs.Pages.{Keeps}
-use Rattle.dma_mem.proofs.ImagePut.{length-put}
-use Rattle.dma_mem.proofs.PageImages.{size_seen, Keeps-same}
-use Rattle.dma_mem.proofs.PrepareAll.{keeps_made, Keeps-trans}
+use Rattle.dma_mem.proofs.ImagePut.{length_put}
+use Rattle.dma_mem.proofs.PageImages.{size_seen, Keeps_same}
+use Rattle.dma_mem.proofs.PrepareAll.{keeps_made, Keeps_trans}
 use Rattle.dma_mem.proofs.memory.Memory.write.Goals as goal
 use Rattle.dma_mem.proofs.memory.Memory.write.Goals.{After-write_parts}
 
@@ -26,7 +26,7 @@ returns-in_default-clause-fault c =
 -- the pages that were prepared are still made after the write
 written : (c : After-write_parts) → Keeps c.prepare.new.self c.write_parts.new.self
 written c =
-    Keeps-same c.prepare.new.self c.write_parts.new.self (ap length c.write_parts.ensures.image ∙ length-put c.prepare.new.self.image (bytes_at c.args.addr (c.args.bytes.now ++ []))) (λ p. ap (λ (xs : List Bool). get_or xs p false) c.write_parts.ensures.made)
+    Keeps_same c.prepare.new.self c.write_parts.new.self (ap length c.write_parts.ensures.image ∙ length_put c.prepare.new.self.image (bytes_at c.args.addr (c.args.bytes.now ++ []))) (λ p. ap (λ (xs : List Bool). get_or xs p false) c.write_parts.ensures.made)
 
 pub returns-clause-made : goal.returns-clause-made
 returns-clause-made c =
@@ -36,4 +36,4 @@ returns-clause-made c =
 pub returns-clause-keeps : goal.returns-clause-keeps
 returns-clause-keeps c =
     let here = (goal.at.returns-clause-keeps c).After-write_parts in
-    Keeps-trans here.args.self.now here.prepare.new.self here.write_parts.new.self here.prepare.ensures.keeps (written here)
+    Keeps_trans here.args.self.now here.prepare.new.self here.write_parts.new.self here.prepare.ensures.keeps (written here)

@@ -3,7 +3,7 @@ use Rattle.std.specs.List.Sorted.{IsPermutation}
 use Rattle.std.proofs.lemmas.List.{take_at}
 use Rattle.std.proofs.lemmas.List.Sorted.{All-permutation, length_permutation}
 use Rattle.dma_mem.specs.declared.segment.Segment.{Segment}
-use Rattle.dma_mem.proofs.RangeSets.{same_permuted, same-trans}
+use Rattle.dma_mem.proofs.RangeSets.{same_permuted, same_trans}
 use Rattle.dma_mem.proofs.range_set.RangeSet.new.Goals as goal
 use Rattle.dma_mem.proofs.range_set.RangeSet.new.Goals.{After-sort_by_address}
 
@@ -25,4 +25,4 @@ coalesce-requires-clause-within c =
 
 pub returns-clause-same : goal.returns-clause-same
 returns-clause-same c =
-    same-trans c.coalesce.new.segments.items (take c.in_ok-ranges.ranges.len (c.sort_by_address.new.segments ++ drop (length c.sort_by_address.new.segments) c.in_ok-ranges.ranges.items)) c.args.segments.now c.coalesce.ensures.same (same_permuted c.args.segments.now _ (sorted (goal.at.returns-clause-same c).After-sort_by_address))
+    same_trans c.coalesce.new.segments.items (take c.in_ok-ranges.ranges.len (c.sort_by_address.new.segments ++ drop (length c.sort_by_address.new.segments) c.in_ok-ranges.ranges.items)) c.args.segments.now c.coalesce.ensures.same (same_permuted c.args.segments.now _ (sorted (goal.at.returns-clause-same c).After-sort_by_address))

@@ -1,7 +1,7 @@
 use Rattle.std.proofs.Common.{◌≡◌, List, length, true, arith, rules, ap}
 use Rattle.dma_mem.specs.declared.regions.Region.{Region}
 use Rattle.dma_mem.specs.Regions.{pieces_of, image_of, in_order}
-use Rattle.dma_mem.proofs.Pieces.{image_of-most}
+use Rattle.dma_mem.proofs.Pieces.{image_of_most}
 use Rattle.dma_mem.proofs.regions.LentRegionsRam.size.Goals as goal
 
 pub returns-clause-limit : goal.returns-clause-limit
@@ -9,4 +9,4 @@ returns-clause-limit c =
     let rs = c.args.self.now.regions.now in
     let order : in_order (pieces_of rs) ≡ true = search rules in
     let same = ap (λ (xs : List Region). length (image_of (pieces_of xs))) c.shared.ensures in
-    omega (arith, c.size_of.ensures, same, image_of-most (pieces_of rs) order)
+    omega (arith, c.size_of.ensures, same, image_of_most (pieces_of rs) order)

@@ -2,7 +2,7 @@ use Rattle.std.proofs.Common.{◌≡◌, ◌+◌, ◌<◌, ◌≤◌, ◌++◌, 
 use Rattle.std.proofs.lemmas.List.{get_or_default, get_or-set_same, length-append}
 use Rattle.dma_mem.specs.Image.{put, bytes_at}
 use Rattle.dma_mem.specs.inner.ChunkTable.{chunk_at}
-use Rattle.dma_mem.proofs.ChunkTables.{within_chunks, laid-put}
+use Rattle.dma_mem.proofs.ChunkTables.{within_chunks, laid_put}
 use Rattle.dma_mem.proofs.table.Group.put.Goals as goal
 
 pub returns-clause-bytes : goal.returns-clause-bytes
@@ -17,7 +17,7 @@ returns-clause-bytes c =
     let fits : c.args.offset + length bs ≤ length old = omega (arith, c.requires.fits, c.put.ensures.whole, c.put.ensures.len, ap length is, length-append c.args.front.now c.args.back.now) in
     λ k.
     ap (λ x. get_or x k 0) (get_or-set_same chunks i c.put.new.self [] h ∙ c.put.ensures.bytes ∙ ap (λ x. put x (bytes_at c.args.offset bs)) is)
-    ∙ laid-put old c.args.offset bs fits k
+    ∙ laid_put old c.args.offset bs fits k
 
 pub returns-clause-len : goal.returns-clause-len
 returns-clause-len c =

@@ -1,6 +1,6 @@
 use Rattle.std.proofs.Common.{◌+◌, ◌≤◌, refl, sym, ◌∙◌, arith, inl, inr}
 use Rattle.dma_mem.specs.inner.ChunkTable.{image_of}
-use Rattle.dma_mem.proofs.ChunkImages.{length-image_of}
+use Rattle.dma_mem.proofs.ChunkImages.{length_image_of}
 use Rattle.dma_mem.proofs.PageImages.{put_none}
 use Rattle.dma_mem.proofs.BlockCopies.{AreApart, copied_more}
 use Rattle.dma_mem.proofs.table.Table.copy_apart.Goals as goal
@@ -27,6 +27,6 @@ loop-done-preserved c =
       count = c.copy_in_chunks.ensures.count ∙ inv.count;
       len = λ p. c.copy_in_chunks.ensures.len p ∙ inv.len p;
       image = λ size source target.
-          let long = length-image_of size c.args.self.now in
+          let long = length_image_of size c.args.self.now in
           copied_more (image_of size c.args.self.now) (image_of size c.loop-done.self) (image_of size c.copy_in_chunks.new.self) from to (done + count) done count (omega (arith, long, source)) (omega (arith, long, target)) apart (omega arith) (inv.image size (omega (arith, source)) (omega (arith, target))) (c.copy_in_chunks.ensures.image size (omega (arith, source)) (omega (arith, target)));
     }

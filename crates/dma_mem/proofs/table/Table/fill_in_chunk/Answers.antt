@@ -3,7 +3,7 @@ use Rattle.std.proofs.lemmas.List.{length-replicate}
 use Rattle.dma_mem.specs.Image.{bytes_at}
 use Rattle.dma_mem.specs.inner.Blocks.{filled}
 use Rattle.dma_mem.specs.inner.ChunkTable.{chunk_at, flat}
-use Rattle.dma_mem.proofs.ImagePut.{length-put}
+use Rattle.dma_mem.proofs.ImagePut.{length_put}
 use Rattle.dma_mem.proofs.ChunkChanges.{group_found, chunk_in_group, replaced, lengths_kept, image_changed}
 use Rattle.dma_mem.proofs.table.Table.fill_in_chunk.Goals as goal
 
@@ -28,7 +28,7 @@ returns c =
     let new = c.fill.ensures.new ∙ ap (λ x. set group (n % 256) (filled x offset c.args.len c.args.byte)) found in
     let change = replaced groups old n group c.fill.new.self chunk c.self.view_is c.requires.made c.index_mut-group.ensures.value new in
     record {
-      len = lengths_kept old _ n chunk change (length-put (chunk_at old n) (bytes_at offset (replicate c.args.len c.args.byte)));
+      len = lengths_kept old _ n chunk change (length_put (chunk_at old n) (bytes_at offset (replicate c.args.len c.args.byte)));
       count = change.count;
       image = λ size. image_changed size old _ c.args.start chunk (replicate c.args.len c.args.byte) change refl (ap length (sym found) ∙ c.fill.ensures.whole) (omega (arith, length-replicate c.args.len c.args.byte, c.requires.within));
     }

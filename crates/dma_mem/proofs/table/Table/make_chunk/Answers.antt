@@ -1,7 +1,7 @@
 use Rattle.std.proofs.Common.{◌≡◌, ◌<◌, ◌/◌, ◌%◌, ℕ, length, get_or, set, refl, ap, sym, ◌∙◌, arith}
 use Rattle.std.proofs.lemmas.Result.{on_ok_weaker, on_err_weaker}
 use Rattle.dma_mem.specs.inner.ChunkTable.{flat, chunk_at}
-use Rattle.dma_mem.proofs.ChunkTables.{chunk_at-flat_same, length-flat_set, chunk_found, group_within, put_back, others_kept}
+use Rattle.dma_mem.proofs.ChunkTables.{chunk_at_flat_same, length_flat_set, chunk_found, group_within, put_back, others_kept}
 use Rattle.dma_mem.proofs.table.Table.make_chunk.Goals as goal
 use Rattle.dma_mem.proofs.table.Table.make_chunk.Goals.{After-make}
 
@@ -20,11 +20,11 @@ found c =
 
 -- the chunk, after the call in the table and in its group
 stored : (c : After-make) → chunk_at (flat (set c.self.inside.groups.items (c.args.number / 256) c.make.new.self)) c.args.number ≡ chunk_at c.make.new.self (c.args.number % 256)
-stored c = chunk_at-flat_same c.self.inside.groups.items (c.args.number / 256) c.args.number c.make.new.self (within c) refl
+stored c = chunk_at_flat_same c.self.inside.groups.items (c.args.number / 256) c.args.number c.make.new.self (within c) refl
 
 pub returns-clause-count : goal.returns-clause-count
 returns-clause-count c =
-    length-flat_set c.self.inside.groups.items (c.args.number / 256) c.make.new.self ∙ ap length (let v : flat c.self.inside.groups.items ≡ c.args.self.now = c.self.view_is in v)
+    length_flat_set c.self.inside.groups.items (c.args.number / 256) c.make.new.self ∙ ap length (let v : flat c.self.inside.groups.items ≡ c.args.self.now = c.self.view_is in v)
 
 pub returns-clause-others : goal.returns-clause-others
 returns-clause-others c =

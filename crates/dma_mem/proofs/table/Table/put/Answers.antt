@@ -3,7 +3,7 @@ use Rattle.std.proofs.lemmas.Bool.{cases_eq}
 use Rattle.std.proofs.lemmas.List.{append-nil, length-take}
 use Rattle.dma_mem.specs.Image.{put, bytes_at}
 use Rattle.dma_mem.specs.inner.ChunkTable.{chunk_at, PutsInChunk, image_of}
-use Rattle.dma_mem.proofs.ChunkImages.{image_of-laid, bytes_in_turn}
+use Rattle.dma_mem.proofs.ChunkImages.{image_of_laid, bytes_in_turn}
 use Rattle.dma_mem.proofs.PageImages.{put_none}
 use Rattle.dma_mem.proofs.table.Table.put.Goals as goal
 
@@ -37,7 +37,7 @@ loop-done-preserved c =
         | inr other ↦ ap length (c.put_in_chunk.ensures.others q other) ∙ inv.len q
       ];
       image = λ size.
-          image_of-laid size old new p off part c.put_in_chunk.ensures.others laid (omega (arith, fits, length-take n (drop done bytes)))
+          image_of_laid size old new p off part c.put_in_chunk.ensures.others laid (omega (arith, fits, length-take n (drop done bytes)))
           ∙ ap (λ i. put (image_of size old) (bytes_at i part)) back
           ∙ ap (λ x. put x (bytes_at at part)) (inv.image size)
           ∙ bytes_in_turn (image_of size c.args.self.now) start done n bytes small;

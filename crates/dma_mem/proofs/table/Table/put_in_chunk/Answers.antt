@@ -3,7 +3,7 @@ use Rattle.std.specs.Prelude.{unwrap_or, nat_eq}
 use Rattle.std.specs.Map.{lookup}
 use Rattle.dma_mem.specs.Image.{bytes_at}
 use Rattle.dma_mem.specs.inner.ChunkTable.{flat, chunk_at}
-use Rattle.dma_mem.proofs.ChunkTables.{chunk_at-flat_same, length-flat_set, chunk_found, group_within, others_kept, within_chunks}
+use Rattle.dma_mem.proofs.ChunkTables.{chunk_at_flat_same, length_flat_set, chunk_found, group_within, others_kept, within_chunks}
 use Rattle.dma_mem.proofs.table.Table.put_in_chunk.Goals as goal
 use Rattle.dma_mem.proofs.table.Table.put_in_chunk.Goals.{After-put}
 
@@ -22,11 +22,11 @@ found c =
 
 -- the chunk, after the call in the table and in its group
 stored : (c : After-put) → chunk_at (flat (set c.self.inside.groups.items (c.args.number / 256) c.put.new.self)) c.args.number ≡ chunk_at c.put.new.self (c.args.number % 256)
-stored c = chunk_at-flat_same c.self.inside.groups.items (c.args.number / 256) c.args.number c.put.new.self (within c) refl
+stored c = chunk_at_flat_same c.self.inside.groups.items (c.args.number / 256) c.args.number c.put.new.self (within c) refl
 
 pub returns-clause-count : goal.returns-clause-count
 returns-clause-count c =
-    length-flat_set c.self.inside.groups.items (c.args.number / 256) c.put.new.self ∙ ap length (let v : flat c.self.inside.groups.items ≡ c.args.self.now = c.self.view_is in v)
+    length_flat_set c.self.inside.groups.items (c.args.number / 256) c.put.new.self ∙ ap length (let v : flat c.self.inside.groups.items ≡ c.args.self.now = c.self.view_is in v)
 
 pub returns-clause-others : goal.returns-clause-others
 returns-clause-others c =

@@ -2,13 +2,13 @@ use Rattle.std.proofs.Common.{◌≡◌, ◌<◌, ◌%◌, ◌∙◌, ap, arith,
 use Rattle.std.specs.Prelude.{slice_index_or}
 use Rattle.std.proofs.lemmas.List.{get_or_read}
 use Rattle.dma_seeds.specs.Turns.{drawn, job_at, no_turns}
-use Rattle.dma_seeds.proofs.TurnLemmas.{drawn-next, drawn-none}
+use Rattle.dma_seeds.proofs.TurnLemmas.{drawn_next, drawn_none}
 use Rattle.dma_seeds.proofs.turns.Turns.next.Goals as goal
 
 pub returns-then-self-eq0 : goal.returns-then-self-eq0
 returns-then-self-eq0 c =
     let t = c.self.inside in
-    sym c.self.view_is ∙ ap (λ n. drawn n t.rng t.jobs.items) c.if-self-eq0.true ∙ drawn-none t.rng t.jobs.items
+    sym c.self.view_is ∙ ap (λ n. drawn n t.rng t.jobs.items) c.if-self-eq0.true ∙ drawn_none t.rng t.jobs.items
 
 pub returns : goal.returns
 returns c =
@@ -19,4 +19,4 @@ returns c =
     let taken = c.index-taken.result.now in
     let here : taken ≡ slice_index_or t.jobs.items k no_turns = get_or_read t.jobs.items k taken there c.index-taken.ensures no_turns in
     sym c.self.view_is
-    ∙ drawn-next t.left t.rng c.next_word.result c.next_word.new.self t.jobs.items k taken c.after_turn.result (omega arith) c.next_word.ensures at here c.after_turn.ensures
+    ∙ drawn_next t.left t.rng c.next_word.result c.next_word.new.self t.jobs.items k taken c.after_turn.result (omega arith) c.next_word.ensures at here c.after_turn.ensures

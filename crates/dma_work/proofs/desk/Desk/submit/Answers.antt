@@ -2,7 +2,7 @@ use Rattle.std.proofs.Common.{◌∙◌, ap, arith, refl, sym}
 use Rattle.dma_mem.specs.declared.call.Call.TheVariants.{Submit}
 use Rattle.dma_engine.specs.declared.call.Reply.TheVariants.{Cookie}
 use Rattle.dma_engine.specs.Ticks.{Submitted}
-use Rattle.dma_engine.proofs.CallLists.{answers-extend}
+use Rattle.dma_engine.proofs.CallLists.{answers_extend}
 use Rattle.dma_engine.proofs.CookieCounts.{submits_add}
 use Rattle.dma_work.specs.inner.DeskKept.{IsKept}
 use Rattle.dma_work.specs.inner.Published.{EditionState, SnapshotState}
@@ -24,7 +24,7 @@ kept g c =
     let ch = c.args.ch in
     let h = c.in-Ok.ensures.answer in
     let s = submits_add m.view w.view ch c.in-Ok.cookie c.args.transfer h in
-    let base = (answers-extend m.view w.view (Submit ch c.args.transfer) (Cookie c.in-Ok.cookie) refl h).0 in
+    let base = (answers_extend m.view w.view (Submit ch c.args.transfer) (Cookie c.in-Ok.cookie) refl h).0 in
     kept_next _ _ _ c.self.inside.engine m w c.self.inside.publisher c.ready.new.self c.publish.new.self c.self.inside.book c.self.inside.book _ c.new-tick.result (Submitted ch) 0 0 c.make_room.ensures.view s.0 base c.new-tick.ensures (c.ready.ensures.ready c.if-not-ready.false) c.publish.ensures.published (omega arith) (omega arith) c.self.invariant
 
 pub invariant_of-result : goal.invariant_of-result

@@ -4,7 +4,7 @@ use Rattle.dma_engine.specs.declared.call.Reply.TheVariants.{Count}
 use Rattle.dma_engine.specs.Object.{finished_all}
 use Rattle.dma_engine.specs.Ticks.{Finished}
 use Rattle.dma_engine.specs.View.{View, object_of}
-use Rattle.dma_engine.proofs.CallLists.{answers-extend}
+use Rattle.dma_engine.proofs.CallLists.{answers_extend}
 use Rattle.dma_engine.proofs.CookieCounts.{terminates_add}
 use Rattle.dma_work.specs.declared.worker.Totals.{Totals}
 use Rattle.dma_work.specs.inner.DeskKept.{IsKept}
@@ -37,7 +37,7 @@ kept g c =
     let count = c.in-Ok.count in
     let h = c.in-Ok.ensures.answer in
     let s = terminates_add m.view w.view ch count h in
-    let base = (answers-extend m.view w.view (Terminate ch) (Count count) refl h).0 in
+    let base = (answers_extend m.view w.view (Terminate ch) (Count count) refl h).0 in
     let tick : c.new-tick.result ≡ Finished ch count = c.new-tick.ensures ∙ ap (λ n. Finished ch n) (c.unfinished.ensures ∙ sym s.2) in
     let book : Totals = record (c.self.inside.book) { terminated = c.self.inside.book.terminated + c.from.result } in
     kept_next _ _ _ c.self.inside.engine m w c.self.inside.publisher c.ready.new.self c.publish.new.self c.self.inside.book book _ c.new-tick.result (Finished ch count) 0 count c.make_room.ensures.view s.0 base tick (c.ready.ensures.ready c.if-not-ready.false) c.publish.ensures.published (omega arith) (omega (arith, c.from.ensures)) c.self.invariant

@@ -8,7 +8,7 @@ use Rattle.dma_commands.specs.Run.{call_answer}
 use Rattle.dma_commands.specs.Transfers.{transfer_of}
 use Rattle.dma_commands.specs.inner.RunSteps.{RunsLine}
 use Rattle.dma_commands.proofs.RunLemmas.{call_runs, fit_runs}
-use Rattle.dma_commands.proofs.Served.{refused-served}
+use Rattle.dma_commands.proofs.Served.{refused_served}
 use Rattle.dmasim.proofs.race.early.answer_submit.Goals as goal
 
 pub returns-in-Ok-submit-clause-line : goal.returns-in-Ok-submit-clause-line
@@ -36,4 +36,4 @@ returns-in-Err-submit-clause-line g c =
     let is : c.in-Ok.transfer ≡ transfer_of c.args.words = c.in-Ok.ensures.ok in
     fit_runs v w (refusal_of (transfer_of c.args.words)) _ result out new (ap refusal_of (sym is) ∙ c.in-Ok.ensures.accepted)
     (subst (λ (u : Descriptor). RunsLine (call_answer v (Submit c.args.ch u)) w result out new) is
-    (call_runs v w (Submit c.args.ch c.in-Ok.transfer) (Refused fault) result out new c.in-Err-submit.ensures.err (on_ok_weaker result (λ p. refused-served fault p.1) print.printed) print.ok print.err))
+    (call_runs v w (Submit c.args.ch c.in-Ok.transfer) (Refused fault) result out new c.in-Err-submit.ensures.err (on_ok_weaker result (λ p. refused_served fault p.1) print.printed) print.ok print.err))
