@@ -28,6 +28,7 @@ use Rattle.dma_chan.specs.CallWrites.{CallWritesNoOther, LoadExecutes, CallStays
 use Rattle.dma_chan.proofs.GoingOn.{Can, can_next, few_at}
 use Rattle.dma_chan.proofs.Longer.{next_longer}
 use Rattle.dma_chan.proofs.ShapeLaws.{is_store}
+use Rattle.dma_chan.proofs.StepsTaken.{steps_move}
 use Rattle.dma_chan.proofs.SteppedOver.{kept_outside, was_moved, went_before, writes_each}
 use Rattle.dma_chan.proofs.Traced.{Inside, grows_to}
 
@@ -202,8 +203,8 @@ load_executes bus program n c l = (
 pub call_stays_in : CallStaysIn
 call_stays_in bus program t n marks s most taken last after h w steps = record {
   writes = λ a i.
-      let by = writes_each marks s taken a steps.moves i in
-      let v = many_in bus program t n h marks s by.0 w (λ k l. steps.moves k (omega (arith, by.1))) in
+      let by = writes_each marks s taken a (steps_move steps) i in
+      let v = many_in bus program t n h marks s by.0 w (λ k l. steps_move steps k (omega (arith, by.1))) in
       next_inside bus program t n h v.0 (after_steps marks s by.0).channel a v.1 (nexts bus program t n h v.0 v.1.within) by.3;
-  channel = subst (λ (u : Machine). Executes bus program n u.channel ⊎ (u.channel.program ≡ None)) (sym steps.ends_at) (last_in bus program t n h marks s taken w steps.moves);
+  channel = subst (λ (u : Machine). Executes bus program n u.channel ⊎ (u.channel.program ≡ None)) (sym steps.ends_at) (last_in bus program t n h marks s taken w (steps_move steps));
 }

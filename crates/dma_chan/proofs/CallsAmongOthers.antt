@@ -20,6 +20,7 @@ use Rattle.dma_chan.specs.Channel.{ChannelValue, ahead_of}
 use Rattle.dma_chan.specs.Explains.{Explains, IsLoadedWith, IsSignal, IsWait, Trace, after_insn, next_in, traced}
 use Rattle.dma_chan.specs.Programs.{ProgramValue}
 use Rattle.dma_chan.specs.Stepping.{Machine, answer_at, after_step, after_steps, goes_on_after, signal_of, signal_after, TakesSteps}
+use Rattle.dma_chan.proofs.StepsTaken.{steps_move, steps_stop}
 use Rattle.dma_chan.proofs.SteppedOver.{is_still, was_moved, went_before}
 use Rattle.dma_chan.specs.Others.{Misses, Touches, CalledAmongOthers, CallsCopyAmongOthers}
 use Rattle.dma_chan.proofs.AmongOthers.{Among, After, Fits, after_next, at_start, kept, touched_below}
@@ -133,7 +134,7 @@ module _ (bus : Bus) (program : List ℕ) (t : Descriptor) (n : ℕ) (marks : Ma
       subst (λ (o : Option ChanTurn). Leads bus program t n first o v) (sym steps.answer) (subst (Runs bus program t n first) (sym steps.ends_at) r)
   call s v most (suc p) last r steps =
       let u = after_steps marks s p in
-      let w = many p s r steps.moves in
+      let w = many p s r (steps_move steps) in
       subst (λ (o : Option ChanTurn). Leads bus program t n first o v) (sym steps.answer) (subst (Leads bus program t n first (Some (answer_at marks u))) (sym steps.ends_at) (one w.0 u (answer_at marks u) w.1 refl))
 
   -- where no mark lies at what the transfer touches, the last step of a call doesn't fail
@@ -141,7 +142,7 @@ module _ (bus : Bus) (program : List ℕ) (t : Descriptor) (n : ℕ) (marks : Ma
   call_fails s v most zero last kind none r steps e = let bad : None ≡ Some (Fault kind) = sym steps.answer ∙ e in cc
   call_fails s v most (suc p) last kind none r steps e =
       let u = after_steps marks s p in
-      let w = many p s r steps.moves in
+      let w = many p s r (steps_move steps) in
       let answer : Some (answer_at marks u) ≡ Some (Fault kind) = sym steps.answer ∙ e in
       let turn : answer_at marks u ≡ Fault kind = cc in
       after w.0 u (Fault kind) turn w.1 none
@@ -151,7 +152,7 @@ module _ (bus : Bus) (program : List ℕ) (t : Descriptor) (n : ℕ) (marks : Ma
   call_waits s v most zero e last r steps is = absurd (let bad = sym steps.answer ∙ is in cc)
   call_waits s v most (suc p) e last r steps is =
       let u = after_steps marks s p in
-      let w = many p s r steps.moves in
+      let w = many p s r (steps_move steps) in
       let answer : Some (answer_at marks u) ≡ Some (Waiting e) = sym steps.answer ∙ is in
       let turn : answer_at marks u ≡ Waiting e = cc in
       after w.0 u (Waiting e) turn w.1
@@ -160,7 +161,7 @@ module _ (bus : Bus) (program : List ℕ) (t : Descriptor) (n : ℕ) (marks : Ma
   pub call_answers : (s v : Machine) (most taken : ℕ) (last : Option ChanTurn) → 0 < most → Runs bus program t n first s → TakesSteps marks s most taken last v → last ≢ None
   call_answers s v most (suc p) last some r steps is = let bad = sym steps.answer ∙ is in cc
   call_answers s v most zero last some r steps is =
-      elim steps.stops [
+      elim (steps_stop steps) [
         | inl all ↦ absurd (omega arith)
         | inr other ↦ elim other [
           | inl over ↦ absurd (true≢false over)
@@ -188,7 +189,7 @@ module _ (bus : Bus) (program : List ℕ) (t : Descriptor) (n : ℕ) (marks : Ma
   signalled s v most zero last e r steps signal = absurd (cc)
   signalled s v most (suc p) last e r steps signal =
       let u = after_steps marks s p in
-      let w = many p s r steps.moves in
+      let w = many p s r (steps_move steps) in
       let at = at_signal w.0 u e (is_signal (ahead_of u.channel) e signal) w.1 (nexts bus program t n h w.0 w.1.within) in
       subst (λ (x : Machine). IsSignal bus program n e x.channel.stored) (sym steps.ends_at) at
 

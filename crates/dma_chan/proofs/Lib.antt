@@ -25,8 +25,10 @@ pub mod ReadyLaws
 pub mod LaterBursts
 pub mod BodyMoves
 pub mod BodyBlocks
+pub mod BlockPairs
 pub mod RoundCounts
 pub mod WrittenRanges
+pub mod StepsTaken
 pub mod SteppedOver
 pub mod Longer
 pub mod AmongOthers

@@ -28,6 +28,7 @@ use Rattle.dma_chan.specs.Explains.{Executes, Explains, IsIn, Trace, next_in, tr
 use Rattle.dma_chan.specs.Reads.{AgreeAt, AlikeAt, CallReadsIn, CallReadsNoOther, ReadsNoOther, SameOrKept, read_by, read_next}
 use Rattle.dma_chan.specs.Stepping.{Machine, after_step, after_steps, goes_on_after, machine}
 use Rattle.dma_chan.proofs.CallWrites.{Nexts, Goes, Ends, ahead_at, inside, many_in, nexts, traced_next}
+use Rattle.dma_chan.proofs.StepsTaken.{steps_move}
 use Rattle.dma_chan.proofs.Traced.{put_agrees, read_at_agrees}
 
 -- ---- any program
@@ -143,7 +144,7 @@ module _ (bus : Bus) (program : List ℕ) (t : Descriptor) (n : ℕ) (h : Explai
 
 pub call_reads_in : CallReadsIn
 call_reads_in bus program t n marks s most taken last after a h w steps reads =
-    let v = many_in bus program t n h marks s reads.0 w (λ k l. steps.moves k (omega (arith, reads.1))) in
+    let v = many_in bus program t n h marks s reads.0 w (λ k l. steps_move steps k (omega (arith, reads.1))) in
     reads_inside bus program t n h v.0 (after_steps marks s reads.0).channel a v.1 reads.2
 
 -- ---- two memories that agree at the sources
@@ -217,4 +218,4 @@ module _ (bus : Bus) (program : List ℕ) (t : Descriptor) (n : ℕ) (h : Explai
 
 pub call_reads_no_other : CallReadsNoOther
 call_reads_no_other bus program t n marks s u most taken last after k h w steps alike few =
-    both bus program t n h marks s u k w (λ j l. steps.moves j (omega (arith, few))) alike
+    both bus program t n h marks s u k w (λ j l. steps_move steps j (omega (arith, few))) alike

@@ -46,7 +46,7 @@ pub data Change : Type 0 where
 abbrev pub OthersStay : ℕ → System → System → Type 0
 OthersStay ch before after = (other : ℕ) → other ≢ ch → after.channels other ≡ before.channels other
 
--- What a call on a loaded channel does and reports, as `lent::step_over` and `lent::step_regions` promise it.
+-- What a call on a loaded channel does and reports, as `lent::step_regions` promises it.
 pub record DoesCall (call : Call) : Type 0 where
   pub is_loaded : IsSome call.found.channel.program
   pub steps : TakesSteps call.marks call.found call.most call.taken call.last call.left

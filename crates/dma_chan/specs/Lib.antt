@@ -4,6 +4,7 @@ pub mod Next
 pub mod Bus
 pub mod Exec
 pub mod Aligned
+pub mod BlockLoops
 pub mod Programs
 pub mod Channel
 pub mod Written

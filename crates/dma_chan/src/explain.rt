@@ -6,6 +6,7 @@ ghost use Rattle.dma_insn.specs.declared.insn.Insn.TheVariants.{End};
 ghost use Rattle.dma_chan.specs.Explains.{Finds, Refuses};
 ghost use Rattle.dma_chan.specs.inner.Tracing.{IsCopied, IsTracer, Stops};
 
+mod counts;
 mod ranges;
 mod tracer;
 mod turns;
@@ -45,6 +46,21 @@ pub struct Happening {
     pub stored: u64,
 }
 
+/// How many bursts a program executes.
+#[derive(Clone, Copy, PartialEq, Eq, Debug)]
+pub struct BurstCounts {
+    /// How many DMALD.
+    pub loads: u32,
+    /// How many DMAST.
+    pub stores: u32,
+    /// How many pairs of a DMALD and a DMAST are in turns of loops that a channel runs as blocks, many turns at once.
+    ///
+    /// The body of such a loop is pairs of a DMALD and a DMAST, with any number of DMARMB, DMAWMB and DMANOP between and
+    /// around them. Loads move as many bytes as stores, destinations rise, sources rise too or are one byte, and the
+    /// buffer is empty between turns. Each executed DMALPEND counts the pairs of one turn.
+    pub in_blocks: u64,
+}
+
 /// What a program copies: byte number p of the sources' places to byte number p of the destinations'.
 #[derive(Debug, Drop)]
 pub struct Explained {
@@ -56,6 +72,8 @@ pub struct Explained {
     pub events: Vec<Happening>,
     /// How many instructions it executes, with DMAEND.
     pub steps: u32,
+    /// How many of them are bursts.
+    pub bursts: BurstCounts,
 }
 
 /// Why no copy explains a program.
@@ -113,6 +131,7 @@ fn finish(alloc: Global, tracer: Tracer, steps: u32) -> Result<Explained, Cause>
         dst,
         stored,
         events,
+        bursts,
         ..
     } = tracer;
     Ok(Explained {
@@ -121,6 +140,7 @@ fn finish(alloc: Global, tracer: Tracer, steps: u32) -> Result<Explained, Cause>
         size: stored,
         events,
         steps,
+        bursts,
     })
 }
 

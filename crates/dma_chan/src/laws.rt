@@ -84,7 +84,7 @@ pub fn copies_among_others()
     ensures { CopiesAmongOthers }
 {}
 
-/// The same for calls that each execute several steps with their own marks, as `lent::step_over` does.
+/// The same for calls that each execute several steps with their own marks, as `lent::step_regions` does.
 pub fn calls_copy_among_others()
     ensures { CallsCopyAmongOthers }
 {}

@@ -8,7 +8,7 @@
 //! moves its transfer's bytes in order and fails only at marks (`compile`, `laws::runs_in_step`, `stores_in_turn`). Run
 //! alone, a program without DMAWFE makes one simultaneous copy (`laws::explained_copies_alone`, `run_program`);
 //! `copy::copy_at_once` makes it without the program. A call over lent memory is a chain of single steps
-//! (`lent::step_over`, `step_regions`: `TakesSteps`). It changes no byte outside the range that it reports (`kept`,
+//! (`lent::step_regions`: `TakesSteps`). It changes no byte outside the range that it reports (`kept`,
 //! `laws::call_writes_no_other`), and each address in it was written (`writes_each`). A program, compiled or not, that
 //! a copy explains (`Explains`) has copied as many bytes as the channel counts, and all of them at its end, if since
 //! its load nobody else wrote what the copy reads or writes; its signals and waits are the program's
@@ -18,7 +18,7 @@
 //! (`refused_is_unexplained`). A save restores its channel, and nothing else is accepted (`Channel::save`, `restore`).
 //! No page is made except for a store (`run_program`).
 //!
-//! Not proved: that an allocation succeeds, and that blocks are moved. A `run_bodies` that moves nothing meets its
+//! Not proved: that an allocation succeeds, and that blocks are moved. A `run_bodies` that moves nothing satisfies its
 //! contract.
 #![tactic(auto)]
 

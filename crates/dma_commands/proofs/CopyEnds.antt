@@ -15,7 +15,6 @@ use Rattle.dma_chan.specs.Traffic.{member, read_places, written_places}
 use Rattle.dma_chan.proofs.TreeCosts.{cost_is}
 use Rattle.dma_chan.proofs.ShapeLaws.{shape_is}
 use Rattle.dma_mem.specs.declared.call.Call.TheVariants as calls
-use Rattle.dma_engine.specs.declared.call.Reply.{Reply}
 use Rattle.dma_engine.specs.declared.call.Reply.TheVariants.{Turned, Cookie, Count}
 use Rattle.dma_engine.specs.declared.entry.Entry.{Entry}
 use Rattle.dma_engine.specs.declared.entry.Entry.TheVariants.{Passed, Signalled, Submitted, Issued}
@@ -27,7 +26,9 @@ use Rattle.dma_engine.specs.Turn.{Stepped, front_turn, first_conflicting, insn_t
 use Rattle.dma_engine.specs.Answer.{answer, cause, reply_of, unless}
 use Rattle.dma_engine.proofs.Boards.{with_channel_at}
 use Rattle.dma_engine.proofs.Histories.{object_after_append}
-use Rattle.dma_commands.specs.Run.{most_copy_steps, CopiesEnd, goes_on, is_in_use, stepped_to_end}
+use Rattle.dma_engine.specs.Advance.{goes_on}
+use Rattle.dma_commands.specs.Run.{most_copy_steps, CopiesEnd, is_in_use, stepped_to_end, steps_before_last}
+use Rattle.dma_commands.proofs.CopyLemmas.{before_last_on, before_last_stops, on_after}
 
 -- ---- a view in which channel 0 runs a transfer
 
@@ -130,34 +131,24 @@ step_goes v t k rules at = stepped_by (GoesOn t k) v (Some t) (Some k) (quiet_go
 
 -- ---- all steps
 
-abbrev Ends : ℕ → View → Type 0
-Ends n v = goes_on (stepped_to_end n v).0 ≡ false
-
--- where the only step doesn't go on, and where the others end if the first one goes on
-ends_last : (v : View) → goes_on (answer v (calls.Step 0)).0 ≡ false → Ends zero v
-unfolding stepped_to_end
-ends_last v off = off
-
-ends_by_law : (n : ℕ) (a : Reply × View) → (goes_on a.0 ≡ true → Ends n a.1) → goes_on (if goes_on a.0 then stepped_to_end n a.1 else a).0 ≡ false
-ends_by_law n a more =
-    let by : (b : Bool) → goes_on a.0 ≡ b → goes_on (if b then stepped_to_end n a.1 else a).0 ≡ false = λ b. elim b as (λ b. goes_on a.0 ≡ b → goes_on (if b then stepped_to_end n a.1 else a).0 ≡ false) [
-      | true ↦ λ on. more on
-      | false ↦ λ off. off
-    ] in
-    by (goes_on a.0) refl
-
-ends_next : (n : ℕ) (v : View) → (goes_on (answer v (calls.Step 0)).0 ≡ true → Ends n (answer v (calls.Step 0)).1) → Ends (suc n) v
-unfolding stepped_to_end
-ends_next n v more = ends_by_law n (answer v (calls.Step 0)) more
-
 never : (b : Bool) → (b ≡ true → ⊥) → b ≡ false
 never true h = absurd (h refl)
 never false h = refl
 
+-- not all of the first n + 1 steps go on
+abbrev Ends : ℕ → View → Type 0
+Ends n v = ((k : ℕ) → k ≤ n → on_after v k ≡ true) → ⊥
+
+ends_now : (n : ℕ) (v : View) → on_after v 0 ≡ false → Ends n v
+ends_now n v off = λ on. false≢true (sym off ∙ on 0 (omega arith))
+
+ends_next : (n : ℕ) (v : View) → (on_after v 0 ≡ true → Ends n (turn v 0).1) → Ends (suc n) v
+ends_next n v more = λ on. more (on 0 (omega arith)) (λ k few. on (suc k) (omega (arith, few)))
+
 -- a transfer that runs ends within the instructions that are left
 runs_out : (n : ℕ) (v : View) (t : Descriptor) (k : ℕ) → IsTransfer t → At v t k → cost t ≤ n + k + 1 → Ends n v
 runs_out zero v t k rules at left =
-    ends_last v (never _ (λ on. let next = step_goes v t k rules at on in omega (arith, next.0, left)))
+    λ on. let next = step_goes v t k rules at (on 0 (omega arith)) in omega (arith, next.0, left)
 runs_out (suc n) v t k rules at left =
     ends_next n v (λ on.
     let next = step_goes v t k rules at on in
@@ -167,12 +158,7 @@ runs_out (suc n) v t k rules at left =
 
 -- nothing goes on where no front is issued
 none_ends : (n : ℕ) (v : View) → issued_front (channel (object_of v) 0) ≡ None → Ends n v
-none_ends n v none =
-    let off : goes_on (answer v (calls.Step 0)).0 ≡ false = stepped_by (λ s. goes_on (reply_of Turned s.0) ≡ false) v None _ (λ s h. h) none refl refl in
-    elim n as (λ n. Ends n v) [
-      | zero ↦ ends_last v off
-      | suc n ↦ ends_next n v (λ on. absurd (false≢true (sym off ∙ on)))
-    ]
+none_ends n v none = ends_now n v (stepped_by (λ s. goes_on (reply_of Turned s.0) ≡ false) v None _ (λ s h. h) none refl refl)
 
 -- if the copy goes on after this, the front has started
 abbrev Starts : Descriptor → Stepped → Type 0
@@ -285,6 +271,16 @@ issued_ends n v t rules there some none left =
     ] in
     subst (Ends n) (sym (issue_after x still)) ends
 
+-- a copy that ends within these steps isn't cut off
+not_cut : (most : ℕ) (v : View) → Ends most v → goes_on (stepped_to_end most v).0 ≡ false
+not_cut most v ends = elim (before_last_stops most v) [
+  | inl all ↦ never (goes_on (stepped_to_end most v).0) (λ on. ends (λ k few. elim (cases_lt k most) [
+    | inl less ↦ before_last_on most v k (omega (arith, all, less))
+    | inr past ↦ let here : k ≡ steps_before_last most v = omega (arith, all, past, few) in ap (on_after v) here ∙ on
+  ]))
+  | inr off ↦ off
+]
+
 pub copies_end : CopiesEnd
 copies_end v t cookie w sound rules free submit =
     let o = object_of v in
@@ -293,4 +289,5 @@ copies_end v t cookie w sound rules free submit =
     let some : 0 < channels v = leb-false (channels v) 0 took.0 in
     let there : 0 < length v.schedule = omega (arith, some, sound.fits.many) in
     let ends = issued_ends most_copy_steps v t rules there some (free_none v free) (within t rules) in
-    subst (λ u. Ends most_copy_steps (answer u (calls.Issue 0)).1) took.1 ends
+    subst (λ u. goes_on (stepped_to_end most_copy_steps (answer u (calls.Issue 0)).1).0 ≡ false) took.1
+    (not_cut most_copy_steps (answer (with_submitted v t) (calls.Issue 0)).1 ends)

@@ -1,85 +1,76 @@
 -- The steps of a copy.
-use Rattle.std.proofs.Common.{◌≡◌, ◌≢◌, ℕ, ◌+◌, ◌-◌, ◌<◌, true, false, if◌then◌else◌, refl, ap, sym, subst, ◌∙◌, zero, suc, arith}
-use Rattle.std.specs.Prelude.{is_some, replicate, Option, Some, None, Result, Ok, Err}
-use Rattle.std.specs.Option.{option_map}
-use Rattle.dma_engine.specs.declared.turn.Advanced.{Advanced}
+use Rattle.std.proofs.Common.{◌≡◌, ◌≢◌, ◌⊎◌, ℕ, ◌<◌, ◌≤◌, zero, suc, Bool, true, false, [], Option, Some, None, refl, ap, sym, subst, ◌∙◌, inl, inr, arith}
+use Rattle.std.specs.Prelude.{replicate, Result}
+use Rattle.std.specs.List.{All}
+use Rattle.std.proofs.lemmas.List.Elements.{All-append, All-cons, All-head, All-nil, All-replicate, All-tail}
+use Rattle.dma_mem.proofs.Steps.{taken_is, taken_on, taken_stops}
 use Rattle.dma_mem.specs.declared.call.Call.TheVariants.{Step}
 use Rattle.dma_engine.specs.declared.call.Reply.{Reply}
 use Rattle.dma_engine.specs.declared.call.Reply.TheVariants.{Turned, Refused}
 use Rattle.dma_engine.specs.declared.fault.EngineFault.{EngineFault}
 use Rattle.dma_engine.specs.declared.fault.EngineFault.TheVariants.{NoMemory}
+use Rattle.dma_engine.specs.declared.turn.Advanced.{Advanced}
 use Rattle.dma_engine.specs.declared.turn.Turn.{Turn}
 use Rattle.dma_engine.specs.declared.turn.Turn.TheVariants.{Started, Moved}
 use Rattle.dma_engine.specs.View.{View}
-use Rattle.dma_engine.specs.Advance.{IsAdvance, TakesStep, steps_before}
-use Rattle.dma_engine.specs.Advance as steps
-use Rattle.dma_engine.specs.Answer.{AreAnswers, CallAnswers, StepAnswers, answer, reply_of}
-use Rattle.dma_commands.specs.Run.{goes_on, stepped_to_end}
-use Rattle.dma_commands.proofs.Served.{served_one}
+use Rattle.dma_engine.specs.Advance.{EndsWith, IsAdvance, after_steps, goes_on, replies_before, start_replies, steps_before}
+use Rattle.dma_engine.specs.Answer.{CallAnswers, answer, answers, reply_of}
+use Rattle.dma_engine.proofs.JoinedCalls.{answer_unless_no_memory}
+use Rattle.dma_commands.specs.Run.{stepped_to_end, steps_before_last}
 
-abbrev go_on : ℕ → Reply × View → Reply × View
-go_on n first = if goes_on first.0 then stepped_to_end n first.1 else first
+-- whether another step follows step k of channel 0
+abbrev pub on_after : View → ℕ → Bool
+on_after v k = goes_on (answer (after_steps v 0 k) (Step 0)).0
 
-opened : (n : ℕ) (v : View) → stepped_to_end (suc n) v ≡ go_on n (answer v (Step 0))
-unfolding stepped_to_end
-opened n v = refl
+pub before_last_on : (most : ℕ) (v : View) (k : ℕ) → k < steps_before_last most v → on_after v k ≡ true
+unfolding steps_before_last
+before_last_on most v k less = taken_on (on_after v) most k less
 
--- a step after which the copy goes on
-pub stepped_on : (n : ℕ) (v w : View) (reply : Reply) → (reply, w) ≡ answer v (Step 0) → goes_on reply ≡ true → stepped_to_end (suc n) v ≡ stepped_to_end n w
-stepped_on n v w reply is on =
-    opened n v ∙ ap (go_on n) (sym is) ∙ ap (λ b. if b then stepped_to_end n w else (reply, w)) on
+pub before_last_stops : (most : ℕ) (v : View) → (steps_before_last most v ≡ most) ⊎ (goes_on (stepped_to_end most v).0 ≡ false)
+unfolding steps_before_last
+before_last_stops most v = taken_stops (on_after v) most
 
--- the last step that is taken
-pub stepped_last : (v : View) → answer v (Step 0) ≡ stepped_to_end zero v
-unfolding stepped_to_end
-stepped_last v = refl
+-- ---- an advance
 
--- a step that ends it
-pub stepped_end : (n : ℕ) (v w : View) (reply : Reply) → (reply, w) ≡ answer v (Step 0) → goes_on reply ≡ false → (reply, w) ≡ stepped_to_end n v
-stepped_end zero v w reply is off = is ∙ stepped_last v
-stepped_end (suc n) v w reply is off =
-    sym (ap (λ b. if b then stepped_to_end n w else (reply, w)) off) ∙ ap (go_on n) is ∙ sym (opened n v)
+abbrev GoesOn : Reply → Type 0
+GoesOn reply = goes_on reply ≡ true
 
-reply_goes : (last : Result Turn EngineFault) → goes_on (reply_of Turned last) ≡ steps.goes_on last
-reply_goes (Ok turn) = refl
-reply_goes (Err fault) = refl
+start_on_law : (o : Option ℕ) → All GoesOn (start_replies o)
+start_on_law None = All-nil GoesOn
+start_on_law (Some cookie) = All-cons GoesOn (Turned (Started cookie)) [] refl (All-nil GoesOn)
 
--- steps that moved
-moved_through : (n left all : ℕ) (v w : View) → n + left ≡ all → AreAnswers v (replicate n (Step 0)) (replicate n (Turned Moved)) w → stepped_to_end all v ≡ stepped_to_end left w
-moved_through zero left all v w sum h =
-    let same : all ≡ left = omega (arith, sum) in
-    ap (λ (k : ℕ). stepped_to_end k v) same ∙ ap (stepped_to_end left) (sym h)
-moved_through (suc n) left zero v w sum h = absurd (omega (arith, sum))
-moved_through (suc n) left (suc all) v w sum h =
-    stepped_on all v h.0 (Turned Moved) h.1 refl ∙ moved_through n left all h.0 w (omega (arith, sum)) h.2
+all_on : (a : Advanced) → All GoesOn (replies_before a)
+all_on a = All-append GoesOn (start_replies a.started) (replicate a.moved (Turned Moved)) (start_on_law a.started) (All-replicate GoesOn a.moved (Turned Moved) refl)
 
--- the start, if any
-start_through : (o : Option ℕ) (left all : ℕ) (v u : View) → (if is_some o then 1 else 0) + left ≡ all → TakesStep v 0 (option_map (λ cookie. Ok (Started cookie)) o) u → stepped_to_end all v ≡ stepped_to_end left u
-start_through None left all v u sum same =
-    let none : all ≡ left = omega (arith, sum) in
-    ap (λ (k : ℕ). stepped_to_end k v) none ∙ ap (stepped_to_end left) (sym same)
-start_through (Some cookie) left zero v u sum answer = absurd (omega (arith, sum))
-start_through (Some cookie) left (suc all) v u sum answer =
-    let more : all ≡ left = omega (arith, sum) in
-    stepped_on all v u (Turned (Started cookie)) answer refl ∙ ap (λ (k : ℕ). stepped_to_end k u) more
+each_on_law : (n k : ℕ) (v : View) → All GoesOn (answers v (replicate n (Step 0))).0 → k < n → on_after v k ≡ true
+each_on_law zero k v all less = absurd (omega (arith, less))
+each_on_law (suc n) zero v all less =
+    let first = answer v (Step 0) in All-head GoesOn first.0 (answers first.1 (replicate n (Step 0))).0 all
+each_on_law (suc n) (suc k) v all less =
+    let first = answer v (Step 0) in
+    each_on_law n k first.1 (All-tail GoesOn first.0 (answers first.1 (replicate n (Step 0))).0 all) (omega (arith, less))
 
--- all steps of an advance but the last
-pub advanced_before : (v w : View) (a : Advanced) (left all : ℕ) → steps_before a + left ≡ all → (h : IsAdvance v 0 a w) → stepped_to_end all v ≡ stepped_to_end left h.stopped
-advanced_before v w a left all sum h =
-    start_through a.started (a.moved + left) all v h.running (omega (arith, sum)) h.start
-    ∙ moved_through a.moved left (a.moved + left) h.running h.stopped refl h.moves
+-- the steps of an advance before its last are those before the last of the copy
+before_last : (v w : View) (most : ℕ) (a : Advanced) → IsAdvance v 0 most a w → steps_before a ≤ most → (steps_before a ≡ most) ⊎ (on_after v (steps_before a) ≡ false) → steps_before_last most v ≡ steps_before a
+unfolding steps_before_last
+before_last v w most a h few stops =
+    taken_is (on_after v) most (steps_before a) few
+    (λ k less. each_on_law (steps_before a) k v (subst (All GoesOn) (sym h.before) (all_on a)) less) stops
 
--- an advance without a last step
-pub advanced_all : (v w : View) (a : Advanced) → (h : IsAdvance v 0 a w) → a.last ≡ None → stepped_to_end (steps_before a) v ≡ stepped_to_end 0 w
-advanced_all v w a h none =
-    let same : w ≡ h.stopped = subst (λ (l : Option (Result Turn EngineFault)). TakesStep h.stopped 0 l w) none h.last in
-    advanced_before v w a 0 (steps_before a) (omega arith) h ∙ ap (stepped_to_end 0) (sym same)
+-- the step after an advance without a last step
+pub advanced_all : (v w u : View) (most : ℕ) (a : Advanced) (reply : Reply) → IsAdvance v 0 most a w → a.last ≡ None → (reply, u) ≡ answer w (Step 0) → (reply, u) ≡ stepped_to_end most v
+advanced_all v w u most a reply h none is =
+    let n = steps_before a in
+    let last = subst (λ (o : Option (Result Turn EngineFault)). EndsWith (after_steps v 0 n) 0 n most o w) none h.last in
+    is ∙ ap (λ (x : View). answer x (Step 0)) last.1
+    ∙ ap (λ (k : ℕ). answer (after_steps v 0 k) (Step 0)) (sym (before_last v w most a h (omega (arith, last.0)) (inl last.0)))
 
--- one whose last step ends the copy
-pub advanced_end : (v w : View) (a : Advanced) (last : Result Turn EngineFault) (reply : Reply) (all : ℕ) → steps_before a < all → IsAdvance v 0 a w → a.last ≡ Some last → (reply ≡ reply_of Turned last) × (reply ≢ Refused NoMemory) → steps.goes_on last ≡ false → (reply, w) ≡ stepped_to_end all v
-advanced_end v w a last reply all few h some is off =
-    let answered : StepAnswers h.stopped 0 last w = subst (λ (l : Option (Result Turn EngineFault)). TakesStep h.stopped 0 l w) some h.last in
-    let answer_is = served_one h.stopped (Step 0) reply w is.1 (subst (λ (r : Reply). CallAnswers h.stopped (Step 0) r w) (sym is.0) answered) in
-    let left = all - steps_before a in
-    stepped_end left h.stopped w reply answer_is (ap goes_on is.0 ∙ reply_goes last ∙ off)
-    ∙ sym (advanced_before v w a left all (omega (arith, few)) h)
+-- the last step of an advance
+pub advanced_end : (v w : View) (most : ℕ) (a : Advanced) (last : Result Turn EngineFault) (reply : Reply) → IsAdvance v 0 most a w → a.last ≡ Some last → (reply ≡ reply_of Turned last) × (reply ≢ Refused NoMemory) → (reply, w) ≡ stepped_to_end most v
+advanced_end v w most a last reply h some is =
+    let n = steps_before a in
+    let u = after_steps v 0 n in
+    let end = subst (λ (o : Option (Result Turn EngineFault)). EndsWith u 0 n most o w) some h.last in
+    let answered = answer_unless_no_memory u w (Step 0) reply is.1 (subst (λ (r : Reply). CallAnswers u (Step 0) r w) (sym is.0) end.2) in
+    let off : on_after v n ≡ false = ap (λ (x : Reply × View). goes_on x.0) (sym answered) ∙ ap goes_on is.0 ∙ end.1 in
+    answered ∙ ap (λ (k : ℕ). answer (after_steps v 0 k) (Step 0)) (sym (before_last v w most a h (omega (arith, end.0)) (inr off)))

@@ -29,7 +29,8 @@ use Rattle.dma_commands.specs.Printed.{call_line, fault_text, transfer_fault_nam
 use Rattle.dma_commands.specs.Run.{Answered, call_answer, copied, copied_after, is_in_use, line_answer, lines_answered, most_copy_steps, stepped_to_end, last_answer_line, one_line, unless_invalid}
 use Rattle.dma_commands.specs.inner.RunSteps.{RunsLine, read_at, read_in}
 use Rattle.dma_script.proofs.InterpretedLemmas.{printed_text_append}
-use Rattle.dma_commands.proofs.Served.{refused_served, served_one}
+use Rattle.dma_engine.proofs.JoinedCalls.{answer_unless_no_memory}
+use Rattle.dma_commands.proofs.Served.{refused_served}
 
 -- ---- a line that was printed
 
@@ -41,7 +42,7 @@ printed_runs answered w (Err e) out out' acts prints kept = record { ok = tt; er
 -- the line of a call and its reply
 pub call_runs : {A E : Type 0} (v w : View) (call : Call) (reply : Reply) (result : Result A E) (out out' : List ℕ) → CallAnswers v call reply w → OnOk result (reply ≢ Refused NoMemory) → OnOk result (out' ≡ out ++ text_of (call_line call reply ∷ [])) → OnErr result (out' ≡ out) → RunsLine (call_answer v call) w result out out'
 call_runs {A = A} {E = E} v w call reply (Ok a) out out' is served prints kept =
-    subst (λ (x : Reply × View). RunsLine {A = A} {E = E} (one_line (call_line call x.0) x.1) w (Ok a) out out') (served_one v call reply w served is) (printed_runs {A = A} {E = E} (one_line (call_line call reply) w) w (Ok a) out out' refl prints tt)
+    subst (λ (x : Reply × View). RunsLine {A = A} {E = E} (one_line (call_line call x.0) x.1) w (Ok a) out out') (answer_unless_no_memory v w call reply served is) (printed_runs {A = A} {E = E} (one_line (call_line call reply) w) w (Ok a) out out' refl prints tt)
 call_runs v w call reply (Err e) out out' is served prints kept = record { ok = tt; err = kept }
 
 -- ---- a transfer's rules
@@ -85,7 +86,7 @@ where_free start v t free = ap (λ b. if b then one_line (refused_line (codes "C
 -- the submit of a copy was refused
 pub refused_copy_runs : {A E : Type 0} (start : List ℕ) (v w : View) (t : Descriptor) (fault : EngineFault) (result : Result A E) (out out' : List ℕ) → CallAnswers v (SubmitCall 0 t) (Refused fault) w → OnOk result (fault ≢ NoMemory) → OnOk result (out' ≡ out ++ text_of (refused_line (fault_text fault) ∷ [])) → OnErr result (out' ≡ out) → RunsLine (copied_after start (answer v (SubmitCall 0 t))) w result out out'
 refused_copy_runs {A = A} {E = E} start v w t fault (Ok a) out out' is served prints kept =
-    subst (λ (x : Reply × View). RunsLine {A = A} {E = E} (copied_after start x) w (Ok a) out out') (served_one v (SubmitCall 0 t) (Refused fault) w (refused_served fault served) is)
+    subst (λ (x : Reply × View). RunsLine {A = A} {E = E} (copied_after start x) w (Ok a) out out') (answer_unless_no_memory v w (SubmitCall 0 t) (Refused fault) (refused_served fault served) is)
     (printed_runs {A = A} {E = E} (one_line (refused_line (fault_text fault)) w) w (Ok a) out out' refl prints tt)
 refused_copy_runs start v w t fault (Err e) out out' is served prints kept = record { ok = tt; err = kept }
 

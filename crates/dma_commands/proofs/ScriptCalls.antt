@@ -8,40 +8,24 @@ use Rattle.dma_mem.specs.declared.transfer.TransferFault.{TransferFault}
 use Rattle.dma_mem.specs.declared.call.Call.{Call}
 use Rattle.dma_mem.specs.declared.call.Call.TheVariants as calls
 use Rattle.dma_engine.specs.declared.call.Reply.{Reply}
+use Rattle.dma_engine.specs.Advance.{after_steps}
 use Rattle.dma_engine.specs.View.{View}
 use Rattle.dma_engine.specs.Answer.{answer, answers}
 use Rattle.dma_script.specs.declared.statements.Statement.{Statement}
 use Rattle.dma_script.specs.declared.statements.Statement.TheVariants as statements
 use Rattle.dma_commands.specs.Printed.{refused_line, reply_text}
-use Rattle.dma_commands.specs.Run.{Answered, call_answer, issued_and_stepped, copied, copied_after, goes_on, is_in_use, is_refused, line_answer, lines_answered, most_copy_steps, start_of, stepped_to_end, last_answer_line, one_line, unless_invalid}
+use Rattle.dma_commands.specs.Run.{Answered, call_answer, issued_and_stepped, copied, copied_after, is_in_use, is_refused, line_answer, lines_answered, most_copy_steps, start_of, steps_before_last, last_answer_line, one_line, unless_invalid}
 use Rattle.dma_commands.specs.Transfers.{transfer_of}
-use Rattle.dma_commands.specs.Laws.{call_lines, calls_after, calls_in, calls_of, issue_and_step_calls, groups_from, if_valid, last_of, lines_from, rule_or, steps_taken, transfer_calls, transfer_lines, view_after}
-use Rattle.dma_commands.proofs.Served.{answers_append_law}
+use Rattle.dma_commands.specs.Laws.{call_lines, calls_after, calls_in, calls_of, issue_and_step_calls, groups_from, if_valid, last_of, lines_from, rule_or, transfer_calls, transfer_lines, view_after}
+use Rattle.dma_engine.proofs.JoinedCalls.{answers_append_law}
 
 -- ---- a copy's steps
 
--- the steps that a copy takes, all answered
-abbrev step_replies : ℕ → View → List Reply × View
-step_replies n v = answers v (replicate n (calls.Step 0))
-
--- what the steps after a first answer make of it, by whether the copy goes on
-step_more : (n : ℕ) (first : Reply × View) (b : Bool) → stepped_to_end n first.1 ≡ (let q = step_replies (steps_taken n first.1) first.1 in (last_of first.0 q.0, q.1)) → (if b then stepped_to_end n first.1 else first) ≡ (let q = answers first.1 (replicate (if b then steps_taken n first.1 else 0) (calls.Step 0)) in (last_of first.0 q.0, q.1))
-step_more n first true more = more
-step_more n first false more = refl
-
-pub one_more_law : (n : ℕ) (w : View) (b : Bool) → (if b then suc (steps_taken n w) else 1) ≡ suc (if b then steps_taken n w else 0)
-one_more_law n w true = refl
-one_more_law n w false = refl
-
--- the last of a copy's steps is where it ends
-pub steps_end : (n : ℕ) (v : View) (before : Reply) → stepped_to_end n v ≡ (let q = step_replies (steps_taken n v) v in (last_of before q.0, q.1))
-unfolding stepped_to_end steps_taken
-steps_end zero v before = refl
-steps_end (suc n) v before =
-    let first = answer v (calls.Step 0) in
-    let b = goes_on first.0 in
-    step_more n first b (steps_end n first.1 first.0)
-    ∙ ap (λ (k : ℕ). let q = step_replies k v in (last_of before q.0, q.1)) (sym (one_more_law n first.1 b))
+-- the last of several steps
+last_step : (n : ℕ) (v : View) (before : Reply) → answer (after_steps v 0 n) (calls.Step 0) ≡ (let q = answers v (replicate (suc n) (calls.Step 0)) in (last_of before q.0, q.1))
+last_step zero v before = refl
+last_step (suc n) v before =
+    let first = answer v (calls.Step 0) in last_step n first.1 first.0
 
 -- ---- a copy's line
 
@@ -56,7 +40,8 @@ with_first reply rest = (reply ∷ rest.0, rest.1)
 carried_is : (start : List ℕ) (v : View) (submitted : Reply) → issued_and_stepped start v ≡ through_made start (with_first submitted (answers v (issue_and_step_calls v)))
 carried_is start v submitted =
     let issued = answer v (calls.Issue 0) in
-    ap (λ (last : Reply × View). one_line (last_answer_line start last.0) last.1) (steps_end most_copy_steps issued.1 issued.0)
+    ap (λ (last : Reply × View). one_line (last_answer_line start last.0) last.1)
+    (last_step (steps_before_last most_copy_steps issued.1) issued.1 issued.0)
 
 after_is : (start : List ℕ) (s : Reply × View) (b : Bool) → (if b then one_line (reply_text s.0) s.1 else issued_and_stepped start s.1) ≡ through_made start (with_first s.0 (answers s.1 (if b then [] else issue_and_step_calls s.1)))
 after_is start s true = refl

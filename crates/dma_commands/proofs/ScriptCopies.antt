@@ -1,5 +1,5 @@
 -- No copy or fill of a script is cut off.
-use Rattle.std.proofs.Common.{◌≡◌, ℕ, ◌+◌, zero, suc, Bool, true, false, if◌then◌else◌, List, [], ◌∷◌, Option, Some, None, refl, ap, sym, subst}
+use Rattle.std.proofs.Common.{◌≡◌, ℕ, ◌+◌, ◌<◌, zero, suc, Bool, true, false, if◌then◌else◌, List, [], ◌∷◌, Option, Some, None, refl, ap, sym, subst, arith}
 use Rattle.std.specs.Prelude.{replicate}
 use Rattle.std.specs.List.{All}
 use Rattle.std.proofs.lemmas.List.Elements.{All-head, All-tail}
@@ -17,16 +17,18 @@ use Rattle.dma_engine.specs.Object.{channel, used}
 use Rattle.dma_engine.specs.Turn.{with_entry}
 use Rattle.dma_engine.specs.declared.entry.Entry.TheVariants.{Submitted}
 use Rattle.dma_engine.specs.View.{IsSound, View, object_of}
+use Rattle.dma_engine.specs.Advance.{after_steps, goes_on}
 use Rattle.dma_engine.specs.Answer.{answer, answers, submit_fault, unless}
 use Rattle.dma_engine.specs.Laws.{CallsStaySound, NewViewsAreSound}
 use Rattle.dma_engine.proofs.JoinedCalls.{answers_are_answers, answers_unless_no_memory}
 use Rattle.dma_script.specs.declared.statements.Statement.{Statement}
 use Rattle.dma_script.specs.declared.statements.Statement.TheVariants as statements
 use Rattle.dma_script.proofs.Within.{IsNoSubmit}
-use Rattle.dma_commands.specs.Run.{CopiesEnd, goes_on, is_in_use, most_copy_steps, stepped_to_end}
+use Rattle.dma_commands.specs.Run.{CopiesEnd, is_in_use, most_copy_steps, steps_before_last}
 use Rattle.dma_commands.specs.Transfers.{transfer_of}
-use Rattle.dma_commands.specs.Laws.{AreWhole, CopiesAreWhole, IsWhole, IsWholeCopy, StepsEnd, calls_after, calls_in, calls_of, if_valid, opening_of, script_calls, steps_taken, transfer_calls, view_after}
-use Rattle.dma_commands.proofs.ScriptCalls.{first_replies, later_replies, one_more_law}
+use Rattle.dma_commands.specs.Laws.{AreWhole, CopiesAreWhole, IsWhole, IsWholeCopy, StepsEnd, calls_after, calls_in, calls_of, if_valid, opening_of, script_calls, transfer_calls, view_after}
+use Rattle.dma_commands.proofs.CopyLemmas.{before_last_on}
+use Rattle.dma_commands.proofs.ScriptCalls.{first_replies, later_replies}
 use Rattle.dma_commands.proofs.ScriptSubmits.{line_byte, line_made_law}
 use Rattle.dma_commands.proofs.ScriptsWithin.{can_be_made, script_within}
 
@@ -36,20 +38,12 @@ one_step_more : (reply : Reply) (rest : List Reply) → goes_on reply ≡ true �
 one_step_more reply [] on ends = absurd ends
 one_step_more reply (next ∷ rest) on ends = (on, ends)
 
--- the steps after a first answer, by whether the copy goes on after it
-steps_by : (n : ℕ) (first : Reply × View) (b : Bool) → goes_on first.0 ≡ b → goes_on (if b then stepped_to_end n first.1 else first).0 ≡ false → (goes_on (stepped_to_end n first.1).0 ≡ false → StepsEnd (answers first.1 (replicate (steps_taken n first.1) (calls.Step 0))).0) → StepsEnd (first.0 ∷ (answers first.1 (replicate (if b then steps_taken n first.1 else 0) (calls.Step 0))).0)
-steps_by n first false off ends more = off
-steps_by n first true on ends more =
-    one_step_more first.0 (answers first.1 (replicate (steps_taken n first.1) (calls.Step 0))).0 on (more ends)
-
-steps_end_law : (n : ℕ) (v : View) → goes_on (stepped_to_end n v).0 ≡ false → StepsEnd (answers v (replicate (steps_taken n v) (calls.Step 0))).0
-unfolding stepped_to_end steps_taken
-steps_end_law zero v ends = ends
-steps_end_law (suc n) v ends =
+steps_end_law : (n : ℕ) (v : View) → ((k : ℕ) → k < n → goes_on (answer (after_steps v 0 k) (calls.Step 0)).0 ≡ true) → goes_on (answer (after_steps v 0 n) (calls.Step 0)).0 ≡ false → StepsEnd (answers v (replicate (suc n) (calls.Step 0))).0
+steps_end_law zero v on off = off
+steps_end_law (suc n) v on off =
     let first = answer v (calls.Step 0) in
-    let b = goes_on first.0 in
-    subst (λ (k : ℕ). StepsEnd (answers v (replicate k (calls.Step 0))).0) (sym (one_more_law n first.1 b))
-    (steps_by n first b refl ends (steps_end_law n first.1))
+    one_step_more first.0 (answers first.1 (replicate (suc n) (calls.Step 0))).0 (on 0 (omega arith))
+    (steps_end_law n first.1 (λ k less. on (suc k) (omega (arith, less))) off)
 
 -- ---- a copy
 
@@ -60,7 +54,8 @@ submitted_whole ends v t None sound rules free is =
     let cookie = used (channel (object_of v) 0) + 1 in
     let w = with_entry v (Submitted 0 t cookie) in
     let took : answer v (calls.Submit 0 t) ≡ (Cookie cookie, w) = ap (λ (f : Option EngineFault). unless f v (Cookie cookie, w)) is in
-    steps_end_law most_copy_steps (answer w (calls.Issue 0)).1 (ends v t cookie w sound rules free took)
+    let u = (answer w (calls.Issue 0)).1 in
+    steps_end_law (steps_before_last most_copy_steps u) u (before_last_on most_copy_steps u) (ends v t cookie w sound rules free took)
 
 used_or_not : (v : View) (cs : List Call) (b : Bool) → is_in_use v ≡ b → (is_in_use v ≡ false → IsWholeCopy (answers v cs).0) → IsWholeCopy (answers v (if b then [] else cs)).0
 used_or_not v cs true is whole = tt

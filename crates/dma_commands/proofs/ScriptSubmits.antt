@@ -20,9 +20,9 @@ use Rattle.dma_script.specs.declared.transfer_line.TransferLine.{TransferLine}
 use Rattle.dma_script.specs.declared.statements.Statement.{Statement}
 use Rattle.dma_script.specs.declared.statements.Statement.TheVariants as statements
 use Rattle.dma_script.proofs.Within.{IsNoSubmit}
-use Rattle.dma_commands.specs.Run.{is_in_use, is_refused, most_copy_steps}
+use Rattle.dma_commands.specs.Run.{is_in_use, is_refused, most_copy_steps, steps_before_last}
 use Rattle.dma_commands.specs.Transfers.{transfer_from, transfer_of}
-use Rattle.dma_commands.specs.Laws.{calls_after, calls_in, calls_of, issue_and_step_calls, if_valid, steps_taken, transfer_calls, view_after}
+use Rattle.dma_commands.specs.Laws.{calls_after, calls_in, calls_of, issue_and_step_calls, if_valid, transfer_calls, view_after}
 
 -- ---- lists of which all can be made
 
@@ -70,8 +70,8 @@ through_made_law v t rules =
     either (is_in_use v) [] (calls.Submit 0 t ∷ calls_after s) none_made_law
     (one_before (calls.Submit 0 t) (calls_after s) rules
     (either (is_refused s.0) [] (issue_and_step_calls s.1) none_made_law
-    (one_before (calls.Issue 0) (replicate (steps_taken most_copy_steps w) (calls.Step 0)) tt
-    (equal_calls (steps_taken most_copy_steps w) (calls.Step 0) tt))))
+    (one_before (calls.Issue 0) (replicate (suc (steps_before_last most_copy_steps w)) (calls.Step 0)) tt
+    (equal_calls (suc (steps_before_last most_copy_steps w)) (calls.Step 0) tt))))
 
 -- the call of a line that is read
 plain_made : (call : Call) → IsNoSubmit (statements.Call call) → IsCall call

@@ -22,7 +22,7 @@ use Rattle.dma_commands.specs.Printed.{reply_text, turn_text}
 use Rattle.dma_commands.specs.inner.Counting.{text_with, transfer_text}
 use Rattle.dma_commands.specs.inner.RunSteps.{AnswersLine}
 use Rattle.dma_commands.specs.Run.{joined, runs_of, step_answer, step_line, step_lines}
-use Rattle.dma_commands.proofs.Served.{answers_append_law, served_one}
+use Rattle.dma_engine.proofs.JoinedCalls.{answer_unless_no_memory, answers_append_law}
 
 -- ---- runs
 
@@ -114,7 +114,7 @@ more_texts v w step calls m n k rest sum is same =
 
 pub step_prints : (v w : View) (ch : ℕ) (turned : Result Turn EngineFault) (reply : Reply) (out out' : List ℕ) → StepAnswers v ch turned w → (reply ≡ reply_of Turned turned) × (reply ≢ Refused NoMemory) → out' ≡ out ++ text_of (step_line ch (reply_text reply, 1) ∷ []) → AnswersLine (step_answer v ch 1) w out out'
 step_prints v w ch turned reply out out' answers is prints =
-    let answered : (reply, w) ≡ answer v (Step ch) = served_one v (Step ch) reply w is.1 (subst (λ (r : Reply). CallAnswers v (Step ch) r w) (sym is.0) answers) in
+    let answered : (reply, w) ≡ answer v (Step ch) = answer_unless_no_memory v w (Step ch) reply is.1 (subst (λ (r : Reply). CallAnswers v (Step ch) r w) (sym is.0) answers) in
     subst (λ (x : Reply × View). AnswersLine (step_lines ch (reply_text x.0 ∷ []), x.1) w out out') answered (record { acts = refl; prints = prints })
 
 -- the parts of the line of one step, one after another

@@ -1,5 +1,5 @@
 -- Which engine calls a script makes, and how its output is computed from their replies.
-use Rattle.std.specs.Prelude.{◌≡◌, ◌≢◌, ℕ, zero, suc, ◌++◌, ◌∷◌, [], true, false, if◌then◌else◌, Option, Some, None, Ok, List, length, map, take, drop, replicate, codes}
+use Rattle.std.specs.Prelude.{◌≡◌, ◌≢◌, ℕ, suc, ◌++◌, ◌∷◌, [], true, false, if◌then◌else◌, Option, Some, None, Ok, List, length, map, take, drop, replicate, codes}
 use Rattle.std.specs.List.{All}
 use Rattle.dma_mem.specs.Places.{Descriptor}
 use Rattle.dma_mem.specs.Refusals.{refusal_of}
@@ -9,6 +9,7 @@ use Rattle.dma_mem.specs.declared.call.Call.TheVariants as calls
 use Rattle.dma_engine.specs.declared.call.Reply.{Reply}
 use Rattle.dma_engine.specs.declared.call.Reply.TheVariants.{Cookie, Refused}
 use Rattle.dma_engine.specs.declared.fault.EngineFault.TheVariants.{NoMemory}
+use Rattle.dma_engine.specs.Advance.{goes_on}
 use Rattle.dma_engine.specs.View.{View, new_fault, new_view}
 use Rattle.dma_engine.specs.Answer.{AreAnswers, answer, answers}
 use Rattle.dma_engine.specs.Laws.{IsCall}
@@ -18,7 +19,7 @@ use Rattle.dma_script.specs.declared.statements.RunScript.{RunScript}
 use Rattle.dma_script.specs.declared.statements.Statement.{Statement}
 use Rattle.dma_script.specs.declared.statements.Statement.TheVariants as statements
 use Rattle.dma_commands.specs.Printed.{call_line, refused_line, reply_text, transfer_fault_name}
-use Rattle.dma_commands.specs.Run.{goes_on, is_in_use, is_refused, line_answer, most_copy_steps, printed, start_of, step_lines, last_answer_line, totals_of}
+use Rattle.dma_commands.specs.Run.{is_in_use, is_refused, line_answer, most_copy_steps, printed, start_of, step_lines, steps_before_last, last_answer_line, totals_of}
 use Rattle.dma_commands.specs.Transfers.{transfer_of}
 
 -- ---- the calls of a line
@@ -28,17 +29,11 @@ abbrev pub if_valid : Option TransferFault → List Call → List Call
 if_valid None calls = calls
 if_valid (Some fault) calls = []
 
--- How many steps of channel 0 a copy or a fill takes: up to the first whose answer is neither Started nor Moved, and
--- at most n + 1 for the argument n.
-unfoldable pub steps_taken : ℕ → View → ℕ
-steps_taken zero v = 1
-steps_taken (suc n) v =
-    let first = answer v (calls.Step 0) in
-    if goes_on first.0 then suc (steps_taken n first.1) else 1
-
 -- The calls that issue channel 0 and then step it.
 abbrev pub issue_and_step_calls : View → List Call
-issue_and_step_calls v = calls.Issue 0 ∷ replicate (steps_taken most_copy_steps (answer v (calls.Issue 0)).1) (calls.Step 0)
+issue_and_step_calls v =
+    let before = steps_before_last most_copy_steps (answer v (calls.Issue 0)).1 in
+    calls.Issue 0 ∷ replicate (suc before) (calls.Step 0)
 
 -- The calls of a copy or a fill after its submit: none if the submit is refused, else the issue and the steps.
 abbrev pub calls_after : Reply × View → List Call

@@ -1,15 +1,16 @@
 -- What `dmasim run` prints for an input.
-use Rattle.std.specs.Prelude.{◌≡◌, ℕ, ◌+◌, ◌++◌, ◌∷◌, [], if◌then◌else◌, ◌||◌, Bool, true, false, nat_lt, zero, suc, Option, Some, None, Result, Ok, Err, List, length, map, replicate, codes, decimal}
+use Rattle.std.specs.Prelude.{◌≡◌, ℕ, ◌+◌, ◌++◌, ◌∷◌, [], if◌then◌else◌, ◌||◌, Bool, true, false, nat_lt, Option, Some, None, Result, Ok, Err, List, length, map, replicate, codes, decimal}
 use Rattle.std.specs.Str.{bytes_eq}
 use Rattle.dma_mem.specs.declared.transfer.TransferFault.{TransferFault}
 use Rattle.dma_mem.specs.Places.{Descriptor}
 use Rattle.dma_mem.specs.Rules.{IsTransfer}
 use Rattle.dma_mem.specs.Refusals.{refusal_of}
+use Rattle.dma_mem.specs.Steps.{taken_in}
 use Rattle.dma_mem.specs.declared.call.Call.{Call}
 use Rattle.dma_mem.specs.declared.call.Call.TheVariants as calls
 use Rattle.dma_engine.specs.declared.call.Reply.{Reply}
-use Rattle.dma_engine.specs.declared.call.Reply.TheVariants.{Turned, Cookie, Refused}
-use Rattle.dma_engine.specs.Advance as steps
+use Rattle.dma_engine.specs.declared.call.Reply.TheVariants.{Cookie, Refused}
+use Rattle.dma_engine.specs.Advance.{after_steps, goes_on}
 use Rattle.dma_engine.specs.Object.{channel, unfinished}
 use Rattle.dma_engine.specs.View.{View, IsSound, new_view, object_of, schedule_at, running}
 use Rattle.dma_engine.specs.Answer.{answer, answers}
@@ -83,18 +84,13 @@ abbrev pub is_in_use : View → Bool
 is_in_use v =
     nat_lt 0 (unfinished (channel (object_of v) 0)) || ((schedule_at v 0).paused || (channel (object_of v) 0).halted)
 
--- whether a copy or a fill continues after this answer: it is Started or Moved
-abbrev pub goes_on : Reply → Bool
-goes_on (Turned turn) = steps.goes_on (Ok turn)
-goes_on _ = false
+-- how many steps of channel 0 answer Started or Moved before the first that answers neither, at most `most`
+unfoldable pub steps_before_last : ℕ → View → ℕ
+steps_before_last most v = taken_in (λ k. goes_on (answer (after_steps v 0 k) (calls.Step 0)).0) most
 
--- Steps channel 0 until an answer is neither Started nor Moved, and at most n + 1 times for the argument n. The result
--- is the last answer and the view after it.
-unfoldable pub stepped_to_end : ℕ → View → Reply × View
-stepped_to_end zero v = answer v (calls.Step 0)
-stepped_to_end (suc n) v =
-    let first = answer v (calls.Step 0) in
-    if goes_on first.0 then stepped_to_end n first.1 else first
+-- The answer to the step after these, and the view after it.
+abbrev pub stepped_to_end : ℕ → View → Reply × View
+stepped_to_end most v = answer (after_steps v 0 (steps_before_last most v)) (calls.Step 0)
 
 -- `copy ANSWER` or `fill ANSWER`, where `start` is `copy ` or `fill `
 abbrev pub last_answer_line : List ℕ → Reply → List ℕ

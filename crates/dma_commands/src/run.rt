@@ -1,6 +1,6 @@
 //! The command `run`: executes a script line by line.
-ghost use Rattle.std.specs.Prelude.{◌≡◌, ◌≤◌, ◌+◌, IfSome};
-ghost use Rattle.dma_script.specs.Command.{Answers, Ends, failures, longest_input, printed_within};
+ghost use Rattle.std.specs.Prelude.{◌≡◌, ◌≤◌, ◌+◌, ◌++◌, IfSome, OnErr, OnOk};
+ghost use Rattle.dma_script.specs.Command.{Answers, Ends, failures, longest_input, printed_within, text_of};
 ghost use Rattle.dma_commands.specs.Run.{line_answer, lines_answered, printed};
 ghost use Rattle.dma_commands.specs.inner.RunSteps.{RunsLine};
 
@@ -14,7 +14,7 @@ use crate::run::calls::{
     answer_totals, answer_write,
 };
 use crate::run::copies::answer_copy;
-pub use crate::run::left::engine_after;
+pub use crate::run::left::{engine_after, new_engine};
 use crate::run::steps::{StepLines, answer_step, answer_steps};
 use dma_engine::{Call, Engine, NewFault};
 use dma_script::command::{Command, SUCCESS, refuse, serve};
@@ -49,6 +49,18 @@ fn run_statement(
         Statement::Step { ch, count } => answer_steps(engine, ch, count, steps, out),
         Statement::Totals => answer_totals(engine, out),
     }
+}
+
+/// Executes a line and appends what it prints. If memory runs out, appends nothing.
+pub fn run_line(engine: &mut Engine, line: Statement, out: &mut Vec<u8>) -> Result<(), AllocError>
+    ensures left { OnOk result
+        (engine.new.view ≡ (line_answer engine.old.view line).1) }
+    ensures text { OnOk result
+        (out.new.items ≡ out.old.items ++ text_of (line_answer engine.old.view line).0) }
+    ensures err { OnErr result (out.new.items ≡ out.old.items) }
+{
+    let mut steps = StepLines::new(*out.allocator());
+    run_statement(engine, line, &mut steps, out)
 }
 
 /// Executes script lines on an engine.

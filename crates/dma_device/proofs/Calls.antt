@@ -1,28 +1,130 @@
--- A call does nothing, or it takes steps.
-use Rattle.std.proofs.Common.{◌≡◌, ◌⊎◌, ℕ, Bool, true, false, List, Option, Some, None, refl, inl, inr}
-use Rattle.std.specs.Prelude.{slice_get}
+-- A call does nothing, or it takes steps; a turn has two calls.
+use Rattle.std.proofs.Common.{◌≡◌, ◌∙◌, ◌⊎◌, ℕ, ◌^◌, ◌<◌, Bool, true, false, List, [], Option, Some, None, ap, refl, sym, subst, inl, inr, true≢false}
+use Rattle.std.specs.Prelude.{if◌then◌else◌, slice_get}
+use Rattle.dma_mem.specs.Flags.{flags_of}
+use Rattle.dma_mem.specs.Marking.{MarkList}
+use Rattle.dma_mem.specs.Regions.{image_of, pieces_of}
 use Rattle.dma_mem.specs.declared.regions.Region.{Region}
-use Rattle.dma_device.specs.CallSteps.{Executes}
-use Rattle.dma_device.specs.Device.{DeviceValue}
-use Rattle.dma_device.specs.Turns.{CallsIf, CallsOne, nothing}
+use Rattle.dma_mem.specs.declared.segment.Segment.{Segment}
+use Rattle.dma_chan.specs.Channel.{ChannelValue}
+use Rattle.dma_chan.specs.LentRegions.{with_gaps_of}
+use Rattle.dma_chan.specs.Stepping.{Machine, TakesSteps, after_steps, last_of, machine, signal_after, written_after}
+use Rattle.dma_chan.specs.Written.{joined}
+use Rattle.dma_chan.specs.declared.lent.Taken.{Taken}
+use Rattle.dma_chan.specs.declared.turn.ChanTurn.{ChanTurn}
+use Rattle.dma_device.specs.CallSteps.{Executes, first_in, second_in}
+use Rattle.dma_device.specs.Device.{DeviceValue, with_thread}
+use Rattle.dma_device.specs.Thread.{answered}
+use Rattle.dma_device.specs.Turns.{AreKept, Outcome, Setup, TakesTurn, begins, called, called_if, follows, idle, last_in, lines_differ, machine_in, machine_left, number_of, outcome_of, second_call, setup_of, stepped, steps_in, visible_events, with_flags}
 use Rattle.dma_device.specs.declared.device.turns.Called.{Called}
+use Rattle.dma_device.specs.declared.device.turns.Turn.{Turn}
 use Rattle.dma_device.specs.declared.thread.Thread.{Thread}
+use Rattle.dma_device.proofs.FlagNumber.{number_is}
+use Rattle.dma_device.proofs.InOrder.{marks_kept}
 
 -- nothing is called
-pub record IsIdle (b : Bool) (d : DeviceValue) (regions : List Region) (e : DeviceValue) (left : List Region)
-    (called : Called) : Type 0 where
-  pub off : b ≡ false
-  pub device : e ≡ d
-  pub same : left ≡ regions
-  pub none : called ≡ nothing
+pub record Rests (made : Bool) (marks : MarkList) (n most : ℕ) (s : Setup) : Type 0 where
+  pub off : ¬ Executes made n s
+  pub is : called_if made marks n most s ≡ idle s
 
-abbrev pub CallIs : Bool → DeviceValue → List Region → ℕ → ℕ → DeviceValue → List Region → Called → Type 0
-CallIs b d regions n most e left called = IsIdle b d regions e left called ⊎ Executes b d regions n most e left called
+by_thread : (marks : MarkList) (n most : ℕ) (s : Setup) (o : Option Thread) → slice_get s.device.threads n ≡ o → Rests true marks n most s ⊎ Executes true n s
+by_thread marks n most s None found = inl (record {
+  off = λ x. (let bad = sym found ∙ x.found in cc);
+  is = ap (λ (o : Option Thread). called marks n most o s) found;
+})
+by_thread marks n most s (Some t) found = inr (record { on = refl; thread = t; found = found })
 
-one_is : (b : Bool) (o : Option Thread) (d : DeviceValue) (regions : List Region) (n most : ℕ) (e : DeviceValue) (left : List Region) (called : Called) → b ≡ true → slice_get d.threads n ≡ o → CallsOne o d regions n most e left called → CallIs b d regions n most e left called
-one_is b None d regions n most e left called on found x = absurd x
-one_is b (Some t) d regions n most e left called on found x = inr (record { on = on; thread = t; found = found; call = x })
+pub call_is : (made : Bool) (marks : MarkList) (n most : ℕ) (s : Setup) → Rests made marks n most s ⊎ Executes made n s
+call_is true marks n most s = by_thread marks n most s (slice_get s.device.threads n) refl
+call_is false marks n most s = inl (record { off = λ x. true≢false (sym x.on); is = refl })
 
-pub call_is : (b : Bool) (d : DeviceValue) (regions : List Region) (n most : ℕ) (e : DeviceValue) (left : List Region) (called : Called) → CallsIf b d regions n most e left called → CallIs b d regions n most e left called
-call_is true d regions n most e left called x = one_is true (slice_get d.threads n) d regions n most e left called refl refl x
-call_is false d regions n most e left called x = inl (record { off = refl; device = x.0; same = x.1; none = x.2 })
+pub call_acts : {made : Bool} {n : ℕ} {s : Setup} (marks : MarkList) (most : ℕ) (x : Executes made n s) → called_if made marks n most s ≡ stepped marks n most x.thread s
+call_acts {n = n} {s = s} marks most x =
+    ap (λ (b : Bool). if b then called marks n most (slice_get s.device.threads n) s else idle s) x.on
+    ∙ ap (λ (o : Option Thread). called marks n most o s) x.found
+
+-- what a call of a thread takes
+pub takes : (marks : MarkList) (most : ℕ) (t : Thread) (s : Setup) → TakesSteps marks (machine_in s t) most (steps_in marks most t s) (last_in marks most t s) (machine_left marks most t s)
+takes marks most t s = record { count = refl; answer = refl; ends_at = refl }
+
+-- a call has the outcome that its steps have
+pub stepped_is : (marks : MarkList) (n most : ℕ) (t : Thread) (s : Setup) (channel : ChannelValue) (image : List ℕ) (flags taken : ℕ) (last : Option ChanTurn) (made : Called) → flags < 2 ^ 32 → TakesSteps marks (machine_in s t) most taken last (machine channel image (flags_of flags)) → made.signal ≡ signal_after marks (machine_in s t) taken → made.written ≡ written_after marks (machine_in s t) taken → let after = answered s.device.config.events (record t { channel = channel }) last made.signal in stepped marks n most t s ≡ record { left = record { device = with_thread n after (with_flags flags s.device); image = image }; called = made }
+stepped_is marks n most t s channel image flags taken last made few x signal written =
+    let from = machine_in s t in
+    let k = steps_in marks most t s in
+    let left : Machine → Option ChanTurn → Option ℕ → Segment → Outcome = (λ to l g w.
+    record {
+      left = record {
+        device = with_thread n (answered s.device.config.events (record t { channel = to.channel }) l g) (with_flags (number_of to.flags) s.device);
+        image = to.image;
+      };
+      called = record { written = w; signal = g };
+    }) in
+    let v = machine channel image (flags_of flags) in
+    let to : after_steps marks from k ≡ v = ap (after_steps marks from) (sym x.count) ∙ sym x.ends_at in
+    let ended : last_of marks from k ≡ last = ap (last_of marks from) (sym x.count) ∙ sym x.answer in
+    let set : signal_after marks from k ≡ made.signal = ap (signal_after marks from) (sym x.count) ∙ sym signal in
+    let range : written_after marks from k ≡ made.written = ap (written_after marks from) (sym x.count) ∙ sym written in
+    ap (λ (m : Machine). left m (last_of marks from k) (signal_after marks from k) (written_after marks from k)) to
+    ∙ ap (λ (o : Option ChanTurn). left v o (signal_after marks from k) (written_after marks from k)) ended
+    ∙ ap (λ (o : Option ℕ). left v last o (written_after marks from k)) set
+    ∙ ap (left v last made.signal) range
+    ∙ ap (λ (j : ℕ). let e : DeviceValue = with_thread n (answered s.device.config.events (record t { channel = channel }) last made.signal) (with_flags j s.device) in let o : Outcome = record { left = record { device = e; image = image }; called = made } in o) (number_is flags few)
+
+-- and so it has over regions
+pub called_is : (d e : DeviceValue) (regions left : List Region) (n most : ℕ) (t : Thread) (none : MarkList) (events after : List Bool) (channel : ChannelValue) (flags : ℕ) (taken : Taken) → slice_get d.threads n ≡ Some t → none ≡ [] → events ≡ flags_of (visible_events d) → flags_of flags ≡ after → flags < 2 ^ 32 → let from = machine t.channel (image_of (pieces_of regions)) events in TakesSteps (with_gaps_of regions none) from most taken.count taken.last (machine channel (image_of (pieces_of left)) after) → taken.signal ≡ signal_after (with_gaps_of regions none) from taken.count → taken.written ≡ written_after (with_gaps_of regions none) from taken.count → e ≡ with_thread n (answered d.config.events (record t { channel = channel }) taken.last taken.signal) (with_flags flags d) → called (with_gaps_of regions []) n most (slice_get d.threads n) (setup_of d regions) ≡ outcome_of e left (record { written = taken.written; signal = taken.signal })
+called_is d e regions left n most t none events after channel flags taken found unmarked seen bits few steps signal written device =
+    let marks = with_gaps_of regions [] in
+    let image = image_of (pieces_of regions) in
+    let s = setup_of d regions in
+    let made : Called = record { written = taken.written; signal = taken.signal } in
+    let from : List Bool → Machine = machine t.channel image in
+    let steps : TakesSteps marks (machine_in s t) most taken.count taken.last (machine channel (image_of (pieces_of left)) (flags_of flags)) =
+    subst (λ (f : List Bool). TakesSteps marks (machine_in s t) most taken.count taken.last (machine channel (image_of (pieces_of left)) f)) (sym bits)
+    (subst (λ (f : List Bool). TakesSteps marks (from f) most taken.count taken.last (machine channel (image_of (pieces_of left)) after)) seen
+    (subst (λ (m : MarkList). TakesSteps (with_gaps_of regions m) (from events) most taken.count taken.last (machine channel (image_of (pieces_of left)) after)) unmarked steps)) in
+    let same : (f : List Bool) (m : MarkList) → f ≡ flags_of (visible_events d) → m ≡ [] → (signal_after (with_gaps_of regions m) (from f) taken.count ≡ signal_after marks (machine_in s t) taken.count) × (written_after (with_gaps_of regions m) (from f) taken.count ≡ written_after marks (machine_in s t) taken.count) = (λ f m is none. (
+      ap (λ (x : MarkList). signal_after (with_gaps_of regions x) (from f) taken.count) none ∙ ap (λ (x : List Bool). signal_after marks (from x) taken.count) is,
+      ap (λ (x : MarkList). written_after (with_gaps_of regions x) (from f) taken.count) none ∙ ap (λ (x : List Bool). written_after marks (from x) taken.count) is,
+    )) in
+    let both = same events none seen unmarked in
+    ap (λ (o : Option Thread). called marks n most o s) found
+    ∙ stepped_is marks n most t s channel (image_of (pieces_of left)) flags taken.count taken.last made few steps (signal ∙ both.0) (written ∙ both.1)
+    ∙ ap (λ (f : DeviceValue). outcome_of f left made) (sym device)
+
+-- ---- a turn
+
+-- a turn has the outcome of its two calls
+pub turn_is : (d m e : DeviceValue) (regions lent left : List Region) (n most : ℕ) (first second : Called) (range : Segment) (changed : Bool) → called_if (begins d n most) (with_gaps_of regions []) n most (setup_of d regions) ≡ outcome_of m lent first → AreKept lent regions → called_if (follows m n first) (with_gaps_of lent []) n 1 (setup_of m lent) ≡ outcome_of e left second → AreKept left lent → range ≡ joined first.written second.written → changed ≡ lines_differ d e → TakesTurn d regions n most e left (record { written = range; lines_changed = changed })
+turn_is d m e regions lent left n most first second range changed one kept two rest written lines =
+    let marks = with_gaps_of regions [] in
+    let report : Outcome → Outcome → Setup × Turn = (λ a b.
+    let turn : Turn = record {
+      written = joined a.called.written b.called.written;
+      lines_changed = lines_differ d b.left.device;
+    } in
+    (b.left, turn)) in
+    let later : second_call marks n (outcome_of m lent first) ≡ outcome_of e left second = ap (λ (ms : MarkList). called_if (follows m n first) ms n 1 (setup_of m lent)) (sym (marks_kept regions lent kept.places kept.read_only)) ∙ two in
+    record {
+      is = ap (λ (a : Outcome). report a (second_call marks n a)) one
+          ∙ ap (report (outcome_of m lent first)) later
+          ∙ ap (λ (w : Segment). let t : Turn = record { written = w; lines_changed = lines_differ d e } in let p : Setup × Turn = (setup_of e left, t) in p) (sym written)
+          ∙ ap (λ (b : Bool). let t : Turn = record { written = range; lines_changed = b } in let p : Setup × Turn = (setup_of e left, t) in p) (sym lines);
+      kept = record { places = rest.places ∙ kept.places; read_only = rest.read_only ∙ kept.read_only; names = rest.names ∙ kept.names };
+    }
+
+module _ {d e : DeviceValue} {regions left : List Region} {n most : ℕ} {turn : Turn} (x : TakesTurn d regions n most e left turn) where
+  pub turn_left : (second_in d regions n most).left ≡ setup_of e left
+  turn_left = ap (λ (p : Setup × Turn). p.0) x.is
+
+  pub turn_device : (second_in d regions n most).left.device ≡ e
+  turn_device = ap (λ (s : Setup). s.device) turn_left
+
+  pub turn_image : (second_in d regions n most).left.image ≡ image_of (pieces_of left)
+  turn_image = ap (λ (s : Setup). s.image) turn_left
+
+  pub turn_written : joined (first_in d regions n most).called.written (second_in d regions n most).called.written ≡ turn.written
+  turn_written = ap (λ (p : Setup × Turn). p.1.written) x.is
+
+  pub turn_lines : lines_differ d (second_in d regions n most).left.device ≡ turn.lines_changed
+  turn_lines = ap (λ (p : Setup × Turn). p.1.lines_changed) x.is

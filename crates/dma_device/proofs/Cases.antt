@@ -3,6 +3,7 @@ use Rattle.std.proofs.Common.{◌≡◌, ℕ, ◌+◌, ◌%◌, ◌/◌, Bool, t
 use Rattle.std.specs.Prelude.{◌==◌, if◌then◌else◌, not, slice_get}
 use Rattle.std.specs.Int.{bit_not}
 use Rattle.dma_mem.specs.Regions.{Piece}
+use Rattle.dma_device.specs.Offsets as offset
 use Rattle.dma_device.specs.declared.thread.Thread.{Thread}
 use Rattle.dma_device.specs.Device.{DeviceValue, all_events, by_manager, by_thread, debugged, go, gone, is_event, manager_failed, program_at, signalled, with_thread, written}
 use Rattle.dma_device.specs.Thread.{dbg_instr, dmago_err, failed, is_faulting, is_stopped, killed, operand_invalid, started, undef_instr}
@@ -76,8 +77,8 @@ module _ (P : DeviceValue → Type 0) where
   -- after a write of a register
   pub record WriteCases (ram : List Piece) (at value : ℕ) (d : DeviceValue) : Type 0 where
     pub inten : P (record d { inten = bit_and value (all_events d) })
-    pub intclr : (at == 0x02C) ≡ true → P (record d { interrupts = bit_and d.interrupts (bit_not w32 (bit_and value d.inten)) })
-    pub dbgcmd : (at == 0xD04) ≡ true → P (debugged ram d)
+    pub intclr : (at == offset.intclr) ≡ true → P (record d { interrupts = bit_and d.interrupts (bit_not w32 (bit_and value d.inten)) })
+    pub dbgcmd : (at == offset.dbgcmd) ≡ true → P (debugged ram d)
     pub dbginst0 : P (record d { dbginst0 = value })
     pub dbginst1 : P (record d { dbginst1 = value })
     pub other : P d
@@ -89,12 +90,12 @@ module _ (P : DeviceValue → Type 0) where
       let executed : DeviceValue = if value % 4 == 0 then debugged ram d else d in
       let first : DeviceValue = record d { dbginst0 = value } in
       let second : DeviceValue = record d { dbginst1 = value } in
-      let last : DeviceValue = if at == 0xD0C then second else d in
-      let rest : DeviceValue = if at == 0xD08 then first else last in
-      let below : DeviceValue = if at == 0xD04 then executed else rest in
-      let others : DeviceValue = if at == 0x02C then lowered else below in
-      branch (at == 0x020) enabled others (λ is. x.inten)
-      (λ no. branch (at == 0x02C) lowered below x.intclr
-      (λ no. branch (at == 0xD04) executed rest (λ is. branch (value % 4 == 0) (debugged ram d) d (λ executes. x.dbgcmd is) (λ ignores. x.other))
-      (λ no. branch (at == 0xD08) first last (λ is. x.dbginst0)
-      (λ no. branch (at == 0xD0C) second d (λ is. x.dbginst1) (λ none. x.other)))))
+      let last : DeviceValue = if at == offset.dbginst1 then second else d in
+      let rest : DeviceValue = if at == offset.dbginst0 then first else last in
+      let below : DeviceValue = if at == offset.dbgcmd then executed else rest in
+      let others : DeviceValue = if at == offset.intclr then lowered else below in
+      branch (at == offset.inten) enabled others (λ is. x.inten)
+      (λ no. branch (at == offset.intclr) lowered below x.intclr
+      (λ no. branch (at == offset.dbgcmd) executed rest (λ is. branch (value % 4 == 0) (debugged ram d) d (λ executes. x.dbgcmd is) (λ ignores. x.other))
+      (λ no. branch (at == offset.dbginst0) first last (λ is. x.dbginst0)
+      (λ no. branch (at == offset.dbginst1) second d (λ is. x.dbginst1) (λ none. x.other)))))

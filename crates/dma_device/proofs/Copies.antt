@@ -5,6 +5,7 @@ use Rattle.std.proofs.lemmas.List.Elements.{Contains-get_or}
 use Rattle.std.proofs.lemmas.Bool.{and_parts, cases_eq}
 use borrow.Author.Tests.{ltb-true}
 use Rattle.dma_mem.specs.Image.{laid}
+use Rattle.dma_mem.specs.Marking.{MarkList}
 use Rattle.dma_mem.specs.Places.{Descriptor, destinations, size_of}
 use Rattle.dma_mem.specs.declared.regions.Region.{Region}
 use Rattle.dma_mem.proofs.OverTransfers.{Contains_take}
@@ -14,22 +15,22 @@ use Rattle.dma_chan.specs.Channel.{ChannelValue}
 use Rattle.dma_chan.proofs.CallsAmongOthers.{call_answers, call_fails, call_waits, signalled}
 use Rattle.dma_chan.proofs.LaidPlaces.{laid_by_fits}
 use Rattle.dma_chan.proofs.RegionsHave.{gaps_miss}
-use Rattle.dma_device.specs.CallSteps.{marks_in}
+use Rattle.dma_device.specs.CallSteps.{first_in, marks_in}
 use Rattle.dma_device.specs.Copies.{AreCopied, DmagoCopies, DmagoInterrupts, DmagoNeverFails, HasRisen, IsFit}
 use Rattle.dma_device.specs.Device.{DeviceValue, irqs}
 use Rattle.dma_device.specs.Dmago.{Go, RunsCopy, GivenTurns, bus_of, csr_status, image_in}
 use Rattle.dma_device.specs.Interrupts.{HasLine, IsHigh}
 use Rattle.dma_device.specs.Thread.{is_faulting, is_faulting_status, is_stopped_status}
-use Rattle.dma_device.specs.Turns.{TakesTurn, begins, nothing, runs_at}
+use Rattle.dma_device.specs.Turns.{TakesTurn, begins, nothing, runs_at, setup_of}
+use Rattle.dma_device.specs.declared.config.Config.{Config}
 use Rattle.dma_device.specs.declared.device.turns.Called.{Called}
 use Rattle.dma_device.specs.declared.device.turns.Turn.{Turn}
 use Rattle.dma_device.specs.declared.thread.Status.{Status}
 use Rattle.dma_device.specs.declared.thread.Status.TheVariants.{Stopped, Executing, WaitingForEvent, Faulting}
 use Rattle.dma_device.specs.declared.thread.Thread.{Thread}
 use Rattle.dma_device.proofs.Answered.{answer_fine}
-use Rattle.dma_device.proofs.CallKeeps.{if_config, if_places, if_read_only}
-use Rattle.dma_device.proofs.Driven.{After, Before, Call, Copying, Going, Has, Keeps, Leaves, Steps, after_steps_of, after_turn, along, at_answer, channel_after, copying, first_call, from, new, second_call, to}
-use Rattle.dma_device.proofs.InOrder.{marks_kept}
+use Rattle.dma_device.proofs.CallKeeps.{if_config}
+use Rattle.dma_device.proofs.Driven.{After, Before, Call, Copying, Going, Has, Keeps, Leaves, after_steps_of, after_turn, along, at_answer, channel_after, copying, count_in, from, last_answer, new, one_of, result_of, sent_by, sets, steps_of, to, two_of}
 use Rattle.dma_device.proofs.Starts.{reads_fine, reads_stopped}
 use Rattle.dma_device.proofs.Stored.{call_grows}
 use Rattle.dma_device.proofs.TurnRaises.{turn_raises}
@@ -45,32 +46,31 @@ module _ (c : Copying) (n i least : ℕ) (sev : (stored : ℕ) → IsSignal c.bu
   abbrev Stores : Type 0 → Thread → Type 0
   Stores F th = F → least ≤ th.channel.stored
 
-  keeps_stores : (F : Type 0) (k : Call) → Keeps c n (Unit {0}) (Stores F) (Unit {0}) (Stores (F ⊎ (k.called.signal ≡ Some i))) k
+  keeps_stores : (F : Type 0) (k : Call) → Keeps c n (Unit {0}) (Stores F) (Unit {0}) (Stores (F ⊎ (sent_by n k ≡ Some i))) k
   keeps_stores F k = record {
     over = λ none o. o;
-    going = λ off none th found g known why. elim why [ inl f ↦ known f | inr is ↦ absurd (none_sent k.called i none is) ];
+    going = λ off none th found g known why. elim why [ inl f ↦ known f | inr is ↦ absurd (none_sent (result_of n k).called i none is) ];
   }
 
-  leaves_stores : (F : Type 0) (k : Call) → Leaves c n (Stores F) (Unit {0}) (Stores (F ⊎ (k.called.signal ≡ Some i))) k
+  leaves_stores : (F : Type 0) (k : Call) → Leaves c n (Stores F) (Unit {0}) (Stores (F ⊎ (sent_by n k ≡ Some i))) k
   leaves_stores F k = record {
-    over = λ th g known x ended. tt;
-    going = λ made th found g known x goes why.
-        let marks = marks_in k.regions in
-        let here = ap (λ (v : ChannelValue). v.stored) (channel_after n k th x) in
-        let grows = call_grows c.bus c.program c.t c.count marks c.first c.explains c.fits (from n k th x) (to n k th x) k.most x.taken x.last g.runs x.steps in
-        let enough : least ≤ x.channel.stored = elim why [
+    over = λ th g known sent ended. tt;
+    going = λ made th found g known sent goes why.
+        let here = ap (λ (v : ChannelValue). v.stored) (channel_after k th) in
+        let grows = call_grows c.bus c.program c.t c.count k.marks c.first c.explains c.fits (from k th) (to k th) k.most (count_in k th) (last_answer k th) g.runs (steps_of k th) in
+        let enough : least ≤ (to k th).channel.stored = elim why [
           | inl f ↦ omega (arith, known f, grows)
-          | inr is ↦ sev x.channel.stored (signalled c.bus c.program c.t c.count marks c.first c.explains c.fits (from n k th x) (to n k th x) k.most x.taken x.last i g.runs x.steps (sym x.signal ∙ is))
+          | inr is ↦ sev (to k th).channel.stored (signalled c.bus c.program c.t c.count k.marks c.first c.explains c.fits (from k th) (to k th) k.most (count_in k th) (last_answer k th) i g.runs (steps_of k th) (sym sent ∙ is))
         ] in
         omega (arith, here, enough);
   }
 
-  turn_stores : (F : Type 0) (d : DeviceValue) (regions : List Region) (most : ℕ) (e : DeviceValue) (left : List Region) (turn : Turn) (x : TakesTurn d regions n most e left turn) → Has c n (Unit {0}) (Stores F) (image_in regions) d → Has c n (Unit {0}) (Stores ((F ⊎ (x.first.signal ≡ Some i)) ⊎ (x.second.signal ≡ Some i))) (image_in left) e
+  turn_stores : (F : Type 0) (d : DeviceValue) (regions : List Region) (most : ℕ) (e : DeviceValue) (left : List Region) (turn : Turn) → TakesTurn d regions n most e left turn → Has c n (Unit {0}) (Stores F) (setup_of d regions) → Has c n (Unit {0}) (Stores ((F ⊎ (sent_by n (one_of d regions n most) ≡ Some i)) ⊎ (sent_by n (two_of d regions n most) ≡ Some i))) (setup_of e left)
   turn_stores F d regions most e left turn x g =
-      let one = first_call d regions n most e left turn x in
-      let two = second_call d regions n most e left turn x in
-      let first = F ⊎ (x.first.signal ≡ Some i) in
-      after_turn c n d regions most e left turn x (Unit {0}) (Stores F) (Unit {0}) (Stores first) (Unit {0}) (Stores (first ⊎ (x.second.signal ≡ Some i)))
+      let one = one_of d regions n most in
+      let two = two_of d regions n most in
+      let first = F ⊎ (sent_by n one ≡ Some i) in
+      after_turn c n d regions most e left turn x (Unit {0}) (Stores F) (Unit {0}) (Stores first) (Unit {0}) (Stores (first ⊎ (sent_by n two ≡ Some i)))
       (keeps_stores F one) (leaves_stores F one) (keeps_stores first two) (leaves_stores first two) g
 
 -- ---- what is copied
@@ -92,35 +92,35 @@ module _ (c : Copying) (n : ℕ) where
     pub waits : (e : ℕ) → IsWait c.bus c.program c.count e → e < d.config.events
     pub signals : (e stored : ℕ) → IsSignal c.bus c.program c.count e stored → e < d.config.events
 
-  -- no burst of the program meets a gap or a read-only region, and the device has its events
-  pub record Fit (d : DeviceValue) (regions : List Region) : Type 0 where
-    pub misses : Misses (marks_in regions) c.t
+  -- no burst of the program meets one of these marks, and the device has its events
+  pub record Fit (d : DeviceValue) (marks : MarkList) : Type 0 where
+    pub misses : Misses marks c.t
     pub knows : Knows d
 
   -- and so it is after a call
-  pub fit_kept : (d : DeviceValue) (regions : List Region) (most : ℕ) (e : DeviceValue) (left : List Region) (turn : Turn) → (x : TakesTurn d regions n most e left turn) → Fit d regions → Fit x.middle x.lent
-  fit_kept d regions most e left turn x fit =
-      let starts = begins d n most in
-      let config = if_config starts d regions n most x.middle x.lent x.first x.call in
-      let marks = marks_kept regions x.lent (if_places starts d regions n most x.middle x.lent x.first x.call) (if_read_only starts d regions n most x.middle x.lent x.first x.call) in
+  pub fit_kept : (d : DeviceValue) (regions : List Region) (most : ℕ) → Fit d (marks_in regions) → Fit (first_in d regions n most).left.device (marks_in regions)
+  fit_kept d regions most fit =
+      let config = if_config (begins d n most) (marks_in regions) n most (setup_of d regions) in
       record {
-        misses = rw marks fit.misses;
+        misses = fit.misses;
         knows = record {
-          waits = λ i w. (let few = fit.knows.waits i w in rw config few);
-          signals = λ i stored w. (let few = fit.knows.signals i stored w in rw config few);
+          waits = λ i w. subst (λ (g : Config). i < g.events) (sym config) (fit.knows.waits i w);
+          signals = λ i stored w. subst (λ (g : Config). i < g.events) (sym config) (fit.knows.signals i stored w);
         };
       }
 
-  pub call_fine : (k : Call) (th : Thread) → 0 < k.most → Fit k.before k.regions → Going c (image_in k.regions) th → (x : Steps n k th) → is_faulting (after_steps_of n k th x) ≡ false
-  call_fine k th some fit g x =
-      let marks = marks_in k.regions in
-      let s = from n k th x in
-      let v = to n k th x in
-      answer_fine k.before.config.events (at_answer n k th x) x.last k.called.signal
-      (call_answers c.bus c.program c.t c.count marks c.first c.explains c.fits s v k.most x.taken x.last some g.runs x.steps)
-      (λ kind. call_fails c.bus c.program c.t c.count marks c.first c.explains c.fits s v k.most x.taken x.last kind fit.misses g.runs x.steps)
-      (λ e is. fit.knows.waits e (call_waits c.bus c.program c.t c.count marks c.first c.explains c.fits s v k.most x.taken e x.last g.runs x.steps is))
-      (λ e is. fit.knows.signals e x.channel.stored (signalled c.bus c.program c.t c.count marks c.first c.explains c.fits s v k.most x.taken x.last e g.runs x.steps (sym x.signal ∙ is)))
+  pub call_fine : (k : Call) (th : Thread) → 0 < k.most → Fit k.before.device k.marks → Going c k.before.image th → is_faulting (after_steps_of k th) ≡ false
+  call_fine k th some fit g =
+      let s = from k th in
+      let v = to k th in
+      let count = count_in k th in
+      let last = last_answer k th in
+      let steps = steps_of k th in
+      answer_fine k.before.device.config.events (at_answer k th) last (sets k th)
+      (call_answers c.bus c.program c.t c.count k.marks c.first c.explains c.fits s v k.most count last some g.runs steps)
+      (λ kind. call_fails c.bus c.program c.t c.count k.marks c.first c.explains c.fits s v k.most count last kind fit.misses g.runs steps)
+      (λ e is. fit.knows.waits e (call_waits c.bus c.program c.t c.count k.marks c.first c.explains c.fits s v k.most count e last g.runs steps is))
+      (λ e is. fit.knows.signals e v.channel.stored (signalled c.bus c.program c.t c.count k.marks c.first c.explains c.fits s v k.most count last e g.runs steps is))
 
   abbrev Fine : Thread → Type 0
   Fine th = is_faulting th ≡ false
@@ -128,19 +128,19 @@ module _ (c : Copying) (n : ℕ) where
   keeps_fine : (k : Call) → Keeps c n (Unit {0}) Fine (Unit {0}) Fine k
   keeps_fine k = record { over = λ none o. o; going = λ off none th found g fine. fine }
 
-  leaves_fine : (k : Call) → (k.made ≡ true → 0 < k.most) → Fit k.before k.regions → Leaves c n Fine (Unit {0}) Fine k
+  leaves_fine : (k : Call) → (k.made ≡ true → 0 < k.most) → Fit k.before.device k.marks → Leaves c n Fine (Unit {0}) Fine k
   leaves_fine k some fit = record {
-    over = λ th g fine x ended. tt;
-    going = λ made th found g fine x goes. call_fine k th (some made) fit g x;
+    over = λ th g fine sent ended. tt;
+    going = λ made th found g fine sent goes. call_fine k th (some made) fit g;
   }
 
-  turn_fine : (d : DeviceValue) (regions : List Region) (most : ℕ) (e : DeviceValue) (left : List Region) (turn : Turn) (x : TakesTurn d regions n most e left turn) → Fit d regions → Has c n (Unit {0}) Fine (image_in regions) d → Has c n (Unit {0}) Fine (image_in left) e
+  turn_fine : (d : DeviceValue) (regions : List Region) (most : ℕ) (e : DeviceValue) (left : List Region) (turn : Turn) → TakesTurn d regions n most e left turn → Fit d (marks_in regions) → Has c n (Unit {0}) Fine (setup_of d regions) → Has c n (Unit {0}) Fine (setup_of e left)
   turn_fine d regions most e left turn x fit g =
-      let one = first_call d regions n most e left turn x in
-      let two = second_call d regions n most e left turn x in
+      let one = one_of d regions n most in
+      let two = two_of d regions n most in
       after_turn c n d regions most e left turn x (Unit {0}) Fine (Unit {0}) Fine (Unit {0}) Fine
       (keeps_fine one) (leaves_fine one (λ made. ltb-true 0 most (and_parts (nat_lt 0 most) (runs_at d n) made).0) fit)
-      (keeps_fine two) (leaves_fine two (λ made. omega arith) (fit_kept d regions most e left turn x fit)) g
+      (keeps_fine two) (leaves_fine two (λ made. omega arith) (fit_kept d regions most fit)) g
 
 -- a stopped thread isn't faulting
 stopped_fine : (s : Status) → is_stopped_status s ≡ true → is_faulting_status s ≡ false
@@ -167,7 +167,7 @@ module _ (go : Go) (t : Descriptor) (count : ℕ) (run : GivenTurns) (h : RunsCo
     IsStored j th = Rose i j → least ≤ th.channel.stored
 
     -- a line that a turn raises is that of the event that one of its calls signals
-    raised_by : (j : ℕ) (turn : Turn) (x : TakesTurn (run.before j) (run.lent j) go.channel (run.most j) (run.after j) (run.left j) turn) → Rose i (suc j) → (Rose i j ⊎ (x.first.signal ≡ Some i)) ⊎ (x.second.signal ≡ Some i)
+    raised_by : (j : ℕ) (turn : Turn) → TakesTurn (run.before j) (run.lent j) go.channel (run.most j) (run.after j) (run.left j) turn → Rose i (suc j) → (Rose i j ⊎ (sent_by go.channel (one_of (run.before j) (run.lent j) go.channel (run.most j)) ≡ Some i)) ⊎ (sent_by go.channel (two_of (run.before j) (run.lent j) go.channel (run.most j)) ≡ Some i)
     raised_by j turn x rose =
         let raises = rose.raises in
         elim (cases_eq raises.turn j) [
@@ -224,7 +224,7 @@ module _ (go : Go) (t : Descriptor) (count : ℕ) (run : GivenTurns) (h : RunsCo
         | inr going ↦ absurd (true≢false (sym (reads_stopped (run.after k) go.channel g.thread h.may_go.few g.is stopped) ∙ going.0.busy))
       ]
 
-  pub fits_all : (k : ℕ) → IsFit go t count (run.before k) (run.lent k) → Fit c go.channel (run.before k) (run.lent k)
+  pub fits_all : (k : ℕ) → IsFit go t count (run.before k) (run.lent k) → Fit c go.channel (run.before k) (marks_in (run.lent k))
   fits_all k fit = record {
     misses = gaps_miss (run.lent k) [] t fit.order fit.have (record { reads = λ a i. refl; writes = λ a i. refl });
     knows = record { waits = fit.events.waits; signals = fit.events.signals };

@@ -2,8 +2,8 @@
 use Rattle.std.proofs.Common.{◌≡◌, ◌≢◌, ◌∙◌, ◌⊎◌, ℕ, zero, suc, ◌+◌, ◌%◌, ◌^◌, ◌<◌, Bool, true, false, ◌&&◌, List, [], length, get_or, Option, Some, None, ap, refl, sym, subst, arith, inl, inr, true≢false}
 use Rattle.std.specs.Prelude.{is_some, nat_lt, not, slice_get}
 use Rattle.std.proofs.lemmas.Bool.{and_parts}
-use Rattle.dma_mem.specs.Flags.{flags_of}
 use Rattle.dma_mem.specs.Image.{laid}
+use Rattle.dma_mem.specs.Marking.{MarkList}
 use Rattle.dma_mem.specs.Places.{Descriptor, size_of}
 use Rattle.dma_mem.specs.declared.regions.Region.{Region}
 use Rattle.dma_chan.specs.declared.bus.Bus.{Bus}
@@ -11,21 +11,20 @@ use Rattle.dma_chan.specs.Channel.{ChannelValue}
 use Rattle.dma_chan.specs.Explains.{Explains}
 use Rattle.dma_chan.specs.Others.{Touches}
 use Rattle.dma_chan.specs.Programs.{ProgramValue}
-use Rattle.dma_chan.specs.Stepping.{Machine, machine}
+use Rattle.dma_chan.specs.Stepping.{Machine, TakesSteps, machine}
 use Rattle.dma_chan.specs.declared.turn.ChanTurn.{ChanTurn}
 use Rattle.dma_chan.specs.declared.turn.ChanTurn.TheVariants.{Moved, Waiting, Ended, Fault}
 use Rattle.dma_chan.proofs.AmongOthers.{Fits, touched_below}
 use Rattle.dma_chan.proofs.CallsAmongOthers.{Leads, Runs, at_first, call, survived}
-use Rattle.dma_device.specs.CallSteps.{machine_in, marks_in}
+use Rattle.dma_device.specs.CallSteps.{Executes, first_in, marks_in}
 use Rattle.dma_device.specs.Device.{DeviceValue, program_at}
 use Rattle.dma_device.specs.Dmago.{Go, RunsCopy, GivenTurns, bus_of, image_in}
-use Rattle.dma_device.specs.Thread.{answer, answered, is_faulting, is_stopped, started}
-use Rattle.dma_device.specs.Turns.{CallsIf, CallsThread, TakesTurn, begins, follows, may_follow, nothing, runs_at, runs_if}
-use Rattle.dma_device.specs.declared.device.turns.Called.{Called}
+use Rattle.dma_device.specs.Thread.{answer, is_faulting, is_stopped, started}
+use Rattle.dma_device.specs.Turns.{Outcome, Setup, TakesTurn, begins, called_if, follows, last_in, machine_in, machine_left, may_follow, nothing, runs_at, runs_if, setup_of, signal_in, steps_in, thread_left}
 use Rattle.dma_device.specs.declared.device.turns.Turn.{Turn}
 use Rattle.dma_device.specs.declared.thread.Thread.{Thread}
 use Rattle.dma_device.proofs.Answered.{answer_busy, answer_channel, is_ended}
-use Rattle.dma_device.proofs.Calls.{call_is}
+use Rattle.dma_device.proofs.Calls.{call_acts, call_is, takes, turn_left}
 use Rattle.dma_device.proofs.InMemory.{program_is_read}
 use Rattle.dma_device.proofs.Starts.{dmago_starts, set_found}
 
@@ -41,42 +40,57 @@ pub record Copying : Type 0 where
 
 -- a call that a turn makes or doesn't make
 pub record Call : Type 0 where
+  pub marks : MarkList
   pub made : Bool
-  pub before : DeviceValue
-  pub regions : List Region
   pub most : ℕ
-  pub after : DeviceValue
-  pub left : List Region
-  pub called : Called
+  pub before : Setup
 
--- it steps this thread
-abbrev pub Steps : ℕ → Call → Thread → Type 0
-Steps n k th = CallsThread k.before th k.regions n k.most k.after k.left k.called
+-- what it leaves, and the event whose flag it sets
+abbrev pub result_of : ℕ → Call → Outcome
+result_of n k = called_if k.made k.marks n k.most k.before
 
-abbrev pub first_call : (d : DeviceValue) (regions : List Region) (n most : ℕ) (e : DeviceValue) (left : List Region) (turn : Turn) → TakesTurn d regions n most e left turn → Call
-first_call d regions n most e left turn x = record { made = begins d n most; before = d; regions = regions; most = most; after = x.middle; left = x.lent; called = x.first }
+abbrev pub sent_by : ℕ → Call → Option ℕ
+sent_by n k = (result_of n k).called.signal
 
-abbrev pub second_call : (d : DeviceValue) (regions : List Region) (n most : ℕ) (e : DeviceValue) (left : List Region) (turn : Turn) → TakesTurn d regions n most e left turn → Call
-second_call d regions n most e left turn x = record { made = follows x.middle n x.first; before = x.middle; regions = x.lent; most = 1; after = e; left = left; called = x.second }
+abbrev pub one_of : DeviceValue → List Region → ℕ → ℕ → Call
+one_of d regions n most = record { marks = marks_in regions; made = begins d n most; most = most; before = setup_of d regions }
 
-module _ (n : ℕ) (k : Call) (th : Thread) (x : Steps n k th) where
+abbrev pub two_of : DeviceValue → List Region → ℕ → ℕ → Call
+two_of d regions n most =
+    let first = first_in d regions n most in
+    record { marks = marks_in regions; made = follows first.left.device n first.called; most = 1; before = first.left }
+
+-- if it steps this thread
+module _ (k : Call) (th : Thread) where
+  -- the machine before it, its number of steps, and the machine after it
+  abbrev pub from : Machine
+  from = machine_in k.before th
+
+  abbrev pub count_in : ℕ
+  count_in = steps_in k.marks k.most th k.before
+
+  abbrev pub to : Machine
+  to = machine_left k.marks k.most th k.before
+
+  abbrev pub last_answer : Option ChanTurn
+  last_answer = last_in k.marks k.most th k.before
+
+  abbrev pub sets : Option ℕ
+  sets = signal_in k.marks k.most th k.before
+
+  pub steps_of : TakesSteps k.marks from k.most count_in last_answer to
+  steps_of = takes k.marks k.most th k.before
+
   -- the thread after it
   abbrev pub after_steps_of : Thread
-  after_steps_of = answered k.before.config.events (record th { channel = x.channel }) x.last k.called.signal
+  after_steps_of = thread_left k.marks k.most th k.before
 
   -- before its answer
   abbrev pub at_answer : Thread
-  at_answer = record th { channel = x.channel; pc = (th.base + x.channel.registers.pc) % 2 ^ 32 }
+  at_answer = record th { channel = to.channel; pc = (th.base + to.channel.registers.pc) % 2 ^ 32 }
 
-  pub channel_after : after_steps_of.channel ≡ x.channel
-  channel_after = answer_channel k.before.config.events at_answer x.last k.called.signal
-
-  -- the machine before and after it
-  abbrev pub from : Machine
-  from = machine_in k.before th k.regions
-
-  abbrev pub to : Machine
-  to = machine x.channel (image_in k.left) (flags_of x.flags)
+  pub channel_after : after_steps_of.channel ≡ to.channel
+  channel_after = answer_channel k.before.device.config.events at_answer last_answer sets
 
 module _ (c : Copying) where
   abbrev pub RunsOn : Machine → Type 0
@@ -105,85 +119,93 @@ module _ (c : Copying) where
   leads_runs (Some Ended) w l goes = absurd (goes refl)
 
   module _ (n : ℕ) where
-    -- the device has thread n, which stands so
-    pub record Has (O : Type 0) (E : Thread → Type 0) (image : List ℕ) (d : DeviceValue) : Type 0 where
+    -- the device has thread n, in one of these states
+    pub record Has (O : Type 0) (E : Thread → Type 0) (s : Setup) : Type 0 where
       pub thread : Thread
-      pub is : slice_get d.threads n ≡ Some thread
-      pub stands : Stands O E image thread
+      pub is : slice_get s.device.threads n ≡ Some thread
+      pub stands : Stands O E s.image thread
 
     -- what is known after a call that isn't made
     pub record Keeps (O : Type 0) (E : Thread → Type 0) (P : Type 0) (F : Thread → Type 0) (k : Call) : Type 0 where
-      pub over : k.called ≡ nothing → O → P
-      pub going : k.made ≡ false → k.called ≡ nothing → (th : Thread) → slice_get k.before.threads n ≡ Some th → Going (image_in k.regions) th → E th → F th
+      pub over : (result_of n k).called ≡ nothing → O → P
+      pub going : ¬ Executes k.made n k.before → (result_of n k).called ≡ nothing → (th : Thread) → slice_get k.before.device.threads n ≡ Some th → Going k.before.image th → E th → F th
 
     -- what is known after a call that steps the thread
     pub record Leaves (E : Thread → Type 0) (P : Type 0) (F : Thread → Type 0) (k : Call) : Type 0 where
-      pub over : (th : Thread) → Going (image_in k.regions) th → E th → (x : Steps n k th) → x.last ≡ Some Ended → P
-      pub going : k.made ≡ true → (th : Thread) → slice_get k.before.threads n ≡ Some th → Going (image_in k.regions) th → E th → (x : Steps n k th) → x.last ≢ Some Ended → F (after_steps_of n k th x)
+      pub over : (th : Thread) → Going k.before.image th → E th → sent_by n k ≡ sets k th → last_answer k th ≡ Some Ended → P
+      pub going : k.made ≡ true → (th : Thread) → slice_get k.before.device.threads n ≡ Some th → Going k.before.image th → E th → sent_by n k ≡ sets k th → last_answer k th ≢ Some Ended → F (after_steps_of k th)
 
     no_program : (d : DeviceValue) (th : Thread) → slice_get d.threads n ≡ Some th → th.channel.program ≡ None → runs_at d n ≡ false
     no_program d th is gone = ap runs_if is ∙ ap (λ (p : Option ProgramValue). is_some p && not (is_faulting th)) gone
 
-    stands_after : (E : Thread → Type 0) (P : Type 0) (F : Thread → Type 0) (k : Call) (th : Thread) → k.made ≡ true → slice_get k.before.threads n ≡ Some th → Going (image_in k.regions) th → E th → (x : Steps n k th) → Leaves E P F k → Stands P F (image_in k.left) (after_steps_of n k th x)
-    stands_after E P F k th made found g e x leaves =
-        let is = channel_after n k th x in
-        let leads = call c.bus c.program c.t c.count (marks_in k.regions) c.first c.explains c.fits (from n k th x) (to n k th x) k.most x.taken x.last g.runs x.steps in
-        elim (is_ended x.last) [
+    stands_after : (E : Thread → Type 0) (P : Type 0) (F : Thread → Type 0) (k : Call) (th : Thread) → k.made ≡ true → slice_get k.before.device.threads n ≡ Some th → Going k.before.image th → E th → sent_by n k ≡ sets k th → Leaves E P F k → Stands P F (to k th).image (after_steps_of k th)
+    stands_after E P F k th made found g e sent leaves =
+        let is = channel_after k th in
+        let events = k.before.device.config.events in
+        let leads = call c.bus c.program c.t c.count k.marks c.first c.explains c.fits (from k th) (to k th) k.most (count_in k th) (last_answer k th) g.runs (steps_of k th) in
+        elim (is_ended (last_answer k th)) [
           | inl ended ↦
-              let done = subst (λ (o : Option ChanTurn). Leads c.bus c.program c.t c.count c.first o (to n k th x)) ended leads in
+              let done = subst (λ (o : Option ChanTurn). Leads c.bus c.program c.t c.count c.first o (to k th)) ended leads in
               inl (
                 record {
-                  stopped = subst (λ (l : Option ChanTurn). is_stopped (answer k.before.config.events (at_answer n k th x) l k.called.signal) ≡ true) (sym ended) refl;
+                  stopped = subst (λ (l : Option ChanTurn). is_stopped (answer events (at_answer k th) l (sets k th)) ≡ true) (sym ended) refl;
                   gone = ap (λ (v : ChannelValue). v.program) is ∙ done.dropped;
                   copied = done.all;
                 },
-                leaves.over th g e x ended,
+                leaves.over th g e sent ended,
               )
           | inr goes ↦
               inr (
                 record {
-                  runs = subst (λ (v : ChannelValue). RunsOn (machine v (image_in k.left) [])) (sym is) (leads_runs x.last (to n k th x) leads goes);
-                  busy = answer_busy k.before.config.events (at_answer n k th x) x.last k.called.signal goes;
+                  runs = subst (λ (v : ChannelValue). RunsOn (machine v (to k th).image [])) (sym is) (leads_runs (last_answer k th) (to k th) leads goes);
+                  busy = answer_busy events (at_answer k th) (last_answer k th) (sets k th) goes;
                 },
-                leaves.going made th found g e x goes,
+                leaves.going made th found g e sent goes,
               )
         ]
 
-    after_call : (O : Type 0) (E : Thread → Type 0) (P : Type 0) (F : Thread → Type 0) (k : Call) → (k.made ≡ true → runs_at k.before n ≡ true) → Keeps O E P F k → Leaves E P F k → Has O E (image_in k.regions) k.before → CallsIf k.made k.before k.regions n k.most k.after k.left k.called → Has P F (image_in k.left) k.after
-    after_call O E P F k on keeps leaves g x = elim (call_is k.made k.before k.regions n k.most k.after k.left k.called x) [
-      | inl idle ↦ record {
-        thread = g.thread;
-        is = ap (λ (v : DeviceValue). slice_get v.threads n) idle.device ∙ g.is;
-        stands = subst (λ (rs : List Region). Stands P F (image_in rs) g.thread) (sym idle.same) (elim g.stands [
-          | inl over ↦ inl (over.0, keeps.over idle.none over.1)
-          | inr going ↦ inr (going.0, keeps.going idle.off idle.none g.thread g.is going.0 going.1)
-        ]);
-      }
-      | inr does ↦
-          let th = does.thread in
-          let same : th ≡ g.thread = let here = does.found in let there = g.is in cc in
-          let after = after_steps_of n k th does.call in
-          record {
-            thread = after;
-            is = ap (λ (v : DeviceValue). slice_get v.threads n) does.call.device ∙ set_found k.before.threads n th after does.found;
-            stands = elim (subst (Stands O E (image_in k.regions)) (sym same) g.stands) [
-              | inl over ↦ absurd (true≢false (sym (on does.on) ∙ no_program k.before th does.found over.0.gone))
-              | inr going ↦ stands_after E P F k th does.on does.found going.0 going.1 does.call leaves
+    after_call : (O : Type 0) (E : Thread → Type 0) (P : Type 0) (F : Thread → Type 0) (k : Call) → (k.made ≡ true → runs_at k.before.device n ≡ true) → Keeps O E P F k → Leaves E P F k → Has O E k.before → Has P F (result_of n k).left
+    after_call O E P F k on keeps leaves g = elim (call_is k.made k.marks n k.most k.before) [
+      | inl rests ↦
+          let none = ap (λ (o : Outcome). o.called) rests.is in
+          subst (λ (o : Outcome). Has P F o.left) (sym rests.is)
+          (record {
+            thread = g.thread;
+            is = g.is;
+            stands = elim g.stands [
+              | inl over ↦ inl (over.0, keeps.over none over.1)
+              | inr going ↦ inr (going.0, keeps.going rests.off none g.thread g.is going.0 going.1)
             ];
-          }
+          })
+      | inr acts ↦
+          let th = acts.thread in
+          let same : th ≡ g.thread = let here = acts.found in let there = g.is in cc in
+          let is = call_acts k.marks k.most acts in
+          subst (λ (o : Outcome). Has P F o.left) (sym is)
+          (record {
+            thread = after_steps_of k th;
+            is = set_found k.before.device.threads n th (after_steps_of k th) acts.found;
+            stands = elim (subst (Stands O E k.before.image) (sym same) g.stands) [
+              | inl over ↦ absurd (true≢false (sym (on acts.on) ∙ no_program k.before.device th acts.found over.0.gone))
+              | inr going ↦ stands_after E P F k th acts.on acts.found going.0 going.1 (ap (λ (o : Outcome). o.called.signal) is) leaves
+            ];
+          })
     ]
 
     module _ (d : DeviceValue) (regions : List Region) (most : ℕ) (e : DeviceValue) (left : List Region) (turn : Turn) (x : TakesTurn d regions n most e left turn) where
       abbrev one : Call
-      one = first_call d regions n most e left turn x
+      one = one_of d regions n most
 
       abbrev two : Call
-      two = second_call d regions n most e left turn x
+      two = two_of d regions n most
 
-      pub after_turn : (O : Type 0) (E : Thread → Type 0) (P : Type 0) (F : Thread → Type 0) (R : Type 0) (G : Thread → Type 0) → Keeps O E P F one → Leaves E P F one → Keeps P F R G two → Leaves F R G two → Has O E (image_in regions) d → Has R G (image_in left) e
+      pub after_turn : (O : Type 0) (E : Thread → Type 0) (P : Type 0) (F : Thread → Type 0) (R : Type 0) (G : Thread → Type 0) → Keeps O E P F one → Leaves E P F one → Keeps P F R G two → Leaves F R G two → Has O E (setup_of d regions) → Has R G (setup_of e left)
       after_turn O E P F R G keeps_one leaves_one keeps_two leaves_two g =
-          after_call P F R G two (λ is. (and_parts (may_follow x.middle n x.first) (runs_at x.middle n) is).1) keeps_two leaves_two
-          (after_call O E P F one (λ is. (and_parts (nat_lt 0 most) (runs_at d n) is).1) keeps_one leaves_one g x.call) x.one_more
+          let first = first_in d regions n most in
+          let m = first.left.device in
+          subst (Has R G) (turn_left x)
+          (after_call P F R G two (λ is. (and_parts (may_follow m n first.called) (runs_at m n) is).1) keeps_two leaves_two
+          (after_call O E P F one (λ is. (and_parts (nat_lt 0 most) (runs_at d n) is).1) keeps_one leaves_one g))
 
 -- ---- along the turns
 
@@ -204,10 +226,10 @@ module _ (go : Go) (t : Descriptor) (count : ℕ) (run : GivenTurns) (h : RunsCo
 
   -- thread n before and after turn number j
   abbrev pub Before : (O : Type 0) (E : Thread → Type 0) → ℕ → Type 0
-  Before O E j = Has copying go.channel O E (image_in (run.lent j)) (run.before j)
+  Before O E j = Has copying go.channel O E (setup_of (run.before j) (run.lent j))
 
   abbrev pub After : (O : Type 0) (E : Thread → Type 0) → ℕ → Type 0
-  After O E j = Has copying go.channel O E (image_in (run.left j)) (run.after j)
+  After O E j = Has copying go.channel O E (setup_of (run.after j) (run.left j))
 
   at_start : (O : Type 0) (E : Thread → Type 0) → E new → Before O E 0
   at_start O E known = record {

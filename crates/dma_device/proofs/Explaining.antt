@@ -3,7 +3,9 @@ use Rattle.std.proofs.Common.{◌≡◌, ◌≢◌, ◌∙◌, ◌⊎◌, ℕ, z
 use Rattle.std.specs.Prelude.{◌==◌, IsSomeAnd, is_some, nat_lt, not, replicate, slice_get}
 use Rattle.std.proofs.lemmas.Bool.{and_parts, cases_eq}
 use Rattle.dma_insn.specs.ControlWord.{field}
-use Rattle.dma_mem.specs.Places.{Descriptor}
+use Rattle.std.specs.List.{Contains}
+use Rattle.dma_mem.specs.Marking.{MarkList}
+use Rattle.dma_mem.specs.Places.{Descriptor, destinations, sources}
 use Rattle.dma_mem.specs.Regions.{Piece, pieces_of}
 use Rattle.dma_mem.specs.declared.regions.Region.{Region}
 use Rattle.dma_chan.specs.declared.bus.Bus.{Bus}
@@ -15,17 +17,19 @@ use Rattle.dma_chan.specs.Programs.{ProgramValue}
 use Rattle.dma_chan.specs.Stepping.{after_steps}
 use Rattle.dma_chan.proofs.CallWrites.{call_stays_in, load_executes, many_in, next_inside, nexts}
 use Rattle.dma_chan.proofs.ReadsOnly.{reads_inside}
+use Rattle.dma_chan.proofs.StepsTaken.{steps_move}
 use Rattle.dma_device.specs.Accesses.{Access, Answer, Does, Happen, Reads, Resets, Restores, Stores, Turns, Writes}
-use Rattle.dma_device.specs.CallSteps.{Executes as Steps, machine_in, marks_in}
+use Rattle.dma_device.specs.CallSteps.{Executes as Steps, first_in, marks_in}
 use Rattle.dma_device.specs.Device.{DeviceValue, by_manager, by_thread, go, is_interrupt, program_at, signalled, with_thread, written}
-use Rattle.dma_device.specs.Explaining.{GivesNone, IsUnderway, OnlyDmagoGives, StaysIn, TurnsStayIn, bus_of, channel_if, channel_of, copy_of, program_if, program_of}
-use Rattle.dma_device.specs.Thread.{answered, dbg_instr, failed, is_faulting, killed, operand_invalid, reset_thread, started, undef_instr}
-use Rattle.dma_device.specs.Turns.{CallsIf, TakesTurn, begins, follows, may_follow, runs_at, runs_if}
+use Rattle.dma_device.specs.Explaining.{CallReads, GivesNone, IsUnderway, OnlyDmagoGives, StaysIn, TurnsStayIn, bus_of, channel_if, channel_of, copy_of, program_if, program_of}
+use Rattle.dma_device.specs.Thread.{dbg_instr, failed, is_faulting, killed, operand_invalid, reset_thread, started, undef_instr}
+use Rattle.dma_device.specs.Turns.{Outcome, Setup, TakesTurn, begins, called_if, follows, last_in, machine_in, machine_left, may_follow, runs_at, runs_if, setup_of, signal_in, steps_in, thread_left}
+use Rattle.dma_device.specs.Writes.{CallWrote}
 use Rattle.dma_device.specs.declared.device.turns.Called.{Called}
 use Rattle.dma_device.specs.declared.device.turns.Turn.{Turn}
 use Rattle.dma_device.specs.declared.thread.Thread.{Thread}
 use Rattle.dma_device.proofs.Answered.{answer_channel}
-use Rattle.dma_device.proofs.Calls.{call_is}
+use Rattle.dma_device.proofs.Calls.{call_acts, call_is, takes, turn_device}
 use Rattle.dma_device.proofs.Cases.{branch, go_cases, manager_cases, thread_cases, write_cases}
 use Rattle.dma_device.proofs.Faults.{set_other}
 use Rattle.dma_device.proofs.Starts.{set_found}
@@ -56,23 +60,35 @@ module _ (bus : Bus) (program : List ℕ) (t : Descriptor) (count : ℕ) (h : Ex
 
   -- ---- a call
 
-  after_call : (made : Bool) (d : DeviceValue) (regions : List Region) (most : ℕ) (e : DeviceValue) (left : List Region) (called : Called) → (made ≡ true → runs_at d n ≡ true) → HasCopy d → CallsIf made d regions n most e left called → HasCopy e
-  after_call made d regions most e left called on g x = elim (call_is made d regions n most e left called x) [
-    | inl idle ↦ subst HasCopy (sym idle.device) g
-    | inr does ↦
-        let y = does.call in
-        let w = runs_copy d does.thread does.found (on does.on) g in
-        let stays = call_stays_in bus program t count (marks_in regions) (machine_in d does.thread regions) most y.taken y.last _ h w y.steps in
-        let moved : Thread = record (does.thread) { channel = y.channel } in
-        let after = answered d.config.events moved y.last called.signal in
-        let there : slice_get e.threads n ≡ Some after = ap (λ (v : DeviceValue). slice_get v.threads n) y.device ∙ set_found d.threads n does.thread after does.found in
-        let same : after.channel ≡ y.channel = answer_channel d.config.events (record moved { pc = (moved.base + y.channel.registers.pc) % 2 ^ 32 }) y.last called.signal in
+  after_call : (marks : MarkList) (made : Bool) (most : ℕ) (s : Setup) → (made ≡ true → runs_at s.device n ≡ true) → HasCopy s.device → HasCopy (called_if made marks n most s).left.device
+  after_call marks made most s on g = elim (call_is made marks n most s) [
+    | inl rests ↦ subst (λ (o : Outcome). HasCopy o.left.device) (sym rests.is) g
+    | inr acts ↦
+        let d = s.device in
+        let th = acts.thread in
+        let to = machine_left marks most th s in
+        let w = runs_copy d th acts.found (on acts.on) g in
+        let stays = call_stays_in bus program t count marks (machine_in s th) most (steps_in marks most th s) (last_in marks most th s) to h w (takes marks most th s) in
+        let after = thread_left marks most th s in
+        let there : slice_get (called_if made marks n most s).left.device.threads n ≡ Some after = ap (λ (o : Outcome). slice_get o.left.device.threads n) (call_acts marks most acts) ∙ set_found d.threads n th after acts.found in
+        let same : after.channel ≡ to.channel = answer_channel d.config.events (record th { channel = to.channel; pc = (th.base + to.channel.registers.pc) % 2 ^ 32 }) (last_in marks most th s) (signal_in marks most th s) in
         subst (λ (o : Option Thread). InCopy (channel_if o)) (sym there) (subst (λ (c : ChannelValue). Executes bus program count c ⊎ (c.program ≡ None)) (sym same) stays.channel)
   ]
 
-  step_at : (d : DeviceValue) (regions : List Region) (most : ℕ) (e : DeviceValue) (left : List Region) (called : Called) (made : Bool) → (made ≡ true → runs_at d n ≡ true) → HasCopy d → (x : Steps made d regions n most e left called) (j : ℕ) → j < x.call.taken → Executes bus program count (after_steps (marks_in regions) (machine_in d x.thread regions) j).channel
-  step_at d regions most e left called made on g x j less =
-      many_in bus program t count h (marks_in regions) (machine_in d x.thread regions) j (runs_copy d x.thread x.found (on x.on) g) (λ k l. x.call.steps.moves k (omega (arith, less)))
+  step_at : (marks : MarkList) (made : Bool) (most : ℕ) (s : Setup) → (made ≡ true → runs_at s.device n ≡ true) → HasCopy s.device → (x : Steps made n s) (j : ℕ) → j < steps_in marks most x.thread s → Executes bus program count (after_steps marks (machine_in s x.thread) j).channel
+  step_at marks made most s on g x j less =
+      many_in bus program t count h marks (machine_in s x.thread) j (runs_copy s.device x.thread x.found (on x.on) g) (λ k l. steps_move (takes marks most x.thread s) k (omega (arith, less)))
+
+  -- what one of its steps writes and reads
+  wrote_in : (marks : MarkList) (made : Bool) (most : ℕ) (s : Setup) (a : ℕ) → (made ≡ true → runs_at s.device n ≡ true) → HasCopy s.device → CallWrote marks n a made most s → Contains (destinations t) a
+  wrote_in marks made most s a on g x =
+      let v = step_at marks made most s on g x.0 x.1.0 x.1.1 in
+      next_inside bus program t count h v.0 _ a v.1 (nexts bus program t count h v.0 v.1.within) x.1.3
+
+  read_in : (marks : MarkList) (made : Bool) (most : ℕ) (s : Setup) (a : ℕ) → (made ≡ true → runs_at s.device n ≡ true) → HasCopy s.device → CallReads marks n a made most s → Contains (sources t) a
+  read_in marks made most s a on g x =
+      let v = step_at marks made most s on g x.0 x.1.0 x.1.1 in
+      reads_inside bus program t count h v.0 _ a v.1 x.1.2
 
   -- ---- a turn
 
@@ -82,37 +98,33 @@ module _ (bus : Bus) (program : List ℕ) (t : Descriptor) (count : ℕ) (h : Ex
   second_on : (d : DeviceValue) (called : Called) → follows d n called ≡ true → runs_at d n ≡ true
   second_on d called is = (and_parts (may_follow d n called) (runs_at d n) is).1
 
-  middle_copy : (d : DeviceValue) (regions : List Region) (most : ℕ) (e : DeviceValue) (left : List Region) (turn : Turn) → HasCopy d → (x : TakesTurn d regions n most e left turn) → HasCopy x.middle
-  middle_copy d regions most e left turn g x = after_call (begins d n most) d regions most x.middle x.lent x.first (first_on d most) g x.call
+  middle_copy : (d : DeviceValue) (regions : List Region) (most : ℕ) → HasCopy d → HasCopy (first_in d regions n most).left.device
+  middle_copy d regions most g = after_call (marks_in regions) (begins d n most) most (setup_of d regions) (first_on d most) g
 
   after_turn : (d : DeviceValue) (regions : List Region) (most : ℕ) (e : DeviceValue) (left : List Region) (turn : Turn) → HasCopy d → TakesTurn d regions n most e left turn → HasCopy e
   after_turn d regions most e left turn g x =
-      after_call (follows x.middle n x.first) x.middle x.lent 1 e left x.second (second_on x.middle x.first) (middle_copy d regions most e left turn g x) x.one_more
+      let first = first_in d regions n most in
+      let m = first.left.device in
+      subst HasCopy (turn_device x)
+      (after_call (marks_in regions) (follows m n first.called) 1 first.left (second_on m first.called) (middle_copy d regions most g))
 
-  pub turn_stays : (d : DeviceValue) (regions : List Region) (most : ℕ) (e : DeviceValue) (left : List Region) (turn : Turn) → HasCopy d → TakesTurn d regions n most e left turn → StaysIn t d regions n most e left turn
-  turn_stays d regions most e left turn g x = record {
-    writes = λ a i.
-        let w = (turn_writes_each d regions n most e left turn x).each a i in
-        let y = w.0 in
-        elim w.1 [
-          | inl one ↦
-              let v = step_at d regions most y.middle y.lent y.first (begins d n most) (first_on d most) g one.0 one.1.0 one.1.1 in
-              next_inside bus program t count h v.0 _ a v.1 (nexts bus program t count h v.0 v.1.within) one.1.3
-          | inr two ↦
-              let v = step_at y.middle y.lent 1 e left y.second (follows y.middle n y.first) (second_on y.middle y.first) (middle_copy d regions most e left turn g y) two.0 two.1.0 two.1.1 in
-              next_inside bus program t count h v.0 _ a v.1 (nexts bus program t count h v.0 v.1.within) two.1.3
+  pub turn_stays : (d : DeviceValue) (regions : List Region) (most : ℕ) (e : DeviceValue) (left : List Region) (turn : Turn) → HasCopy d → TakesTurn d regions n most e left turn → StaysIn t d regions n most turn
+  turn_stays d regions most e left turn g x =
+      let marks = marks_in regions in
+      let s = setup_of d regions in
+      let first = first_in d regions n most in
+      let m = first.left.device in
+      let there = middle_copy d regions most g in
+      record {
+        writes = λ a i. elim ((turn_writes_each d regions n most e left turn x).each a i) [
+          | inl one ↦ wrote_in marks (begins d n most) most s a (first_on d most) g one
+          | inr two ↦ wrote_in marks (follows m n first.called) 1 first.left a (second_on m first.called) there two
         ];
-    reads = λ a w.
-        let y = w.0 in
-        elim w.1 [
-          | inl one ↦
-              let v = step_at d regions most y.middle y.lent y.first (begins d n most) (first_on d most) g one.0 one.1.0 one.1.1 in
-              reads_inside bus program t count h v.0 _ a v.1 one.1.2
-          | inr two ↦
-              let v = step_at y.middle y.lent 1 e left y.second (follows y.middle n y.first) (second_on y.middle y.first) (middle_copy d regions most e left turn g y) two.0 two.1.0 two.1.1 in
-              reads_inside bus program t count h v.0 _ a v.1 two.1.2
+        reads = λ a w. elim w [
+          | inl one ↦ read_in marks (begins d n most) most s a (first_on d most) g one
+          | inr two ↦ read_in marks (follows m n first.called) 1 first.left a (second_on m first.called) there two
         ];
-  }
+      }
 
   -- ---- an access
 
@@ -122,12 +134,12 @@ module _ (bus : Bus) (program : List ℕ) (t : Descriptor) (count : ℕ) (h : Ex
   given_none c (Some x) (inl same) g = subst InCopy (sym same) g
   given_none c (Some x) (inr none) g = inr none
 
-  one_other : (made : Bool) (m : ℕ) (d : DeviceValue) (regions : List Region) (most : ℕ) (e : DeviceValue) (left : List Region) (called : Called) → n ≢ m → CallsIf made d regions m most e left called → channel_of e n ≡ channel_of d n
-  one_other made m d regions most e left called other x = elim (call_is made d regions m most e left called x) [
-    | inl idle ↦ ap (λ (v : DeviceValue). channel_of v n) idle.device
-    | inr does ↦
-        let y = does.call in
-        ap (λ (v : DeviceValue). channel_of v n) y.device ∙ ap channel_if (set_other d.threads m n (answered d.config.events (record (does.thread) { channel = y.channel }) y.last called.signal) other)
+  one_other : (marks : MarkList) (made : Bool) (m most : ℕ) (s : Setup) → n ≢ m → channel_of (called_if made marks m most s).left.device n ≡ channel_of s.device n
+  one_other marks made m most s other = elim (call_is made marks m most s) [
+    | inl rests ↦ ap (λ (o : Outcome). channel_of o.left.device n) rests.is
+    | inr acts ↦
+        ap (λ (o : Outcome). channel_of o.left.device n) (call_acts marks most acts)
+        ∙ ap channel_if (set_other s.device.threads m n _ other)
   ]
 
   after_access : (a : Access) (d e : DeviceValue) (regions left : List Region) (answer : Answer) → Does a d regions answer e left → GivesNone a n d e → HasCopy d → HasCopy e
@@ -136,7 +148,11 @@ module _ (bus : Bus) (program : List ℕ) (t : Descriptor) (count : ℕ) (h : Ex
       elim (cases_eq n m) [
         | inl own ↦ after_turn d regions most e left does.0 g (subst (λ (j : ℕ). TakesTurn d regions j most e left does.0) (sym own) x)
         | inr other ↦
-            let same = one_other (follows x.middle m x.first) m x.middle x.lent 1 e left x.second other x.one_more ∙ one_other (begins d m most) m d regions most x.middle x.lent x.first other x.call in
+            let marks = marks_in regions in
+            let first = first_in d regions m most in
+            let same : channel_of e n ≡ channel_of d n = ap (λ (v : DeviceValue). channel_of v n) (sym (turn_device x))
+            ∙ one_other marks (follows first.left.device m first.called) m 1 first.left other
+            ∙ one_other marks (begins d m most) m most (setup_of d regions) other in
             subst InCopy (sym same) g
       ]
   after_access (Reads at) d e regions left answer does none g = given_none (channel_of d n) (channel_of e n) none g

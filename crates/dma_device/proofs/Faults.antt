@@ -10,27 +10,29 @@ use Rattle.std.proofs.lemmas.List.Folds.{list_any_none}
 use Rattle.std.proofs.lemmas.Nat.Bits.{bit_at-suc, bit_at-zero, bit_at_lowest}
 use borrow.Author.Tests.{ltb-true}
 use Rattle.dma_insn.specs.ControlWord.{field, flag}
+use Rattle.dma_mem.specs.Marking.{MarkList}
 use Rattle.dma_mem.specs.Regions.{Piece, pieces_of}
 use Rattle.dma_mem.specs.declared.regions.Region.{Region}
 use Rattle.dma_chan.specs.declared.bus.BusWidth.{BusWidth}
 use Rattle.dma_chan.specs.declared.turn.ChanTurn.{ChanTurn}
 use Rattle.dma_chan.specs.declared.turn.ChanTurn.TheVariants.{Moved, Waiting, Ended, Fault}
+use Rattle.dma_device.specs.Offsets as offset
 use Rattle.dma_device.specs.declared.device.Manager.{Manager}
 use Rattle.dma_device.specs.declared.config.Config.{Config}
-use Rattle.dma_device.specs.declared.device.turns.Called.{Called}
 use Rattle.dma_device.specs.declared.device.turns.Turn.{Turn}
 use Rattle.dma_device.specs.declared.thread.Status.{Status}
 use Rattle.dma_device.specs.declared.thread.Status.TheVariants.{Stopped, Executing, WaitingForEvent, Faulting}
 use Rattle.dma_device.specs.declared.thread.Thread.{Thread}
 use Rattle.dma_device.specs.Accesses.{Access, Answer, Does, Reads, Resets, Restores, Stores, Turns, Writes}
-use Rattle.dma_device.specs.CallSteps.{Executes}
+use Rattle.dma_device.specs.CallSteps.{Executes, first_in, marks_in, second_in}
 use Rattle.dma_device.specs.Device.{reset_device, DeviceValue, all_events, by_manager, by_thread, debugged, faulting_bits, go, irq_abort, is_interrupt, program_at, signalled, with_thread, written}
 use Rattle.dma_device.specs.Faults.{EndsFault, EndsAll, AbortIsFaulting, AbortsAreExact, Addresses, CallFails, DebugFails, FailedSince, Fails, FaultsAreExact, Kills, LastFails, TheChannel, TheManager, TurnFails, Who, can_execute, channel_fails, debug_fails, faults_at, faults_if, go_fails, manager_fails}
 use Rattle.dma_device.specs.Interrupts.{is_fine}
 use Rattle.dma_device.specs.Thread.{answer, answered, dbg_instr, failed, is_faulting, is_faulting_status, is_stopped_status, killed, operand_invalid, reset_thread, started, undef_instr}
-use Rattle.dma_device.specs.Turns.{CallsIf, TakesTurn, begins, follows, may_follow, runs_at, runs_if, with_flags}
-use Rattle.dma_device.proofs.Calls.{call_is}
+use Rattle.dma_device.specs.Turns.{Outcome, Setup, TakesTurn, begins, called_if, follows, last_in, machine_left, may_follow, number_of, runs_at, runs_if, setup_of, signal_in, thread_left, with_flags}
+use Rattle.dma_device.proofs.Calls.{call_acts, call_is, turn_device}
 use Rattle.dma_device.proofs.Cases.{branch, go_cases, manager_cases, thread_cases, write_cases}
+use Rattle.dma_device.proofs.FlagNumber.{flag_few, flag_is}
 use Rattle.dma_device.proofs.Starts.{set_found}
 use Rattle.dma_device.proofs.History as history
 
@@ -208,12 +210,12 @@ same_exact : (who : Who) (d e : DeviceValue) (Up Down : Type 0) → faults_at wh
 same_exact who d e Up Down same = history.same_exact (faults_at who d ≡ true) (faults_at who e ≡ true) Up Down (λ was. same ∙ was) (λ is. sym same ∙ is)
 
 -- a write to any register but DBGCMD leaves the threads
-others_keep : (who : Who) (ram : List Piece) (at value : ℕ) (d : DeviceValue) → at ≢ 0xD04 → faults_at who (written ram at value d) ≡ faults_at who d
+others_keep : (who : Who) (ram : List Piece) (at value : ℕ) (d : DeviceValue) → at ≢ offset.dbgcmd → faults_at who (written ram at value d) ≡ faults_at who d
 others_keep who ram at value d not_dbgcmd =
     write_cases (λ (e : DeviceValue). faults_at who e ≡ faults_at who d) ram at value d (record {
       inten = same who (record d { inten = bit_and value (all_events d) }) refl refl;
       intclr = λ is. same who (record d { interrupts = bit_and d.interrupts (bit_not w32 (bit_and value d.inten)) }) refl refl;
-      dbgcmd = λ is. absurd (true≢false (sym is ∙ ne_eqb at 0xD04 not_dbgcmd));
+      dbgcmd = λ is. absurd (true≢false (sym is ∙ ne_eqb at offset.dbgcmd not_dbgcmd));
       dbginst0 = same who (record d { dbginst0 = value }) refl refl;
       dbginst1 = same who (record d { dbginst1 = value }) refl refl;
       other = refl;
@@ -232,13 +234,10 @@ either : (a b : Bool) → (a || b) ≡ true → (a ≡ true) ⊎ (b ≡ true)
 either true b is = inl refl
 either false b is = inr is
 
-abbrev dbgcmd_at : ℕ
-dbgcmd_at = 0xD04
-
-debug_exact : (who : Who) (ram : List Piece) (value : ℕ) (d : DeviceValue) → value % 4 ≡ 0 → Exact who d (debugged ram d) ((dbgcmd_at ≡ 0xD04) × DebugFails who d value) ((dbgcmd_at ≡ 0xD04) × ((value % 4 ≡ 0) × ((opcode_of d ≡ 0x01) × Addresses d who)))
+debug_exact : (who : Who) (ram : List Piece) (value : ℕ) (d : DeviceValue) → value % 4 ≡ 0 → Exact who d (debugged ram d) ((offset.dbgcmd ≡ offset.dbgcmd) × DebugFails who d value) ((offset.dbgcmd ≡ offset.dbgcmd) × ((value % 4 ≡ 0) × ((opcode_of d ≡ 0x01) × Addresses d who)))
 debug_exact who ram value d even =
-    let Up : Type 0 = (dbgcmd_at ≡ 0xD04) × DebugFails who d value in
-    let Down : Type 0 = (dbgcmd_at ≡ 0xD04) × ((value % 4 ≡ 0) × ((opcode_of d ≡ 0x01) × Addresses d who)) in
+    let Up : Type 0 = (offset.dbgcmd ≡ offset.dbgcmd) × DebugFails who d value in
+    let Down : Type 0 = (offset.dbgcmd ≡ offset.dbgcmd) × ((value % 4 ≡ 0) × ((opcode_of d ≡ 0x01) × Addresses d who)) in
     elim (decide_addresses who d) [
       | inr off_it ↦ same_exact who d (debugged ram d) Up Down (passed_by ram d who off_it) (λ up. off_it up.1.addresses) (λ down. off_it down.1.1.1)
       | inl is ↦
@@ -271,38 +270,38 @@ debug_exact who ram value d even =
           ]
     ]
 
-write_exact : (who : Who) (at value : ℕ) (d : DeviceValue) (regions left : List Region) → let e = written (pieces_of regions) at value d in Exact who d e (Fails who (Writes at value) d regions e left) (Kills who (Writes at value) d)
+write_exact : (who : Who) (at value : ℕ) (d : DeviceValue) (regions left : List Region) → let e = written (pieces_of regions) at value d in Exact who d e (Fails who (Writes at value) d regions) (Kills who (Writes at value) d)
 write_exact who at value d regions left =
     let ram = pieces_of regions in
-    elim (cases_eq at 0xD04) [
+    elim (cases_eq at offset.dbgcmd) [
       | inl dbgcmd ↦ by who (cases_eq (value % 4) 0) dbgcmd
       | inr other ↦ not_debug who other
     ]
   where
-    not_debug : (who : Who) → at ≢ 0xD04 → let e = written (pieces_of regions) at value d in Exact who d e (Fails who (Writes at value) d regions e left) (Kills who (Writes at value) d)
+    not_debug : (who : Who) → at ≢ offset.dbgcmd → let e = written (pieces_of regions) at value d in Exact who d e (Fails who (Writes at value) d regions) (Kills who (Writes at value) d)
     not_debug TheManager other = same_exact TheManager d (written (pieces_of regions) at value d) _ _ (others_keep TheManager (pieces_of regions) at value d other) (λ up. other up.0) (λ down. other down.0)
     not_debug (TheChannel n) other = same_exact (TheChannel n) d (written (pieces_of regions) at value d) _ _ (others_keep (TheChannel n) (pieces_of regions) at value d other) (λ up. other up.0) (λ down. other down.0)
 
     Goal : Who → ℕ → Type 0
-    Goal who j = Exact who d (written (pieces_of regions) j value d) ((j ≡ 0xD04) × DebugFails who d value) ((j ≡ 0xD04) × ((value % 4 ≡ 0) × ((opcode_of d ≡ 0x01) × Addresses d who)))
+    Goal who j = Exact who d (written (pieces_of regions) j value d) ((j ≡ offset.dbgcmd) × DebugFails who d value) ((j ≡ offset.dbgcmd) × ((value % 4 ≡ 0) × ((opcode_of d ≡ 0x01) × Addresses d who)))
 
-    executes : (who : Who) → value % 4 ≡ 0 → Goal who 0xD04
+    executes : (who : Who) → value % 4 ≡ 0 → Goal who offset.dbgcmd
     executes who even =
         let one : (value % 4 == 0) ≡ true = eq-eqb (value % 4) 0 even in
-        let is : debugged (pieces_of regions) d ≡ written (pieces_of regions) 0xD04 value d = ap (λ (b : Bool). let v : DeviceValue = if b then debugged (pieces_of regions) d else d in v) (sym one) in
-        subst (λ (e : DeviceValue). Exact who d e ((dbgcmd_at ≡ 0xD04) × DebugFails who d value) ((dbgcmd_at ≡ 0xD04) × ((value % 4 ≡ 0) × ((opcode_of d ≡ 0x01) × Addresses d who)))) is (debug_exact who (pieces_of regions) value d even)
+        let is : debugged (pieces_of regions) d ≡ written (pieces_of regions) offset.dbgcmd value d = ap (λ (b : Bool). let v : DeviceValue = if b then debugged (pieces_of regions) d else d in v) (sym one) in
+        subst (λ (e : DeviceValue). Exact who d e ((offset.dbgcmd ≡ offset.dbgcmd) × DebugFails who d value) ((offset.dbgcmd ≡ offset.dbgcmd) × ((value % 4 ≡ 0) × ((opcode_of d ≡ 0x01) × Addresses d who)))) is (debug_exact who (pieces_of regions) value d even)
 
-    ignores : (who : Who) → value % 4 ≢ 0 → Goal who 0xD04
+    ignores : (who : Who) → value % 4 ≢ 0 → Goal who offset.dbgcmd
     ignores who some =
         let off_it : (value % 4 == 0) ≡ false = ne_eqb (value % 4) 0 some in
-        let is : d ≡ written (pieces_of regions) 0xD04 value d = ap (λ (b : Bool). let v : DeviceValue = if b then debugged (pieces_of regions) d else d in v) (sym off_it) in
-        same_exact who d (written (pieces_of regions) 0xD04 value d) _ _ (ap (faults_at who) (sym is)) (λ up. some up.1.command) (λ down. some down.1.0)
+        let is : d ≡ written (pieces_of regions) offset.dbgcmd value d = ap (λ (b : Bool). let v : DeviceValue = if b then debugged (pieces_of regions) d else d in v) (sym off_it) in
+        same_exact who d (written (pieces_of regions) offset.dbgcmd value d) _ _ (ap (faults_at who) (sym is)) (λ up. some up.1.command) (λ down. some down.1.0)
 
-    there : (who : Who) → (value % 4 ≡ 0) ⊎ (value % 4 ≢ 0) → at ≡ 0xD04 → Goal who at
+    there : (who : Who) → (value % 4 ≡ 0) ⊎ (value % 4 ≢ 0) → at ≡ offset.dbgcmd → Goal who at
     there who (inl even) is = subst (Goal who) (sym is) (executes who even)
     there who (inr some) is = subst (Goal who) (sym is) (ignores who some)
 
-    by : (who : Who) → (value % 4 ≡ 0) ⊎ (value % 4 ≢ 0) → at ≡ 0xD04 → let e = written (pieces_of regions) at value d in Exact who d e (Fails who (Writes at value) d regions e left) (Kills who (Writes at value) d)
+    by : (who : Who) → (value % 4 ≡ 0) ⊎ (value % 4 ≢ 0) → at ≡ offset.dbgcmd → let e = written (pieces_of regions) at value d in Exact who d e (Fails who (Writes at value) d regions) (Kills who (Writes at value) d)
     by TheManager c is = there TheManager c is
     by (TheChannel n) c is = there (TheChannel n) c is
 
@@ -324,40 +323,38 @@ answer_faults events th (Some (Waiting e)) signal = waited_faults events th e (n
 answer_faults events th (Some Ended) signal = ((λ bad. absurd (true≢false (sym bad))), (λ bad. absurd bad))
 answer_faults events th (Some (Fault kind)) signal = ((λ t. tt), (λ t. refl))
 
-executes_faults : (b : Bool) (d : DeviceValue) (regions : List Region) (n most : ℕ) (e : DeviceValue) (left : List Region) (called : Called) (x : Executes b d regions n most e left called) → (faults_at (TheChannel n) e ≡ true) ↔ LastFails d.config.events x.call.last called.signal
-executes_faults b d regions n most e left called x =
-    let c = x.call in
-    let th : Thread = record (x.thread) { channel = c.channel; pc = (x.thread.base + c.channel.registers.pc) % 2 ^ 32 } in
-    let after = answer d.config.events th c.last called.signal in
-    let is : faults_at (TheChannel n) e ≡ is_faulting after = ap (faults_at (TheChannel n)) c.device ∙ set_there d n x.thread after x.found in
-    let w = answer_faults d.config.events th c.last called.signal in
+executes_faults : (marks : MarkList) (n : ℕ) (made : Bool) (most : ℕ) (s : Setup) (x : Executes made n s) → (faults_at (TheChannel n) (called_if made marks n most s).left.device ≡ true) ↔ LastFails s.device.config.events (last_in marks most x.thread s) (signal_in marks most x.thread s)
+executes_faults marks n made most s x =
+    let t = x.thread in
+    let channel = (machine_left marks most t s).channel in
+    let th : Thread = record t { channel = channel; pc = (t.base + channel.registers.pc) % 2 ^ 32 } in
+    let is : faults_at (TheChannel n) (called_if made marks n most s).left.device ≡ is_faulting (thread_left marks most t s) = ap (λ (o : Outcome). faults_at (TheChannel n) o.left.device) (call_acts marks most x) ∙ set_there s.device n t (thread_left marks most t s) x.found in
+    let w = answer_faults s.device.config.events th (last_in marks most t s) (signal_in marks most t s) in
     ((λ high. w.0 (sym is ∙ high)), (λ why. is ∙ w.1 why))
 
-call_own : (b : Bool) (d : DeviceValue) (regions : List Region) (n most : ℕ) (e : DeviceValue) (left : List Region) (called : Called) → (b ≡ true → faults_at (TheChannel n) d ≡ false) → CallsIf b d regions n most e left called → (faults_at (TheChannel n) e ≡ true) ↔ (CallFails b d regions n most e left called ⊎ (faults_at (TheChannel n) d ≡ true))
-call_own b d regions n most e left called fine x = elim (call_is b d regions n most e left called x) [
-  | inl idle ↦
-      let same = ap (faults_at (TheChannel n)) idle.device in (
+call_own : (marks : MarkList) (n : ℕ) (made : Bool) (most : ℕ) (s : Setup) → (made ≡ true → faults_at (TheChannel n) s.device ≡ false) → (faults_at (TheChannel n) (called_if made marks n most s).left.device ≡ true) ↔ (CallFails marks n made most s ⊎ (faults_at (TheChannel n) s.device ≡ true))
+call_own marks n made most s fine = elim (call_is made marks n most s) [
+  | inl rests ↦
+      let same = ap (λ (o : Outcome). faults_at (TheChannel n) o.left.device) rests.is in (
         (λ high. inr (sym same ∙ high)),
-        (λ why. elim why [
-          | inl does ↦ absurd (true≢false (sym does.0.on ∙ idle.off))
-          | inr was ↦ same ∙ was
-        ]),
+        (λ why. elim why [ inl does ↦ absurd (rests.off does.0) | inr was ↦ same ∙ was ]),
       )
-  | inr does ↦ (
-    (λ high. inl (does, (executes_faults b d regions n most e left called does).0 high)),
+  | inr acts ↦ (
+    (λ high. inl (acts, (executes_faults marks n made most s acts).0 high)),
     (λ why. elim why [
-      | inl w ↦ (executes_faults b d regions n most e left called w.0).1 w.1
-      | inr was ↦ absurd (true≢false (sym was ∙ fine does.on))
+      | inl w ↦ (executes_faults marks n made most s w.0).1 w.1
+      | inr was ↦ absurd (true≢false (sym was ∙ fine acts.on))
     ]),
   )
 ]
 
-call_keeps : (who : Who) (b : Bool) (d : DeviceValue) (regions : List Region) (n most : ℕ) (e : DeviceValue) (left : List Region) (called : Called) → ((u : Thread) (v : DeviceValue) → faults_at who (with_thread n u v) ≡ faults_at who v) → ((flags : ℕ) → faults_at who (with_flags flags d) ≡ faults_at who d) → CallsIf b d regions n most e left called → faults_at who e ≡ faults_at who d
-call_keeps who b d regions n most e left called keeps flags x = elim (call_is b d regions n most e left called x) [
-  | inl idle ↦ ap (faults_at who) idle.device
-  | inr does ↦
-      let c = does.call in
-      ap (faults_at who) c.device ∙ keeps (answered d.config.events (record (does.thread) { channel = c.channel }) c.last called.signal) (with_flags c.flags d) ∙ flags c.flags
+call_keeps : (who : Who) (marks : MarkList) (n : ℕ) (made : Bool) (most : ℕ) (s : Setup) → ((u : Thread) (v : DeviceValue) → faults_at who (with_thread n u v) ≡ faults_at who v) → ((flags : ℕ) → faults_at who (with_flags flags s.device) ≡ faults_at who s.device) → faults_at who (called_if made marks n most s).left.device ≡ faults_at who s.device
+call_keeps who marks n made most s keeps flags = elim (call_is made marks n most s) [
+  | inl rests ↦ ap (λ (o : Outcome). faults_at who o.left.device) rests.is
+  | inr acts ↦
+      let left = number_of (machine_left marks most acts.thread s).flags in
+      ap (λ (o : Outcome). faults_at who o.left.device) (call_acts marks most acts)
+      ∙ keeps (thread_left marks most acts.thread s) (with_flags left s.device) ∙ flags left
 ]
 
 runs_fine : (o : Option Thread) → runs_if o ≡ true → faults_if o ≡ false
@@ -366,44 +363,51 @@ runs_fine (Some t) on = not-true (is_faulting t) (and_parts _ (not (is_faulting 
 
 -- ---- a turn
 
-turn_keeps : (who : Who) (d : DeviceValue) (regions : List Region) (n most : ℕ) (e : DeviceValue) (left : List Region) (turn : Turn) → ((u : Thread) (v : DeviceValue) → faults_at who (with_thread n u v) ≡ faults_at who v) → ((flags : ℕ) (v : DeviceValue) → faults_at who (with_flags flags v) ≡ faults_at who v) → TakesTurn d regions n most e left turn → faults_at who e ≡ faults_at who d
-turn_keeps who d regions n most e left turn keeps flags x =
-    call_keeps who (follows x.middle n x.first) x.middle x.lent n 1 e left x.second keeps (λ f. flags f x.middle) x.one_more
-    ∙ call_keeps who (begins d n most) d regions n most x.middle x.lent x.first keeps (λ f. flags f d) x.call
+turn_keeps : (who : Who) (d : DeviceValue) (regions : List Region) (n most : ℕ) → ((u : Thread) (v : DeviceValue) → faults_at who (with_thread n u v) ≡ faults_at who v) → ((flags : ℕ) (v : DeviceValue) → faults_at who (with_flags flags v) ≡ faults_at who v) → faults_at who (second_in d regions n most).left.device ≡ faults_at who d
+turn_keeps who d regions n most keeps flags =
+    let marks = marks_in regions in
+    let first = first_in d regions n most in
+    let m = first.left.device in
+    call_keeps who marks n (follows m n first.called) 1 first.left keeps (λ f. flags f m)
+    ∙ call_keeps who marks n (begins d n most) most (setup_of d regions) keeps (λ f. flags f d)
 
-turn_own : (d : DeviceValue) (regions : List Region) (n most : ℕ) (e : DeviceValue) (left : List Region) (turn : Turn) (x : TakesTurn d regions n most e left turn) → (faults_at (TheChannel n) e ≡ true) ↔ ((CallFails (begins d n most) d regions n most x.middle x.lent x.first ⊎ CallFails (follows x.middle n x.first) x.middle x.lent n 1 e left x.second) ⊎ (faults_at (TheChannel n) d ≡ true))
-turn_own d regions n most e left turn x =
-    let one = call_own (begins d n most) d regions n most x.middle x.lent x.first (λ on. runs_fine (slice_get d.threads n) (and_parts (nat_lt 0 most) (runs_at d n) on).1) x.call in
-    let two = call_own (follows x.middle n x.first) x.middle x.lent n 1 e left x.second (λ on. runs_fine (slice_get x.middle.threads n) (and_parts (may_follow x.middle n x.first) (runs_at x.middle n) on).1) x.one_more in (
+turn_own : (d : DeviceValue) (regions : List Region) (n most : ℕ) → (faults_at (TheChannel n) (second_in d regions n most).left.device ≡ true) ↔ (TurnFails d regions n most ⊎ (faults_at (TheChannel n) d ≡ true))
+turn_own d regions n most =
+    let marks = marks_in regions in
+    let first = first_in d regions n most in
+    let m = first.left.device in
+    let one = call_own marks n (begins d n most) most (setup_of d regions) (λ on. runs_fine (slice_get d.threads n) (and_parts (nat_lt 0 most) (runs_at d n) on).1) in
+    let two = call_own marks n (follows m n first.called) 1 first.left (λ on. runs_fine (slice_get m.threads n) (and_parts (may_follow m n first.called) (runs_at m n) on).1) in (
       (λ high. elim (two.0 high) [
-        | inl second ↦ inl (inr second)
-        | inr middle ↦ elim (one.0 middle) [ inl first ↦ inl (inl first) | inr was ↦ inr was ]
+        | inl late ↦ inl (inr late)
+        | inr middle ↦ elim (one.0 middle) [ inl early ↦ inl (inl early) | inr was ↦ inr was ]
       ]),
       (λ why. elim why [
-        | inl new ↦ elim new [ inl first ↦ two.1 (inr (one.1 (inl first))) | inr second ↦ two.1 (inl second) ]
+        | inl new ↦ elim new [ inl early ↦ two.1 (inr (one.1 (inl early))) | inr late ↦ two.1 (inl late) ]
         | inr was ↦ two.1 (inr (one.1 (inr was)))
       ]),
     )
 
-turn_exact : (who : Who) (n most : ℕ) (d e : DeviceValue) (regions left : List Region) (turn : Turn) → TakesTurn d regions n most e left turn → Exact who d e (Fails who (Turns n most) d regions e left) ⊥
+turn_exact : (who : Who) (n most : ℕ) (d e : DeviceValue) (regions left : List Region) (turn : Turn) → TakesTurn d regions n most e left turn → Exact who d e (Fails who (Turns n most) d regions) ⊥
 turn_exact TheManager n most d e regions left turn x =
-    same_exact TheManager d e ⊥ ⊥ (turn_keeps TheManager d regions n most e left turn (λ u v. refl) (λ f v. refl) x) (λ up. up) (λ down. down)
+    same_exact TheManager d e ⊥ ⊥ (ap (faults_at TheManager) (sym (turn_device x)) ∙ turn_keeps TheManager d regions n most (λ u v. refl) (λ f v. refl)) (λ up. up) (λ down. down)
 turn_exact (TheChannel m) n most d e regions left turn x = elim (cases_eq m n) [
-  | inl same ↦ subst (λ (j : ℕ). Exact (TheChannel j) d e ((j ≡ n) × TurnFails d regions n most e left) ⊥) (sym same) here
+  | inl same ↦ subst (λ (j : ℕ). Exact (TheChannel j) d e ((j ≡ n) × TurnFails d regions n most) ⊥) (sym same) here
   | inr other ↦
-      same_exact (TheChannel m) d e ((m ≡ n) × TurnFails d regions n most e left) ⊥
-      (turn_keeps (TheChannel m) d regions n most e left turn (λ u v. set_elsewhere v n m u other) (λ f v. refl) x) (λ up. other up.0) (λ down. down)
+      same_exact (TheChannel m) d e ((m ≡ n) × TurnFails d regions n most) ⊥
+      (ap (faults_at (TheChannel m)) (sym (turn_device x)) ∙ turn_keeps (TheChannel m) d regions n most (λ u v. set_elsewhere v n m u other) (λ f v. refl)) (λ up. other up.0) (λ down. down)
 ]
   where
-    here : Exact (TheChannel n) d e ((n ≡ n) × TurnFails d regions n most e left) ⊥
+    here : Exact (TheChannel n) d e ((n ≡ n) × TurnFails d regions n most) ⊥
     here =
-        let own = turn_own d regions n most e left turn x in (
-          (λ high. elim (own.0 high) [
-            | inl new ↦ inl (refl, (turn, (x, new)))
+        let own = turn_own d regions n most in
+        let left = ap (faults_at (TheChannel n)) (turn_device x) in (
+          (λ high. elim (own.0 (left ∙ high)) [
+            | inl new ↦ inl (refl, new)
             | inr was ↦ inr (was, λ down. down)
           ]),
-          (λ why. elim why [
-            | inl up ↦ (turn_own d regions n most e left up.1.0 up.1.1.0).1 (inl up.1.1.1)
+          (λ why. sym left ∙ elim why [
+            | inl up ↦ own.1 (inl up.1)
             | inr stays ↦ own.1 (inr stays.0)
           ]),
         )
@@ -435,13 +439,13 @@ restored_exact who d e saved is = (
   (λ why. ap (faults_at who) is ∙ elim why [ inl up ↦ up | inr stays ↦ not_false (faults_at who saved) stays.1 ]),
 )
 
-access_exact : (who : Who) (a : Access) (d e : DeviceValue) (regions left : List Region) (answer : Answer) → Does a d regions answer e left → Exact who d e (Fails who a d regions e left) (EndsFault who a d)
+access_exact : (who : Who) (a : Access) (d e : DeviceValue) (regions left : List Region) (answer : Answer) → Does a d regions answer e left → Exact who d e (Fails who a d regions) (EndsFault who a d)
 access_exact TheManager (Reads at) d e regions left answer x = same_exact TheManager d e ⊥ ⊥ (ap (faults_at TheManager) x.1) (λ up. up) (λ down. down)
 access_exact (TheChannel n) (Reads at) d e regions left answer x = same_exact (TheChannel n) d e ⊥ ⊥ (ap (faults_at (TheChannel n)) x.1) (λ up. up) (λ down. down)
 access_exact TheManager (Writes at value) d e regions left answer x =
-    subst (λ (v : DeviceValue). Exact TheManager d v (Fails TheManager (Writes at value) d regions v left) (Kills TheManager (Writes at value) d)) (sym x.1) (write_exact TheManager at value d regions left)
+    subst (λ (v : DeviceValue). Exact TheManager d v (Fails TheManager (Writes at value) d regions) (Kills TheManager (Writes at value) d)) (sym x.1) (write_exact TheManager at value d regions left)
 access_exact (TheChannel n) (Writes at value) d e regions left answer x =
-    subst (λ (v : DeviceValue). Exact (TheChannel n) d v (Fails (TheChannel n) (Writes at value) d regions v left) (Kills (TheChannel n) (Writes at value) d)) (sym x.1) (write_exact (TheChannel n) at value d regions left)
+    subst (λ (v : DeviceValue). Exact (TheChannel n) d v (Fails (TheChannel n) (Writes at value) d regions) (Kills (TheChannel n) (Writes at value) d)) (sym x.1) (write_exact (TheChannel n) at value d regions left)
 access_exact TheManager (Turns n most) d e regions left answer x = turn_exact TheManager n most d e regions left x.0 x.1.1
 access_exact (TheChannel m) (Turns n most) d e regions left answer x = turn_exact (TheChannel m) n most d e regions left x.0 x.1.1
 access_exact TheManager (Stores addr byte) d e regions left answer x = same_exact TheManager d e ⊥ ⊥ (ap (faults_at TheManager) x.1) (λ up. up) (λ down. down)
@@ -453,8 +457,8 @@ access_exact (TheChannel n) (Restores saved) d e regions left answer x = restore
 
 pub faults_are_exact : FaultsAreExact
 faults_are_exact access answer before lent left count n who happen within =
-    history.held_as (λ j. faults_at who (before j) ≡ true) (λ j. Fails who (access j) (before j) (lent j) (before (j + 1)) (left j)) (λ j. EndsFault who (access j) (before j))
-    (FailedSince access before lent left who n) n (λ r. record { at = r.at; below = r.below; fails = r.up; stays = r.stays }) (λ r. record { at = r.at; below = r.below; up = r.fails; stays = r.stays }) count
+    history.held_as (λ j. faults_at who (before j) ≡ true) (λ j. Fails who (access j) (before j) (lent j)) (λ j. EndsFault who (access j) (before j))
+    (FailedSince access before lent who n) n (λ r. record { at = r.at; below = r.below; fails = r.up; stays = r.stays }) (λ r. record { at = r.at; below = r.below; up = r.fails; stays = r.stays }) count
     (λ j less. access_exact who (access j) (before j) (before (j + 1)) (lent j) (left j) (answer j) (happen j less)) within
 
 -- ---- the line
@@ -484,14 +488,6 @@ line_is d = (
     by TheManager is = ap (λ (b : Bool). b || list_any is_faulting d.threads) is
     by (TheChannel n) is = ap (λ (b : Bool). d.manager.is_faulting || b) (any_from d.threads n is) ∙ or-true d.manager.is_faulting
 
-flag_is : (b : Bool) → (flag b ≡ 1) ↔ (b ≡ true)
-flag_is true = ((λ e. refl), (λ e. refl))
-flag_is false = ((λ e. absurd (omega (arith, e))), (λ e. absurd (true≢false (sym e))))
-
-flag_few : (b : Bool) → flag b < 2
-flag_few true = omega arith
-flag_few false = omega arith
-
 bits_are : (ts : List Thread) (n : ℕ) → bit_at (faulting_bits ts) n ≡ flag (faults_if (slice_get ts n))
 bits_are [] n = bit_at-zero n
 bits_are (t ∷ ts) zero = bit_at_lowest (flag (is_faulting t) + 2 * faulting_bits ts) ∙ omega (arith, flag_few (is_faulting t))
@@ -520,10 +516,10 @@ not_high d off_it = by (irq_abort d) off_it
 
 -- a debug DMAKILL of this thread
 abbrev KillsBy : Who → ℕ → ℕ → DeviceValue → Type 0
-KillsBy who at value d = (at ≡ 0xD04) × ((value % 4 ≡ 0) × ((opcode_of d ≡ 0x01) × Addresses d who))
+KillsBy who at value d = (at ≡ offset.dbgcmd) × ((value % 4 ≡ 0) × ((opcode_of d ≡ 0x01) × Addresses d who))
 
 decide_write : (who : Who) (at value : ℕ) (d : DeviceValue) → KillsBy who at value d ⊎ (¬ KillsBy who at value d)
-decide_write who at value d = elim (cases_eq at 0xD04) [
+decide_write who at value d = elim (cases_eq at offset.dbgcmd) [
   | inr off_it ↦ inr (λ w. off_it w.0)
   | inl a ↦ elim (cases_eq (value % 4) 0) [
     | inr off_it ↦ inr (λ w. off_it w.1.0)
@@ -588,14 +584,14 @@ kills_one who other Resets d x y = absurd x
 kills_one who other (Restores saved) d x y = absurd x
 
 -- what kills a thread makes none fail
-kill_fails_none : (who other : Who) (a : Access) (d e : DeviceValue) (regions left : List Region) → Kills who a d → ¬ Fails other a d regions e left
-kill_fails_none who TheManager (Writes at value) d e regions left x f = true≢false (sym f.1.fails ∙ kill_passes TheManager d x.1.1.0)
-kill_fails_none who (TheChannel n) (Writes at value) d e regions left x f = true≢false (sym f.1.fails ∙ kill_passes (TheChannel n) d x.1.1.0)
-kill_fails_none who other (Reads at) d e regions left x f = absurd x
-kill_fails_none who other (Turns n most) d e regions left x f = absurd x
-kill_fails_none who other (Stores addr byte) d e regions left x f = absurd x
-kill_fails_none who other Resets d e regions left x f = absurd x
-kill_fails_none who other (Restores saved) d e regions left x f = absurd x
+kill_fails_none : (who other : Who) (a : Access) (d : DeviceValue) (regions : List Region) → Kills who a d → ¬ Fails other a d regions
+kill_fails_none who TheManager (Writes at value) d regions x f = true≢false (sym f.1.fails ∙ kill_passes TheManager d x.1.1.0)
+kill_fails_none who (TheChannel n) (Writes at value) d regions x f = true≢false (sym f.1.fails ∙ kill_passes (TheChannel n) d x.1.1.0)
+kill_fails_none who other (Reads at) d regions x f = absurd x
+kill_fails_none who other (Turns n most) d regions x f = absurd x
+kill_fails_none who other (Stores addr byte) d regions x f = absurd x
+kill_fails_none who other Resets d regions x f = absurd x
+kill_fails_none who other (Restores saved) d regions x f = absurd x
 
 -- after an access that leaves the line low, the fault of a thread that was faulting was ended
 was_ended : (who : Who) (a : Access) (d e : DeviceValue) (regions left : List Region) (answer : Answer) → Does a d regions answer e left → irq_abort e ≡ false → faults_at who d ≡ true → EndsFault who a d
@@ -652,7 +648,7 @@ aborts_are_exact a d e regions left answer x = record {
       | inr w ↦ not_high e (λ still.
           let v = (line_is e).0 still in
           elim ((access_exact v.0 a d e regions left answer x).0 v.1) [
-            | inl fails ↦ kill_fails_none w.0 v.0 a d e regions left w.1 fails
+            | inl fails ↦ kill_fails_none w.0 v.0 a d regions w.1 fails
             | inr stays ↦
                 let same : v.0 ≡ w.0 = w.3 v.0 stays.0 in
                 stays.1 (kill_ends v.0 a d (subst (λ (u : Who). Kills u a d) (sym same) w.1))

@@ -9,18 +9,19 @@ use Rattle.std.proofs.lemmas.Bool.{and_parts}
 use Rattle.std.proofs.lemmas.List.Elements.{All-replicate}
 use Rattle.std.proofs.lemmas.Nat.{or_lt, pow_pos}
 use Rattle.dma_insn.specs.ControlWord.{field}
+use Rattle.dma_mem.specs.Marking.{MarkList}
 use Rattle.dma_mem.specs.Regions.{Piece, pieces_of}
 use Rattle.dma_mem.specs.declared.regions.Region.{Region}
-use Rattle.dma_device.specs.declared.device.turns.Called.{Called}
 use Rattle.dma_device.specs.declared.device.turns.Turn.{Turn}
 use Rattle.dma_device.specs.declared.thread.Thread.{Thread}
 use Rattle.dma_device.specs.Accesses.{Access, Answer, Does, Happen, Reads, Resets, Restores, Stores, Turned, Turns, Writes}
 use Rattle.dma_device.specs.Device.{DeviceValue, all_events, by_manager, by_thread, debugged, go, is_event, is_interrupt, manager_failed, program_at, signalled, written}
 use Rattle.dma_device.specs.Idle.{IsSoundDevice, NothingHappens, StaySound}
 use Rattle.dma_device.specs.Snapshot.{IsDeviceValue, IsThreadValue}
-use Rattle.dma_device.specs.Thread.{IsSound, answered, dbg_instr, dmago_err, failed, killed, operand_invalid, reset_thread, started, undef_instr}
-use Rattle.dma_device.specs.Turns.{CallsIf, TakesTurn, may_follow, runs_at, with_flags}
-use Rattle.dma_device.proofs.Calls.{call_is}
+use Rattle.dma_device.specs.Thread.{IsSound, dbg_instr, dmago_err, failed, killed, operand_invalid, reset_thread, started, undef_instr}
+use Rattle.dma_device.specs.CallSteps.{first_in, marks_in}
+use Rattle.dma_device.specs.Turns.{Outcome, Setup, TakesTurn, begins, called_if, follows, last_in, machine_in, machine_left, number_of, setup_of, signal_in, steps_in, thread_left, with_flags}
+use Rattle.dma_device.proofs.Calls.{call_acts, call_is, takes, turn_device}
 use Rattle.dma_device.proofs.Cases.{branch, go_cases, manager_cases, thread_cases, write_cases}
 use Rattle.dma_device.proofs.Sound.{and_fewer, and_known, answered_sound, few_events, same_threads, thread_sound}
 use Rattle.dma_device.proofs.Waits.{turn_rests}
@@ -108,21 +109,25 @@ flags_sound d flags h =
     (or_lt n (bit_and d.events d.inten) (bit_and known (bit_not w32 d.inten)) (and_fewer d.events d.inten n h.known.events) (and_fewer known (bit_not w32 d.inten) n few))
     (or_lt n d.interrupts (bit_and known d.inten) h.known.interrupts (and_fewer known d.inten n few)) h.known.inten
 
-call_sound : (b : Bool) (d : DeviceValue) (regions : List Region) (n most : ℕ) (e : DeviceValue) (left : List Region) (called : Called) → IsSoundDevice d → CallsIf b d regions n most e left called → IsSoundDevice e
-call_sound b d regions n most e left called h x = elim (call_is b d regions n most e left called x) [
-  | inl idle ↦ subst IsSoundDevice (sym idle.device) h
-  | inr does ↦
-      let c = does.call in
-      let after = answered d.config.events (record (does.thread) { channel = c.channel }) c.last called.signal in
-      subst IsSoundDevice (sym c.device)
-      (thread_sound (with_flags c.flags d) n after (flags_sound d c.flags h)
-      (answered_sound _ _ _ _ c.taken d.config.events c.last (record (does.thread) { channel = c.channel }) called.signal c.steps refl))
+call_sound : (made : Bool) (marks : MarkList) (n most : ℕ) (s : Setup) → IsSoundDevice s.device → IsSoundDevice (called_if made marks n most s).left.device
+call_sound made marks n most s h = elim (call_is made marks n most s) [
+  | inl rests ↦ subst (λ (o : Outcome). IsSoundDevice o.left.device) (sym rests.is) h
+  | inr acts ↦
+      let d = s.device in
+      let t = acts.thread in
+      let to = machine_left marks most t s in
+      let flags = number_of to.flags in
+      subst (λ (o : Outcome). IsSoundDevice o.left.device) (sym (call_acts marks most acts))
+      (thread_sound (with_flags flags d) n (thread_left marks most t s) (flags_sound d flags h)
+      (answered_sound marks (machine_in s t) to most (steps_in marks most t s) d.config.events (last_in marks most t s) (record t { channel = to.channel }) (signal_in marks most t s) (takes marks most t s) refl))
 ]
 
 turn_sound : (d : DeviceValue) (regions : List Region) (n most : ℕ) (e : DeviceValue) (left : List Region) (turn : Turn) → IsSoundDevice d → TakesTurn d regions n most e left turn → IsSoundDevice e
 turn_sound d regions n most e left turn h x =
-    call_sound (may_follow x.middle n x.first && runs_at x.middle n) x.middle x.lent n 1 e left x.second
-    (call_sound (nat_lt 0 most && runs_at d n) d regions n most x.middle x.lent x.first h x.call) x.one_more
+    let marks = marks_in regions in
+    let first = first_in d regions n most in
+    subst IsSoundDevice (turn_device x)
+    (call_sound (follows first.left.device n first.called) marks n 1 first.left (call_sound (begins d n most) marks n most (setup_of d regions) h))
 
 -- ---- accesses
 

@@ -6,6 +6,7 @@ use Rattle.std.proofs.lemmas.Nat.Bits.{bit_at-zero}
 use Rattle.std.specs.Int.{bit_at}
 use Rattle.dma_mem.specs.Regions.{Piece, pieces_of}
 use Rattle.dma_mem.specs.declared.regions.Region.{Region}
+use Rattle.dma_device.specs.Offsets as offset
 use Rattle.dma_device.specs.Accesses.{Access, Answer, Does, Happen, Reads, Resets, Restores, Stores, Turns, Writes}
 use Rattle.dma_device.specs.Device.{DeviceValue, irqs, written}
 use Rattle.dma_device.specs.Turns.{TakesTurn}
@@ -41,18 +42,18 @@ down_exact k d e P Up Down to back no_up x = (
   (λ why. elim why [ inl up ↦ absurd (no_up up) | inr stays ↦ x.1 (stays.0, λ p. stays.1 (to p)) ]),
 )
 
-write_exact : (k at value : ℕ) (d : DeviceValue) (regions left : List Region) → HasLine d k → let e = written (pieces_of regions) at value d in Exact k (irqs d) (irqs e) (Raises k (Writes at value) d regions e left) (Clears k (Writes at value) d)
-write_exact k at value d regions left has =
+write_exact : (k at value : ℕ) (d : DeviceValue) (regions : List Region) → HasLine d k → let e = written (pieces_of regions) at value d in Exact k (irqs d) (irqs e) (Raises k (Writes at value) d regions) (Clears k (Writes at value) d)
+write_exact k at value d regions has =
     let ram = pieces_of regions in
     let e = written ram at value d in
-    let Up = Raises k (Writes at value) d regions e left in
+    let Up = Raises k (Writes at value) d regions in
     let Down = Clears k (Writes at value) d in
-    elim (cases_eq at 0x02C) [
+    elim (cases_eq at offset.intclr) [
       | inl intclr ↦
           down_exact k d e (IsHigh value k × IsHigh d.inten k) Up Down (λ p. (intclr, p)) (λ down. down.1)
           (λ up. (let other = up.1.0 in omega arith))
           (subst (λ (j : ℕ). IsHigh (irqs (written ram j value d)) k ↔ (IsHigh (irqs d) k × ¬ (IsHigh value k × IsHigh d.inten k))) (sym intclr) (intclr_lowers d ram value k has))
-      | inr not_intclr ↦ elim (cases_eq at 0xD04) [
+      | inr not_intclr ↦ elim (cases_eq at offset.dbgcmd) [
         | inl dbgcmd ↦
             let w = (dbgcmd_raises true d ram value k).lines in
             up_exact k d e (IsHigh d.inten k × DebugSignals d value k) Up Down (λ p. (p.0, (dbgcmd, p.1))) (λ up. (up.0, up.1.1))
@@ -63,19 +64,12 @@ write_exact k at value d regions left has =
       ]
     ]
 
-turn_exact : (k n most : ℕ) (d e : DeviceValue) (regions left : List Region) (turn : Turn) → HasLine d k → TakesTurn d regions n most e left turn → Exact k (irqs d) (irqs e) (Raises k (Turns n most) d regions e left) (Clears k (Turns n most) d)
-turn_exact k n most d e regions left turn has x = (
-  (λ high. elim ((turn_raises d e regions left n most k turn x has).0 high) [
-    | inl before ↦ inr (before, λ down. down)
-    | inr here ↦ inl (here.0, (turn, (x, here.1)))
-  ]),
-  (λ why. elim why [
-    | inl up ↦
-        let w = up.1 in
-        (turn_raises d e regions left n most k w.0 w.1.0 has).1 (inr (up.0, w.1.1))
-    | inr stays ↦ (turn_raises d e regions left n most k turn x has).1 (inl stays.0)
-  ]),
-)
+turn_exact : (k n most : ℕ) (d e : DeviceValue) (regions left : List Region) (turn : Turn) → HasLine d k → TakesTurn d regions n most e left turn → Exact k (irqs d) (irqs e) (Raises k (Turns n most) d regions) (Clears k (Turns n most) d)
+turn_exact k n most d e regions left turn has x =
+    let w = turn_raises d e regions left n most k turn x has in (
+      (λ high. elim (w.0 high) [ inl before ↦ inr (before, λ down. down) | inr here ↦ inl here ]),
+      (λ why. elim why [ inl up ↦ w.1 (inr up) | inr stays ↦ w.1 (inl stays.0) ]),
+    )
 
 -- after a restore a bit is that of the restored device
 pub restored_bit : (k bits before after : ℕ) → after ≡ bits → IsHigh after k ↔ (IsHigh bits k ⊎ (IsHigh before k × ¬ ¬ IsHigh bits k))
@@ -87,12 +81,12 @@ restored_bit k bits before after is = (
   ])),
 )
 
-access_exact : (k : ℕ) (a : Access) (d e : DeviceValue) (regions left : List Region) (answer : Answer) → HasLine d k → Does a d regions answer e left → Exact k (irqs d) (irqs e) (Raises k a d regions e left) (Clears k a d)
-access_exact k (Reads at) d e regions left answer has x = same_exact k (irqs d) (irqs e) (Raises k (Reads at) d regions e left) ⊥ (ap irqs x.1) (λ up. up.1) (λ down. down)
+access_exact : (k : ℕ) (a : Access) (d e : DeviceValue) (regions left : List Region) (answer : Answer) → HasLine d k → Does a d regions answer e left → Exact k (irqs d) (irqs e) (Raises k a d regions) (Clears k a d)
+access_exact k (Reads at) d e regions left answer has x = same_exact k (irqs d) (irqs e) (Raises k (Reads at) d regions) ⊥ (ap irqs x.1) (λ up. up.1) (λ down. down)
 access_exact k (Writes at value) d e regions left answer has x =
-    subst (λ (v : DeviceValue). Exact k (irqs d) (irqs v) (Raises k (Writes at value) d regions v left) (Clears k (Writes at value) d)) (sym x.1) (write_exact k at value d regions left has)
+    subst (λ (v : DeviceValue). Exact k (irqs d) (irqs v) (Raises k (Writes at value) d regions) (Clears k (Writes at value) d)) (sym x.1) (write_exact k at value d regions has)
 access_exact k (Turns n most) d e regions left answer has x = turn_exact k n most d e regions left x.0 has x.1.1
-access_exact k (Stores addr byte) d e regions left answer has x = same_exact k (irqs d) (irqs e) (Raises k (Stores addr byte) d regions e left) ⊥ (ap irqs x.1) (λ up. up.1) (λ down. down)
+access_exact k (Stores addr byte) d e regions left answer has x = same_exact k (irqs d) (irqs e) (Raises k (Stores addr byte) d regions) ⊥ (ap irqs x.1) (λ up. up.1) (λ down. down)
 access_exact k Resets d e regions left answer has x =
     let low : ¬ IsHigh (irqs e) k = (λ high. let zero_bit = ap (λ (v : DeviceValue). bit_at (irqs v) k) x.1 ∙ bit_at-zero k in omega (arith, zero_bit, high)) in
     ((λ high. absurd (low high)), (λ why. elim why [ inl up ↦ absurd (up.1) | inr stays ↦ absurd (stays.1 tt) ]))
@@ -102,12 +96,12 @@ access_exact k (Restores saved) d e regions left answer has x = restored_bit k (
 
 written_has : (k : ℕ) (ram : List Piece) (at value : ℕ) (d : DeviceValue) → HasLine d k → HasLine (written ram at value d) k
 written_has k ram at value d has =
-    elim (cases_eq at 0x02C) [
-      | inl intclr ↦ subst (λ (j : ℕ). HasLine (written ram j value d) k) (sym intclr) (has_kept k d (written ram 0x02C value d) refl refl has)
-      | inr not_intclr ↦ elim (cases_eq at 0xD04) [
+    elim (cases_eq at offset.intclr) [
+      | inl intclr ↦ subst (λ (j : ℕ). HasLine (written ram j value d) k) (sym intclr) (has_kept k d (written ram offset.intclr value d) refl refl has)
+      | inr not_intclr ↦ elim (cases_eq at offset.dbgcmd) [
         | inl dbgcmd ↦
             let w = dbgcmd_raises true d ram value k in
-            subst (λ (j : ℕ). HasLine (written ram j value d) k) (sym dbgcmd) (has_kept k d (written ram 0xD04 value d) w.config w.inten has)
+            subst (λ (j : ℕ). HasLine (written ram j value d) k) (sym dbgcmd) (has_kept k d (written ram offset.dbgcmd value d) w.config w.inten has)
         | inr not_dbgcmd ↦ (others_keep_lines d ram at value k has not_intclr not_dbgcmd).has
       ]
     ]
@@ -140,6 +134,6 @@ module _ (access : ℕ → Access) (answer : ℕ → Answer) (before : ℕ → D
 
 pub interrupts_are_exact : InterruptsAreExact
 interrupts_are_exact access answer before lent left count k n happen has within =
-    history.held_as (λ j. IsHigh (irqs (before j)) k) (λ j. Raises k (access j) (before j) (lent j) (before (j + 1)) (left j)) (λ j. Clears k (access j) (before j))
-    (RaisedSince access before lent left k n) n (λ r. record { at = r.at; below = r.below; raises = r.up; stays = r.stays }) (λ r. record { at = r.at; below = r.below; up = r.raises; stays = r.stays }) count
+    history.held_as (λ j. IsHigh (irqs (before j)) k) (λ j. Raises k (access j) (before j) (lent j)) (λ j. Clears k (access j) (before j))
+    (RaisedSince access before lent k n) n (λ r. record { at = r.at; below = r.below; raises = r.up; stays = r.stays }) (λ r. record { at = r.at; below = r.below; up = r.raises; stays = r.stays }) count
     (λ j less. access_exact k (access j) (before j) (before (j + 1)) (lent j) (left j) (answer j) (all_have access answer before lent left count k happen has j (omega arith)) (happen j less)) within

@@ -3,6 +3,8 @@ pub mod Faulting
 pub mod InOrder
 pub mod SavedParts
 pub mod Starts
+pub mod FlagNumber
+pub mod FlagSteps
 pub mod CallKeeps
 pub mod Calls
 pub mod Cases

@@ -23,20 +23,21 @@ use Rattle.dma_chan.proofs.AmongOthers.{Fits, goes_on_at, is_in}
 use Rattle.dma_chan.proofs.CallsAmongOthers.{Runs, call_answers, call_fails, many, next_ahead}
 use Rattle.dma_chan.proofs.CompiledExplained.{compiled_events}
 use Rattle.dma_chan.proofs.RunAlone.{moved_count}
+use Rattle.dma_chan.proofs.StepsTaken.{steps_move}
 use Rattle.dma_chan.proofs.SteppedOver.{is_still, was_moved, went_before}
-use Rattle.dma_device.specs.CallSteps.{marks_in}
+use Rattle.dma_device.specs.CallSteps.{Executes, marks_in}
 use Rattle.dma_device.specs.Device.{DeviceValue, csr, of_thread}
 use Rattle.dma_device.specs.Dmago.{Go, RunsCopy, GivenTurns, bus_of, csr_status, image_in}
 use Rattle.dma_device.specs.Interrupts.{HasLine, IsHigh}
 use Rattle.dma_device.specs.Progress.{CompiledGoesOn, CompiledHasEvents, CompiledSignals, DmagoFinishes, DmagoSignals, IsReady, IsCompiled, IsVisible, MayPass, WasHigh, compiled_count}
 use Rattle.dma_device.specs.Thread.{is_faulting, is_stopped, is_stopped_status, runs, status_bits}
-use Rattle.dma_device.specs.Turns.{TakesTurn, runs_at, runs_if, visible_events}
+use Rattle.dma_device.specs.Turns.{TakesTurn, runs_at, runs_if, setup_of, visible_events}
 use Rattle.dma_device.specs.declared.device.turns.Turn.{Turn}
 use Rattle.dma_device.specs.declared.thread.Status.{Status}
 use Rattle.dma_device.specs.declared.thread.Status.TheVariants.{Stopped, Executing, WaitingForEvent, Faulting}
 use Rattle.dma_device.specs.declared.thread.Thread.{Thread}
 use Rattle.dma_device.proofs.Copies.{Fit, call_fine, fit_kept, fits_all}
-use Rattle.dma_device.proofs.Driven.{After, Before, Call, Copying, Going, Has, Keeps, Leaves, Steps, after_turn, along, channel_after, copying, first_call, from, second_call, to}
+use Rattle.dma_device.proofs.Driven.{After, Before, Call, Copying, Going, Has, Keeps, Leaves, after_turn, along, channel_after, copying, count_in, from, last_answer, one_of, sent_by, sets, steps_of, to, two_of}
 use Rattle.dma_device.proofs.Events.{flag_of_bit, seen_bit}
 use Rattle.dma_device.proofs.WaitSteps.{before_end, waits_at}
 use Rattle.dma_device.proofs.Starts.{read_csr, reads_stopped}
@@ -68,7 +69,7 @@ module _ (bus : Bus) (program : List ℕ) (t : Descriptor) (count : ℕ) (marks 
       still : (p : ℕ) (a : ChanTurn) → answer_at marks (after_steps marks s p) ≡ a → ChangesNothing a → TakesSteps marks s most (suc p) last v → v.channel.taken ≡ s.channel.taken + p
       still p a is nothing x =
           let same = ap (λ (m : Machine). m.channel.taken) (x.ends_at ∙ is_still marks (after_steps marks s p) (subst ChangesNothing (sym is) nothing)) in
-          same ∙ many_count s p x.moves
+          same ∙ many_count s p (steps_move x)
 
       awakes : (e : ℕ) → ((e : ℕ) → (w : IsWait bus program count e) → w.step ≡ r.0 → get_or s.flags e false ≡ true) → answer_at marks s ≡ Waiting e → ⊥
       awakes e awake is =
@@ -88,7 +89,7 @@ module _ (bus : Bus) (program : List ℕ) (t : Descriptor) (count : ℕ) (marks 
 
       counted : (p : ℕ) → TakesSteps marks s most (suc p) last v → answer_at marks (after_steps marks s p) ≡ Moved → more ≤ v.channel.taken
       counted p x moved =
-          let before = many_count s p x.moves in
+          let before = many_count s p (steps_move x) in
           let here = step_count (after_steps marks s p) moved in
           let end = ap (λ (m : Machine). m.channel.taken) x.ends_at in
           omega (arith, before, here, end, few, bound awake)
@@ -136,10 +137,10 @@ module _ (bus : Bus) (program : List ℕ) (t : Descriptor) (count : ℕ) (marks 
     call_signals s v most (suc p) last r early x = by (answer_at marks (after_steps marks s p)) refl
       where
         here : (after_steps marks s p).channel.taken ≤ sev.step
-        here = before_sev s p r early x.moves
+        here = before_sev s p r early (steps_move x)
 
         runs_there : Runs bus program t count first (after_steps marks s p)
-        runs_there = many bus program t count marks first h low p s r x.moves
+        runs_there = many bus program t count marks first h low p s r (steps_move x)
 
         still : (a : ChanTurn) → answer_at marks (after_steps marks s p) ≡ a → ChangesNothing a → v.channel.taken ≤ sev.step
         still a is nothing =
@@ -190,46 +191,46 @@ module _ (c : Copying) (n : ℕ) where
       let up : runs th ≡ true = rw (some, fine) refl in
       ap runs_if is ∙ up
 
-  keeps_reached : (least more : ℕ) (k : Call) → (k.made ≡ false → runs_at k.before n ≡ true → more ≤ least) → Keeps c n (Unit {0}) (Reached least) (Unit {0}) (Reached more) k
+  keeps_reached : (least more : ℕ) (k : Call) → ((th : Thread) → slice_get k.before.device.threads n ≡ Some th → ¬ Executes k.made n k.before → runs_at k.before.device n ≡ true → more ≤ least) → Keeps c n (Unit {0}) (Reached least) (Unit {0}) (Reached more) k
   keeps_reached least more k off = record {
     over = λ none o. o;
     going = λ not_made none th found g known.
-        let few = off not_made (going_runs k.before (image_in k.regions) th found g known.fine) in
+        let few = off th found not_made (going_runs k.before.device k.before.image th found g known.fine) in
         let enough = known.enough in
         record { fine = known.fine; enough = omega (arith, few, enough) };
   }
 
-  leaves_reached : (least more : ℕ) (k : Call) → (k.made ≡ true → 0 < k.most) → Fit c n k.before k.regions → CanStep k.before least more → Leaves c n (Reached least) (Unit {0}) (Reached more) k
+  leaves_reached : (least more : ℕ) (k : Call) → (k.made ≡ true → 0 < k.most) → Fit c n k.before.device k.marks → CanStep k.before.device least more → Leaves c n (Reached least) (Unit {0}) (Reached more) k
   leaves_reached least more k some fit can = record {
-    over = λ th g known x ended. tt;
-    going = λ made th found g known x goes.
+    over = λ th g known sent ended. tt;
+    going = λ made th found g known sent goes.
         let count_is : th.channel.taken ≡ g.runs.0 = g.runs.1.taken in
         let long = known.enough in
-        let sees : (more ≤ least) ⊎ ((more ≤ least + 1) × ((e : ℕ) → (w : IsWait c.bus c.program c.count e) → w.step ≡ g.runs.0 → get_or (from n k th x).flags e false ≡ true)) = elim can [
+        let sees : (more ≤ least) ⊎ ((more ≤ least + 1) × ((e : ℕ) → (w : IsWait c.bus c.program c.count e) → w.step ≡ g.runs.0 → get_or (from k th).flags e false ≡ true)) = elim can [
           | inl fewer ↦ inl fewer
-          | inr w ↦ inr (w.0, λ e wait is. w.1 th e wait found (subst (λ (j : ℕ). IsIn c.bus c.program c.count j th.channel) (sym is) (is_in c.bus c.program c.t c.count c.first g.runs.0 (image_in k.regions) th.channel g.runs.1)) (omega (arith, count_is, long, is)))
+          | inr w ↦ inr (w.0, λ e wait is. w.1 th e wait found (subst (λ (j : ℕ). IsIn c.bus c.program c.count j th.channel) (sym is) (is_in c.bus c.program c.t c.count c.first g.runs.0 k.before.image th.channel g.runs.1)) (omega (arith, count_is, long, is)))
         ] in
-        let is = ap (λ (v : ChannelValue). v.taken) (channel_after n k th x) in
+        let is = ap (λ (v : ChannelValue). v.taken) (channel_after k th) in
         record {
-          fine = call_fine c n k th (some made) fit g x;
-          enough = elim (progress c.bus c.program c.t c.count (marks_in k.regions) c.first c.explains c.fits (from n k th x) (to n k th x) k.most x.taken x.last least more (some made) fit.misses g.runs long sees x.steps) [
+          fine = call_fine c n k th (some made) fit g;
+          enough = elim (progress c.bus c.program c.t c.count k.marks c.first c.explains c.fits (from k th) (to k th) k.most (count_in k th) (last_answer k th) least more (some made) fit.misses g.runs long sees (steps_of k th)) [
             | inl ended ↦ absurd (goes ended)
             | inr many ↦ omega (arith, is, many)
           ];
         };
   }
 
-  turn_reached : (d : DeviceValue) (regions : List Region) (most : ℕ) (e : DeviceValue) (left : List Region) (turn : Turn) (x : TakesTurn d regions n most e left turn) (least : ℕ) → 0 < most → Fit c n d regions → Awake d least → Has c n (Unit {0}) (Reached least) (image_in regions) d → Has c n (Unit {0}) (Reached (least + 1)) (image_in left) e
+  turn_reached : (d : DeviceValue) (regions : List Region) (most : ℕ) (e : DeviceValue) (left : List Region) (turn : Turn) → TakesTurn d regions n most e left turn → (least : ℕ) → 0 < most → Fit c n d (marks_in regions) → Awake d least → Has c n (Unit {0}) (Reached least) (setup_of d regions) → Has c n (Unit {0}) (Reached (least + 1)) (setup_of e left)
   turn_reached d regions most e left turn x least some fit awake g =
-      let one = first_call d regions n most e left turn x in
-      let two = second_call d regions n most e left turn x in
-      let off : one.made ≡ false → runs_at d n ≡ true → least + 1 ≤ least = (λ none up.
+      let one = one_of d regions n most in
+      let two = two_of d regions n most in
+      let off : (th : Thread) → slice_get d.threads n ≡ Some th → ¬ Executes one.made n one.before → runs_at d n ≡ true → least + 1 ≤ least = (λ th found none up.
       let yes : one.made ≡ true = ap (λ (b : Bool). b && runs_at d n) (lt-ltb 0 most some) ∙ up in
-      absurd (true≢false (sym yes ∙ none))) in
+      absurd (none (record { on = yes; thread = th; found = found }))) in
       after_turn c n d regions most e left turn x (Unit {0}) (Reached least) (Unit {0}) (Reached (least + 1)) (Unit {0}) (Reached (least + 1))
       (keeps_reached least (least + 1) one off) (leaves_reached least (least + 1) one (λ made. some) fit (inr (omega arith, awake)))
-      (keeps_reached (least + 1) (least + 1) two (λ none up. omega arith))
-      (leaves_reached (least + 1) (least + 1) two (λ made. omega arith) (fit_kept c n d regions most e left turn x fit) (inl (omega arith))) g
+      (keeps_reached (least + 1) (least + 1) two (λ th found none up. omega arith))
+      (leaves_reached (least + 1) (least + 1) two (λ made. omega arith) (fit_kept c n d regions most fit) (inl (omega arith))) g
 
 -- ---- that its line was high
 
@@ -238,35 +239,35 @@ module _ (c : Copying) (n i stored : ℕ) (sev : IsSignal c.bus c.program c.coun
   abbrev Signs : Type 0 → Thread → Type 0
   Signs S th = (th.channel.taken ≤ sev.step) ⊎ S
 
-  keeps_signs : (S : Type 0) (k : Call) → Keeps c n S (Signs S) (S ⊎ (k.called.signal ≡ Some i)) (Signs (S ⊎ (k.called.signal ≡ Some i))) k
+  keeps_signs : (S : Type 0) (k : Call) → Keeps c n S (Signs S) (S ⊎ (sent_by n k ≡ Some i)) (Signs (S ⊎ (sent_by n k ≡ Some i))) k
   keeps_signs S k = record {
     over = λ none s. inl s;
     going = λ off none th found g known. elim known [ inl early ↦ inl early | inr s ↦ inr (inl s) ];
   }
 
-  leaves_signs : (S : Type 0) (k : Call) → Leaves c n (Signs S) (S ⊎ (k.called.signal ≡ Some i)) (Signs (S ⊎ (k.called.signal ≡ Some i))) k
+  leaves_signs : (S : Type 0) (k : Call) → Leaves c n (Signs S) (S ⊎ (sent_by n k ≡ Some i)) (Signs (S ⊎ (sent_by n k ≡ Some i))) k
   leaves_signs S k = record {
-    over = λ th g known x ended. elim known [
+    over = λ th g known is ended. elim known [
       | inr s ↦ inl s
-      | inl early ↦ elim (sends k th g early x) [ inl sent ↦ inr (x.signal ∙ sent) | inr later ↦ absurd (later.0 ended) ]
+      | inl early ↦ elim (sends th g early) [ inl sent ↦ inr (is ∙ sent) | inr later ↦ absurd (later.0 ended) ]
     ];
-    going = λ made th found g known x goes.
-        let is = ap (λ (v : ChannelValue). v.taken) (channel_after n k th x) in
+    going = λ made th found g known is goes.
+        let same = ap (λ (v : ChannelValue). v.taken) (channel_after k th) in
         elim known [
           | inr s ↦ inr (inl s)
-          | inl early ↦ elim (sends k th g early x) [ inl sent ↦ inr (inr (x.signal ∙ sent)) | inr later ↦ inl (omega (arith, is, later.1)) ]
+          | inl early ↦ elim (sends th g early) [ inl sent ↦ inr (inr (is ∙ sent)) | inr later ↦ inl (omega (arith, same, later.1)) ]
         ];
   }
     where
-      sends : (k : Call) (th : Thread) → Going c (image_in k.regions) th → th.channel.taken ≤ sev.step → (x : Steps n k th) → (signal_after (marks_in k.regions) (from n k th x) x.taken ≡ Some i) ⊎ ((x.last ≢ Some Ended) × (x.channel.taken ≤ sev.step))
-      sends k th g early x = call_signals c.bus c.program c.t c.count (marks_in k.regions) c.first c.explains c.fits i stored sev (from n k th x) (to n k th x) k.most x.taken x.last g.runs early x.steps
+      sends : (th : Thread) → Going c k.before.image th → th.channel.taken ≤ sev.step → (sets k th ≡ Some i) ⊎ ((last_answer k th ≢ Some Ended) × ((to k th).channel.taken ≤ sev.step))
+      sends th g early = call_signals c.bus c.program c.t c.count k.marks c.first c.explains c.fits i stored sev (from k th) (to k th) k.most (count_in k th) (last_answer k th) g.runs early (steps_of k th)
 
-  turn_signs : (S : Type 0) (d : DeviceValue) (regions : List Region) (most : ℕ) (e : DeviceValue) (left : List Region) (turn : Turn) (x : TakesTurn d regions n most e left turn) → Has c n S (Signs S) (image_in regions) d → let T = (S ⊎ (x.first.signal ≡ Some i)) ⊎ (x.second.signal ≡ Some i) in Has c n T (Signs T) (image_in left) e
+  turn_signs : (S : Type 0) (d : DeviceValue) (regions : List Region) (most : ℕ) (e : DeviceValue) (left : List Region) (turn : Turn) → TakesTurn d regions n most e left turn → Has c n S (Signs S) (setup_of d regions) → let T = (S ⊎ (sent_by n (one_of d regions n most) ≡ Some i)) ⊎ (sent_by n (two_of d regions n most) ≡ Some i) in Has c n T (Signs T) (setup_of e left)
   turn_signs S d regions most e left turn x g =
-      let first = S ⊎ (x.first.signal ≡ Some i) in
-      let both = first ⊎ (x.second.signal ≡ Some i) in
-      let one = first_call d regions n most e left turn x in
-      let two = second_call d regions n most e left turn x in
+      let one = one_of d regions n most in
+      let two = two_of d regions n most in
+      let first = S ⊎ (sent_by n one ≡ Some i) in
+      let both = first ⊎ (sent_by n two ≡ Some i) in
       after_turn c n d regions most e left turn x S (Signs S) first (Signs first) both (Signs both) (keeps_signs S one) (leaves_signs S one) (keeps_signs first two) (leaves_signs first two) g
 
 -- ---- CSR
@@ -320,9 +321,11 @@ module _ (go : Go) (t : Descriptor) (count : ℕ) (run : GivenTurns) (h : RunsCo
     turned j less g =
         let x = h.takes j less in
         let w = turn_signs c go.channel i stored sev (Was j) (run.before j) (run.lent j) (run.most j) (run.after j) (run.left j) x.0 x.1 g in
-        let high : (x.1.first.signal ≡ Some i) ⊎ (x.1.second.signal ≡ Some i) → Was (suc j) = (λ is.
+        let one = sent_by go.channel (one_of (run.before j) (run.lent j) go.channel (run.most j)) in
+        let two = sent_by go.channel (two_of (run.before j) (run.lent j) go.channel (run.most j)) in
+        let high : (one ≡ Some i) ⊎ (two ≡ Some i) → Was (suc j) = (λ is.
         record { turn = j; early = omega arith; high = record { turn = j; early = omega arith; high = (turn_raises (run.before j) (run.after j) (run.lent j) (run.left j) go.channel (run.most j) i x.0 x.1 (on j less).0).1 (inr ((on j less).1, is)) } }) in
-        let more : (Was j ⊎ (x.1.first.signal ≡ Some i)) ⊎ (x.1.second.signal ≡ Some i) → Was (suc j) = (λ why. elim why [
+        let more : (Was j ⊎ (one ≡ Some i)) ⊎ (two ≡ Some i) → Was (suc j) = (λ why. elim why [
           | inl a ↦ elim a [ inl b ↦ (let early = b.early in record { turn = b.turn; early = omega (arith, early); high = b.high }) | inr is ↦ high (inl is) ]
           | inr is ↦ high (inr is)
         ]) in

@@ -27,6 +27,7 @@ use Rattle.dma_chan.specs.Stepping.{Machine, TakesSteps, after_step, after_steps
 use Rattle.dma_chan.specs.declared.turn.ChanTurn.{ChanTurn}
 use Rattle.dma_chan.specs.declared.turn.ChanTurn.TheVariants.{Moved, Waiting, Ended, Fault}
 use Rattle.dma_chan.specs.declared.turn.FaultKind.TheVariants.{InstrFetchErr}
+use Rattle.dma_chan.proofs.StepsTaken.{steps_counted, steps_move}
 use Rattle.dma_chan.proofs.SteppedOver.{was_moved, went_before}
 use Rattle.dma_device.specs.Config.{is_valid}
 use Rattle.dma_device.specs.declared.config.Config.{Config}
@@ -137,15 +138,15 @@ by_program marks s v most zero events last t signal o program x is =
     subst (λ (l : Option ChanTurn). IsSound events (answered events t l signal)) (sym x.answer) refl
 by_program marks s v most (suc j) events last t signal (Some p) program x is =
     let u = after_steps marks s j in
-    let here = ap (λ (q : Option ProgramValue). is_some q) (program_kept marks s j x.moves ∙ program) in
+    let here = ap (λ (q : Option ProgramValue). is_some q) (program_kept marks s j (steps_move x) ∙ program) in
     let ends = is ∙ ap (λ (m : Machine). m.channel) x.ends_at in
     subst (λ (l : Option ChanTurn). IsSound events (answered events t l signal)) (sym x.answer)
     (by_turn events (record t { pc = (t.base + t.channel.registers.pc) % 2 ^ 32 }) (answer_at marks u) signal _ _ u.channel here ends
-    (λ e waits. waits_before marks u (record t { pc = (t.base + t.channel.registers.pc) % 2 ^ 32 }) e waits ends (x.counts j (omega arith)) refl))
+    (λ e waits. waits_before marks u (record t { pc = (t.base + t.channel.registers.pc) % 2 ^ 32 }) e waits ends (steps_counted x j (omega arith)) refl))
 by_program marks s v most (suc zero) events last t signal None program x is =
     subst (λ (l : Option ChanTurn). IsSound events (answered events t l signal)) (sym (x.answer ∙ ap (λ (a : ChanTurn). Some a) (unloaded_fails marks s program))) refl
 by_program marks s v most (suc (suc j)) events last t signal None program x is =
-    let moved = was_moved (ahead_of s.channel) (answer_at marks s) (went_before marks s 1 (x.moves 1 (omega arith))) in
+    let moved = was_moved (ahead_of s.channel) (answer_at marks s) (went_before marks s 1 (steps_move x 1 (omega arith))) in
     let fails = unloaded_fails marks s program in
     absurd (cc (moved, fails))
 

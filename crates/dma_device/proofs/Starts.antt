@@ -6,6 +6,7 @@ use Rattle.std.proofs.lemmas.List.{get_or-set_same}
 use Rattle.std.proofs.lemmas.Option.{slice_get-get_or, slice_get_within}
 use Rattle.dma_insn.specs.ControlWord.{field, flag}
 use Rattle.dma_mem.specs.Regions.{Piece}
+use Rattle.dma_device.specs.Offsets as offset
 use Rattle.dma_device.specs.Device.{DeviceValue, by_manager, by_thread, csr, go as executes_go, of_thread, read_at, program_at, with_thread}
 use Rattle.dma_device.specs.Dmago.{Go, MayGo, csr_status, started_by}
 use Rattle.dma_device.specs.Thread.{is_faulting, is_faulting_status, is_stopped, is_stopped_status, reset_thread, started, status_bits}
@@ -15,7 +16,7 @@ use Rattle.dma_device.specs.declared.thread.Thread.{Thread}
 
 -- ---- CSR
 
-pub read_csr : (d : DeviceValue) (n : ℕ) → n < 8 → read_at d (0x100 + 8 * n) ≡ of_thread csr (slice_get d.threads n)
+pub read_csr : (d : DeviceValue) (n : ℕ) → n < 8 → read_at d (offset.csr + 8 * n) ≡ of_thread csr (slice_get d.threads n)
 read_csr d zero h = refl
 read_csr d (suc zero) h = refl
 read_csr d (suc (suc zero)) h = refl
@@ -38,7 +39,7 @@ stopped_by Faulting false h = absurd (omega arith)
 -- a thread whose CSR reads as stopped is stopped
 pub reads_stopped : (d : DeviceValue) (n : ℕ) (th : Thread) → n < 8 → slice_get d.threads n ≡ Some th → csr_status d n ≡ 0 → is_stopped th ≡ true
 reads_stopped d n th few is h =
-    let read : csr th ≡ read_at d (0x100 + 8 * n) = sym (read_csr d n few ∙ ap (of_thread csr) is) in
+    let read : csr th ≡ read_at d (offset.csr + 8 * n) = sym (read_csr d n few ∙ ap (of_thread csr) is) in
     stopped_by th.status th.nonsecure (ap (λ (m : ℕ). m % 16) read ∙ h)
 
 fine_by : (s : Status) (b : Bool) → is_faulting_status s ≡ false → (status_bits s + flag b * 2 ^ 21) % 16 ≢ 15
@@ -53,7 +54,7 @@ fine_by Faulting b h e = absurd (true≢false h)
 -- the CSR of a thread that isn't faulting doesn't read so
 pub reads_fine : (d : DeviceValue) (n : ℕ) (th : Thread) → n < 8 → slice_get d.threads n ≡ Some th → is_faulting th ≡ false → csr_status d n ≢ 15
 reads_fine d n th few is fine e =
-    let read : csr th ≡ read_at d (0x100 + 8 * n) = sym (read_csr d n few ∙ ap (of_thread csr) is) in
+    let read : csr th ≡ read_at d (offset.csr + 8 * n) = sym (read_csr d n few ∙ ap (of_thread csr) is) in
     fine_by th.status th.nonsecure fine (ap (λ (m : ℕ). m % 16) read ∙ e)
 
 -- ---- DMAGO

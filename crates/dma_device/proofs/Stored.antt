@@ -15,6 +15,7 @@ use Rattle.dma_chan.proofs.AmongOthers.{Among, Fits}
 use Rattle.dma_chan.proofs.CallsAmongOthers.{Leads, Runs, call, many, moved_on}
 use Rattle.dma_chan.proofs.CallWrites.{inside}
 use Rattle.dma_chan.proofs.Traced.{grows_to}
+use Rattle.dma_chan.proofs.StepsTaken.{steps_move}
 use Rattle.dma_chan.proofs.SteppedOver.{is_still, was_moved, went_before}
 
 is_end : (turn : ChanTurn) → (turn ≡ Ended) ⊎ (turn ≢ Ended)
@@ -66,9 +67,9 @@ module _ (bus : Bus) (program : List ℕ) (t : Descriptor) (count : ℕ) (marks 
             let all : v.channel.stored ≡ size_of t = (subst (λ (o : Option ChanTurn). Leads bus program t count first o v) is (call bus program t count marks first h low s v most (suc p) last r steps)).stored in
             omega (arith, at_most s r)
         | inr other ↦
-            let w = many bus program t count marks first h low p s r steps.moves in
+            let w = many bus program t count marks first h low p s r (steps_move steps) in
             let same = ap (λ (m : Machine). m.channel.stored) steps.ends_at in
-            omega (arith, many_grow p s r steps.moves, one_grows w.0 u (answer_at marks u) other w.1 refl)
+            omega (arith, many_grow p s r (steps_move steps), one_grows w.0 u (answer_at marks u) other w.1 refl)
       ]
 
   -- once all are stored, all bytes are copied

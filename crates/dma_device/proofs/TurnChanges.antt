@@ -8,27 +8,25 @@ use Rattle.dma_insn.specs.declared.insn.Insn.{Insn}
 use Rattle.dma_insn.specs.declared.insn.Insn.TheVariants.{Sev, Wfe}
 use Rattle.dma_mem.specs.Flags.{flags_of}
 use Rattle.dma_mem.specs.Marking.{MarkList}
-use Rattle.dma_mem.specs.Regions.{image_of, pieces_of}
-use Rattle.dma_mem.specs.declared.regions.Region.{Region}
 use Rattle.dma_mem.proofs.FlagBits.{get_or_flags_of}
 use Rattle.dma_chan.specs.Channel.{ChannelValue, after_turn, ahead_of, state_of, step_of, stored_by}
 use Rattle.dma_chan.specs.Exec.{State, exec_fetched}
-use Rattle.dma_chan.specs.Stepping.{Machine, TakesSteps, after_step, after_steps, answer_at, machine, signal_after, signal_of}
+use Rattle.dma_chan.specs.Stepping.{Machine, TakesSteps, after_step, after_steps, answer_at, signal_after, signal_of}
 use Rattle.dma_chan.specs.declared.turn.ChanTurn.{ChanTurn}
 use Rattle.dma_chan.specs.declared.turn.ChanTurn.TheVariants.{Moved, Waiting, Ended, Fault}
 use Rattle.dma_chan.specs.declared.turn.FaultKind.{FaultKind}
+use Rattle.dma_chan.proofs.StepsTaken.{steps_move}
 use Rattle.dma_chan.proofs.SteppedOver.{was_moved, went_before}
-use Rattle.dma_device.specs.declared.device.turns.Called.{Called}
 use Rattle.dma_device.specs.declared.thread.Status.{Status}
 use Rattle.dma_device.specs.declared.thread.Status.TheVariants.{Faulting, WaitingForEvent}
 use Rattle.dma_device.specs.declared.thread.Thread.{Thread}
-use Rattle.dma_device.specs.CallSteps.{machine_in, marks_in}
+use Rattle.dma_device.specs.CallSteps.{Executes, first_in, marks_in}
 use Rattle.dma_device.specs.Device.{DeviceValue}
 use Rattle.dma_device.specs.Idle.{TurnChanges}
 use Rattle.dma_device.specs.Thread.{answer, answered, can_step, is_faulting, is_faulting_status, is_signalled, runs, waited}
-use Rattle.dma_device.specs.Turns.{CallsThread, begins, follows, may_follow, raises, runs_at, runs_if, visible_events}
+use Rattle.dma_device.specs.Turns.{Outcome, Setup, begins, called_if, follows, last_in, machine_in, machine_left, may_follow, raises, runs_at, runs_if, setup_of, signal_in, steps_in, thread_left, visible_events}
 use Rattle.dma_device.proofs.Answered.{answer_channel}
-use Rattle.dma_device.proofs.Calls.{call_is}
+use Rattle.dma_device.proofs.Calls.{call_acts, call_is, takes, turn_device}
 use Rattle.dma_device.proofs.Sound.{step_waits}
 use Rattle.dma_device.proofs.Starts.{set_found}
 use Rattle.dma_device.proofs.Waits.{is_wfe}
@@ -134,30 +132,28 @@ by_steps events seen t at s v marks most (suc zero) last signal few can same fla
     (subst (λ (o : Option ℕ). Differs t (answer events at (Some (answer_at marks s)) o) o) (sym sets)
     (by_turn events seen t at s marks (answer_at marks s) few can same flags (is ∙ ap (λ (m : Machine). m.channel) x.ends_at) refl))
 by_steps events seen t at s v marks most (suc (suc j)) last signal few can same flags is sets x =
-    let moved = was_moved (ahead_of s.channel) (answer_at marks s) (went_before marks s 1 (x.moves 1 (omega arith))) in
+    let moved = was_moved (ahead_of s.channel) (answer_at marks s) (went_before marks s 1 (steps_move x 1 (omega arith))) in
     let up = all_rise marks s (suc j) moved in
     let old = ap (λ (c : ChannelValue). c.taken) same in
     let new = ap (λ (c : ChannelValue). c.taken) (answer_channel events at last signal ∙ is ∙ ap (λ (m : Machine). m.channel) x.ends_at) in
     inl (omega (arith, up, old, new))
 
--- the thread after a call
-abbrev After : (d : DeviceValue) (t : Thread) (regions : List Region) (n most : ℕ) (e : DeviceValue) (left : List Region) (called : Called) → CallsThread d t regions n most e left called → Thread
-After d t regions n most e left called x = answered d.config.events (record t { channel = x.channel }) x.last called.signal
+call_found : (marks : MarkList) (n most : ℕ) (s : Setup) (made : Bool) (x : Executes made n s) → slice_get (called_if made marks n most s).left.device.threads n ≡ Some (thread_left marks most x.thread s)
+call_found marks n most s made x =
+    ap (λ (o : Outcome). slice_get o.left.device.threads n) (call_acts marks most x)
+    ∙ set_found s.device.threads n x.thread (thread_left marks most x.thread s) x.found
 
-call_found : (d : DeviceValue) (t : Thread) (regions : List Region) (n most : ℕ) (e : DeviceValue) (left : List Region) (called : Called) (x : CallsThread d t regions n most e left called) → slice_get d.threads n ≡ Some t → slice_get e.threads n ≡ Some (After d t regions n most e left called x)
-call_found d t regions n most e left called x found =
-    ap (λ (v : DeviceValue). slice_get v.threads n) x.device ∙ set_found d.threads n t (After d t regions n most e left called x) found
+call_differs : (marks : MarkList) (most : ℕ) (t : Thread) (s : Setup) → s.device.config.events ≤ 32 → can_step (visible_events s.device) t ≡ true → Differs t (thread_left marks most t s) (signal_in marks most t s)
+call_differs marks most t s few can =
+    let to = machine_left marks most t s in
+    by_steps s.device.config.events (visible_events s.device) t (record t { channel = to.channel; pc = (t.base + to.channel.registers.pc) % 2 ^ 32 }) (machine_in s t) to marks most (steps_in marks most t s) (last_in marks most t s) (signal_in marks most t s) few can refl refl refl refl (takes marks most t s)
 
-call_differs : (d : DeviceValue) (t : Thread) (regions : List Region) (n most : ℕ) (e : DeviceValue) (left : List Region) (called : Called) (x : CallsThread d t regions n most e left called) → d.config.events ≤ 32 → can_step (visible_events d) t ≡ true → Differs t (After d t regions n most e left called x) called.signal
-call_differs d t regions n most e left called x few can =
-    by_steps d.config.events (visible_events d) t (record t { channel = x.channel; pc = (t.base + x.channel.registers.pc) % 2 ^ 32 }) (machine_in d t regions) (machine x.channel (image_of (pieces_of left)) (flags_of x.flags)) (marks_in regions) most x.taken x.last called.signal few can refl refl refl x.signal x.steps
-
-call_keeps_count : (d : DeviceValue) (t : Thread) (regions : List Region) (n most : ℕ) (e : DeviceValue) (left : List Region) (called : Called) (x : CallsThread d t regions n most e left called) → t.channel.taken ≤ (After d t regions n most e left called x).channel.taken
-call_keeps_count d t regions n most e left called x =
-    let at : Thread = record t { channel = x.channel; pc = (t.base + x.channel.registers.pc) % 2 ^ 32 } in
-    let new = ap (λ (c : ChannelValue). c.taken) (answer_channel d.config.events at x.last called.signal) in
-    let end = ap (λ (m : Machine). m.channel.taken) x.steps.ends_at in
-    omega (arith, never_falls (marks_in regions) (machine_in d t regions) x.taken, new, end)
+call_keeps_count : (marks : MarkList) (most : ℕ) (t : Thread) (s : Setup) → t.channel.taken ≤ (thread_left marks most t s).channel.taken
+call_keeps_count marks most t s =
+    let to = machine_left marks most t s in
+    let at : Thread = record t { channel = to.channel; pc = (t.base + to.channel.registers.pc) % 2 ^ 32 } in
+    let new = ap (λ (c : ChannelValue). c.taken) (answer_channel s.device.config.events at (last_in marks most t s) (signal_in marks most t s)) in
+    omega (arith, never_falls marks (machine_in s t) (steps_in marks most t s), new)
 
 -- ---- a turn
 
@@ -169,38 +165,38 @@ same_in d e n t u same found there = one_thread d.threads n u t (sym (ap (λ (v 
 
 pub turn_changes : TurnChanges
 turn_changes d e regions left n most turn t x h found can some same =
+    let marks = marks_in regions in
+    let s = setup_of d regions in
+    let first = first_in d regions n most in
+    let m = first.left.device in
     let on = (and_parts (runs t) (is_signalled (visible_events d) t.status) can).0 in
     let starts : begins d n most ≡ true = ap (λ (b : Bool). b && runs_at d n) (lt-ltb 0 most some) ∙ ap runs_if found ∙ on in
-    elim (call_is (begins d n most) d regions n most x.middle x.lent x.first x.call) [
-      | inl idle ↦ true≢false (sym starts ∙ idle.off)
-      | inr one ↦
-          let v = one.thread in
-          let is = one_thread d.threads n v t one.found found in
-          let u = After d v regions n most x.middle x.lent x.first one.call in
-          let there = call_found d v regions n most x.middle x.lent x.first one.call one.found in
-          let differs = call_differs d v regions n most x.middle x.lent x.first one.call h.few (ap (can_step (visible_events d)) is ∙ can) in
-          elim (call_is (follows x.middle n x.first) x.middle x.lent n 1 e left x.second x.one_more) [
-            | inl idle ↦
-                let back = same_in d e n v u same one.found (ap (λ (w : DeviceValue). slice_get w.threads n) idle.device ∙ there) in
-                elim differs [
-                  | inl up ↦ let old = ap (λ (w : Thread). w.channel.taken) back in absurd (omega (arith, up, old))
-                  | inr other ↦ other.0 (ap (λ (w : Thread). w.status) back)
-                ]
-            | inr two ↦
-                elim differs [
-                  | inl up ↦
-                      let w = two.thread in
-                      let mid = one_thread x.middle.threads n w u two.found there in
-                      let z = After x.middle w x.lent n 1 e left x.second two.call in
-                      let back = same_in d e n v z same one.found (call_found x.middle w x.lent n 1 e left x.second two.call two.found) in
-                      let more = call_keeps_count x.middle w x.lent n 1 e left x.second two.call in
-                      let old = ap (λ (k : Thread). k.channel.taken) back in
-                      let new = ap (λ (k : Thread). k.channel.taken) mid in
-                      absurd (omega (arith, up, more, old, new))
-                  | inr other ↦
-                      let goes = (and_parts (may_follow x.middle n x.first) (runs_at x.middle n) two.on).0 in
-                      let raised = (and_parts (raises x.middle x.first.signal) _ goes).0 in
-                      true≢false (sym raised ∙ ap (raises x.middle) other.1)
-                ]
+    let one : Executes (begins d n most) n s = record { on = starts; thread = t; found = found } in
+    let u = thread_left marks most t s in
+    let there : slice_get m.threads n ≡ Some u = call_found marks n most s (begins d n most) one in
+    let differs = call_differs marks most t s h.few can in
+    elim (call_is (follows m n first.called) marks n 1 first.left) [
+      | inl rests ↦
+          let back = same_in d e n t u same found (ap (λ (w : DeviceValue). slice_get w.threads n) (sym (turn_device x)) ∙ ap (λ (o : Outcome). slice_get o.left.device.threads n) rests.is ∙ there) in
+          elim differs [
+            | inl up ↦ let old = ap (λ (w : Thread). w.channel.taken) back in absurd (omega (arith, up, old))
+            | inr other ↦ other.0 (ap (λ (w : Thread). w.status) back)
+          ]
+      | inr two ↦
+          elim differs [
+            | inl up ↦
+                let w = two.thread in
+                let mid = one_thread m.threads n w u two.found there in
+                let z = thread_left marks 1 w first.left in
+                let back = same_in d e n t z same found (ap (λ (v : DeviceValue). slice_get v.threads n) (sym (turn_device x)) ∙ call_found marks n 1 first.left (follows m n first.called) two) in
+                let more = call_keeps_count marks 1 w first.left in
+                let old = ap (λ (k : Thread). k.channel.taken) back in
+                let new = ap (λ (k : Thread). k.channel.taken) mid in
+                absurd (omega (arith, up, more, old, new))
+            | inr other ↦
+                let goes = (and_parts (may_follow m n first.called) (runs_at m n) two.on).0 in
+                let raised = (and_parts (raises m first.called.signal) _ goes).0 in
+                let none : first.called.signal ≡ None = ap (λ (o : Outcome). o.called.signal) (call_acts marks most one) ∙ other.1 in
+                true≢false (sym raised ∙ ap (raises m) none)
           ]
     ]

@@ -1,38 +1,36 @@
 -- What a turn makes of the lines irq[31:0].
-use Rattle.std.proofs.Common.{◌≡◌, ◌≢◌, ◌∙◌, ◌⊎◌, ℕ, zero, suc, ◌+◌, ◌-◌, ◌^◌, ◌<◌, Bool, true, false, ◌&&◌, List, [], ◌∷◌, length, get_or, set, Option, Some, None, Result, Ok, Err, ap, refl, sym, subst, arith, inl, inr, true≢false, bit_and, w32}
-use Rattle.std.specs.Prelude.{◌↔◌, if◌then◌else◌, min, max, nat_eq, nat_lt, slice_index_or}
+use Rattle.std.proofs.Common.{◌≡◌, ◌≢◌, ◌∙◌, ◌⊎◌, ℕ, zero, suc, ◌-◌, ◌^◌, ◌<◌, Bool, true, false, List, [], ◌∷◌, length, get_or, set, Option, Some, None, Result, Ok, Err, ap, refl, sym, subst, arith, inl, inr, true≢false, bit_and, w32}
+use Rattle.std.specs.Prelude.{◌↔◌, min, max, nat_eq}
 use Rattle.std.specs.Int.{bit_at, bit_not}
 use Rattle.std.proofs.lemmas.Bool.{cases_eq, ne_eqb}
 use Rattle.std.proofs.lemmas.List.{get_or-set_same, get_or-set_other, length-set}
 use Rattle.std.proofs.lemmas.Nat.Bits.{bit_at-lt, bit_at_and, bit_at_not, bit_at_ones, bit_at_or}
+use Rattle.dma_insn.specs.ControlWord.{flag}
 use Rattle.dma_insn.specs.declared.insn.Insn.{Insn}
 use Rattle.dma_insn.specs.declared.insn.Insn.TheVariants.{Mov, Ld, St, Rmb, Wmb, Nop, End, Lp, LpEnd, Sev, Wfe}
-use Rattle.dma_insn.specs.declared.insn.Reg.TheVariants.{Sar, Ccr, Dar}
-use Rattle.dma_mem.specs.declared.marks.MarkKind.TheVariants.{Reading, Writing}
 use Rattle.dma_mem.specs.Flags.{flags_of}
 use Rattle.dma_mem.specs.Marking.{MarkList}
-use Rattle.dma_mem.specs.Regions.{image_of, pieces_of}
 use Rattle.dma_mem.specs.declared.regions.Region.{Region}
 use Rattle.dma_mem.proofs.FlagBits.{get_or_flags_of, length_flags_of}
-use Rattle.dma_chan.specs.Bus.{accepts}
-use Rattle.dma_chan.specs.declared.exec.Registers.{Registers}
 use Rattle.dma_chan.specs.declared.turn.ChanTurn.{ChanTurn}
 use Rattle.dma_chan.specs.declared.turn.ChanTurn.TheVariants.{Moved, Waiting, Ended, Fault}
 use Rattle.dma_chan.specs.declared.turn.FaultKind.{FaultKind}
-use Rattle.dma_chan.specs.Bursts.{reaches, burst_len, touched, writes_of}
 use Rattle.dma_chan.specs.Channel.{ahead_of, state_of}
-use Rattle.dma_chan.specs.Exec.{source_of, destination_of, counter_of, State, act, load, store, buffer_size, exec_fetched}
-use Rattle.dma_chan.specs.LentRegions.{with_gaps_of}
-use Rattle.dma_chan.specs.Stepping.{Machine, TakesSteps, after_steps, answer_at, goes_on, goes_on_after, machine, signal_of, signal_after}
+use Rattle.dma_chan.specs.Exec.{State, act, exec_fetched}
+use Rattle.dma_chan.specs.Stepping.{Machine, TakesSteps, after_steps, answer_at, goes_on, goes_on_after, signal_of, signal_after}
 use Rattle.dma_chan.proofs.SteppedOver.{went_before}
-use Rattle.dma_device.specs.declared.device.turns.Called.{Called}
+use Rattle.dma_chan.proofs.StepsTaken.{steps_move}
 use Rattle.dma_device.specs.declared.thread.Thread.{Thread}
 use Rattle.dma_device.specs.Device.{DeviceValue, all_events, irqs}
-use Rattle.dma_device.specs.Interrupts.{HasLine, IsHigh}
-use Rattle.dma_device.specs.Turns.{CallsIf, CallsThread, TakesTurn, may_follow, runs_at, visible_events, with_flags}
+use Rattle.dma_device.specs.CallSteps.{first_in, marks_in, second_in}
+use Rattle.dma_device.specs.Interrupts.{HasLine, IsHigh, TurnSignals}
+use Rattle.dma_device.specs.Turns.{Outcome, Setup, TakesTurn, begins, called_if, follows, last_in, machine_in, machine_left, number_of, setup_of, signal_in, stepped, steps_in, visible_events, with_flags}
 use Rattle.dma_device.specs.declared.device.turns.Turn.{Turn}
 use Rattle.dma_device.proofs.CallKeeps.{if_config, if_inten}
-use Rattle.dma_device.proofs.Calls.{call_is}
+use Rattle.dma_device.proofs.Calls.{call_acts, call_is, takes, turn_device}
+use Rattle.dma_device.proofs.FlagNumber.{number_bit}
+use Rattle.dma_device.proofs.FlagSteps.{act_flags, steps_flags}
+use Rattle.dma_device.proofs.WriteRaises.{has_kept}
 
 -- ---- one step
 
@@ -46,32 +44,10 @@ cleared (x ∷ xs) zero (suc k) h = h
 cleared (x ∷ xs) (suc e) zero h = h
 cleared (x ∷ xs) (suc e) (suc k) h = cleared xs e k h
 
-chosen : (b : Bool) (x y : ChanTurn × State) (k : ℕ) → IsClear k x.1.flags → IsClear k y.1.flags → IsClear k (if b then x else y).1.flags
-chosen true x y k p q = p
-chosen false x y k p q = q
-
-load_clear : (marks : MarkList) (addresses : List ℕ) (r : Registers) (s : State) (k : ℕ) → IsClear k s.flags → IsClear k (load marks addresses r s).1.flags
-load_clear marks addresses r s k h = chosen (reaches Reading marks (length s.image) addresses) _ _ k h h
-
-store_clear : (marks : MarkList) (addresses : List ℕ) (n : ℕ) (writes : List ℕ → List (ℕ × ℕ)) (r : Registers) (s : State) (k : ℕ) → IsClear k s.flags → IsClear k (store marks addresses n writes r s).1.flags
-store_clear marks addresses n writes r s k h = chosen (reaches Writing marks (length s.image) addresses) _ _ k h h
-
 pub act_clear : (marks : MarkList) (i : Insn) (s : State) (k : ℕ) → IsClear k s.flags → signal_of (Ok i) ≢ Some k → IsClear k (act marks i s).1.flags
-act_clear marks (Mov Sar v) s k h other = h
-act_clear marks (Mov Dar v) s k h other = h
-act_clear marks (Mov Ccr v) s k h other = chosen (accepts s.registers.bus v) _ _ k h h
-act_clear marks Ld s k h other = chosen (nat_lt buffer_size (length s.buffer + burst_len (source_of s.registers))) _ _ k h (load_clear marks _ _ s k h)
-act_clear marks St s k h other =
-    let b = destination_of s.registers in
-    chosen (nat_lt (length s.buffer) (burst_len b)) _ _ k h (store_clear marks (touched b) (burst_len b) (writes_of b) _ s k h)
-act_clear marks (Lp c n) s k h other = h
-act_clear marks (LpEnd c back) s k h other = chosen (nat_lt 0 (counter_of c s.registers) && nat_lt s.registers.pc back) _ _ k h h
-act_clear marks (Sev e) s k h other = get_or-set_other s.flags e k true false (λ same. other (ap Some (sym same))) ∙ h
-act_clear marks (Wfe e v) s k h other = chosen (slice_index_or s.flags e false) _ _ k (cleared s.flags e k h) h
-act_clear marks Rmb s k h other = h
-act_clear marks Wmb s k h other = h
-act_clear marks Nop s k h other = h
-act_clear marks End s k h other = h
+act_clear marks i s k h other =
+    act_flags (IsClear k) marks i s h (λ e is. get_or-set_other s.flags e k true false (λ same. other (ap (λ (j : Insn). signal_of (Ok j)) is ∙ ap Some (sym same))) ∙ h)
+    (λ e v is. cleared s.flags e k h)
 
 pub step_clear : (marks : MarkList) (next : Result Insn FaultKind) (s : State) (k : ℕ) → IsClear k s.flags → signal_of next ≢ Some k → IsClear k (exec_fetched marks next s).1.flags
 step_clear marks (Ok i) s k h other = act_clear marks i s k h other
@@ -127,7 +103,7 @@ flag_after marks s v most (suc p) k last steps len below clear signal is =
     let u = after_steps marks s p in
     let next = ahead_of u.channel in
     let state = state_of u.channel u.image u.flags in
-    let before = clear_after marks s k p steps.moves clear in
+    let before = clear_after marks s k p (steps_move steps) clear in
     let flags : v.flags ≡ (exec_fetched marks next state).1.flags = ap (λ (m : Machine). m.flags) steps.ends_at in
     elim (is_signal signal k) [
       | inl here ↦
@@ -195,17 +171,23 @@ hidden d k below range on =
     let none : bit_at (visible_events d) k ≡ 0 = omega arith in
     get_or_flags_of (visible_events d) k below ∙ ap (λ (m : ℕ). nat_eq m 1) none
 
-call_raises : (d : DeviceValue) (t : Thread) (regions : List Region) (n most : ℕ) (e : DeviceValue) (left : List Region) (called : Called) (k : ℕ) → HasLine d k → CallsThread d t regions n most e left called → CallRaises d e called.signal k
-call_raises d t regions n most e left called k has x =
+call_raises : (marks : MarkList) (n most : ℕ) (t : Thread) (s : Setup) (k : ℕ) → HasLine s.device k → let o = stepped marks n most t s in CallRaises s.device o.left.device o.called.signal k
+call_raises marks n most t s k has =
+    let d = s.device in
     let below : k < 32 = omega (arith, has.events, has.event) in
-    let lines : irqs e ≡ irqs (with_flags x.flags d) = ap irqs x.device in
-    by_bits (bit_at d.interrupts k) (bit_at d.inten k) (bit_at x.flags k) (bit_at (irqs e) k) called.signal k
-    (bit_at-lt d.interrupts k) (bit_at-lt d.inten k) (bit_at-lt x.flags k)
-    (ap (λ (m : ℕ). bit_at m k) lines ∙ line_after x.flags k d has.event)
+    let from = machine_in s t in
+    let count = steps_in marks most t s in
+    let to = machine_left marks most t s in
+    let flags = number_of to.flags in
+    let signal = signal_in marks most t s in
+    let long : length to.flags ≡ 32 = steps_flags marks from count ∙ length_flags_of (visible_events d) in
+    let bit : bit_at flags k ≡ flag (get_or to.flags k false) = number_bit to.flags k (omega (arith, long)) in
+    by_bits (bit_at d.interrupts k) (bit_at d.inten k) (bit_at flags k) (bit_at (irqs (with_flags flags d)) k) signal k
+    (bit_at-lt d.interrupts k) (bit_at-lt d.inten k) (bit_at-lt flags k) (line_after flags k d has.event)
     (λ on.
-    elim (flag_after (with_gaps_of regions []) (machine t.channel (image_of (pieces_of regions)) (flags_of (visible_events d))) (machine x.channel (image_of (pieces_of left)) (flags_of x.flags)) most x.taken k x.last x.steps (length_flags_of x.flags) below (hidden d k below has.inten on) called.signal x.signal) [
-      | inl here ↦ inl (here.0, flag_bit x.flags k below here.1)
-      | inr other ↦ inr (other.0, no_bit x.flags k below other.1)
+    elim (flag_after marks from to most count k (last_in marks most t s) (takes marks most t s) long below (hidden d k below has.inten on) signal refl) [
+      | inl here ↦ inl (here.0, bit ∙ ap flag here.1)
+      | inr other ↦ inr (other.0, bit ∙ ap flag other.1)
     ])
 
 -- nothing was signalled, and the lines are the same
@@ -215,11 +197,14 @@ same_raises d e signal k lines none = (
   (λ why. elim why [ inl high ↦ subst (λ (m : ℕ). IsHigh m k) (sym lines) high | inr here ↦ absurd (let bad = sym none ∙ here.1 in cc) ]),
 )
 
-if_raises : (b : Bool) (d : DeviceValue) (regions : List Region) (n most : ℕ) (e : DeviceValue) (left : List Region) (called : Called) (k : ℕ) → HasLine d k → CallsIf b d regions n most e left called → CallRaises d e called.signal k
-if_raises b d regions n most e left called k has x = elim (call_is b d regions n most e left called x) [
-  | inl idle ↦ same_raises d e called.signal k (ap irqs idle.device) (ap (λ (c : Called). c.signal) idle.none)
-  | inr does ↦ call_raises d does.thread regions n most e left called k has does.call
-]
+if_raises : (made : Bool) (marks : MarkList) (n most : ℕ) (s : Setup) (k : ℕ) → HasLine s.device k → let o = called_if made marks n most s in CallRaises s.device o.left.device o.called.signal k
+if_raises made marks n most s k has =
+    let o = called_if made marks n most s in
+    elim (call_is made marks n most s) [
+      | inl rests ↦ same_raises s.device o.left.device o.called.signal k (ap (λ (w : Outcome). irqs w.left.device) rests.is) (ap (λ (w : Outcome). w.called.signal) rests.is)
+      | inr does ↦
+          subst (λ (w : Outcome). CallRaises s.device w.left.device w.called.signal k) (sym (call_acts marks most does)) (call_raises marks n most does.thread s k has)
+    ]
 
 -- ---- a turn
 
@@ -242,29 +227,32 @@ both d m e first second k same one two = (
 
 -- After a turn line k is high exactly if it was high before, or the turn executed a DMASEV of it while INTEN made it an
 -- interrupt.
-pub turn_raises : (d e : DeviceValue) (regions left : List Region) (n most k : ℕ) (turn : Turn) → (x : TakesTurn d regions n most e left turn) → HasLine d k → IsHigh (irqs e) k ↔ (IsHigh (irqs d) k ⊎ (IsHigh d.inten k × ((x.first.signal ≡ Some k) ⊎ (x.second.signal ≡ Some k))))
+pub turn_raises : (d e : DeviceValue) (regions left : List Region) (n most k : ℕ) (turn : Turn) → TakesTurn d regions n most e left turn → HasLine d k → IsHigh (irqs e) k ↔ (IsHigh (irqs d) k ⊎ (IsHigh d.inten k × TurnSignals d regions n most k))
 turn_raises d e regions left n most k turn x has =
-    let begins = nat_lt 0 most && runs_at d n in
-    let goes_on = may_follow x.middle n x.first && runs_at x.middle n in
-    let same = if_inten begins d regions n most x.middle x.lent x.first x.call in
-    let config = if_config begins d regions n most x.middle x.lent x.first x.call in
-    let there : HasLine x.middle k = record {
-      events = rw config has.events;
-      event = rw config has.event;
-      inten = rw same has.inten;
-    } in
-    both d x.middle e x.first.signal x.second.signal k same
-    (if_raises begins d regions n most x.middle x.lent x.first k has x.call)
-    (if_raises goes_on x.middle x.lent n 1 e left x.second k there x.one_more)
+    let marks = marks_in regions in
+    let s = setup_of d regions in
+    let first = first_in d regions n most in
+    let m = first.left.device in
+    let second = second_in d regions n most in
+    let same : m.inten ≡ d.inten = if_inten (begins d n most) marks n most s in
+    let config : m.config ≡ d.config = if_config (begins d n most) marks n most s in
+    both d m e first.called.signal second.called.signal k same (if_raises (begins d n most) marks n most s k has)
+    (subst (λ (v : DeviceValue). CallRaises m v second.called.signal k) (turn_device x)
+    (if_raises (follows m n first.called) marks n 1 first.left k (has_kept k d m config same has)))
 
--- a turn leaves INTEN as it is
+-- a turn leaves INTEN and the configuration as they are
 pub turn_inten : (d e : DeviceValue) (regions left : List Region) (n most : ℕ) (turn : Turn) → TakesTurn d regions n most e left turn → e.inten ≡ d.inten
 turn_inten d e regions left n most turn x =
-    if_inten (may_follow x.middle n x.first && runs_at x.middle n) x.middle x.lent n 1 e left x.second x.one_more
-    ∙ if_inten (nat_lt 0 most && runs_at d n) d regions n most x.middle x.lent x.first x.call
+    let marks = marks_in regions in
+    let first = first_in d regions n most in
+    ap (λ (v : DeviceValue). v.inten) (sym (turn_device x))
+    ∙ if_inten (follows first.left.device n first.called) marks n 1 first.left
+    ∙ if_inten (begins d n most) marks n most (setup_of d regions)
 
--- a turn leaves the configuration as it is
 pub turn_config : (d e : DeviceValue) (regions left : List Region) (n most : ℕ) (turn : Turn) → TakesTurn d regions n most e left turn → e.config ≡ d.config
 turn_config d e regions left n most turn x =
-    if_config (may_follow x.middle n x.first && runs_at x.middle n) x.middle x.lent n 1 e left x.second x.one_more
-    ∙ if_config (nat_lt 0 most && runs_at d n) d regions n most x.middle x.lent x.first x.call
+    let marks = marks_in regions in
+    let first = first_in d regions n most in
+    ap (λ (v : DeviceValue). v.config) (sym (turn_device x))
+    ∙ if_config (follows first.left.device n first.called) marks n 1 first.left
+    ∙ if_config (begins d n most) marks n most (setup_of d regions)

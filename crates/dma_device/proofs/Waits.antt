@@ -21,14 +21,14 @@ use Rattle.dma_mem.specs.declared.segment.Segment.{Segment}
 use Rattle.dma_mem.proofs.FlagBits.{get_or_flags_of}
 use Rattle.dma_chan.specs.Channel.{ChannelValue, ahead_of, last_count, state_of}
 use Rattle.dma_chan.specs.Exec.{ChangesNothing, exec_fetched}
-use Rattle.dma_chan.specs.LentRegions.{segment_of, with_gaps_of}
-use Rattle.dma_chan.specs.Stepping.{Machine, TakesSteps, answer_at, machine, signal_after, signal_of, written_after}
+use Rattle.dma_chan.specs.LentRegions.{segment_of}
+use Rattle.dma_chan.specs.Stepping.{Machine, TakesSteps, answer_at, signal_after, signal_of, written_after}
 use Rattle.dma_chan.specs.Written.{also_written, joined, range_at, store_ahead}
 use Rattle.dma_chan.specs.declared.turn.ChanTurn.{ChanTurn}
 use Rattle.dma_chan.specs.declared.turn.ChanTurn.TheVariants.{Waiting}
 use Rattle.dma_chan.specs.declared.turn.FaultKind.{FaultKind}
+use Rattle.dma_chan.proofs.StepsTaken.{steps_move, steps_stop}
 use Rattle.dma_chan.proofs.SteppedOver.{is_still, was_moved, went_before}
-use Rattle.dma_device.specs.declared.device.turns.Called.{Called}
 use Rattle.dma_device.specs.declared.device.turns.Turn.{Turn}
 use Rattle.dma_device.specs.declared.thread.Status.{Status}
 use Rattle.dma_device.specs.declared.thread.Status.TheVariants.{Stopped, Executing, WaitingForEvent, Faulting}
@@ -36,12 +36,12 @@ use Rattle.dma_device.specs.declared.thread.Thread.{Thread}
 use Rattle.dma_device.specs.Accesses.{AreAlike}
 use Rattle.dma_device.specs.Device.{DeviceValue, all_events, irq_abort, with_thread}
 use Rattle.dma_device.specs.Idle.{IsSoundDevice, no_turn}
-use Rattle.dma_device.specs.Run.{number_of, put_from}
+use Rattle.dma_device.specs.Run.{put_from}
 use Rattle.dma_device.specs.Thread.{IsSound, answered, can_step, has_status, is_before_wait, is_signalled, runs, waits_for}
-use Rattle.dma_device.specs.Turns.{CallsIf, CallsThread, TakesTurn, lines_differ, may_follow, nothing, runs_at, runs_if, visible_events, with_flags}
-use Rattle.dma_device.specs.CallSteps.{machine_in}
-use Rattle.dma_device.proofs.Calls.{call_is}
-use Rattle.dma_device.proofs.Runs.{number_is, put_is}
+use Rattle.dma_device.specs.Turns.{Outcome, Setup, TakesTurn, begins, called_if, idle, last_in, lines_differ, machine_in, machine_left, nothing, runs_at, runs_if, second_call, setup_of, stepped, steps_in, visible_events, with_flags}
+use Rattle.dma_device.specs.CallSteps.{first_in, marks_in, second_in}
+use Rattle.dma_device.proofs.Calls.{call_acts, call_is, stepped_is, takes, turn_device, turn_image, turn_lines, turn_written}
+use Rattle.dma_device.proofs.Runs.{put_is}
 
 -- ---- lists of threads
 
@@ -116,7 +116,7 @@ record Still (marks : MarkList) (s w : Machine) (e taken : ℕ) (last : Option C
 
 still_call : (marks : MarkList) (s w : Machine) (most taken e : ℕ) (v : Bool) (last : Option ChanTurn) → 0 < most → TakesSteps marks s most taken last w → ahead_of s.channel ≡ Ok (Wfe e v) → s.channel.taken < last_count → answer_at marks s ≡ Waiting e → Still marks s w e taken last
 still_call marks s w most zero e v last some x next few waits =
-    elim x.stops [
+    elim (steps_stop x) [
       | inl all ↦ absurd (omega arith)
       | inr other ↦ elim other [
         | inl over ↦ absurd (true≢false over)
@@ -133,7 +133,7 @@ still_call marks s w most (suc zero) e v last some x next few waits =
       written = ap (λ (a : ChanTurn). also_written a (store_ahead s.channel) (range_at 0 0)) waits;
     }
 still_call marks s w most (suc (suc j)) e v last some x next few waits =
-    let moved = was_moved (ahead_of s.channel) (answer_at marks s) (went_before marks s 1 (x.moves 1 (omega arith))) in
+    let moved = was_moved (ahead_of s.channel) (answer_at marks s) (went_before marks s 1 (steps_move x 1 (omega arith))) in
     absurd (cc (moved, waits))
 
 -- ---- the device
@@ -184,49 +184,29 @@ same_thread events flags t w =
     here ∙ ap (λ (p : ℕ). let u : Thread = record t { pc = p; status = WaitingForEvent w.event } in u) (sym w.here)
     ∙ ap (λ (s : Status). let u : Thread = record t { status = s } in u) (sym w.status)
 
--- what a call that changes nothing leaves
-pub record Leaves (d : DeviceValue) (regions : List Region) (e : DeviceValue) (left : List Region) (called : Called) : Type 0 where
-  pub device : e ≡ d
-  pub alike : AreAlike left regions
-  pub none : called ≡ nothing
-
-alike_same : (regions left : List Region) → left ≡ regions → AreAlike left regions
-alike_same regions left same = record { pieces = ap pieces_of same; read_only = ap read_only_of same }
-
 pub alike_is : (regions left : List Region) → map segment_of left ≡ map segment_of regions → read_only_of left ≡ read_only_of regions → image_of (pieces_of left) ≡ image_of (pieces_of regions) → AreAlike left regions
 alike_is regions left places access image = record {
   pieces = sym (put_is 0 regions left places) ∙ ap (λ (i : List ℕ). put_from 0 i (pieces_of regions)) image ∙ put_is 0 regions regions refl;
   read_only = access;
 }
 
-waits_still : (d : DeviceValue) (t : Thread) (regions : List Region) (n most : ℕ) (e : DeviceValue) (left : List Region) (called : Called) → IsSoundDevice d → slice_get d.threads n ≡ Some t → 0 < most → (w : Waits d.config.events (visible_events d) t) → CallsThread d t regions n most e left called → Leaves d regions e left called
-waits_still d t regions n most e left called h found some w x =
-    let marks = with_gaps_of regions [] in
-    let s = machine_in d t regions in
+waits_still : (marks : MarkList) (n most : ℕ) (t : Thread) (s : Setup) → IsSoundDevice s.device → slice_get s.device.threads n ≡ Some t → 0 < most → Waits s.device.config.events (visible_events s.device) t → stepped marks n most t s ≡ idle s
+waits_still marks n most t s h found some w =
+    let d = s.device in
+    let from = machine_in s t in
+    let count = steps_in marks most t s in
     let below : w.event < 32 = omega (arith, h.few, w.known) in
-    let clear : get_or s.flags w.event false ≡ false = get_or_flags_of (visible_events d) w.event below ∙ w.clear in
-    let still = still_call marks s (machine x.channel (image_of (pieces_of left)) (flags_of x.flags)) most x.taken w.event w.invalid x.last some x.steps w.next w.few (wait_answers marks s w.event w.invalid w.next clear) in
-    let channel : x.channel ≡ t.channel = ap (λ (m : Machine). m.channel) still.machine in
-    let image : image_of (pieces_of left) ≡ image_of (pieces_of regions) = ap (λ (m : Machine). m.image) still.machine in
+    let clear : get_or from.flags w.event false ≡ false = get_or_flags_of (visible_events d) w.event below ∙ w.clear in
+    let still = still_call marks from (machine_left marks most t s) most count w.event w.invalid (last_in marks most t s) some (takes marks most t s) w.next w.few (wait_answers marks from w.event w.invalid w.next clear) in
     let seen = visible_events d in
     let all : 2 ^ d.config.events ≤ 2 ^ 32 = pow_mono {i = d.config.events} {j = 32} h.few in
-    let seen_few : seen < 2 ^ 32 = omega (arith, and_le_l d.events (bit_not w32 d.inten), h.known.events) in
-    let flags : x.flags ≡ seen = sym (number_is x.flags x.range) ∙ ap number_of (ap (λ (m : Machine). m.flags) still.machine) ∙ number_is seen seen_few in
-    let signal : called.signal ≡ None = x.signal ∙ still.signal in
-    let ev = d.config.events in
-    record {
-      device = x.device
-          ∙ ap (λ (c : ChannelValue). with_thread n (answered ev (record t { channel = c }) x.last called.signal) (with_flags x.flags d)) channel
-          ∙ ap (λ (l : Option ChanTurn). with_thread n (answered ev (record t { channel = t.channel }) l called.signal) (with_flags x.flags d)) still.answer
-          ∙ ap (λ (o : Option ℕ). with_thread n (answered ev (record t { channel = t.channel }) (Some (Waiting w.event)) o) (with_flags x.flags d)) signal
-          ∙ ap (λ (u : Thread). with_thread n u (with_flags x.flags d)) (same_thread ev seen t w)
-          ∙ ap (λ (f : ℕ). with_thread n t (with_flags f d)) flags
-          ∙ ap (with_thread n t) (events_back d h)
-          ∙ ap (λ (ts : List Thread). let v : DeviceValue = record d { threads = ts } in v) (put_back d.threads n t found);
-      alike = alike_is regions left x.places x.read_only image;
-      none = ap (λ (r : Segment). let c : Called = record { written = r; signal = called.signal } in c) (x.written ∙ still.written)
-          ∙ ap (λ (o : Option ℕ). let c : Called = record { written = range_at 0 0; signal = o } in c) signal;
-    }
+    let few : seen < 2 ^ 32 = omega (arith, and_le_l d.events (bit_not w32 d.inten), h.known.events) in
+    let waits : TakesSteps marks from most count (Some (Waiting w.event)) from = record { count = refl; answer = sym still.answer; ends_at = sym still.machine } in
+    let after : DeviceValue → Outcome = (λ e. record { left = record { device = e; image = s.image }; called = nothing }) in
+    stepped_is marks n most t s t.channel s.image seen count (Some (Waiting w.event)) nothing few waits (sym still.signal) (sym still.written)
+    ∙ ap (λ (u : Thread). after (with_thread n u (with_flags seen d))) (same_thread d.config.events seen t w)
+    ∙ ap (λ (e : DeviceValue). after (with_thread n t e)) (events_back d h)
+    ∙ ap (λ (ts : List Thread). let e : DeviceValue = record d { threads = ts } in after e) (put_back d.threads n t found)
 
 runs_found : (d : DeviceValue) (n : ℕ) (t : Thread) → slice_get d.threads n ≡ Some t → runs_at d n ≡ true → runs t ≡ true
 runs_found d n t found on = sym (ap runs_if found) ∙ on
@@ -237,12 +217,12 @@ waits_here d n t h idle found on =
     idle_waits d.config.events (visible_events d) t (all_at (IsSound d.config.events) d.threads n t h.threads found) (runs_found d n t found on)
     (any_at (can_step (visible_events d)) d.threads n t idle found)
 
-pub call_leaves : (b : Bool) (d : DeviceValue) (regions : List Region) (n most : ℕ) (e : DeviceValue) (left : List Region) (called : Called) → IsSoundDevice d → list_any (can_step (visible_events d)) d.threads ≡ false → (b ≡ true → (0 < most) × (runs_at d n ≡ true)) → CallsIf b d regions n most e left called → Leaves d regions e left called
-call_leaves b d regions n most e left called h idle on x = elim (call_is b d regions n most e left called x) [
-  | inl none ↦ record { device = none.device; alike = alike_same regions left none.same; none = none.none }
-  | inr does ↦
-      waits_still d does.thread regions n most e left called h does.found (on does.on).0
-      (waits_here d n does.thread h idle does.found (on does.on).1) does.call
+call_rests : (made : Bool) (marks : MarkList) (n most : ℕ) (s : Setup) → IsSoundDevice s.device → list_any (can_step (visible_events s.device)) s.device.threads ≡ false → (made ≡ true → (0 < most) × (runs_at s.device n ≡ true)) → called_if made marks n most s ≡ idle s
+call_rests made marks n most s h none on = elim (call_is made marks n most s) [
+  | inl rests ↦ rests.is
+  | inr acts ↦
+      call_acts marks most acts
+      ∙ waits_still marks n most acts.thread s h acts.found (on acts.on).0 (waits_here s.device n acts.thread h none acts.found (on acts.on).1)
 ]
 
 -- ---- a turn
@@ -264,16 +244,18 @@ pub record Rests (d : DeviceValue) (regions : List Region) (e : DeviceValue) (le
   pub report : turn ≡ no_turn
 
 pub turn_rests : (d : DeviceValue) (regions : List Region) (n most : ℕ) (e : DeviceValue) (left : List Region) (turn : Turn) → IsSoundDevice d → list_any (can_step (visible_events d)) d.threads ≡ false → TakesTurn d regions n most e left turn → Rests d regions e left turn
-turn_rests d regions n most e left turn h idle x =
-    let begins = nat_lt 0 most && runs_at d n in
-    let follows = may_follow x.middle n x.first && runs_at x.middle n in
-    let one = call_leaves begins d regions n most x.middle x.lent x.first h idle (λ on. (let w = and_parts (nat_lt 0 most) (runs_at d n) on in (ltb-true 0 most w.0, w.1))) x.call in
-    let stops : follows ≡ false = ap (λ (c : Called). may_follow x.middle n c && runs_at x.middle n) one.none in
-    let two = subst (λ (b : Bool). CallsIf b x.middle x.lent n 1 e left x.second) stops x.one_more in
-    let device = two.0 ∙ one.device in
+turn_rests d regions n most e left turn h none x =
+    let marks = marks_in regions in
+    let s = setup_of d regions in
+    let one : first_in d regions n most ≡ idle s = call_rests (begins d n most) marks n most s h none (λ on. (let w = and_parts (nat_lt 0 most) (runs_at d n) on in (ltb-true 0 most w.0, w.1))) in
+    let two : second_in d regions n most ≡ idle s = ap (second_call marks n) one in
+    let device : e ≡ d = sym (turn_device x) ∙ ap (λ (o : Outcome). o.left.device) two in
+    let image : image_of (pieces_of left) ≡ image_of (pieces_of regions) = sym (turn_image x) ∙ ap (λ (o : Outcome). o.left.image) two in
+    let range : turn.written ≡ range_at 0 0 = sym (turn_written x) ∙ ap (λ (o : Outcome). joined o.called.written (second_call marks n o).called.written) one in
     record {
       device = device;
-      alike = record { pieces = ap pieces_of two.1 ∙ one.alike.pieces; read_only = ap read_only_of two.1 ∙ one.alike.read_only };
-      report = ap (λ (r : Segment). let v : Turn = record { written = r; lines_changed = turn.lines_changed } in v) (x.written ∙ ap (λ (c : Called). joined c.written x.second.written) one.none ∙ ap (λ (c : Called). joined (range_at 0 0) c.written) two.2)
-          ∙ ap (λ (b : Bool). let v : Turn = record { written = range_at 0 0; lines_changed = b } in v) (x.lines ∙ lines_same d e device);
+      alike = alike_is regions left x.kept.places x.kept.read_only image;
+      report = ap (λ (r : Segment). let v : Turn = record { written = r; lines_changed = turn.lines_changed } in v) range
+          ∙ ap (λ (b : Bool). let v : Turn = record { written = range_at 0 0; lines_changed = b } in v)
+          (sym (turn_lines x) ∙ ap (λ (o : Outcome). lines_differ d o.left.device) two ∙ lines_same d d refl);
     }

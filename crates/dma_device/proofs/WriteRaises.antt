@@ -8,6 +8,7 @@ use Rattle.std.proofs.lemmas.Bool.{and_parts, cases_eq, eq-eqb, eqb-false, eqb-t
 use Rattle.std.proofs.lemmas.Nat.Bits.{bit_at-lt, bit_at_and, bit_at_not, bit_at_or, bit_at-pow_other, bit_at-pow_same}
 use Rattle.dma_insn.specs.ControlWord.{field}
 use Rattle.dma_mem.specs.Regions.{Piece}
+use Rattle.dma_device.specs.Offsets as offset
 use Rattle.dma_device.specs.declared.thread.Thread.{Thread}
 use Rattle.dma_device.specs.Device.{DeviceValue, all_events, by_manager, by_thread, go, irqs, is_event, is_interrupt, manager_failed, program_at, signalled, with_thread, written}
 use Rattle.dma_device.specs.Interrupts.{DebugSignals, HasLine, IsHigh, can_debug, is_fine}
@@ -28,12 +29,12 @@ by_intclr r i v line rb ib vb is = (
 )
 
 -- after a write to INTCLR line k is high exactly if it was high before, and the write doesn't clear it
-pub intclr_lowers : (d : DeviceValue) (ram : List Piece) (value k : ℕ) → HasLine d k → IsHigh (irqs (written ram 0x02C value d)) k ↔ (IsHigh (irqs d) k × ¬ (IsHigh value k × IsHigh d.inten k))
+pub intclr_lowers : (d : DeviceValue) (ram : List Piece) (value k : ℕ) → HasLine d k → IsHigh (irqs (written ram offset.intclr value d)) k ↔ (IsHigh (irqs d) k × ¬ (IsHigh value k × IsHigh d.inten k))
 intclr_lowers d ram value k has =
     let below : k < 32 = omega (arith, has.events, has.event) in
     let cleared = bit_and value d.inten in
     let few : cleared < 2 ^ 32 = omega (arith, and_le_r value d.inten, has.inten) in
-    by_intclr (bit_at d.interrupts k) (bit_at d.inten k) (bit_at value k) (bit_at (irqs (written ram 0x02C value d)) k)
+    by_intclr (bit_at d.interrupts k) (bit_at d.inten k) (bit_at value k) (bit_at (irqs (written ram offset.intclr value d)) k)
     (bit_at-lt d.interrupts k) (bit_at-lt d.inten k) (bit_at-lt value k)
     (bit_at_and d.interrupts (bit_not w32 cleared) k
     ∙ ap (λ (m : ℕ). min (bit_at d.interrupts k) m) (
@@ -56,14 +57,14 @@ kept : (k : ℕ) (d e : DeviceValue) → HasLine d k → irqs e ≡ irqs d → e
 kept k d e has lines events config inten = record { lines = lines; events = events; has = has_kept k d e config inten has }
 
 -- a write to any register but INTCLR and DBGCMD leaves the lines as they are
-pub others_keep_lines : (d : DeviceValue) (ram : List Piece) (at value k : ℕ) → HasLine d k → at ≢ 0x02C → at ≢ 0xD04 → Keeps k d (written ram at value d)
+pub others_keep_lines : (d : DeviceValue) (ram : List Piece) (at value k : ℕ) → HasLine d k → at ≢ offset.intclr → at ≢ offset.dbgcmd → Keeps k d (written ram at value d)
 others_keep_lines d ram at value k has not_intclr not_dbgcmd =
     let all : 2 ^ d.config.events ≤ 2 ^ 32 = pow_mono {i = d.config.events} {j = 32} has.events in
     let few : bit_and value (all_events d) < 2 ^ 32 = omega (arith, and_le_r value (all_events d)) in
     write_cases (Keeps k d) ram at value d (record {
       inten = record { lines = refl; events = refl; has = record { events = has.events; event = has.event; inten = few } };
-      intclr = λ is. absurd (true≢false (sym is ∙ ne_eqb at 0x02C not_intclr));
-      dbgcmd = λ is. absurd (true≢false (sym is ∙ ne_eqb at 0xD04 not_dbgcmd));
+      intclr = λ is. absurd (true≢false (sym is ∙ ne_eqb at offset.intclr not_intclr));
+      dbgcmd = λ is. absurd (true≢false (sym is ∙ ne_eqb at offset.dbgcmd not_dbgcmd));
       dbginst0 = kept k d (record d { dbginst0 = value }) has refl refl refl refl;
       dbginst1 = kept k d (record d { dbginst1 = value }) has refl refl refl refl;
       other = kept k d d has refl refl refl refl;
@@ -250,7 +251,7 @@ module _ (kind : Bool) where
 
   -- after a write to DBGCMD bit k of the word is 1 exactly if it was 1 before, or the write executed a DMASEV of event k
   -- that sets it
-  pub dbgcmd_raises : (d : DeviceValue) (ram : List Piece) (value k : ℕ) → Rises kind d (written ram 0xD04 value d) k (Sets kind d k × DebugSignals d value k)
+  pub dbgcmd_raises : (d : DeviceValue) (ram : List Piece) (value k : ℕ) → Rises kind d (written ram offset.dbgcmd value d) k (Sets kind d k × DebugSignals d value k)
   dbgcmd_raises d ram value k =
       let w = d.dbginst0 in
       let opcode = field 16 8 w in

@@ -1,5 +1,5 @@
 -- What a turn writes lies in the regions, and in none that is read-only.
-use Rattle.std.proofs.Common.{◌≡◌, ◌∙◌, ◌⊎◌, ℕ, zero, suc, ◌+◌, ◌-◌, ◌<◌, ◌≤◌, Bool, true, false, ◌&&◌, ◌||◌, List, [], ◌∷◌, ◌++◌, length, map, get_or, Result, Ok, ap, refl, sym, subst, arith, inl, inr, true≢false}
+use Rattle.std.proofs.Common.{◌≡◌, ◌∙◌, ◌⊎◌, ℕ, zero, suc, ◌+◌, ◌-◌, ◌<◌, ◌≤◌, Bool, true, false, ◌&&◌, ◌||◌, List, [], ◌∷◌, ◌++◌, length, get_or, Result, Ok, ap, refl, sym, subst, arith, inl, inr, true≢false}
 use Rattle.std.specs.Prelude.{nat_lt, not}
 use Rattle.std.specs.List.{Contains, list_all, list_any}
 use borrow.Author.Tests.{ltb-true}
@@ -20,19 +20,14 @@ use Rattle.dma_chan.specs.declared.turn.FaultKind.{FaultKind}
 use Rattle.dma_chan.specs.Bursts.{burst_len, reaches, touched}
 use Rattle.dma_chan.specs.Channel.{ahead_of, state_of}
 use Rattle.dma_chan.specs.Exec.{State, act, destination_of, exec_fetched}
-use Rattle.dma_chan.specs.LentRegions.{segment_of}
 use Rattle.dma_chan.specs.NextWrites.{written_by}
 use Rattle.dma_chan.specs.Stepping.{Machine, Wrote, after_steps}
 use Rattle.dma_chan.proofs.PlacesKept.{long_above}
 use Rattle.dma_chan.proofs.SteppedOver.{steps_size}
-use Rattle.dma_device.specs.declared.device.turns.Called.{Called}
-use Rattle.dma_device.specs.CallSteps.{machine_in, marks_in}
-use Rattle.dma_device.specs.Device.{DeviceValue}
-use Rattle.dma_device.specs.Turns.{TakesTurn, begins, follows}
+use Rattle.dma_device.specs.CallSteps.{first_in, marks_in}
+use Rattle.dma_device.specs.Turns.{Setup, begins, follows, machine_in, setup_of, steps_in}
 use Rattle.dma_device.specs.Writes.{CallWrote, TurnWritesInRegions}
-use Rattle.dma_device.proofs.CallKeeps.{if_places, if_read_only}
-use Rattle.dma_device.proofs.InOrder.{in_order_kept}
-use Rattle.dma_device.proofs.Writes.{turn_writes_each}
+use Rattle.dma_device.proofs.Writes.{call_keeps, turn_writes_each}
 
 -- ---- a store that moved
 
@@ -93,32 +88,22 @@ in_piece at (p ∷ ps) a order from below gaps =
 abbrev IsWritable : List Region → ℕ → Type 0
 IsWritable regions a = (list_any (has a) (pieces_of regions) ≡ true) × (lies_in_any (read_only_of regions) a ≡ false)
 
-call_within : (b : Bool) (d : DeviceValue) (regions : List Region) (n most : ℕ) (e : DeviceValue) (left : List Region) (called : Called) (a : ℕ) → in_order (pieces_of regions) ≡ true → CallWrote b d regions n most e left called a → IsWritable regions a
-call_within b d regions n most e left called a order w =
+call_within : (regions : List Region) (n a : ℕ) (made : Bool) (most : ℕ) (s : Setup) → in_order (pieces_of regions) ≡ true → length s.image ≡ length (image_of (pieces_of regions)) → CallWrote (marks_in regions) n a made most s → IsWritable regions a
+call_within regions n a made most s order size w =
     let marks = marks_in regions in
-    let test = wrote_fits marks (machine_in d w.0.thread regions) w.0.call.taken a w.1 in
-    let parts = and_parts (nat_lt a (length (image_of (pieces_of regions)))) (not (is_marked Writing marks a)) test in
+    let test = wrote_fits marks (machine_in s w.0.thread) (steps_in marks most w.0.thread s) a w.1 in
+    let parts = and_parts (nat_lt a (length s.image)) (not (is_marked Writing marks a)) test in
     let free : is_marked Writing marks a ≡ false = not-true (is_marked Writing marks a) parts.1 in
     let others = stores_at (read_only_of regions) ++ [] in
     let both = or_parts (lies_in_any (gaps_of (pieces_of regions)) a) (is_marked Writing others a) (sym (is_marked_at Writing (gaps_of (pieces_of regions)) others a) ∙ free) in
     let writable = or_parts (lies_in_any (read_only_of regions) a) (is_marked Writing [] a) (sym (stores_in (read_only_of regions) [] a) ∙ both.1) in
-    (in_piece 0 (pieces_of regions) a order (omega arith) (omega (arith, ltb-true a (length (image_of (pieces_of regions))) parts.0)) both.0, writable.0)
-
--- whether an address lies in a region depends on the places alone
-has_is : (rs : List Region) (a : ℕ) → list_any (has a) (pieces_of rs) ≡ list_any (lies_in a) (map segment_of rs)
-has_is [] a = refl
-has_is (r ∷ rs) a = ap (λ (b : Bool). lies_in a (segment_of r) || b) (has_is rs a)
+    (in_piece 0 (pieces_of regions) a order (omega arith) (omega (arith, size, ltb-true a (length s.image) parts.0)) both.0, writable.0)
 
 pub turn_writes_in_regions : TurnWritesInRegions
 turn_writes_in_regions d regions n most e left turn a order x i =
-    let w = (turn_writes_each d regions n most e left turn x).each a i in by w.0 w.1
-  where
-    by : (y : TakesTurn d regions n most e left turn) → (CallWrote (begins d n most) d regions n most y.middle y.lent y.first a ⊎ CallWrote (follows y.middle n y.first) y.middle y.lent n 1 e left y.second a) → IsWritable regions a
-    by y (inl w) = call_within (begins d n most) d regions n most y.middle y.lent y.first a order w
-    by y (inr w) =
-        let places = if_places (begins d n most) d regions n most y.middle y.lent y.first y.call in
-        let access = if_read_only (begins d n most) d regions n most y.middle y.lent y.first y.call in
-        let there = call_within (follows y.middle n y.first) y.middle y.lent n 1 e left y.second a (in_order_kept regions y.lent places order) w in (
-          has_is regions a ∙ ap (λ (ss : List Segment). list_any (lies_in a) ss) (sym places) ∙ sym (has_is y.lent a) ∙ there.0,
-          ap (λ (ss : List Segment). lies_in_any ss a) (sym access) ∙ there.1,
-        )
+    let s = setup_of d regions in
+    let first = first_in d regions n most in
+    elim ((turn_writes_each d regions n most e left turn x).each a i) [
+      | inl w ↦ call_within regions n a (begins d n most) most s order refl w
+      | inr w ↦ call_within regions n a (follows first.left.device n first.called) 1 first.left order (call_keeps (begins d n most) (marks_in regions) n most s).size w
+    ]

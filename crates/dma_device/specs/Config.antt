@@ -12,9 +12,16 @@ revision_code R1p0 = 1
 revision_code R1p1 = 2
 revision_code R1p2 = 3
 
+abbrev pub most_events : ℕ
+most_events = 32
+
+-- (DMA-330 manual, CRD: bits 29:20 are the number of lines less 1)
+abbrev pub most_lines : ℕ
+most_lines = 1024
+
 -- Whether a device can have this configuration: 1 to 8 channels, 1 to 32 events, and a buffer of 1 to 1,024 lines, each
--- as wide as the bus (DMA-330 manual, CRD: bits 29:20 are the number of lines less 1).
+-- as wide as the bus.
 abbrev pub is_valid : Config → Bool
 is_valid g =
-    nat_le 1 g.channels && (nat_le g.channels most_channels && (nat_le 1 g.events && (nat_le g.events 32
-    && (nat_le 1 g.lines && nat_le g.lines 1024))))
+    nat_le 1 g.channels && (nat_le g.channels most_channels && (nat_le 1 g.events && (nat_le g.events most_events
+    && (nat_le 1 g.lines && nat_le g.lines most_lines))))

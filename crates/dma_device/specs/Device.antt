@@ -8,6 +8,7 @@ use Rattle.dma_insn.specs.ControlWord.{field, flag}
 use Rattle.dma_chan.specs.declared.exec.Registers.{Registers}
 use Rattle.dma_chan.specs.Bus.{bus_code}
 use Rattle.dma_device.specs.Config.{revision_code}
+use Rattle.dma_device.specs.Offsets as offset
 use Rattle.dma_device.specs.declared.config.Config.{Config}
 use Rattle.dma_device.specs.declared.config.Revision.{Revision}
 use Rattle.dma_device.specs.declared.device.Manager.{Manager}
@@ -80,10 +81,10 @@ of_thread value (Some t) = value t
 -- CCR n, LC0 n and LC1 n from 0x400 + 0x20n on.
 abbrev pub channel_register : List Thread → ℕ → ℕ
 channel_register ts at =
-    if nat_lt at 0x100 then of_thread (λ t. t.fault) (slice_get ts ((at - 0x040) / 4)) else (
-    if nat_lt at 0x400 then
-    of_thread (λ t. if at % 8 == 0 then csr t else t.pc) (slice_get ts ((at - 0x100) / 8)) else
-    of_thread (λ t. address_register t.channel.registers (at % 0x20)) (slice_get ts ((at - 0x400) / 0x20)))
+    if nat_lt at offset.csr then of_thread (λ t. t.fault) (slice_get ts ((at - offset.ftr) / 4)) else (
+    if nat_lt at offset.sar then
+    of_thread (λ t. if at % 8 == 0 then csr t else t.pc) (slice_get ts ((at - offset.csr) / 8)) else
+    of_thread (λ t. address_register t.channel.registers (at % 0x20)) (slice_get ts ((at - offset.sar) / 0x20)))
 
 -- ---- the other registers
 
@@ -127,23 +128,23 @@ id revision at =
 -- DBGCMD (0xD04), DBGINST0 (0xD08) and DBGINST1 (0xD0C).
 abbrev pub device_register : DeviceValue → ℕ → ℕ
 device_register d at =
-    if at == 0x000 then dsr d else (
-    if at == 0x020 then d.inten else (
-    if at == 0x024 then bit_or d.events d.interrupts else (
-    if at == 0x028 then irqs d else (
-    if at == 0x030 then flag d.manager.is_faulting else (
-    if at == 0x034 then faulting_bits d.threads else (
-    if at == 0x038 then d.manager.fault else (
-    if at == 0xE00 then cr0 d.config else (
-    if at == 0xE04 then cr1 else (
-    if at == 0xE0C then cr3 d else (
-    if at == 0xE14 then crd d.config else id d.config.revision at))))))))))
+    if at == offset.dsr then dsr d else (
+    if at == offset.inten then d.inten else (
+    if at == offset.int_event_ris then bit_or d.events d.interrupts else (
+    if at == offset.intmis then irqs d else (
+    if at == offset.fsrd then flag d.manager.is_faulting else (
+    if at == offset.fsrc then faulting_bits d.threads else (
+    if at == offset.ftrd then d.manager.fault else (
+    if at == offset.cr0 then cr0 d.config else (
+    if at == offset.cr1 then cr1 else (
+    if at == offset.cr3 then cr3 d else (
+    if at == offset.crd then crd d.config else id d.config.revision at))))))))))
 
 -- the value that a read of the register at an offset returns; 0 at an offset that has no register
 abbrev pub read_at : DeviceValue → ℕ → ℕ
 read_at d at =
     if at % 4 == 0 then
-    (if nat_le 0x040 at && nat_lt at 0xD00 then channel_register d.threads at else device_register d at)
+    (if nat_le offset.ftr at && nat_lt at offset.dbgstatus then channel_register d.threads at else device_register d at)
     else 0
 
 -- ---- the debug instruction: it is executed by the thread that bits 10:8 of DBGINST0 number if bit 0 is 1, else by the
@@ -228,8 +229,8 @@ debugged ram d =
 -- ignored.
 abbrev pub written : List Piece → ℕ → ℕ → DeviceValue → DeviceValue
 written ram at value d =
-    if at == 0x020 then record d { inten = bit_and value (all_events d) } else (
-    if at == 0x02C then record d { interrupts = bit_and d.interrupts (bit_not w32 (bit_and value d.inten)) } else (
-    if at == 0xD04 then (if value % 4 == 0 then debugged ram d else d) else (
-    if at == 0xD08 then record d { dbginst0 = value } else (
-    if at == 0xD0C then record d { dbginst1 = value } else d))))
+    if at == offset.inten then record d { inten = bit_and value (all_events d) } else (
+    if at == offset.intclr then record d { interrupts = bit_and d.interrupts (bit_not w32 (bit_and value d.inten)) } else (
+    if at == offset.dbgcmd then (if value % 4 == 0 then debugged ram d else d) else (
+    if at == offset.dbginst0 then record d { dbginst0 = value } else (
+    if at == offset.dbginst1 then record d { dbginst1 = value } else d))))

@@ -12,6 +12,7 @@ use Rattle.dma_chan.specs.declared.bus.Bus.TheVariants.{Chip}
 use Rattle.dma_chan.specs.Explains.{Explains}
 use Rattle.dma_chan.specs.Others.{Touches}
 use Rattle.dma_device.specs.Device.{DeviceValue, read_at, written}
+use Rattle.dma_device.specs.Offsets as offset
 use Rattle.dma_device.specs.Turns.{TakesTurn}
 use Rattle.dma_device.specs.declared.device.turns.Turn.{Turn}
 
@@ -35,11 +36,11 @@ bus_of go = Chip go.device.config.bus
 abbrev pub started_by : Go → DeviceValue
 started_by go =
     let dmago = (0xA0 + 2 * flag go.nonsecure) * 2 ^ 16 + go.channel * 2 ^ 24 in
-    written go.ram 0xD04 0 (written go.ram 0xD0C go.addr (written go.ram 0xD08 dmago go.device))
+    written go.ram offset.dbgcmd 0 (written go.ram offset.dbginst1 go.addr (written go.ram offset.dbginst0 dmago go.device))
 
 -- bits 3:0 of CSR n, as a read returns them: 0 if the channel is stopped
 abbrev pub csr_status : DeviceValue → ℕ → ℕ
-csr_status d n = read_at d (0x100 + 8 * n) % 16
+csr_status d n = read_at d (offset.csr + 8 * n) % 16
 
 -- The driver may start the channel: the device has it, it is stopped, FSRD reads as 0, and a non-secure manager starts
 -- only non-secure channels.
@@ -47,7 +48,7 @@ pub record MayGo (go : Go) : Type 0 where
   pub there : go.channel < length go.device.threads
   pub few : go.channel < most_channels
   pub stopped : csr_status go.device go.channel ≡ 0
-  pub manager : read_at go.device 0x030 ≡ 0
+  pub manager : read_at go.device offset.fsrd ≡ 0
   pub allowed : (go.device.config.nonsecure && not go.nonsecure) ≡ false
 
 -- A program of at most 8,192 bytes is in RAM from an address on: each of its addresses lies in a piece, and has there

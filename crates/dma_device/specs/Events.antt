@@ -1,19 +1,19 @@
 -- Events are neither lost nor invented: what sets them, and what takes them.
 use Rattle.std.specs.Prelude.{◌≡◌, ◌⊎◌, ◌↔◌, ℕ, ◌+◌, ◌<◌, ◌≤◌, Bool, true, List, Some, Ok, slice_get}
 use Rattle.dma_insn.specs.declared.insn.Insn.TheVariants.{Wfe}
+use Rattle.dma_mem.specs.Marking.{MarkList}
 use Rattle.dma_mem.specs.declared.regions.Region.{Region}
 use Rattle.dma_chan.specs.Channel.{ahead_of}
 use Rattle.dma_chan.specs.Stepping.{answer_at}
 use Rattle.dma_chan.specs.declared.turn.ChanTurn.TheVariants.{Moved}
-use Rattle.dma_device.specs.declared.device.turns.Called.{Called}
 use Rattle.dma_device.specs.declared.device.turns.Turn.{Turn}
 use Rattle.dma_device.specs.declared.thread.Status.TheVariants.{WaitingForEvent}
 use Rattle.dma_device.specs.declared.thread.Thread.{Thread}
 use Rattle.dma_device.specs.Accesses.{Access, Answer, Does, Happen, Resets, Restores, Turns}
-use Rattle.dma_device.specs.CallSteps.{Executes, machine_after, marks_in}
+use Rattle.dma_device.specs.CallSteps.{Executes, InTurn, marks_in}
 use Rattle.dma_device.specs.Device.{DeviceValue}
 use Rattle.dma_device.specs.Interrupts.{HasLine, IsHigh, Signals}
-use Rattle.dma_device.specs.Turns.{TakesTurn, begins, follows}
+use Rattle.dma_device.specs.Turns.{Setup, TakesTurn, begins, machine_after, steps_in}
 
 -- event k is set
 abbrev pub IsSet : DeviceValue → ℕ → Type 0
@@ -23,52 +23,46 @@ IsSet d k = IsHigh d.events k
 
 -- An access sets event k: it executes a DMASEV of event k while bit k of INTEN is 0; or it restores a device in which
 -- the event is set.
-abbrev pub Sets : ℕ → Access → DeviceValue → List Region → DeviceValue → List Region → Type 0
-Sets k (Restores saved) d regions e left = IsSet saved k
-Sets k a d regions e left = (¬ IsHigh d.inten k) × Signals k a d regions e left
+abbrev pub Sets : ℕ → Access → DeviceValue → List Region → Type 0
+Sets k (Restores saved) d regions = IsSet saved k
+Sets k a d regions = (¬ IsHigh d.inten k) × Signals k a d regions
 
--- one of a call's steps executes a DMAWFE of event k, which passes
-pub record CallTakes (made : Bool) (d : DeviceValue) (regions : List Region) (n most : ℕ) (e : DeviceValue)
-    (left : List Region) (called : Called) (k : ℕ) : Type 0 where
-  pub executes : Executes made d regions n most e left called
+-- one of the steps of a call of channel `n` executes a DMAWFE of event k, which passes
+pub record CallTakes (marks : MarkList) (n k : ℕ) (made : Bool) (most : ℕ) (s : Setup) : Type 0 where
+  pub executes : Executes made n s
   pub step : ℕ
-  pub early : step < executes.call.taken
+  pub early : step < steps_in marks most executes.thread s
   pub invalid : Bool
-  pub dmawfe : ahead_of (machine_after d executes.thread regions step).channel ≡ Ok (Wfe k invalid)
-  pub passes : answer_at (marks_in regions) (machine_after d executes.thread regions step) ≡ Moved
+  pub dmawfe : ahead_of (machine_after marks s executes.thread step).channel ≡ Ok (Wfe k invalid)
+  pub passes : answer_at marks (machine_after marks s executes.thread step) ≡ Moved
 
--- One of the steps of a turn, in the first of its calls or in the second, executes a DMAWFE of event k, which passes.
-abbrev pub TurnTakes : DeviceValue → List Region → ℕ → ℕ → DeviceValue → List Region → ℕ → Type 0
-TurnTakes d regions n most e left k =
-    (turn : Turn) × ((x : TakesTurn d regions n most e left turn)
-    × (CallTakes (begins d n most) d regions n most x.middle x.lent x.first k
-    ⊎ CallTakes (follows x.middle n x.first) x.middle x.lent n 1 e left x.second k))
+-- one of the steps of a turn executes a DMAWFE of event k, which passes
+abbrev pub TurnTakes : DeviceValue → List Region → ℕ → ℕ → ℕ → Type 0
+TurnTakes d regions n most k = InTurn (CallTakes (marks_in regions) n k) d regions n most
 
 -- an access takes event k: a turn of a channel
-abbrev pub Takes : ℕ → Access → DeviceValue → List Region → DeviceValue → List Region → Type 0
-Takes k (Turns n most) d regions e left = TurnTakes d regions n most e left k
-Takes k a d regions e left = ⊥
+abbrev pub Takes : ℕ → Access → DeviceValue → List Region → Type 0
+Takes k (Turns n most) d regions = TurnTakes d regions n most k
+Takes k a d regions = ⊥
 
 -- an access ends event k: it takes the event, is a reset, or restores a device in which the event isn't set
-abbrev pub Ends : ℕ → Access → DeviceValue → List Region → DeviceValue → List Region → Type 0
-Ends k Resets d regions e left = Unit {0}
-Ends k (Restores saved) d regions e left = ¬ IsSet saved k
-Ends k a d regions e left = Takes k a d regions e left
+abbrev pub Ends : ℕ → Access → DeviceValue → List Region → Type 0
+Ends k Resets d regions = Unit {0}
+Ends k (Restores saved) d regions = ¬ IsSet saved k
+Ends k a d regions = Takes k a d regions
 
 -- ---- along the accesses
 
 -- none of the accesses from number i up to, and without, number n ends event k
-abbrev pub NoneEnds : (ℕ → Access) → (ℕ → DeviceValue) → (lent left : ℕ → List Region) → ℕ → ℕ → ℕ → Type 0
-NoneEnds access before lent left k i n =
-    (j : ℕ) → i ≤ j → j < n → ¬ Ends k (access j) (before j) (lent j) (before (j + 1)) (left j)
+abbrev pub NoneEnds : (ℕ → Access) → (ℕ → DeviceValue) → (ℕ → List Region) → ℕ → ℕ → ℕ → Type 0
+NoneEnds access before lent k i n = (j : ℕ) → i ≤ j → j < n → ¬ Ends k (access j) (before j) (lent j)
 
 -- one of the accesses below number n sets event k, and none after it ends the event
-pub record SetSince (access : ℕ → Access) (before : ℕ → DeviceValue) (lent left : ℕ → List Region)
-    (k n : ℕ) : Type 0 where
+pub record SetSince (access : ℕ → Access) (before : ℕ → DeviceValue) (lent : ℕ → List Region) (k n : ℕ) : Type 0 where
   pub at : ℕ
   pub below : at < n
-  pub sets : Sets k (access at) (before at) (lent at) (before (at + 1)) (left at)
-  pub stays : NoneEnds access before lent left k (at + 1) n
+  pub sets : Sets k (access at) (before at) (lent at)
+  pub stays : NoneEnds access before lent k (at + 1) n
 
 -- For every list of accesses, event k is set before access number n exactly if an access set it, and none after it
 -- ended it; or if it was set at first, as it is not after a reset, and no access ended it. (A turn that takes an event
@@ -79,13 +73,13 @@ EventsAreExact =
     (count k n : ℕ) →
     Happen access answer before lent left count → HasLine (before 0) k → n ≤ count →
     IsSet (before n) k
-    ↔ (SetSince access before lent left k n ⊎ (IsSet (before 0) k × NoneEnds access before lent left k 0 n))
+    ↔ (SetSince access before lent k n ⊎ (IsSet (before 0) k × NoneEnds access before lent k 0 n))
 
 -- No wake-up is invented: an event that an access takes was set before it, and INTEN made it an event.
 abbrev pub TakenWasSet : Type 0
 TakenWasSet =
     (a : Access) (d e : DeviceValue) (regions left : List Region) (answer : Answer) (k : ℕ) →
-    Does a d regions answer e left → HasLine d k → Takes k a d regions e left → IsSet d k × (¬ IsHigh d.inten k)
+    Does a d regions answer e left → HasLine d k → Takes k a d regions → IsSet d k × (¬ IsHigh d.inten k)
 
 -- No wake-up is lost: after a turn of a channel that runs, if the channel waits for event k, then the event isn't set,
 -- or INTEN makes it an interrupt.

@@ -1,6 +1,7 @@
 -- What the program of a channel copies, as the device explains it, and that the channel's turns stay in that copy.
 use Rattle.std.specs.Prelude.{◌≡◌, ◌≢◌, ◌⊎◌, ℕ, ◌+◌, ◌-◌, ◌<◌, ◌≤◌, Bool, List, length, Option, Some, None, slice_get, IsSomeAnd}
 use Rattle.std.specs.List.{Contains}
+use Rattle.dma_mem.specs.Marking.{MarkList}
 use Rattle.dma_mem.specs.Places.{Descriptor, copying, destinations, sources}
 use Rattle.dma_mem.specs.declared.regions.Region.{Region}
 use Rattle.dma_chan.specs.declared.bus.Bus.{Bus}
@@ -13,12 +14,11 @@ use Rattle.dma_chan.specs.Programs.{ProgramValue}
 use Rattle.dma_chan.specs.Reads.{Reads}
 use Rattle.dma_chan.specs.Written.{LiesIn}
 use Rattle.dma_device.specs.Accesses.{Access, Answer, Does, Happen, Restores, Turned, Turns}
-use Rattle.dma_device.specs.CallSteps.{Executes as Steps, machine_in, marks_in}
+use Rattle.dma_device.specs.CallSteps.{Executes as Steps, InTurn, marks_in}
 use Rattle.dma_device.specs.Device.{DeviceValue}
-use Rattle.dma_device.specs.Turns.{TakesTurn, begins, follows}
+use Rattle.dma_device.specs.Turns.{Setup, machine_in, steps_in}
 use Rattle.dma_device.specs.declared.device.explain.ExplainFault.{ExplainFault}
 use Rattle.dma_device.specs.declared.device.explain.ExplainFault.TheVariants.{NoChannel, NoProgram, Unexplained}
-use Rattle.dma_device.specs.declared.device.turns.Called.{Called}
 use Rattle.dma_device.specs.declared.device.turns.Turn.{Turn}
 use Rattle.dma_device.specs.declared.thread.Thread.{Thread}
 
@@ -67,23 +67,18 @@ FailsFor d n most (Unexplained u) =
 -- ---- the turns of a channel
 
 -- one of the steps of a call of channel `n` reads an address
-abbrev pub CallReads : Bool → DeviceValue → List Region → ℕ → ℕ → DeviceValue → List Region → Called → ℕ → Type 0
-CallReads made d regions n most e left called a =
-    (x : Steps made d regions n most e left called)
-    × Reads (marks_in regions) (machine_in d x.thread regions) x.call.taken a
+abbrev pub CallReads : MarkList → ℕ → ℕ → Bool → ℕ → Setup → Type 0
+CallReads marks n a made most s =
+    (x : Steps made n s) × Reads marks (machine_in s x.thread) (steps_in marks most x.thread s) a
 
--- one of the steps of a turn, in the first of its calls or in the second, reads an address
-abbrev pub TurnReads : DeviceValue → List Region → ℕ → ℕ → DeviceValue → List Region → Turn → ℕ → Type 0
-TurnReads d regions n most e left turn a =
-    (x : TakesTurn d regions n most e left turn)
-    × (CallReads (begins d n most) d regions n most x.middle x.lent x.first a
-    ⊎ CallReads (follows x.middle n x.first) x.middle x.lent n 1 e left x.second a)
+-- one of the steps of a turn reads an address
+abbrev pub TurnReads : DeviceValue → List Region → ℕ → ℕ → ℕ → Type 0
+TurnReads d regions n most a = InTurn (CallReads (marks_in regions) n a) d regions n most
 
 -- A turn stays in a copy: it writes only destinations and reads only sources.
-pub record StaysIn (t : Descriptor) (d : DeviceValue) (regions : List Region) (n most : ℕ) (e : DeviceValue)
-    (left : List Region) (turn : Turn) : Type 0 where
+pub record StaysIn (t : Descriptor) (d : DeviceValue) (regions : List Region) (n most : ℕ) (turn : Turn) : Type 0 where
   pub writes : (a : ℕ) → LiesIn turn.written a → Contains (destinations t) a
-  pub reads : (a : ℕ) → TurnReads d regions n most e left turn a → Contains (sources t) a
+  pub reads : (a : ℕ) → TurnReads d regions n most a → Contains (sources t) a
 
 -- Channel n executes its program from the program's start on: of `steps` instructions, with DMAEND, it has executed
 -- none or some, and not yet all.
@@ -104,7 +99,7 @@ TurnsStayIn =
     Happen access answer before lent left count → FindsFor (before 0) n limit x → IsUnderway (before 0) n x.steps →
     ((j : ℕ) → j < k → GivesNone (access j) n (before j) (before (j + 1))) →
     k < count → access k ≡ Turns n most → answer k ≡ Turned turn →
-    StaysIn (copy_of x) (before k) (lent k) n most (before (k + 1)) (left k) turn
+    StaysIn (copy_of x) (before k) (lent k) n most turn
 
 -- After an access that isn't a restore and gives channel n a program, as a DMAGO does, the channel is underway in it.
 abbrev pub OnlyDmagoGives : Type 0

@@ -1,19 +1,19 @@
 -- What makes threads faulting, and with them the line irq_abort high.
 use Rattle.std.specs.Prelude.{◌≡◌, ◌≢◌, ◌⊎◌, ◌↔◌, ℕ, ◌+◌, ◌%◌, ◌<◌, ◌≤◌, Bool, true, false, not, ◌&&◌, ◌==◌, List, Option, Some, None, slice_get, if◌then◌else◌}
 use Rattle.dma_insn.specs.ControlWord.{field}
+use Rattle.dma_mem.specs.Marking.{MarkList}
 use Rattle.dma_mem.specs.declared.regions.Region.{Region}
 use Rattle.dma_chan.specs.declared.turn.ChanTurn.{ChanTurn}
 use Rattle.dma_chan.specs.declared.turn.ChanTurn.TheVariants.{Moved, Waiting, Ended, Fault}
 use Rattle.dma_device.specs.declared.config.Config.{Config}
-use Rattle.dma_device.specs.declared.device.turns.Called.{Called}
-use Rattle.dma_device.specs.declared.device.turns.Turn.{Turn}
 use Rattle.dma_device.specs.declared.thread.Thread.{Thread}
 use Rattle.dma_device.specs.Accesses.{Access, Answer, Does, Happen, Resets, Restores, Turns, Writes}
-use Rattle.dma_device.specs.CallSteps.{Executes}
+use Rattle.dma_device.specs.CallSteps.{Executes, InTurn, marks_in}
 use Rattle.dma_device.specs.Device.{DeviceValue, irq_abort, is_event, read_at, reset_device}
 use Rattle.dma_device.specs.Interrupts.{IsHigh, is_fine}
+use Rattle.dma_device.specs.Offsets as offset
 use Rattle.dma_device.specs.Thread.{is_faulting}
-use Rattle.dma_device.specs.Turns.{TakesTurn, begins, follows}
+use Rattle.dma_device.specs.Turns.{Setup, last_in, signal_in}
 
 -- a thread: the manager, or that of channel n
 pub data Who : Type 0 where
@@ -86,32 +86,30 @@ LastFails events (Some (Waiting e)) signal = events ≤ e
 LastFails events (Some Ended) signal = ⊥
 LastFails events (Some (Fault kind)) signal = Unit {0}
 
--- a call fails: its last step fails
-abbrev pub CallFails : Bool → DeviceValue → List Region → ℕ → ℕ → DeviceValue → List Region → Called → Type 0
-CallFails made d regions n most e left called =
-    (x : Executes made d regions n most e left called) × LastFails d.config.events x.call.last called.signal
+-- a call of channel `n` fails: its last step fails
+abbrev pub CallFails : MarkList → ℕ → Bool → ℕ → Setup → Type 0
+CallFails marks n made most s =
+    (x : Executes made n s)
+    × LastFails s.device.config.events (last_in marks most x.thread s) (signal_in marks most x.thread s)
 
 -- one of the two calls of a turn fails
-abbrev pub TurnFails : DeviceValue → List Region → ℕ → ℕ → DeviceValue → List Region → Type 0
-TurnFails d regions n most e left =
-    (turn : Turn) × ((x : TakesTurn d regions n most e left turn)
-    × (CallFails (begins d n most) d regions n most x.middle x.lent x.first
-    ⊎ CallFails (follows x.middle n x.first) x.middle x.lent n 1 e left x.second))
+abbrev pub TurnFails : DeviceValue → List Region → ℕ → ℕ → Type 0
+TurnFails d regions n most = InTurn (CallFails (marks_in regions) n) d regions n most
 
 -- ---- what makes a thread faulting, and ends that
 
 -- An access makes this thread fail: a step of a turn of its channel, or a debug instruction that it executes; or it
 -- restores a device in which the thread is faulting.
-abbrev pub Fails : Who → Access → DeviceValue → List Region → DeviceValue → List Region → Type 0
-Fails (TheChannel m) (Turns n most) d regions e left = (m ≡ n) × TurnFails d regions n most e left
-Fails who (Writes at value) d regions e left = (at ≡ 0xD04) × DebugFails who d value
-Fails who (Restores saved) d regions e left = faults_at who saved ≡ true
-Fails who a d regions e left = ⊥
+abbrev pub Fails : Who → Access → DeviceValue → List Region → Type 0
+Fails (TheChannel m) (Turns n most) d regions = (m ≡ n) × TurnFails d regions n most
+Fails who (Writes at value) d regions = (at ≡ offset.dbgcmd) × DebugFails who d value
+Fails who (Restores saved) d regions = faults_at who saved ≡ true
+Fails who a d regions = ⊥
 
 -- an access kills this thread: a debug DMAKILL that it executes
 abbrev pub Kills : Who → Access → DeviceValue → Type 0
 Kills who (Writes at value) d =
-    (at ≡ 0xD04) × ((value % 4 ≡ 0) × ((field 16 8 d.dbginst0 ≡ 0x01) × Addresses d who))
+    (at ≡ offset.dbgcmd) × ((value % 4 ≡ 0) × ((field 16 8 d.dbginst0 ≡ 0x01) × Addresses d who))
 Kills who a d = ⊥
 
 -- an access ends a fault of this thread: it kills the thread, is a reset, or restores a device in which the thread
@@ -134,11 +132,11 @@ abbrev pub NoneEnds : (ℕ → Access) → (ℕ → DeviceValue) → Who → ℕ
 NoneEnds access before who i n = (j : ℕ) → i ≤ j → j < n → ¬ EndsFault who (access j) (before j)
 
 -- one of the accesses below number n makes this thread fail, and none after it ends the fault
-pub record FailedSince (access : ℕ → Access) (before : ℕ → DeviceValue) (lent left : ℕ → List Region)
-    (who : Who) (n : ℕ) : Type 0 where
+pub record FailedSince (access : ℕ → Access) (before : ℕ → DeviceValue) (lent : ℕ → List Region) (who : Who)
+    (n : ℕ) : Type 0 where
   pub at : ℕ
   pub below : at < n
-  pub fails : Fails who (access at) (before at) (lent at) (before (at + 1)) (left at)
+  pub fails : Fails who (access at) (before at) (lent at)
   pub stays : NoneEnds access before who (at + 1) n
 
 -- For every list of accesses, a thread is faulting before access number n exactly if an access made it fail, and none
@@ -149,7 +147,7 @@ FaultsAreExact =
     (access : ℕ → Access) (answer : ℕ → Answer) (before : ℕ → DeviceValue) (lent left : ℕ → List Region)
     (count n : ℕ) (who : Who) → Happen access answer before lent left count → n ≤ count →
     (faults_at who (before n) ≡ true)
-    ↔ (FailedSince access before lent left who n ⊎ ((faults_at who (before 0) ≡ true) × NoneEnds access before who 0 n))
+    ↔ (FailedSince access before lent who n ⊎ ((faults_at who (before 0) ≡ true) × NoneEnds access before who 0 n))
 
 -- ---- the line
 
@@ -157,14 +155,14 @@ FaultsAreExact =
 -- and bit n of FSRC whether channel n is. It is low after a reset.
 pub record AbortIsFaulting : Type 0 where
   pub line : (d : DeviceValue) → (irq_abort d ≡ true) ↔ ((who : Who) × (faults_at who d ≡ true))
-  pub fsrd : (d : DeviceValue) → (read_at d 0x030 ≡ 1) ↔ (faults_at TheManager d ≡ true)
-  pub fsrc : (d : DeviceValue) (n : ℕ) → IsHigh (read_at d 0x034) n ↔ (faults_at (TheChannel n) d ≡ true)
+  pub fsrd : (d : DeviceValue) → (read_at d offset.fsrd ≡ 1) ↔ (faults_at TheManager d ≡ true)
+  pub fsrc : (d : DeviceValue) (n : ℕ) → IsHigh (read_at d offset.fsrc) n ↔ (faults_at (TheChannel n) d ≡ true)
   pub reset : (g : Config) → irq_abort (reset_device g) ≡ false
 
 -- When the line changes: if it is low before an access, it is high after it exactly if the access makes a thread fail;
 -- if it is high, it is low after exactly if the access ends each fault, or kills the last thread that is faulting.
-pub record AbortIsExact (a : Access) (d e : DeviceValue) (regions left : List Region) : Type 0 where
-  pub rises : irq_abort d ≡ false → (irq_abort e ≡ true) ↔ ((who : Who) × Fails who a d regions e left)
+pub record AbortIsExact (a : Access) (d e : DeviceValue) (regions : List Region) : Type 0 where
+  pub rises : irq_abort d ≡ false → (irq_abort e ≡ true) ↔ ((who : Who) × Fails who a d regions)
   pub falls : irq_abort d ≡ true → (irq_abort e ≡ false)
       ↔ (EndsAll a ⊎ ((who : Who) × Kills who a d × (faults_at who d ≡ true)
       × ((other : Who) → faults_at other d ≡ true → other ≡ who)))
@@ -172,4 +170,4 @@ pub record AbortIsExact (a : Access) (d e : DeviceValue) (regions left : List Re
 abbrev pub AbortsAreExact : Type 0
 AbortsAreExact =
     (a : Access) (d e : DeviceValue) (regions left : List Region) (answer : Answer) →
-    Does a d regions answer e left → AbortIsExact a d e regions left
+    Does a d regions answer e left → AbortIsExact a d e regions

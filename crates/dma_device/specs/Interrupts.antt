@@ -3,12 +3,12 @@ use Rattle.std.specs.Prelude.{◌≡◌, ◌⊎◌, ◌↔◌, ℕ, ◌+◌, ◌
 use Rattle.std.specs.Int.{bit_at}
 use Rattle.dma_insn.specs.ControlWord.{field}
 use Rattle.dma_mem.specs.declared.regions.Region.{Region}
-use Rattle.dma_device.specs.declared.device.turns.Turn.{Turn}
 use Rattle.dma_device.specs.Accesses.{Access, Answer, Happen, Resets, Restores, Turns, Writes}
 use Rattle.dma_device.specs.Device.{DeviceValue, irqs}
+use Rattle.dma_device.specs.Offsets as offset
 use Rattle.dma_device.specs.Thread.{is_faulting}
 use Rattle.dma_device.specs.declared.thread.Thread.{Thread}
-use Rattle.dma_device.specs.Turns.{TakesTurn}
+use Rattle.dma_device.specs.CallSteps.{first_in, second_in}
 
 -- bit k of a number is 1
 abbrev pub IsHigh : ℕ → ℕ → Type 0
@@ -42,29 +42,28 @@ pub record DebugSignals (d : DeviceValue) (value k : ℕ) : Type 0 where
 
 -- A turn executes a DMASEV of event k: it is the last step of one of the turn's two calls. No other step of a call is a
 -- DMASEV.
-abbrev pub TurnSignals : DeviceValue → List Region → ℕ → ℕ → DeviceValue → List Region → ℕ → Type 0
-TurnSignals d regions n most e left k =
-    (turn : Turn) × ((x : TakesTurn d regions n most e left turn)
-    × ((x.first.signal ≡ Some k) ⊎ (x.second.signal ≡ Some k)))
+abbrev pub TurnSignals : DeviceValue → List Region → ℕ → ℕ → ℕ → Type 0
+TurnSignals d regions n most k =
+    ((first_in d regions n most).called.signal ≡ Some k) ⊎ ((second_in d regions n most).called.signal ≡ Some k)
 
 -- An access executes a DMASEV of event k: a turn of a channel, or a write to DBGCMD.
-abbrev pub Signals : ℕ → Access → DeviceValue → List Region → DeviceValue → List Region → Type 0
-Signals k (Turns n most) d regions e left = TurnSignals d regions n most e left k
-Signals k (Writes at value) d regions e left = (at ≡ 0xD04) × DebugSignals d value k
-Signals k a d regions e left = ⊥
+abbrev pub Signals : ℕ → Access → DeviceValue → List Region → Type 0
+Signals k (Turns n most) d regions = TurnSignals d regions n most k
+Signals k (Writes at value) d regions = (at ≡ offset.dbgcmd) × DebugSignals d value k
+Signals k a d regions = ⊥
 
 -- ---- what raises and clears an interrupt (DMA-330 manual, INTEN and INTCLR)
 
 -- An access raises interrupt k: it executes a DMASEV of event k while bit k of INTEN is 1; or it restores a device
 -- whose line k is high.
-abbrev pub Raises : ℕ → Access → DeviceValue → List Region → DeviceValue → List Region → Type 0
-Raises k (Restores saved) d regions e left = IsHigh (irqs saved) k
-Raises k a d regions e left = IsHigh d.inten k × Signals k a d regions e left
+abbrev pub Raises : ℕ → Access → DeviceValue → List Region → Type 0
+Raises k (Restores saved) d regions = IsHigh (irqs saved) k
+Raises k a d regions = IsHigh d.inten k × Signals k a d regions
 
 -- An access clears interrupt k: a write to INTCLR with bit k, while bit k of INTEN is 1; a reset; or a restore of a
 -- device whose line k is low.
 abbrev pub Clears : ℕ → Access → DeviceValue → Type 0
-Clears k (Writes at value) d = (at ≡ 0x02C) × (IsHigh value k × IsHigh d.inten k)
+Clears k (Writes at value) d = (at ≡ offset.intclr) × (IsHigh value k × IsHigh d.inten k)
 Clears k Resets d = Unit {0}
 Clears k (Restores saved) d = ¬ IsHigh (irqs saved) k
 Clears k a d = ⊥
@@ -76,11 +75,10 @@ abbrev pub StaysSet : (ℕ → Access) → (ℕ → DeviceValue) → ℕ → ℕ
 StaysSet access before k i n = (j : ℕ) → i ≤ j → j < n → ¬ Clears k (access j) (before j)
 
 -- one of the accesses below number n raises interrupt k, and none after it clears the interrupt
-pub record RaisedSince (access : ℕ → Access) (before : ℕ → DeviceValue) (lent left : ℕ → List Region)
-    (k n : ℕ) : Type 0 where
+pub record RaisedSince (access : ℕ → Access) (before : ℕ → DeviceValue) (lent : ℕ → List Region) (k n : ℕ) : Type 0 where
   pub at : ℕ
   pub below : at < n
-  pub raises : Raises k (access at) (before at) (lent at) (before (at + 1)) (left at)
+  pub raises : Raises k (access at) (before at) (lent at)
   pub stays : StaysSet access before k (at + 1) n
 
 -- The device has line k. It has at most 32 events, and INTEN has 32 bits.
@@ -98,4 +96,4 @@ InterruptsAreExact =
     (count k n : ℕ) →
     Happen access answer before lent left count → HasLine (before 0) k → n ≤ count →
     IsHigh (irqs (before n)) k
-    ↔ (RaisedSince access before lent left k n ⊎ (IsHigh (irqs (before 0)) k × StaysSet access before k 0 n))
+    ↔ (RaisedSince access before lent k n ⊎ (IsHigh (irqs (before 0)) k × StaysSet access before k 0 n))

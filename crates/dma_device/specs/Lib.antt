@@ -1,5 +1,6 @@
 -- The registers of a DMA-330 over channels of dma_chan.
 pub mod Config
+pub mod Offsets
 pub mod Thread
 pub mod Device
 pub mod Turns

@@ -1,23 +1,13 @@
 -- A device with the memory that a host lends it, and what accesses make of them, step by step.
-use Rattle.std.specs.Prelude.{◌≡◌, ℕ, zero, suc, ◌+◌, ◌-◌, ◌*◌, ◌<◌, ◌≤◌, Bool, ◌&&◌, ◌==◌, nat_lt, List, [], ◌∷◌, ◌++◌, length, take, drop, Option, Some, None, slice_get, slice_set, if◌then◌else◌}
-use Rattle.dma_insn.specs.ControlWord.{flag}
-use Rattle.dma_mem.specs.Flags.{flags_of}
+use Rattle.std.specs.Prelude.{◌≡◌, ℕ, zero, suc, ◌+◌, ◌-◌, ◌<◌, ◌≤◌, List, [], ◌∷◌, ◌++◌, length, take, drop, slice_set}
 use Rattle.dma_mem.specs.Lent.{marks_at, stores_at}
 use Rattle.dma_mem.specs.Marking.{MarkList}
 use Rattle.dma_mem.specs.Regions.{Piece, end_of, gaps_of, image_of, pieces_of, read_only_of}
 use Rattle.dma_mem.specs.declared.regions.Region.{Region}
 use Rattle.dma_mem.specs.declared.segment.Segment.{Segment}
-use Rattle.dma_chan.specs.Channel.{last_count}
-use Rattle.dma_chan.specs.Stepping.{Machine, after_steps, goes_on_after, last_of, machine, signal_after, written_after}
-use Rattle.dma_chan.specs.Written.{joined}
-use Rattle.dma_chan.specs.declared.turn.ChanTurn.{ChanTurn}
-use Rattle.dma_device.specs.declared.thread.Thread.{Thread}
-use Rattle.dma_device.specs.declared.device.turns.Called.{Called}
-use Rattle.dma_device.specs.declared.device.turns.Turn.{Turn}
 use Rattle.dma_device.specs.Accesses.{Access, Answer, AreAlike, Done, Happen, Reads, Resets, Restores, Stores, Turned, Turns, Value, Writes}
-use Rattle.dma_device.specs.Device.{DeviceValue, read_at, reset_device, with_thread, written}
-use Rattle.dma_device.specs.Thread.{answered}
-use Rattle.dma_device.specs.Turns.{lines_differ, may_follow, nothing, runs_at, visible_events, with_flags}
+use Rattle.dma_device.specs.Device.{DeviceValue, read_at, reset_device, written}
+use Rattle.dma_device.specs.Turns.{turned}
 
 -- Lent memory: its pieces, and the segments of those that are read-only.
 pub record Ram : Type 0 where
@@ -52,80 +42,19 @@ with_image image ram = record ram { pieces = put_from 0 image ram.pieces }
 abbrev pub marks_of : Ram → MarkList
 marks_of ram = marks_at (gaps_of ram.pieces) ++ (stores_at ram.read_only ++ [])
 
--- ---- a call
-
--- How many steps a call of at most this number takes. After k steps it takes another if it may, the program goes on,
--- and the count of instructions is below its largest value.
-abbrev pub steps_in : MarkList → Machine → ℕ → ℕ
-steps_in marks s zero = 0
-steps_in marks s (suc m) =
-    let k = steps_in marks s m in
-    if k == m && (goes_on_after marks s k && nat_lt (after_steps marks s k).channel.taken last_count) then suc k else k
-
--- the number whose bits are these flags, the lowest first
-abbrev pub number_of : List Bool → ℕ
-number_of [] = 0
-number_of (f ∷ fs) = flag f + 2 * number_of fs
-
--- What a call leaves, and what it did.
-pub record Outcome : Type 0 where
-  pub board : Board
-  pub called : Called
-
--- a call that does nothing
-abbrev pub idle : Board → Outcome
-idle b = record { board = b; called = nothing }
-
--- a call of channel n, which is thread t, that left this machine after a step with this answer, and wrote this range
-abbrev pub left_by : ℕ → Thread → Board → Machine → Option ChanTurn → Option ℕ → Segment → Outcome
-left_by n t b to last signal range =
-    let after = answered b.device.config.events (record t { channel = to.channel }) last signal in
-    record {
-      board = record {
-        device = with_thread n after (with_flags (number_of to.flags) b.device);
-        ram = with_image to.image b.ram;
-      };
-      called = record { written = range; signal = signal };
-    }
-
--- a call of channel n, which is thread t, of at most `most` steps
-abbrev pub stepped : ℕ → ℕ → Thread → Board → Outcome
-stepped n most t b =
-    let marks = marks_of b.ram in
-    let from = machine t.channel (image_of b.ram.pieces) (flags_of (visible_events b.device)) in
-    let k = steps_in marks from most in
-    left_by n t b (after_steps marks from k) (last_of marks from k) (signal_after marks from k)
-    (written_after marks from k)
-
--- `stepped` for a thread that the device has
-abbrev pub called : ℕ → ℕ → Option Thread → Board → Outcome
-called n most None b = idle b
-called n most (Some t) b = stepped n most t b
-
--- a call of channel n of at most `most` steps, if wanted and if it runs
-abbrev pub called_if : Bool → ℕ → ℕ → Board → Outcome
-called_if wanted n most b =
-    if wanted && runs_at b.device n then called n most (slice_get b.device.threads n) b else idle b
-
 -- ---- accesses
 
--- The board after a turn of channel n, and what the turn reports. After a call that raised an interrupt it takes one
--- more step, if that may follow.
-abbrev pub turned : ℕ → ℕ → Board → Board × Answer
-turned n most b =
-    let first = called_if (nat_lt 0 most) n most b in
-    let second = called_if (may_follow first.board.device n first.called) n 1 first.board in
-    let turn : Turn = record {
-      written = joined first.called.written second.called.written;
-      lines_changed = lines_differ b.device second.board.device;
-    } in
-    (second.board, Turned turn)
+-- the board after a turn of channel n of at most `most` steps, and what the turn reports
+abbrev pub turned_on : ℕ → ℕ → Board → Board × Answer
+turned_on n most b =
+    let turn = turned (marks_of b.ram) n most (record { device = b.device; image = image_of b.ram.pieces }) in
+    (record { device = turn.0.device; ram = with_image turn.0.image b.ram }, Turned turn.1)
 
 -- the board after an access, and what the access returns
 abbrev pub next : Access → Board → Board × Answer
 next (Reads at) b = (b, Value (read_at b.device at))
 next (Writes at value) b = (record b { device = written b.ram.pieces at value b.device }, Done)
-next (Turns n most) b = turned n most b
+next (Turns n most) b = turned_on n most b
 next (Stores addr byte) b =
     (record b { ram = with_image (slice_set (image_of b.ram.pieces) addr byte) b.ram }, Done)
 next Resets b = (record b { device = reset_device b.device.config }, Done)

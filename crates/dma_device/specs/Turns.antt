@@ -1,14 +1,15 @@
 -- What a turn of a channel does.
-use Rattle.std.specs.Prelude.{◌≡◌, ℕ, ◌^◌, ◌<◌, Bool, true, false, not, ◌&&◌, ◌==◌, nat_lt, List, [], map, Option, Some, None, slice_get, bit_and, bit_or}
+use Rattle.std.specs.Prelude.{◌≡◌, ℕ, ◌+◌, ◌*◌, Bool, false, not, ◌&&◌, ◌==◌, nat_lt, List, [], ◌∷◌, map, Option, Some, None, slice_get, bit_and, bit_or, if◌then◌else◌}
 use Rattle.std.specs.Int.{w32, bit_not}
 use Rattle.dma_insn.specs.ControlWord.{flag}
 use Rattle.dma_mem.specs.Flags.{flags_of}
+use Rattle.dma_mem.specs.Marking.{MarkList}
 use Rattle.dma_mem.specs.Regions.{image_of, names_of, pieces_of, read_only_of}
+use Rattle.dma_mem.specs.Steps.{taken_in}
 use Rattle.dma_mem.specs.declared.regions.Region.{Region}
 use Rattle.dma_mem.specs.declared.segment.Segment.{Segment}
-use Rattle.dma_chan.specs.Channel.{ChannelValue}
 use Rattle.dma_chan.specs.LentRegions.{segment_of, with_gaps_of}
-use Rattle.dma_chan.specs.Stepping.{machine, TakesSteps, signal_after, written_after}
+use Rattle.dma_chan.specs.Stepping.{Machine, after_steps, last_of, machine, more_after, signal_after, written_after}
 use Rattle.dma_chan.specs.Written.{adjoins, joined, range_at, store_ahead}
 use Rattle.dma_chan.specs.declared.turn.ChanTurn.{ChanTurn}
 use Rattle.dma_device.specs.declared.thread.Thread.{Thread}
@@ -67,59 +68,127 @@ begins d n most = nat_lt 0 most && runs_at d n
 abbrev pub follows : DeviceValue → ℕ → Called → Bool
 follows d n called = may_follow d n called && runs_at d n
 
--- A call of channel `n`, which is thread `t`, over these regions. It executes at most `most` steps of the thread's
--- program (`TakesSteps`). A burst fails at the gaps between the regions, a store also in a read-only region, and
--- nowhere else.
-pub record CallsThread (d : DeviceValue) (t : Thread) (regions : List Region) (n most : ℕ)
-    (e : DeviceValue) (left : List Region) (called : Called) : Type 0 where
-  -- the number of steps, the answer of the last one, and the channel and the flags after it
-  pub taken : ℕ
-  pub last : Option ChanTurn
-  pub channel : ChannelValue
-  pub flags : ℕ
-  pub range : flags < 2 ^ 32
-  pub steps : TakesSteps (with_gaps_of regions [])
-      (machine t.channel (image_of (pieces_of regions)) (flags_of (visible_events d))) most taken last
-      (machine channel (image_of (pieces_of left)) (flags_of flags))
-  pub signal : called.signal ≡ signal_after (with_gaps_of regions [])
-      (machine t.channel (image_of (pieces_of regions)) (flags_of (visible_events d))) taken
-  pub device : e ≡ with_thread n (answered d.config.events (record t { channel = channel }) last called.signal)
-      (with_flags flags d)
-  pub written : called.written ≡ written_after (with_gaps_of regions [])
-      (machine t.channel (image_of (pieces_of regions)) (flags_of (visible_events d))) taken
-  pub places : map segment_of left ≡ map segment_of regions
-  pub read_only : read_only_of left ≡ read_only_of regions
-  pub names : names_of left ≡ names_of regions
+-- ---- a call
+
+-- the number whose bits are these flags, the lowest first
+abbrev pub number_of : List Bool → ℕ
+number_of [] = 0
+number_of (f ∷ fs) = flag f + 2 * number_of fs
+
+-- A device, and the image of the memory that it is lent.
+pub record Setup : Type 0 where
+  pub device : DeviceValue
+  pub image : List ℕ
+
+-- What a call leaves, and what it did.
+pub record Outcome : Type 0 where
+  pub left : Setup
+  pub called : Called
 
 -- nothing was done
 abbrev pub nothing : Called
 nothing = record { written = range_at 0 0; signal = None }
 
--- `CallsThread` for a thread that the device has
-abbrev pub CallsOne : Option Thread → DeviceValue → List Region → ℕ → ℕ → DeviceValue → List Region → Called → Type 0
-CallsOne None d regions n most e left called = ⊥
-CallsOne (Some t) d regions n most e left called = CallsThread d t regions n most e left called
+-- a call that does nothing
+abbrev pub idle : Setup → Outcome
+idle s = record { left = s; called = nothing }
 
--- a call of channel `n`, if any
-abbrev pub CallsIf : Bool → DeviceValue → List Region → ℕ → ℕ → DeviceValue → List Region → Called → Type 0
-CallsIf true d regions n most e left called = CallsOne (slice_get d.threads n) d regions n most e left called
-CallsIf false d regions n most e left called = (e ≡ d) × (left ≡ regions) × (called ≡ nothing)
+-- the channel of a thread, with the memory and the flags that it sees
+abbrev pub machine_in : Setup → Thread → Machine
+machine_in s t = machine t.channel s.image (flags_of (visible_events s.device))
+
+-- the machine after this number of steps
+abbrev pub machine_after : MarkList → Setup → Thread → ℕ → Machine
+machine_after marks s t k = after_steps marks (machine_in s t) k
+
+-- the number of steps in a call of thread `t` of at most `most`
+abbrev pub steps_in : MarkList → ℕ → Thread → Setup → ℕ
+steps_in marks most t s = taken_in (more_after marks (machine_in s t)) most
+
+-- the machine after them, the answer of the last one, and the event whose flag that set, if any
+abbrev pub machine_left : MarkList → ℕ → Thread → Setup → Machine
+machine_left marks most t s = machine_after marks s t (steps_in marks most t s)
+
+abbrev pub last_in : MarkList → ℕ → Thread → Setup → Option ChanTurn
+last_in marks most t s = last_of marks (machine_in s t) (steps_in marks most t s)
+
+abbrev pub signal_in : MarkList → ℕ → Thread → Setup → Option ℕ
+signal_in marks most t s = signal_after marks (machine_in s t) (steps_in marks most t s)
+
+-- the thread after the call
+abbrev pub thread_left : MarkList → ℕ → Thread → Setup → Thread
+thread_left marks most t s =
+    let moved : Thread = record t { channel = (machine_left marks most t s).channel } in
+    answered s.device.config.events moved (last_in marks most t s) (signal_in marks most t s)
+
+-- A call of channel `n`, which is thread `t`, that executes at most `most` steps of the thread's program. A burst that
+-- meets one of these marks fails.
+abbrev pub stepped : MarkList → ℕ → ℕ → Thread → Setup → Outcome
+stepped marks n most t s =
+    let to = machine_left marks most t s in
+    let written = written_after marks (machine_in s t) (steps_in marks most t s) in
+    record {
+      left = record {
+        device = with_thread n (thread_left marks most t s) (with_flags (number_of to.flags) s.device);
+        image = to.image;
+      };
+      called = record { written = written; signal = signal_in marks most t s };
+    }
+
+-- `stepped` for a thread that the device has
+abbrev pub called : MarkList → ℕ → ℕ → Option Thread → Setup → Outcome
+called marks n most None s = idle s
+called marks n most (Some t) s = stepped marks n most t s
+
+-- a call of channel `n`, if it is made
+abbrev pub called_if : Bool → MarkList → ℕ → ℕ → Setup → Outcome
+called_if made marks n most s = if made then called marks n most (slice_get s.device.threads n) s else idle s
+
+-- ---- a turn
 
 -- whether a line of `irqs`, or `irq_abort`, isn't the same in both devices
 abbrev pub lines_differ : DeviceValue → DeviceValue → Bool
 lines_differ d e = not (irqs d == irqs e && flag (irq_abort d) == flag (irq_abort e))
 
--- A turn of channel `n`: a call of at most `most` steps, if it runs. If the call's last step raised an interrupt, one
--- more step is taken, which mostly is the program's DMAEND, since a driver's interrupt handler expects its channel to
--- be stopped. A store apart from the range that the call wrote is left to the next turn, so that one range has all that
--- was written.
+-- the first call of a turn of at most `most` steps, if channel `n` runs
+abbrev pub first_call : MarkList → ℕ → ℕ → Setup → Outcome
+first_call marks n most s = called_if (begins s.device n most) marks n most s
+
+-- one more step after the first call, if it may follow
+abbrev pub second_call : MarkList → ℕ → Outcome → Outcome
+second_call marks n first = called_if (follows first.left.device n first.called) marks n 1 first.left
+
+-- What a turn of channel `n` leaves and reports: a call of at most `most` steps, if it runs. If the call's last step
+-- raised an interrupt, one more step is taken, which mostly is the program's DMAEND, since a driver's interrupt handler
+-- expects its channel to be stopped. A store apart from the range that the call wrote is left to the next turn, so that
+-- one range has all that was written.
+abbrev pub turned : MarkList → ℕ → ℕ → Setup → Setup × Turn
+turned marks n most s =
+    let first = first_call marks n most s in
+    let second = second_call marks n first in
+    let turn : Turn = record {
+      written = joined first.called.written second.called.written;
+      lines_changed = lines_differ s.device second.left.device;
+    } in
+    (second.left, turn)
+
+-- a device with the memory that regions lend
+abbrev pub setup_of : DeviceValue → List Region → Setup
+setup_of d regions = record { device = d; image = image_of (pieces_of regions) }
+
+-- a device with what regions lend, and what a call did
+abbrev pub outcome_of : DeviceValue → List Region → Called → Outcome
+outcome_of d regions called = record { left = setup_of d regions; called = called }
+
+-- Regions keep their places and names, and the same of them are read-only.
+pub record AreKept (left regions : List Region) : Type 0 where
+  pub places : map segment_of left ≡ map segment_of regions
+  pub read_only : read_only_of left ≡ read_only_of regions
+  pub names : names_of left ≡ names_of regions
+
+-- A turn over regions is `turned`. A burst fails at the gaps between the regions, a store also in a read-only region,
+-- and nowhere else.
 pub record TakesTurn (d : DeviceValue) (regions : List Region) (n most : ℕ) (e : DeviceValue)
     (left : List Region) (turn : Turn) : Type 0 where
-  pub middle : DeviceValue
-  pub lent : List Region
-  pub first : Called
-  pub call : CallsIf (begins d n most) d regions n most middle lent first
-  pub second : Called
-  pub one_more : CallsIf (follows middle n first) middle lent n 1 e left second
-  pub written : turn.written ≡ joined first.written second.written
-  pub lines : turn.lines_changed ≡ lines_differ d e
+  pub is : turned (with_gaps_of regions []) n most (setup_of d regions) ≡ (setup_of e left, turn)
+  pub kept : AreKept left regions

@@ -46,5 +46,6 @@
 pub mod config;
 pub mod device;
 pub mod laws;
+pub mod offset;
 pub mod save;
 pub mod thread;

@@ -1,7 +1,7 @@
 -- The counts of cookies: what bounds them, and that the ticks of a history add up to them.
-use Rattle.std.proofs.Common.{◌≡◌, ◌≢◌, ℕ, ◌+◌, ◌<◌, ◌≤◌, List, [], ◌∷◌, ◌++◌, length, drop, true, false, refl, ap, sym, ◌∙◌, arith, inl, inr, ◌⊎◌, suc}
-use Rattle.std.specs.Prelude.{slice_index_or, slice_set, if◌then◌else◌, ◌==◌, ◌||◌, nat_lt, nat_le}
-use Rattle.std.proofs.lemmas.Bool.{cases_eq, cases_lt, eq-eqb, ne_eqb, lt-ltb, le-ltb, le-leb, lt-leb}
+use Rattle.std.proofs.Common.{◌≡◌, ℕ, ◌+◌, ◌<◌, ◌≤◌, List, [], ◌∷◌, ◌++◌, length, drop, true, false, refl, ap, sym, ◌∙◌, arith, inl, inr, ◌⊎◌, suc}
+use Rattle.std.specs.Prelude.{slice_index_or, slice_set}
+use Rattle.std.proofs.lemmas.Bool.{cases_eq, cases_lt}
 use Rattle.std.proofs.lemmas.List.{map-set, length-set, length-map, length-drop, length-append, length_push, get_or-set_same, get_or-set_other, get_or_past, set-get_or}
 use Rattle.std.proofs.Math.ListN.{get_or-map}
 use Rattle.dma_mem.specs.Places.{Descriptor}
@@ -12,9 +12,8 @@ use Rattle.dma_engine.specs.declared.outcome.TransResult.{TransResult}
 use Rattle.dma_engine.specs.declared.outcome.TransResult.TheVariants.{NoError, ReadFailed, WriteFailed, Aborted}
 use Rattle.dma_engine.specs.Object.{Object, ChannelState, Allows, after, channel, empty_channel, with_channel, used, finished, last_cookie, aborted, IsBase, FrontIs, outcome_of, front_of, with_flag, with_front_laid}
 use Rattle.dma_engine.specs.History.{object_after, IsLegal}
-use Rattle.dma_engine.specs.Ticks.{Board, Counts, board_after, board_of, counts, counts_of, no_counts, ticks_of, added_up, status_of}
+use Rattle.dma_engine.specs.Ticks.{Board, board_after, board_of, counts, counts_of, no_counts, ticks_of, added_up, status_by, status_of}
 use Rattle.dma_engine.specs.declared.queue.Queue.{Queue}
-use Rattle.dma_engine.specs.declared.turn.Status.TheVariants.{Unknown, InProgress, Complete}
 use Rattle.dma_engine.specs.Answer.{status_in}
 use Rattle.dma_engine.specs.View.{View, object_of}
 use Rattle.dma_engine.specs.inner.Holds.{Holds, Parts, view_of}
@@ -188,35 +187,11 @@ queue_small p h ch q less read =
     let c = counted_object v.base p.history (counted_base p.base h.sound.opens) h.sound.legal ch in
     (omega (arith, at.tied.given, c.give), omega (arith, at.tied.given, at.tied.forgotten, ap length at.tied.outcomes, c.finish))
 
--- how far a cookie is, in each case of the reading
-pub status_zero : (v : View) (ch cookie : ℕ) → cookie ≡ 0 → Unknown ≡ status_in v ch cookie
-status_zero v ch cookie is = let e : (cookie == 0) ≡ true = eq-eqb cookie 0 is in rw e refl
-
-pub status_above : (v : View) (ch cookie : ℕ) → cookie ≢ 0 → used (channel (object_of v) ch) < cookie → Unknown ≡ status_in v ch cookie
-status_above v ch cookie some above =
-    let e : (cookie == 0) ≡ false = ne_eqb cookie 0 some in
-    let f : nat_lt (used (channel (object_of v) ch)) cookie ≡ true = lt-ltb _ cookie above in
-    rw (e, f) refl
-
-pub status_complete : (v : View) (ch cookie : ℕ) → cookie ≢ 0 → cookie ≤ used (channel (object_of v) ch) → cookie ≤ finished (channel (object_of v) ch) → Complete ≡ status_in v ch cookie
-status_complete v ch cookie some given done =
-    let e : (cookie == 0) ≡ false = ne_eqb cookie 0 some in
-    let f : nat_lt (used (channel (object_of v) ch)) cookie ≡ false = le-ltb _ cookie given in
-    let g : nat_le cookie (finished (channel (object_of v) ch)) ≡ true = le-leb cookie _ done in
-    rw (e, f, g) refl
-
-pub status_progress : (v : View) (ch cookie : ℕ) → cookie ≢ 0 → cookie ≤ used (channel (object_of v) ch) → finished (channel (object_of v) ch) < cookie → InProgress ≡ status_in v ch cookie
-status_progress v ch cookie some given still =
-    let e : (cookie == 0) ≡ false = ne_eqb cookie 0 some in
-    let f : nat_lt (used (channel (object_of v) ch)) cookie ≡ false = le-ltb _ cookie given in
-    let g : nat_le cookie (finished (channel (object_of v) ch)) ≡ false = lt-leb cookie _ still in
-    rw (e, f, g) refl
-
 -- how far a cookie is, by the board that the ticks of the history add up to
 pub status_by_board : (v : View) (ch cookie : ℕ) → AreCounted v.base → IsLegal v.base v.history → status_in v ch cookie ≡ status_of (board_after (board_of v.base) (ticks_of v.history)) ch cookie
 status_by_board v ch cookie counted legal =
     let is = board_is v.base v.history counted legal in
-    ap (λ (x : Counts). if cookie == 0 || nat_lt x.used cookie then Unknown else (if nat_le cookie x.finished then Complete else InProgress)) (sym (counts_at (object_of v) ch))
+    ap (λ x. status_by x cookie) (sym (counts_at (object_of v) ch))
     ∙ ap (λ b. status_of b ch cookie) (sym is)
 
 pub counted_at : (p : Parts) → Holds p → (ch : ℕ) → IsCounted (channel (object_of (view_of p)) ch)

@@ -1,5 +1,5 @@
 -- Answers to consecutive calls, and answers when memory doesn't run out.
-use Rattle.std.proofs.Common.{inl, inr, ◌≡◌, ◌≢◌, ℕ, ◌+◌, List, [], ◌∷◌, length, take, drop, Option, Some, None, Bool, true, false, refl, ap, ◌∙◌, subst}
+use Rattle.std.proofs.Common.{inl, inr, ◌≡◌, ◌≢◌, ℕ, ◌+◌, List, [], ◌∷◌, ◌++◌, length, take, drop, Option, Some, None, Bool, true, false, refl, ap, ◌∙◌, subst}
 use Rattle.std.specs.Prelude.{◌==◌, ◌||◌, nat_le, nat_lt, not}
 use Rattle.std.specs.Option.{option_map}
 use Rattle.std.proofs.lemmas.List.Elements.{All-head, All-tail}
@@ -36,6 +36,11 @@ answers_split u w (c ∷ cs) more [] h = absurd h
 answers_split u w (c ∷ cs) more (r ∷ rs) h =
     let rest = answers_split h.0 w cs more rs h.2 in
     (rest.0, (h.0, h.1, rest.1), rest.2)
+
+pub answers_append_law : (v : View) (xs ys : List Call) → answers v (xs ++ ys) ≡ (let a = answers v xs in let b = answers a.1 ys in (a.0 ++ b.0, b.1))
+answers_append_law v [] ys = refl
+answers_append_law v (call ∷ xs) ys =
+    ap (λ (a : List Reply × View). ((answer v call).0 ∷ a.0, a.1)) (answers_append_law (answer v call).1 xs ys)
 
 -- ---- with enough memory no answer is out of memory
 

@@ -34,6 +34,7 @@ pub mod AnswerCounts
 pub mod CookieCounts
 pub mod IdleSteps
 pub mod JoinedCalls
+pub mod StepReplies
 pub mod SoundViews
 pub mod StaysSound
 pub mod Advances

@@ -32,7 +32,7 @@ use Rattle.dma_engine.proofs.WhatRuns.{All_filter_map, below, above}
 
 -- ---- submitted transfers
 
--- each submitted transfer meets the rules and lies below the size
+-- each submitted transfer obeys the rules and lies below the size
 abbrev pub IsGood : ℕ → Descriptor → Type 0
 IsGood n t = IsTransfer t × (lies_below t n ≡ true)
 
@@ -128,7 +128,7 @@ machine_at memory m c t loaded is h =
     ] in
     by m.program (front c) loaded is h
 
--- each front of a sound view meets the rules and lies below the size
+-- each front of a sound view obeys the rules and lies below the size
 pub ruled_front : (v : View) (ch : ℕ) (t : Descriptor) → IsSound v → front (channel (object_of v) ch) ≡ Some t → IsGood (size v) t
 ruled_front v ch t h is =
     let good = ruled_object (length v.base.image) v.base v.history refl (ruled_base v.base h.opens) h.legal ch _ t is in

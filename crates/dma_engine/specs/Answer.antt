@@ -12,16 +12,16 @@ use Rattle.dma_mem.specs.declared.call.Call.TheVariants.{Write, Read, Submit, Is
 use Rattle.dma_engine.specs.declared.call.Reply.{Reply}
 use Rattle.dma_engine.specs.declared.call.Reply.TheVariants.{Done, Bytes, Cookie, Count, Turned, State, Result as Resulted, Refused}
 use Rattle.dma_engine.specs.declared.turn.Status.{Status as EngineStatus}
-use Rattle.dma_engine.specs.declared.turn.Status.TheVariants.{Unknown, InProgress, Complete}
 use Rattle.dma_engine.specs.declared.turn.Turn.{Turn}
 use Rattle.dma_engine.specs.declared.turn.Turn.TheVariants.{Started}
 use Rattle.dma_engine.specs.declared.fault.EngineFault.{EngineFault}
 use Rattle.dma_engine.specs.declared.fault.EngineFault.TheVariants.{OutOfMemoryRange, Busy, Running, NoChannel, CookiesSpent, BadEvent, BadRange, NoMemory}
 use Rattle.dma_engine.specs.declared.fault.SubmitFault.{SubmitFault}
 use Rattle.dma_engine.specs.declared.outcome.Outcome.{Outcome}
-use Rattle.dma_engine.specs.Object.{Object, base_from, channel, used, finished, unfinished, last_cookie}
+use Rattle.dma_engine.specs.Object.{Object, base_from, channel, used, unfinished, last_cookie}
 use Rattle.dma_chan.specs.Traffic.{stored_after}
 use Rattle.dma_engine.specs.View.{View, RunningTransfer, object_of, schedule_at, size, channels, idle, runs, running}
+use Rattle.dma_engine.specs.Ticks.{counts_of, status_by}
 use Rattle.dma_engine.specs.Turn.{with_entry, turn}
 
 -- ---- the first cause of a refusal, if any
@@ -108,13 +108,9 @@ terminated v ch =
       schedule = slice_set v.schedule ch idle;
     }
 
--- The status of a cookie (profile): Unknown if it is 0 or above the cookies that its channel has given, Complete if it
--- is finished, else InProgress.
+-- the status of a cookie
 abbrev pub status_in : View → ℕ → ℕ → EngineStatus
-status_in v ch cookie =
-    let c = channel (object_of v) ch in
-    if cookie == 0 || nat_lt (used c) cookie then Unknown
-    else (if nat_le cookie (finished c) then Complete else InProgress)
+status_in v ch cookie = status_by (counts_of (channel (object_of v) ch)) cookie
 
 -- how a cookie finished, or None if it hasn't finished or is forgotten
 abbrev pub result_of : Object → ℕ → ℕ → Option Outcome

@@ -139,7 +139,7 @@ IdleStepsStay =
 
 -- ---- the views after answers
 
--- A call that can be made: the transfer of a submit meets the rules of transfers, as every value of the type does.
+-- A call that can be made: the transfer of a submit obeys the rules of transfers, as every value of the type does.
 abbrev pub IsCall : Call → Type 0
 IsCall (Submit ch t) = IsTransfer t
 IsCall call = Unit {0}

@@ -238,7 +238,7 @@ abbrev pub base_from : Object → Object
 base_from o = record o { channels = map forget o.channels }
 
 -- A channel that can be in a base: no outcome is known, the front has neither passed nor signalled, all finished
--- cookies are issued, all issued cookies are given, no cookie is above the last one, and the unfinished transfers meet
+-- cookies are issued, all issued cookies are given, no cookie is above the last one, and the unfinished transfers obey
 -- the rules and lie below the memory's size.
 pub record IsBaseChannel (size : ℕ) (c : ChannelState) : Type 0 where
   pub outcomes : c.outcomes ≡ []

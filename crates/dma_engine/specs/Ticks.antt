@@ -65,8 +65,13 @@ counts_of c = record { used = used c; finished = finished c }
 abbrev pub board_of : Object → Board
 board_of o = map counts_of o.channels
 
--- The status of a cookie (profile).
+-- The status of a cookie (profile) of a channel with these counts: Unknown if it is 0 or above the cookies that were
+-- given, Complete if it is finished, else InProgress.
+abbrev pub status_by : Counts → ℕ → Status
+status_by c cookie =
+    if cookie == 0 || nat_lt c.used cookie then Unknown
+    else (if nat_le cookie c.finished then Complete else InProgress)
+
+-- the status of a cookie by a board
 abbrev pub status_of : Board → ℕ → ℕ → Status
-status_of board ch cookie =
-    if cookie == 0 || nat_lt (counts board ch).used cookie then Unknown
-    else (if nat_le cookie (counts board ch).finished then Complete else InProgress)
+status_of board ch cookie = status_by (counts board ch) cookie

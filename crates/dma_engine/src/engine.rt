@@ -236,19 +236,7 @@ impl Engine {
     pub fn status(&self, ch: u8, cookie: u32) -> Status
         ensures { result ≡ status_in self.now.view ch cookie }
     {
-        let used = self.used(ch);
-        let finished = self.finished(ch);
-        if cookie == 0 {
-            return Status::Unknown;
-        }
-        if cookie > used {
-            return Status::Unknown;
-        }
-        if cookie <= finished {
-            Status::Complete
-        } else {
-            Status::InProgress
-        }
+        Status::of(self.used(ch), self.finished(ch), cookie)
     }
 
     /// Returns how a cookie finished. It is `Some` exactly if the cookie has finished and isn't forgotten.

@@ -1,5 +1,7 @@
 //! The result of a step of a channel, and the status of a cookie.
 
+ghost use Rattle.std.specs.Prelude.{◌≡◌};
+
 use crate::fault::EngineFault;
 use crate::outcome::TransResult;
 
@@ -58,6 +60,23 @@ pub enum Status {
     InProgress,
     /// It has finished (DMA_COMPLETE).
     Complete,
+}
+
+impl Status {
+    ghost use Rattle.dma_engine.specs.Ticks.{status_by};
+
+    /// Returns the status of a cookie of a channel that has given and finished this many.
+    pub fn of(used: u32, finished: u32, cookie: u32) -> Status
+        ensures { result ≡ status_by (record { used = used; finished = finished }) cookie }
+    {
+        if cookie == 0 || used < cookie {
+            Status::Unknown
+        } else if cookie <= finished {
+            Status::Complete
+        } else {
+            Status::InProgress
+        }
+    }
 }
 
 /// What runs on a channel.

@@ -1,6 +1,8 @@
 -- A call from C is a list of the engine's calls.
-use Rattle.std.proofs.Common.{◌≡◌, ℕ, zero, suc, List, [], ◌∷◌, ◌++◌, Option, Some, None, refl, ap, subst, sym, inl, inr}
-use Rattle.std.specs.Prelude.{replicate, unwrap_or}
+use Rattle.std.proofs.Common.{◌≡◌, ℕ, zero, suc, ◌+◌, Bool, true, false, List, [], ◌∷◌, ◌++◌, Option, Some, None, refl, ap, subst, sym, ◌∙◌, inl, inr, append_assoc, arith}
+use Rattle.std.specs.Prelude.{if◌then◌else◌, ◌==◌, Result, Ok, Err, replicate, unwrap_or}
+use Rattle.std.proofs.lemmas.Bool.{eqb-true}
+use Rattle.std.proofs.lemmas.List.{replicate-append-replicate}
 use Rattle.dma_mem.specs.Places.{Descriptor, filling}
 use Rattle.dma_mem.specs.Refusals.{refusal_of, refusal_of_fill}
 use Rattle.dma_mem.specs.declared.marks.MarkKind.{MarkKind}
@@ -10,12 +12,20 @@ use Rattle.dma_mem.specs.declared.transfer.TransferFault.TheVariants as transfer
 use Rattle.dma_mem.specs.declared.call.Call.{Call}
 use Rattle.dma_mem.specs.declared.call.Call.TheVariants.{Submit, Step, Mark}
 use Rattle.dma_engine.specs.declared.call.Reply.{Reply}
-use Rattle.dma_engine.specs.declared.call.Reply.TheVariants.{Done, Bytes, Cookie, Count, Turned, State, Result as Resulted, Refused}
+use Rattle.dma_engine.specs.declared.call.Reply.TheVariants.{Turned, Refused}
+use Rattle.dma_engine.specs.declared.fault.EngineFault.{EngineFault}
+use Rattle.dma_engine.specs.declared.turn.Advanced.{Advanced}
 use Rattle.dma_engine.specs.declared.turn.Turn.{Turn}
+use Rattle.dma_engine.specs.declared.turn.Turn.TheVariants.{Moved}
+use Rattle.dma_engine.specs.Advance.{EndsWith, after_steps, replies_before, start_replies, steps_before}
 use Rattle.dma_engine.specs.View.{View}
-use Rattle.dma_engine.specs.Answer.{AreAnswers, CallAnswers}
+use Rattle.dma_engine.specs.Answer.{AreAnswers, StepAnswers, answers}
+use Rattle.dma_engine.proofs.CallLists.{AreAnswers_push}
+use Rattle.dma_engine.proofs.IdleSteps.{idle_steps_stay}
+use Rattle.dma_engine.proofs.JoinedCalls.{answers_are_answers}
+use Rattle.dma_engine.proofs.Turns.{answer_is}
 use Rattle.dma_ffi.specs.Codes.{mark_kind}
-use Rattle.dma_ffi.specs.Requests.{Answer, Answers, AnswersMark, AnswersSteps, AnswersSubmit, InARow, Replies, Request, Returns, ask_call, ask_copy, ask_fill, ask_mark, ask_steps, ask_value, closed, known, no_kind, replied, stepped, unfit}
+use Rattle.dma_ffi.specs.Requests.{Answer, Answers, AnswersMark, AnswersSubmit, Replies, Request, Returns, advance_answer, ask_call, ask_copy, ask_fill, ask_mark, ask_steps, ask_value, replied, stepped, turn_before, unfit}
 use Rattle.dma_ffi.specs.Laws.{AreReplies, CallsAreTheEngines, calls_made, if_replied, marking}
 
 -- there are replies to calls in order that fit an answer and lead to this view
@@ -29,28 +39,57 @@ one_made : (v w : View) (call : Call) (answer : Answer) → Replies v call answe
 one_made v w call answer (reply, is, answers) =
     (reply ∷ [], subst (λ (a : Answer). AreReplies a (reply ∷ [])) (sym is) refl, (w, answers, refl))
 
--- one more behind
-one_more : (v u w : View) (calls : List Call) (replies : List Reply) (call : Call) (reply : Reply) → AreAnswers v calls replies u → CallAnswers u call reply w → AreAnswers v (calls ++ call ∷ []) (replies ++ reply ∷ []) w
-one_more v u w [] [] call reply same answers = (w, subst (λ (x : View). CallAnswers x call reply w) same answers, refl)
-one_more v u w [] (r ∷ rs) call reply same answers = absurd same
-one_more v u w (c ∷ cs) [] call reply same answers = absurd same
-one_more v u w (c ∷ cs) (r ∷ rs) call reply made answers =
-    (made.0, made.1, one_more made.0 u w cs rs call reply made.2 answers)
+-- ---- steps
 
-replicate_end : {A : Type 0} (n : ℕ) (x : A) → replicate n x ++ x ∷ [] ≡ replicate (suc n) x
-replicate_end zero x = refl
-replicate_end (suc n) x = ap (λ l. x ∷ l) (replicate_end n x)
+-- a refused step changes nothing
+refused_stays : (v w : View) (ch : ℕ) (fault : EngineFault) → StepAnswers v ch (Err fault) w → w ≡ v
+refused_stays v w ch fault h = elim (answer_is v w (Step ch) (Refused fault) h) [
+  | inl none ↦ none.1
+  | inr is ↦ idle_steps_stay v w ch (Err fault) tt is
+]
 
-steps_made : (v w : View) (ch n : ℕ) (last : Option Turn) → InARow v ch n last w → Made v (replicate n (Step ch)) (stepped n last) w
-steps_made v w ch zero last row = ([], subst (λ (l : Option Turn). AreReplies (stepped zero l) []) (sym row.0) refl, row.1)
-steps_made v w ch (suc n) last (u, before, turn, row, goes, answers, is) =
-    let made = steps_made v u ch n before row in
-    let replies : List Reply = made.0 ++ Turned turn ∷ [] in (
-      replies,
-      subst (λ (l : Option Turn). AreReplies (stepped (suc n) l) replies) (sym is) (made.0, refl),
-      subst (λ (calls : List Call). AreAnswers v calls replies w) (replicate_end n (Step ch))
-          (one_more v u w (replicate n (Step ch)) made.0 (Step ch) (Turned turn) made.2 answers),
+before_fits : (n : ℕ) (started : Option ℕ) (moved : ℕ) → AreReplies (stepped n (turn_before started moved)) (start_replies started ++ replicate moved (Turned Moved))
+before_fits n None zero = refl
+before_fits n (Some cookie) zero = ([], refl)
+before_fits n started (suc moved) =
+    let start = start_replies started in
+    let one : moved + 1 ≡ suc moved = omega arith in (
+      start ++ replicate moved (Turned Moved),
+      sym (append_assoc start (replicate moved (Turned Moved)) (Turned Moved ∷ [])
+          ∙ ap (λ l. start ++ l) (replicate-append-replicate moved 1 (Turned Moved) ∙ ap (λ (k : ℕ). replicate k (Turned Moved)) one)),
     )
+
+-- the steps before the last
+before_answers : (v w : View) (ch : ℕ) (a : Advanced) → (answers v (replicate (steps_before a) (Step ch))).0 ≡ replies_before a → w ≡ after_steps v ch (steps_before a) → AreAnswers v (replicate (steps_before a) (Step ch)) (replies_before a) w
+before_answers v w ch a is same =
+    let calls = replicate (steps_before a) (Step ch) in
+    subst (λ (x : View). AreAnswers v calls (replies_before a) x) (sym same)
+    (subst (λ (l : List Reply). AreAnswers v calls l (answers v calls).1) is (answers_are_answers v calls))
+
+before_made : (v w : View) (ch : ℕ) (a : Advanced) → (answers v (replicate (steps_before a) (Step ch))).0 ≡ replies_before a → w ≡ after_steps v ch (steps_before a) → Made v (replicate (steps_before a) (Step ch)) (stepped (steps_before a) (turn_before a.started a.moved)) w
+before_made v w ch a is same = (replies_before a, before_fits (steps_before a) a.started a.moved, before_answers v w ch a is same)
+
+-- a refused step after others, or as the first
+refused_made : (v w : View) (ch : ℕ) (a : Advanced) (fault : EngineFault) (first : Bool) → (answers v (replicate (steps_before a) (Step ch))).0 ≡ replies_before a → StepAnswers (after_steps v ch (steps_before a)) ch (Err fault) w → (steps_before a == 0) ≡ first → (let answer = if first then replied (Refused fault) else stepped (steps_before a) (turn_before a.started a.moved) in Made v (calls_made (ask_steps ch 0) answer) answer w)
+refused_made v w ch a fault true before is none =
+    let zero = eqb-true (steps_before a) 0 none in
+    one_made v w (Step ch) (replied (Refused fault)) (Refused fault, refl, subst (λ (k : ℕ). StepAnswers (after_steps v ch k) ch (Err fault) w) zero is)
+refused_made v w ch a fault false before is some =
+    before_made v w ch a before (refused_stays (after_steps v ch (steps_before a)) w ch fault is)
+
+-- the steps of an advance, by the result of the last
+advance_made : (v w : View) (ch most : ℕ) (a : Advanced) (last : Option (Result Turn EngineFault)) → (answers v (replicate (steps_before a) (Step ch))).0 ≡ replies_before a → EndsWith (after_steps v ch (steps_before a)) ch (steps_before a) most last w → Made v (calls_made (ask_steps ch most) (advance_answer a last)) (advance_answer a last) w
+advance_made v w ch most a None before last = before_made v w ch a before last.1
+advance_made v w ch most a (Some (Ok turn)) before last =
+    let u = after_steps v ch (steps_before a) in
+    let calls = replicate (steps_before a) (Step ch) in
+    let replies = replies_before a ++ Turned turn ∷ [] in (
+      replies,
+      (replies_before a, refl),
+      subst (λ (x : List Call). AreAnswers v x replies w) (replicate-append-replicate (steps_before a) 1 (Step ch))
+          (AreAnswers_push v u w calls (replies_before a) (Step ch) (Turned turn) (before_answers v u ch a before refl) last.2),
+    )
+advance_made v w ch most a (Some (Err fault)) before last = refused_made v w ch a fault (steps_before a == 0) before last.2 refl
 
 mark_made : (v w : View) (kind : Option MarkKind) (range : Segment) (answer : Answer) → AnswersMark v kind range answer w → Made v (marking kind range) answer w
 mark_made v w None range answer h = none_made v w answer (subst (λ (a : Answer). AreReplies a []) (sym h.0) refl) h.1
@@ -62,28 +101,14 @@ submit_made v w ch t refusal answer (inl h) =
 submit_made v w ch t refusal answer (inr h) =
     subst (λ (a : Answer). Made v (if_replied a (Submit ch t)) a w) (sym h.1.1) (one_made v w (Submit ch t) (replied h.1.0) (h.1.0, refl, h.1.2))
 
-stepping_made : (v w : View) (ch most : ℕ) (answer : Answer) → AnswersSteps v ch most answer w → Made v (calls_made (ask_steps ch most) answer) answer w
-stepping_made v w ch most (replied (Refused fault)) h = one_made v w (Step ch) (replied (Refused fault)) (Refused fault, refl, h.1)
-stepping_made v w ch most (stepped taken last) h = steps_made v w ch taken last h.row
-stepping_made v w ch most (replied Done) h = absurd h
-stepping_made v w ch most (replied (Bytes bytes)) h = absurd h
-stepping_made v w ch most (replied (Cookie cookie)) h = absurd h
-stepping_made v w ch most (replied (Count count)) h = absurd h
-stepping_made v w ch most (replied (Turned turn)) h = absurd h
-stepping_made v w ch most (replied (State status)) h = absurd h
-stepping_made v w ch most (replied (Resulted outcome)) h = absurd h
-stepping_made v w ch most closed h = absurd h
-stepping_made v w ch most (unfit fault) h = absurd h
-stepping_made v w ch most no_kind h = absurd h
-stepping_made v w ch most (known x) h = absurd h
-
 made : (v w : View) (request : Request) (answer : Answer) → Answers v request answer w → Made v (calls_made request answer) answer w
 made v w (ask_call call) answer h = one_made v w call answer h
 made v w (ask_mark kind range) answer h = mark_made v w (mark_kind kind) range answer h
 made v w (ask_copy ch t) answer h = submit_made v w ch t (refusal_of t) answer h
 made v w (ask_fill ch src dst wait signal) answer h =
     submit_made v w ch (filling src dst wait signal) (refusal_of_fill src dst wait signal) answer h
-made v w (ask_steps ch most) answer h = stepping_made v w ch most answer h
+made v w (ask_steps ch most) answer (a, h, is) =
+    subst (λ (x : Answer). Made v (calls_made (ask_steps ch most) x) x w) (sym is) (advance_made v w ch most a a.last h.before h.last)
 made v w (ask_value value) answer h = none_made v w answer (subst (λ (a : Answer). AreReplies a []) (sym h.0) refl) h.1
 
 pub calls_are_the_engines : CallsAreTheEngines

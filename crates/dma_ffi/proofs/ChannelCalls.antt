@@ -33,6 +33,7 @@ use Rattle.dma_chan.proofs.CallsAmongOthers.{Runs, at_first, goes, survived}
 use Rattle.dma_chan.proofs.PlacesKept.{long_above}
 use Rattle.dma_chan.proofs.RegionsHave.{gaps_miss}
 use Rattle.dma_chan.proofs.SinceLoads.{has_copied, leads}
+use Rattle.dma_chan.proofs.StepsTaken.{steps_move}
 use Rattle.dma_chan.proofs.SteppedOver.{writes_each}
 use Rattle.dma_ffi.specs.declared.channel_steps.ChannelReport.{ChannelReport}
 use Rattle.dma_ffi.specs.declared.marked_channel.MarkedChannel.{MarkedChannel}
@@ -231,7 +232,7 @@ each_was_written call d a i =
     let does = does_call 0 call d in
     let s = machine_of call.lent in
     let count : call.report.taken ≡ d.2.count = ap (λ (r : ChannelReport). r.taken) d.3.reported ∙ taken_in d.2.count d.1.channel.registers.pc d.2.written d.2.last d.2.signal in
-    let wrote = writes_each (marks_over d.0 call.lent.regions) s d.2.count a does.steps.moves (subst (λ (w : Segment). LiesIn w a) (reported_range call d ∙ does.written) i) in
+    let wrote = writes_each (marks_over d.0 call.lent.regions) s d.2.count a (steps_move does.steps) (subst (λ (w : Segment). LiesIn w a) (reported_range call d ∙ does.written) i) in
     subst (λ (o : Option MarkedChannel). Wrote (marks_over (marked_of o) call.lent.regions) s call.report.taken a) (sym d.3.before) (subst (λ (n : ℕ). Wrote (marks_over d.0 call.lent.regions) s n a) (sym count) wrote)
 
 pub steps_keep_the_rest : StepsKeepTheRest

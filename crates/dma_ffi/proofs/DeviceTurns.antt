@@ -38,7 +38,7 @@ turns_keep_the_rest n most (Some d) regions before code (Some e) left report (in
     let range = ap (λ (r : DeviceTurn). r.written) x.2.2 in
     record {
       kept = λ ok. subst (λ (s : Segment). KeepsOutside s (image_of (pieces_of regions)) (image_of (pieces_of left))) (sym range) w.no_other;
-      each = λ a ok i. (d, e, turn, refl, refl, w.each a (subst (λ (s : Segment). LiesIn s a) range i));
+      each = λ a ok i. (d, refl, w.each a (subst (λ (s : Segment). LiesIn s a) range i));
       in_place = record { places = w.places; read_only = w.read_only; names = w.names };
       refused = λ no. absurd (no x.0);
     }

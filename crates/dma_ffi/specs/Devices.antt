@@ -119,8 +119,7 @@ pub record KeepsTheRest (n most : ℕ) (old : Option DeviceValue) (regions : Lis
     (new : Option DeviceValue) (left : List Region) (report : DeviceTurn) : Type 0 where
   pub kept : code ≡ ok_code → KeepsOutside report.written (image_of (pieces_of regions)) (image_of (pieces_of left))
   pub each : (a : ℕ) → code ≡ ok_code → LiesIn report.written a →
-      (d : DeviceValue) × (e : DeviceValue) × (turn : Turn) × (old ≡ Some d) × (new ≡ Some e)
-      × TurnWrote d regions n most e left turn a
+      (d : DeviceValue) × (old ≡ Some d) × TurnWrote d regions n most a
   pub in_place : StayInPlace regions left
   pub refused : code ≢ ok_code → (new ≡ old) × (left ≡ regions) × (report ≡ before)
 

@@ -1,5 +1,6 @@
 -- What a call from C on a controller returns and writes: one definition for all calls.
-use Rattle.std.specs.Prelude.{◌≡◌, ◌≢◌, ℕ, ◌<◌, ◌≤◌, ◌⊎◌, zero, suc, Bool, true, false, ℤ, Option, None, Some, IsSomeAnd, MatchOption, Result, Ok, Err, List, length, min, unwrap_or}
+use Rattle.std.specs.Prelude.{◌≡◌, ◌≢◌, ℕ, ◌+◌, ◌⊎◌, zero, suc, if◌then◌else◌, ◌==◌, ℤ, Option, None, Some, IsSomeAnd, MatchOption, Result, Ok, Err, List, length, min, unwrap_or}
+use Rattle.std.specs.Option.{option_map}
 use Rattle.dma_mem.specs.Places.{Descriptor, filling}
 use Rattle.dma_mem.specs.Refusals.{refusal_of, refusal_of_fill}
 use Rattle.dma_mem.specs.declared.marks.MarkKind.{MarkKind}
@@ -12,13 +13,15 @@ use Rattle.dma_engine.specs.declared.call.Reply.{Reply}
 use Rattle.dma_engine.specs.declared.call.Reply.TheVariants.{Bytes, Cookie, Count, Result as Resulted, Refused}
 use Rattle.dma_engine.specs.declared.fault.EngineFault.{EngineFault}
 use Rattle.dma_engine.specs.declared.fault.NewFault.TheVariants as engines
+use Rattle.dma_engine.specs.declared.turn.Advanced.{Advanced}
 use Rattle.dma_engine.specs.declared.turn.Running.{Running}
 use Rattle.dma_engine.specs.declared.turn.Turn.{Turn}
+use Rattle.dma_engine.specs.declared.turn.Turn.TheVariants.{Started, Moved}
 use Rattle.dma_engine.specs.Object.{channel, unfinished}
-use Rattle.dma_engine.specs.Advance as steps
+use Rattle.dma_engine.specs.Advance.{IsAdvance, steps_before}
 use Rattle.dma_engine.specs.History.{kept_bytes}
 use Rattle.dma_engine.specs.View.{View, EngineState, object_of, running, running_on, new_fault, new_view}
-use Rattle.dma_engine.specs.Answer.{CallAnswers, StepAnswers}
+use Rattle.dma_engine.specs.Answer.{CallAnswers}
 use Rattle.dma_engine.specs.Room.{HasNoSpare}
 use Rattle.dma_ffi.specs.declared.steps.StepsTaken.{StepsTaken}
 use Rattle.dma_ffi.specs.declared.reports.DmaConflict.{DmaConflict}
@@ -97,29 +100,18 @@ the_running_count v = numbered (length (running (object_of v) v.schedule))
 
 -- ---- steps in a row
 
--- Whether a further step is taken: none was taken before, or the last one started a transfer or moved.
-abbrev pub goes_on : Option Turn → Bool
-goes_on None = true
-goes_on (Some turn) = steps.goes_on (Ok turn)
+-- what the last step did of a start, if any, and of steps that moved after it
+abbrev pub turn_before : Option ℕ → ℕ → Option Turn
+turn_before started zero = option_map Started started
+turn_before started (suc moved) = Some Moved
 
--- The channel takes this many steps, one after another, and none is refused. Each step but the last starts a transfer
--- or moves. `last` is what the last step did, or none without a step, and `w` is the view after the steps.
-abbrev pub InARow : View → ℕ → ℕ → Option Turn → View → Type 0
-InARow v ch zero last w = (last ≡ None) × (w ≡ v)
-InARow v ch (suc n) last w =
-    (u : View) × (before : Option Turn) × (turn : Turn) × InARow v ch n before u × (goes_on before ≡ true)
-    × StepAnswers u ch (Ok turn) w × (last ≡ Some turn)
-
--- The next step of a channel is refused, and changes nothing.
-abbrev pub RefusesStep : View → ℕ → Type 0
-RefusesStep v ch = (fault : EngineFault) × StepAnswers v ch (Err fault) v
-
--- A call takes `taken` of at most `most` steps of a channel. It stops at `most` steps; or after a step that neither
--- started a transfer nor moved; or, after at least one step, before a step that is refused.
-pub record TakesSteps (v : View) (ch most taken : ℕ) (last : Option Turn) (w : View) : Type 0 where
-  pub row : InARow v ch taken last w
-  pub few : taken ≤ most
-  pub stops : (taken ≡ most) ⊎ ((goes_on last ≡ false) ⊎ ((0 < taken) × RefusesStep w ch))
+-- The answer for consecutive steps of the engine, by the result of the last: how many were taken, and what the last one
+-- did. A refused step isn't taken. If it is the first, the answer is its refusal.
+abbrev pub advance_answer : Advanced → Option (Result Turn EngineFault) → Answer
+advance_answer a None = stepped (steps_before a) (turn_before a.started a.moved)
+advance_answer a (Some (Ok turn)) = stepped (steps_before a + 1) (Some turn)
+advance_answer a (Some (Err fault)) =
+    if steps_before a == 0 then replied (Refused fault) else stepped (steps_before a) (turn_before a.started a.moved)
 
 -- ---- how an engine answers
 
@@ -139,11 +131,9 @@ AnswersSubmit v ch refusal t answer w =
     ((answer ≡ unfit (unwrap_or refusal transfers.NoMemory)) × (w ≡ v))
     ⊎ ((refusal ≡ None) × Replies v (Submit ch t) answer w)
 
--- The answer to steps: the refusal of the first step, only if `most` isn't 0; or the steps that were taken.
+-- The answer to steps is that for consecutive steps of the engine, at most `most`.
 abbrev pub AnswersSteps : View → ℕ → ℕ → Answer → View → Type 0
-AnswersSteps v ch most (replied (Refused fault)) w = (0 < most) × StepAnswers v ch (Err fault) w
-AnswersSteps v ch most (stepped taken last) w = TakesSteps v ch most taken last w
-AnswersSteps v ch most _ w = ⊥
+AnswersSteps v ch most answer w = (a : Advanced) × IsAdvance v ch most a w × (answer ≡ advance_answer a a.last)
 
 -- An engine with the view `v` may give this answer to the request, and then has the view `w`.
 abbrev pub Answers : View → Request → Answer → View → Type 0

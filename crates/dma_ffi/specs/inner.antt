@@ -2,7 +2,6 @@
 -- from C don't use them.
 pub mod Owned
 pub mod Lending
-pub mod InRow
 pub mod Loads
 pub mod Submits
 pub mod Found

@@ -10,7 +10,7 @@
 //! explains it, or why and where none does (`specs/Explaining.antt`); a call that plans writes the program of its
 //! transfer for a bus (`PlansTransfer`).
 //!
-//! The proofs assume that the caller meets its duties (docs/EMBEDDING.md). Controllers and channels are zeros before
+//! The proofs assume that the caller fulfils its duties (docs/EMBEDDING.md). Controllers and channels are zeros before
 //! their first call, are not copied, and are used by one call at a time, ordered by a lock, a start, a join or a
 //! sequentially consistent atomic. Pointers are not null, aligned, valid for their counts, and don't overlap except
 //! for lists that are only read. Nobody else writes what a call reads or reads what it writes. No call comes from a

@@ -1,8 +1,7 @@
 //! Steps of a channel, one after another.
 
 ghost use Rattle.std.specs.Prelude.{◌≡◌};
-ghost use Rattle.dma_ffi.specs.Requests.{AnswersSteps, steps_answer};
-ghost use Rattle.dma_ffi.specs.inner.InRow.{turn_before};
+ghost use Rattle.dma_ffi.specs.Requests.{AnswersSteps, steps_answer, turn_before};
 
 use dma_engine::{Engine, EngineFault, Turn};
 

@@ -20,6 +20,7 @@ pub mod PieceWrites
 pub mod RegionSearch
 pub mod RunsCopied
 pub mod FlagBits
+pub mod Steps
 pub mod RangeSets
 pub mod RangeReplaced
 pub mod NeighboursMeet

@@ -14,6 +14,7 @@ use Rattle.std.proofs.lemmas.Option.{slice_get_past}
 use Rattle.dma_mem.specs.declared.segment.Segment.{Segment}
 use Rattle.dma_mem.specs.declared.transfer.TransferFault.{TransferFault}
 use Rattle.dma_mem.specs.Places.{Apart, Descriptor, filling, places, sources, destinations, size_of, share, touches, is_free_of}
+use Rattle.dma_mem.specs.Meeting.{meets}
 use Rattle.dma_mem.specs.Rules.{IsTransfer, IsSegmentList, HasOneByte}
 use Rattle.dma_mem.specs.Refusals.{refusal_of, cause, total, some_meet, meets_any, is_bad_event, is_empty_list, has_too_many, has_empty_segment, has_wrapping_segment}
 use Rattle.dma_mem.proofs.SharedPlaces.{share_false, share_true, shared_by, share_places, share_none, share_append_left}
@@ -199,14 +200,15 @@ share_sources zs t h = share_again_law t.fill zs (places t.src) (destinations t)
 pub sources_share : (t : Descriptor) (zs : List ℕ) → IsTransfer t → share (sources t) zs ≡ share (places t.src) zs
 sources_share t zs h = share_sym (sources t) zs ∙ share_sources zs t h ∙ share_sym zs (places t.src)
 
-pub touches_lists : (t : Descriptor) (s : Segment) → IsTransfer t → touches t s ≡ (share (range_with_len s.addr s.len) (destinations t) || share (range_with_len s.addr s.len) (places t.src))
-touches_lists t s h = ap (λ b. share (range_with_len s.addr s.len) (destinations t) || b) (share_sources (range_with_len s.addr s.len) t h)
+pub touches_lists : (t : Descriptor) (s : Segment) → IsTransfer t → touches t s ≡ (share (range_with_len s.addr s.len) (destinations t) || list_any (meets s) t.src)
+touches_lists t s h =
+    ap (λ b. share (range_with_len s.addr s.len) (destinations t) || b) (share_sources (range_with_len s.addr s.len) t h ∙ sym (share_places _ t.src))
 
-pub is_free_of_lists : (t u : Descriptor) → IsTransfer t → IsTransfer u → is_free_of t u ≡ not (share (destinations t) (destinations u) || (share (destinations t) (places u.src) || share (places t.src) (destinations u)))
+pub is_free_of_lists : (t u : Descriptor) → IsTransfer t → IsTransfer u → is_free_of t u ≡ not (meets_any t.dst u.dst || (meets_any t.dst u.src || meets_any t.src u.dst))
 is_free_of_lists t u h i =
     let theirs : share (destinations t) (sources u) ≡ share (destinations t) (places u.src) = share_sources (destinations t) u i in
     let own : share (sources t) (destinations u) ≡ share (places t.src) (destinations u) = sources_share t (destinations u) h in
-    rw (theirs, own) refl
+    rw (theirs, own, meets_any_places t.dst u.dst, meets_any_places t.dst u.src, meets_any_places t.src u.dst) refl
 
 at_again : (a p : ℕ) (ds : List ℕ) → p < length ds → Some a ≡ slice_get (flat_map (λ (d : ℕ). a ∷ []) ds) p
 at_again a p [] l = absurd (omega arith)

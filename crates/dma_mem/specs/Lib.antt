@@ -7,6 +7,7 @@ pub mod Marking
 pub mod Refusals
 pub mod Meeting
 pub mod Flags
+pub mod Steps
 pub mod Pages
 pub mod Lent
 pub mod Regions

@@ -42,12 +42,13 @@ impl Region<'_> {
         start <= addr && addr - start < self.bytes.len() as u64
     }
 
-    // Returns the address after the region's last byte, which needn't be an address of 32 bits.
+    // Returns the address after the region's last byte, which needn't be an address of 32 bits. The sum saturates, so
+    // that a length of almost 2^64, which only a mistaken program in C lends, isn't in order.
     #[inline(always)]
     pub(crate) fn end(&self) -> u64
         ensures { result ≡ end_of (piece_of self.now) }
     {
-        u64::from(self.addr) + shared(&self.bytes).len() as u64
+        u64::from(self.addr).saturating_add(shared(&self.bytes).len() as u64)
     }
 
     // Returns the region's bytes from one of its addresses on.

@@ -14,7 +14,7 @@ pub(crate) mod rules;
 use crate::limits::{LAST_EVENT, MAX_SEGMENTS, MAX_TRANSFER_BYTES};
 use crate::lists::Segments;
 use crate::segment::Segment;
-use crate::transfer::rules::{Totals, checked_fill, checked_len, lists_meet, meets_list};
+use crate::transfer::rules::{Totals, checked_fill, checked_len, meets_any, meets_one};
 use std::alloc::{AllocError, Global};
 use std::marker::Model;
 use thiserror::Error;
@@ -330,14 +330,14 @@ impl Transfer {
     pub fn touches(&self, segment: Segment) -> bool
         ensures { result ≡ touches self.now segment }
     {
-        self.writes(segment) || meets_list(segment, self.src())
+        self.writes(segment) || meets_one(segment, self.src())
     }
 
     /// Returns whether a destination segment meets this one.
     pub fn writes(&self, segment: Segment) -> bool
         ensures { result ≡ writes self.now segment }
     {
-        meets_list(segment, self.dst())
+        meets_one(segment, self.dst())
     }
 
     /// Returns whether its destinations meet no segment of the other, and its sources no destination of the other.
@@ -345,9 +345,9 @@ impl Transfer {
         ensures value { result ≡ is_free_of self.now other.now }
         ensures fact { IsTrue result ↔ IsFree self.now other.now }
     {
-        !lists_meet(self.dst(), other.dst())
-            && !lists_meet(self.dst(), other.src())
-            && !lists_meet(self.src(), other.dst())
+        !meets_any(self.dst(), other.dst())
+            && !meets_any(self.dst(), other.src())
+            && !meets_any(self.src(), other.dst())
     }
 
     /// Returns a copy of the transfer. Fails with `AllocError` if memory runs out.

@@ -1,8 +1,7 @@
 //! The desk: an engine, a book of totals, and the publisher of what status readers see.
 
-ghost use Rattle.std.specs.Prelude.{◌≡◌, ◌+◌, ◌<◌, [], IfOk, IfErr, IfSome, IsTrue, OnErr, OnOk};
-ghost use Rattle.dma_mem.specs.Rules.{IsTransfer};
-ghost use Rattle.dma_engine.specs.Answer.{CallAnswers, StepAnswers, checked, reply_of, submit_fault};
+ghost use Rattle.std.specs.Prelude.{◌≡◌, ◌+◌, ◌<◌, [], IfOk, IfErr, IfSome, IsTrue, OnErr};
+ghost use Rattle.dma_engine.specs.Answer.{CallAnswers, StepAnswers, next_cookie, reply_of};
 ghost use Rattle.dma_engine.specs.Laws.{IsQuiet};
 ghost use Rattle.dma_engine.specs.Object.{channel, used};
 ghost use Rattle.dma_engine.specs.Room.{HasNoSpare};
@@ -163,11 +162,8 @@ impl<N: DeskName> Desk<N> {
     }
 
     /// Checks a submit like [`Engine::check_submit`].
-    pub fn check_submit(&mut self, ch: u8, transfer: &Transfer) -> Result<u32, EngineFault>
-        ensures answer { result ≡ checked (submit_fault self.old.engine.view ch transfer.now)
-            (used (channel (object_of self.old.engine.view) ch) + 1) }
-        ensures rules { OnOk result (IsTransfer transfer.now) }
-        ensures same { self.new ≡ self.old }
+    pub fn check_submit(&self, ch: u8, transfer: &Transfer) -> Result<u32, EngineFault>
+        ensures { result ≡ next_cookie self.now.engine.view ch transfer.now }
     {
         self.engine.check_submit(ch, transfer)
     }

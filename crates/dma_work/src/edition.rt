@@ -98,11 +98,8 @@ impl Counts {
     fn status(&self, ch: u8, cookie: u32) -> Status
         ensures { result ≡ status_of self.now ch cookie }
     {
-        let channels = &self.channels;
-        match channels.get(usize::from(ch)) {
-            Some(counts) if cookie == 0 || counts.used < cookie => Status::Unknown,
-            Some(counts) if cookie <= counts.finished => Status::Complete,
-            Some(_) => Status::InProgress,
+        match self.channels.get(usize::from(ch)) {
+            Some(counts) => Status::of(counts.used, counts.finished, cookie),
             None => Status::Unknown,
         }
     }

@@ -1,7 +1,5 @@
 -- How the equal answers of a step line are counted before their line is printed.
-use Rattle.std.specs.Prelude.{ℕ, ◌++◌, List, [], ◌∷◌, Option, Some, None, replicate}
-use Rattle.dma_engine.specs.declared.call.Reply.{Reply}
-use Rattle.dma_engine.specs.declared.call.Reply.TheVariants.{Turned}
+use Rattle.std.specs.Prelude.{ℕ, ◌++◌, List, [], ◌∷◌, replicate}
 use Rattle.dma_engine.specs.declared.outcome.TransResult.TheVariants.{NoError}
 use Rattle.dma_engine.specs.declared.turn.Turn.TheVariants.{Started, Moved, Finished}
 use Rattle.dma_script.specs.Command.{text_of}
@@ -12,11 +10,6 @@ use Rattle.dma_commands.specs.Run.{step_line, step_lines}
 -- whose remaining answers are `rest`.
 abbrev pub text_with : ℕ → List ℕ → List ℕ → ℕ → List (List ℕ) → List ℕ
 text_with ch lines answer count rest = lines ++ text_of (step_lines ch (replicate count answer ++ rest))
-
--- the reply to a step that started this cookie, if any
-abbrev pub start_replies : Option ℕ → List Reply
-start_replies None = []
-start_replies (Some cookie) = Turned (Started cookie) ∷ []
 
 -- The text of a step line whose answers are the start, the moves and the finish of one transfer.
 abbrev pub transfer_text : ℕ → ℕ → ℕ → ℕ → List ℕ

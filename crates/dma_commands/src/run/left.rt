@@ -1,4 +1,4 @@
-//! The engine that a script leaves.
+//! The engine that a script finds, and the one that it leaves.
 ghost use Rattle.std.specs.Prelude.{◌≡◌, IfOk};
 ghost use Rattle.dma_engine.specs.View.{new_view};
 ghost use Rattle.dma_script.specs.Statements.{IsWithin};
@@ -13,7 +13,7 @@ use dma_script::statements::{RunScript, Statement};
 use std::alloc::{AllocError, Global};
 
 /// Returns a new engine as a memory line describes it. Fails if memory runs out.
-fn new_engine(alloc: Global, script: &RunScript) -> Result<Engine, AllocError>
+pub fn new_engine(alloc: Global, script: &RunScript) -> Result<Engine, AllocError>
     requires { IsWithin script.now }
     ensures { IfOk result (λ engine. engine.view ≡ new_view script.now.size script.now.channels) }
 {

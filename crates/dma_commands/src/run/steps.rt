@@ -6,9 +6,9 @@ ghost use Rattle.dma_engine.specs.Room.{IsIdle};
 ghost use Rattle.dma_mem.specs.declared.call.Call.TheVariants as calls;
 ghost use Rattle.dma_script.specs.Command.{text_of};
 ghost use Rattle.dma_commands.specs.Printed.{reply_text};
-ghost use Rattle.dma_engine.specs.Advance.{IsAdvance, steps_before};
+ghost use Rattle.dma_engine.specs.Advance.{IsAdvance, start_replies, steps_before};
 ghost use Rattle.dma_engine.specs.View.{View};
-ghost use Rattle.dma_commands.specs.inner.Counting.{start_replies, text_with, transfer_text};
+ghost use Rattle.dma_commands.specs.inner.Counting.{text_with, transfer_text};
 ghost use Rattle.dma_commands.specs.inner.RunSteps.{RunsLine};
 ghost use Rattle.dma_commands.specs.Run.{step_answer, step_line};
 
@@ -143,10 +143,10 @@ fn take_steps(
     requires other { IfSome steps.last (λ _. steps_before steps < most) }
     requires few { printed.old.count + most ≤ u32.MAX }
     ensures many { IfOk result (λ many. (0 < most → 0 < many) × (many ≤ most)) }
-    ensures view { IfOk result (λ many. (v w : View) → IsAdvance v ch steps w
+    ensures view { IfOk result (λ many. (v w : View) → IsAdvance v ch most steps w
         → w ≡ (answers v (replicate many (calls.Step ch))).1) }
     ensures text { IfOk result
-        (λ many. (v w : View) → IsAdvance v ch steps w → (rest : List (List ℕ))
+        (λ many. (v w : View) → IsAdvance v ch most steps w → (rest : List (List ℕ))
         → text_with ch printed.new.lines.items printed.new.last.items printed.new.count rest
         ≡ text_with ch printed.old.lines.items printed.old.last.items printed.old.count
         (map reply_text (answers v (replicate many (calls.Step ch))).0 ++ rest)) }

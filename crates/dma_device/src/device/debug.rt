@@ -7,25 +7,26 @@ ghost use Rattle.dma_device.specs.Device.{by_manager, by_thread, debugged, go, g
 ghost use Rattle.dma_device.specs.Thread.{failed, killed, started};
 
 use crate::device::Device;
+use crate::offset;
 use crate::thread::{DBG_INSTR, DMAGO_ERR, OPERAND_INVALID, UNDEF_INSTR};
 use dma_mem::regions::Region;
 
 impl Device {
     /// Writes the register at this offset for the guest. An offset that has no register ignores writes. A DMAGO reads
     /// its program from the regions.
-    pub fn write(&mut self, offset: u32, value: u32, regions: &[Region<'_>])
-        ensures { self.new ≡ written (pieces_of regions.now) offset value self.old }
+    pub fn write(&mut self, at: u32, value: u32, regions: &[Region<'_>])
+        ensures { self.new ≡ written (pieces_of regions.now) at value self.old }
     {
-        match offset {
-            0x020 => self.inten = value & self.all_events(),
-            0x02C => self.interrupts &= !(value & self.inten),
-            0xD04 => {
+        match at {
+            offset::INTEN => self.inten = value & self.all_events(),
+            offset::INTCLR => self.interrupts &= !(value & self.inten),
+            offset::DBGCMD => {
                 if value % 4 == 0 {
                     self.debug(regions);
                 }
             }
-            0xD08 => self.dbginst0 = value,
-            0xD0C => self.dbginst1 = value,
+            offset::DBGINST0 => self.dbginst0 = value,
+            offset::DBGINST1 => self.dbginst1 = value,
             _ => {}
         }
     }

@@ -5,10 +5,13 @@ ghost use Rattle.std.specs.List.{list_any};
 ghost use Rattle.dma_insn.specs.ControlWord.{flag};
 ghost use Rattle.dma_mem.specs.Limits.{most_channels};
 ghost use Rattle.dma_device.specs.Device.{address_register, channel_register, cr0, cr3, crd, device_register, dsr, faulting_bits, id, read_at};
+ghost use Rattle.dma_device.specs.Config.{most_events, most_lines};
+ghost use Rattle.dma_device.specs.Offsets.{ftr};
 ghost use Rattle.dma_device.specs.Thread.{is_faulting};
 
 use crate::config::{Config, Revision};
 use crate::device::Device;
+use crate::offset;
 use crate::thread::Thread;
 use dma_chan::channel::Channel;
 
@@ -62,22 +65,22 @@ fn address_register(channel: &Channel, at: u32) -> u32
 
 // Returns a register that each channel has.
 fn channel_register(threads: &[Thread], at: u32) -> u32
-    requires { 0x040 ≤ at }
+    requires { ftr ≤ at }
     ensures { result ≡ channel_register threads.now at }
 {
-    if at < 0x100 {
-        match threads.get(((at - 0x040) / 4) as usize) {
+    if at < offset::CSR {
+        match threads.get(((at - offset::FTR) / 4) as usize) {
             Some(thread) => thread.fault,
             None => 0,
         }
-    } else if at < 0x400 {
-        match threads.get(((at - 0x100) / 8) as usize) {
+    } else if at < offset::SAR {
+        match threads.get(((at - offset::CSR) / 8) as usize) {
             Some(thread) if at % 8 == 0 => thread.csr(),
             Some(thread) => thread.pc,
             None => 0,
         }
     } else {
-        match threads.get(((at - 0x400) / 0x20) as usize) {
+        match threads.get(((at - offset::SAR) / 0x20) as usize) {
             Some(thread) => address_register(&thread.channel, at % 0x20),
             None => 0,
         }
@@ -87,7 +90,7 @@ fn channel_register(threads: &[Thread], at: u32) -> u32
 // Returns CR0.
 fn cr0(config: Config) -> u32
     requires channels { config.channels ≤ most_channels }
-    requires events { config.events ≤ 32 }
+    requires events { config.events ≤ most_events }
     ensures { result ≡ cr0 config }
 {
     let channels = u32::from(config.channels).saturating_sub(1);
@@ -97,7 +100,7 @@ fn cr0(config: Config) -> u32
 
 // Returns CRD.
 fn crd(config: Config) -> u32
-    requires { config.lines ≤ 1024 }
+    requires { config.lines ≤ most_lines }
     ensures { result ≡ crd config }
 {
     let lines = u32::from(config.lines).saturating_sub(1);
@@ -128,15 +131,15 @@ fn id(revision: Revision, at: u32) -> u32
 impl Device {
     /// Returns the register at this offset, 32 bits wide, for a read by the guest. An offset that has no register reads
     /// as 0.
-    pub fn read(&self, offset: u32) -> u32
-        ensures { result ≡ read_at self.now offset }
+    pub fn read(&self, at: u32) -> u32
+        ensures { result ≡ read_at self.now at }
     {
-        if offset % 4 != 0 {
+        if at % 4 != 0 {
             0
-        } else if 0x040 <= offset && offset < 0xD00 {
-            channel_register(&self.threads, offset)
+        } else if offset::FTR <= at && at < offset::DBGSTATUS {
+            channel_register(&self.threads, at)
         } else {
-            self.device_register(offset)
+            self.device_register(at)
         }
     }
 
@@ -145,17 +148,18 @@ impl Device {
         ensures { result ≡ device_register self.now at }
     {
         match at {
-            0x000 => 15 * flag(self.manager.is_faulting) + flag(self.config.nonsecure) * (1 << 9),
-            0x020 => self.inten,
-            0x024 => self.events | self.interrupts,
-            0x028 => self.irqs(),
-            0x030 => flag(self.manager.is_faulting),
-            0x034 => faulting_bits(&self.threads),
-            0x038 => self.manager.fault,
-            0xE00 => cr0(self.config),
-            0xE04 => 5 + 7 * (1 << 4),
-            0xE0C => flag(self.config.nonsecure) * self.all_events(),
-            0xE14 => crd(self.config),
+            offset::DSR => 15 * flag(self.manager.is_faulting)
+                + flag(self.config.nonsecure) * (1 << 9),
+            offset::INTEN => self.inten,
+            offset::INT_EVENT_RIS => self.events | self.interrupts,
+            offset::INTMIS => self.irqs(),
+            offset::FSRD => flag(self.manager.is_faulting),
+            offset::FSRC => faulting_bits(&self.threads),
+            offset::FTRD => self.manager.fault,
+            offset::CR0 => cr0(self.config),
+            offset::CR1 => 5 + 7 * (1 << 4),
+            offset::CR3 => flag(self.config.nonsecure) * self.all_events(),
+            offset::CRD => crd(self.config),
             _ => id(self.config.revision, at),
         }
     }

@@ -1,9 +1,9 @@
 //! Turns of channels.
 
-ghost use Rattle.std.specs.Prelude.{◌≡◌, ◌+◌, ◌^◌, ◌≤◌, ◌<◌, ◌&&◌, IsTrue, length, map, slice_get};
+ghost use Rattle.std.specs.Prelude.{◌≡◌, ◌+◌, ◌^◌, ◌≤◌, ◌<◌, ◌&&◌, [], IsTrue, length, slice_get};
 ghost use Rattle.dma_mem.specs.Regions.{in_order, pieces_of};
-ghost use Rattle.dma_chan.specs.LentRegions.{segment_of};
-ghost use Rattle.dma_device.specs.Turns.{CallsIf, CallsOne, TakesTurn, is_beside, may_follow, nothing, raises, runs_at, visible_events, with_flags};
+ghost use Rattle.dma_chan.specs.LentRegions.{with_gaps_of};
+ghost use Rattle.dma_device.specs.Turns.{AreKept, TakesTurn, called, called_if, is_beside, may_follow, nothing, outcome_of, raises, runs_at, setup_of, visible_events, with_flags};
 
 use crate::device::Device;
 use dma_chan::lent::step_regions;
@@ -64,9 +64,9 @@ impl Device {
     // Calls channel `n` if `wanted`, unless it doesn't run.
     fn call_if(&mut self, wanted: bool, n: usize, most: u32, regions: &mut [Region<'_>]) -> Called
         requires { IsTrue (in_order (pieces_of regions.old)) }
-        ensures calls { CallsIf (wanted && runs_at self.old n) self.old regions.old n most
-            self.new regions.new result }
-        ensures places { map segment_of regions.new ≡ map segment_of regions.old }
+        ensures calls { called_if (wanted && runs_at self.old n) (with_gaps_of regions.old []) n most
+            (setup_of self.old regions.old) ≡ outcome_of self.new regions.new result }
+        ensures kept { AreKept regions.new regions.old }
         ensures end { result.written.addr + result.written.len ≤ 2 ^ 32 }
     {
         if !wanted || !self.runs(n) {
@@ -90,9 +90,9 @@ impl Device {
     fn call(&mut self, n: usize, most: u32, regions: &mut [Region<'_>]) -> Called
         requires order { IsTrue (in_order (pieces_of regions.old)) }
         requires runs { IsTrue (runs_at self.old n) }
-        ensures calls { CallsOne (slice_get self.old.threads n) self.old regions.old n most
-            self.new regions.new result }
-        ensures places { map segment_of regions.new ≡ map segment_of regions.old }
+        ensures calls { called (with_gaps_of regions.old []) n most (slice_get self.old.threads n)
+            (setup_of self.old regions.old) ≡ outcome_of self.new regions.new result }
+        ensures kept { AreKept regions.new regions.old }
         ensures end { result.written.addr + result.written.len ≤ 2 ^ 32 }
     {
         let config = self.config;

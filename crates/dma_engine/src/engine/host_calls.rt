@@ -36,7 +36,6 @@ impl Engine {
     pub fn write_owned(&mut self, addr: u32, bytes: Bytes) -> Result<(), EngineFault>
         ensures answer { CallAnswers self.old.view (Call.Write addr bytes) (done_reply result)
             self.new.view }
-        ensures kept { OnErr result (KeepsRoom self.old self.new) }
     {
         self.check_write(addr, bytes.as_slice())?;
         self.write_checked(addr, bytes)
@@ -98,7 +97,6 @@ impl Engine {
     pub fn read_back(&mut self, addr: u32, len: u32) -> Result<(), EngineFault>
         ensures answer { CallAnswers self.old.view (Call.Read addr len)
             (reply_of (λ _. Reply.Bytes (bytes_in self.old.view addr len)) result) self.new.view }
-        ensures kept { OnErr result (KeepsRoom self.old self.new) }
     {
         self.check_read(addr, len)?;
         let bytes = bytes_of(self.alloc, &self.memory, addr, len)?;
@@ -112,7 +110,6 @@ impl Engine {
         ensures answer { CallAnswers self.old.view (Call.Read addr (length out.old))
             (reply_of (λ _. Reply.Bytes out.new) result) self.new.view }
         ensures same { OnErr result (out.new ≡ out.old) }
-        ensures kept { OnErr result (KeepsRoom self.old self.new) }
     {
         if out.len() > self.size as usize {
             return Err(EngineFault::OutOfMemoryRange);

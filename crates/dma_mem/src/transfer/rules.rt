@@ -2,7 +2,7 @@
 
 ghost use Rattle.std.specs.Prelude.{◌≡◌, ◌<◌, ◌≤◌, All, IfOk, IfErr, MatchResult, length, OnOk};
 ghost use Rattle.dma_mem.specs.Limits.{most_segments};
-ghost use Rattle.dma_mem.specs.Places.{Descriptor, filling, places, range_of, share};
+ghost use Rattle.dma_mem.specs.Places.{Descriptor, filling};
 ghost use Rattle.dma_mem.specs.Meeting.{meets};
 ghost use Rattle.std.specs.List.{list_any};
 ghost use Rattle.dma_mem.specs.declared.segment.Segment.{Segment};
@@ -37,31 +37,17 @@ fn total(list: &[Segment]) -> u64
 }
 
 // Returns whether the segment meets one of the others.
-fn meets_one(s: Segment, others: &[Segment]) -> bool
+pub(crate) fn meets_one(s: Segment, others: &[Segment]) -> bool
     ensures { result ≡ list_any (meets s) others.now }
 {
     others.iter().any(|other| meets(s, *other))
 }
 
 // Returns whether a segment of the list meets one of the others.
-fn meets_any(list: &[Segment], others: &[Segment]) -> bool
+pub(crate) fn meets_any(list: &[Segment], others: &[Segment]) -> bool
     ensures { result ≡ meets_any list.now others.now }
 {
     list.iter().any(|s| meets_one(*s, others))
-}
-
-// Returns whether the list has an address of the segment.
-pub(crate) fn meets_list(s: Segment, list: &[Segment]) -> bool
-    ensures { result ≡ share (range_of s) (places list.now) }
-{
-    meets_one(s, list)
-}
-
-// Returns whether the lists have an address in common.
-pub(crate) fn lists_meet(list: &[Segment], others: &[Segment]) -> bool
-    ensures { result ≡ share (places list.now) (places others.now) }
-{
-    meets_any(list, others)
 }
 
 // Returns how the lists overlap: two destinations meet, or else a source meets a destination. The destinations are

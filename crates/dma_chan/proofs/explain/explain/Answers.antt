@@ -12,6 +12,7 @@ run-requires c = record {
   other = λ e. c.in_default.not-End (c.insn.ensures ∙ e);
   most = omega (arith, c.loop-steps-test.true);
   stored = omega (arith, c.loop-steps.invariant.follows.stored, c.loop-steps-test.true, c.ranges.most.fits);
+  bursts = omega (arith, c.loop-steps.invariant.follows.counts, c.loop-steps-test.true, c.ranges.most.fits);
   offset = c.loop-steps.invariant.follows.pc;
   limit = omega (arith, c.if-program-gt-MAX_PROGRAM_BYTES.false);
 }

@@ -1,12 +1,19 @@
-use Rattle.std.proofs.Common.{◌≡◌, ◌∙◌, ◌+◌, ◌%◌, ◌^◌, ap, refl, subst, sym}
+use Rattle.std.proofs.Common.{◌≡◌, ◌∙◌, ℕ, zero, suc, ◌+◌, ◌%◌, ◌^◌, ◌<◌, true, List, [], ◌∷◌, length, Some, ap, refl, rules, subst, sym, arith, true≢false}
+use Rattle.std.specs.Prelude.{slice_get}
+use Rattle.std.proofs.lemmas.Option.{slice_get_read}
+use Rattle.dma_mem.specs.Flags.{flags_of}
 use Rattle.dma_chan.specs.declared.bus.Bus.TheVariants.{Chip}
 use Rattle.dma_chan.specs.Bus.{fits}
 use Rattle.dma_chan.specs.Channel.{ChannelValue}
 use Rattle.dma_chan.specs.Stepping.{Machine}
 use Rattle.dma_chan.proofs.BusKept.{steps_bus}
-use Rattle.dma_device.specs.Thread.{IsOn, IsSound}
+use Rattle.dma_device.specs.Device.{DeviceValue, with_thread}
+use Rattle.dma_device.specs.Thread.{IsOn, IsSound, answered}
+use Rattle.dma_device.specs.Turns.{runs_at, runs_if, visible_events, with_flags}
 use Rattle.dma_device.specs.declared.thread.Thread.{Thread}
+use Rattle.dma_device.specs.inner.Fields.{device_value}
 use Rattle.dma_device.proofs.Answered.{answer_channel}
+use Rattle.dma_device.proofs.Calls.{called_is}
 use Rattle.dma_device.proofs.ControlFits.{steps_fit}
 use Rattle.dma_device.proofs.Sound.{answered_sound, with_new}
 use Rattle.dma_device.proofs.device.Device.call.Goals as goal
@@ -31,3 +38,24 @@ invariant_of-self c =
     (subst (IsSound d.config.events) (sym c.answer.ensures)
     (answered_sound _ _ _ _ c.step_regions-taken.result.count d.config.events c.step_regions-taken.result.last
     (record t { channel = channel }) c.step_regions-taken.result.signal steps refl))
+
+-- a thread that runs is one of the device's
+runs_within : (ts : List Thread) (n : ℕ) → runs_if (slice_get ts n) ≡ true → n < length ts
+runs_within [] n on = absurd (true≢false (sym on))
+runs_within (t ∷ ts) zero on = omega arith
+runs_within (t ∷ ts) (suc n) on = omega (arith, runs_within ts n on)
+
+pub returns-clause-calls : goal.returns-clause-calls
+returns-clause-calls c =
+    let d = c.args.self.now in
+    let t = c.index_mut-thread.result.now in
+    let taken = c.step_regions-taken in
+    let n = c.args.n in
+    let items = c.self.inside.threads.items in
+    let view : device_value c.self.inside ≡ d = c.self.view_is in
+    let within : n < length items = runs_within items n (ap (λ (v : DeviceValue). runs_at v n) view ∙ c.requires.runs) in
+    let found : slice_get d.threads n ≡ Some t = ap (λ (v : DeviceValue). slice_get v.threads n) (sym view) ∙ slice_get_read items (length items) n t refl within c.index_mut-thread.ensures.value in
+    let seen : c.from_bits-events.result ≡ flags_of (visible_events d) = c.from_bits-events.ensures ∙ ap flags_of c.visible_events.ensures in
+    let few : c.bits.result < 2 ^ 32 = omega arith in
+    let device : c.set_flags.new.self ≡ with_thread c.args.n (answered d.config.events (record t { channel = taken.new.channel }) taken.result.last taken.result.signal) (with_flags c.bits.result d) = search rules in
+    called_is d c.set_flags.new.self c.args.regions.now taken.new.regions c.args.n c.args.most t c.self.inside.marks c.from_bits-events.result taken.new.events taken.new.channel c.bits.result taken.result found c.self.invariant.marks seen c.bits.ensures few taken.ensures.steps taken.ensures.signal taken.ensures.written device

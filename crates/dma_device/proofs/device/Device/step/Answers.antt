@@ -1,10 +1,56 @@
+use Rattle.std.proofs.Common.{◌≡◌, ◌≢◌, ◌∙◌, ℕ, Bool, true, false, ◌&&◌, [], ap, refl, subst, sym}
+use Rattle.std.specs.Prelude.{◌==◌, not}
+use Rattle.std.proofs.lemmas.Bool.{eq-eqb, ne_eqb}
+use mathlib.Core.Bool.{beq}
+use Rattle.dma_insn.specs.ControlWord.{flag}
+use Rattle.dma_chan.specs.LentRegions.{with_gaps_of}
+use Rattle.dma_chan.specs.Written.{adjoins}
+use Rattle.dma_device.specs.Device.{DeviceValue, irq_abort, irqs}
+use Rattle.dma_device.specs.Turns.{Outcome, lines_differ, outcome_of}
+use Rattle.dma_device.proofs.Calls.{turn_is}
 use Rattle.dma_device.proofs.InOrder.{in_order_kept}
 use Rattle.dma_device.proofs.Writes.{second_beside}
 use Rattle.dma_device.proofs.device.Device.step.Goals as goal
 
 pub call_if-second-requires : goal.call_if-second-requires
-call_if-second-requires c = in_order_kept c.args.regions.now c.call_if-first.new.regions c.call_if-first.ensures.places c.requires
+call_if-second-requires c = in_order_kept c.args.regions.now c.call_if-first.new.regions c.call_if-first.ensures.kept.places c.requires
 
 pub joined-requires-clause-one : goal.joined-requires-clause-one
 joined-requires-clause-one c =
-    second_beside c.call_if-first.new.self c.call_if-first.new.regions c.from-n.result c.call_if-second.new.self c.call_if-second.new.regions c.call_if-first.result c.call_if-second.result (rw c.may_follow.ensures at c.call_if-second.ensures.calls)
+    let one = c.call_if-first in
+    let first = outcome_of one.new.self one.new.regions one.result in
+    subst (λ (o : Outcome). adjoins one.result.written o.called.written ≡ true) (rw c.may_follow.ensures at c.call_if-second.ensures.calls)
+    (second_beside (with_gaps_of one.new.regions []) c.from-n.result first)
+
+-- whether the lines differ, by the first of them that does
+other_lines : (d e : DeviceValue) (a b : ℕ) → a ≡ irqs d → b ≡ irqs e → a ≢ b → not (a == b) ≡ lines_differ d e
+other_lines d e a b p q ne =
+    ap not (ne_eqb a b ne)
+    ∙ sym (ap (λ (x : Bool). not (x && (flag (irq_abort d) == flag (irq_abort e)))) (ne_eqb (irqs d) (irqs e) (λ same. ne (p ∙ same ∙ sym q))))
+
+by_flags : (x y : Bool) → beq x y ≡ (flag x == flag y)
+by_flags true true = refl
+by_flags true false = refl
+by_flags false true = refl
+by_flags false false = refl
+
+same_lines : (d e : DeviceValue) (a b : ℕ) (x y : Bool) → a ≡ irqs d → b ≡ irqs e → a ≡ b → x ≡ irq_abort d → y ≡ irq_abort e → not (beq x y) ≡ lines_differ d e
+same_lines d e a b x y p q same left right =
+    ap (λ (z : Bool). not (beq z y)) left ∙ ap (λ (z : Bool). not (beq (irq_abort d) z)) right ∙ ap not (by_flags (irq_abort d) (irq_abort e))
+    ∙ sym (ap (λ (z : Bool). not (z && (flag (irq_abort d) == flag (irq_abort e)))) (eq-eqb (irqs d) (irqs e) (sym p ∙ same ∙ q)))
+
+pub returns-then-before-irqs : goal.returns-then-before-irqs
+returns-then-before-irqs c =
+    let one = c.call_if-first in
+    let two = c.call_if-second in
+    let lines = other_lines c.args.self.now two.new.self c.irqs.result c.irqs-2.result c.irqs.ensures c.irqs-2.ensures c.if-before-irqs.true in
+    turn_is c.args.self.now one.new.self two.new.self c.args.regions.now one.new.regions two.new.regions c.args.n c.args.most one.result two.result c.joined.result (not (c.irqs.result == c.irqs-2.result)) (rw c.from-n.ensures at one.ensures.calls) one.ensures.kept (rw (c.may_follow.ensures, c.from-n.ensures) at two.ensures.calls) two.ensures.kept c.joined.ensures.range lines
+
+pub returns-else-before-irqs : goal.returns-else-before-irqs
+returns-else-before-irqs c =
+    let one = c.call_if-first in
+    let two = c.call_if-second in
+    let before = c.irq_abort in
+    let after = c.irq_abort-else-before-irqs in
+    let lines = same_lines c.args.self.now two.new.self c.irqs.result c.irqs-2.result before.result after.result c.irqs.ensures c.irqs-2.ensures c.if-before-irqs.false before.ensures after.ensures in
+    turn_is c.args.self.now one.new.self two.new.self c.args.regions.now one.new.regions two.new.regions c.args.n c.args.most one.result two.result c.joined.result (not (beq before.result after.result)) (rw c.from-n.ensures at one.ensures.calls) one.ensures.kept (rw (c.may_follow.ensures, c.from-n.ensures) at two.ensures.calls) two.ensures.kept c.joined.ensures.range lines

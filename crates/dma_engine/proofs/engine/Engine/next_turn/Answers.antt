@@ -1,4 +1,4 @@
-use Rattle.std.proofs.Common.{rules, ◌<◌, ◌≡◌, arith, length, refl, sym}
+use Rattle.std.proofs.Common.{rules, ◌<◌, arith, length, refl, sym}
 use Rattle.dma_engine.specs.inner.Inside.{parts_of}
 use Rattle.dma_engine.proofs.NextTurns.{spent_turn}
 use Rattle.dma_engine.proofs.Queues.{many_queues}

@@ -19,11 +19,14 @@ bytes_of-requires c =
     let end = size_is p c.self.invariant ∙ ap (λ (s : EngineState). size s.view) c.self.view_is in
     omega (arith, memory_size p c.self.invariant, size_is p c.self.invariant, end, c.in_ok-check_read.ensures.within)
 
-pub returns-in_err-reserve-clause-answer : goal.returns-in_err-reserve-clause-answer
-returns-in_err-reserve-clause-answer c =
+pub returns-in_err-reserve : goal.returns-in_err-reserve
+returns-in_err-reserve c =
     let v = c.args.self.now.view in
-    refusal (λ _. Bytes (take c.args.len (drop c.args.addr (object_of v).image))) v _ (Read c.args.addr c.args.len) NoMemory c.from_residual-in_err-reserve.result c.from_residual-in_err-reserve.ensures.1
-    (rw c.reserve.ensures.items ((read_starved v c.args.addr c.args.len c.in_ok-check_read.ensures.free).0, ap (λ (s : EngineState). s.view) c.self.view_is))
+    record {
+      answer =
+          refusal (λ _. Bytes (take c.args.len (drop c.args.addr (object_of v).image))) v _ (Read c.args.addr c.args.len) NoMemory c.from_residual-in_err-reserve.result c.from_residual-in_err-reserve.ensures.1
+          (rw c.reserve.ensures.items ((read_starved v c.args.addr c.args.len c.in_ok-check_read.ensures.free).0, ap (λ (s : EngineState). s.view) c.self.view_is));
+    }
 
 pub invariant_of-self-2 : goal.invariant_of-self-2
 invariant_of-self-2 c =
@@ -34,12 +37,15 @@ invariant_of-self-2 c =
     let read = c.in_ok-bytes.ensures ∙ memory_read_law p c.args.addr c.args.len c.self.invariant free' in
     rw (c.push_reserved.ensures.items, c.reserve.ensures.items) (holds_read p c.args.addr c.args.len c.in_ok-bytes.bytes c.self.invariant free' read)
 
-pub returns-clause-answer : goal.returns-clause-answer
-returns-clause-answer c =
+pub returns : goal.returns
+returns c =
     let p = parts_of c.self.inside in
     let is : view_of p ≡ c.args.self.now.view = ap (λ (s : EngineState). s.view) c.self.view_is in
     let free = c.in_ok-check_read.ensures.free in
     let free' : read_fault (view_of p) c.args.addr c.args.len ≡ None = subst (λ (w : View). read_fault w c.args.addr c.args.len ≡ None) (sym is) free in
     let read = c.in_ok-bytes.ensures ∙ memory_read_law p c.args.addr c.args.len c.self.invariant free' ∙ ap (λ (w : View). take c.args.len (drop c.args.addr (object_of w).image)) is in
-    read_done c.args.self.now.view _ c.args.addr c.args.len _ free refl
-    (rw (c.push_reserved.ensures.items, c.reserve.ensures.items, ← read) (ap (λ (w : View). with_entry w (ReadBack c.args.addr c.in_ok-bytes.bytes)) is))
+    record {
+      answer =
+          read_done c.args.self.now.view _ c.args.addr c.args.len _ free refl
+          (rw (c.push_reserved.ensures.items, c.reserve.ensures.items, ← read) (ap (λ (w : View). with_entry w (ReadBack c.args.addr c.in_ok-bytes.bytes)) is));
+    }

@@ -1,28 +1,28 @@
 use Rattle.std.proofs.Common.{rules, sym, ◌∙◌, ◌≡◌, ◌||◌}
 use Rattle.std.specs.Prelude.{not}
-use Rattle.dma_mem.specs.Places.{share, destinations, places}
+use Rattle.dma_mem.specs.Refusals.{meets_any}
 use Rattle.dma_mem.proofs.SharedPlaces.{is_free_of_iff}
 use Rattle.dma_mem.proofs.TransferRules.{is_free_of_lists}
 use Rattle.dma_mem.proofs.transfer.Transfer.is_free_of.Goals as goal
 
-pub returns-then-not-lists_meet-2-clause-value : goal.returns-then-not-lists_meet-2-clause-value
-returns-then-not-lists_meet-2-clause-value c =
+pub returns-then-not-meets_any-2-clause-value : goal.returns-then-not-meets_any-2-clause-value
+returns-then-not-meets_any-2-clause-value c =
     let t = c.args.self.now in
     let u = c.args.other.now in
-    let e : not c.lists_meet-then-not-lists_meet-2.result ≡ not (share (destinations t) (destinations u) || (share (destinations t) (places u.src) || share (places t.src) (destinations u))) = search rules in
+    let e : not c.meets_any-then-not-meets_any-2.result ≡ not (meets_any t.dst u.dst || (meets_any t.dst u.src || meets_any t.src u.dst)) = search rules in
     e ∙ sym (is_free_of_lists t u c.dst.ensures.rules c.dst-2.ensures.rules)
 
-pub returns-then-not-lists_meet-2-clause-fact : goal.returns-then-not-lists_meet-2-clause-fact
-returns-then-not-lists_meet-2-clause-fact c =
-    is_free_of_iff c.args.self.now c.args.other.now _ (returns-then-not-lists_meet-2-clause-value c)
+pub returns-then-not-meets_any-2-clause-fact : goal.returns-then-not-meets_any-2-clause-fact
+returns-then-not-meets_any-2-clause-fact c =
+    is_free_of_iff c.args.self.now c.args.other.now _ (returns-then-not-meets_any-2-clause-value c)
 
-pub returns-else-not-lists_meet-2-clause-value : goal.returns-else-not-lists_meet-2-clause-value
-returns-else-not-lists_meet-2-clause-value c =
+pub returns-else-not-meets_any-2-clause-value : goal.returns-else-not-meets_any-2-clause-value
+returns-else-not-meets_any-2-clause-value c =
     let t = c.args.self.now in
     let u = c.args.other.now in
-    let e : c.if-not-lists_meet.value ≡ not (share (destinations t) (destinations u) || (share (destinations t) (places u.src) || share (places t.src) (destinations u))) = search rules in
+    let e : c.if-not-meets_any.value ≡ not (meets_any t.dst u.dst || (meets_any t.dst u.src || meets_any t.src u.dst)) = search rules in
     e ∙ sym (is_free_of_lists t u c.dst.ensures.rules c.dst-2.ensures.rules)
 
-pub returns-else-not-lists_meet-2-clause-fact : goal.returns-else-not-lists_meet-2-clause-fact
-returns-else-not-lists_meet-2-clause-fact c =
-    is_free_of_iff c.args.self.now c.args.other.now _ (returns-else-not-lists_meet-2-clause-value c)
+pub returns-else-not-meets_any-2-clause-fact : goal.returns-else-not-meets_any-2-clause-fact
+returns-else-not-meets_any-2-clause-fact c =
+    is_free_of_iff c.args.self.now c.args.other.now _ (returns-else-not-meets_any-2-clause-value c)

@@ -1,0 +1,125 @@
+-- The laws of steps in a row. `taken_in` is the one number at most `most` before which each step goes on, and which is
+-- `most` or at which none goes on.
+use Rattle.std.proofs.Common.{◌≡◌, ◌≢◌, ◌∙◌, ℕ, zero, suc, ◌+◌, ◌-◌, ◌<◌, ◌≤◌, Bool, true, false, ◌⊎◌, inl, inr, refl, ap, sym, arith}
+use Rattle.std.specs.Prelude.{◌&&◌, ◌==◌, if◌then◌else◌}
+use Rattle.std.proofs.lemmas.Bool.{cases_eq, cases_lt, eq-eqb, ne_eqb, true≢false}
+use Rattle.dma_mem.specs.Steps.{taken_in}
+
+-- what one more step at most makes of k steps of at most m, after which this says whether another is taken
+data Next (k m : ℕ) (on : Bool) (next : ℕ) : Type 0 where
+  another : k ≡ m → on ≡ true → next ≡ suc m → Next k m on next
+  no_more : next ≡ k → (k ≢ m) ⊎ (on ≡ false) → Next k m on next
+
+next_of : (k m : ℕ) (on : Bool) → Next k m on (if k == m && on then suc k else k)
+next_of k m on =
+    elim (cases_eq k m) [
+      | inl all ↦ at_all all on
+      | inr few ↦ no_more (ap (λ (b : Bool). if b && on then suc k else k) (ne_eqb k m few)) (inl few)
+    ]
+  where
+    at_all : k ≡ m → (b : Bool) → Next k m b (if k == m && b then suc k else k)
+    at_all all true = another all refl (ap (λ (b : Bool). if b && true then suc k else k) (eq-eqb k m all) ∙ ap suc all)
+    at_all all false = no_more (ap (λ (b : Bool). if b && false then suc k else k) (eq-eqb k m all)) (inr refl)
+
+pub taken_few : (goes_on : ℕ → Bool) (most : ℕ) → taken_in goes_on most ≤ most
+taken_few goes_on zero = omega arith
+taken_few goes_on (suc most) =
+    let before = taken_few goes_on most in
+    elim (next_of (taken_in goes_on most) most (goes_on (taken_in goes_on most))) [
+      | another all on e ↦ omega arith
+      | no_more e other ↦ omega arith
+    ]
+
+-- the steps that are taken go on
+pub taken_on : (goes_on : ℕ → Bool) (most k : ℕ) → k < taken_in goes_on most → goes_on k ≡ true
+taken_on goes_on zero k less = absurd (omega arith)
+taken_on goes_on (suc most) k less =
+    elim (next_of (taken_in goes_on most) most (goes_on (taken_in goes_on most))) [
+      | another all on e ↦ elim (cases_lt k most) [
+        | inl early ↦ taken_on goes_on most k (omega arith)
+        | inr late ↦ let here : k ≡ taken_in goes_on most = omega arith in ap goes_on here ∙ on
+      ]
+      | no_more e other ↦ taken_on goes_on most k (omega arith)
+    ]
+
+-- all steps are taken, or the last one doesn't go on
+pub taken_stops : (goes_on : ℕ → Bool) (most : ℕ) → (taken_in goes_on most ≡ most) ⊎ (goes_on (taken_in goes_on most) ≡ false)
+taken_stops goes_on zero = inl refl
+taken_stops goes_on (suc most) =
+    elim (next_of (taken_in goes_on most) most (goes_on (taken_in goes_on most))) [
+      | another all on e ↦ inl e
+      | no_more e other ↦ inr (ap goes_on e ∙ elim other [
+        | inl few ↦ elim (taken_stops goes_on most) [ inl all ↦ absurd (few all) | inr stop ↦ stop ]
+        | inr stop ↦ stop
+      ])
+    ]
+
+-- a number with these three properties is the number of steps that are taken
+pub taken_is : (goes_on : ℕ → Bool) (most n : ℕ) → n ≤ most → ((k : ℕ) → k < n → goes_on k ≡ true) → (n ≡ most) ⊎ (goes_on n ≡ false) → taken_in goes_on most ≡ n
+taken_is goes_on most n few on stops =
+    let most_few = taken_few goes_on most in
+    elim (cases_lt (taken_in goes_on most) n) [
+      | inl less ↦ elim (taken_stops goes_on most) [
+        | inl all ↦ absurd (omega arith)
+        | inr stop ↦ absurd (true≢false (sym (on (taken_in goes_on most) less) ∙ stop))
+      ]
+      | inr past ↦ elim (cases_eq (taken_in goes_on most) n) [
+        | inl e ↦ e
+        | inr ne ↦ elim stops [
+          | inl all ↦ omega arith
+          | inr stop ↦ absurd (true≢false (sym (taken_on goes_on most n (omega arith)) ∙ stop))
+        ]
+      ]
+    ]
+
+-- no step is taken of none, nor if the first doesn't go on
+pub taken_none : (goes_on : ℕ → Bool) (most : ℕ) → (most ≡ 0) ⊎ (goes_on 0 ≡ false) → taken_in goes_on most ≡ 0
+taken_none goes_on most none =
+    taken_is goes_on most 0 (omega arith) (λ k less. absurd (omega arith)) (elim none [ inl e ↦ inl (sym e) | inr stop ↦ inr stop ])
+
+-- functions that are equal below `most` give the same number
+pub taken_same : (f g : ℕ → Bool) (most : ℕ) → ((k : ℕ) → k < most → f k ≡ g k) → taken_in f most ≡ taken_in g most
+taken_same f g most same =
+    let few = taken_few g most in
+    taken_is f most (taken_in g most) few (λ k less. same k (omega arith) ∙ taken_on g most k less) (elim (cases_eq (taken_in g most) most) [
+      | inl all ↦ inl all
+      | inr some ↦ elim (taken_stops g most) [
+        | inl all ↦ inl all
+        | inr stop ↦ inr (same (taken_in g most) (omega arith) ∙ stop)
+      ]
+    ])
+
+-- after the first k of the steps that are taken, as many more are taken as the steps after them say
+pub taken_rest : (goes_on : ℕ → Bool) (most k : ℕ) → k ≤ taken_in goes_on most → taken_in goes_on most ≡ k + taken_in (λ j. goes_on (k + j)) (most - k)
+taken_rest goes_on most k within =
+    let few = taken_few goes_on most in
+    let rest : taken_in (λ (j : ℕ). goes_on (k + j)) (most - k) ≡ taken_in goes_on most - k =
+    taken_is (λ (j : ℕ). goes_on (k + j)) (most - k) (taken_in goes_on most - k) (omega arith) (λ j less. taken_on goes_on most (k + j) (omega arith)) (elim (taken_stops goes_on most) [
+      | inl all ↦ inl (omega arith)
+      | inr stop ↦
+          let here : k + (taken_in goes_on most - k) ≡ taken_in goes_on most = omega arith in
+          inr (ap goes_on here ∙ stop)
+    ]) in
+    omega arith
+
+-- of more steps as many are taken or more
+pub taken_more : (goes_on : ℕ → Bool) (m n : ℕ) → m ≤ n → taken_in goes_on m ≤ taken_in goes_on n
+taken_more goes_on m n within =
+    let few = taken_few goes_on m in
+    elim (taken_stops goes_on n) [
+      | inl all ↦ omega arith
+      | inr stop ↦ elim (cases_lt (taken_in goes_on n) (taken_in goes_on m)) [
+        | inl less ↦ absurd (true≢false (sym (taken_on goes_on m (taken_in goes_on n) less) ∙ stop))
+        | inr past ↦ past
+      ]
+    ]
+
+-- Of more steps, those that are taken of the first m are taken, and those after them. After a stop there are none.
+pub taken_splits : (goes_on : ℕ → Bool) (m n : ℕ) → taken_in goes_on (m + n) ≡ taken_in goes_on m + taken_in (λ j. goes_on (taken_in goes_on m + j)) (m + n - taken_in goes_on m)
+taken_splits goes_on m n = taken_rest goes_on (m + n) (taken_in goes_on m) (taken_more goes_on m (m + n) (omega arith))
+
+-- a stop stays a stop
+pub taken_stays : (goes_on : ℕ → Bool) (m n : ℕ) → m ≤ n → goes_on (taken_in goes_on m) ≡ false → taken_in goes_on n ≡ taken_in goes_on m
+taken_stays goes_on m n within stop =
+    let few = taken_few goes_on m in
+    taken_is goes_on n (taken_in goes_on m) (omega arith) (taken_on goes_on m) (inr stop)
