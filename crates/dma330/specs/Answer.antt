@@ -12,8 +12,8 @@ pub record Printed : Type 0 where
   pub file : List ℕ
   pub succeeds : Bool
 
--- Whether the file that an option names is written: if the call succeeds, or if it fails and has bytes for the file,
--- as a failed trace has.
+-- Whether the file that an option names is written: if the call succeeds, or if it fails and has bytes for the file, as
+-- a failed trace has, and a race with an expect line that fails.
 abbrev pub writes_file : Printed → Bool
 writes_file p = p.succeeds || nat_lt 0 (length p.file)
 

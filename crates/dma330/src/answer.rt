@@ -1,5 +1,5 @@
 //! The answer to a call, and how it is written.
-ghost use Rattle.std.specs.Prelude.{◌≡◌, ◌⊎◌, IfOk, OnErr, OnOk};
+ghost use Rattle.std.specs.Prelude.{◌≡◌, ◌⊎◌, [], IfOk, OnErr, OnOk};
 ghost use Rattle.std.specs.Io.KnownBytes.{Appends};
 ghost use Rattle.dma_script.specs.Command.{failures};
 ghost use Rattle.dma330.specs.Answer.{Delivers, named, printed_of, writes_file};
@@ -23,6 +23,20 @@ pub struct Answer {
 }
 
 impl Answer {
+    /// Returns an answer that writes no file.
+    pub fn printed(alloc: Global, out: Vec<u8>, err: Vec<u8>, succeeds: bool) -> Answer
+        ensures { printed_of result
+            ≡ record { out = out.items; err = err.items; file = []; succeeds = succeeds } }
+    {
+        let file = Vec::new(alloc);
+        Answer {
+            out,
+            err,
+            file,
+            succeeds,
+        }
+    }
+
     /// Returns whether the file that an option names is written.
     pub fn writes_file(&self) -> bool
         ensures { result ≡ writes_file (printed_of self.now) }

@@ -31,7 +31,7 @@ fn is_gap(byte: u8) -> bool
 }
 
 /// Returns whether a byte is a hexadecimal digit.
-fn is_digit(byte: u8) -> bool
+pub fn is_digit(byte: u8) -> bool
     ensures { result ≡ is_digit byte }
 {
     digit_value(byte) < 16

@@ -1,12 +1,12 @@
 //! What a request prints for its input.
-ghost use Rattle.std.specs.Prelude.{◌≡◌, ◌≤◌, IfOk, IsTrue, length};
+ghost use Rattle.std.specs.Prelude.{◌≡◌, ◌≤◌, ◌++◌, IfOk, IsTrue, length};
 ghost use Rattle.dma_mem.specs.Regions.{in_order, pieces_of};
 ghost use Rattle.dma330.specs.Answer.{printed_of};
-ghost use Rattle.dma330.specs.Replies.{Answers, Assembles, Explains, HexReplies, InputReplies, IsUnderName, Lists, Races, RacesSeeds, Reasons, Replies, Traces, hex_refusal, program_of};
+ghost use Rattle.dma330.specs.Replies.{Answers, Assembles, Explains, HexReplies, InputReplies, IsUnderName, Lists, Races, RacesSeeds, RawReplies, Reasons, Replies, Traces, byte_words, hex_refusal, hint, is_text, is_text_byte, program_of, takes_program};
 
 use crate::answer::{Answer, named};
 use crate::command_line::Request;
-use crate::hexadecimal::{column_of, line_of, read_hexadecimal};
+use crate::hexadecimal::{column_of, is_digit, line_of, read_hexadecimal};
 use dma_chan::bus::Bus;
 use dma_manual::assembler::{assemble, assemble_text};
 use dma_manual::errors::AsmError;
@@ -30,13 +30,7 @@ fn listing(alloc: Global, program: &[u8], at: u32) -> Result<Answer, AllocError>
     let mut out = Vec::new(alloc);
     let mut err = Vec::new(alloc);
     let succeeds = disassemble(alloc, program, at, &mut out, &mut err)?;
-    let file = Vec::new(alloc);
-    Ok(Answer {
-        out,
-        err,
-        file,
-        succeeds,
-    })
+    Ok(Answer::printed(alloc, out, err, succeeds))
 }
 
 /// Returns the bytes of the program that a text describes, or no bytes for a text with a fault.
@@ -83,13 +77,7 @@ fn explanation<P: Progress>(
     let mut out = Vec::new(alloc);
     let mut err = Vec::new(alloc);
     let succeeds = explain(alloc, program, bus, most, &mut out, &mut err, progress)?;
-    let file = Vec::new(alloc);
-    Ok(Answer {
-        out,
-        err,
-        file,
-        succeeds,
-    })
+    Ok(Answer::printed(alloc, out, err, succeeds))
 }
 
 /// Returns what `trace` prints for a program over RAM, with the waveform for its file.
@@ -123,10 +111,12 @@ fn racing(alloc: Global, script: &[u8], seed: u64) -> Result<Answer, AllocError>
     ensures { IfOk result (λ answer. Races seed script.now (printed_of answer)) }
 {
     let mut out = Vec::new(alloc);
-    let succeeds = race_by_seed(alloc, script, seed, &mut out)?;
+    let verdict = race_by_seed(alloc, script, seed, &mut out)?;
+    let mut err = Vec::new(alloc);
+    verdict.print(&mut err)?;
     let mut file = Vec::new(alloc);
     script_of_seed(alloc, script, seed, &mut file)?;
-    let err = Vec::new(alloc);
+    let succeeds = verdict.is_good();
     Ok(Answer {
         out,
         err,
@@ -140,9 +130,11 @@ fn racing_seeds(alloc: Global, script: &[u8], seeds: SeedRange) -> Result<Answer
     ensures { IfOk result (λ answer. RacesSeeds seeds script.now (printed_of answer)) }
 {
     let mut out = Vec::new(alloc);
-    let succeeds = race_by_seeds(alloc, script, seeds, &mut out)?;
-    let err = Vec::new(alloc);
+    let verdict = race_by_seeds(alloc, script, seeds, &mut out)?;
+    let mut err = Vec::new(alloc);
+    verdict.print(&mut err)?;
     let file = Vec::new(alloc);
+    let succeeds = verdict.is_good();
     Ok(Answer {
         out,
         err,
@@ -157,12 +149,7 @@ fn reasons(alloc: Global, script: &[u8]) -> Result<Answer, AllocError>
 {
     let mut out = Vec::new(alloc);
     let succeeds = why(alloc, script, &mut out)?;
-    Ok(Answer {
-        out,
-        err: Vec::new(alloc),
-        file: Vec::new(alloc),
-        succeeds,
-    })
+    Ok(Answer::printed(alloc, out, Vec::new(alloc), succeeds))
 }
 
 /// Returns what a request prints for a program.
@@ -188,6 +175,19 @@ fn reply<P: Progress>(
     }
 }
 
+/// Returns what is wrong with a byte of hexadecimal text.
+fn byte_words(byte: u8) -> &'static str
+    ensures { result.now ≡ byte_words byte }
+{
+    if is_digit(byte) {
+        " is a third digit after 0x: each number is one byte, the lowest byte of a word first\n"
+    } else if byte == b':' || byte == b'|' {
+        " is of a dump with addresses: leave them and the characters out, as xxd -p does\n"
+    } else {
+        " is not a hexadecimal digit here\n"
+    }
+}
+
 /// Returns what is printed for hexadecimal text with a fault at an offset.
 fn hex_refusal(alloc: Global, text: &[u8], at: usize) -> Result<Answer, AllocError>
     requires { at ≤ length text.now }
@@ -199,22 +199,10 @@ fn hex_refusal(alloc: Global, text: &[u8], at: usize) -> Result<Answer, AllocErr
         &(line_of(text, at), ":", column_of(text, at), ": "),
     )?;
     match text.get(at) {
-        Some(byte) => print(
-            &mut err,
-            &(
-                "byte 0x",
-                HexByte(*byte),
-                " is not a hexadecimal digit here\n",
-            ),
-        )?,
+        Some(byte) => print(&mut err, &("byte 0x", HexByte(*byte), byte_words(*byte)))?,
         None => print(&mut err, &"the last byte lacks a digit\n")?,
     }
-    Ok(Answer {
-        out: Vec::new(alloc),
-        err,
-        file: Vec::new(alloc),
-        succeeds: false,
-    })
+    Ok(Answer::printed(alloc, Vec::new(alloc), err, false))
 }
 
 /// Returns what a request prints for a program in hexadecimal text.
@@ -235,6 +223,77 @@ fn hex_reply<P: Progress>(
     }
 }
 
+/// Returns whether a request takes a program.
+fn takes_program(request: &Request) -> bool
+    ensures { result ≡ takes_program request.now }
+{
+    match request {
+        Request::Dis { .. } | Request::Explain { .. } | Request::Trace(_) => true,
+        Request::Asm { .. } | Request::Race { .. } | Request::RaceSeeds(_) | Request::Why => false,
+    }
+}
+
+/// Returns whether a byte is printable, a tab or a line end.
+fn is_text_byte(byte: u8) -> bool
+    ensures { result ≡ is_text_byte byte }
+{
+    matches!(byte, b' '..=b'~' | b'\t' | b'\n' | b'\r')
+}
+
+/// Returns whether an input is text: some bytes, all of text.
+fn is_text(input: &[u8]) -> bool
+    ensures { result ≡ is_text input.now }
+{
+    !input.is_empty() && input.iter().all(|byte| is_text_byte(*byte))
+}
+
+/// Returns the hint behind the message for a program that is text, or no text.
+fn hint(request: &Request, input: &[u8], succeeds: bool) -> &'static str
+    ensures { result.now ≡ hint request.now input.now succeeds }
+{
+    if takes_program(request) && !succeeds && is_text(input) {
+        "  (these bytes are text; --hex reads hexadecimal digits, asm instructions)\n"
+    } else {
+        ""
+    }
+}
+
+/// Appends the hint to the message of an answer.
+fn hinted(request: &Request, input: &[u8], answer: Answer) -> Result<Answer, AllocError>
+    ensures { let q = printed_of answer in IfOk result (λ shown. printed_of shown
+        ≡ record q { err = q.err ++ hint request.now input.now q.succeeds }) }
+{
+    let Answer {
+        out,
+        mut err,
+        file,
+        succeeds,
+    } = answer;
+    print(&mut err, &hint(request, input, succeeds))?;
+    Ok(Answer {
+        out,
+        err,
+        file,
+        succeeds,
+    })
+}
+
+/// Returns what a request prints for an input that isn't read as hexadecimal text.
+fn raw_reply<P: Progress>(
+    alloc: Global,
+    request: &Request,
+    input: &[u8],
+    ram: &mut [Region<'_>],
+    progress: &mut P,
+) -> Result<Answer, AllocError>
+    requires { IsTrue (in_order (pieces_of ram.old)) }
+    ensures { IfOk result (λ answer.
+        RawReplies request.now ram.old input.now (printed_of answer)) }
+{
+    let replied = reply(alloc, request, input, ram, progress)?;
+    hinted(request, input, replied)
+}
+
 /// Returns what a request prints for its input.
 fn input_reply<P: Progress>(
     alloc: Global,
@@ -251,7 +310,7 @@ fn input_reply<P: Progress>(
     if is_hex {
         hex_reply(alloc, request, input, ram, progress)
     } else {
-        reply(alloc, request, input, ram, progress)
+        raw_reply(alloc, request, input, ram, progress)
     }
 }
 

@@ -42,10 +42,10 @@ fn hex<'a>(alloc: Global) -> Arg<'a> {
 
 /// Returns the option for the bus.
 fn bus<'a>(alloc: Global) -> Arg<'a> {
-    let what = "Width of the data bus; ideal: beats of up to 128 bits, whole at any address";
+    let what = "Width of the data bus; ideal: each beat whole at any address, as in dmasim";
     option(alloc, "bus", "BITS", what)
         .value_parser(["32", "64", "128", "ideal"].as_slice())
-        .default_value("ideal")
+        .default_value("128")
 }
 
 /// Returns a command with these arguments.

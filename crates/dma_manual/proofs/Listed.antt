@@ -16,7 +16,7 @@ use Rattle.dma_insn.specs.declared.insn.Insn.TheVariants.{Mov, Ld, St, Rmb, Wmb,
 use Rattle.dma_manual.specs.ManualText.{counter_name, manual_text}
 use Rattle.dma_manual.specs.Words.{code_of, next_of, plain_byte}
 use Rattle.dma_manual.specs.Statements.{Label, label_of}
-use Rattle.dma_manual.specs.Listing.{Ending, follow, stop, blanks_behind, jump_of, label_behind, label_name, label_text, line_text, listed, more_labels, rest_text, statement_text}
+use Rattle.dma_manual.specs.Listing.{Ending, follow, stop, blanks_behind, follow_words, jump_of, label_behind, label_name, label_text, line_text, listed, more_labels, rest_text, statement_text}
 use Rattle.dma_manual.specs.Assembled.{Read, after_statement, empty, jump_of as jump_from, place_of, take_line, take_lines, with_statement}
 use Rattle.dma_manual.specs.Laws.{ListingsAssemble, shown}
 use Rattle.dma_manual.specs.declared.assembler.Spot.{Spot}
@@ -278,19 +278,23 @@ no_line : (r : Read) (n : ℕ) → take_line r n [] ≡ Ok r
 unfolding with_statement
 no_line r n = refl
 
-last_read : (r : Read) (n count : ℕ) (t : Bool) → take_lines r n (text_lines (cond t [] (codes "; " ++ decimal count ++ codes " bytes follow\n"))) ≡ Ok r
+last_read : (r : Read) (n count : ℕ) (words : List ℕ) → list_all no_feed words ≡ true → (t : Bool) → take_lines r n (text_lines (cond t [] (codes "; " ++ decimal count ++ words ++ codes "\n"))) ≡ Ok r
 unfolding take_lines
-last_read r n count true = refl
-last_read r n count false =
-    let comment = 32 ∷ (decimal count ++ codes " bytes follow") in
-    let feed = all_append no_feed (decimal count) (codes " bytes follow") (decimal_feed count) refl in
-    let split : codes "; " ++ decimal count ++ codes " bytes follow\n" ≡ (59 ∷ comment) ++ 10 ∷ [] = simp append_assoc in
+last_read r n count words plain_words true = refl
+last_read r n count words plain_words false =
+    let comment = 32 ∷ (decimal count ++ words) in
+    let feed = all_append no_feed (decimal count) words (decimal_feed count) plain_words in
+    let split : codes "; " ++ decimal count ++ words ++ codes "\n" ≡ (59 ∷ comment) ++ 10 ∷ [] = simp append_assoc in
     ap (λ (l : List ℕ). take_lines r n (text_lines l)) split ∙ ap (take_lines r n) (lines_feed (59 ∷ comment) [] feed)
     ∙ lines_step r r n (59 ∷ comment) [] (ap (λ (l : List ℕ). take_line r (n + 1) (plain l)) (code_before [] comment refl) ∙ no_line r (n + 1))
 
+follow_feed : (one : Bool) → list_all no_feed (cond one (codes " byte follows") (codes " bytes follow")) ≡ true
+follow_feed true = refl
+follow_feed false = refl
+
 rest_read : (r : Read) (n : ℕ) (ending : Ending) → take_lines r n (text_lines (rest_text ending)) ≡ Ok r
 unfolding take_lines
-rest_read r n (follow count) = last_read r n count (eqb count 0)
+rest_read r n (follow count) = last_read r n count (follow_words count) (follow_feed (eqb count 1)) (eqb count 0)
 rest_read r n (stop o fault bytes) = refl
 
 pub listings_assemble : ListingsAssemble

@@ -35,7 +35,7 @@ draft_view d = record { code = d.code.items; labels = map label_view d.labels.it
 abbrev pub empty : Read
 empty = record { code = []; labels = []; loops = record { lc0 = None; lc1 = None } }
 
--- the place of a word of line n, which has `width` bytes; so many bytes are after the word
+-- the place of a word of line n, which has `width` bytes, of which this number is after the word
 abbrev pub spot_at : ℕ → ℕ → ℕ → ℕ → Spot
 spot_at n width len after = record { line = n; column = width - after - len + 1; len = len }
 

@@ -14,7 +14,7 @@ use Rattle.dma_manual.specs.declared.errors.AsmError.TheVariants as errors
 -- what is wrong, after the word
 abbrev pub message : AsmCause → List ℕ
 message causes.Name = codes "is no instruction"
-message causes.NotExecuted = codes "is not executed by this model"
+message causes.NotExecuted = codes "is an instruction of the chip that no channel of this model executes"
 message causes.Missing = codes "lacks an operand"
 message causes.Extra = codes "is one word too many"
 message causes.Number = codes "is not a number"

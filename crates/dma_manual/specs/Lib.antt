@@ -1,3 +1,4 @@
+pub mod ChipOnly
 pub mod ManualText
 pub mod Listing
 pub mod Words

@@ -10,6 +10,7 @@ use Rattle.dma_insn.specs.declared.codec.DecodeFault.TheVariants.{Cut, Unknown, 
 use Rattle.dma_insn.specs.declared.insn.Counter.{Counter}
 use Rattle.dma_insn.specs.declared.insn.Insn.{Insn}
 use Rattle.dma_insn.specs.declared.insn.Insn.TheVariants.{Mov, Ld, St, Rmb, Wmb, Nop, End, Lp, LpEnd, Sev, Wfe}
+use Rattle.dma_manual.specs.ChipOnly.{chip_only_name}
 use Rattle.dma_manual.specs.ManualText.{counter_name, manual_text}
 
 -- the label of the loop body at an offset: its four hexadecimal digits
@@ -129,22 +130,33 @@ listed_from at labels o zero (byte ∷ rest) =
 abbrev pub listed : ℕ → List ℕ → Listing
 listed at program = listed_from at [] 0 0 program
 
+-- the words behind a number of bytes that follow
+abbrev pub follow_words : ℕ → List ℕ
+follow_words n = if n == 1 then codes " byte follows" else codes " bytes follow"
+
 -- the last line of a listing, which says how many bytes follow DMAEND
 abbrev pub rest_text : Ending → List ℕ
-rest_text (follow n) = if n == 0 then [] else (codes "; " ++ decimal n ++ codes " bytes follow\n")
+rest_text (follow n) = if n == 0 then [] else (codes "; " ++ decimal n ++ follow_words n ++ codes "\n")
 rest_text (stop o fault bytes) = []
 
--- what the fault is
-abbrev pub fault_name : DecodeFault → List ℕ
-fault_name Cut = codes "the bytes end within an instruction:"
-fault_name (Unknown byte) = codes "no instruction begins with"
-fault_name BadField = codes "a field is outside its range:"
+-- what is wrong with a byte that begins no instruction of the model, by the name of the chip's instruction
+abbrev pub unknown_text : Option (List ℕ) → List ℕ
+unknown_text (Some name) = name ++ codes " is an instruction of the chip that no channel of this model executes:"
+unknown_text None = codes "no instruction begins with"
 
--- what is written to standard error: where the bytes are no instruction, the offset, what is wrong, and at most six bytes
-abbrev pub stop_text : Ending → List ℕ
-stop_text (follow n) = []
-stop_text (stop o fault bytes) =
-    codes " offset " ++ decimal o ++ codes ": " ++ (fault_name fault ++ spaced_bytes (take (min (length bytes) 6) bytes) ++ codes "\n")
+-- why bytes don't begin with an instruction of the model
+abbrev pub cause_text : DecodeFault → List ℕ
+cause_text Cut = codes "the bytes end within an instruction:"
+cause_text (Unknown byte) = unknown_text (chip_only_name byte)
+cause_text BadField = codes "a field is outside its range:"
+
+-- What is written to standard error: where the bytes are no instruction, as an offset and as an address, what is wrong,
+-- and at most six bytes.
+abbrev pub stop_text : ℕ → Ending → List ℕ
+stop_text at (follow n) = []
+stop_text at (stop o fault bytes) =
+    (codes " offset " ++ decimal o) ++ (codes " (0x" ++ hex_digits ((at + o) % 2 ^ 32)) ++ codes "): "
+    ++ (cause_text fault ++ spaced_bytes (take (min (length bytes) 6) bytes) ++ codes "\n")
 
 -- whether all bytes up to DMAEND are instructions
 abbrev pub is_whole : Ending → Bool

@@ -9,6 +9,7 @@ use Rattle.dma_insn.specs.declared.insn.Counter.{Counter}
 use Rattle.dma_insn.specs.declared.insn.Counter.TheVariants.{Lc0, Lc1}
 use Rattle.dma_insn.specs.declared.insn.Insn.{Insn}
 use Rattle.dma_insn.specs.declared.insn.Insn.TheVariants.{Mov, Ld, St, Rmb, Wmb, Nop, End, Sev, Wfe}
+use Rattle.dma_manual.specs.ChipOnly.{is_chip_only}
 use Rattle.dma_manual.specs.Words.{next_of}
 use Rattle.dma_manual.specs.Operands.{event_at, fault_at, no_more, number_at, word_after}
 use Rattle.dma_manual.specs.Fields.{fields_at}
@@ -157,8 +158,7 @@ set_line name rest = do
 
 -- the fault of a word that names no instruction of the model
 abbrev pub no_name : List ℕ → List ℕ → Fault
-no_name name rest =
-    if starts_with nat_eq name (codes "dma") then fault_at causes.NotExecuted name rest else fault_at causes.Name name rest
+no_name name rest = fault_at (if is_chip_only name then causes.NotExecuted else causes.Name) name rest
 
 -- the statement of an instruction's name and the words after it
 unfoldable pub by_name : List Label → List ℕ → List ℕ → Result Statement Fault

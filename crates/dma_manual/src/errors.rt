@@ -44,7 +44,9 @@ fn message(cause: AsmCause) -> &'static str
 {
     match cause {
         AsmCause::Name => "is no instruction",
-        AsmCause::NotExecuted => "is not executed by this model",
+        AsmCause::NotExecuted => {
+            "is an instruction of the chip that no channel of this model executes"
+        }
         AsmCause::Missing => "lacks an operand",
         AsmCause::Extra => "is one word too many",
         AsmCause::Number => "is not a number",

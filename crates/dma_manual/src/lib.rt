@@ -11,6 +11,7 @@
 #![tactic(auto)]
 
 pub mod assembler;
+pub mod chip_only;
 mod draft;
 pub mod errors;
 mod fields;

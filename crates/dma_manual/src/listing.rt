@@ -3,9 +3,10 @@
 ghost use Rattle.std.specs.Prelude.{◌≡◌, ◌++◌, ◌+◌, ◌%◌, ◌<◌, ◌^◌, OnOk, OnErr, IfOk, ◌==◌};
 ghost use Rattle.std.specs.List.{list_any};
 ghost use Rattle.dma_insn.specs.Spelling.{spelling};
-ghost use Rattle.dma_manual.specs.Listing.{blanks_behind, comment_text, follow, indented, stop, fault_name, is_end, is_whole, jump_of, label_before, label_behind, label_name, label_text, line_text, listed, more_labels, rest_text, statement_text, stop_text};
+ghost use Rattle.dma_manual.specs.Listing.{blanks_behind, comment_text, follow, follow_words, indented, stop, cause_text, is_end, is_whole, jump_of, label_before, label_behind, label_name, label_text, line_text, listed, more_labels, rest_text, statement_text, stop_text};
 ghost use Rattle.dma_text.specs.Text.{Begins};
 
+use crate::chip_only::chip_only_name;
 use crate::manual::{Manual, counter_name};
 use dma_insn::codec::{DecodeFault, decode};
 use dma_insn::insn::{Counter, Insn};
@@ -16,7 +17,7 @@ use std::alloc::{AllocError, Global};
 ///
 /// Appends a line for each instruction to `out`, with its address and its bytes as a comment, and a line with a label
 /// behind each DMALP. Stops after DMAEND and says how many bytes follow. Where bytes are no instruction, appends
-/// ` offset N: CAUSE` with the bytes to `err` and returns false. Appends nothing if memory runs out.
+/// ` offset N (0xADDRESS): CAUSE` with the bytes to `err` and returns false. Appends nothing if memory runs out.
 pub fn disassemble(
     alloc: Global,
     program: &[u8],
@@ -26,7 +27,7 @@ pub fn disassemble(
 ) -> Result<bool, AllocError>
     ensures out { let l = listed at program.now in
         OnOk result (out.new.items ≡ out.old.items ++ (l.text ++ rest_text l.ending)) }
-    ensures err { OnOk result (err.new.items ≡ err.old.items ++ stop_text (listed at program.now).ending) }
+    ensures err { OnOk result (err.new.items ≡ err.old.items ++ stop_text at (listed at program.now).ending) }
     ensures whole { IfOk result (λ whole. whole ≡ is_whole (listed at program.now).ending) }
     ensures out_kept { OnErr result (out.new.items ≡ out.old.items) }
     ensures err_kept { OnErr result (err.new.items ≡ err.old.items) }
@@ -51,7 +52,7 @@ fn list(
 ) -> Result<bool, AllocError>
     ensures out { let l = listed at program.now in
         OnOk result (out.new.items ≡ out.old.items ++ (l.text ++ rest_text l.ending)) }
-    ensures err { OnOk result (err.new.items ≡ err.old.items ++ stop_text (listed at program.now).ending) }
+    ensures err { OnOk result (err.new.items ≡ err.old.items ++ stop_text at (listed at program.now).ending) }
     ensures whole { IfOk result (λ whole. whole ≡ is_whole (listed at program.now).ending) }
     ensures out_begins { Begins out.new.items out.old.items }
     ensures err_begins { Begins err.new.items err.old.items }
@@ -73,7 +74,7 @@ fn list(
                 rest = after;
             }
             Err(fault) => {
-                push_stop(err, offset, fault, rest)?;
+                push_stop(err, at, offset, fault, rest)?;
                 return Ok(false);
             }
         }
@@ -251,6 +252,17 @@ fn push_label(
     Ok(())
 }
 
+// Returns the words behind a number of bytes that follow.
+fn follow_words(count: usize) -> &'static str
+    ensures { result.now ≡ follow_words count }
+{
+    if count == 1 {
+        " byte follows"
+    } else {
+        " bytes follow"
+    }
+}
+
 // Appends the line that says how many bytes follow DMAEND.
 fn push_rest(out: &mut Vec<u8>, count: usize) -> Result<(), AllocError>
     ensures ok { OnOk result (out.new.items ≡ out.old.items ++ rest_text (follow count)) }
@@ -259,36 +271,50 @@ fn push_rest(out: &mut Vec<u8>, count: usize) -> Result<(), AllocError>
     if count == 0 {
         return Ok(());
     }
-    ("; ", count, " bytes follow\n").push(out)
+    ("; ", count, follow_words(count), "\n").push(out)
 }
 
-// Returns what a fault is.
-fn fault_name(fault: DecodeFault) -> &'static str
-    ensures { result.now ≡ fault_name fault }
-{
-    match fault {
-        DecodeFault::Cut => "the bytes end within an instruction:",
-        DecodeFault::Unknown(_) => "no instruction begins with",
-        DecodeFault::BadField => "a field is outside its range:",
+/// Why bytes don't begin with an instruction of the model.
+#[derive(Drop)]
+struct Cause(DecodeFault);
+
+impl Text for Cause {
+    ghost text = { λ cause. cause_text cause.0 };
+
+    fn push(&self, out: &mut Vec<u8>) -> Result<(), AllocError> {
+        match self.0 {
+            DecodeFault::Cut => "the bytes end within an instruction:".push(out),
+            DecodeFault::Unknown(first) => match chip_only_name(first) {
+                Some(name) => (
+                    name,
+                    " is an instruction of the chip that no channel of this model executes:",
+                )
+                    .push(out),
+                None => "no instruction begins with".push(out),
+            },
+            DecodeFault::BadField => "a field is outside its range:".push(out),
+        }
     }
 }
 
 // Appends where the bytes are no instruction, and why.
 fn push_stop(
     err: &mut Vec<u8>,
+    at: u32,
     offset: usize,
     fault: DecodeFault,
     rest: &[u8],
 ) -> Result<(), AllocError>
-    ensures ok { OnOk result (err.new.items ≡ err.old.items ++ stop_text (stop offset fault rest.now)) }
+    ensures ok { OnOk result (err.new.items ≡ err.old.items ++ stop_text at (stop offset fault rest.now)) }
     ensures begins { Begins err.new.items err.old.items }
 {
     let shown = &rest[..rest.len().min(6)];
+    let address = (" (0x", Address(address_of(at, offset)));
     (
-        " offset ",
-        offset,
-        ": ",
-        (fault_name(fault), SpacedBytes(shown), "\n"),
+        (" offset ", offset),
+        address,
+        "): ",
+        (Cause(fault), SpacedBytes(shown), "\n"),
     )
         .push(err)
 }

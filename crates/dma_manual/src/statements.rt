@@ -5,6 +5,7 @@ ghost use Rattle.dma_manual.specs.Statements.{bare, by_name, address_line, byte_
 ghost use Rattle.dma_manual.specs.Words.{next_of};
 
 use crate::assembler::{AsmCause, Fault};
+use crate::chip_only::is_chip_only;
 use crate::fields::fields_at;
 use crate::operands::{event_at, fault_at, no_more, number_at, word_after};
 use crate::words::next_word;
@@ -243,10 +244,12 @@ fn set_line(name: &[u8], rest: &[u8]) -> Result<Statement, Fault>
 fn no_name(name: &[u8], rest: &[u8]) -> Fault
     ensures { result ≡ no_name name.now rest.now }
 {
-    match name {
-        [b'd', b'm', b'a', ..] => fault_at(AsmCause::NotExecuted, name, rest),
-        _ => fault_at(AsmCause::Name, name, rest),
-    }
+    let cause = if is_chip_only(name) {
+        AsmCause::NotExecuted
+    } else {
+        AsmCause::Name
+    };
+    fault_at(cause, name, rest)
 }
 
 // Returns the statement of an instruction's name and the words after it.

@@ -1,3 +1,4 @@
+pub mod ExpectLemmas
 pub mod OutputLemmas
 pub mod RaceLemmas
 pub mod ReadLemmas

@@ -1,6 +1,8 @@
 -- What the lines and the turns of a race do.
-use Rattle.std.proofs.Common.{◌≡◌, ℕ, ◌+◌, ◌≤◌, List, [], ◌∷◌, ◌++◌, length, refl, ap, sym, ◌∙◌, arith, append_assoc}
-use Rattle.std.specs.List.{sum_by}
+use Rattle.std.proofs.Common.{◌≡◌, ℕ, ◌+◌, ◌≤◌, List, [], ◌∷◌, ◌++◌, drop, length, length-append, map, Result, Ok, refl, ap, sym, subst, ◌∙◌, arith, append-nil, append_assoc}
+use Rattle.std.specs.List.{sum, sum_by}
+use Rattle.std.proofs.Math.Seq.{drop-append_seam, take-append_seam}
+use Rattle.std.proofs.lemmas.List.{map-append}
 use Rattle.std.proofs.lemmas.List.Sums.{sum_by-cons}
 use Rattle.dma_mem.specs.declared.call.Call.TheVariants as calls
 use Rattle.dma_engine.specs.declared.call.Reply.{Reply}
@@ -9,21 +11,59 @@ use Rattle.dma_engine.specs.declared.turn.Turn.TheVariants.{Moved, Finished}
 use Rattle.dma_engine.specs.Answer.{answer, answers}
 use Rattle.dma_engine.specs.View.{View}
 use Rattle.dma_script.specs.Command.{printed_text, text_of}
-use Rattle.dma_script.specs.Interpreted.{ActsInTurn}
+use Rattle.dma_script.specs.Interpreted.{ActsInTurn, PrintsLines}
+use Rattle.dma_script.specs.declared.race.JobLine.{JobLine}
+use Rattle.dma_script.specs.declared.race.RaceScript.{RaceScript}
 use Rattle.dma_script.specs.declared.statements.Statement.{Statement}
 use Rattle.dma_script.proofs.InterpretedLemmas.{printed_text_append}
-use Rattle.dma_commands.specs.Run.{Answered}
-use Rattle.dma_commands.proofs.RunLemmas.{AnswersSeen}
+use Rattle.dma_commands.specs.Left.{lines_left}
+use Rattle.dma_commands.specs.Run.{Answered, line_answer, lines_answered}
 use Rattle.dma_seeds.specs.declared.turns.RaceTurn.{RaceTurn}
-use Rattle.dma_seeds.specs.Race.{finishes_in, lines_left, step_calls, steps_in}
+use Rattle.dma_seeds.specs.Race.{before_go, finishes_in, from_go, go_line, go_text, raced, start_of, step_calls, steps_in}
+use Rattle.dma_seeds.specs.Seeds.{text_from_go}
+use Rattle.dma_seeds.specs.Turns.{turns_of_seed}
+use Rattle.dma_seeds.specs.inner.Measured.{Prints, lengths_of, pieces}
+use Rattle.dma_seeds.specs.inner.Started.{IsStarted}
 
--- the view after lines that were executed one after another
-pub left_in_turn : {S : Type 0} (seen : S → View) (lines : List Statement) (found left : S) (groups : List (List (List ℕ))) → ActsInTurn (AnswersSeen seen) lines found groups left → seen left ≡ lines_left (seen found) lines
-left_in_turn seen [] found left [] done = ap seen done
-left_in_turn seen [] found left (g ∷ groups) done = absurd done
-left_in_turn seen (line ∷ lines) found left [] done = absurd done
-left_in_turn seen (line ∷ lines) found left (g ∷ groups) (next, acts, rest) =
-    left_in_turn seen lines next left groups rest ∙ ap (λ (b : Answered). lines_left b.1 lines) (sym acts)
+-- ---- lines that were measured
+
+-- an interpreter with this view and these lengths executes a line as `run` does, and keeps the length of its text
+abbrev pub MeasuresSeen : {S : Type 0} → (S → View) → (S → List ℕ) → S → Statement → List (List ℕ) → S → Type 0
+MeasuresSeen seen lengths found line group left =
+    (line_answer (seen found) line ≡ (group, seen left)) × (lengths left ≡ lengths found ++ length (text_of group) ∷ [])
+
+-- what lines print that were executed one after another, the view after them, and the lengths
+pub record Measured (v w : View) (lines : List Statement) (groups : List (List (List ℕ))) (lengths lengths' : List ℕ) : Type 0 where
+  pub groups_are : groups ≡ lines_answered v lines
+  pub left : w ≡ lines_left v lines
+  pub lengths_are : lengths' ≡ lengths ++ lengths_of groups
+
+pub measured_in_turn : {S : Type 0} (seen : S → View) (lengths : S → List ℕ) (lines : List Statement) (found left : S) (groups : List (List (List ℕ))) → ActsInTurn (MeasuresSeen seen lengths) lines found groups left → Measured (seen found) (seen left) lines groups (lengths found) (lengths left)
+measured_in_turn seen lengths [] found left [] done =
+    record { groups_are = refl; left = ap seen done; lengths_are = ap lengths done ∙ sym (append-nil (lengths found)) }
+measured_in_turn seen lengths [] found left (g ∷ groups) done = absurd done
+measured_in_turn seen lengths (line ∷ lines) found left [] done = absurd done
+measured_in_turn seen lengths (line ∷ lines) found left (g ∷ groups) (next, (acts, longer), rest) =
+    let more = measured_in_turn seen lengths lines next left groups rest in
+    let a = line_answer (seen found) line in
+    record {
+      groups_are = ap (λ (b : Answered). b.0 ∷ groups) (sym acts) ∙ ap (λ l. a.0 ∷ l) (more.groups_are ∙ ap (λ (b : Answered). lines_answered b.1 lines) (sym acts));
+      left = more.left ∙ ap (λ (b : Answered). lines_left b.1 lines) (sym acts);
+      lengths_are = more.lengths_are ∙ ap (λ l. l ++ lengths_of groups) longer ∙ append_assoc (lengths found) (length (text_of g) ∷ []) (lengths_of groups);
+    }
+
+-- measured lines print their answers
+pub measured_prints : {S : Type 0} (seen : S → View) (lengths : S → List ℕ) (lines : List Statement) (found left : S) (old new : List ℕ) → PrintsLines (MeasuresSeen seen lengths) found lines left old new → Prints (lines_answered (seen found) lines) old new (lengths found) (lengths left)
+measured_prints seen lengths lines found left old new done =
+    let all = measured_in_turn seen lengths lines found left done.groups done.acted in
+    record {
+      appended = done.text ∙ ap (λ g. old ++ printed_text g) all.groups_are;
+      measured = all.lengths_are ∙ ap (λ g. lengths found ++ lengths_of g) all.groups_are;
+    }
+
+pub measured_left : {S : Type 0} (seen : S → View) (lengths : S → List ℕ) (lines : List Statement) (found left : S) (old new : List ℕ) → PrintsLines (MeasuresSeen seen lengths) found lines left old new → seen left ≡ lines_left (seen found) lines
+measured_left seen lengths lines found left old new done =
+    (measured_in_turn seen lengths lines found left done.groups done.acted).left
 
 -- ---- turns
 
@@ -65,13 +105,80 @@ took_more v w x turns rest left turn steps finished steps' finished' reply took 
 
 -- ---- what is printed
 
--- a first text and another, as one
-pub both_printed : (old mid new : List ℕ) (early late : List (List (List ℕ))) → mid ≡ old ++ printed_text early → new ≡ mid ++ printed_text late → new ≡ old ++ printed_text (early ++ late)
-both_printed old mid new early late first last =
-    last ∙ ap (λ m. m ++ printed_text late) first ∙ append_assoc old (printed_text early) (printed_text late)
-    ∙ ap (λ t. old ++ t) (sym (printed_text_append early late))
+-- first groups and others, as one
+pub prints_both : (front back : List (List (List ℕ))) (a b c l m n : List ℕ) → Prints front a b l m → Prints back b c m n → Prints (front ++ back) a c l n
+prints_both front back a b c l m n first last = record {
+  appended = last.appended ∙ ap (λ t. t ++ printed_text back) first.appended ∙ append_assoc a (printed_text front) (printed_text back)
+      ∙ ap (λ t. a ++ t) (sym (printed_text_append front back));
+  measured = last.measured ∙ ap (λ t. t ++ lengths_of back) first.measured ∙ append_assoc l (lengths_of front) (lengths_of back)
+      ∙ ap (λ t. l ++ t) (sym (map-append (λ group. length (text_of group)) front back));
+}
 
--- the line of `go` and the lines after it
-pub go_printed : (old mid new : List ℕ) (line : List ℕ) (after : List (List (List ℕ))) → mid ≡ old ++ text_of (line ∷ []) → new ≡ mid ++ printed_text after → new ≡ old ++ printed_text ((line ∷ []) ∷ after)
-go_printed old mid new line after first last =
-    last ∙ ap (λ m. m ++ printed_text after) first ∙ append_assoc old (text_of (line ∷ [])) (printed_text after)
+-- the pieces of a text that was printed are the texts of its groups
+pub pieces_are : (groups : List (List (List ℕ))) → pieces (lengths_of groups) (printed_text groups) ≡ map text_of groups
+pieces_are [] = refl
+pieces_are (g ∷ groups) =
+    let first = take-append_seam (text_of g) (printed_text groups) in
+    let others = drop-append_seam (text_of g) (printed_text groups) in
+    ap (λ t. t ∷ pieces (lengths_of groups) (drop (length (text_of g)) (text_of g ++ printed_text groups))) first
+    ∙ ap (λ t. text_of g ∷ pieces (lengths_of groups) t) others ∙ ap (λ l. text_of g ∷ l) (pieces_are groups)
+
+-- the lengths make up the text
+pub lengths_add : (groups : List (List (List ℕ))) → sum (lengths_of groups) ≡ length (printed_text groups)
+lengths_add [] = refl
+lengths_add (g ∷ groups) =
+    omega (arith, sum_by-cons (λ n. n) (length (text_of g)) (lengths_of groups), lengths_add groups, length-append (text_of g) (printed_text groups))
+
+-- what was appended to nothing
+pub prints_alone : (groups : List (List (List ℕ))) (a c l n : List ℕ) → a ≡ [] → l ≡ [] → Prints groups a c l n → Prints groups [] c [] n
+prints_alone groups a c l n text lengths p = record {
+  appended = p.appended ∙ ap (λ t. t ++ printed_text groups) text;
+  measured = p.measured ∙ ap (λ t. t ++ lengths_of groups) lengths;
+}
+
+-- a text that was printed alone
+pub pieces_printed : (groups : List (List (List ℕ))) (text lengths : List ℕ) → Prints groups [] text [] lengths → pieces lengths text ≡ map text_of groups
+pieces_printed groups text lengths p =
+    ap (λ t. pieces lengths t) p.appended ∙ ap (λ l. pieces l (printed_text groups)) p.measured ∙ pieces_are groups
+
+pub lengths_fit : (groups : List (List (List ℕ))) (text lengths : List ℕ) → Prints groups [] text [] lengths → sum lengths ≤ length text
+lengths_fit groups text lengths p = omega (arith, ap sum p.measured, ap length p.appended, lengths_add groups)
+
+-- what is printed from `go` on, in the words of the script
+started_from : (script : RaceScript) (seed : ℕ) (v : View) (jobs : List JobLine) (after : List Statement) → IsStarted script v jobs after → from_go v (turns_of_seed jobs seed) after ≡ from_go (lines_left (start_of script) script.before.statements) (turns_of_seed script.jobs seed) script.after
+started_from script seed v jobs after started =
+    let found = lines_left (start_of script) script.before.statements in
+    ap (λ (x : View). from_go x (turns_of_seed jobs seed) after) started.view
+    ∙ ap (λ (x : List JobLine). from_go found (turns_of_seed x seed) after) started.jobs_are
+    ∙ ap (λ (x : List Statement). from_go found (turns_of_seed script.jobs seed) x) started.after_is
+
+-- a race prints what its lines before `go` print, and then the rest
+pub raced_in_parts : (script : RaceScript) (seed : ℕ) (v : View) (jobs : List JobLine) (after : List Statement) (a b c l m n : List ℕ) → IsStarted script v jobs after → Prints (before_go script) a b l m → Prints (from_go v (turns_of_seed jobs seed) after) b c m n → Prints (raced script (turns_of_seed script.jobs seed)).groups a c l n
+raced_in_parts script seed v jobs after a b c l m n started first last =
+    subst (λ (g : List (List (List ℕ))). Prints (before_go script ++ g) a c l n) (started_from script seed v jobs after started)
+    (prints_both (before_go script) (from_go v (turns_of_seed jobs seed) after) a b c l m n first last)
+
+-- the memory line prints nothing
+pub started_prints : (script : RaceScript) (v : View) (a c l m n : List ℕ) → v ≡ start_of script → m ≡ l ++ 0 ∷ [] → Prints (lines_answered v script.before.statements) a c m n → Prints (before_go script) a c l n
+started_prints script v a c l m n view first rest =
+    subst (λ (x : View). Prints ([] ∷ lines_answered x script.before.statements) a c l n) view
+    (record {
+      appended = rest.appended;
+      measured = rest.measured ∙ ap (λ t. t ++ lengths_of (lines_answered v script.before.statements)) first
+          ∙ append_assoc l (0 ∷ []) (lengths_of (lines_answered v script.before.statements));
+    })
+
+-- the line of `go`, and then the lines after it
+pub go_and_after : (v w : View) (turns taken : List RaceTurn) (steps finished : ℕ) (after : List Statement) (a b c l m n : List ℕ) → taken ≡ turns → w ≡ (answers v (step_calls taken)).1 → steps ≡ sum_by steps_in (answers v (step_calls taken)).0 → finished ≡ sum_by finishes_in (answers v (step_calls taken)).0 → Prints ((go_text steps finished ∷ []) ∷ []) a b l m → Prints (lines_answered w after) b c m n → Prints (from_go v turns after) a c l n
+go_and_after v w turns taken steps finished after a b c l m n all left some ends first rest =
+    let whole = prints_both ((go_text steps finished ∷ []) ∷ []) (lines_answered w after) a b c l m n first rest in
+    let stepped = subst (λ (x : ℕ). Prints ((go_text x finished ∷ []) ∷ lines_answered w after) a c l n) some whole in
+    let ended = subst (λ (x : ℕ). Prints ((go_text (sum_by steps_in (answers v (step_calls taken)).0) x ∷ []) ∷ lines_answered w after) a c l n) ends stepped in
+    let viewed = subst (λ (x : View). Prints ((go_line (answers v (step_calls taken)).0 ∷ []) ∷ lines_answered x after) a c l n) left ended in
+    subst (λ (x : List RaceTurn). Prints (from_go v x after) a c l n) all viewed
+
+-- what is printed from `go` on
+pub from_started : (script : RaceScript) (seed : ℕ) (v : View) (jobs : List JobLine) (after : List Statement) (a c l n : List ℕ) → IsStarted script v jobs after → a ≡ [] → Prints (from_go v (turns_of_seed jobs seed) after) a c l n → c ≡ text_from_go (Ok script) seed
+from_started script seed v jobs after a c l n started none p =
+    p.appended ∙ ap (λ t. t ++ printed_text (from_go v (turns_of_seed jobs seed) after)) none
+    ∙ ap printed_text (started_from script seed v jobs after started)

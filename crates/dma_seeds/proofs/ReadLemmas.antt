@@ -39,7 +39,7 @@ from_line : {S : Type 0} (n : ℕ) (r : Result S Cause) (y : S) → at_line n r 
 from_line n (Ok x) y is = cc
 from_line n (Err e) y is = absurd cc
 
-option_cases : {A : Type 0} (o : Option A) → (o ≡ None) ⊎ ((a : A) × (o ≡ Some a))
+pub option_cases : {A : Type 0} (o : Option A) → (o ≡ None) ⊎ ((a : A) × (o ≡ Some a))
 option_cases None = inl refl
 option_cases (Some a) = inr (a, refl)
 

@@ -6,9 +6,10 @@ use Rattle.dma_engine.specs.View.{View, new_view}
 use Rattle.dma_script.specs.Command.{Printed}
 use Rattle.dma_script.specs.declared.statements.Statement.{Statement}
 use Rattle.dma_script.specs.declared.statements.Statement.TheVariants as statements
+use Rattle.dma_commands.specs.Left.{lines_left}
 use Rattle.dma_commands.specs.Run.{line_answer, lines_answered}
 use Rattle.dma_seeds.specs.declared.turns.RaceTurn.{RaceTurn}
-use Rattle.dma_seeds.specs.Race.{lines_left, step_calls}
+use Rattle.dma_seeds.specs.Race.{step_calls}
 use Rattle.dma_seeds.specs.Script.{RacesAreRuns, step_groups}
 
 lines_answered_append : (v : View) (xs ys : List Statement) → lines_answered v (xs ++ ys) ≡ lines_answered v xs ++ lines_answered (lines_left v xs) ys

@@ -1,7 +1,8 @@
--- The order in which a seed takes the turns of a race's jobs, what a race prints for it, the same as a script of `run`,
--- and which outputs the seeds of a range give.
+-- The order in which a seed takes the turns of a race's jobs, what a race prints for it, whether its `expect` lines hold,
+-- the same as a script of `run`, and which outputs the seeds of a range give.
 pub mod Turns
 pub mod Race
+pub mod Expect
 pub mod Script
 pub mod Seeds
 pub mod inner

@@ -14,7 +14,8 @@ use Rattle.dma_script.specs.Race.{race_script_of}
 use Rattle.dma_script.specs.declared.fault.Fault.{Fault}
 use Rattle.dma_script.specs.declared.race.RaceScript.{RaceScript}
 use Rattle.dma_script.specs.declared.statements.Statement.{Statement}
-use Rattle.dma_commands.specs.Run.{line_answer, lines_answered}
+use Rattle.dma_commands.specs.Left.{lines_left}
+use Rattle.dma_commands.specs.Run.{lines_answered}
 use Rattle.dma_seeds.specs.declared.turns.RaceTurn.{RaceTurn}
 use Rattle.dma_seeds.specs.Turns.{turns_of_seed}
 
@@ -33,15 +34,13 @@ abbrev pub finishes_in : Reply → ℕ
 finishes_in (Turned (Finished cookie result residue)) = 1
 finishes_in _ = 0
 
--- `go steps N finished N`, given the replies to the turns
-abbrev pub go_line : List Reply → List ℕ
-go_line replies =
-    codes "go steps " ++ decimal (sum_by steps_in replies) ++ codes " finished " ++ decimal (sum_by finishes_in replies)
+-- `go steps N finished N`
+abbrev pub go_text : ℕ → ℕ → List ℕ
+go_text steps finished = codes "go steps " ++ decimal steps ++ codes " finished " ++ decimal finished
 
--- the view after lines of a script
-abbrev pub lines_left : View → List Statement → View
-lines_left v [] = v
-lines_left v (line ∷ rest) = lines_left (line_answer v line).1 rest
+-- the line of `go`, given the replies to the turns
+abbrev pub go_line : List Reply → List ℕ
+go_line replies = go_text (sum_by steps_in replies) (sum_by finishes_in replies)
 
 -- the view at the start of a race script
 abbrev pub start_of : RaceScript → View

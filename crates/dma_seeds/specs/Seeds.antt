@@ -1,5 +1,5 @@
--- Which outputs the seeds of a range give, and what is printed about them (profile).
-use Rattle.std.specs.Prelude.{ℕ, ◌+◌, ◌-◌, Bool, ◌==◌, not, if◌then◌else◌, List, [], ◌∷◌, ◌++◌, count_by, filter, flat_map, length, map, Result, Ok, Err, codes, decimal}
+-- Which outputs the seeds of a range give, what is printed about them, and whether the expect lines hold (profile).
+use Rattle.std.specs.Prelude.{ℕ, zero, suc, ◌+◌, ◌-◌, Bool, ◌==◌, not, if◌then◌else◌, List, [], ◌∷◌, ◌++◌, count_by, filter, flat_map, length, map, Result, Ok, Err, codes, decimal}
 use Rattle.std.specs.List.{list_any, range_with_len}
 use Rattle.std.specs.Str.{bytes_eq}
 use Rattle.std.specs.Str.Lines.{lines}
@@ -8,8 +8,12 @@ use Rattle.dma_script.specs.Printing.{fault_line}
 use Rattle.dma_script.specs.Race.{race_script_of}
 use Rattle.dma_script.specs.declared.fault.Fault.{Fault}
 use Rattle.dma_script.specs.declared.race.RaceScript.{RaceScript}
-use Rattle.dma_seeds.specs.Race.{from_go, lines_left, start_of}
+use Rattle.dma_commands.specs.Left.{lines_left}
+use Rattle.dma_seeds.specs.Race.{from_go, start_of}
+use Rattle.dma_seeds.specs.Expect.{verdict, without_expects}
 use Rattle.dma_seeds.specs.Turns.{turns_of_seed}
+use Rattle.dma_seeds.specs.declared.expect.Verdict.{Verdict}
+use Rattle.dma_seeds.specs.declared.expect.Verdict.TheVariants.{Holds, Refused}
 use Rattle.dma_seeds.specs.declared.outputs.Output.{Output}
 use Rattle.dma_seeds.specs.declared.seeds.SeedRange.{SeedRange}
 
@@ -73,3 +77,24 @@ seeds_printed_of (Err fault) seeds = text_of (fault_line fault ∷ [])
 -- What is printed for an input and a range of seeds.
 abbrev pub seeds_printed : List ℕ → SeedRange → List ℕ
 seeds_printed input seeds = seeds_printed_of (race_script_of input) seeds
+
+-- ---- the verdict
+
+-- a verdict if it is no `Holds`, else the next one
+abbrev pub unless_holds : Verdict → Verdict → Verdict
+unless_holds Holds next = next
+unless_holds first next = first
+
+-- the verdict for the first of n seeds from `first` on for which it is no `Holds`
+abbrev pub first_verdict : (ℕ → Verdict) → ℕ → ℕ → Verdict
+first_verdict verdict first zero = Holds
+first_verdict verdict first (suc n) = unless_holds (verdict first) (first_verdict verdict (first + 1) n)
+
+abbrev pub seeds_verdict_of : Result RaceScript Fault → List ℕ → SeedRange → Verdict
+seeds_verdict_of (Ok script) input seeds = first_verdict (verdict input) seeds.first (seeds.last + 1 - seeds.first)
+seeds_verdict_of (Err fault) input seeds = Refused
+
+-- The verdict on a script for a range of seeds: it has a fault, or its expect lines hold for all of them, or this is the
+-- first that fails for the first seed for which one fails.
+abbrev pub seeds_verdict : List ℕ → SeedRange → Verdict
+seeds_verdict input seeds = seeds_verdict_of (race_script_of (without_expects input)) input seeds

@@ -1,121 +1,68 @@
 //! A race whose turns are taken in the order that a seed determines.
 
-ghost use Rattle.std.specs.Prelude.{◌≡◌, ◌==◌, ◌+◌, ◌<◌, ◌≤◌, ◌++◌, IfOk, OnErr, OnOk, length};
-ghost use Rattle.std.specs.List.{All, sum_by};
-ghost use Rattle.dma_engine.specs.View.{new_view};
+ghost use Rattle.std.specs.Prelude.{◌≡◌, ◌+◌, ◌<◌, ◌≤◌, ◌++◌, ◌∷◌, [], IfOk, OnErr, OnOk, length};
+ghost use Rattle.std.specs.List.{sum_by};
+ghost use Rattle.std.specs.Str.Lines.{lines};
 ghost use Rattle.dma_engine.specs.Answer.{answer, answers, reply_of};
-ghost use Rattle.dma_script.specs.Command.{printed_text, text_of};
-ghost use Rattle.dma_script.specs.Race.{IsEarly, IsRace};
-ghost use Rattle.dma_script.specs.Statements.{IsWithin};
-ghost use Rattle.dma_commands.specs.Run.{call_answer, line_answer, lines_answered, submit_answer};
-ghost use Rattle.dma_commands.specs.inner.RunSteps.{RunsLine};
+ghost use Rattle.dma_script.specs.Command.{printed_text};
+ghost use Rattle.dma_script.specs.Race.{IsRace};
+ghost use Rattle.dma_commands.specs.Left.{lines_left};
+ghost use Rattle.dma_commands.specs.Run.{line_answer, lines_answered};
+ghost use Rattle.dma_seeds.specs.Expect.{lines_verdict, verdict, without_expects};
 ghost use Rattle.dma_seeds.specs.Turns.{turns_of_seed};
-ghost use Rattle.dma_seeds.specs.Race.{before_go, finishes_in, from_go, lines_left, race_printed, step_calls, steps_in};
+ghost use Rattle.dma_seeds.specs.Race.{before_go, finishes_in, from_go, go_text, race_printed, raced, step_calls, steps_in};
+ghost use Rattle.dma_seeds.specs.inner.Measured.{Prints};
 ghost use Rattle.dma_seeds.specs.inner.Started.{IsStarted};
 
+use crate::expect::{Verdict, lines_verdict, without_expects};
 use crate::turns::Turns;
-use dma_commands::printing::Shown;
-use dma_commands::run::run_statements;
-use dma_commands::transfers::transfer_of;
-use dma_engine::{Call, Engine, EngineFault, NewFault, Reply, Turn};
+use dma_commands::run::{new_engine, run_line};
+use dma_engine::{Call, Engine, EngineFault, Reply, Turn};
 use dma_script::fault::ScriptError;
 use dma_script::interpreter::Interpreter;
 use dma_script::printing::print_line;
 use dma_script::race::{Jobs, RaceScript, read_race_script};
-use dma_script::statements::{RunScript, Statement, Statements};
-use dma_script::transfer_line::TransferLine;
+use dma_script::statements::{Statement, Statements};
 use std::alloc::{AllocError, Global};
 
-/// Returns a new engine as a memory line describes it. Fails if memory runs out.
-fn engine_of(alloc: Global, script: &RunScript) -> Result<Engine, AllocError>
-    requires { IsWithin script.now }
-    ensures { IfOk result (λ engine. engine.view ≡ new_view script.now.size script.now.channels) }
-{
-    match Engine::new(alloc, script.size, script.channels as u8) {
-        Ok(engine) => Ok(engine),
-        Err(NewFault::NoMemory) => Err(AllocError),
-        Err(NewFault::BadChannels | NewFault::SizeOutOfRange) => unreachable!(),
-    }
-}
-
-/// Makes a call and appends the line of its reply.
-fn answer_call(engine: &mut Engine, call: Call, out: &mut Vec<u8>) -> Result<(), AllocError>
-    ensures { RunsLine (call_answer engine.old.view call) engine.new.view
-        result out.old.items out.new.items }
-{
-    let reply = engine.carry_out(&call);
-    print_line(out, &Shown((&call, &reply)))
-}
-
-/// Executes a `submit` line.
-fn answer_submit(
-    engine: &mut Engine,
-    ch: u8,
-    words: TransferLine,
-    out: &mut Vec<u8>,
-) -> Result<(), AllocError>
-    ensures { RunsLine (submit_answer engine.old.view ch words) engine.new.view
-        result out.old.items out.new.items }
-{
-    let transfer = match transfer_of(words) {
-        Ok(transfer) => transfer,
-        Err(fault) => return print_line(out, &("refused ", Shown(fault))),
-    };
-    match engine.submit(ch, transfer) {
-        Ok(cookie) => print_line(out, &("cookie ", cookie)),
-        Err(refused) => print_line(out, &("refused ", Shown(refused.fault))),
-    }
-}
-
-/// Executes a line before `go`.
-fn run_early_line(engine: &mut Engine, line: Statement, out: &mut Vec<u8>) -> Result<(), AllocError>
-    requires { IsEarly line }
-    ensures { RunsLine (line_answer engine.old.view line) engine.new.view
-        result out.old.items out.new.items }
-{
-    match line {
-        Statement::Submit { ch, transfer } => answer_submit(engine, ch, transfer, out),
-        Statement::Call(call) => answer_call(engine, call, out),
-        _ => unreachable!(),
-    }
-}
-
-/// Executes the lines before `go` on an engine.
+/// An engine, and the length of what each line of a script printed that was executed on it.
 #[derive(Drop)]
-struct EarlyLines {
+pub(crate) struct MeasuredEngine {
     engine: Engine,
+    pub(crate) lengths: Vec<usize>,
 }
 
-impl Interpreter for EarlyLines {
-    ghost use Rattle.dma_script.specs.Race.{IsEarly};
+impl Interpreter for MeasuredEngine {
+    ghost use Rattle.std.specs.Prelude.{◌++◌, ◌∷◌, [], length};
+    ghost use Rattle.dma_script.specs.Command.{text_of};
 
     type Line = Statement;
 
-    ghost takes = { IsEarly };
-
-    ghost acts = { λ found line group left. line_answer found.engine.view line
-        ≡ (group, left.engine.view) };
+    ghost acts = { λ found line group left.
+        (line_answer found.engine.view line ≡ (group, left.engine.view))
+        × (left.lengths.items ≡ found.lengths.items ++ length (text_of group) ∷ []) };
 
     fn interpret(&mut self, line: Statement, out: &mut Vec<u8>) -> Result<(), AllocError> {
-        run_early_line(&mut self.engine, line, out)
+        self.lengths.reserve(1)?;
+        let start = out.len();
+        run_line(&mut self.engine, line, out)?;
+        self.lengths.push_reserved(out.len() - start);
+        Ok(())
     }
 }
 
-/// Executes the lines before `go`, appends what they print, and returns the engine. Fails if memory runs out.
-fn run_early_lines(
-    engine: Engine,
+/// Executes lines of a script on an engine, and appends what they print. Fails if memory runs out.
+fn run_measured(
     lines: Statements,
+    measured: &mut MeasuredEngine,
     out: &mut Vec<u8>,
-) -> Result<Engine, AllocError>
-    requires { All IsEarly lines }
-    ensures left { IfOk result (λ left. left.view ≡ lines_left engine.view lines) }
-    ensures text { OnOk result (out.new.items
-        ≡ out.old.items ++ printed_text (lines_answered engine.view lines)) }
+) -> Result<(), AllocError>
+    ensures left { OnOk result
+        (measured.new.engine.view ≡ lines_left measured.old.engine.view lines) }
+    ensures text { OnOk result (Prints (lines_answered measured.old.engine.view lines)
+        out.old.items out.new.items measured.old.lengths.items measured.new.lengths.items) }
 {
-    let mut early = EarlyLines { engine };
-    lines.run(&mut early, out)?;
-    let EarlyLines { engine } = early;
-    Ok(engine)
+    lines.run(measured, out)
 }
 
 /// What the turns of a race did.
@@ -185,7 +132,7 @@ fn take_turns(engine: &mut Engine, turns: Turns) -> Result<Totals, AllocError>
 /// A race whose lines before `go` were executed.
 #[derive(Drop)]
 pub(crate) struct StartedRace {
-    engine: Engine,
+    measured: MeasuredEngine,
     jobs: Jobs,
     after: Statements,
 }
@@ -197,21 +144,41 @@ pub(crate) fn start(
     out: &mut Vec<u8>,
 ) -> Result<StartedRace, AllocError>
     requires { IsRace script }
-    ensures race { IfOk result (λ race. IsStarted script race.engine.view race.jobs race.after) }
-    ensures text { OnOk result (out.new.items ≡ out.old.items ++ printed_text (before_go script)) }
+    ensures race { IfOk result
+        (λ race. IsStarted script race.measured.engine.view race.jobs race.after) }
+    ensures text { IfOk result (λ race. Prints (before_go script)
+        out.old.items out.new.items [] race.measured.lengths.items) }
 {
-    let engine = engine_of(alloc, &script.before)?;
+    let engine = new_engine(alloc, &script.before)?;
     let RaceScript {
         before,
         jobs,
         after,
     } = script;
-    let engine = run_early_lines(engine, before.statements, out)?;
+    let mut lengths = Vec::new(alloc);
+    // the memory line prints nothing
+    lengths.push(0)?;
+    let mut measured = MeasuredEngine { engine, lengths };
+    run_measured(before.statements, &mut measured, out)?;
     Ok(StartedRace {
-        engine,
+        measured,
         jobs,
         after,
     })
+}
+
+/// Appends the line of `go`, and its length. Fails if memory runs out.
+fn print_go(totals: Totals, out: &mut Vec<u8>, lengths: &mut Vec<usize>) -> Result<(), AllocError>
+    ensures { OnOk result (Prints ((go_text totals.steps totals.finished ∷ []) ∷ [])
+        out.old.items out.new.items lengths.old.items lengths.new.items) }
+{
+    let start = out.len();
+    print_line(
+        out,
+        &("go steps ", totals.steps, " finished ", totals.finished),
+    )?;
+    lengths.push(out.len() - start)?;
+    Ok(())
 }
 
 impl StartedRace {
@@ -222,55 +189,71 @@ impl StartedRace {
         alloc: Global,
         seed: u64,
         out: &mut Vec<u8>,
-    ) -> Result<(), AllocError>
+    ) -> Result<MeasuredEngine, AllocError>
         requires { length self.jobs ≤ 16 }
-        ensures { OnOk result (out.new.items ≡ out.old.items
-            ++ printed_text (from_go self.engine.view (turns_of_seed self.jobs seed) self.after)) }
+        ensures { IfOk result (λ measured. Prints
+            (from_go self.measured.engine.view (turns_of_seed self.jobs seed) self.after)
+            out.old.items out.new.items self.measured.lengths.items measured.lengths.items) }
     {
         let StartedRace {
-            engine,
+            measured,
             jobs,
             after,
         } = self;
-        let mut engine = engine;
+        let mut measured = measured;
         let turns = Turns::of_seed(alloc, jobs.as_slice(), seed)?;
-        let totals = take_turns(&mut engine, turns)?;
-        print_line(
-            out,
-            &("go steps ", totals.steps, " finished ", totals.finished),
-        )?;
-        run_statements(alloc, &mut engine, after, out)?;
-        Ok(())
+        let totals = take_turns(&mut measured.engine, turns)?;
+        print_go(totals, out, &mut measured.lengths)?;
+        run_measured(after, &mut measured, out)?;
+        Ok(measured)
     }
 }
 
+/// Executes a race, appends what it prints, and returns whether the `expect` lines of its script hold. Fails if memory
+/// runs out.
+fn run_race(
+    alloc: Global,
+    script: &[u8],
+    race: RaceScript,
+    seed: u64,
+    out: &mut Vec<u8>,
+) -> Result<Verdict, AllocError>
+    requires { IsRace race }
+    ensures text { OnOk result (out.new.items
+        ≡ out.old.items ++ printed_text (raced race (turns_of_seed race.jobs seed)).groups) }
+    ensures verdict { IfOk result (λ verdict. verdict
+        ≡ lines_verdict seed (lines script.now) (raced race (turns_of_seed race.jobs seed)).groups) }
+    ensures err { OnErr result (out.new.items ≡ out.old.items) }
+{
+    let mut text = Vec::new(alloc);
+    let started = start(alloc, race, &mut text)?;
+    let measured = started.finish(alloc, seed, &mut text)?;
+    let verdict = lines_verdict(alloc, seed, script, &text, &measured.lengths)?;
+    out.extend_from_slice(&text)?;
+    Ok(verdict)
+}
+
 /// Executes a race script in one thread, with the turns of its jobs in the order that a seed determines, and appends
-/// what `dmasim race` prints for that order. Returns whether the script has no fault. If memory runs out, appends
-/// nothing.
+/// what `dmasim race` prints for that order and the script without its `expect` lines. Returns whether the script has a
+/// fault, and whether its `expect` lines hold. If memory runs out, appends nothing.
 pub fn race_by_seed(
     alloc: Global,
     script: &[u8],
     seed: u64,
     out: &mut Vec<u8>,
-) -> Result<bool, AllocError>
-    ensures text { OnOk result (out.new.items
-        ≡ out.old.items ++ printed_text (race_printed script.now seed).groups) }
-    ensures good { IfOk result (λ good. good ≡ ((race_printed script.now seed).status == 0)) }
+) -> Result<Verdict, AllocError>
+    ensures text { OnOk result (out.new.items ≡ out.old.items
+        ++ printed_text (race_printed (without_expects script.now) seed).groups) }
+    ensures verdict { IfOk result (λ found. found ≡ verdict script.now seed) }
     ensures err { OnErr result (out.new.items ≡ out.old.items) }
 {
-    let mut text = Vec::new(alloc);
-    let good = match read_race_script(alloc, script) {
-        Ok(script) => {
-            let race = start(alloc, script, &mut text)?;
-            race.finish(alloc, seed, &mut text)?;
-            true
-        }
-        Err(ScriptError::NoMemory) => return Err(AllocError),
+    let kept = without_expects(alloc, script)?;
+    match read_race_script(alloc, &kept) {
+        Ok(race) => run_race(alloc, script, race, seed, out),
+        Err(ScriptError::NoMemory) => Err(AllocError),
         Err(error) => {
-            print_line(&mut text, &error)?;
-            false
+            print_line(out, &error)?;
+            Ok(Verdict::Refused)
         }
-    };
-    out.extend_from_slice(&text)?;
-    Ok(good)
+    }
 }

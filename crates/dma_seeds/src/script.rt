@@ -3,8 +3,10 @@
 ghost use Rattle.std.specs.Prelude.{◌≡◌, ◌++◌, IfOk, OnErr, OnOk, is_ok};
 ghost use Rattle.dma_script.specs.Race.{race_script_of};
 ghost use Rattle.dma_script.specs.Words.{words_of};
+ghost use Rattle.dma_seeds.specs.Expect.{without_expects};
 ghost use Rattle.dma_seeds.specs.Script.{script_text, text_for, text_with, turns_text};
 
+use crate::expect::without_expects;
 use crate::turns::Turns;
 use dma_script::fault::ScriptError;
 use dma_script::printing::print_line;
@@ -53,19 +55,22 @@ fn push_lines(script: &[u8], turns: &[u8], out: &mut Vec<u8>) -> Result<(), Allo
 }
 
 /// Appends a race script as a script of `run`, whose `step` lines are the turns of the jobs, in the order that a seed
-/// determines. Skipped lines are left out. Returns false, and appends nothing, if the race script has a fault. If
-/// memory runs out, appends nothing.
+/// determines. Skipped lines and `expect` lines are left out. Returns false, and appends nothing, if the race script has
+/// a fault. If memory runs out, appends nothing.
 pub fn script_of_seed(
     alloc: Global,
     script: &[u8],
     seed: u64,
     out: &mut Vec<u8>,
 ) -> Result<bool, AllocError>
-    ensures good { IfOk result (λ good. good ≡ is_ok (race_script_of script.now)) }
-    ensures text { OnOk result (out.new.items ≡ out.old.items ++ script_text script.now seed) }
+    ensures good { IfOk result (λ good. good
+        ≡ is_ok (race_script_of (without_expects script.now))) }
+    ensures text { OnOk result
+        (out.new.items ≡ out.old.items ++ script_text (without_expects script.now) seed) }
     ensures err { OnErr result (out.new.items ≡ out.old.items) }
 {
-    let race = match read_race_script(alloc, script) {
+    let kept = without_expects(alloc, script)?;
+    let race = match read_race_script(alloc, &kept) {
         Ok(race) => race,
         Err(ScriptError::NoMemory) => return Err(AllocError),
         Err(_) => return Ok(false),
@@ -73,7 +78,7 @@ pub fn script_of_seed(
     let turns = Turns::of_seed(alloc, race.jobs.as_slice(), seed)?;
     let turns = text_of_turns(alloc, turns)?;
     let mut text = Vec::new(alloc);
-    push_lines(script, &turns, &mut text)?;
+    push_lines(&kept, &turns, &mut text)?;
     out.extend_from_slice(&text)?;
     Ok(true)
 }

@@ -1,15 +1,17 @@
 //! A race executed once for each seed of a range.
 
-ghost use Rattle.std.specs.Prelude.{◌≡◌, ◌++◌, ◌+◌, ◌-◌, IfOk, OnErr, OnOk, is_ok};
-ghost use Rattle.dma_script.specs.Race.{race_script_of};
-ghost use Rattle.dma_seeds.specs.Seeds.{outputs_of, outputs_text, seeds_printed, text_from_go};
+ghost use Rattle.std.specs.Prelude.{◌≡◌, ◌++◌, ◌+◌, ◌-◌, IfOk, OnErr, OnOk, is_ok, true, Ok};
+ghost use Rattle.dma_script.specs.Race.{IsRace, race_script_of};
+ghost use Rattle.dma_seeds.specs.Expect.{verdict, without_expects};
+ghost use Rattle.dma_seeds.specs.Seeds.{first_verdict, outputs_of, outputs_text, seeds_printed, seeds_verdict, text_from_go};
 
+use crate::expect::{Verdict, has_expects, without_expects};
 use crate::outputs::{Output, Things, count_output, print_outputs};
-use crate::race::start;
+use crate::race::{race_by_seed, start};
 use dma_mem::lists::Bytes;
 use dma_script::fault::ScriptError;
 use dma_script::printing::print_line;
-use dma_script::race::read_race_script;
+use dma_script::race::{RaceScript, read_race_script};
 use std::alloc::{AllocError, Global};
 
 /// The seeds from a first one to a last one.
@@ -21,23 +23,29 @@ pub struct SeedRange {
     pub last: u32,
 }
 
+/// Returns what a race prints for a seed from the line of `go` on. Fails if memory runs out.
+fn text_of_race(alloc: Global, race: RaceScript, seed: u64) -> Result<Vec<u8>, AllocError>
+    requires { IsRace race }
+    ensures { IfOk result (λ text. text.items ≡ text_from_go (Ok race) seed) }
+{
+    let mut early = Vec::new(alloc);
+    let mut text = Vec::new(alloc);
+    let started = start(alloc, race, &mut early)?;
+    started.finish(alloc, seed, &mut text)?;
+    Ok(text)
+}
+
 /// Returns what a race script prints for a seed from the line of `go` on, or nothing for a script with a fault. Fails
 /// if memory runs out.
 fn text_from_go(alloc: Global, script: &[u8], seed: u64) -> Result<Vec<u8>, AllocError>
     ensures { IfOk result
         (λ text. text.items ≡ text_from_go (race_script_of script.now) seed) }
 {
-    let mut text = Vec::new(alloc);
     match read_race_script(alloc, script) {
-        Ok(script) => {
-            let mut early = Vec::new(alloc);
-            let race = start(alloc, script, &mut early)?;
-            race.finish(alloc, seed, &mut text)?;
-        }
-        Err(ScriptError::NoMemory) => return Err(AllocError),
-        Err(_) => {}
+        Ok(race) => text_of_race(alloc, race, seed),
+        Err(ScriptError::NoMemory) => Err(AllocError),
+        Err(_) => Ok(Vec::new(alloc)),
     }
-    Ok(text)
 }
 
 /// Executes a race script once for each seed, and returns the different outputs. Fails if memory runs out.
@@ -71,13 +79,9 @@ fn print_seeds(seeds: SeedRange, outputs: &[Output], out: &mut Vec<u8>) -> Resul
     print_outputs(outputs, out)
 }
 
-/// Executes a race script once for each seed of a range, in one thread, and appends the different outputs from the line
-/// of `go` on, with how many seeds give each and the first of these. Returns whether the script has no fault. If memory
-/// runs out, appends nothing.
-///
-/// Takes for each seed the time of `race_by_seed`, and compares its output with each different one before. Keeps each
-/// different output, and of no seed more than that.
-pub fn race_by_seeds(
+/// Executes a race script once for each seed of a range, and appends the different outputs, or the script's fault.
+/// Returns whether the script has no fault. Fails if memory runs out.
+fn print_outputs_of(
     alloc: Global,
     script: &[u8],
     seeds: SeedRange,
@@ -85,21 +89,69 @@ pub fn race_by_seeds(
 ) -> Result<bool, AllocError>
     ensures text { OnOk result (out.new.items ≡ out.old.items ++ seeds_printed script.now seeds) }
     ensures good { IfOk result (λ good. good ≡ is_ok (race_script_of script.now)) }
-    ensures err { OnErr result (out.new.items ≡ out.old.items) }
 {
-    let mut text = Vec::new(alloc);
-    let good = match read_race_script(alloc, script) {
+    match read_race_script(alloc, script) {
         Ok(_) => {
             let outputs = outputs_of(alloc, script, seeds)?;
-            print_seeds(seeds, &outputs, &mut text)?;
-            true
+            print_seeds(seeds, &outputs, out)?;
+            Ok(true)
         }
-        Err(ScriptError::NoMemory) => return Err(AllocError),
+        Err(ScriptError::NoMemory) => Err(AllocError),
         Err(error) => {
-            print_line(&mut text, &error)?;
-            false
+            print_line(out, &error)?;
+            Ok(false)
         }
+    }
+}
+
+/// Returns the verdict for the first seed for which an `expect` line of the script fails, else `Holds`. Fails if memory
+/// runs out.
+#[tactic(auto, using(crate::proofs::ExpectLemmas::one_seed, crate::proofs::ExpectLemmas::goes_on, crate::proofs::ExpectLemmas::stops, crate::proofs::ExpectLemmas::all_seeds_hold))]
+fn first_verdict(alloc: Global, script: &[u8], seeds: SeedRange) -> Result<Verdict, AllocError>
+    requires { is_ok (race_script_of (without_expects script.now)) ≡ true }
+    ensures { IfOk result (λ found. found
+        ≡ first_verdict (verdict script.now) seeds.first (seeds.last + 1 - seeds.first)) }
+{
+    if !has_expects(script) {
+        return Ok(Verdict::Holds);
+    }
+    for seed in u64::from(seeds.first)..u64::from(seeds.last) + 1 {
+        let mut text = Vec::new(alloc);
+        let verdict = race_by_seed(alloc, script, seed, &mut text)?;
+        if !verdict.is_good() {
+            return Ok(verdict);
+        }
+    }
+    Ok(Verdict::Holds)
+}
+
+/// Executes a race script once for each seed of a range, in one thread, and appends the different outputs from the line
+/// of `go` on, with how many seeds give each and the first of these. Returns whether the script has a fault, and whether
+/// its `expect` lines hold, or which one fails first for the first seed for which one fails. If memory runs out, appends
+/// nothing.
+///
+/// Takes for each seed the time of `race_by_seed`, twice for a script with `expect` lines, and compares its output with
+/// each different one before. Keeps each different output, and of no seed more than that.
+#[tactic(auto, using(crate::proofs::ExpectLemmas::seeds_good, crate::proofs::ExpectLemmas::seeds_bad))]
+pub fn race_by_seeds(
+    alloc: Global,
+    script: &[u8],
+    seeds: SeedRange,
+    out: &mut Vec<u8>,
+) -> Result<Verdict, AllocError>
+    ensures text { OnOk result
+        (out.new.items ≡ out.old.items ++ seeds_printed (without_expects script.now) seeds) }
+    ensures verdict { IfOk result (λ verdict. verdict ≡ seeds_verdict script.now seeds) }
+    ensures err { OnErr result (out.new.items ≡ out.old.items) }
+{
+    let kept = without_expects(alloc, script)?;
+    let mut text = Vec::new(alloc);
+    let good = print_outputs_of(alloc, &kept, seeds, &mut text)?;
+    let verdict = if good {
+        first_verdict(alloc, script, seeds)?
+    } else {
+        Verdict::Refused
     };
     out.extend_from_slice(&text)?;
-    Ok(good)
+    Ok(verdict)
 }

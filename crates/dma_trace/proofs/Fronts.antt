@@ -1,6 +1,6 @@
 -- Fronts of a run without memory, instruction after instruction.
-use Rattle.std.proofs.Common.{◌≡◌, ℕ, suc, ◌+◌, ◌≤◌, List, ◌++◌, length, Some, None, Result, Ok, Err, refl, sym, ap, subst, ◌∙◌, arith, length-append}
-use Rattle.std.specs.Prelude.{nat_lt}
+use Rattle.std.proofs.Common.{◌≡◌, ℕ, suc, ◌+◌, ◌≤◌, List, ◌++◌, length, Option, Some, None, Result, Ok, Err, refl, sym, ap, subst, ◌∙◌, arith, length-append}
+use Rattle.std.specs.Prelude.{nat_lt, slice_get}
 use Rattle.std.proofs.lemmas.Bool.{ltb-false}
 use Rattle.dma_insn.specs.declared.insn.Insn.{Insn}
 use Rattle.dma_insn.specs.declared.insn.Insn.TheVariants.{Mov, Ld, St, Rmb, Wmb, Nop, End, Lp, LpEnd, Sev, Wfe}
@@ -139,8 +139,9 @@ room_here bus program n f i at w =
     subst P (sym at) w.room
 
 -- what is printed of a program that is refused
-pub cause_printed : (bus : Bus) (program : List ℕ) (u : Unexplained) (f : Front) (next : Result Insn FaultKind) → f ≡ front_at (traced bus program u.steps) → next ≡ next_of program f.pc → refusal_text (cause_text u.cause next u.steps f) next u.steps f ≡ unexplained_text bus program u
-cause_printed bus program u f next at is =
+pub cause_printed : (bus : Bus) (program : List ℕ) (u : Unexplained) (f : Front) (first : Option ℕ) (next : Result Insn FaultKind) → f ≡ front_at (traced bus program u.steps) → first ≡ slice_get program f.pc → next ≡ next_of program f.pc → refusal_text (cause_text u.cause first next u.steps f) first next u.steps f ≡ unexplained_text bus program u
+cause_printed bus program u f first next at byte is =
     let x = traced bus program u.steps in
-    ap (λ (r : Result Insn FaultKind). refusal_text (cause_text u.cause r u.steps f) r u.steps f) (sym (next_here bus program u.steps f next at is))
-    ∙ ap (λ (g : Front). refusal_text (cause_text u.cause (next_in program x) u.steps g) (next_in program x) u.steps g) at
+    ap (λ (b : Option ℕ). refusal_text (cause_text u.cause b next u.steps f) b next u.steps f) byte
+    ∙ ap (λ (r : Result Insn FaultKind). refusal_text (cause_text u.cause (slice_get program f.pc) r u.steps f) (slice_get program f.pc) r u.steps f) (sym (next_here bus program u.steps f next at is))
+    ∙ ap (λ (g : Front). refusal_text (cause_text u.cause (slice_get program g.pc) (next_in program x) u.steps g) (slice_get program g.pc) (next_in program x) u.steps g) at

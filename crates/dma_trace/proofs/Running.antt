@@ -1,6 +1,6 @@
 -- A run of a trace, step after step.
 use Rattle.std.proofs.Common.{◌≡◌, ◌≢◌, ℕ, suc, ◌+◌, ◌-◌, ◌<◌, ◌≤◌, Bool, true, false, ◌&&◌, List, [], ◌∷◌, ◌++◌, length, map, Option, Some, None, Result, Ok, refl, sym, ap, subst, ◌∙◌, arith, inl, inr, append_assoc, append-nil}
-use Rattle.std.specs.Prelude.{flat_map, nat_le, nat_lt, if◌then◌else◌}
+use Rattle.std.specs.Prelude.{flat_map, nat_le, nat_lt, slice_get, if◌then◌else◌}
 use Rattle.std.proofs.lemmas.Bool.{cases_lt, le-ltb, lt-ltb}
 use Rattle.dma_insn.specs.declared.insn.Insn.{Insn}
 use Rattle.dma_mem.specs.Flags.{flags_of}
@@ -12,7 +12,7 @@ use Rattle.dma_mem.specs.declared.segment.Segment.{Segment}
 use Rattle.dma_chan.specs.declared.turn.ChanTurn.{ChanTurn}
 use Rattle.dma_chan.specs.declared.turn.ChanTurn.TheVariants.{Moved}
 use Rattle.dma_chan.specs.declared.turn.FaultKind.{FaultKind}
-use Rattle.dma_chan.specs.Channel.{ChannelValue, ahead_of, loaded_on}
+use Rattle.dma_chan.specs.Channel.{ChannelValue, ahead_of, bytes_of_program, code_of, loaded_on}
 use Rattle.dma_chan.specs.Exec.{moved, start_on}
 use Rattle.dma_chan.specs.LentRegions.{segment_of, with_gaps_of}
 use Rattle.dma_chan.specs.Stepping.{Machine, after_step, after_steps, answer_at}
@@ -20,7 +20,7 @@ use Rattle.dma_trace.specs.declared.front.Front.{Front}
 use Rattle.dma_trace.specs.declared.options.TraceOptions.{TraceOptions}
 use Rattle.dma_trace.specs.Front.{front_of, held_after, registers_of}
 use Rattle.dma_insn.specs.AssemblyText.{most_program_bytes}
-use Rattle.dma_trace.specs.Traced.{End, Shows, StopsAfter, dump_text, end_after, end_of, front_in, if_wave, last_answer, lines, marks_over, moment_in, opening, pieces_in, shown_line, tried, waveform}
+use Rattle.dma_trace.specs.Traced.{End, Shows, StopsAfter, dump_text, end_after, end_of, first_byte_of, front_in, if_wave, last_answer, lines, marks_over, moment_in, opening, pieces_in, shown_line, tried, waveform}
 use Rattle.dma_trace.specs.Wave.{executing, last_text}
 use Rattle.dma_trace.specs.inner.Running.{Ends, Goes, Runs, Waves, machine_over}
 use Rattle.dma_trace.proofs.Steps.{Moves, front_moves, moves_on, pieces_are}
@@ -57,6 +57,20 @@ marks_kept rs left marks given same access is =
     ∙ ap (λ (ms : MarkList). marks_at (gaps_above 0 (pieces_of rs)) ++ (stores_at (read_only_of rs) ++ ms)) is
 
 -- ---- one more step
+
+-- what a step of a channel over regions does
+pub record Took (marks : MarkList) (c d : ChannelValue) (rs left : List Region) (flags after : List Bool) (turn : ChanTurn) : Type 0 where
+  pub answer : turn ≡ answer_at marks (machine_over c rs flags)
+  pub to : machine_over d left after ≡ after_step marks (machine_over c rs flags)
+
+-- it does the same by the marks over the regions before the run
+pub took : (first rs left : List Region) (given marks : MarkList) (c d : ChannelValue) (flags after : List Bool) (turn : ChanTurn) → map segment_of rs ≡ map segment_of first → read_only_of rs ≡ read_only_of first → given ≡ marks → turn ≡ answer_at (with_gaps_of rs given) (machine_over c rs flags) → machine_over d left after ≡ after_step (with_gaps_of rs given) (machine_over c rs flags) → Took (with_gaps_of first marks) c d rs left flags after turn
+took first rs left given marks c d flags after turn places access is answer to =
+    let kept = marks_kept first rs marks given places access is in
+    record {
+      answer = answer ∙ ap (λ (m : MarkList). answer_at m (machine_over c rs flags)) kept;
+      to = to ∙ ap (λ (m : MarkList). after_step m (machine_over c rs flags)) kept;
+    }
 
 -- a step from one state of a run to the next, and what was printed of it
 pub record Step (o : TraceOptions) (marks : MarkList) (n : ℕ) (i : Insn) (c d : ChannelValue) (rs left : List Region) (flags after : List Bool) (front next : Front) (mid new : List ℕ) : Type 0 where
@@ -146,13 +160,20 @@ module _ (o : TraceOptions) (marks : MarkList) (first : List Region) (s : Machin
       ∙ ap (λ (q : Result Insn FaultKind). executing n q f) (ahead_there r ahead)
       ∙ ap (λ (g : Front). executing n (ahead_of u.channel) g) (at ∙ w.front_is)
 
+  -- the first byte of the next instruction
+  first_there : (program : List ℕ) (f : Front) → program ≡ code_of s.channel → f ≡ front → slice_get program f.pc ≡ first_byte_of u.channel
+  first_there program f loaded at =
+      ap (λ (bytes : List ℕ). slice_get bytes f.pc) (loaded ∙ sym (ap bytes_of_program w.program) ∙ ap (λ (m : Machine). code_of m.channel) w.at)
+      ∙ ap (λ (g : Front). slice_get (code_of u.channel) g.pc) (at ∙ w.front_is)
+
   -- the end that is printed is that of the run
-  end_same : (turn : Option ChanTurn) (r : Result Insn FaultKind) (steps : ℕ) (f : Front) → turn ≡ last_answer marks s o.limit n → r ≡ ahead_of c → steps ≡ n → f ≡ front → end_of turn r steps f ≡ end_after o marks s n
-  end_same turn r steps f is ahead count at =
-      ap (λ (t : Option ChanTurn). end_of t r steps f) is
-      ∙ ap (λ (q : Result Insn FaultKind). end_of (last_answer marks s o.limit n) q steps f) (ahead_there r ahead)
-      ∙ ap (λ (k : ℕ). end_of (last_answer marks s o.limit n) (ahead_of u.channel) k f) count
-      ∙ ap (λ (g : Front). end_of (last_answer marks s o.limit n) (ahead_of u.channel) n g) (at ∙ w.front_is)
+  end_same : (turn : Option ChanTurn) (program : List ℕ) (r : Result Insn FaultKind) (steps : ℕ) (f : Front) → turn ≡ last_answer marks s o.limit n → program ≡ code_of s.channel → r ≡ ahead_of c → steps ≡ n → f ≡ front → end_of turn (slice_get program f.pc) r steps f ≡ end_after o marks s n
+  end_same turn program r steps f is loaded ahead count at =
+      ap (λ (t : Option ChanTurn). end_of t (slice_get program f.pc) r steps f) is
+      ∙ ap (λ (b : Option ℕ). end_of (last_answer marks s o.limit n) b r steps f) (first_there program f loaded at)
+      ∙ ap (λ (q : Result Insn FaultKind). end_of (last_answer marks s o.limit n) (first_byte_of u.channel) q steps f) (ahead_there r ahead)
+      ∙ ap (λ (k : ℕ). end_of (last_answer marks s o.limit n) (first_byte_of u.channel) (ahead_of u.channel) k f) count
+      ∙ ap (λ (g : Front). end_of (last_answer marks s o.limit n) (first_byte_of u.channel) (ahead_of u.channel) n g) (at ∙ w.front_is)
 
   finish : (end : End) (good : Bool) (after err wave new_out new_err new_wave : List ℕ) → end ≡ end_after o marks s n → StopsAfter marks s o.limit n → after ≡ (after_steps marks s (tried o.limit n)).image → Ends end good mid err new_out new_err → new_wave ≡ wave ++ if_wave o (waveform marks s n (last_answer marks s o.limit n)) → Runs o marks (map segment_of first) s good after old err wave new_out new_err new_wave
   finish end good after err wave new_out new_err new_wave same run memory e waved = record {
@@ -166,28 +187,28 @@ module _ (o : TraceOptions) (marks : MarkList) (first : List Region) (s : Machin
   }
 
   -- the next step doesn't move
-  pub stops : (turn : ChanTurn) (r : Result Insn FaultKind) (steps : ℕ) (f : Front) (d : ChannelValue) (left : List Region) (flags_after : List Bool) (good : Bool) (err wave mid_wave new_out new_err new_wave : List ℕ) → n < o.limit → turn ≢ Moved → turn ≡ answer_at marks (machine_over c rs flags) → r ≡ ahead_of c → steps ≡ n → f ≡ front → machine_over d left flags_after ≡ after_step marks (machine_over c rs flags) → Ends (end_of (Some turn) r steps f) good mid err new_out new_err → Waves o marks s n wave mid_wave → new_wave ≡ mid_wave ++ if_wave o (last_text (executing steps r f) (Some turn)) → Runs o marks (map segment_of first) s good (image_of (pieces_of left)) old err wave new_out new_err new_wave
-  stops turn r steps f d left flags_after good err wave mid_wave new_out new_err new_wave less other is ahead number at to e waves waved =
+  pub stops : (turn : ChanTurn) (program : List ℕ) (r : Result Insn FaultKind) (steps : ℕ) (f : Front) (d : ChannelValue) (left : List Region) (flags_after : List Bool) (good : Bool) (err wave mid_wave new_out new_err new_wave : List ℕ) → n < o.limit → turn ≢ Moved → turn ≡ answer_at marks (machine_over c rs flags) → program ≡ code_of s.channel → r ≡ ahead_of c → steps ≡ n → f ≡ front → machine_over d left flags_after ≡ after_step marks (machine_over c rs flags) → Ends (end_of (Some turn) (slice_get program f.pc) r steps f) good mid err new_out new_err → Waves o marks s n wave mid_wave → new_wave ≡ mid_wave ++ if_wave o (last_text (executing steps r f) (Some turn)) → Runs o marks (map segment_of first) s good (image_of (pieces_of left)) old err wave new_out new_err new_wave
+  stops turn program r steps f d left flags_after good err wave mid_wave new_out new_err new_wave less other is loaded ahead number at to e waves waved =
       let here : turn ≡ answer_at marks u = answer_there turn is in
       let image : image_of (pieces_of left) ≡ (after_step marks u).image = ap (λ (v : Machine). v.image) (to ∙ ap (after_step marks) w.at) in
       let test : nat_lt n o.limit ≡ true = lt-ltb n o.limit less in
       let last : last_answer marks s o.limit n ≡ Some (answer_at marks u) = ap (λ (b : Bool). if b then Some (answer_at marks u) else None) test in
       let count : tried o.limit n ≡ suc n = ap (λ (b : Bool). if b then suc n else n) test in
-      finish (end_of (Some turn) r steps f) good (image_of (pieces_of left)) err wave new_out new_err new_wave
-      (end_same (Some turn) r steps f (ap Some here ∙ sym last) ahead number at)
+      finish (end_of (Some turn) (slice_get program f.pc) r steps f) good (image_of (pieces_of left)) err wave new_out new_err new_wave
+      (end_same (Some turn) program r steps f (ap Some here ∙ sym last) loaded ahead number at)
       (record { moved = w.moved; few = omega (arith, less); stops = λ more e. other (here ∙ e) })
       (image ∙ ap (λ (k : ℕ). (after_steps marks s k).image) (sym count))
       e
       (wave_ends o marks s n (executing steps r f) (Some turn) wave mid_wave new_wave waves (moment_there r steps f ahead number at) (ap Some here ∙ sym last) waved)
 
   -- the limit is reached
-  pub ends : (r : Result Insn FaultKind) (steps : ℕ) (f : Front) (good : Bool) (err wave mid_wave new_out new_err new_wave : List ℕ) → n ≡ o.limit → r ≡ ahead_of c → steps ≡ n → f ≡ front → Ends (end_of None r steps f) good mid err new_out new_err → Waves o marks s n wave mid_wave → new_wave ≡ mid_wave ++ if_wave o (last_text (executing steps r f) None) → Runs o marks (map segment_of first) s good (image_of (pieces_of rs)) old err wave new_out new_err new_wave
-  ends r steps f good err wave mid_wave new_out new_err new_wave limit ahead number at e waves waved =
+  pub ends : (program : List ℕ) (r : Result Insn FaultKind) (steps : ℕ) (f : Front) (good : Bool) (err wave mid_wave new_out new_err new_wave : List ℕ) → n ≡ o.limit → program ≡ code_of s.channel → r ≡ ahead_of c → steps ≡ n → f ≡ front → Ends (end_of None (slice_get program f.pc) r steps f) good mid err new_out new_err → Waves o marks s n wave mid_wave → new_wave ≡ mid_wave ++ if_wave o (last_text (executing steps r f) None) → Runs o marks (map segment_of first) s good (image_of (pieces_of rs)) old err wave new_out new_err new_wave
+  ends program r steps f good err wave mid_wave new_out new_err new_wave limit loaded ahead number at e waves waved =
       let test : nat_lt n o.limit ≡ false = le-ltb n o.limit (omega (arith, limit)) in
       let last : last_answer marks s o.limit n ≡ None = ap (λ (b : Bool). if b then Some (answer_at marks u) else None) test in
       let count : tried o.limit n ≡ n = ap (λ (b : Bool). if b then suc n else n) test in
-      finish (end_of None r steps f) good (image_of (pieces_of rs)) err wave new_out new_err new_wave
-      (end_same None r steps f (sym last) ahead number at)
+      finish (end_of None (slice_get program f.pc) r steps f) good (image_of (pieces_of rs)) err wave new_out new_err new_wave
+      (end_same None program r steps f (sym last) loaded ahead number at)
       (record { moved = w.moved; few = omega (arith, limit); stops = λ more e. omega (arith, more, limit) })
       (ap (λ (v : Machine). v.image) w.at ∙ ap (λ (k : ℕ). (after_steps marks s k).image) (sym count))
       e

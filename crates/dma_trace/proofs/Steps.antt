@@ -24,6 +24,7 @@ use Rattle.dma_chan.specs.LentRegions.{segment_of}
 use Rattle.dma_insn.specs.Spelling.{spelling}
 use Rattle.dma_chan.specs.Next.{next_of}
 use Rattle.dma_chan.proofs.NextFits.{next_fits}
+use Rattle.dma_chan.proofs.StepsTaken.{steps_few, steps_stop}
 use Rattle.dma_chan.specs.Stepping.{Machine, TakesSteps, after_step, after_steps, answer_at, goes_on_after}
 use Rattle.dma_trace.specs.declared.front.Front.{Front}
 use Rattle.dma_trace.specs.Front.{held_after, registers_of}
@@ -36,11 +37,11 @@ pub one_step : (marks : MarkList) (s : Machine) (taken : ℕ) (last : Option Cha
 one_step marks s zero last turn after t is = absurd (let e : Some turn ≡ None = sym is ∙ t.answer in cc)
 one_step marks s (suc zero) last turn after t is =
     (let e : Some turn ≡ Some (answer_at marks s) = sym is ∙ t.answer in cc, t.ends_at)
-one_step marks s (suc (suc k)) last turn after t is = absurd (omega (arith, t.few))
+one_step marks s (suc (suc k)) last turn after t is = absurd (omega (arith, steps_few t))
 
 never_none : (marks : MarkList) (s : Machine) (taken : ℕ) (last : Option ChanTurn) (after : Machine) → TakesSteps marks s 1 taken last after → last ≡ None → s.channel.taken < last_count → ⊥
 never_none marks s zero last after t is less =
-    elim t.stops [
+    elim (steps_stop t) [
       | inl e ↦ omega (arith, e)
       | inr either ↦ elim either [
         | inl e ↦ let on : goes_on_after marks s 0 ≡ true = refl in let no : true ≡ false = sym on ∙ e in cc

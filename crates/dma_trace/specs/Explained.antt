@@ -1,8 +1,9 @@
 -- What `explain` prints (profile).
-use Rattle.std.specs.Prelude.{◌≡◌, ℕ, ◌++◌, ◌<◌, ◌⊎◌, Bool, true, false, List, [], length, flat_map, if◌then◌else◌, codes, decimal}
+use Rattle.std.specs.Prelude.{◌≡◌, ℕ, ◌++◌, ◌<◌, ◌⊎◌, Bool, true, false, List, [], length, flat_map, slice_get, if◌then◌else◌, codes, decimal}
 use Rattle.dma_mem.specs.declared.segment.Segment.{Segment}
 use Rattle.dma_insn.specs.AssemblyText.{most_program_bytes}
 use Rattle.dma_chan.specs.declared.bus.Bus.{Bus}
+use Rattle.dma_chan.specs.declared.explain.BurstCounts.{BurstCounts}
 use Rattle.dma_chan.specs.declared.explain.Explained.{Explained}
 use Rattle.dma_chan.specs.declared.explain.Happening.{Happening}
 use Rattle.dma_chan.specs.declared.explain.Repeated.{Repeated}
@@ -11,7 +12,7 @@ use Rattle.dma_chan.specs.declared.explain.Sync.TheVariants.{Waits, Signals}
 use Rattle.dma_chan.specs.declared.explain.Unexplained.{Unexplained}
 use Rattle.dma_chan.specs.Explains.{Finds, Refuses, next_in, traced}
 use Rattle.dma_trace.specs.Front.{front_at}
-use Rattle.dma_trace.specs.Words.{bytes_text, cause_text, line_feed, long_text, range_text, refusal_text}
+use Rattle.dma_trace.specs.Words.{bytes_text, cause_text, count_text, line_feed, long_text, range_text, refusal_text}
 
 -- `  from 0x00002000 + 32 bytes, 64 times`
 abbrev pub source_line : Repeated → List ℕ
@@ -29,18 +30,29 @@ sync_text (Signals e) = codes "signals event " ++ decimal e
 abbrev pub event_line : Happening → List ℕ
 event_line h = codes "  after " ++ bytes_text h.stored ++ (codes ": " ++ sync_text h.sync ++ line_feed)
 
--- what a program copies: how much, from where, to where, and its events
+-- `, stores 9`, and the end of the line
+abbrev pub stores_text : ℕ → List ℕ
+stores_text stores = codes ", stores " ++ decimal stores ++ line_feed
+
+-- `  bursts: loads 9, stores 9`, and `  in blocks: loads 8, stores 8` for those in loops that run as blocks
+abbrev pub bursts_text : BurstCounts → List ℕ
+bursts_text b =
+    (codes "  bursts: loads " ++ decimal b.loads ++ stores_text b.stores)
+    ++ (codes "  in blocks: loads " ++ decimal b.in_blocks ++ stores_text b.in_blocks)
+
+-- what a program copies: how much, by which bursts, from where, to where, and its events
 abbrev pub explained_text : Explained → List ℕ
 explained_text x =
-    (codes "copies " ++ bytes_text x.size ++ (codes ", with " ++ decimal x.steps ++ (codes " instructions" ++ line_feed)))
+    ((codes "copies " ++ bytes_text x.size ++ (codes ", with " ++ count_text x.steps ++ line_feed)) ++ bursts_text x.bursts)
     ++ flat_map source_line x.src.items ++ flat_map destination_line x.dst.items ++ flat_map event_line x.events.items
 
 -- why no copy explains a program on a bus, where, and the registers there
 abbrev pub unexplained_text : Bus → List ℕ → Unexplained → List ℕ
 unexplained_text bus program u =
     let x = traced bus program u.steps in
+    let first = slice_get program x.registers.pc in
     let next = next_in program x in
-    refusal_text (cause_text u.cause next u.steps (front_at x)) next u.steps (front_at x)
+    refusal_text (cause_text u.cause first next u.steps (front_at x)) first next u.steps (front_at x)
 
 -- `explain` prints what it finds of a program on a bus with a limit of instructions.
 pub record PrintsCopy (bus : Bus) (program : List ℕ) (most : ℕ) (printed : List ℕ) : Type 0 where

@@ -1,5 +1,5 @@
 -- What `trace` prints (profile): a function of the program, the memory and the options, by the steps of a channel.
-use Rattle.std.specs.Prelude.{◌≡◌, ◌≢◌, ℕ, zero, suc, ◌+◌, ◌-◌, ◌*◌, ◌/◌, ◌%◌, ◌^◌, ◌<◌, ◌≤◌, ◌++◌, ◌&&◌, ◌⊎◌, nat_le, nat_lt, min, Bool, true, false, List, [], length, map, take, drop, flat_map, Option, Some, None, Result, Ok, Err, if◌then◌else◌, codes, decimal}
+use Rattle.std.specs.Prelude.{◌≡◌, ◌≢◌, ℕ, zero, suc, ◌+◌, ◌-◌, ◌*◌, ◌/◌, ◌%◌, ◌^◌, ◌<◌, ◌≤◌, ◌++◌, ◌&&◌, ◌⊎◌, nat_le, nat_lt, min, Bool, true, false, List, [], length, map, take, drop, flat_map, slice_get, Option, Some, None, Result, Ok, Err, if◌then◌else◌, codes, decimal}
 use Rattle.std.specs.List.{range_with_len}
 use Rattle.dma_text.specs.Digits.{hex_digits, spaced_bytes}
 use Rattle.dma_insn.specs.declared.insn.Insn.{Insn}
@@ -17,7 +17,7 @@ use Rattle.dma_chan.specs.declared.explain.Cause.TheVariants.{NoEnd}
 use Rattle.dma_chan.specs.declared.turn.ChanTurn.{ChanTurn}
 use Rattle.dma_chan.specs.declared.turn.ChanTurn.TheVariants.{Moved, Waiting, Ended, Fault}
 use Rattle.dma_chan.specs.declared.turn.FaultKind.{FaultKind}
-use Rattle.dma_chan.specs.Channel.{ahead_of, loaded_on}
+use Rattle.dma_chan.specs.Channel.{ChannelValue, ahead_of, code_of, loaded_on}
 use Rattle.dma_chan.specs.Exec.{destination_of, source_of}
 use Rattle.dma_chan.specs.Stepping.{Machine, after_step, after_steps, answer_at, machine}
 use Rattle.dma_trace.specs.declared.front.Front.{Front}
@@ -26,7 +26,7 @@ use Rattle.dma_trace.specs.declared.options.TraceOptions.{TraceOptions}
 use Rattle.dma_trace.specs.declared.wave.Moment.{Moment}
 use Rattle.dma_trace.specs.Front.{front_of, registers_of, span_at}
 use Rattle.dma_trace.specs.Wave.{change_text, executing, first_text, last_text}
-use Rattle.dma_trace.specs.Words.{cause_text, fault_text, front_text, line_feed, long_text, offset_text, refusal_text, span_text}
+use Rattle.dma_trace.specs.Words.{cause_text, count_text, fault_text, front_text, line_feed, long_text, offset_text, refusal_text, span_text}
 
 -- ---- memory
 
@@ -90,21 +90,21 @@ pub record End : Type 0 where
   pub wrong : List ℕ
 
 -- what is wrong with an instruction, after n others
-abbrev pub refused : List ℕ → Result Insn FaultKind → ℕ → Front → End
-refused why next n f = record { succeeds = false; says = []; wrong = refusal_text why next n f }
+abbrev pub refused : List ℕ → Option ℕ → Result Insn FaultKind → ℕ → Front → End
+refused why first next n f = record { succeeds = false; says = []; wrong = refusal_text why first next n f }
 
 -- The end by the answer of the last step, after n steps that moved, or None at the limit of steps.
-abbrev pub end_of : Option ChanTurn → Result Insn FaultKind → ℕ → Front → End
-end_of (Some Ended) next n f =
-    record { succeeds = true; says = codes "ended after " ++ decimal (n + 1) ++ (codes " instructions" ++ line_feed); wrong = [] }
-end_of (Some (Waiting e)) next n f = record {
+abbrev pub end_of : Option ChanTurn → Option ℕ → Result Insn FaultKind → ℕ → Front → End
+end_of (Some Ended) first next n f =
+    record { succeeds = true; says = codes "ended after " ++ count_text (n + 1) ++ line_feed; wrong = [] }
+end_of (Some (Waiting e)) first next n f = record {
   succeeds = true;
-  says = (codes "waits for event " ++ decimal e) ++ (codes " after " ++ decimal n) ++ (codes " instructions" ++ line_feed);
+  says = (codes "waits for event " ++ decimal e) ++ (codes " after " ++ count_text n) ++ line_feed;
   wrong = [];
 }
-end_of (Some (Fault kind)) next n f = refused (fault_text kind next f) next n f
-end_of (Some Moved) next n f = refused (cause_text NoEnd next n f) next n f
-end_of None next n f = refused (cause_text NoEnd next n f) next n f
+end_of (Some (Fault kind)) first next n f = refused (fault_text kind first next f) first next n f
+end_of (Some Moved) first next n f = refused (cause_text NoEnd first next n f) first next n f
+end_of None first next n f = refused (cause_text NoEnd first next n f) first next n f
 
 -- ---- the waveform
 
@@ -157,10 +157,15 @@ pub record StopsAfter (marks : MarkList) (s : Machine) (limit n : ℕ) : Type 0 
 abbrev pub last_answer : MarkList → Machine → ℕ → ℕ → Option ChanTurn
 last_answer marks s limit n = if nat_lt n limit then Some (answer_at marks (after_steps marks s n)) else None
 
+-- the first byte of a channel's next instruction, if its program has one there
+abbrev pub first_byte_of : ChannelValue → Option ℕ
+first_byte_of c = slice_get (code_of c) c.registers.pc
+
 -- how a trace ends, after n steps that moved
 abbrev pub end_after : TraceOptions → MarkList → Machine → ℕ → End
 end_after o marks s n =
-    let u = after_steps marks s n in end_of (last_answer marks s o.limit n) (ahead_of u.channel) n (front_in u)
+    let u = after_steps marks s n in
+    end_of (last_answer marks s o.limit n) (first_byte_of u.channel) (ahead_of u.channel) n (front_in u)
 
 -- how many steps are tried, if n moved
 abbrev pub tried : ℕ → ℕ → ℕ

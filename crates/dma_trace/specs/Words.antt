@@ -1,9 +1,11 @@
 -- The words of explanations and traces (profile).
-use Rattle.std.specs.Prelude.{ℕ, ◌+◌, ◌*◌, ◌/◌, ◌%◌, ◌^◌, ◌==◌, ◌++◌, List, [], ◌∷◌, Result, Ok, Err, if◌then◌else◌, codes, decimal}
+use Rattle.std.specs.Prelude.{ℕ, ◌+◌, ◌*◌, ◌/◌, ◌%◌, ◌^◌, ◌==◌, ◌++◌, List, [], ◌∷◌, Option, Some, None, Result, Ok, Err, if◌then◌else◌, codes, decimal}
+use Rattle.std.specs.Option.{option_and_then}
 use Rattle.dma_text.specs.Digits.{hex_digits, hex_pair}
 use Rattle.dma_insn.specs.declared.insn.Insn.{Insn}
 use Rattle.dma_insn.specs.declared.insn.Insn.TheVariants.{Mov}
 use Rattle.dma_insn.specs.ControlWord.{field}
+use Rattle.dma_manual.specs.ChipOnly.{chip_only_name}
 use Rattle.dma_manual.specs.ManualText.{manual_text}
 use Rattle.dma_chan.specs.declared.bus.Bus.{Bus}
 use Rattle.dma_chan.specs.declared.explain.Cause.{Cause}
@@ -27,6 +29,10 @@ offset_text pc = codes "0x" ++ hex_pair (pc / 256 % 256) ++ hex_pair (pc % 256)
 -- a number of bytes: `1 byte`, `32 bytes`
 abbrev pub bytes_text : ℕ → List ℕ
 bytes_text n = decimal n ++ (if n == 1 then codes " byte" else codes " bytes")
+
+-- a number of instructions: `1 instruction`, `8 instructions`
+abbrev pub count_text : ℕ → List ℕ
+count_text n = decimal n ++ (if n == 1 then codes " instruction" else codes " instructions")
 
 -- what follows a range that is read this number of times: `, 64 times`, or nothing for one time
 abbrev pub times_text : ℕ → List ℕ
@@ -58,10 +64,20 @@ front_text f =
     (codes "SAR 0x" ++ hex_digits f.sar) ++ (codes " DAR 0x" ++ hex_digits f.dar)
     ++ (codes " LC0 " ++ decimal f.lc0 ++ codes " LC1 " ++ decimal f.lc1) ++ (codes " buffer " ++ decimal f.held)
 
+-- The name of the chip's instruction that begins with this byte, if no channel of the model executes it. `first` below
+-- is the first byte of the next instruction, if the program has one there.
+abbrev pub chip_only_at : Option ℕ → Option (List ℕ)
+chip_only_at first = option_and_then chip_only_name first
+
+-- what the model has in place of an instruction, by the name of the chip's instruction
+abbrev pub absent_text : Option (List ℕ) → List ℕ
+absent_text (Some name) = name
+absent_text None = codes "no instruction"
+
 -- the next instruction
-abbrev pub next_text : Result Insn FaultKind → List ℕ
-next_text (Ok i) = manual_text i
-next_text (Err kind) = codes "no instruction"
+abbrev pub next_text : Option ℕ → Result Insn FaultKind → List ℕ
+next_text first (Ok i) = manual_text i
+next_text first (Err kind) = absent_text (chip_only_at first)
 
 -- ---- faults
 
@@ -106,54 +122,60 @@ abbrev pub fetch_words : Result Insn FaultKind → List ℕ
 fetch_words (Ok i) = codes "it jumps to before the program's start"
 fetch_words (Err kind) = codes "the program has no whole instruction here"
 
+-- why an instruction is undefined, by the name of the chip's instruction
+abbrev pub undefined_words : Option (List ℕ) → List ℕ
+undefined_words (Some name) = codes "an instruction of the chip that no channel of this model executes"
+undefined_words None = codes "no instruction begins with this byte"
+
 -- What is wrong with an instruction that fails, by the registers and the buffer before it
-unfoldable pub fault_words : FaultKind → Result Insn FaultKind → Front → List ℕ
-fault_words UndefInstr next f = codes "no instruction begins with this byte"
-fault_words OperandInvalid next f = refused_words next f
-fault_words MfifoErr next f =
+unfoldable pub fault_words : FaultKind → Option ℕ → Result Insn FaultKind → Front → List ℕ
+fault_words UndefInstr first next f = undefined_words (chip_only_at first)
+fault_words OperandInvalid first next f = refused_words next f
+fault_words MfifoErr first next f =
     codes "the buffer holds " ++ bytes_text f.held ++ (codes ", the load adds " ++ decimal (burst_len (source_of (registers_of f))))
     ++ codes ", and 256 fit"
-fault_words StDataUnavailable next f =
+fault_words StDataUnavailable first next f =
     codes "the buffer holds " ++ bytes_text f.held
     ++ (codes ", the store needs " ++ decimal (burst_len (destination_of (registers_of f))))
-fault_words InstrFetchErr next f = fetch_words next
-fault_words DataWriteErr next f = codes "it can't store " ++ span_text (span_at (destination_of (registers_of f)))
-fault_words DataReadErr next f = codes "it can't load " ++ span_text (span_at (source_of (registers_of f)))
+fault_words InstrFetchErr first next f = fetch_words next
+fault_words DataWriteErr first next f = codes "it can't store " ++ span_text (span_at (destination_of (registers_of f)))
+fault_words DataReadErr first next f = codes "it can't load " ++ span_text (span_at (source_of (registers_of f)))
 
 -- the same after the fault's name and bit
-unfoldable pub fault_text : FaultKind → Result Insn FaultKind → Front → List ℕ
-fault_text kind next f =
-    fault_name kind ++ (codes " (FTR bit " ++ decimal (fault_bit kind)) ++ (codes "): " ++ fault_words kind next f)
+unfoldable pub fault_text : FaultKind → Option ℕ → Result Insn FaultKind → Front → List ℕ
+fault_text kind first next f =
+    fault_name kind ++ (codes " (FTR bit " ++ decimal (fault_bit kind)) ++ (codes "): " ++ fault_words kind first next f)
 
 -- ---- causes
 
 -- why an instruction is part of no copy, by the registers and the buffer before it, after this number of others
-unfoldable pub cause_text : Cause → Result Insn FaultKind → ℕ → Front → List ℕ
-cause_text causes.TooLong next n f = codes "the program has more than 8192 bytes"
-cause_text (causes.Fails kind) next n f = fault_text kind next f
-cause_text causes.LoadsPast next n f = codes "the load ends above 2^32: " ++ span_text (span_at (source_of (registers_of f)))
-cause_text causes.StoresPast next n f = codes "the store ends above 2^32: " ++ span_text (span_at (destination_of (registers_of f)))
-cause_text causes.StoresFixed next n f = codes "the destination is fixed: each beat overwrites the one before"
-cause_text causes.DropsBytes next n f = codes "a chip drops what the buffer holds: " ++ bytes_text f.held
-cause_text causes.BytesLeft next n f = codes "left over in the buffer: " ++ bytes_text f.held
-cause_text causes.StoresTwice next n f = codes "a byte is stored twice"
-cause_text causes.StoresSource next n f = codes "a byte is stored where one is loaded"
-cause_text causes.NoEnd next n f = codes "no end after " ++ decimal n ++ codes " instructions"
-cause_text causes.NoMemory next n f = codes "out of memory"
+unfoldable pub cause_text : Cause → Option ℕ → Result Insn FaultKind → ℕ → Front → List ℕ
+cause_text causes.TooLong first next n f = codes "the program has more than 8192 bytes"
+cause_text (causes.Fails kind) first next n f = fault_text kind first next f
+cause_text causes.LoadsPast first next n f = codes "the load ends above 2^32: " ++ span_text (span_at (source_of (registers_of f)))
+cause_text causes.StoresPast first next n f = codes "the store ends above 2^32: " ++ span_text (span_at (destination_of (registers_of f)))
+cause_text causes.StoresFixed first next n f = codes "the destination is fixed: each beat overwrites the one before"
+cause_text causes.DropsBytes first next n f = codes "a chip drops what the buffer holds: " ++ bytes_text f.held
+cause_text causes.BytesLeft first next n f = codes "left over in the buffer: " ++ bytes_text f.held
+cause_text causes.StoresTwice first next n f = codes "a byte is stored twice"
+cause_text causes.StoresSource first next n f = codes "a byte is stored where one is loaded"
+cause_text causes.NoEnd first next n f = codes "no end after " ++ count_text n
+cause_text causes.NoMemory first next n f = codes "out of memory"
 
 -- ---- refusals
 
 -- ` offset 0x000C: DMAST (instruction 17): `, for an instruction after n others
-unfoldable pub place_text : Result Insn FaultKind → ℕ → ℕ → List ℕ
-place_text next pc n = codes " offset " ++ offset_text pc ++ (codes ": " ++ next_text next) ++ (codes " (instruction " ++ decimal (n + 1) ++ codes "): ")
+unfoldable pub place_text : Option ℕ → Result Insn FaultKind → ℕ → ℕ → List ℕ
+place_text first next pc n =
+    codes " offset " ++ offset_text pc ++ (codes ": " ++ next_text first next) ++ (codes " (instruction " ++ decimal (n + 1) ++ codes "): ")
 
 -- the registers, on two lines
 unfoldable pub state_text : Front → List ℕ
 state_text f = (line_feed ++ codes "  ") ++ front_text f ++ ((line_feed ++ codes "  ") ++ control_text f.ccr ++ line_feed)
 
 -- The lines of an instruction that is refused after n others: where it is and why, then the registers before it.
-abbrev pub refusal_text : List ℕ → Result Insn FaultKind → ℕ → Front → List ℕ
-refusal_text why next n f = place_text next f.pc n ++ why ++ state_text f
+abbrev pub refusal_text : List ℕ → Option ℕ → Result Insn FaultKind → ℕ → Front → List ℕ
+refusal_text why first next n f = place_text first next f.pc n ++ why ++ state_text f
 
 -- the line of a program that is too long
 unfoldable pub long_text : List ℕ

@@ -6,15 +6,16 @@ ghost use Rattle.dma_insn.specs.AssemblyText.{most_program_bytes};
 ghost use Rattle.dma_chan.specs.Explains.{GoesOn, next_in, traced};
 ghost use Rattle.dma_chan.specs.Next.{next_of};
 ghost use Rattle.dma_text.specs.Text.{Begins};
-ghost use Rattle.dma_trace.specs.Explained.{Appends, unexplained_text, destination_line, event_line, explained_text, source_line};
+ghost use Rattle.dma_trace.specs.Explained.{Appends, bursts_text, unexplained_text, destination_line, event_line, explained_text, source_line};
 ghost use Rattle.dma_trace.specs.Front.{front_at};
 
+use crate::amounts::{Bytes, Instructions, Range};
 use crate::front::Front;
 use crate::progress::{Progress, report};
-use crate::words::{Bytes, LongProgram, Place, Point, Range, State, Why};
+use crate::words::{LongProgram, Place, Point, State, Why, first_byte};
 use dma_chan::bus::Bus;
 use dma_chan::explain as runs;
-use dma_chan::explain::{Cause, Explained, Happening, Repeated, Sync, Unexplained};
+use dma_chan::explain::{BurstCounts, Cause, Explained, Happening, Repeated, Sync, Unexplained};
 use dma_chan::turn::FaultKind;
 use dma_insn::codec::{DecodeFault, decode};
 use dma_insn::insn::Insn;
@@ -117,6 +118,26 @@ impl Text for Happenings<'_> {
     }
 }
 
+/// How many bursts a program executes, and how many of them in loops that run as blocks.
+#[derive(Drop)]
+struct Bursts<'a>(&'a BurstCounts);
+
+impl Text for Bursts<'_> {
+    ghost text = { λ bursts. bursts_text bursts.0.now };
+
+    fn push(&self, out: &mut Vec<u8>) -> Result<(), AllocError> {
+        let Bursts(counts) = *self;
+        let all = (
+            "  bursts: loads ",
+            counts.loads,
+            (", stores ", counts.stores, "\n"),
+        );
+        let pairs = counts.in_blocks;
+        let blocks = ("  in blocks: loads ", pairs, (", stores ", pairs, "\n"));
+        (all, blocks).push(out)
+    }
+}
+
 /// What a program copies.
 #[derive(Drop)]
 struct Copies<'a>(&'a Explained);
@@ -130,11 +151,12 @@ impl Text for Copies<'_> {
         let first = (
             "copies ",
             size,
-            (", with ", explained.steps, (" instructions", "\n")),
+            (", with ", Instructions(u64::from(explained.steps)), "\n"),
         );
         let sources = Sources(&explained.src);
         let destinations = Destinations(&explained.dst);
-        (first, sources, destinations, Happenings(&explained.events)).push(out)
+        let head = (first, Bursts(&explained.bursts));
+        (head, sources, destinations, Happenings(&explained.events)).push(out)
     }
 }
 
@@ -188,16 +210,19 @@ fn print_cause<P: Progress>(
     ensures err { OnErr result (err.new.items ≡ err.old.items) }
 {
     let front = reached(program, bus, found.steps, progress);
+    let first = first_byte(program, front.pc);
     let at = Point {
         ahead: ahead(program, front.pc),
         steps: found.steps,
         front,
     };
+    let place = Place { first, at: &at };
     let why = Why {
         cause: found.cause,
+        first,
         at: &at,
     };
-    print(err, &(Place(&at), why, State(&at.front)))
+    print(err, &(place, why, State(&at.front)))
 }
 
 /// Explains a program on a bus, executing at most `most` instructions: appends to `out` what it copies for every
@@ -226,10 +251,7 @@ pub fn explain<P: Progress>(
         Err(found) => {
             match found.cause {
                 Cause::NoMemory => return Err(AllocError),
-                Cause::TooLong => print(
-                    err,
-                    &(" offset 0x2000: the program has more than 8192 bytes", "\n"),
-                )?,
+                Cause::TooLong => print(err, &LongProgram)?,
                 _ => print_cause(program, bus, found, err, progress)?,
             }
             Ok(false)

@@ -8,6 +8,7 @@
 //! Not proved: that memory is available.
 #![tactic(auto)]
 
+mod amounts;
 pub mod explain;
 mod front;
 mod lines;

@@ -6,9 +6,10 @@ ghost use Rattle.dma_text.specs.Text.{Begins};
 ghost use Rattle.dma_mem.specs.Regions.{pieces_of, run_from};
 ghost use Rattle.dma_trace.specs.Traced.{burst_text, dump_text, line_text, moves_text, row_text, shown_line, step_text};
 
+use crate::amounts::Offset;
 use crate::front::{Front, Span};
 use crate::options::TraceOptions;
-use crate::words::{Offset, Point};
+use crate::words::Point;
 use dma_insn::insn::Insn;
 use dma_manual::manual::Manual;
 use dma_mem::regions::{Region, copy_run};

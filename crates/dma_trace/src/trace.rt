@@ -1,7 +1,7 @@
 //! A program, executed over memory with a line for each instruction.
 #![tactic(auto, using(dma_text::proofs::Begun::begins_same, dma_text::proofs::Begun::begins_appended, dma_text::proofs::Begun::begins_more))]
 
-ghost use Rattle.std.specs.Prelude.{◌≡◌, ◌≤◌, ◌<◌, ◌++◌, IsTrue, IsSome, IsOk, IfOk, OnOk, OnErr, length, map};
+ghost use Rattle.std.specs.Prelude.{◌≡◌, ◌≤◌, ◌<◌, ◌++◌, IsTrue, IsSome, IsOk, IfOk, OnOk, OnErr, length, map, slice_get};
 ghost use Rattle.dma_insn.specs.AssemblyText.{most_program_bytes};
 ghost use Rattle.dma_mem.specs.Lent.{marks_at};
 ghost use Rattle.dma_mem.specs.Regions.{image_of, in_order, pieces_of, read_only_of};
@@ -13,12 +13,13 @@ ghost use Rattle.dma_trace.specs.Traced.{Shows, end_of, if_wave, marks_over, ope
 ghost use Rattle.dma_trace.specs.Wave.{executing, last_text};
 ghost use Rattle.dma_trace.specs.inner.Running.{Ends, Runs, machine_over};
 
+use crate::amounts::Instructions;
 use crate::front::Front;
 use crate::lines::{push_dumps, push_step};
 pub use crate::options::TraceOptions;
 use crate::progress::{Progress, report};
 use crate::wave::{push_first, push_last, push_next};
-use crate::words::{Failure, LongProgram, Place, Point, State, Why};
+use crate::words::{Failure, LongProgram, Place, Point, State, Why, first_byte};
 use dma_chan::channel::Channel;
 use dma_chan::explain::Cause;
 use dma_chan::lent::step_regions;
@@ -80,12 +81,13 @@ fn insn_of(at: &Point) -> Insn
 // Appends how a run ends, by the answer of its last step, or `None` at the limit, and returns whether it succeeds.
 fn push_end(
     turn: &Option<ChanTurn>,
+    first: Option<u8>,
     at: &Point,
     out: &mut Vec<u8>,
     err: &mut Vec<u8>,
 ) -> Result<bool, AllocError>
     ensures ok { IfOk result (λ good. Ends
-        (end_of turn.now at.now.ahead at.now.steps at.now.front) good
+        (end_of turn.now first at.now.ahead at.now.steps at.now.front) good
         out.old.items err.old.items out.new.items err.new.items) }
     ensures begins { Begins out.new.items out.old.items }
     ensures begins_err { Begins err.new.items err.old.items }
@@ -94,21 +96,24 @@ fn push_end(
     match *turn {
         Some(ChanTurn::Ended) => {
             let number = u64::from(steps) + 1;
-            ("ended after ", number, (" instructions", "\n")).push(out)?;
+            ("ended after ", Instructions(number), "\n").push(out)?;
             Ok(true)
         }
         Some(ChanTurn::Waiting(event)) => {
             let waits = ("waits for event ", event.number());
-            (waits, (" after ", steps), (" instructions", "\n")).push(out)?;
+            let steps = Instructions(u64::from(steps));
+            (waits, (" after ", steps), "\n").push(out)?;
             Ok(true)
         }
         Some(ChanTurn::Fault(kind)) => {
-            (Place(at), Failure { kind, at }, State(&at.front)).push(err)?;
+            let failure = Failure { kind, first, at };
+            (Place { first, at }, failure, State(&at.front)).push(err)?;
             Ok(false)
         }
         Some(ChanTurn::Moved) | None => {
             let cause = Cause::NoEnd;
-            (Place(at), Why { cause, at }, State(&at.front)).push(err)?;
+            let why = Why { cause, first, at };
+            (Place { first, at }, why, State(&at.front)).push(err)?;
             Ok(false)
         }
     }
@@ -118,13 +123,14 @@ fn push_end(
 fn finish(
     options: &TraceOptions,
     turn: &Option<ChanTurn>,
+    program: &[u8],
     at: &Point,
     out: &mut Vec<u8>,
     err: &mut Vec<u8>,
     wave: &mut Vec<u8>,
 ) -> Result<bool, AllocError>
-    ensures ok { IfOk result (λ good. Ends
-        (end_of turn.now at.now.ahead at.now.steps at.now.front) good
+    ensures ok { let first = slice_get program.now at.now.front.pc in IfOk result (λ good. Ends
+        (end_of turn.now first at.now.ahead at.now.steps at.now.front) good
         out.old.items err.old.items out.new.items err.new.items) }
     ensures wave { OnOk result (wave.new.items ≡ wave.old.items ++ if_wave options.now
         (last_text (executing at.now.steps at.now.ahead at.now.front) turn.now)) }
@@ -133,7 +139,7 @@ fn finish(
     ensures begins_wave { Begins wave.new.items wave.old.items }
 {
     push_last(options, at, turn, wave)?;
-    push_end(turn, at, out, err)
+    push_end(turn, first_byte(program, at.front.pc), at, out, err)
 }
 
 // Executes a program until it ends, waits or fails, or until the limit. Appends the lines, the end and the waveform.
@@ -175,7 +181,7 @@ fn run<P: Progress>(
         };
         let turn = step(&mut channel, regions, &mut events, &marks);
         let ChanTurn::Moved = turn else {
-            return finish(options, &Some(turn), &at, out, err, wave);
+            return finish(options, &Some(turn), program, &at, out, err, wave);
         };
         front.advance(insn_of(&at));
         push_step(alloc, options, &at, &front, regions, out)?;
@@ -186,7 +192,7 @@ fn run<P: Progress>(
         steps: options.limit,
         front,
     };
-    finish(options, &None, &at, out, err, wave)
+    finish(options, &None, program, &at, out, err, wave)
 }
 
 // Traces a program. If memory runs out, it may have appended a part.

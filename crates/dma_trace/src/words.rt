@@ -1,92 +1,22 @@
 //! The words of explanations and traces.
 #![tactic(auto, using(dma_text::proofs::Begun::begins_same, dma_text::proofs::Begun::begins_appended, dma_text::proofs::Begun::begins_more))]
 
-ghost use Rattle.std.specs.Prelude.{◌≡◌, ◌<◌, ◌++◌, OnOk, Result, Ok, Err};
+ghost use Rattle.std.specs.Prelude.{◌≡◌, ◌<◌, ◌++◌, OnOk, Result, Ok, Err, slice_get};
+ghost use Rattle.std.specs.Option.{option_map};
 ghost use Rattle.dma_chan.specs.declared.turn.FaultKind.{FaultKind};
 ghost use Rattle.dma_text.specs.Text.{Begins};
-ghost use Rattle.dma_trace.specs.Words.{bytes_text, cause_text, control_text, control_words, end_text, fault_bit, fault_name, fault_text, fault_words, fetch_words, front_text, long_text, next_text, offset_text, operand_words, place_text, range_text, refused_words, span_text, state_text, times_text};
+ghost use Rattle.dma_trace.specs.Words.{cause_text, chip_only_at, control_text, control_words, end_text, fault_bit, fault_name, fault_text, fault_words, fetch_words, front_text, long_text, next_text, operand_words, place_text, refused_words, state_text, undefined_words};
 
-use crate::front::{Front, Span};
+use crate::amounts::{Bytes, Instructions, Offset};
+use crate::front::Front;
 use dma_chan::bus::Bus;
 use dma_chan::explain::Cause;
 use dma_chan::turn::FaultKind;
 use dma_insn::insn::Insn;
+use dma_manual::chip_only::chip_only_name;
 use dma_manual::manual::Manual;
-use dma_text::text::{Address, HexByte, Text};
+use dma_text::text::{Address, Text};
 use std::alloc::AllocError;
-
-/// An offset in a program, in four hexadecimal digits.
-#[derive(Drop)]
-pub struct Offset(pub u32);
-
-impl Text for Offset {
-    ghost text = { λ offset. offset_text offset.0 };
-
-    fn push(&self, out: &mut Vec<u8>) -> Result<(), AllocError> {
-        let high = (self.0 / 256 % 256) as u8;
-        let low = (self.0 % 256) as u8;
-        ("0x", HexByte(high), HexByte(low)).push(out)
-    }
-}
-
-/// A number of bytes.
-#[derive(Drop)]
-pub struct Bytes(pub u64);
-
-impl Text for Bytes {
-    ghost text = { λ bytes. bytes_text bytes.0 };
-
-    fn push(&self, out: &mut Vec<u8>) -> Result<(), AllocError> {
-        let unit = if self.0 == 1 { " byte" } else { " bytes" };
-        (self.0, unit).push(out)
-    }
-}
-
-/// How often a range is read, after the range.
-#[derive(Drop)]
-struct Times(u32);
-
-impl Text for Times {
-    ghost text = { λ times. times_text times.0 };
-
-    fn push(&self, out: &mut Vec<u8>) -> Result<(), AllocError> {
-        if self.0 == 1 {
-            return Ok(());
-        }
-        (", ", self.0, " times").push(out)
-    }
-}
-
-/// The `len` addresses from `addr` on, which are read or written `times` times.
-#[derive(Drop)]
-pub struct Range {
-    pub addr: u32,
-    pub len: u32,
-    pub times: u32,
-}
-
-impl Text for Range {
-    ghost text = { λ range. range_text range.addr range.len range.times };
-
-    #[tactic(auto, unfolding(crate::specs::Words::range_text))]
-    fn push(&self, out: &mut Vec<u8>) -> Result<(), AllocError> {
-        let len = Bytes(u64::from(self.len));
-        ("0x", Address(self.addr), (" + ", len), Times(self.times)).push(out)
-    }
-}
-
-impl Text for Span {
-    ghost text = { span_text };
-
-    fn push(&self, out: &mut Vec<u8>) -> Result<(), AllocError> {
-        let range = Range {
-            addr: self.addr,
-            len: self.len,
-            times: self.times,
-        };
-        range.push(out)
-    }
-}
 
 /// The fields of one end of a control word, whose lowest bit is bit 0. The letter is `S` or `D`.
 #[derive(Drop)]
@@ -160,17 +90,36 @@ pub struct Point {
     pub front: Front,
 }
 
-/// The next instruction, or that there is none.
+/// Returns the first byte of the instruction at an offset, if the program has one there.
+pub fn first_byte(program: &[u8], pc: u32) -> Option<u8>
+    ensures { result ≡ slice_get program.now pc }
+{
+    program.get(pc as usize).copied()
+}
+
+// Returns the name of the chip's instruction that begins with this byte, if no channel of the model executes it.
+fn chip_only_at(first: Option<u8>) -> Option<&'static str>
+    ensures { option_map (λ name. name.now) result ≡ chip_only_at first }
+{
+    chip_only_name(first?)
+}
+
+/// The next instruction, or that there is none, with its first byte.
 #[derive(Drop)]
-struct Ahead<'a>(&'a Result<Insn, FaultKind>);
+struct Ahead<'a> {
+    next: &'a Result<Insn, FaultKind>,
+    first: Option<u8>,
+}
 
 impl Text for Ahead<'_> {
-    ghost text = { λ ahead. next_text ahead.0.now };
+    ghost text = { λ ahead. next_text ahead.first ahead.next.now };
 
     fn push(&self, out: &mut Vec<u8>) -> Result<(), AllocError> {
-        match *self.0 {
+        match *self.next {
             Ok(insn) => Manual(insn).push(out),
-            Err(_) => "no instruction".push(out),
+            Err(_) => chip_only_at(self.first)
+                .unwrap_or("no instruction")
+                .push(out),
         }
     }
 }
@@ -251,18 +200,33 @@ fn fetch_words(ahead: &Result<Insn, FaultKind>) -> &'static str
     }
 }
 
+// Returns why an instruction is undefined.
+fn undefined_words(first: Option<u8>) -> &'static str
+    ensures { result.now ≡ undefined_words (chip_only_at first) }
+{
+    match chip_only_at(first) {
+        Some(_) => "an instruction of the chip that no channel of this model executes",
+        None => "no instruction begins with this byte",
+    }
+}
+
 // Appends what is wrong with an instruction that fails, without the fault's name.
 #[tactic(auto, unfolding(crate::specs::Words::fault_words))]
-fn push_fault(kind: FaultKind, at: &Point, out: &mut Vec<u8>) -> Result<(), AllocError>
+fn push_fault(
+    kind: FaultKind,
+    first: Option<u8>,
+    at: &Point,
+    out: &mut Vec<u8>,
+) -> Result<(), AllocError>
     ensures ok { OnOk result
-        (out.new.items ≡ out.old.items ++ fault_words kind at.now.ahead at.now.front) }
+        (out.new.items ≡ out.old.items ++ fault_words kind first at.now.ahead at.now.front) }
     ensures begins { Begins out.new.items out.old.items }
 {
     let held = Bytes(u64::from(at.front.held));
     let loads = at.front.loads();
     let stores = at.front.stores();
     match kind {
-        FaultKind::UndefInstr => "no instruction begins with this byte".push(out),
+        FaultKind::UndefInstr => undefined_words(first).push(out),
         FaultKind::OperandInvalid => push_refused(at, out),
         FaultKind::MfifoErr => {
             let len = loads.bytes();
@@ -288,11 +252,13 @@ fn push_fault(kind: FaultKind, at: &Point, out: &mut Vec<u8>) -> Result<(), Allo
 #[derive(Drop)]
 pub struct Failure<'a> {
     pub kind: FaultKind,
+    /// The first byte of the instruction, if the program has one there.
+    pub first: Option<u8>,
     pub at: &'a Point,
 }
 
 impl Text for Failure<'_> {
-    ghost text = { λ f. fault_text f.kind f.at.now.ahead f.at.now.front };
+    ghost text = { λ f. fault_text f.kind f.first f.at.now.ahead f.at.now.front };
 
     #[tactic(auto, using(dma_text::proofs::Begun::begins_same, dma_text::proofs::Begun::begins_appended, dma_text::proofs::Begun::begins_more), unfolding(crate::specs::Words::fault_text))]
     fn push(&self, out: &mut Vec<u8>) -> Result<(), AllocError> {
@@ -302,7 +268,7 @@ impl Text for Failure<'_> {
             "): ",
         )
             .push(out)?;
-        push_fault(self.kind, self.at, out)
+        push_fault(self.kind, self.first, self.at, out)
     }
 }
 
@@ -310,21 +276,23 @@ impl Text for Failure<'_> {
 #[derive(Drop)]
 pub struct Why<'a> {
     pub cause: Cause,
+    /// The first byte of the instruction, if the program has one there.
+    pub first: Option<u8>,
     pub at: &'a Point,
 }
 
 impl Text for Why<'_> {
-    ghost text = { λ why. cause_text why.cause why.at.now.ahead why.at.now.steps why.at.now.front };
+    ghost text = { λ w. cause_text w.cause w.first w.at.now.ahead w.at.now.steps w.at.now.front };
 
     #[tactic(auto, unfolding(crate::specs::Words::cause_text))]
     fn push(&self, out: &mut Vec<u8>) -> Result<(), AllocError> {
-        let at = self.at;
+        let Why { first, at, .. } = *self;
         let held = Bytes(u64::from(at.front.held));
         let loads = at.front.loads();
         let stores = at.front.stores();
         match self.cause {
             Cause::TooLong => "the program has more than 8192 bytes".push(out),
-            Cause::Fails(kind) => Failure { kind, at }.push(out),
+            Cause::Fails(kind) => Failure { kind, first, at }.push(out),
             Cause::LoadsPast => ("the load ends above 2^32: ", loads).push(out),
             Cause::StoresPast => ("the store ends above 2^32: ", stores).push(out),
             Cause::StoresFixed => {
@@ -334,7 +302,7 @@ impl Text for Why<'_> {
             Cause::BytesLeft => ("left over in the buffer: ", held).push(out),
             Cause::StoresTwice => "a byte is stored twice".push(out),
             Cause::StoresSource => "a byte is stored where one is loaded".push(out),
-            Cause::NoEnd => ("no end after ", at.steps, " instructions").push(out),
+            Cause::NoEnd => ("no end after ", Instructions(u64::from(at.steps))).push(out),
             Cause::NoMemory => "out of memory".push(out),
         }
     }
@@ -342,19 +310,25 @@ impl Text for Why<'_> {
 
 /// Where an instruction is, as the beginning of a line.
 #[derive(Drop)]
-pub struct Place<'a>(pub &'a Point);
+pub struct Place<'a> {
+    /// The first byte of the instruction, if the program has one there.
+    pub first: Option<u8>,
+    pub at: &'a Point,
+}
 
 impl Text for Place<'_> {
-    ghost text = { λ p. place_text p.0.now.ahead p.0.now.front.pc p.0.now.steps };
+    ghost text = { λ p. place_text p.first p.at.now.ahead p.at.now.front.pc p.at.now.steps };
 
     #[tactic(auto, unfolding(crate::specs::Words::place_text))]
     fn push(&self, out: &mut Vec<u8>) -> Result<(), AllocError> {
-        let steps = self.0.steps;
-        let number = u64::from(steps) + 1;
-        let ahead = Ahead(&self.0.ahead);
+        let number = u64::from(self.at.steps) + 1;
+        let ahead = Ahead {
+            next: &self.at.ahead,
+            first: self.first,
+        };
         (
             " offset ",
-            Offset(self.0.front.pc),
+            Offset(self.at.front.pc),
             (": ", ahead),
             (" (instruction ", number, "): "),
         )

@@ -2,17 +2,15 @@ use Rattle.std.proofs.Common.{◌≡◌, ◌+◌, ◌++◌, Result, Ok, IsSome, 
 use Rattle.dma_text.proofs.Begun.{begins_appended, begins_more, begins_same}
 use Rattle.dma_insn.specs.declared.insn.Insn.{Insn}
 use Rattle.dma_mem.specs.Lent.{marks_at}
-use Rattle.dma_mem.specs.Marking.{MarkList}
 use Rattle.dma_mem.specs.Regions.{image_of, pieces_of}
 use Rattle.dma_chan.specs.declared.turn.FaultKind.{FaultKind}
 use Rattle.dma_chan.specs.Channel.{ChannelValue, ahead_of, bytes_of_program}
-use Rattle.dma_chan.specs.LentRegions.{with_gaps_of}
-use Rattle.dma_chan.specs.Stepping.{Machine, after_step, after_steps, answer_at}
+use Rattle.dma_chan.specs.Stepping.{Machine, after_steps}
 use Rattle.dma_trace.specs.declared.front.Front.{Front}
 use Rattle.dma_trace.specs.Traced.{marks_over, opening, shown_line}
 use Rattle.dma_trace.specs.Wave.{executing}
 use Rattle.dma_trace.specs.inner.Running.{machine_over}
-use Rattle.dma_trace.proofs.Running.{begins, ends, from_err, goes_on, in_order_kept, marks_kept, moment_there, moves_there, program_there, stops}
+use Rattle.dma_trace.proofs.Running.{begins, ends, from_err, goes_on, in_order_kept, moment_there, moves_there, program_there, stops, took}
 use Rattle.dma_trace.proofs.Steps.{fetched_there, on_ok, pc_fits, room_moves}
 use Rattle.dma_trace.proofs.Waves.{wave_begins, wave_on}
 use Rattle.dma_trace.proofs.trace.run.Goals as goal
@@ -60,10 +58,8 @@ insn_of-requires g c =
     let s = opening o c.args.program.now (image_of (pieces_of first)) in
     let now = c.loop-steps in
     let w = now.invariant.goes in
-    let kept : with_gaps_of now.regions c.in_ok-marks.marks ≡ marks = marks_kept first now.regions (marks_at o.failing.items) c.in_ok-marks.marks w.places w.read_only (c.in_ok-marks.ensures ∙ ap marks_at c.deref.ensures.value) in
-    let here = machine_over now.channel now.regions now.events in
-    let answer : c.step-turn.result ≡ answer_at marks here = c.step-turn.ensures.turn ∙ ap (λ (m : MarkList). answer_at m here) kept in
-    fetched_there marks here c.ahead-ahead.result c.ahead-ahead.ensures (sym answer ∙ c.in-Moved.is)
+    let t = took first now.regions c.step-turn.new.regions c.in_ok-marks.marks (marks_at o.failing.items) now.channel c.step-turn.new.channel now.events c.step-turn.new.events c.step-turn.result w.places w.read_only (c.in_ok-marks.ensures ∙ ap marks_at c.deref.ensures.value) c.step-turn.ensures.turn c.step-turn.ensures.after in
+    fetched_there marks (machine_over now.channel now.regions now.events) c.ahead-ahead.result c.ahead-ahead.ensures (sym t.answer ∙ c.in-Moved.is)
 
 pub advance-requires : goal.advance-requires
 advance-requires g c =
@@ -73,12 +69,10 @@ advance-requires g c =
     let s = opening o c.args.program.now (image_of (pieces_of first)) in
     let now = c.loop-steps in
     let w = now.invariant.goes in
-    let kept : with_gaps_of now.regions c.in_ok-marks.marks ≡ marks = marks_kept first now.regions (marks_at o.failing.items) c.in_ok-marks.marks w.places w.read_only (c.in_ok-marks.ensures ∙ ap marks_at c.deref.ensures.value) in
-    let here = machine_over now.channel now.regions now.events in
-    let answer : c.step-turn.result ≡ answer_at marks here = c.step-turn.ensures.turn ∙ ap (λ (m : MarkList). answer_at m here) kept in
+    let t = took first now.regions c.step-turn.new.regions c.in_ok-marks.marks (marks_at o.failing.items) now.channel c.step-turn.new.channel now.events c.step-turn.new.events c.step-turn.result w.places w.read_only (c.in_ok-marks.ensures ∙ ap marks_at c.deref.ensures.value) c.step-turn.ensures.turn c.step-turn.ensures.after in
     let i = c.insn_of.result in
     let ahead : ahead_of now.channel ≡ Ok i = sym c.ahead-ahead.ensures ∙ c.insn_of.ensures in
-    let moved = moves_there o marks first s now.steps now.channel now.regions now.events now.front c.args.out.now.items now.out.items w i ahead (sym answer ∙ c.in-Moved.is) in
+    let moved = moves_there o marks first s now.steps now.channel now.regions now.events now.front c.args.out.now.items now.out.items w i ahead (sym t.answer ∙ c.in-Moved.is) in
     let pc : now.front.pc ≡ now.channel.registers.pc = ap (λ (f : Front). f.pc) w.front_is ∙ sym (ap (λ (m : Machine). m.channel.registers.pc) w.at) in
     record {
       pc = omega (arith, pc, pc_fits c.args.program.now now.channel i (ap bytes_of_program w.program) ahead, c.requires.long);
@@ -93,12 +87,9 @@ push_next-requires g c =
     let s = opening o c.args.program.now (image_of (pieces_of first)) in
     let now = c.loop-steps in
     let w = now.invariant.goes in
-    let kept : with_gaps_of now.regions c.in_ok-marks.marks ≡ marks = marks_kept first now.regions (marks_at o.failing.items) c.in_ok-marks.marks w.places w.read_only (c.in_ok-marks.ensures ∙ ap marks_at c.deref.ensures.value) in
-    let here = machine_over now.channel now.regions now.events in
-    let answer : c.step-turn.result ≡ answer_at marks here = c.step-turn.ensures.turn ∙ ap (λ (m : MarkList). answer_at m here) kept in
-    let to : machine_over c.step-turn.new.channel c.step-turn.new.regions c.step-turn.new.events ≡ after_step marks here = c.step-turn.ensures.after ∙ ap (λ (m : MarkList). after_step m here) kept in
+    let t = took first now.regions c.step-turn.new.regions c.in_ok-marks.marks (marks_at o.failing.items) now.channel c.step-turn.new.channel now.events c.step-turn.new.events c.step-turn.result w.places w.read_only (c.in_ok-marks.ensures ∙ ap marks_at c.deref.ensures.value) c.step-turn.ensures.turn c.step-turn.ensures.after in
     let ahead : ahead_of now.channel ≡ Ok c.insn_of.result = sym c.ahead-ahead.ensures ∙ c.insn_of.ensures in
-    let program = program_there o marks first s now.steps now.channel now.regions now.events now.front c.args.out.now.items now.out.items w c.insn_of.result c.step-turn.new.channel c.step-turn.new.regions c.step-turn.new.events ahead (sym answer ∙ c.in-Moved.is) to in
+    let program = program_there o marks first s now.steps now.channel now.regions now.events now.front c.args.out.now.items now.out.items w c.insn_of.result c.step-turn.new.channel c.step-turn.new.regions c.step-turn.new.events ahead (sym t.answer ∙ c.in-Moved.is) t.to in
     record { program = subst IsSome (sym program) refl; steps = omega (arith, c.loop-steps-test.true) }
 
 pub loop-steps-preserved : goal.loop-steps-preserved
@@ -109,10 +100,7 @@ loop-steps-preserved g c =
     let s = opening o c.args.program.now (image_of (pieces_of first)) in
     let now = c.loop-steps in
     let w = now.invariant.goes in
-    let kept : with_gaps_of now.regions c.in_ok-marks.marks ≡ marks = marks_kept first now.regions (marks_at o.failing.items) c.in_ok-marks.marks w.places w.read_only (c.in_ok-marks.ensures ∙ ap marks_at c.deref.ensures.value) in
-    let here = machine_over now.channel now.regions now.events in
-    let answer : c.step-turn.result ≡ answer_at marks here = c.step-turn.ensures.turn ∙ ap (λ (m : MarkList). answer_at m here) kept in
-    let to : machine_over c.step-turn.new.channel c.step-turn.new.regions c.step-turn.new.events ≡ after_step marks here = c.step-turn.ensures.after ∙ ap (λ (m : MarkList). after_step m here) kept in
+    let t = took first now.regions c.step-turn.new.regions c.in_ok-marks.marks (marks_at o.failing.items) now.channel c.step-turn.new.channel now.events c.step-turn.new.events c.step-turn.result w.places w.read_only (c.in_ok-marks.ensures ∙ ap marks_at c.deref.ensures.value) c.step-turn.ensures.turn c.step-turn.ensures.after in
     let i = c.insn_of.result in
     let channel = c.step-turn.new.channel in
     let front = c.advance.new.self in
@@ -120,8 +108,8 @@ loop-steps-preserved g c =
     let next = goes_on o marks first s now.steps now.channel now.regions now.events now.front c.args.out.now.items now.out.items w i c.step-turn.new.channel c.step-turn.new.regions c.step-turn.new.events c.advance.new.self c.push_step.new.out.items
     (record {
       ahead = sym c.ahead-ahead.ensures ∙ c.insn_of.ensures;
-      answer = sym answer ∙ c.in-Moved.is;
-      to = to;
+      answer = sym t.answer ∙ c.in-Moved.is;
+      to = t.to;
       places = c.step-turn.ensures.places;
       read_only = c.step-turn.ensures.read_only;
       order = in_order_kept first c.step-turn.new.regions (c.step-turn.ensures.places ∙ w.places) c.requires.order;
@@ -145,12 +133,9 @@ returns-in_default g c =
     let s = opening o c.args.program.now (image_of (pieces_of first)) in
     let now = c.loop-steps in
     let w = now.invariant.goes in
-    let kept : with_gaps_of now.regions c.in_ok-marks.marks ≡ marks = marks_kept first now.regions (marks_at o.failing.items) c.in_ok-marks.marks w.places w.read_only (c.in_ok-marks.ensures ∙ ap marks_at c.deref.ensures.value) in
-    let here = machine_over now.channel now.regions now.events in
-    let answer : c.step-turn.result ≡ answer_at marks here = c.step-turn.ensures.turn ∙ ap (λ (m : MarkList). answer_at m here) kept in
-    let to : machine_over c.step-turn.new.channel c.step-turn.new.regions c.step-turn.new.events ≡ after_step marks here = c.step-turn.ensures.after ∙ ap (λ (m : MarkList). after_step m here) kept in
+    let t = took first now.regions c.step-turn.new.regions c.in_ok-marks.marks (marks_at o.failing.items) now.channel c.step-turn.new.channel now.events c.step-turn.new.events c.step-turn.result w.places w.read_only (c.in_ok-marks.ensures ∙ ap marks_at c.deref.ensures.value) c.step-turn.ensures.turn c.step-turn.ensures.after in
     record {
-      ok = on_ok c.finish.result _ _ _ (λ good e waved. stops o marks first s now.steps now.channel now.regions now.events now.front c.args.out.now.items now.out.items w c.step-turn.result c.ahead-ahead.result now.steps now.front c.step-turn.new.channel c.step-turn.new.regions c.step-turn.new.events good c.args.err.now.items c.args.wave.now.items now.wave.items c.finish.new.out.items c.finish.new.err.items c.finish.new.wave.items c.loop-steps-test.true c.in_default.not-Moved answer c.ahead-ahead.ensures refl refl to (from_err now.invariant.err e) now.invariant.wave waved) c.finish.ensures.ok c.finish.ensures.wave;
+      ok = on_ok c.finish.result _ _ _ (λ good e waved. stops o marks first s now.steps now.channel now.regions now.events now.front c.args.out.now.items now.out.items w c.step-turn.result c.args.program.now c.ahead-ahead.result now.steps now.front c.step-turn.new.channel c.step-turn.new.regions c.step-turn.new.events good c.args.err.now.items c.args.wave.now.items now.wave.items c.finish.new.out.items c.finish.new.err.items c.finish.new.wave.items c.loop-steps-test.true c.in_default.not-Moved t.answer refl c.ahead-ahead.ensures refl refl t.to (from_err now.invariant.err e) now.invariant.wave waved) c.finish.ensures.ok c.finish.ensures.wave;
       places = c.step-turn.ensures.places ∙ w.places;
       begins = begins_more _ _ _ (begins_appended _ _ _ w.text) c.finish.ensures.begins;
       begins_err = begins_more _ _ _ (begins_same _ _ now.invariant.err) c.finish.ensures.begins_err;
@@ -187,7 +172,7 @@ returns-clause-ok g c =
     let now = c.loop-steps in
     let w = now.invariant.goes in
     let limit : now.steps ≡ o.limit = omega (arith, c.loop-steps-test.false, now.auto.steps-end) in
-    on_ok c.finish-2.result _ _ _ (λ good e waved. ends o marks first s now.steps now.channel now.regions now.events now.front c.args.out.now.items now.out.items w c.ahead.result o.limit now.front good c.args.err.now.items c.args.wave.now.items now.wave.items c.finish-2.new.out.items c.finish-2.new.err.items c.finish-2.new.wave.items limit c.ahead.ensures (sym limit) refl (from_err now.invariant.err e) now.invariant.wave waved) c.finish-2.ensures.ok c.finish-2.ensures.wave
+    on_ok c.finish-2.result _ _ _ (λ good e waved. ends o marks first s now.steps now.channel now.regions now.events now.front c.args.out.now.items now.out.items w c.args.program.now c.ahead.result o.limit now.front good c.args.err.now.items c.args.wave.now.items now.wave.items c.finish-2.new.out.items c.finish-2.new.err.items c.finish-2.new.wave.items limit refl c.ahead.ensures (sym limit) refl (from_err now.invariant.err e) now.invariant.wave waved) c.finish-2.ensures.ok c.finish-2.ensures.wave
 
 pub returns-clause-begins : goal.returns-clause-begins
 returns-clause-begins g c =

@@ -1,0 +1,39 @@
+-- The instructions of a DMA-330 that no channel of the model executes (ARM DDI 0424, instruction set).
+use Rattle.std.specs.Prelude.{ℕ, Bool, ◌==◌, ◌||◌, if◌then◌else◌, List, codes, Option, Some, None}
+use Rattle.std.specs.Str.{bytes_eq}
+
+-- The name of the instruction that begins with this byte, if only the chip executes it. S and B are for single and for
+-- burst requests of a peripheral, of which the model has none; DMALPFE begins a loop without a counter; DMAGO and
+-- DMAKILL are for the chip's manager.
+abbrev pub chip_only_name : ℕ → Option (List ℕ)
+chip_only_name b =
+    if b == 0x01 then Some (codes "DMAKILL") else (
+    if b == 0x05 then Some (codes "DMALDS") else (
+    if b == 0x07 then Some (codes "DMALDB") else (
+    if b == 0x09 then Some (codes "DMASTS") else (
+    if b == 0x0b then Some (codes "DMASTB") else (
+    if b == 0x0c then Some (codes "DMASTZ") else (
+    if b == 0x25 then Some (codes "DMALDPS") else (
+    if b == 0x27 then Some (codes "DMALDPB") else (
+    if b == 0x29 then Some (codes "DMASTPS") else (
+    if b == 0x2b then Some (codes "DMASTPB") else (
+    if b == 0x28 || b == 0x2c then Some (codes "DMALPEND of a DMALPFE") else (
+    if b == 0x2d then Some (codes "DMALPENDS of a DMALPFE") else (
+    if b == 0x2f then Some (codes "DMALPENDB of a DMALPFE") else (
+    if b == 0x30 || b == 0x31 || b == 0x32 then Some (codes "DMAWFP") else (
+    if b == 0x35 then Some (codes "DMAFLUSHP") else (
+    if b == 0x39 || b == 0x3d then Some (codes "DMALPENDS") else (
+    if b == 0x3b || b == 0x3f then Some (codes "DMALPENDB") else (
+    if b == 0x54 || b == 0x56 then Some (codes "DMAADDH") else (
+    if b == 0x5c || b == 0x5e then Some (codes "DMAADNH") else (
+    if b == 0xa0 || b == 0xa2 then Some (codes "DMAGO") else None)))))))))))))))))))
+
+-- whether a word in lower case is the name of such an instruction, or the directive DMALPFE
+abbrev pub is_chip_only : List ℕ → Bool
+is_chip_only name =
+    bytes_eq name (codes "dmaaddh") || bytes_eq name (codes "dmaadnh") || bytes_eq name (codes "dmaflushp")
+    || bytes_eq name (codes "dmago") || bytes_eq name (codes "dmakill") || bytes_eq name (codes "dmalds")
+    || bytes_eq name (codes "dmaldb") || bytes_eq name (codes "dmaldps") || bytes_eq name (codes "dmaldpb")
+    || bytes_eq name (codes "dmalpends") || bytes_eq name (codes "dmalpendb") || bytes_eq name (codes "dmalpfe")
+    || bytes_eq name (codes "dmasts") || bytes_eq name (codes "dmastb") || bytes_eq name (codes "dmastps")
+    || bytes_eq name (codes "dmastpb") || bytes_eq name (codes "dmastz") || bytes_eq name (codes "dmawfp")

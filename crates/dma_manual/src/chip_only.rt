@@ -1,0 +1,61 @@
+//! The instructions of a DMA-330 that no channel of the model executes (ARM DDI 0424, instruction set).
+
+ghost use Rattle.std.specs.Prelude.{◌≡◌};
+ghost use Rattle.std.specs.Option.{option_map};
+ghost use Rattle.dma_manual.specs.ChipOnly.{chip_only_name, is_chip_only};
+
+use dma_text::bytes::is_text;
+
+/// Returns the name of the instruction that begins with this byte, if only the chip executes it.
+pub fn chip_only_name(first: u8) -> Option<&'static str>
+    ensures { option_map (λ name. name.now) result ≡ chip_only_name first }
+{
+    match first {
+        0x01 => Some("DMAKILL"),
+        0x05 => Some("DMALDS"),
+        0x07 => Some("DMALDB"),
+        0x09 => Some("DMASTS"),
+        0x0b => Some("DMASTB"),
+        0x0c => Some("DMASTZ"),
+        0x25 => Some("DMALDPS"),
+        0x27 => Some("DMALDPB"),
+        0x29 => Some("DMASTPS"),
+        0x2b => Some("DMASTPB"),
+        0x28 | 0x2c => Some("DMALPEND of a DMALPFE"),
+        0x2d => Some("DMALPENDS of a DMALPFE"),
+        0x2f => Some("DMALPENDB of a DMALPFE"),
+        0x30 | 0x31 | 0x32 => Some("DMAWFP"),
+        0x35 => Some("DMAFLUSHP"),
+        0x39 | 0x3d => Some("DMALPENDS"),
+        0x3b | 0x3f => Some("DMALPENDB"),
+        0x54 | 0x56 => Some("DMAADDH"),
+        0x5c | 0x5e => Some("DMAADNH"),
+        0xa0 | 0xa2 => Some("DMAGO"),
+        _ => None,
+    }
+}
+
+/// Returns whether a word in lower case is the name of an instruction that only the chip executes, or DMALPFE, which
+/// begins a loop without a counter.
+pub fn is_chip_only(name: &[u8]) -> bool
+    ensures { result ≡ is_chip_only name.now }
+{
+    is_text(name, b"dmaaddh")
+        || is_text(name, b"dmaadnh")
+        || is_text(name, b"dmaflushp")
+        || is_text(name, b"dmago")
+        || is_text(name, b"dmakill")
+        || is_text(name, b"dmalds")
+        || is_text(name, b"dmaldb")
+        || is_text(name, b"dmaldps")
+        || is_text(name, b"dmaldpb")
+        || is_text(name, b"dmalpends")
+        || is_text(name, b"dmalpendb")
+        || is_text(name, b"dmalpfe")
+        || is_text(name, b"dmasts")
+        || is_text(name, b"dmastb")
+        || is_text(name, b"dmastps")
+        || is_text(name, b"dmastpb")
+        || is_text(name, b"dmastz")
+        || is_text(name, b"dmawfp")
+}
