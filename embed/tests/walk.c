@@ -1,7 +1,7 @@
 /* Carries out each group of the files that it is given, rows.txt and calls of dmasim, in three ways: with a call for each
  * step; with as few calls as possible; and the same again, where a call that fails must change no reading. Also checks
  * that every call has returned every code that the header names for it, and what no row covers: programs cut at each
- * byte, the longest texts, and lengths above 32 bits. */
+ * byte, programs with all pairs of first bytes, the longest texts, and lengths above 32 bits. */
 #define _DEFAULT_SOURCE
 #include "lines.h"
 #include "rows.h"
@@ -129,31 +129,127 @@ static uint32_t last_offset(size_t cut)
     return offsets[n];
 }
 
-/* Checks that a cut program stops at the first instruction that isn't whole. */
+/* Returns how many bytes the first `cut` bytes of it store, in bursts of 256, 32 and 12. The stores are at the offsets
+ * 22, 34 and 44. */
+static size_t stored_by(size_t cut)
+{
+    return cut <= 22 ? 0 : cut <= 34 ? 256 : cut <= 44 ? 288 : 300;
+}
+
+/* Runs the first `cut` bytes of it over a memory with the 300 bytes. Returns whether exactly the bytes of their stores
+ * are copied. */
+static int run_cut_program(size_t cut, dma330_run_end *end)
+{
+    static uint8_t memory[0x4000], wanted[0x4000];
+    size_t n;
+    memset(memory, 0, sizeof memory);
+    for (n = 0; n < 300; n++)
+        memory[0x1000 + n] = (uint8_t)(n % 251 + 1);
+    memcpy(wanted, memory, sizeof wanted);
+    memcpy(wanted + 0x2000, memory + 0x1000, stored_by(cut));
+    return dma330_run_program(copy_of_300, cut, memory, sizeof memory, 1000, end) == DMA330_OK &&
+           memcmp(memory, wanted, sizeof memory) == 0;
+}
+
+/* Checks that it stops at the first instruction that isn't whole, and without a cut at its end. */
 static void run_cut_programs(void)
 {
-    static uint8_t memory[0x4000];
     dma330_run_end end;
     size_t cut;
-    for (cut = 0; cut < sizeof copy_of_300; cut++) {
-        int32_t code = dma330_run_program(copy_of_300, cut, memory, sizeof memory, 1000, &end);
-        if (!is_right(code == DMA330_OK && end.end == DMA330_END_FAULT && end.fault == DMA330_INSTR_FETCH_ERR &&
+    for (cut = 0; cut < sizeof copy_of_300; cut++)
+        if (!is_right(run_cut_program(cut, &end) && end.end == DMA330_END_FAULT && end.fault == DMA330_INSTR_FETCH_ERR &&
                       end.pc == last_offset(cut)))
-            printf("WRONG: a program cut at %lu bytes: %s, offset %lu\n", (unsigned long)cut, dma330_code_name(code),
-                   (unsigned long)end.pc);
+            printf("WRONG: a program cut at %lu bytes: offset %lu\n", (unsigned long)cut, (unsigned long)end.pc);
+    if (!is_right(run_cut_program(sizeof copy_of_300, &end) && end.end == DMA330_END_ENDED && end.turns == 20))
+        printf("WRONG: the program of 300 bytes\n");
+}
+
+/* ---- every pair of first bytes of a program, followed by five zeros, each of which is an operand or DMAEND ---- */
+
+/* How a run ends: enum dma330_end; the turns, the event, or the fault and its offset. */
+typedef struct ending {
+    uint32_t end, number, pc;
+} ending;
+
+static ending ends(uint32_t end, uint32_t number, uint32_t pc)
+{
+    ending made;
+    made.end = end;
+    made.number = number;
+    made.pc = pc;
+    return made;
+}
+
+/* Returns how a program ends whose first instruction is one byte long and goes on, by its second byte. */
+static ending end_of_second(int is_loaded, uint32_t second)
+{
+    switch (second) {
+    case 0x00: /* DMAEND */
+        return ends(DMA330_END_ENDED, 2, 0);
+    case 0x08: /* DMAST, with something or nothing loaded */
+        return is_loaded ? ends(DMA330_END_ENDED, 3, 0) : ends(DMA330_END_FAULT, DMA330_ST_DATA_UNAVAILABLE, 1);
+    case 0x04: case 0x12: case 0x13: case 0x18: /* DMALD, DMARMB, DMAWMB, DMANOP */
+    case 0x20: case 0x22: case 0x34: case 0x38: case 0x3C: /* DMALP, DMASEV 0, DMALPEND of a counter that is 0 */
+        return ends(DMA330_END_ENDED, 3, 0);
+    case 0x36: /* DMAWFE 0, whose flag is clear */
+        return ends(DMA330_END_WAITING, 0, 0);
+    case 0xBC: /* DMAMOV SAR takes all zeros, and nothing follows it */
+        return ends(DMA330_END_FAULT, DMA330_INSTR_FETCH_ERR, 7);
+    default:
+        return ends(DMA330_END_FAULT, DMA330_UNDEF_INSTR, 1);
     }
 }
 
-static void run_whole_program(void)
+/* Returns how a pair ends, by the table of codes and what instructions do. */
+static ending end_of_pair(uint32_t first, uint32_t second)
 {
-    static uint8_t memory[0x4000], wanted[0x4000];
+    switch (first) {
+    case 0x00: /* DMAEND */
+        return ends(DMA330_END_ENDED, 1, 0);
+    case 0x04: case 0x12: case 0x13: case 0x18: /* DMALD, DMARMB, DMAWMB and DMANOP have no second byte */
+        return end_of_second(first == 0x04, second);
+    case 0x08: /* DMAST, with nothing loaded */
+        return ends(DMA330_END_FAULT, DMA330_ST_DATA_UNAVAILABLE, 0);
+    case 0x20: case 0x22: case 0x38: case 0x3C: /* DMALP, and DMALPEND of a counter that is 0 */
+        return ends(DMA330_END_ENDED, 2, 0);
+    case 0x34: /* DMASEV */
+        return second % 8 == 0 ? ends(DMA330_END_ENDED, 2, 0) : ends(DMA330_END_FAULT, DMA330_OPERAND_INVALID, 0);
+    case 0x36: /* DMAWFE, with or without the invalid flag; all flags are clear */
+        return second % 8 == 0 || second % 8 == 2 ? ends(DMA330_END_WAITING, second / 8, 0)
+                                                  : ends(DMA330_END_FAULT, DMA330_OPERAND_INVALID, 0);
+    case 0xBC: /* DMAMOV of 0, which is a control word too */
+        return second <= 2 ? ends(DMA330_END_ENDED, 2, 0) : ends(DMA330_END_FAULT, DMA330_OPERAND_INVALID, 0);
+    default:
+        return ends(DMA330_END_FAULT, DMA330_UNDEF_INSTR, 0);
+    }
+}
+
+static int ends_as_wanted(uint32_t first, uint32_t second)
+{
+    static uint8_t memory[512];
+    uint8_t program[7] = {0};
+    ending wanted = end_of_pair(first, second);
     dma330_run_end end;
-    int n;
-    for (n = 0; n < 300; n++)
-        memory[0x1000 + n] = wanted[0x1000 + n] = wanted[0x2000 + n] = (uint8_t)(n % 251);
-    if (!is_right(dma330_run_program(copy_of_300, sizeof copy_of_300, memory, sizeof memory, 1000, &end) == DMA330_OK &&
-                  end.end == DMA330_END_ENDED && end.turns == 20 && memcmp(memory, wanted, sizeof memory) == 0))
-        printf("WRONG: the program of 300 bytes\n");
+    program[0] = (uint8_t)first;
+    program[1] = (uint8_t)second;
+    if (dma330_run_program(program, sizeof program, memory, sizeof memory, 1000, &end) != DMA330_OK ||
+        end.end != wanted.end)
+        return 0;
+    if (end.end == DMA330_END_FAULT)
+        return end.fault == wanted.number && end.pc == wanted.pc;
+    return (end.end == DMA330_END_ENDED ? end.turns : end.event) == wanted.number;
+}
+
+/* Each first byte is a check. */
+static void run_all_pairs(void)
+{
+    uint32_t first, second;
+    for (first = 0; first < 0x100; first++) {
+        for (second = 0; second < 0x100 && ends_as_wanted(first, second); second++)
+            ;
+        if (!is_right(second == 0x100))
+            printf("WRONG: a program that begins with %02lX %02lX\n", (unsigned long)first, (unsigned long)second);
+    }
 }
 
 /* ---- the version, and the longest text ---- */
@@ -249,7 +345,7 @@ int main(int count, char **words)
     }
     compare_all_codes();
     run_cut_programs();
-    run_whole_program();
+    run_all_pairs();
     compare_version();
     write_longest_texts();
     call_with_long_lengths();

@@ -122,43 +122,77 @@ pub fn engine_after(alloc: Global, size: u32, lines: &[Line]) -> Result<Engine, 
     Ok(engine)
 }
 
-/// Makes a call, and returns its answer. Fails if its transfer can't be made.
+/// Makes a call, and returns its answer. Fails if its transfer or its bytes can't be made.
 pub fn answer_to(alloc: Global, engine: &mut Engine, ask: Ask) -> Result<Answer, Fail> {
-    Ok(match ask {
-        Ask::Write(addr, bytes) => done(engine.write(addr, bytes)),
+    match ask {
         Ask::WriteOwned(addr, bytes) => {
-            done(engine.write_owned(addr, Bytes::from_slice(alloc, bytes)?))
+            let bytes = Bytes::from_slice(alloc, bytes)?;
+            Ok(done(engine.write_owned(addr, bytes)))
         }
-        Ask::Read(addr, len) => match engine.read(addr, len) {
-            Ok(bytes) => four(bytes.as_slice()),
-            Err(fault) => Answer::Refused(fault),
-        },
+        Ask::Submit(ch, copy) => Ok(submits(engine, ch, copy, copy.transfer(alloc)?)),
+        Ask::SubmitOverPages(ch) => Ok(submits_over_pages(engine, ch, over_pages(alloc)?)),
+        _ => Ok(answer_on_memory(engine, ask)),
+    }
+}
+
+// Returns the answer to a call that neither submits nor is given bytes of its own.
+fn answer_on_memory(engine: &mut Engine, ask: Ask) -> Answer {
+    match ask {
+        Ask::Write(addr, bytes) => done(engine.write(addr, bytes)),
+        Ask::Read(addr, len) => read(engine, addr, len),
         Ask::ReadBack(addr, len) => read_back(engine, addr, len),
         Ask::Mark(kind, segment) => done(engine.mark(kind, segment)),
         Ask::Unmark => done(engine.unmark()),
         Ask::Raise(event) => done(engine.raise(event)),
-        Ask::Submit(ch, copy) => submits(engine, ch, copy, copy.transfer(alloc)?),
-        Ask::SubmitOverPages(ch) => match engine.submit(ch, over_pages(alloc)?) {
-            Ok(cookie) => Answer::Count(cookie),
-            Err(refused) => Answer::Refused(refused.fault),
-        },
+        _ => answer_on_queues(engine, ask),
+    }
+}
+
+// Returns the answer to any other call on queues, on entries or on steps.
+fn answer_on_queues(engine: &mut Engine, ask: Ask) -> Answer {
+    match ask {
         Ask::Issue(ch) => counted(engine.issue(ch)),
         Ask::Terminate(ch) => counted(engine.terminate(ch)),
         Ask::MakeRoom(ch) => done(engine.make_room(ch)),
-        Ask::Reserve(entries) => match engine.reserve_entries(entries) {
-            Ok(()) => Answer::Done,
-            Err(_) => Answer::Refused(EngineFault::NoMemory),
-        },
-        Ask::Step(ch) => match engine.step(ch) {
-            Ok(turn) => Answer::Turned(turn),
-            Err(fault) => Answer::Refused(fault),
-        },
-        Ask::Advance(ch, most) => {
-            let steps = engine.advance(ch, most);
-            Answer::Advanced(steps.started, steps.moved, steps.last)
-        }
+        Ask::Reserve(entries) => reserved(engine, entries),
+        Ask::Step(ch) => turned(engine.step(ch)),
+        Ask::Advance(ch, most) => advanced(engine, ch, most),
         Ask::Checkpoint => done(engine.checkpoint()),
-    })
+        _ => Answer::Other,
+    }
+}
+
+fn read(engine: &mut Engine, addr: u32, len: u32) -> Answer {
+    match engine.read(addr, len) {
+        Ok(bytes) => four(bytes.as_slice()),
+        Err(fault) => Answer::Refused(fault),
+    }
+}
+
+fn reserved(engine: &mut Engine, entries: usize) -> Answer {
+    match engine.reserve_entries(entries) {
+        Ok(()) => Answer::Done,
+        Err(_) => Answer::Refused(EngineFault::NoMemory),
+    }
+}
+
+fn turned(outcome: Result<Turn, EngineFault>) -> Answer {
+    match outcome {
+        Ok(turn) => Answer::Turned(turn),
+        Err(fault) => Answer::Refused(fault),
+    }
+}
+
+fn advanced(engine: &mut Engine, ch: u8, most: u32) -> Answer {
+    let steps = engine.advance(ch, most);
+    Answer::Advanced(steps.started, steps.moved, steps.last)
+}
+
+fn submits_over_pages(engine: &mut Engine, ch: u8, transfer: Transfer) -> Answer {
+    match engine.submit(ch, transfer) {
+        Ok(cookie) => Answer::Count(cookie),
+        Err(refused) => Answer::Refused(refused.fault),
+    }
 }
 
 fn over_pages(alloc: Global) -> Result<Transfer, TransferFault> {

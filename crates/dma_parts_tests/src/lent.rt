@@ -1,7 +1,10 @@
 //! A channel over bytes that a caller lends, and both kinds of memory.
 
+ghost use Rattle.std.specs.Prelude.{◌≤◌, length, IsSome};
+ghost use Rattle.dma_mem.specs.Limits.{largest_size};
+
 use dma_chan::channel::Channel;
-use dma_chan::lent::{run_over, step_over};
+use dma_chan::lent::{Taken, run_over, step_regions};
 use dma_chan::program::Program;
 use dma_chan::run::RunEnd;
 use dma_chan::turn::{ChanTurn, FaultKind};
@@ -9,6 +12,7 @@ use dma_mem::events::Events;
 use dma_mem::marks::{MarkKind, Marks};
 use dma_mem::memory::Memory;
 use dma_mem::ram::{LentRam, Ram};
+use dma_mem::regions::Region;
 use dma_mem::segment::Segment;
 use std::alloc::Global;
 use std::test::Fail;
@@ -101,6 +105,25 @@ fn with_program(alloc: Global) -> Result<Channel, Fail> {
     Ok(channel)
 }
 
+// Steps a channel over bytes that begin at address 0.
+fn step(
+    channel: &mut Channel,
+    bytes: &mut [u8],
+    events: &mut Events,
+    marks: &Marks,
+    most: u32,
+) -> Taken
+    requires loaded { IsSome channel.old.program }
+    requires size { length bytes.old ≤ largest_size }
+{
+    let region = Region {
+        addr: 0,
+        bytes,
+        read_only: 0,
+    };
+    step_regions(channel, &mut [region], events, marks, most)
+}
+
 #[test]
 fn a_call_ends_behind_a_signal(rt: HostRuntime) -> Result<(), Fail> {
     let mut channel = with_program(rt.alloc())?;
@@ -109,15 +132,15 @@ fn a_call_ends_behind_a_signal(rt: HostRuntime) -> Result<(), Fail> {
     let mut bytes = [7, 0, 0];
     let moved = Some(ChanTurn::Moved);
     assert!(rt; channel.is_loaded());
-    let first = step_over(&mut channel, &mut bytes, &mut events, &marks, 3);
+    let first = step(&mut channel, &mut bytes, &mut events, &marks, 3);
     assert!(rt; first.count == 3 && first.last == moved && bytes == [7, 7, 0]);
     // The caller writes between two calls.
     bytes[2] = 9;
     assert!(rt; channel.is_loaded());
-    let signal = step_over(&mut channel, &mut bytes, &mut events, &marks, 100);
+    let signal = step(&mut channel, &mut bytes, &mut events, &marks, 100);
     assert!(rt; signal.count == 1 && signal.last == moved && events.bits() == 8);
     assert!(rt; channel.is_loaded());
-    let rest = step_over(&mut channel, &mut bytes, &mut events, &marks, 100);
+    let rest = step(&mut channel, &mut bytes, &mut events, &marks, 100);
     let ended = Some(ChanTurn::Ended);
     assert!(rt; rest.count == 1 && rest.last == ended && bytes == [7, 7, 9]);
     assert!(rt; channel.taken() == 5);
@@ -135,11 +158,11 @@ fn a_call_ends_before_a_store_apart(rt: HostRuntime) -> Result<(), Fail> {
     let mut events = Events::new();
     let mut bytes = [7, 0, 0, 0, 0, 0];
     assert!(rt; channel.is_loaded());
-    let first = step_over(&mut channel, &mut bytes, &mut events, &marks, 100);
+    let first = step(&mut channel, &mut bytes, &mut events, &marks, 100);
     assert!(rt; first.count == 4 && first.last == Some(ChanTurn::Moved));
     assert!(rt; first.written == Segment { addr: 0, len: 1 });
     assert!(rt; channel.is_loaded());
-    let rest = step_over(&mut channel, &mut bytes, &mut events, &marks, 100);
+    let rest = step(&mut channel, &mut bytes, &mut events, &marks, 100);
     assert!(rt; rest.count == 2 && rest.last == Some(ChanTurn::Ended));
     assert!(rt; rest.written == Segment { addr: 5, len: 1 } && bytes == [7, 0, 0, 0, 0, 7]);
     Ok(())
@@ -153,7 +176,7 @@ fn a_call_ends_at_a_mark(rt: HostRuntime) -> Result<(), Fail> {
     let mut events = Events::new();
     let mut bytes = [7, 0];
     assert!(rt; channel.is_loaded());
-    let taken = step_over(&mut channel, &mut bytes, &mut events, &marks, 100);
+    let taken = step(&mut channel, &mut bytes, &mut events, &marks, 100);
     let fault = Some(ChanTurn::Fault(FaultKind::DataWriteErr));
     assert!(rt; taken.count == 3 && taken.last == fault && bytes == [7, 0]);
     Ok(())

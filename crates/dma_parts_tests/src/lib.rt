@@ -6,12 +6,6 @@
 #[cfg(test)]
 mod chan;
 #[cfg(test)]
-mod chan_compile;
-#[cfg(test)]
-mod chan_explain;
-#[cfg(test)]
-mod chan_pairs;
-#[cfg(test)]
 mod chan_refused;
 #[cfg(test)]
 mod chan_runs;

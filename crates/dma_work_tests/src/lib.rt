@@ -9,8 +9,6 @@ mod races;
 #[cfg(test)]
 mod scenes;
 #[cfg(test)]
-mod shifts;
-#[cfg(test)]
 mod turns;
 #[cfg(test)]
 mod work;
