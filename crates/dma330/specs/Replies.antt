@@ -125,14 +125,14 @@ takes_program Why = false
 abbrev pub is_text_byte : ℕ → Bool
 is_text_byte b = (nat_le 32 b && nat_le b 126) || (b == 9 || (b == 10 || b == 13))
 
--- whether an input is text: some bytes, all of text
+-- whether all bytes of an input are text
 abbrev pub is_text : List ℕ → Bool
-is_text input = not (length input == 0) && list_all is_text_byte input
+is_text input = list_all is_text_byte input
 
--- the hint behind the message for a program that fails and is text
+-- the hint behind the message for a program that fails, has bytes, and is text
 abbrev pub hint : Request → List ℕ → Bool → List ℕ
 hint request input succeeds =
-    if takes_program request && (not succeeds && is_text input)
+    if takes_program request && (not succeeds && (not (length input == 0) && is_text input))
     then codes "  (these bytes are text; --hex reads hexadecimal digits, asm instructions)\n" else []
 
 -- What a request prints for an input that isn't read as hexadecimal text, without the name of the input.

@@ -240,18 +240,18 @@ fn is_text_byte(byte: u8) -> bool
     matches!(byte, b' '..=b'~' | b'\t' | b'\n' | b'\r')
 }
 
-/// Returns whether an input is text: some bytes, all of text.
+/// Returns whether all bytes of an input are text.
 fn is_text(input: &[u8]) -> bool
     ensures { result ≡ is_text input.now }
 {
-    !input.is_empty() && input.iter().all(|byte| is_text_byte(*byte))
+    input.iter().all(|byte| is_text_byte(*byte))
 }
 
 /// Returns the hint behind the message for a program that is text, or no text.
 fn hint(request: &Request, input: &[u8], succeeds: bool) -> &'static str
     ensures { result.now ≡ hint request.now input.now succeeds }
 {
-    if takes_program(request) && !succeeds && is_text(input) {
+    if takes_program(request) && !succeeds && !input.is_empty() && is_text(input) {
         "  (these bytes are text; --hex reads hexadecimal digits, asm instructions)\n"
     } else {
         ""
