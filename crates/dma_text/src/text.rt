@@ -1,5 +1,4 @@
 //! Texts that can be appended to bytes: words, numbers in decimal and hexadecimal digits, and several texts in a row.
-#![tactic(auto, using(crate::proofs::Begun::begins_same, crate::proofs::Begun::begins_appended, crate::proofs::Begun::begins_more, std::proofs::lemmas::Fmt::decimal_digit))]
 
 ghost use Rattle.std.specs.Prelude.{◌≡◌, ◌++◌, OnErr, OnOk, decimal};
 ghost use Rattle.dma_text.specs.Digits.{hex_digits, hex_pair, spaced_bytes};
