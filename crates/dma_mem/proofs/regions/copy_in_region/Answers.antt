@@ -1,4 +1,5 @@
 use Rattle.std.proofs.Common.{◌≡◌, ◌-◌, List, ℕ, length, take, drop, refl, arith, get_or, ap, ◌∙◌}
+use Rattle.std.proofs.lemmas.Grind.{common_steps}
 use Rattle.dma_mem.specs.Regions.{pieces_of, image_of}
 use Rattle.dma_mem.specs.inner.Rewritten.{Holds}
 use Rattle.dma_mem.specs.Image.{put, bytes_at}
@@ -17,3 +18,9 @@ returns c =
     let long : length bytes ≡ n = ends_in rs i c.args.from n c.requires.order c.requires.index c.requires.reads in
     let holds : Holds (pieces_of rs) i c.args.to (length bytes) = record { first = c.requires.writes.first; last = omega (arith, c.requires.writes.last, long) } in
     rewritten_at rs i c.args.to _ bytes c.requires.order c.requires.index holds refl refl refl (c.copy_bytes_apart.ensures ∙ ap (λ (xs : List ℕ). put r.bytes.now (bytes_at (c.args.to - r.addr) xs)) shown)
+
+pub copy_bytes_apart-requires-clause-within : goal.copy_bytes_apart-requires-clause-within
+copy_bytes_apart-requires-clause-within c = grind (arith, common_steps)
+
+pub copy_bytes_apart-requires-clause-source : goal.copy_bytes_apart-requires-clause-source
+copy_bytes_apart-requires-clause-source c = grind (arith, common_steps)

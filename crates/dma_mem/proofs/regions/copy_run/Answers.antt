@@ -1,5 +1,6 @@
 use Rattle.std.proofs.Common.{◌≡◌, ℕ, ◌+◌, ◌-◌, ◌≤◌, ◌++◌, ◌∷◌, List, Vec, Global, vec_capacity, length, min, take, drop, true, false, arith, ap, sym, ◌∙◌}
 use Rattle.std.proofs.lemmas.List.{length-append, length-take-le}
+use Rattle.std.proofs.lemmas.Grind.{common_steps}
 use Rattle.dma_mem.specs.declared.regions.Region.{Region}
 use Rattle.dma_mem.specs.Regions.{pieces_of, piece_of, has, run_from}
 use Rattle.dma_mem.proofs.RegionSearch.{drop_item}
@@ -51,3 +52,6 @@ loop-region-preserved c =
                 ∙ so_far;
           }
     ]
+
+pub returns-clause-run : goal.returns-clause-run
+returns-clause-run c = grind (arith, common_steps)

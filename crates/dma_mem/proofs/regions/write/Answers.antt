@@ -1,5 +1,6 @@
 use Rattle.std.proofs.Common.{◌≢◌, ◌+◌, ◌∙◌, length, refl, sym, arith}
 use Rattle.std.proofs.lemmas.Bool.{eqb-false}
+use Rattle.std.proofs.lemmas.Grind.{common_steps}
 use Rattle.dma_mem.proofs.PieceWrites.{rewritten_more, writable_part, writable_after, writable_most}
 use Rattle.dma_mem.proofs.regions.write.Goals as goal
 
@@ -23,3 +24,6 @@ put_by_bytes-requires-then-not-is_empty c =
 pub returns-then-not-is_empty : goal.returns-then-not-is_empty
 returns-then-not-is_empty c =
     rewritten_more c.args.regions.now c.put_by_bytes.new.regions c.put_by_bytes-then-not-is_empty.new.regions c.args.addr (c.args.addr + length c.args.front.now) c.args.front.now c.args.back.now c.put_by_bytes.ensures c.put_by_bytes-then-not-is_empty.ensures refl
+
+pub returns-else-not-is_empty : goal.returns-else-not-is_empty
+returns-else-not-is_empty c = grind (arith, common_steps)

@@ -1,7 +1,8 @@
-use Rattle.std.proofs.Common.{◌+◌, ◌<◌, ◌≤◌, ◌++◌, length, take, drop, sym, ◌∙◌, subst}
+use Rattle.std.proofs.Common.{◌+◌, ◌<◌, ◌≤◌, ◌++◌, length, take, drop, sym, ◌∙◌, subst, arith}
 use Rattle.std.specs.List.Sorted.{IsPermutation}
 use Rattle.std.proofs.lemmas.List.{take_at}
 use Rattle.std.proofs.lemmas.List.Sorted.{All-permutation, length_permutation}
+use Rattle.std.proofs.lemmas.Grind.{common_steps}
 use Rattle.dma_mem.specs.declared.segment.Segment.{Segment}
 use Rattle.dma_mem.proofs.RangeSets.{same_permuted, same_trans}
 use Rattle.dma_mem.proofs.range_set.RangeSet.new.Goals as goal
@@ -26,3 +27,6 @@ coalesce-requires-clause-within c =
 pub returns-clause-same : goal.returns-clause-same
 returns-clause-same c =
     same_trans c.coalesce.new.segments.items (take c.in_ok-ranges.ranges.len (c.sort_by_address.new.segments ++ drop (length c.sort_by_address.new.segments) c.in_ok-ranges.ranges.items)) c.args.segments.now c.coalesce.ensures.same (same_permuted c.args.segments.now _ (sorted (goal.at.returns-clause-same c).After-sort_by_address))
+
+pub coalesce-requires-clause-rising : goal.coalesce-requires-clause-rising
+coalesce-requires-clause-rising c = grind (arith, common_steps)

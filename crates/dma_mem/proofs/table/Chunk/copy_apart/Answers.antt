@@ -1,6 +1,7 @@
 use Rattle.std.proofs.Common.{◌≡◌, ◌∙◌, ◌++◌, ap, arith, drop, length, take}
 use Rattle.std.specs.Prelude.{vec_capacity}
 use Rattle.std.specs.Vec.{with_items}
+use Rattle.std.proofs.lemmas.Grind.{common_steps}
 use Rattle.dma_mem.specs.inner.Blocks.{copied}
 use Rattle.dma_mem.proofs.ImagePut.{length_put}
 use Rattle.dma_mem.proofs.BlankChunks.{length_with_zeros, replaced_all, shown_replaced}
@@ -43,3 +44,6 @@ returns-clause-bytes c =
     let b = c.add_zeros.new.bytes in
     shown_replaced (vec_capacity (with_items b c.copy_bytes_apart.new.all)) b.len c.copy_bytes_apart.new.all b.items (omega arith) (all c) (omega (arith, whole c)) ∙ c.copy_bytes_apart.ensures
     ∙ ap (λ xs. copied xs c.args.from c.args.to c.args.len) (c.deref_mut.ensures.value ∙ c.add_zeros.ensures.bytes ∙ c.self.view_is)
+
+pub returns-clause-len : goal.returns-clause-len
+returns-clause-len c = grind (arith, common_steps)

@@ -1,6 +1,7 @@
 use Rattle.std.proofs.Common.{◌≡◌, ◌∙◌, ◌++◌, ap, arith, drop, length, sym, take}
 use Rattle.std.specs.Prelude.{vec_capacity}
 use Rattle.std.specs.Vec.{with_items}
+use Rattle.std.proofs.lemmas.Grind.{common_steps}
 use Rattle.dma_mem.specs.inner.Blocks.{filled}
 use Rattle.dma_mem.specs.inner.ChunkTable.{blank}
 use Rattle.dma_mem.proofs.ImagePut.{length_put}
@@ -51,3 +52,6 @@ returns-clause-bytes c =
     let b = c.add_zeros.new.bytes in
     shown_replaced (vec_capacity (with_items b c.fill_bytes.new.all)) b.len c.fill_bytes.new.all b.items (omega arith) (all c) (omega (arith, whole c)) ∙ c.fill_bytes.ensures
     ∙ ap (λ xs. filled xs c.args.offset c.args.len c.args.byte) (c.deref_mut.ensures.value ∙ c.add_zeros.ensures.bytes ∙ c.self.view_is)
+
+pub returns-clause-len : goal.returns-clause-len
+returns-clause-len c = grind (arith, common_steps)

@@ -1,6 +1,7 @@
 use Rattle.std.proofs.Common.{◌≡◌, ◌∙◌, ◌++◌, ap, arith, drop, length, take}
 use Rattle.std.specs.Prelude.{vec_capacity}
 use Rattle.std.specs.Vec.{with_items}
+use Rattle.std.proofs.lemmas.Grind.{common_steps}
 use Rattle.dma_mem.specs.Image.{bytes_at, put}
 use Rattle.dma_mem.proofs.ImagePut.{length_put}
 use Rattle.dma_mem.proofs.BlankChunks.{length_with_zeros, replaced_all, shown_replaced}
@@ -37,3 +38,6 @@ returns-clause-bytes c =
     let b = c.add_zeros.new.bytes in
     shown_replaced (vec_capacity (with_items b c.put_parts.new.all)) b.len c.put_parts.new.all b.items (omega arith) (all c) (omega (arith, whole c)) ∙ c.put_parts.ensures
     ∙ ap (λ xs. put xs (bytes_at c.args.offset (c.args.front.now ++ c.args.back.now))) (c.deref_mut.ensures.value ∙ c.add_zeros.ensures.bytes ∙ c.self.view_is)
+
+pub returns-clause-len : goal.returns-clause-len
+returns-clause-len c = grind (arith, common_steps)
