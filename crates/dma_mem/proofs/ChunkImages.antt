@@ -1,12 +1,12 @@
 -- The images that chunks show.
-use Rattle.std.proofs.Common.{◌≡◌, ◌≢◌, ℕ, ◌+◌, ◌-◌, ◌*◌, ◌/◌, ◌%◌, ◌<◌, ◌≤◌, List, [], ◌++◌, length, get_or, take, drop, replicate, Some, None, ap, sym, ◌∙◌, arith, inl, inr}
+use Rattle.std.proofs.Common.{◌≡◌, ◌≢◌, ℕ, ◌+◌, ◌-◌, ◌*◌, ◌/◌, ◌%◌, ◌<◌, ◌≤◌, List, [], ◌++◌, length, get_or, take, drop, replicate, Some, None, ap, refl, sym, ◌∙◌, arith, inl, inr}
 use Rattle.std.specs.Prelude.{unwrap_or, nat_eq}
 use Rattle.std.specs.Map.{lookup}
 use Rattle.std.proofs.lemmas.Bool.{cases_lt, cases_eq}
-use Rattle.std.proofs.lemmas.List.{length-replicate, get_or-replicate, ext_get_or, get_or-take, get_or-drop, length-take, length-drop}
+use Rattle.std.proofs.lemmas.List.{length-replicate, get_or-replicate, ext_get_or, get_or-take, get_or-drop, get_or_append_left, get_or-append_right, length-append, length-take, length-drop}
 use Rattle.std.proofs.lemmas.List.FromFn.{length-map-range_with_len, get_or-map-range_with_len}
 use Rattle.dma_mem.specs.Image.{put, bytes_at}
-use Rattle.dma_mem.specs.inner.ChunkTable.{PutsInChunk, chunk_at, image_of}
+use Rattle.dma_mem.specs.inner.ChunkTable.{AreBytesFrom, PutsInChunk, chunk_at, image_of}
 use Rattle.dma_mem.proofs.ImagePut.{length_put, get_or_put, put_put, put_same, lookup_append}
 use Rattle.dma_mem.proofs.BytesPut.{lookup_bytes_before, lookup_bytes_past, lookup_bytes_at}
 
@@ -122,3 +122,23 @@ read_found size chunks addr n buf e h read =
     let long : length (take n (drop addr image)) ≡ n = omega (arith, length-take n (drop addr image), length-drop addr image, length_image_of size chunks) in
     ext_get_or 0 buf (take n (drop addr image)) (e ∙ sym long) (λ k l.
     read k l ∙ sym (get_or_image_of size chunks (addr + k) (omega arith)) ∙ sym (get_or-take n (drop addr image) k 0 (omega arith) ∙ get_or-drop addr image k 0))
+
+-- ---- bytes from an address on
+
+-- the bytes of a list that shows a chunk, up to the chunk's end at most
+pub part_from : (chunks : List (List ℕ)) (at n : ℕ) (chunk : List ℕ) → ((k : ℕ) → get_or chunk k 0 ≡ get_or (chunk_at chunks (at / 16384)) k 0) → at % 16384 + n ≤ 16384 → AreBytesFrom chunks at (take n (drop (at % 16384) chunk))
+part_from chunks at n chunk shows fits k below =
+    let few : k < n = omega (arith, length-take n (drop (at % 16384) chunk)) in
+    let same : (at + k) / 16384 ≡ at / 16384 = omega arith in
+    let place : (at + k) % 16384 ≡ at % 16384 + k = omega arith in
+    rw (same, place) (get_or-take n (drop (at % 16384) chunk) k 0 few ∙ get_or-drop (at % 16384) chunk k 0 ∙ shows (at % 16384 + k))
+
+-- bytes that go on
+pub bytes_more : (chunks : List (List ℕ)) (start at : ℕ) (front more : List ℕ) → AreBytesFrom chunks start front → at ≡ start + length front → AreBytesFrom chunks at more → AreBytesFrom chunks start (front ++ more)
+bytes_more chunks start at front more begun is next k below = elim (cases_lt k (length front)) [
+  | inl low ↦ get_or_append_left front more 0 k low ∙ begun k low
+  | inr high ↦
+      let place : at + (k - length front) ≡ start + k = omega arith in
+      get_or-append_right front more (length front) k 0 refl high
+      ∙ rw (← place) (next (k - length front) (omega (arith, length-append front more)))
+]
