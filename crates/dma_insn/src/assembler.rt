@@ -37,7 +37,7 @@ pub enum AsmFault {
     /// With this line the program would be longer than 8,192 bytes.
     #[error("line {0}: the program is longer than {max} bytes", max = MAX_PROGRAM_BYTES)]
     ProgramTooLong(usize),
-    #[error("no memory")]
+    #[error("out of memory")]
     NoMemory,
 }
 

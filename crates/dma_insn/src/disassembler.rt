@@ -18,7 +18,7 @@ use thiserror::Error;
 pub enum DisFault {
     #[error("offset {offset}: {fault}")]
     Decode { offset: usize, fault: DecodeFault },
-    #[error("no memory")]
+    #[error("out of memory")]
     NoMemory,
 }
 

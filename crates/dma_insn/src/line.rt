@@ -213,18 +213,17 @@ fn times(number: u16) -> Result<Times, AsmCause>
 fn back(number: u16) -> Result<u8, AsmCause>
     ensures { result ≡ back_at number }
 {
-    u8::try_from(number).map_err(|_| AsmCause::Range)
+    u8::try_from(number).or(Err(AsmCause::Range))
 }
 
 // Returns the event of a number. Fails with `Range` above 31.
 fn event(number: u16) -> Result<Event, AsmCause>
     ensures { result ≡ event_at number }
 {
-    if number <= 31 {
-        Ok(Event::of_number(number as u8))
-    } else {
-        Err(AsmCause::Range)
-    }
+    u8::try_from(number)
+        .ok()
+        .and_then(Event::new)
+        .ok_or(AsmCause::Range)
 }
 
 // Returns the two decimal numbers that are left. Fails with `Operand` for any other words.

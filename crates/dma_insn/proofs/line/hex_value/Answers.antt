@@ -1,5 +1,6 @@
 use Rattle.std.proofs.Common.{ℕ, ◌<◌, ◌≤◌, ◌+◌, ◌*◌, ◌^◌, arith}
 use Rattle.std.proofs.Math.Nat.{pow-le-pow_right}
+use Rattle.std.proofs.lemmas.Grind.{common_steps}
 use Rattle.dma_insn.proofs.line.hex_value.Goals as goal
 
 -- one more digit after at most seven
@@ -15,3 +16,6 @@ overflow_mul-value c =
 pub overflow_add-value : goal.overflow_add-value
 overflow_add-value c =
     omega (arith, digit_fits c.loop-byte.value c.loop-byte.byte-index (omega arith) c.loop-byte.invariant.small, c.in_ok-value.ensures.range)
+
+pub loop-byte-preserved : goal.loop-byte-preserved
+loop-byte-preserved c = grind (arith, common_steps)
