@@ -1,5 +1,5 @@
 -- Chunks in groups.
-use Rattle.std.proofs.Common.{◌≡◌, ◌≢◌, ℕ, ◌+◌, ◌*◌, ◌/◌, ◌%◌, ◌<◌, ◌≤◌, List, [], length, get_or, replicate, set, ap, sym, ◌∙◌, arith, inl, inr}
+use Rattle.std.proofs.Common.{◌≡◌, ◌≢◌, ℕ, zero, suc, ◌+◌, ◌*◌, ◌/◌, ◌%◌, ◌<◌, ◌≤◌, List, [], ◌∷◌, ◌++◌, length, get_or, replicate, set, ap, refl, sym, ◌∙◌, arith, inl, inr}
 use Rattle.std.proofs.lemmas.Bool.{cases_lt, cases_eq}
 use Rattle.std.proofs.lemmas.List.{ext_get_or, length-set, get_or-set_same, get_or-set_other, get_or_past, get_or_default, length-replicate, get_or-replicate}
 use Rattle.std.proofs.lemmas.List.FromFn.{length-map-range_with_len, get_or-map-range_with_len}
@@ -91,3 +91,10 @@ others_kept groups chunks n group new v is h e p other =
       | inl same ↦ chunk_at_flat_same groups (n / 256) p new h same ∙ e (p % 256) (λ q. other (same_place p n same q)) ∙ chunk_found groups chunks n p group v is h same
       | inr o ↦ chunk_at_flat_other groups (n / 256) p new o ∙ ap (λ x. chunk_at x p) v
     ]
+
+-- one more empty list
+pub none_more : {A : Type 0} → (lists : List (List A)) (more : List A) → more ≡ [] → ((p : ℕ) → get_or lists p [] ≡ []) → (p : ℕ) → get_or (lists ++ more ∷ []) p [] ≡ []
+none_more [] more is none zero = is
+none_more [] more is none (suc p) = refl
+none_more (list ∷ lists) more is none zero = none 0
+none_more (list ∷ lists) more is none (suc p) = none_more lists more is (λ q. none (suc q)) p

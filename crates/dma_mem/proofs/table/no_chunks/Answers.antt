@@ -1,6 +1,10 @@
-use Rattle.std.proofs.Common.{arith}
-use Rattle.std.proofs.lemmas.Grind.{common_steps}
+use Rattle.std.proofs.Common.{ℕ, List, ap, arith, length}
+use Rattle.std.proofs.lemmas.List.{length-append}
+use Rattle.dma_mem.proofs.ChunkTables.{none_more}
 use Rattle.dma_mem.proofs.table.no_chunks.Goals as goal
 
 pub loop-chunk-preserved : goal.loop-chunk-preserved
-loop-chunk-preserved c = grind (arith, common_steps)
+loop-chunk-preserved c = record {
+  long = omega (arith, ap length c.in_ok-push.ensures.items, length-append {A = List ℕ});
+  none = λ p. rw c.in_ok-push.ensures.items (none_more _ c.new.result c.new.ensures c.loop-chunk.invariant.none p);
+}
