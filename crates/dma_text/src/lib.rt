@@ -2,9 +2,10 @@
 //!
 //! Proved: the first position of a byte (`position_of`), the value of a digit in a base of at most 36 (`digit_value`),
 //! and what a text appends (`Text`): words, numbers in decimal digits, bytes and addresses in hexadecimal ones, and two
-//! to four texts in a row.
+//! to four texts in a row. `Progress` has no contract: it receives reports of long calls.
 #![tactic(auto)]
 
 pub mod bytes;
 pub mod digits;
+pub mod progress;
 pub mod text;
