@@ -2,6 +2,6 @@
 
 /// Receives reports of how far a call has come. No result depends on what it does with them.
 pub trait Progress {
-    /// `done` instructions, or whatever the call counts, are done.
-    fn report(&mut self, done: u32);
+    /// `done` things of a kind, such as instructions, are done so far.
+    fn report(&mut self, done: u64, kind: &str);
 }
