@@ -1,5 +1,6 @@
 -- Statements as they are kept.
-use Rattle.std.proofs.Common.{◌≡◌, ℕ, List, [], ◌∷◌, ◌++◌, refl, ap, subst, append-nil}
+use Rattle.std.proofs.Common.{◌≡◌, ℕ, ◌≤◌, ◌-◌, List, [], ◌∷◌, ◌++◌, length, take, drop, get_or, refl, ap, sym, ◌∙◌, subst, append-nil, arith}
+use Rattle.std.proofs.lemmas.List.{take_rest}
 use Rattle.dma_mem.specs.declared.call.Call.TheVariants as calls
 use Rattle.dma_script.specs.declared.queue.Line.{Line}
 use Rattle.dma_script.specs.declared.queue.Line.TheVariants as lines
@@ -69,3 +70,15 @@ long_added rest bytes long other whole =
 pub long_whole : (rest : List Line) (bytes : List (List ℕ)) (long : List Statement) (other : Statement) → IsWhole rest bytes long → IsWhole (rest ++ lines.Long ∷ []) bytes (long ++ other ∷ [])
 long_whole rest bytes long other whole =
     subst (λ b. IsWhole (rest ++ lines.Long ∷ []) b (long ++ other ∷ [])) (append-nil bytes) (whole_added rest bytes long lines.Long [] (other ∷ []) whole tt)
+
+-- ---- the first line
+
+-- Several lines are the first and those behind it.
+first_kept : (rest : List Line) (line other : Line) → 1 ≤ length rest → get_or rest 0 other ≡ line → rest ≡ line ∷ take (length rest - 1) (drop 1 rest)
+first_kept [] line other some is = absurd (omega arith)
+first_kept (a ∷ rest) line other some is = rw (is, take_rest (a ∷ rest) 1) refl
+
+-- The statement of the first line, and those of the lines behind it.
+pub first_statement : (rest : List Line) (bytes : List (List ℕ)) (long all : List Statement) (line other : Line) (first : Statement) → statements_in rest bytes long ≡ all → 1 ≤ length rest → get_or rest 0 other ≡ line
+    → ((behind : List Line) → statements_in (line ∷ behind) bytes long ≡ first ∷ statements_in behind bytes long) → all ≡ first ∷ statements_in (take (length rest - 1) (drop 1 rest)) bytes long
+first_statement rest bytes long all line other first whole some is begins = sym whole ∙ ap (λ kept. statements_in kept bytes long) (first_kept rest line other some is) ∙ begins (take (length rest - 1) (drop 1 rest))
