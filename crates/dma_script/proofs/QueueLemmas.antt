@@ -1,5 +1,6 @@
 -- Statements as they are kept.
 use Rattle.std.proofs.Common.{◌≡◌, ℕ, ◌≤◌, ◌-◌, List, [], ◌∷◌, ◌++◌, length, take, drop, get_or, refl, ap, sym, ◌∙◌, subst, append-nil, arith}
+use Rattle.std.specs.List.{All}
 use Rattle.std.proofs.lemmas.List.{take_rest}
 use Rattle.dma_mem.specs.declared.call.Call.TheVariants as calls
 use Rattle.dma_script.specs.declared.queue.Line.{Line}
@@ -82,3 +83,11 @@ first_kept (a ∷ rest) line other some is = rw (is, take_rest (a ∷ rest) 1) r
 pub first_statement : (rest : List Line) (bytes : List (List ℕ)) (long all : List Statement) (line other : Line) (first : Statement) → statements_in rest bytes long ≡ all → 1 ≤ length rest → get_or rest 0 other ≡ line
     → ((behind : List Line) → statements_in (line ∷ behind) bytes long ≡ first ∷ statements_in behind bytes long) → all ≡ first ∷ statements_in (take (length rest - 1) (drop 1 rest)) bytes long
 first_statement rest bytes long all line other first whole some is begins = sym whole ∙ ap (λ kept. statements_in kept bytes long) (first_kept rest line other some is) ∙ begins (take (length rest - 1) (drop 1 rest))
+
+-- The first line of whole ones, and those behind it.
+pub first_whole : (rest : List Line) (bytes : List (List ℕ)) (long : List Statement) (line other : Line) → IsWhole rest bytes long → 1 ≤ length rest → get_or rest 0 other ≡ line → IsWhole (line ∷ take (length rest - 1) (drop 1 rest)) bytes long
+first_whole rest bytes long line other whole some is = subst (λ kept. IsWhole kept bytes long) (first_kept rest line other some is) whole
+
+-- What holds of all statements holds of the first.
+pub first_holds : (P : Statement → Type 0) (all behind : List Statement) (first : Statement) → All P all → all ≡ first ∷ behind → P first
+first_holds P all behind first each split = subst (All P) split each 0 first (omega arith)
