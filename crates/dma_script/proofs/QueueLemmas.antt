@@ -91,3 +91,25 @@ first_whole rest bytes long line other whole some is = subst (λ kept. IsWhole k
 -- What holds of all statements holds of the first.
 pub first_holds : (P : Statement → Type 0) (all behind : List Statement) (first : Statement) → All P all → all ≡ first ∷ behind → P first
 first_holds P all behind first each split = subst (All P) split each 0 first (omega arith)
+
+-- A `write` line first, whose bytes are the first.
+pub write_statement : (rest : List Line) (bytes more : List (List ℕ)) (long all : List Statement) (addr : ℕ) (first : List ℕ) (other : Line) → statements_in rest bytes long ≡ all → 1 ≤ length rest → get_or rest 0 other ≡ lines.Write addr → bytes ≡ first ∷ more
+    → all ≡ statements.Call (calls.Write addr first) ∷ statements_in (take (length rest - 1) (drop 1 rest)) more long
+write_statement rest bytes more long all addr first other whole some is begins =
+    sym whole ∙ ap (λ kept. statements_in kept bytes long) (first_kept rest (lines.Write addr) other some is) ∙ ap (λ kept. statements_in (lines.Write addr ∷ take (length rest - 1) (drop 1 rest)) kept long) begins
+
+pub write_kept : (rest : List Line) (bytes more : List (List ℕ)) (long : List Statement) (addr : ℕ) (first : List ℕ) (other : Line) → IsWhole rest bytes long → 1 ≤ length rest → get_or rest 0 other ≡ lines.Write addr → bytes ≡ first ∷ more
+    → IsWhole (take (length rest - 1) (drop 1 rest)) more long
+write_kept rest bytes more long addr first other whole some is begins =
+    subst (λ kept. IsWhole (lines.Write addr ∷ take (length rest - 1) (drop 1 rest)) kept long) begins (first_whole rest bytes long (lines.Write addr) other whole some is)
+
+-- A statement of another list first.
+pub long_statement : (rest : List Line) (bytes : List (List ℕ)) (long more all : List Statement) (first : Statement) (other : Line) → statements_in rest bytes long ≡ all → 1 ≤ length rest → get_or rest 0 other ≡ lines.Long → long ≡ first ∷ more
+    → all ≡ first ∷ statements_in (take (length rest - 1) (drop 1 rest)) bytes more
+long_statement rest bytes long more all first other whole some is begins =
+    sym whole ∙ ap (λ kept. statements_in kept bytes long) (first_kept rest lines.Long other some is) ∙ ap (statements_in (lines.Long ∷ take (length rest - 1) (drop 1 rest)) bytes) begins
+
+pub long_kept : (rest : List Line) (bytes : List (List ℕ)) (long more : List Statement) (first : Statement) (other : Line) → IsWhole rest bytes long → 1 ≤ length rest → get_or rest 0 other ≡ lines.Long → long ≡ first ∷ more
+    → IsWhole (take (length rest - 1) (drop 1 rest)) bytes more
+long_kept rest bytes long more first other whole some is begins =
+    subst (IsWhole (lines.Long ∷ take (length rest - 1) (drop 1 rest)) bytes) begins (first_whole rest bytes long lines.Long other whole some is)

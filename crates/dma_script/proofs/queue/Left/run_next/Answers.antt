@@ -1,5 +1,5 @@
 use Rattle.std.proofs.Common.{refl}
-use Rattle.dma_script.proofs.QueueLemmas.{first_holds, first_statement, first_whole}
+use Rattle.dma_script.proofs.QueueLemmas.{first_holds, first_statement, first_whole, long_kept, long_statement, write_kept, write_statement}
 use Rattle.dma_script.proofs.queue.Left.run_next.Goals as goal
 
 pub interpret-requires-in-Read-clause-taken : goal.interpret-requires-in-Read-clause-taken
@@ -97,3 +97,27 @@ pub returns-in-Result-clause-some : goal.returns-in-Result-clause-some
 returns-in-Result-clause-some g c =
     let ran = c.interpret-in-Result.ensures in
     record { first = _; split = first_statement _ _ _ _ _ _ _ c.self.view_is c.in-len1-up.len_at_least c.in-Result.is (λ behind. refl); printed = ran.ok; ready = ran.ready_again; refused = ran.refused; kept = ran.err }
+
+pub interpret-requires-clause-taken : goal.interpret-requires-clause-taken
+interpret-requires-clause-taken g c =
+    first_holds g.I.Interpreter.takes _ _ _ c.requires.taken (write_statement _ _ _ _ _ _ _ _ c.self.view_is c.in-len1-up.len_at_least c.in-Write.is c.in-Some.ensures.items)
+
+pub invariant_of-self : goal.invariant_of-self
+invariant_of-self g c = write_kept _ _ _ _ _ _ _ c.self.invariant c.in-len1-up.len_at_least c.in-Write.is c.in-Some.ensures.items
+
+pub returns-in-Some-clause-some : goal.returns-in-Some-clause-some
+returns-in-Some-clause-some g c =
+    let ran = c.interpret.ensures in
+    record { first = _; split = write_statement _ _ _ _ _ _ _ _ c.self.view_is c.in-len1-up.len_at_least c.in-Write.is c.in-Some.ensures.items; printed = ran.ok; ready = ran.ready_again; refused = ran.refused; kept = ran.err }
+
+pub interpret-requires-in-Some-next-clause-taken : goal.interpret-requires-in-Some-next-clause-taken
+interpret-requires-in-Some-next-clause-taken g c =
+    first_holds g.I.Interpreter.takes _ _ _ c.requires.taken (long_statement _ _ _ _ _ _ _ c.self.view_is c.in-len1-up.len_at_least c.in-Long.is c.in-Some-next.ensures.items)
+
+pub invariant_of-self-in-Long : goal.invariant_of-self-in-Long
+invariant_of-self-in-Long g c = long_kept _ _ _ _ _ _ c.self.invariant c.in-len1-up.len_at_least c.in-Long.is c.in-Some-next.ensures.items
+
+pub returns-in-Some-next-clause-some : goal.returns-in-Some-next-clause-some
+returns-in-Some-next-clause-some g c =
+    let ran = c.interpret-in-Some-next.ensures in
+    record { first = _; split = long_statement _ _ _ _ _ _ _ c.self.view_is c.in-len1-up.len_at_least c.in-Long.is c.in-Some-next.ensures.items; printed = ran.ok; ready = ran.ready_again; refused = ran.refused; kept = ran.err }
