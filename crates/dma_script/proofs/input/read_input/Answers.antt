@@ -1,4 +1,5 @@
 use Rattle.std.proofs.Common.{arith}
+use Rattle.std.proofs.lemmas.Grind.{common_steps}
 use Rattle.dma_script.proofs.input.read_input.Goals as goal
 
 pub returns-in_default-clause-reads : goal.returns-in_default-clause-reads
@@ -24,3 +25,12 @@ returns-then-is_err-clause-unfailed g c = λ _ failed. c.loop-turn.invariant.unf
 
 pub returns-then-len-gt-LONGEST_INPUT-clause-unfailed : goal.returns-then-len-gt-LONGEST_INPUT-clause-unfailed
 returns-then-len-gt-LONGEST_INPUT-clause-unfailed g c = λ _ failed. c.loop-turn.invariant.unfailed (c.in-Ok.ensures.no_fault failed)
+
+pub loop-turn-preserved : goal.loop-turn-preserved
+loop-turn-preserved g c = record {
+  turns = grind (arith, common_steps);
+  within = omega (arith, c.len.ensures);
+  front = grind (arith, common_steps);
+  unfailed = λ failed. c.loop-turn.invariant.unfailed (c.in-Ok.ensures.no_fault failed);
+  reads = omega (arith, c.fetch.ensures.counted, c.loop-turn.invariant.reads);
+}
