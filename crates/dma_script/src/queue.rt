@@ -1,5 +1,5 @@
 //! The statements of a script, kept in little memory: most lines take 12 bytes.
-ghost use Rattle.std.specs.Prelude.{◌≡◌, ◌++◌, ◌∷◌, [], IfErr, IfOk, IfSome, IsNone, OnErr, OnOk};
+ghost use Rattle.std.specs.Prelude.{◌≡◌, ◌++◌, ◌∷◌, [], IfSome, IsNone, OnErr, OnOk};
 ghost use Rattle.std.specs.List.{All};
 ghost use Rattle.dma_script.specs.Interpreted.{PrintsLines, StopsAtALine};
 ghost use Rattle.dma_script.specs.inner.Queued.{IsWhole, RunsFirst, statements_in};
