@@ -180,7 +180,7 @@ number_none stop w n other is = elim (starts_with nat_eq w (48 ∷ 120 ∷ [])) 
 ] refl
 
 -- The number of a word that has no separator.
-abbrev alone : Option (ℕ × Option (List ℕ)) → Option ℕ
+abbrev pub alone : Option (ℕ × Option (List ℕ)) → Option ℕ
 alone read = option_and_then (λ r. elim r.1 as (λ _. Option ℕ) [ None ↦ Some r.0 | Some rest ↦ None ]) read
 
 read_alone : (w : List ℕ) → number_of w ≡ alone (read_before 43 w)
@@ -192,8 +192,8 @@ read_alone w = elim (behind 43 w) as (λ o. behind 43 w ≡ o → number_of w �
   ] refl
 ] refl
 
-pub number_alone : (w : List ℕ) → number_of w ≡ alone (number_before 43 w)
-number_alone w = read_alone w ∙ ap alone (sym (number_is 43 w refl))
+pub number_read : (w : List ℕ) (read : Option (ℕ × Option (List ℕ))) → read ≡ number_before 43 w → alone read ≡ number_of w
+number_read w read e = ap alone (e ∙ number_is 43 w refl) ∙ sym (read_alone w)
 
 -- ---- one segment
 
@@ -239,8 +239,12 @@ read_segment w = elim (behind 43 w) as (λ o. behind 43 w ≡ o → segment_of w
       segment_found w rest at.place (first_at 43 w at.place at.within at.here at.none) e (front_at 43 w at.place at.within at.here at.none) at.is
 ] refl
 
-pub segment_is : (w : List ℕ) → segment_of w ≡ from_number (number_before 43 w)
-segment_is w = read_segment w ∙ ap from_number (sym (number_is 43 w refl))
+pub segment_read : (w : List ℕ) (read : Option (ℕ × Option (List ℕ))) → read ≡ number_before 43 w → from_number read ≡ segment_of w
+segment_read w read e = ap from_number (e ∙ number_is 43 w refl) ∙ sym (read_segment w)
+
+-- A segment by its two numbers.
+pub segment_by_numbers : (w rest : List ℕ) (addr : ℕ) (len : Option ℕ) → Some (addr, Some rest) ≡ number_before 43 w → len ≡ number_of rest → option_map (λ len. record { addr = addr; len = len }) len ≡ segment_of w
+segment_by_numbers w rest addr len e f = ap (option_map {U = Segment} (λ len. record { addr = addr; len = len })) f ∙ segment_read w (Some (addr, Some rest)) e
 
 -- ---- lists
 
@@ -301,8 +305,14 @@ read_parts w = elim (number_of (front 43 w)) as (λ o. number_of (front 43 w) �
       ])
 ] refl
 
-pub segment_parts : (w : List ℕ) → segment_before w ≡ from_parts (number_before 43 w)
-segment_parts w = read_parts w ∙ ap from_parts (sym (number_is 43 w refl))
+pub parts_read : (w : List ℕ) (read : Option (ℕ × Option (List ℕ))) → read ≡ number_before 43 w → from_parts read ≡ segment_before w
+parts_read w read e = ap from_parts (e ∙ number_is 43 w refl) ∙ sym (read_parts w)
+
+-- A segment of a list by its two numbers.
+pub parts_by_numbers : (w rest : List ℕ) (addr : ℕ) (len : Option (ℕ × Option (List ℕ))) → Some (addr, Some rest) ≡ number_before 43 w → len ≡ number_before 44 rest
+    → option_map {U = Segment × Option (List ℕ)} (λ l. (record { addr = addr; len = l.0 }, l.1)) len ≡ segment_before w
+parts_by_numbers w rest addr len e f =
+    ap (option_map {U = Segment × Option (List ℕ)} (λ l. (record { addr = addr; len = l.0 }, l.1))) f ∙ parts_read w (Some (addr, Some rest)) e
 
 -- The parts of a list after its first.
 abbrev parts_behind : Option (List ℕ) → List (List ℕ)

@@ -1,5 +1,5 @@
 //! The statements of a script, kept in little memory: most lines take 12 bytes.
-ghost use Rattle.std.specs.Prelude.{◌≡◌, ◌++◌, ◌∷◌, [], IfErr, IfOk, IfSome, IsNone, OnErr, OnOk};
+ghost use Rattle.std.specs.Prelude.{◌≡◌, ◌++◌, ◌∷◌, [], IfSome, IsNone, OnErr, OnOk};
 ghost use Rattle.std.specs.List.{All};
 ghost use Rattle.dma_script.specs.Interpreted.{PrintsLines, StopsAtALine};
 ghost use Rattle.dma_script.specs.inner.Queued.{IsWhole, RunsFirst, statements_in};
@@ -57,23 +57,34 @@ impl Model for Statements {
     ghost invariant = { λ s. IsWhole s.lines.items s.bytes.items s.long.items };
 }
 
-/// Returns the line of a statement that needs no other list, or any other statement unchanged.
+/// Returns the line of a statement that needs no other list, or `None` for any other statement.
 #[inline(always)]
-fn short_line(statement: Statement) -> Result<Line, Statement>
-    ensures ok { IfOk result (λ line. statements_in (line ∷ []) [] [] ≡ statement ∷ []) }
-    ensures whole { IfOk result (λ line. IsWhole (line ∷ []) [] []) }
-    ensures err { IfErr result (λ other. other ≡ statement) }
+fn short_line(statement: &Statement) -> Option<Line>
+    ensures is { IfSome result (λ line. statements_in (line ∷ []) [] [] ≡ statement.now ∷ []) }
+    ensures whole { IfSome result (λ line. IsWhole (line ∷ []) [] []) }
 {
     match statement {
-        Statement::Call(Call::Read { addr, len }) => Ok(Line::Read { addr, len }),
-        Statement::Call(Call::Issue { ch }) => Ok(Line::Issue { ch }),
-        Statement::Call(Call::Pause { ch }) => Ok(Line::Pause { ch }),
-        Statement::Call(Call::Resume { ch }) => Ok(Line::Resume { ch }),
-        Statement::Call(Call::Terminate { ch }) => Ok(Line::Terminate { ch }),
-        Statement::Step { ch, count } => Ok(Line::Step { ch, count }),
-        Statement::Call(Call::Status { ch, cookie }) => Ok(Line::Status { ch, cookie }),
-        Statement::Call(Call::Result { ch, cookie }) => Ok(Line::Result { ch, cookie }),
-        other => Err(other),
+        Statement::Call(Call::Read { addr, len }) => Some(Line::Read {
+            addr: *addr,
+            len: *len,
+        }),
+        Statement::Call(Call::Issue { ch }) => Some(Line::Issue { ch: *ch }),
+        Statement::Call(Call::Pause { ch }) => Some(Line::Pause { ch: *ch }),
+        Statement::Call(Call::Resume { ch }) => Some(Line::Resume { ch: *ch }),
+        Statement::Call(Call::Terminate { ch }) => Some(Line::Terminate { ch: *ch }),
+        Statement::Step { ch, count } => Some(Line::Step {
+            ch: *ch,
+            count: *count,
+        }),
+        Statement::Call(Call::Status { ch, cookie }) => Some(Line::Status {
+            ch: *ch,
+            cookie: *cookie,
+        }),
+        Statement::Call(Call::Result { ch, cookie }) => Some(Line::Result {
+            ch: *ch,
+            cookie: *cookie,
+        }),
+        _ => None,
     }
 }
 
@@ -104,13 +115,12 @@ impl Statements {
         ensures { OnOk result (self.new ≡ self.old ++ statement ∷ []) }
     {
         self.lines.reserve(1)?;
-        match short_line(statement) {
-            Ok(line) => self.lines.push_reserved(line),
-            Err(long) => {
-                self.long.push(long)?;
-                self.lines.push_reserved(Line::Long);
-            }
+        if let Some(line) = short_line(&statement) {
+            self.lines.push_reserved(line);
+            return Ok(());
         }
+        self.long.push(statement)?;
+        self.lines.push_reserved(Line::Long);
         Ok(())
     }
 

@@ -206,19 +206,17 @@ fn number_before(stop: u8, word: &[u8]) -> Option<(u32, Option<&[u8]>)>
 }
 
 /// Returns the number that a word spells, or `None` for any other word.
-#[tactic(auto, using(crate::proofs::SegmentLemmas::number_alone))]
 pub fn number(word: &[u8]) -> Option<u32>
     ensures { result ≡ number_of word.now }
 {
     match number_before(b'+', word)? {
         (number, None) => Some(number),
-        _ => None,
+        (_, Some(_)) => None,
     }
 }
 
 /// Returns the segment (an address, a plus and a length) before the first comma, and what follows the comma, if there
 /// is one. Returns `None` if there is no segment.
-#[tactic(auto, using(crate::proofs::SegmentLemmas::segment_parts))]
 pub(crate) fn segment_before(list: &[u8]) -> Option<(Segment, Option<&[u8]>)>
     ensures { option_map (λ r. (r.0, option_map (λ rest. rest.now) r.1)) result
         ≡ segment_before list.now }
@@ -229,7 +227,6 @@ pub(crate) fn segment_before(list: &[u8]) -> Option<(Segment, Option<&[u8]>)>
 }
 
 /// Returns the segment that a word spells, or `None` for any other word.
-#[tactic(auto, using(crate::proofs::SegmentLemmas::segment_is))]
 pub fn segment_in(word: &[u8]) -> Option<Segment>
     ensures { result ≡ segment_of word.now }
 {

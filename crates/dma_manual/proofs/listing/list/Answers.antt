@@ -1,5 +1,5 @@
 use Rattle.std.proofs.Common.{arith, sym, ◌∙◌}
-use Rattle.dma_text.proofs.Begun.{begins_more}
+use Rattle.dma_text.proofs.Begun.{begins_more, begins_same}
 use Rattle.dma_manual.proofs.Listings.{listed_step}
 use Rattle.dma_manual.proofs.listing.list.Goals as goal
 
@@ -17,3 +17,45 @@ loop-rest-preserved c =
       err = c.loop-rest.invariant.err;
       begins = begins_more _ _ _ (begins_more _ _ _ c.loop-rest.invariant.begins c.push_line.ensures.begins) c.push_label.ensures.begins;
     }
+
+pub returns-in_err-push_line-in-Ok-clause-out_begins : goal.returns-in_err-push_line-in-Ok-clause-out_begins
+returns-in_err-push_line-in-Ok-clause-out_begins c = begins_more _ _ _ c.loop-rest.invariant.begins c.push_line.ensures.begins
+
+pub returns-in_err-push_line-in-Ok-clause-err_begins : goal.returns-in_err-push_line-in-Ok-clause-err_begins
+returns-in_err-push_line-in-Ok-clause-err_begins c = begins_same _ _ c.loop-rest.invariant.err
+
+pub returns-in_err-push_rest-in-Ok-clause-out_begins : goal.returns-in_err-push_rest-in-Ok-clause-out_begins
+returns-in_err-push_rest-in-Ok-clause-out_begins c = begins_more _ _ _ (begins_more _ _ _ c.loop-rest.invariant.begins c.push_line.ensures.begins) c.push_rest.ensures.begins
+
+pub returns-in_err-push_rest-in-Ok-clause-err_begins : goal.returns-in_err-push_rest-in-Ok-clause-err_begins
+returns-in_err-push_rest-in-Ok-clause-err_begins c = begins_same _ _ c.loop-rest.invariant.err
+
+pub returns-in_err-push_label-in-Ok-clause-out_begins : goal.returns-in_err-push_label-in-Ok-clause-out_begins
+returns-in_err-push_label-in-Ok-clause-out_begins c = begins_more _ _ _ (begins_more _ _ _ c.loop-rest.invariant.begins c.push_line.ensures.begins) c.push_label.ensures.begins
+
+pub returns-in_err-push_label-in-Ok-clause-err_begins : goal.returns-in_err-push_label-in-Ok-clause-err_begins
+returns-in_err-push_label-in-Ok-clause-err_begins c = begins_same _ _ c.loop-rest.invariant.err
+
+pub returns-then-is_end-clause-out_begins : goal.returns-then-is_end-clause-out_begins
+returns-then-is_end-clause-out_begins c = begins_more _ _ _ (begins_more _ _ _ c.loop-rest.invariant.begins c.push_line.ensures.begins) c.push_rest.ensures.begins
+
+pub returns-then-is_end-clause-err_begins : goal.returns-then-is_end-clause-err_begins
+returns-then-is_end-clause-err_begins c = begins_same _ _ c.loop-rest.invariant.err
+
+pub returns-in_err-push_stop-in-Err-clause-out_begins : goal.returns-in_err-push_stop-in-Err-clause-out_begins
+returns-in_err-push_stop-in-Err-clause-out_begins c = c.loop-rest.invariant.begins
+
+pub returns-in_err-push_stop-in-Err-clause-err_begins : goal.returns-in_err-push_stop-in-Err-clause-err_begins
+returns-in_err-push_stop-in-Err-clause-err_begins c = begins_more _ _ _ (begins_same _ _ c.loop-rest.invariant.err) c.push_stop.ensures.begins
+
+pub returns-in-Err-clause-out_begins : goal.returns-in-Err-clause-out_begins
+returns-in-Err-clause-out_begins c = c.loop-rest.invariant.begins
+
+pub returns-in-Err-clause-err_begins : goal.returns-in-Err-clause-err_begins
+returns-in-Err-clause-err_begins c = begins_more _ _ _ (begins_same _ _ c.loop-rest.invariant.err) c.push_stop.ensures.begins
+
+pub returns-clause-out_begins : goal.returns-clause-out_begins
+returns-clause-out_begins c = c.loop-rest.invariant.begins
+
+pub returns-clause-err_begins : goal.returns-clause-err_begins
+returns-clause-err_begins c = begins_same _ _ c.loop-rest.invariant.err

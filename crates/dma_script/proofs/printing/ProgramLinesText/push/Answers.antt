@@ -1,4 +1,5 @@
 use Rattle.std.proofs.Common.{◌≡◌, ◌∷◌, [], ◌+◌, ◌*◌, ◌++◌, ◌∙◌, min, length, drop, sym, ap, refl, append_assoc, length-drop, arith, rules}
+use Rattle.dma_text.proofs.Begun.{begins_appended, begins_more}
 use Rattle.dma_script.specs.Command.{text_of}
 use Rattle.dma_script.specs.Printing.{row_line}
 use Rattle.dma_script.proofs.RowLemmas.{first_row, rest_after, front_text, front_text_more}
@@ -25,3 +26,11 @@ loop-row-preserved c =
         c.in_ok-push_row.ensures.ok ∙ ap (λ l. l ++ text_of (row_line row ∷ [])) text ∙ append_assoc old (front_text bytes count) _ ∙ ap (λ l. old ++ l) more,
       ),
     )
+
+pub returns-in_err-push_row-clause-begins : goal.returns-in_err-push_row-clause-begins
+returns-in_err-push_row-clause-begins c =
+    let (count, high, left, text) = c.loop-row.invariant.3 in
+    begins_more _ _ _ (begins_appended _ _ _ text) c.push_row.ensures.begins
+
+pub returns-clause-begins : goal.returns-clause-begins
+returns-clause-begins c = let (count, high, left, text) = c.loop-row.invariant.3 in begins_appended _ _ _ text
