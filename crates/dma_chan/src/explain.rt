@@ -12,6 +12,7 @@ mod tracer;
 mod turns;
 
 use crate::bus::Bus;
+use crate::explain::counts::LastLoop;
 use crate::explain::ranges::overlap;
 use crate::explain::tracer::Tracer;
 use crate::next::Next;
@@ -167,6 +168,7 @@ pub fn explain(alloc: Global, bus: Bus, program: &[u8], most: u32) -> Result<Exp
         });
     }
     let mut tracer = Tracer::new(alloc, bus);
+    let mut last = LastLoop::none();
     let mut steps = 0;
     while steps < most {
         let pc = tracer.registers.pc;
@@ -186,7 +188,7 @@ pub fn explain(alloc: Global, bus: Bus, program: &[u8], most: u32) -> Result<Exp
                 Err(cause) => Err(Unexplained { cause, pc, steps }),
             };
         }
-        match tracer.run(program, next, most - steps) {
+        match tracer.run(program, next, most - steps, &mut last) {
             Ok(count) => steps += count,
             Err(cause) => {
                 return Err(Unexplained { cause, pc, steps });
