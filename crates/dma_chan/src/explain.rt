@@ -148,9 +148,9 @@ fn finish(alloc: Global, tracer: Tracer, steps: u32) -> Result<Explained, Cause>
 /// Explains a program on a bus: runs it without memory for at most `most` instructions, and returns what it copies, or
 /// why and where no copy explains it.
 ///
-/// It takes a few nanoseconds for each instruction that is executed, so `most` also bounds its time. Long loops of DMALD,
-/// DMAST, DMARMB, DMAWMB and DMANOP take less than a tenth of that, if the addresses of each turn continue those of
-/// the turn before: many turns are one step. It allocates 16 bytes for each DMASEV and DMAWFE that is executed, 12
+/// It takes a few nanoseconds for each instruction that is executed, so `most` also bounds its time. Long loops of
+/// DMALD, DMAST, DMARMB, DMAWMB and DMANOP take less than a tenth of that, if the addresses of each turn continue those
+/// of the turn before: many turns are one step. It allocates 16 bytes for each DMASEV and DMAWFE that is executed, 12
 /// bytes for each load whose range doesn't continue or repeat the one before, and 16 bytes for each store whose range
 /// doesn't continue the one before; a list that grows takes up to three times as much for a moment.
 pub fn explain(alloc: Global, bus: Bus, program: &[u8], most: u32) -> Result<Explained, Unexplained>
