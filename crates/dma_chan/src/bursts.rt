@@ -32,7 +32,7 @@ const MAX_BEATS: usize = 16;
 
 /// One burst: its first address, whether its addresses rise from beat to beat, the bytes of a beat, the number of
 /// beats, and how many bytes the first beat leaves out.
-#[derive(Clone, Copy, PartialEq, Eq, Debug)]
+#[derive(Clone, Copy)]
 pub struct Burst {
     pub addr: u32,
     pub increments: bool,

@@ -12,6 +12,7 @@ mod tracer;
 mod turns;
 
 use crate::bus::Bus;
+use crate::explain::counts::LastLoop;
 use crate::explain::ranges::overlap;
 use crate::explain::tracer::Tracer;
 use crate::next::Next;
@@ -147,9 +148,9 @@ fn finish(alloc: Global, tracer: Tracer, steps: u32) -> Result<Explained, Cause>
 /// Explains a program on a bus: runs it without memory for at most `most` instructions, and returns what it copies, or
 /// why and where no copy explains it.
 ///
-/// It takes 6 to 10 ns for each instruction that is executed, so `most` also bounds its time. Long loops of DMALD,
-/// DMAST, DMARMB, DMAWMB and DMANOP take less than a tenth of that, if the addresses of each turn continue those of
-/// the turn before: many turns are one step. It allocates 16 bytes for each DMASEV and DMAWFE that is executed, 12
+/// It takes a few nanoseconds for each instruction that is executed, so `most` also bounds its time. Long loops of
+/// DMALD, DMAST, DMARMB, DMAWMB and DMANOP take less than a tenth of that, if the addresses of each turn continue those
+/// of the turn before: many turns are one step. It allocates 16 bytes for each DMASEV and DMAWFE that is executed, 12
 /// bytes for each load whose range doesn't continue or repeat the one before, and 16 bytes for each store whose range
 /// doesn't continue the one before; a list that grows takes up to three times as much for a moment.
 pub fn explain(alloc: Global, bus: Bus, program: &[u8], most: u32) -> Result<Explained, Unexplained>
@@ -167,6 +168,7 @@ pub fn explain(alloc: Global, bus: Bus, program: &[u8], most: u32) -> Result<Exp
         });
     }
     let mut tracer = Tracer::new(alloc, bus);
+    let mut last = LastLoop::none();
     let mut steps = 0;
     while steps < most {
         let pc = tracer.registers.pc;
@@ -186,7 +188,7 @@ pub fn explain(alloc: Global, bus: Bus, program: &[u8], most: u32) -> Result<Exp
                 Err(cause) => Err(Unexplained { cause, pc, steps }),
             };
         }
-        match tracer.run(program, next, most - steps) {
+        match tracer.run(program, next, most - steps, &mut last) {
             Ok(count) => steps += count,
             Err(cause) => {
                 return Err(Unexplained { cause, pc, steps });

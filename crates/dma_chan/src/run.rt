@@ -1,6 +1,6 @@
 //! Runs a program alone.
 
-ghost use Rattle.std.specs.Prelude.{◌≡◌, ◌≤◌, length, nat_lt, if◌then◌else◌, IfOk, IfErr, OnOk};
+ghost use Rattle.std.specs.Prelude.{◌≡◌, ◌≤◌, [], length, nat_lt, if◌then◌else◌, IfOk, IfErr, OnOk};
 ghost use Rattle.dma_insn.specs.AssemblyText.{most_program_bytes};
 ghost use Rattle.dma_chan.specs.Run.{RunsOver, gap_marks};
 ghost use Rattle.dma_chan.specs.Fails.{RunFails};
@@ -59,13 +59,14 @@ fn program_of(alloc: Global, bytes: &[u8]) -> Result<Program, RunFault>
 
 // Runs a program on a channel, with no marks except the memory's gaps and with all flags clear.
 fn run_on<M: Ram>(
-    mut channel: Channel,
+    channel: &mut Channel,
     program: Program,
-    alloc: Global,
+    marks: &Marks,
     memory: &mut M,
     limit: u32,
 ) -> Result<RunEnd, RunFault>
-    requires { length program.bytes ≤ most_program_bytes }
+    requires limit { length program.bytes ≤ most_program_bytes }
+    requires none { marks.now ≡ [] }
     ensures ok { IfOk result (λ how. RunsOver (gap_marks (M.loan memory.old)) program.bytes
         (M.paged memory.old).image limit how (M.paged memory.new).image) }
     ensures err { IfErr result (λ fault. RunFails (gap_marks (M.loan memory.old)) program.bytes
@@ -77,7 +78,6 @@ fn run_on<M: Ram>(
 {
     channel.load(program);
     let mut events = Events::new();
-    let marks = Marks::new(alloc);
     // A page that is known to be made. Most stores lie on the page of the store before, and then the memory isn't
     // asked.
     let mut known = None;
@@ -91,7 +91,7 @@ fn run_on<M: Ram>(
             Ok(page) => page,
             Err(_) => return Err(RunFault::PageRefused { turns: turn }),
         };
-        match channel.execute(next, memory, &mut events, &marks) {
+        match channel.execute(next, memory, &mut events, marks) {
             ChanTurn::Moved => {}
             ChanTurn::Waiting(event) => return Ok(RunEnd::Waiting(event)),
             ChanTurn::Ended => return Ok(RunEnd::Ended { turns: turn + 1 }),
@@ -125,6 +125,6 @@ pub fn run_program<M: Ram>(
     ensures loan { M.loan memory.new ≡ M.loan memory.old }
 {
     let program = program_of(alloc, bytes)?;
-    let channel = Channel::new(alloc).map_err(|_| RunFault::NoMemory)?;
-    run_on(channel, program, alloc, memory, limit)
+    let mut channel = Channel::new(alloc).map_err(|_| RunFault::NoMemory)?;
+    run_on(&mut channel, program, &Marks::new(alloc), memory, limit)
 }

@@ -25,7 +25,7 @@ const CHECKSUM_LEN: usize = 4;
 pub const MAGIC: [u8; 8] = [100, 109, 97, 51, 51, 48, 0, 1];
 
 /// The values in the first bytes of a save that describe the channel.
-#[derive(Clone, Copy, PartialEq, Eq, Debug)]
+#[derive(Clone, Copy)]
 pub struct Head {
     pub registers: Registers,
     pub taken: u32,

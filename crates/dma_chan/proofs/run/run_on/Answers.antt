@@ -17,7 +17,7 @@ loop-turn-preserved g c =
     let loan = c.prepare.ensures.loan ∙ c.loop-turn.invariant.loan in
     let h : HasRun marks c.args.program.bytes s c.loop-turn.turn c.loop-turn.channel image c.loop-turn.events = subst (λ (i : List ℕ). HasRun marks c.args.program.bytes s c.loop-turn.turn c.loop-turn.channel i c.loop-turn.events) (sym c.prepare.ensures.image) c.loop-turn.invariant.run in
     record {
-      run = run_on marks c.args.program.bytes s c.loop-turn.turn c.loop-turn.channel c.execute.new.self image (g.M.Ram.paged c.execute.new.memory).image c.loop-turn.events c.execute.new.events c.execute.result h (rw (c.new-marks.ensures, loan) at step.turn) c.in-Moved.is (rw (c.new-marks.ensures, loan) at step.memory) (rw (c.new-marks.ensures, loan) at step.events) (rw (c.new-marks.ensures, loan) at step.channel);
+      run = run_on marks c.args.program.bytes s c.loop-turn.turn c.loop-turn.channel c.execute.new.self image (g.M.Ram.paged c.execute.new.memory).image c.loop-turn.events c.execute.new.events c.execute.result h (rw (c.requires.none, loan) at step.turn) c.in-Moved.is (rw (c.requires.none, loan) at step.memory) (rw (c.requires.none, loan) at step.events) (rw (c.requires.none, loan) at step.channel);
       known = rw step.pages (rw c.in-Ok-prepare.is at c.prepare.ensures.known);
       pages = λ p h. rw step.pages (c.prepare.ensures.keeps.made p (c.loop-turn.invariant.pages p h));
       made = made_on marks c.args.program.bytes s c.loop-turn.turn c.loop-turn.channel (g.M.Ram.paged c.loop-turn.memory).image c.loop-turn.events (g.M.Ram.paged c.args.memory.now) (g.M.Ram.paged c.loop-turn.memory) (g.M.Ram.paged c.prepare.new.memory) (g.M.Ram.paged c.execute.new.memory) c.loop-turn.invariant.run c.loop-turn.invariant.made c.prepare.ensures.others step.pages;
