@@ -1,5 +1,5 @@
 -- Steps that execute nothing: of a channel that is halted or paused, or out of memory.
-use Rattle.std.proofs.Common.{◌≡◌, ℕ, ◌+◌, ◌<◌, ◌∷◌, ◌++◌, [], Ok, Some, None, Bool, true, false, length, refl, ap, sym, ◌∙◌, arith}
+use Rattle.std.proofs.Common.{◌≡◌, ℕ, ◌+◌, ◌<◌, Ok, Some, true, false, length, refl, ap, sym, ◌∙◌, arith}
 use Rattle.std.specs.Prelude.{nat_le, slice_index_or}
 use Rattle.std.proofs.lemmas.Bool.{lt-leb}
 use Rattle.std.proofs.lemmas.List.{get_or_default}

@@ -1,4 +1,4 @@
-use Rattle.std.proofs.Common.{◌≡◌, ◌+◌, ◌<◌, ◌∙◌, arith, refl, sym, inl, inr}
+use Rattle.std.proofs.Common.{◌≡◌, ◌∙◌, arith, refl, sym, inl, inr}
 use Rattle.dma_chan.specs.Layer.{step_at}
 use Rattle.dma_chan.specs.declared.turn.ChanTurn.TheVariants.{Moved, Fault}
 use Rattle.dma_chan.specs.declared.turn.FaultKind.TheVariants.{DataReadErr, DataWriteErr}

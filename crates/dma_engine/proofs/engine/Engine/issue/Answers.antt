@@ -1,4 +1,4 @@
-use Rattle.std.proofs.Common.{◌≡◌, ◌+◌, ◌-◌, ◌<◌, ◌≤◌, ◌∙◌, ap, length, arith, refl, subst, sym}
+use Rattle.std.proofs.Common.{◌≡◌, ◌-◌, ◌<◌, ◌∙◌, ap, length, arith, refl, subst, sym}
 use Rattle.dma_mem.specs.declared.call.Call.TheVariants.{Issue}
 use Rattle.dma_engine.specs.declared.call.Reply.TheVariants.{Count}
 use Rattle.dma_engine.specs.declared.fault.EngineFault.TheVariants.{NoMemory}

@@ -1,8 +1,6 @@
-use Rattle.std.proofs.Common.{◌≡◌, ◌<◌, ◌∙◌, ap, false, length, refl, rules, sym, true}
+use Rattle.std.proofs.Common.{◌<◌, ◌∙◌, ap, length, refl, rules, sym}
 use Rattle.dma_engine.specs.inner.Holds.{view_of}
 use Rattle.dma_engine.specs.inner.Inside.{parts_of}
-use Rattle.dma_engine.specs.Object.{channel}
-use Rattle.dma_engine.specs.View.{object_of, schedule_at}
 use Rattle.dma_engine.proofs.Queues.{holds_at, queue_there}
 use Rattle.dma_engine.proofs.StoppedSteps.{halted_answers, paused_answers}
 use Rattle.dma_engine.proofs.engine.Engine.rare_step.Goals as goal
