@@ -1,7 +1,6 @@
--- Steps that execute nothing: of a channel that is halted or paused, or out of memory.
+-- Steps that are out of memory before anything changes.
 use Rattle.std.proofs.Common.{◌≡◌, ℕ, ◌+◌, ◌<◌, Ok, Some, true, false, length, refl, ap, sym, ◌∙◌, arith}
-use Rattle.std.specs.Prelude.{nat_le, slice_index_or}
-use Rattle.std.proofs.lemmas.Bool.{lt-leb}
+use Rattle.std.specs.Prelude.{slice_index_or}
 use Rattle.std.proofs.lemmas.List.{get_or_default}
 use Rattle.dma_mem.specs.Places.{Descriptor}
 use Rattle.dma_mem.specs.declared.call.Call.TheVariants.{Step}
@@ -11,9 +10,8 @@ use Rattle.dma_engine.specs.declared.entry.Signaller.TheVariants.{Channel}
 use Rattle.dma_engine.specs.declared.fault.EngineFault.TheVariants.{NoMemory}
 use Rattle.dma_engine.specs.declared.outcome.TransResult.{TransResult}
 use Rattle.dma_engine.specs.declared.queue.Queue.{Queue}
-use Rattle.dma_engine.specs.declared.turn.Turn.TheVariants.{Moved, Halted, Paused}
-use Rattle.dma_engine.specs.Object.{channel}
-use Rattle.dma_engine.specs.View.{View, channels, object_of, schedule_at}
+use Rattle.dma_engine.specs.declared.turn.Turn.TheVariants.{Moved}
+use Rattle.dma_engine.specs.View.{View}
 use Rattle.dma_engine.specs.Turn.{turn, with_entry, with_step, with_taken}
 use Rattle.dma_engine.specs.Answer.{CallAnswers}
 use Rattle.dma_engine.specs.inner.Due.{IsDue, Waits, Signals, Finishes}
@@ -22,18 +20,6 @@ use Rattle.dma_engine.proofs.CallCases.{starved}
 use Rattle.dma_engine.proofs.Queues.{many_queues}
 use Rattle.dma_engine.proofs.Starts.{finish_starved}
 use Rattle.dma_engine.proofs.StepCases.{Due, due, pass_turn, signal_turn, stepped_so}
-
-pub halted_answers : (v : View) (ch : ℕ) → ch < channels v → (channel (object_of v) ch).halted ≡ true → CallAnswers v (Step ch) (Turned Halted) v
-halted_answers v ch there halted =
-    let e : nat_le (channels v) ch ≡ false = lt-leb _ _ there in
-    let is : turn v ch ≡ (Ok Halted, v) = rw (e, halted) refl in
-    stepped_so v v ch Halted is
-
-pub paused_answers : (v : View) (ch : ℕ) → ch < channels v → (channel (object_of v) ch).halted ≡ false → (schedule_at v ch).paused ≡ true → CallAnswers v (Step ch) (Turned Paused) v
-paused_answers v ch there goes paused =
-    let e : nat_le (channels v) ch ≡ false = lt-leb _ _ there in
-    let is : turn v ch ≡ (Ok Paused, v) = rw (e, goes, paused) refl in
-    stepped_so v v ch Paused is
 
 -- what is due is so of the channel's queue
 due_there : (p : Parts) → Holds p → (ch : ℕ) (P : Descriptor → ℕ → Type 0) → IsDue (view_of p) ch P → (q : Queue) × Due p ch q P
