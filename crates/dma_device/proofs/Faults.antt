@@ -1,5 +1,5 @@
 -- What makes threads faulting, and with them the line irq_abort high.
-use Rattle.std.proofs.Common.{◌≡◌, ◌≢◌, ◌∙◌, ◌⊎◌, ℕ, zero, suc, ◌+◌, ◌-◌, ◌*◌, ◌%◌, ◌/◌, ◌^◌, ◌<◌, ◌≤◌, Bool, true, false, ◌&&◌, ◌||◌, List, [], ◌∷◌, Option, Some, None, ap, refl, sym, subst, arith, inl, inr, true≢false, bit_and, bit_or, w32, replicate}
+use Rattle.std.proofs.Common.{◌≡◌, ◌≢◌, ◌∙◌, ◌⊎◌, ℕ, zero, suc, ◌+◌, ◌-◌, ◌*◌, ◌%◌, ◌/◌, ◌^◌, ◌≤◌, Bool, true, false, ◌&&◌, ◌||◌, List, [], ◌∷◌, Option, Some, None, ap, refl, sym, subst, arith, inl, inr, true≢false, bit_and, bit_or, w32, replicate}
 use Rattle.std.specs.Prelude.{◌↔◌, ◌==◌, if◌then◌else◌, nat_lt, not, slice_get, slice_set}
 use Rattle.std.specs.Int.{bit_at, bit_not}
 use Rattle.std.specs.List.{list_any}
@@ -28,7 +28,7 @@ use Rattle.dma_device.specs.CallSteps.{Executes, first_in, marks_in, second_in}
 use Rattle.dma_device.specs.Device.{reset_device, DeviceValue, all_events, by_manager, by_thread, debugged, faulting_bits, go, irq_abort, is_interrupt, program_at, signalled, with_thread, written}
 use Rattle.dma_device.specs.Faults.{EndsFault, EndsAll, AbortIsFaulting, AbortsAreExact, Addresses, CallFails, DebugFails, FailedSince, Fails, FaultsAreExact, Kills, LastFails, TheChannel, TheManager, TurnFails, Who, can_execute, channel_fails, debug_fails, faults_at, faults_if, go_fails, manager_fails}
 use Rattle.dma_device.specs.Interrupts.{is_fine}
-use Rattle.dma_device.specs.Thread.{answer, answered, dbg_instr, failed, is_faulting, is_faulting_status, is_stopped_status, killed, operand_invalid, reset_thread, started, undef_instr}
+use Rattle.dma_device.specs.Thread.{answer, dbg_instr, failed, is_faulting, is_faulting_status, is_stopped_status, killed, operand_invalid, reset_thread, started, undef_instr}
 use Rattle.dma_device.specs.Turns.{Outcome, Setup, TakesTurn, begins, called_if, follows, last_in, machine_left, may_follow, number_of, runs_at, runs_if, setup_of, signal_in, thread_left, with_flags}
 use Rattle.dma_device.proofs.Calls.{call_acts, call_is, turn_device}
 use Rattle.dma_device.proofs.Cases.{branch, go_cases, manager_cases, thread_cases, write_cases}
@@ -529,15 +529,6 @@ decide_write who at value d = elim (cases_eq at offset.dbgcmd) [
     ]
   ]
 ]
-
--- an access kills a thread, or it doesn't
-decide_kills : (who : Who) (a : Access) (d : DeviceValue) → Kills who a d ⊎ (¬ Kills who a d)
-decide_kills who (Writes at value) d = decide_write who at value d
-decide_kills who (Reads at) d = inr (λ w. w)
-decide_kills who (Turns n most) d = inr (λ w. w)
-decide_kills who (Stores addr byte) d = inr (λ w. w)
-decide_kills who Resets d = inr (λ w. w)
-decide_kills who (Restores saved) d = inr (λ w. w)
 
 -- what ends a fault, and leaves the line low, kills the thread, or ends each fault
 ends_by : (who : Who) (a : Access) (d e : DeviceValue) (regions left : List Region) (answer : Answer) → Does a d regions answer e left → irq_abort e ≡ false → EndsFault who a d → EndsAll a ⊎ Kills who a d

@@ -18,6 +18,7 @@ pub mod ControlFits
 pub mod Sound
 pub mod SavedDevices
 pub mod Damage
+pub mod Found
 pub mod Stored
 pub mod InMemory
 pub mod WaitSteps

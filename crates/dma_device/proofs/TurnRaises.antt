@@ -156,14 +156,6 @@ by_bits r i f line signal k rb ib fb is flag = (
 pub flag_bit : (flags k : ℕ) → k < 32 → get_or (flags_of flags) k false ≡ true → bit_at flags k ≡ 1
 flag_bit flags k below h = elim (cases_eq (bit_at flags k) 1) [ inl one ↦ one | inr other ↦ absurd (true≢false (sym h ∙ get_or_flags_of flags k below ∙ ne_eqb (bit_at flags k) 1 other)) ]
 
-pub no_bit : (flags k : ℕ) → k < 32 → IsClear k (flags_of flags) → bit_at flags k ≡ 0
-no_bit flags k below h =
-    let few = bit_at-lt flags k in
-    elim (cases_eq (bit_at flags k) 1) [
-      | inl one ↦ absurd (true≢false (sym (ap (λ (m : ℕ). nat_eq m 1) one) ∙ sym (get_or_flags_of flags k below) ∙ h))
-      | inr other ↦ omega arith
-    ]
-
 -- a channel doesn't see an event that INTEN makes an interrupt
 pub hidden : (d : DeviceValue) (k : ℕ) → k < 32 → d.inten < 2 ^ 32 → IsHigh d.inten k → IsClear k (flags_of (visible_events d))
 hidden d k below range on =

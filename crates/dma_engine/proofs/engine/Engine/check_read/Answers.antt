@@ -24,3 +24,18 @@ pub returns-in-None-clause-within : goal.returns-in-None-clause-within
 returns-in-None-clause-within c =
     let end = size_is (parts_of c.self.inside) c.self.invariant ∙ ap (λ (s : EngineState). size s.view) c.self.view_is in
     omega (arith, end, c.if-addr-len.false)
+
+pub returns-then-addr-len-clause-free : goal.returns-then-addr-len-clause-free
+returns-then-addr-len-clause-free c = tt
+
+pub returns-then-addr-len-clause-within : goal.returns-then-addr-len-clause-within
+returns-then-addr-len-clause-within c = tt
+
+pub returns-in-Some-clause-free : goal.returns-in-Some-clause-free
+returns-in-Some-clause-free c = tt
+
+pub returns-in-Some-clause-within : goal.returns-in-Some-clause-within
+returns-in-Some-clause-within c = tt
+
+pub returns-in-None-clause-err : goal.returns-in-None-clause-err
+returns-in-None-clause-err c = tt

@@ -1,4 +1,4 @@
-use Rattle.std.proofs.Common.{◌≡◌, ◌∙◌, refl, sym, inl, inr}
+use Rattle.std.proofs.Common.{◌≡◌, ◌∙◌, arith, refl, sym, inl, inr}
 use Rattle.dma_chan.specs.Layer.{step_at}
 use Rattle.dma_chan.specs.declared.turn.ChanTurn.TheVariants.{Moved, Fault}
 use Rattle.dma_chan.specs.declared.turn.FaultKind.TheVariants.{DataReadErr, DataWriteErr}
@@ -7,6 +7,7 @@ use Rattle.dma_engine.specs.inner.Holds.{view_of}
 use Rattle.dma_engine.specs.inner.Inside.{parts_of}
 use Rattle.dma_engine.proofs.InstructionSteps.{ready_here, the_step, shared}
 use Rattle.dma_engine.proofs.InstructionAnswers.{taken_small, went_on, went_on_answers, failed, only_so}
+use Rattle.dma_engine.proofs.Queues.{many_queues}
 use Rattle.dma_engine.proofs.StepCases.{GoesOn, due, due_ahead, due_other}
 use Rattle.dma_engine.proofs.engine.Engine.execute_other.Goals as goal
 
@@ -84,3 +85,20 @@ returns-in-Fault-clause-fails c =
     let finishes : Finishes (view_of p) (failure_of kind) d.it.transfer q.channel.taken = failed p d.it.transfer q.channel.taken kind c.self.invariant d.holds fails in
     let asks : IsDue (view_of p) ch (Finishes (view_of p) (failure_of kind)) = (asked.0, asked.1, asked.2, rw d.it.runs_is finishes) in
     rw (← c.self.view_is) asks
+
+pub index_mut-queue-requires : goal.index_mut-queue-requires
+index_mut-queue-requires c =
+    let p = parts_of c.self.inside in
+    let asked = rw (← c.self.view_is) at c.requires.due in
+    omega (arith, asked.0, c.from.ensures, many_queues p c.self.invariant, c.self.inside.queues.ok.0)
+
+pub overflow_add-self : goal.overflow_add-self
+overflow_add-self c =
+    let asked = rw (← c.self.view_is) at c.requires.due in
+    omega (arith, asked.2)
+
+pub returns-in-Moved-clause-fails : goal.returns-in-Moved-clause-fails
+returns-in-Moved-clause-fails c = tt
+
+pub returns-in-Moved-clause-still : goal.returns-in-Moved-clause-still
+returns-in-Moved-clause-still c = λ some. absurd cc

@@ -1,11 +1,15 @@
-use Rattle.std.proofs.Common.{◌≡◌, ◌-◌, ◌<◌, ◌∙◌, ap, length, arith, refl}
+use Rattle.std.proofs.Common.{◌≡◌, ◌-◌, ◌<◌, ◌∙◌, ap, length, arith, refl, subst, sym}
+use Rattle.dma_mem.specs.declared.call.Call.TheVariants.{Issue}
+use Rattle.dma_engine.specs.declared.call.Reply.TheVariants.{Count}
+use Rattle.dma_engine.specs.declared.fault.EngineFault.TheVariants.{NoMemory}
+use Rattle.dma_engine.specs.Room.{HasRoom}
 use Rattle.dma_engine.specs.declared.entry.Entry.TheVariants.{Issued}
 use Rattle.dma_engine.specs.inner.Holds.{view_of}
 use Rattle.dma_engine.specs.inner.Inside.{parts_of}
 use Rattle.dma_engine.specs.Object.{channel, used}
 use Rattle.dma_engine.specs.Turn.{with_entry}
 use Rattle.dma_engine.specs.View.{View, EngineState, channels, object_of}
-use Rattle.dma_engine.proofs.CallCases.{issue_done}
+use Rattle.dma_engine.proofs.CallCases.{issue_answer, issue_done, refusal, starved}
 use Rattle.dma_engine.proofs.Boards.{counted_at}
 use Rattle.dma_engine.proofs.Queues.{many_queues, holds_at, queue_there}
 use Rattle.dma_engine.proofs.QueueCalls.{holds_issued, view_entered}
@@ -40,3 +44,33 @@ returns-clause-answer c =
     let view = view_entered p i q (record q { issued = q.given }) p.memory p.events (Issued i) less c.index_mut-queue.ensures.value refl ∙ ap (λ (w : View). with_entry w (Issued i)) is in
     rw (c.issue.ensures.issued, c.push_reserved.ensures.items, c.reserve.ensures.items, ← c.in_ok-index.ensures.there.0)
     (issue_done c.args.self.now.view _ i _ there (c.issue.ensures.count ∙ counted ∙ ap (λ (w : View). used (channel (object_of w) i) - (channel (object_of w) i).issued) is) view)
+
+pub index_mut-queue-requires : goal.index_mut-queue-requires
+index_mut-queue-requires c =
+    let p = parts_of c.self.inside in
+    let less : c.in_ok-index.index < length p.queues = queue_there p c.args.self.now.view c.args.ch c.in_ok-index.index c.self.invariant (ap (λ (s : EngineState). s.view) c.self.view_is) c.in_ok-index.ensures.there in
+    omega (arith, less, c.self.inside.queues.ok.0)
+
+pub invariant_of-self : goal.invariant_of-self
+invariant_of-self c = rw c.reserve.ensures.items c.self.invariant
+
+pub push_reserved-requires : goal.push_reserved-requires
+push_reserved-requires c = omega (arith, c.in_ok-reserve.ensures.ok)
+
+pub returns-in_err-reserve-clause-room : goal.returns-in_err-reserve-clause-room
+returns-in_err-reserve-clause-room c = λ room.
+    let before = subst (λ (s : EngineState). HasRoom s c.args.ch) (sym c.self.view_is) room in
+    absurd (omega (arith, before.entry, c.in_err-reserve.ensures.full))
+
+pub returns-clause-room : goal.returns-clause-room
+returns-clause-room c = λ _. tt
+
+pub returns-in_err-reserve-clause-answer : goal.returns-in_err-reserve-clause-answer
+returns-in_err-reserve-clause-answer c =
+    let v = view_of (parts_of c.self.inside) in
+    let ch = c.args.ch in
+    let there = rw (← c.self.view_is) at c.in_ok-index.ensures.there in
+    let count = used (channel (object_of v) ch) - (channel (object_of v) ch).issued in
+    rw (← c.self.view_is, c.reserve.ensures.items)
+    (refusal (λ n. Count n) v v (Issue ch) NoMemory c.from_residual-in_err-reserve.result c.from_residual-in_err-reserve.ensures.1
+    (starved v (Issue ch) (Count count) (with_entry v (Issued ch)) (Issued ch) (issue_answer v ch there.1) refl))

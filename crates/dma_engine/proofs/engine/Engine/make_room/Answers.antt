@@ -80,3 +80,20 @@ returns-clause-kept c =
     let entries : before.room.entries ≤ vec_capacity c.reserve.new.self - vec_len c.reserve.new.self = omega (arith, c.reserve.ensures.capacity, c.reserve.ensures.len) in
     let queues = queues_grow p.queues i q c.make_room.new.self less c.index_mut-queue.ensures.value c.make_room.ensures.kept.0 c.make_room.ensures.kept.1 in
     λ ch h. room_grows before _ (ap object_of view) entries queues ch (subst (λ (s : EngineState). HasRoom s ch) (sym c.self.view_is) h)
+
+pub index_mut-queue-requires : goal.index_mut-queue-requires
+index_mut-queue-requires c =
+    let p = parts_of c.self.inside in
+    let less : c.in_ok-index.index < length p.queues = queue_there p c.args.self.now.view c.args.ch c.in_ok-index.index c.self.invariant (ap (λ (s : EngineState). s.view) c.self.view_is) c.in_ok-index.ensures.there in
+    omega (arith, less, c.self.inside.queues.ok.0)
+
+pub invariant_of-self : goal.invariant_of-self
+invariant_of-self c = rw c.reserve.ensures.items c.self.invariant
+
+pub returns-in_err-reserve-clause-room : goal.returns-in_err-reserve-clause-room
+returns-in_err-reserve-clause-room c = λ room.
+    let before = subst (λ (s : EngineState). HasRoom s c.args.ch) (sym c.self.view_is) room in
+    absurd (omega (arith, before.entry, c.in_err-reserve.ensures.full))
+
+pub returns-clause-room : goal.returns-clause-room
+returns-clause-room c = λ _. tt

@@ -9,3 +9,9 @@ signal-requires-clause-signals c = search rules
 
 pub finish-requires : goal.finish-requires
 finish-requires c = search rules
+
+pub returns-then-not-is_loaded-clause-answer : goal.returns-then-not-is_loaded-clause-answer
+returns-then-not-is_loaded-clause-answer c = c.start.ensures.answer
+
+pub returns-in-End-clause-answer : goal.returns-in-End-clause-answer
+returns-in-End-clause-answer c = c.finish.ensures.answer

@@ -49,3 +49,6 @@ returns c =
           read_done c.args.self.now.view _ c.args.addr c.args.len _ free refl
           (rw (c.push_reserved.ensures.items, c.reserve.ensures.items, ← read) (ap (λ (w : View). with_entry w (ReadBack c.args.addr c.in_ok-bytes.bytes)) is));
     }
+
+pub invariant_of-self : goal.invariant_of-self
+invariant_of-self c = rw c.reserve.ensures.items c.self.invariant

@@ -65,3 +65,6 @@ returns-clause-answer c =
     rw same
     (read_done c.args.self.now.view _ c.args.addr n c.in_ok-bytes.bytes free read
     (rw (c.push_reserved.ensures.items, c.reserve.ensures.items) (ap (λ (w : View). with_entry w (ReadBack c.args.addr c.in_ok-bytes.bytes)) is)))
+
+pub invariant_of-self : goal.invariant_of-self
+invariant_of-self c = rw c.reserve.ensures.items c.self.invariant

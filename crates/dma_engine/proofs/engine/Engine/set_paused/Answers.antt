@@ -45,3 +45,9 @@ returns-clause-kept c =
     let r = record q { paused = c.args.paused } in
     let queues = queues_grow p.queues i q r less c.index_mut-queue.ensures.value (omega arith) (omega arith) in
     rw c.set_paused.ensures (λ ch h. room_grows before _ object (omega arith) queues ch (subst (λ (s : EngineState). HasRoom s ch) (sym c.self.view_is) h))
+
+pub index_mut-queue-requires : goal.index_mut-queue-requires
+index_mut-queue-requires c =
+    let p = parts_of c.self.inside in
+    let less : c.in_ok-index.index < length p.queues = queue_there p c.args.self.now.view c.args.ch c.in_ok-index.index c.self.invariant (ap (λ (s : EngineState). s.view) c.self.view_is) c.in_ok-index.ensures.there in
+    omega (arith, less, c.self.inside.queues.ok.0)

@@ -49,3 +49,14 @@ returns-clause-answer c =
     let view = view_entered p i q (queue_submitted q c.submit.new.self.indices.spare c.len-index.result c.args.cookie) p.memory p.events entry less c.index_mut-queue.ensures.value refl ∙ ap (λ (w : View). with_entry w entry) is in
     rw (c.push_reserved.ensures.items, c.in-Ok-submit.ensures.submitted, c.reserve.ensures.items)
     (submit_done v _ c.args.ch c.args.cookie t none number view)
+
+pub invariant_of-self : goal.invariant_of-self
+invariant_of-self c = rw c.reserve.ensures.items c.self.invariant
+
+pub index_mut-queue-requires : goal.index_mut-queue-requires
+index_mut-queue-requires c =
+    let p = parts_of c.self.inside in
+    let v = c.args.self.now.view in
+    let is : view_of p ≡ v = ap (λ (s : EngineState). s.view) c.self.view_is in
+    let free = submit_open v c.args.ch c.args.transfer (checked_none (submit_fault v c.args.ch c.args.transfer) _ c.args.cookie c.requires.checked) in
+    omega (arith, many_queues p c.self.invariant, ap channels is, free.0, c.from.ensures, c.self.inside.queues.ok.0)

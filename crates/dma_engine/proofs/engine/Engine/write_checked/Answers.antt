@@ -37,3 +37,6 @@ returns-clause-answer c =
     let is : view_of (parts_of c.self.inside) ≡ c.args.self.now.view = ap (λ (s : EngineState). s.view) c.self.view_is in
     write_done c.args.self.now.view _ c.args.addr c.args.bytes c.requires
     (rw (c.push_reserved.ensures.items, c.reserve.ensures.items) (ap (λ (w : View). with_entry w (Wrote c.args.addr c.args.bytes)) is))
+
+pub invariant_of-self : goal.invariant_of-self
+invariant_of-self c = rw c.reserve.ensures.items c.self.invariant
