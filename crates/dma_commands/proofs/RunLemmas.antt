@@ -2,10 +2,8 @@
 use Rattle.std.proofs.Common.{◌≡◌, ◌≢◌, ℕ, ◌<◌, ◌+◌, true, false, if◌then◌else◌, codes, List, [], ◌∷◌, ◌++◌, length, Option, Some, None, refl, ap, sym, subst, ◌∙◌, take, drop, suc, arith, append_assoc}
 use Rattle.std.proofs.Math.Seq.{take-append-add}
 use Rattle.std.proofs.lemmas.List.{append-nil, length-append}
-use Rattle.std.proofs.lemmas.List.Recursion.{is_count_by}
 use Rattle.std.proofs.lemmas.Result.{on_err_weaker, on_ok_weaker}
-use Rattle.std.specs.Prelude.{Err, IsErr, Ok, OnErr, OnOk, Result, cond, count_by, is_some}
-use Rattle.std.specs.List.{filter_map, range_with_len, cons_option}
+use Rattle.std.specs.Prelude.{Err, IsErr, Ok, OnErr, OnOk, Result}
 use Rattle.dma_mem.specs.Places.{Descriptor}
 use Rattle.dma_mem.specs.declared.call.Call.{Call}
 use Rattle.dma_mem.specs.declared.call.Call.TheVariants.{Read, Submit as SubmitCall, Issue as IssueCall}
@@ -18,9 +16,7 @@ use Rattle.dma_engine.specs.Answer.{CallAnswers, answer, read_fault, unless}
 use Rattle.dma_engine.specs.Turn.{with_entry}
 use Rattle.dma_engine.proofs.Queues.{slice_get_push_last}
 use Rattle.dma_mem.specs.declared.transfer.TransferFault.{TransferFault}
-use Rattle.std.specs.Option.{option_map}
-use Rattle.dma_engine.specs.Object.{Object}
-use Rattle.dma_engine.specs.View.{View, ChannelSchedule, object_of, running, runs}
+use Rattle.dma_engine.specs.View.{View, object_of}
 use Rattle.dma_script.specs.Command.{Answers, AppendsGroups, Printed, printed_text, text_of}
 use Rattle.dma_script.specs.Interpreted.{ActsInTurn, PrintsLines, StopsAtALine}
 use Rattle.dma_script.specs.declared.statements.Statement.{Statement}
@@ -97,20 +93,6 @@ copy_runs {A = A} {E = E} start v u x w t cookie issued last result out out' sub
     subst (λ (a : Reply × View). RunsLine {A = A} {E = E} (copied_after start a) w result out out') submitted
     (subst (λ (a : Reply × View). RunsLine {A = A} {E = E} (one_line (last_answer_line start a.0) a.1) w result out out') through
     (printed_runs (one_line (last_answer_line start last) w) w result out out' (on_ok_weaker result (λ _. refl) prints) prints kept))
-
--- ---- what runs
-
-counted_one : {X Y : Type 0} (f : X → Y) (x : Option X) (n : ℕ) (more : List X) → length more ≡ n → length (cons_option x more) ≡ cond (is_some (option_map f x)) (1 + n) n
-counted_one f None n more is = is
-counted_one f (Some x) n more is = omega (arith, is)
-
--- the values are as many as the numbers that have one
-pub counted : {X Y : Type 0} (f : X → Y) (g : ℕ → Option X) (xs : List ℕ) → length (filter_map g xs) ≡ count_by (λ n. is_some (option_map f (g n))) xs
-counted f g xs = is_count_by (λ l. length (filter_map g l)) (λ n. is_some (option_map f (g n))) refl (λ x l. counted_one f (g x) _ (filter_map g l) refl) xs
-
-pub running_is : (o : Object) (schedule : List ChannelSchedule) → running o schedule ≡ filter_map (runs o schedule) (range_with_len 0 (length o.channels))
-unfolding running
-running_is o schedule = refl
 
 -- ---- the lines of a script, one after another
 

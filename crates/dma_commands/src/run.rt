@@ -16,7 +16,7 @@ use crate::run::calls::{
 use crate::run::copies::answer_copy;
 pub use crate::run::left::{engine_after, new_engine};
 use crate::run::steps::{StepLines, answer_step, answer_steps};
-use dma_engine::{Call, Engine, NewFault};
+use dma_engine::{Call, Engine};
 use dma_script::command::{Command, SUCCESS, refuse, serve};
 use dma_script::input::{MOST_RESERVED, Source};
 use dma_script::interpreter::Interpreter;
@@ -65,33 +65,33 @@ pub fn run_line(engine: &mut Engine, line: Statement, out: &mut Vec<u8>) -> Resu
 
 /// Executes script lines on an engine.
 #[derive(Drop)]
-struct LinesOnEngine<'a> {
-    engine: &'a mut Engine,
+struct LinesOnEngine {
+    engine: Engine,
     steps: StepLines,
 }
 
-impl Interpreter for LinesOnEngine<'_> {
+impl Interpreter for LinesOnEngine {
     type Line = Statement;
 
-    ghost acts = { λ found line group left. line_answer found.engine.now.view line
-        ≡ (group, left.engine.now.view) };
+    ghost acts = { λ found line group left. line_answer found.engine.view line
+        ≡ (group, left.engine.view) };
 
     // Inlined into the code for each kind of line.
     #[inline(always)]
     fn interpret(&mut self, line: Statement, out: &mut Vec<u8>) -> Result<(), AllocError> {
-        run_statement(self.engine, line, &mut self.steps, out)
+        run_statement(&mut self.engine, line, &mut self.steps, out)
     }
 }
 
-/// Executes the lines of a script, drops each one afterwards, and returns the exit status. If memory runs out, the
-/// output keeps what the lines before printed.
+/// Executes the lines of a script on an engine, drops each one afterwards, and then the engine. Returns the exit status.
+/// If memory runs out, the output keeps what the lines before printed.
 pub fn run_statements(
     alloc: Global,
-    engine: &mut Engine,
+    engine: Engine,
     statements: Statements,
     out: &mut Vec<u8>,
 ) -> Result<u8, AllocError>
-    ensures { Answers (record { groups = lines_answered engine.old.view statements; status = 0 })
+    ensures { Answers (record { groups = lines_answered engine.view statements; status = 0 })
         result out.old.items out.new.items }
 {
     let steps = StepLines::new(alloc);
@@ -134,13 +134,9 @@ impl Command for Run {
     fn answer(&self, alloc: Global, input: &[u8], out: &mut Vec<u8>) -> Result<u8, AllocError> {
         match read_run_script(alloc, input) {
             Ok(script) => {
-                let mut engine = match Engine::new(alloc, script.size, script.channels as u8) {
-                    Ok(engine) => engine,
-                    Err(NewFault::NoMemory) => return Err(AllocError),
-                    Err(NewFault::BadChannels | NewFault::SizeOutOfRange) => unreachable!(),
-                };
+                let mut engine = new_engine(alloc, &script)?;
                 reserve_for(&mut engine, input.len(), out);
-                run_statements(alloc, &mut engine, script.statements, out)
+                run_statements(alloc, engine, script.statements, out)
             }
             Err(error) => refuse(out, &error),
         }

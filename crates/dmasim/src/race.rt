@@ -14,14 +14,14 @@ mod early;
 pub mod laws;
 
 use crate::race::early::run_early_statements;
-use dma_commands::run::run_statements;
-use dma_engine::{Engine, NewFault};
+use dma_commands::run::{new_engine, run_statements};
+use dma_engine::Engine;
 use dma_script::command::{Command, refuse, serve};
 use dma_script::input::Source;
 use dma_script::output::Sink;
 use dma_script::printing::print_line;
 use dma_script::race::{JobLine, MAX_JOBS, RaceScript, read_race_script};
-use dma_script::statements::Statements;
+use dma_script::statements::{RunScript, Statements};
 use dma_work::{Desk, DeskName, Job, Parts, Rota, ShareFaultKind, Shift, StatusReader, run_shift};
 use std::alloc::{AllocError, Global};
 use std::marker::Brand;
@@ -43,16 +43,15 @@ fn jobs_of(alloc: Global, lines: &[JobLine]) -> Result<Vec<Job>, AllocError>
     Ok(jobs)
 }
 
-/// Returns a new engine as the memory line describes it. Fails if memory runs out.
-fn engine_of(alloc: Global, script: &RaceScript) -> Result<Engine, AllocError>
-    requires { IsWithin script.now.before }
-    ensures { IfOk result (λ engine.
-        engine.view ≡ new_view script.now.before.size script.now.before.channels) }
+/// Returns the rota of the jobs of the job lines. Fails if memory runs out.
+fn rota_of(alloc: Global, lines: &[JobLine]) -> Result<Rota, AllocError>
+    requires { All IsJob lines.now }
+    ensures { IfOk result (λ rota. AreJobs lines.now rota) }
 {
-    match Engine::new(alloc, script.before.size, script.before.channels as u8) {
-        Ok(engine) => Ok(engine),
-        Err(NewFault::NoMemory) => Err(AllocError),
-        Err(NewFault::BadChannels | NewFault::SizeOutOfRange) => unreachable!(),
+    let jobs = jobs_of(alloc, lines)?;
+    match Rota::new(alloc, &jobs) {
+        Ok(rota) => Ok(rota),
+        Err(_) => Err(AllocError),
     }
 }
 
@@ -85,17 +84,16 @@ fn go<M: DeskName, N: DeskName + Send + Sync, R: Threads + Wait + Sync>(
 /// engine. Fails if memory runs out.
 fn raced<M: DeskName, R: Threads + Wait + Sync>(
     rt: &R,
-    alloc: Global,
     parts: Parts,
     reader: StatusReader,
     lines: Statements,
-    jobs: &[Job],
+    rota: Rota,
     out: &mut Vec<u8>,
 ) -> Result<Engine, AllocError>
     requires names { Names M.opening M.base M.log parts }
     requires follows { (M.log ≡ reader.log) × (M.base ≡ reader.base) }
     requires early { All IsEarly lines }
-    ensures ok { IfOk result (λ engine. PrintsGo parts.engine.view lines jobs.now engine.view
+    ensures ok { IfOk result (λ engine. PrintsGo parts.engine.view lines rota engine.view
         out.old.items out.new.items) }
     ensures err { OnErr result (PrintsFirst parts.engine.view lines out.old.items out.new.items) }
 {
@@ -104,23 +102,22 @@ fn raced<M: DeskName, R: Threads + Wait + Sync>(
         desk.close(rt);
         return Err(error);
     }
-    let Ok(rota) = Rota::new(alloc, jobs) else {
-        desk.close(rt);
-        return Err(AllocError);
-    };
     go::<M, Brand, R>(rt, desk, rota, out)
 }
 
-/// Returns the parts of a desk over an engine, and its reader, or `None` if the desk has no place for a reader. Fails
-/// if memory runs out.
+/// Returns the parts of a desk over a new engine as the memory line describes it, and its reader, or `None` if the desk
+/// has no place for a reader. Fails if memory runs out.
 fn parts_of<R: Wait>(
     rt: &R,
     alloc: Global,
-    engine: Engine,
+    script: &RunScript,
 ) -> Result<Option<(Parts, StatusReader)>, AllocError>
+    requires { IsWithin script.now }
     ensures { IfOk result (λ made. IfSome made
-        (λ p. (p.0.engine ≡ engine) × (p.0.log ≡ p.1.log) × (p.0.base ≡ p.1.base))) }
+        (λ p. (p.0.engine.view ≡ new_view script.now.size script.now.channels)
+        × (p.0.log ≡ p.1.log) × (p.0.base ≡ p.1.base))) }
 {
+    let engine = new_engine(alloc, script)?;
     match Parts::new(rt, alloc, engine, 1) {
         Ok((parts, mut readers)) => {
             let Some(reader) = readers.pop() else {
@@ -146,15 +143,14 @@ fn run_race<R: Threads + Wait + Sync>(
     requires { IsRace script }
     ensures { MayAnswer (RacePrints script) result out.old.items out.new.items }
 {
-    let engine = engine_of(alloc, &script)?;
-    let jobs = jobs_of(alloc, script.jobs.as_slice())?;
-    let Some((parts, reader)) = parts_of(rt, alloc, engine)? else {
+    let rota = rota_of(alloc, script.jobs.as_slice())?;
+    let Some((parts, reader)) = parts_of(rt, alloc, &script.before)? else {
         return refuse(out, &"refused NoReader");
     };
     let RaceScript { before, after, .. } = script;
     let lines = before.statements;
-    let mut engine = raced::<Brand, _>(rt, alloc, parts, reader, lines, &jobs, out)?;
-    run_statements(alloc, &mut engine, after, out)
+    let engine = raced::<Brand, _>(rt, parts, reader, lines, rota, out)?;
+    run_statements(alloc, engine, after, out)
 }
 
 /// The command `race`, with the handle for its threads.

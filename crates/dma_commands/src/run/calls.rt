@@ -1,8 +1,6 @@
 //! The lines of a script that make one call, and `totals`.
-ghost use Rattle.std.specs.Prelude.{◌≡◌, ◌++◌, ◌∷◌, [], OnOk, OnErr, IfOk, count_by, is_some};
-ghost use Rattle.std.specs.List.{range_with_len};
+ghost use Rattle.std.specs.Prelude.{◌≡◌, ◌++◌, ◌∷◌, [], OnOk, OnErr, IfOk};
 ghost use Rattle.dma_engine.specs.Answer.{CallAnswers, answer};
-ghost use Rattle.dma_engine.specs.View.{channels, running_on};
 ghost use Rattle.dma_script.specs.Command.{text_of};
 ghost use Rattle.dma_commands.specs.inner.RunSteps.{RunsLine, read_at};
 ghost use Rattle.dma_commands.specs.Run.{call_answer, line_answer, submit_answer, totals_of};
@@ -153,16 +151,6 @@ pub(crate) fn answer_submit(
     }
 }
 
-/// Returns the number of running transfers.
-fn running_count(engine: &Engine) -> usize
-    ensures { result ≡ count_by (λ ch. is_some (running_on engine.now.view ch))
-        (range_with_len 0 (channels engine.now.view)) }
-{
-    (0..engine.channels())
-        .filter(|ch| engine.running(*ch).is_some())
-        .count()
-}
-
 /// Executes `totals`.
 #[inline(never)]
 pub(crate) fn answer_totals(engine: &Engine, out: &mut Vec<u8>) -> Result<(), AllocError>
@@ -175,5 +163,5 @@ pub(crate) fn answer_totals(engine: &Engine, out: &mut Vec<u8>) -> Result<(), Al
         " steps ",
         engine.steps(),
     );
-    print_line(out, &(counts, " running ", running_count(engine)))
+    print_line(out, &(counts, " running ", engine.running_count()))
 }

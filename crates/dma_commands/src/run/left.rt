@@ -3,13 +3,11 @@ ghost use Rattle.std.specs.Prelude.{◌≡◌, IfOk};
 ghost use Rattle.dma_engine.specs.View.{new_view};
 ghost use Rattle.dma_script.specs.Statements.{IsWithin};
 ghost use Rattle.dma_commands.specs.Left.{view_after};
-ghost use Rattle.dma_commands.specs.Run.{line_answer};
 
-use crate::run::run_statement;
+use crate::run::LinesOnEngine;
 use crate::run::steps::StepLines;
 use dma_engine::{Engine, NewFault};
-use dma_script::interpreter::Interpreter;
-use dma_script::statements::{RunScript, Statement};
+use dma_script::statements::RunScript;
 use std::alloc::{AllocError, Global};
 
 /// Returns a new engine as a memory line describes it. Fails if memory runs out.
@@ -24,24 +22,6 @@ pub fn new_engine(alloc: Global, script: &RunScript) -> Result<Engine, AllocErro
     }
 }
 
-/// Executes script lines on an engine of its own.
-#[derive(Drop)]
-struct LinesOnOwn {
-    engine: Engine,
-    steps: StepLines,
-}
-
-impl Interpreter for LinesOnOwn {
-    type Line = Statement;
-
-    ghost acts = { λ found line group left. line_answer found.engine.view line
-        ≡ (group, left.engine.view) };
-
-    fn interpret(&mut self, line: Statement, out: &mut Vec<u8>) -> Result<(), AllocError> {
-        run_statement(&mut self.engine, line, &mut self.steps, out)
-    }
-}
-
 /// Executes a script and returns the engine that it leaves. Nothing is printed. Fails if memory runs out.
 pub fn engine_after(alloc: Global, script: RunScript) -> Result<Engine, AllocError>
     requires { IsWithin script }
@@ -49,9 +29,9 @@ pub fn engine_after(alloc: Global, script: RunScript) -> Result<Engine, AllocErr
 {
     let engine = new_engine(alloc, &script)?;
     let steps = StepLines::new(alloc);
-    let mut lines = LinesOnOwn { engine, steps };
+    let mut lines = LinesOnEngine { engine, steps };
     let mut printed = Vec::new(alloc);
     script.statements.run(&mut lines, &mut printed)?;
-    let LinesOnOwn { engine, steps: _ } = lines;
+    let LinesOnEngine { engine, steps: _ } = lines;
     Ok(engine)
 }

@@ -10,15 +10,6 @@ returns-in-Err-clause-err g c =
     let early = c.run_early_statements-desk in
     subst (λ (d : DeskState). PrintsFirst d.engine.view c.args.lines c.args.out.now.items early.new.out.items) c.new.ensures (rw c.in-Err.is at early.ensures.err)
 
-pub returns-in_default-new-clause-err : goal.returns-in_default-new-clause-err
-returns-in_default-new-clause-err g c =
-    let old = c.args.out.now.items in
-    let early = c.run_early_statements-desk in
-    let mid = early.new.out.items in
-    let left = early.result.0.engine.view in
-    all_then_none c.args.parts.engine.view c.args.lines left old mid
-    (subst (λ (d : DeskState). PrintsAll d.engine.view c.args.lines left old mid) c.new.ensures (rw c.in_default.is at early.ensures.ok))
-
 pub returns-clause-ok : goal.returns-clause-ok
 returns-clause-ok g c =
     let old = c.args.out.now.items in
@@ -26,7 +17,7 @@ returns-clause-ok g c =
     let mid = early.new.out.items in
     let left = early.result.0.engine.view in
     let all = subst (λ (d : DeskState). PrintsAll d.engine.view c.args.lines left old mid) c.new.ensures (rw c.in_default.is at early.ensures.ok) in
-    IfOk-weaker c.go.result _ _ (λ engine totals. go_after c.args.parts.engine.view c.args.lines c.args.jobs.now left engine.view old mid c.go.new.out.items all totals) (rw c.in-Ok.ensures at c.go.ensures.ok)
+    IfOk-weaker c.go.result _ _ (λ engine totals. go_after c.args.parts.engine.view c.args.lines c.args.rota left engine.view old mid c.go.new.out.items all totals) c.go.ensures.ok
 
 pub returns-clause-err : goal.returns-clause-err
 returns-clause-err g c =
