@@ -62,11 +62,10 @@ pub extern "C" fn dma330_channel_open(alloc: Global, kept: &mut KeptChannel) -> 
         return NO_MEMORY;
     };
     let marks = Marks::new(alloc);
-    let Ok(marked) = Box::new(alloc, MarkedChannel { channel, marks }) else {
-        return NO_MEMORY;
-    };
-    kept.open(marked);
-    OK
+    match kept.open(alloc, MarkedChannel { channel, marks }) {
+        Ok(()) => OK,
+        Err(_) => NO_MEMORY,
+    }
 }
 
 /// Closes a channel and frees its memory, if it is open.

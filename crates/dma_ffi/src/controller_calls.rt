@@ -39,11 +39,10 @@ pub extern "C" fn dma330_open(
         Ok(engine) => engine,
         Err(fault) => return code_of_new(fault),
     };
-    let Ok(engine) = Box::new(alloc, engine) else {
-        return NO_MEMORY;
-    };
-    kept.open(engine);
-    OK
+    match kept.open(alloc, engine) {
+        Ok(()) => OK,
+        Err(_) => NO_MEMORY,
+    }
 }
 
 /// Closes a controller: frees its engine, if it has one.

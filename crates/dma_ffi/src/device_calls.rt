@@ -55,11 +55,10 @@ pub extern "C" fn dma330_device_open(
         Ok(device) => device,
         Err(fault) => return code_of_device(fault),
     };
-    let Ok(device) = Box::new(alloc, device) else {
-        return NO_MEMORY;
-    };
-    kept.open(device);
-    OK
+    match kept.open(alloc, device) {
+        Ok(()) => OK,
+        Err(_) => NO_MEMORY,
+    }
 }
 
 /// Closes a device and frees its memory, if it is open.
