@@ -1,7 +1,7 @@
 /* Carries out each group of the files that it is given, rows.txt and calls of dmasim, in three ways: with a call for each
  * step; with as few calls as possible; and the same again, where a call that fails must change no reading. Also checks
  * that every call has returned every code that the header names for it, and what no row covers: programs cut at each
- * byte, programs with all pairs of first bytes, the longest texts, and lengths above 32 bits. */
+ * byte, programs with all pairs of first bytes, the longest texts, lengths above 32 bits, and regions that end at 2^64. */
 #define _DEFAULT_SOURCE
 #include "lines.h"
 #include "rows.h"
@@ -333,6 +333,45 @@ static void call_with_long_lengths(void)
     munmap(bytes, len);
 }
 
+/* ---- regions that end at 2^64 or above, whose end modulo 2^64 would be accepted ---- */
+
+/* Returns whether a channel refuses a region of this length at address 16, and neither the flags, the report nor the
+ * bytes change. */
+static int refuses_region(dma330_channel *channel, size_t len)
+{
+    static uint8_t bytes[64];
+    static const uint8_t zeros[sizeof bytes];
+    dma330_region region = {16, NULL, 0, 0};
+    dma330_channel_report report, former;
+    uint32_t flags = 5;
+    memset(&report, 7, sizeof report);
+    memset(&former, 7, sizeof former);
+    region.bytes = bytes;
+    region.len = len;
+    return dma330_channel_load_from(channel, &region, 1, 16) == DMA330_BAD_REGIONS &&
+           dma330_channel_step(channel, &region, 1, &flags, 100, &report) == DMA330_BAD_REGIONS && flags == 5 &&
+           memcmp(&report, &former, sizeof report) == 0 && memcmp(bytes, zeros, sizeof bytes) == 0;
+}
+
+static void step_over_endless_regions(void)
+{
+    static uint8_t before[DMA330_MAX_SAVE], after[DMA330_MAX_SAVE];
+    const uint8_t sets_event_3[3] = {0x34, 0x18, 0x00};
+    dma330_channel channel = DMA330_CHANNEL_INIT;
+    size_t less, len = 0, left = 0;
+    if (!is_right(dma330_channel_open(&channel) == DMA330_OK &&
+                  dma330_channel_load_program(&channel, sets_event_3, sizeof sets_event_3) == DMA330_OK &&
+                  dma330_channel_save(&channel, before, sizeof before, &len) == DMA330_OK))
+        printf("WRONG: a channel that sets an event\n");
+    for (less = 1; less <= 16; less++)
+        if (!is_right(refuses_region(&channel, (size_t)0 - less)))
+            printf("WRONG: a region of 2^64 - %lu bytes\n", (unsigned long)less);
+    if (!is_right(dma330_channel_save(&channel, after, sizeof after, &left) == DMA330_OK && left == len &&
+                  memcmp(before, after, len) == 0))
+        printf("WRONG: a channel that refused regions\n");
+    dma330_channel_close(&channel);
+}
+
 int main(int count, char **words)
 {
     while (--count > 0) {
@@ -349,6 +388,7 @@ int main(int count, char **words)
     compare_version();
     write_longest_texts();
     call_with_long_lengths();
+    step_over_endless_regions();
     printf("%ld passed, %ld failed\n", passed, failed);
     return failed != 0;
 }

@@ -62,11 +62,10 @@ pub extern "C" fn dma330_channel_open(alloc: Global, kept: &mut KeptChannel) -> 
         return NO_MEMORY;
     };
     let marks = Marks::new(alloc);
-    let Ok(marked) = Box::new(alloc, MarkedChannel { channel, marks }) else {
-        return NO_MEMORY;
-    };
-    kept.open(marked);
-    OK
+    match kept.open(alloc, MarkedChannel { channel, marks }) {
+        Ok(()) => OK,
+        Err(_) => NO_MEMORY,
+    }
 }
 
 /// Closes a channel and frees its memory, if it is open.
@@ -83,16 +82,15 @@ pub extern "C" fn dma330_channel_close(alloc: Global, kept: &mut KeptChannel)
 fn load(alloc: Global, channel: &mut Channel, made: Result<Transfer, TransferFault>) -> i32
     ensures { LoadsMade made channel.old result channel.new }
 {
-    let transfer = match made {
-        Ok(transfer) => transfer,
-        Err(fault) => return code_of_transfer(fault),
-    };
-    match compile(alloc, &transfer) {
-        Ok(program) => {
-            channel.load(program);
-            OK
-        }
-        Err(_) => NO_MEMORY,
+    match made {
+        Ok(transfer) => match compile(alloc, &transfer) {
+            Ok(program) => {
+                channel.load(program);
+                OK
+            }
+            Err(_) => NO_MEMORY,
+        },
+        Err(fault) => code_of_transfer(fault),
     }
 }
 
@@ -110,7 +108,7 @@ pub extern "C" fn dma330_channel_load_copy(
     ensures { OnChannel (LoadsCopy (copying src.now dst.now (event_of wait) (event_of signal)))
         kept.old.channel.value result kept.new.channel.value }
 {
-    let Some(marked) = kept.as_kept().get_mut() else {
+    let Some(marked) = kept.get_mut() else {
         return NOT_OPEN;
     };
     let made = Transfer::new(alloc, src, dst, event_of(wait), event_of(signal));
@@ -131,7 +129,7 @@ pub extern "C" fn dma330_channel_load_fill(
     ensures { OnChannel (LoadsFill src dst.now (event_of wait) (event_of signal))
         kept.old.channel.value result kept.new.channel.value }
 {
-    let Some(marked) = kept.as_kept().get_mut() else {
+    let Some(marked) = kept.get_mut() else {
         return NOT_OPEN;
     };
     let made = Transfer::fill(alloc, src, dst, event_of(wait), event_of(signal));
@@ -145,7 +143,7 @@ pub extern "C" fn dma330_channel_load_program(kept: &mut KeptChannel, program: &
     ensures { OnChannel (LoadsBytes program.now) kept.old.channel.value result
         kept.new.channel.value }
 {
-    let Some(marked) = kept.as_kept().get_mut() else {
+    let Some(marked) = kept.get_mut() else {
         return NOT_OPEN;
     };
     if program.len() > MAX_PROGRAM_BYTES {
@@ -173,7 +171,7 @@ pub extern "C" fn dma330_channel_load_from(
     ensures { OnChannel (LoadsFrom regions.now addr) kept.old.channel.value result
         kept.new.channel.value }
 {
-    let Some(marked) = kept.as_kept().get_mut() else {
+    let Some(marked) = kept.get_mut() else {
         return NOT_OPEN;
     };
     if !are_usable(regions) {
@@ -188,7 +186,7 @@ pub extern "C" fn dma330_channel_load_from(
 pub extern "C" fn dma330_channel_stop(kept: &mut KeptChannel) -> i32
     ensures { Becomes stopped kept.old.channel.value result kept.new.channel.value }
 {
-    let Some(marked) = kept.as_kept().get_mut() else {
+    let Some(marked) = kept.get_mut() else {
         return NOT_OPEN;
     };
     marked.channel.unload();
@@ -224,7 +222,7 @@ pub extern "C" fn dma330_channel_registers(
     ensures { WritesValue (λ m. registers_of m.channel) kept.old.channel.value result
         registers.old registers.new kept.new.channel.value }
 {
-    let Some(marked) = kept.as_kept().get_mut() else {
+    let Some(marked) = kept.get_mut() else {
         return NOT_OPEN;
     };
     *registers = registers_of(&marked.channel);
@@ -238,7 +236,7 @@ pub extern "C" fn dma330_channel_mark(kept: &mut KeptChannel, kind: u32, range: 
     ensures { OnOpen (MarksRange (mark_kind kind) range) kept.old.channel.value result
         kept.new.channel.value }
 {
-    let Some(marked) = kept.as_kept().get_mut() else {
+    let Some(marked) = kept.get_mut() else {
         return NOT_OPEN;
     };
     let Some(kind) = kind_of(kind) else {
@@ -258,7 +256,7 @@ pub extern "C" fn dma330_channel_mark(kept: &mut KeptChannel, kind: u32, range: 
 pub extern "C" fn dma330_channel_unmark(kept: &mut KeptChannel) -> i32
     ensures { Becomes unmarked kept.old.channel.value result kept.new.channel.value }
 {
-    let Some(marked) = kept.as_kept().get_mut() else {
+    let Some(marked) = kept.get_mut() else {
         return NOT_OPEN;
     };
     marked.marks.clear();
@@ -278,7 +276,7 @@ pub extern "C" fn dma330_channel_save(
     ensures { WritesSave save_of FitsSave kept.old.channel.value result out.old out.new
         len.old len.new kept.new.channel.value }
 {
-    let Some(marked) = kept.as_kept().get_mut() else {
+    let Some(marked) = kept.get_mut() else {
         return NOT_OPEN;
     };
     found(marked.channel.save(out), len, BUFFER_TOO_SMALL)
@@ -289,7 +287,7 @@ pub extern "C" fn dma330_channel_save(
 pub extern "C" fn dma330_channel_restore(kept: &mut KeptChannel, save: &[u8]) -> i32
     ensures { OnChannel (Restores save.now) kept.old.channel.value result kept.new.channel.value }
 {
-    let Some(marked) = kept.as_kept().get_mut() else {
+    let Some(marked) = kept.get_mut() else {
         return NOT_OPEN;
     };
     match marked.channel.restore(save, Bus::Ideal) {

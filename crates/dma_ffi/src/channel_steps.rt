@@ -124,7 +124,7 @@ pub extern "C" fn dma330_channel_step(
         most result report.old report.new
         (record { channel = kept.new.channel.value; regions = regions.new; flags = flags.new }) }
 {
-    let Some(marked) = kept.as_kept().get_mut() else {
+    let Some(marked) = kept.get_mut() else {
         return NOT_OPEN;
     };
     if !are_usable(regions) {

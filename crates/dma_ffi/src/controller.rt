@@ -2,6 +2,7 @@
 
 ghost use Rattle.std.specs.Prelude.{◌≡◌, ◌↔◌, IsTrue, IsSome, Option};
 ghost use Rattle.std.specs.Borrow.{sem};
+ghost use Rattle.std.specs.Option.{option_map};
 ghost use Rattle.dma_engine.specs.View.{EngineState};
 ghost use Rattle.dma_engine.specs.contracts.engine.Engine.{the_row};
 ghost use Rattle.dma_ffi.specs.inner.Owned.{owned};
@@ -35,14 +36,22 @@ pub struct Controller {
 }
 
 impl Controller {
-    ghost use Rattle.dma_ffi.specs.inner.Lending.{LendsController};
+    ghost use Rattle.dma_ffi.specs.inner.Lending.{LendsController, LendsEngine, of_controller};
 
     /// Returns the controller as a [`Kept`], which has the same fields.
     pub fn as_kept(&mut self) -> &mut Kept<Engine>
         ensures* writes_back { sem 𝓛 (LendsController self.entry result) }
-        ensures value { result.now.at.value ≡ self.old.engine.value }
+        ensures value { result.now ≡ of_controller self.old }
     {
         unsafe { &mut *(self as *mut Controller as *mut Kept<Engine>) }
+    }
+
+    /// Returns the engine, if any.
+    pub fn get_mut(&mut self) -> Option<&mut Engine>
+        ensures* writes_back { sem 𝓛 (LendsEngine self.entry result) }
+        ensures value { option_map (λ r. r.now) result ≡ self.old.engine.value }
+    {
+        self.as_kept().get_mut()
     }
 }
 

@@ -39,11 +39,10 @@ pub extern "C" fn dma330_open(
         Ok(engine) => engine,
         Err(fault) => return code_of_new(fault),
     };
-    let Ok(engine) = Box::new(alloc, engine) else {
-        return NO_MEMORY;
-    };
-    kept.open(engine);
-    OK
+    match kept.open(alloc, engine) {
+        Ok(()) => OK,
+        Err(_) => NO_MEMORY,
+    }
 }
 
 /// Closes a controller: frees its engine, if it has one.
@@ -66,7 +65,7 @@ pub extern "C" fn dma330_write(
     ensures { Returns controller.old.engine.value (ask_call (Call.Write addr bytes.now)) result
         (a_conflict conflict.old conflict.new) controller.new.engine.value }
 {
-    let Some(engine) = controller.as_kept().get_mut() else {
+    let Some(engine) = controller.get_mut() else {
         return NOT_OPEN;
     };
     done_unless(engine.write(addr, bytes), conflict)
@@ -85,7 +84,7 @@ pub extern "C" fn dma330_read(
         result (bytes_or_conflict out.old out.new conflict.old conflict.new)
         controller.new.engine.value }
 {
-    let Some(engine) = controller.as_kept().get_mut() else {
+    let Some(engine) = controller.get_mut() else {
         return NOT_OPEN;
     };
     done_unless(engine.read_into(addr, out), conflict)
@@ -126,7 +125,7 @@ pub extern "C" fn dma330_submit(
         (ask_copy ch (copying src.now dst.now (event_of wait) (event_of signal))) result
         (a_number cookie.old cookie.new) controller.new.engine.value }
 {
-    let Some(engine) = controller.as_kept().get_mut() else {
+    let Some(engine) = controller.get_mut() else {
         return NOT_OPEN;
     };
     let made = Transfer::new(alloc, src, dst, event_of(wait), event_of(signal));
@@ -150,7 +149,7 @@ pub extern "C" fn dma330_submit_fill(
         (ask_fill ch src dst.now (event_of wait) (event_of signal)) result
         (a_number cookie.old cookie.new) controller.new.engine.value }
 {
-    let Some(engine) = controller.as_kept().get_mut() else {
+    let Some(engine) = controller.get_mut() else {
         return NOT_OPEN;
     };
     let made = Transfer::fill(alloc, src, dst, event_of(wait), event_of(signal));
@@ -163,7 +162,7 @@ pub extern "C" fn dma330_issue(controller: &mut Controller, ch: u8, count: &mut 
     ensures { Returns controller.old.engine.value (ask_call (Call.Issue ch)) result
         (a_number count.old count.new) controller.new.engine.value }
 {
-    let Some(engine) = controller.as_kept().get_mut() else {
+    let Some(engine) = controller.get_mut() else {
         return NOT_OPEN;
     };
     answered(engine.issue(ch), count)
@@ -175,7 +174,7 @@ pub extern "C" fn dma330_pause(controller: &mut Controller, ch: u8) -> i32
     ensures { Returns controller.old.engine.value (ask_call (Call.Pause ch)) result nothing
         controller.new.engine.value }
 {
-    let Some(engine) = controller.as_kept().get_mut() else {
+    let Some(engine) = controller.get_mut() else {
         return NOT_OPEN;
     };
     done(engine.pause(ch))
@@ -187,7 +186,7 @@ pub extern "C" fn dma330_resume(controller: &mut Controller, ch: u8) -> i32
     ensures { Returns controller.old.engine.value (ask_call (Call.Resume ch)) result nothing
         controller.new.engine.value }
 {
-    let Some(engine) = controller.as_kept().get_mut() else {
+    let Some(engine) = controller.get_mut() else {
         return NOT_OPEN;
     };
     done(engine.resume(ch))
@@ -199,7 +198,7 @@ pub extern "C" fn dma330_terminate(controller: &mut Controller, ch: u8, count: &
     ensures { Returns controller.old.engine.value (ask_call (Call.Terminate ch)) result
         (a_number count.old count.new) controller.new.engine.value }
 {
-    let Some(engine) = controller.as_kept().get_mut() else {
+    let Some(engine) = controller.get_mut() else {
         return NOT_OPEN;
     };
     answered(engine.terminate(ch), count)
@@ -217,7 +216,7 @@ pub extern "C" fn dma330_step(
     ensures { Returns controller.old.engine.value (ask_steps ch most) result
         (a_report report.old report.new) controller.new.engine.value }
 {
-    let Some(engine) = controller.as_kept().get_mut() else {
+    let Some(engine) = controller.get_mut() else {
         return NOT_OPEN;
     };
     let steps = take_steps(engine, ch, most);
@@ -230,7 +229,7 @@ pub extern "C" fn dma330_status(controller: &mut Controller, ch: u8, cookie: u32
     ensures { Returns controller.old.engine.value (ask_call (Call.Status ch cookie)) result nothing
         controller.new.engine.value }
 {
-    let Some(engine) = controller.as_kept().get_mut() else {
+    let Some(engine) = controller.get_mut() else {
         return NOT_OPEN;
     };
     code_of_status(engine.status(ch, cookie))
@@ -247,7 +246,7 @@ pub extern "C" fn dma330_result(
     ensures { Returns controller.old.engine.value (ask_call (Call.Result ch cookie)) result
         (an_outcome outcome.old outcome.new) controller.new.engine.value }
 {
-    let Some(engine) = controller.as_kept().get_mut() else {
+    let Some(engine) = controller.get_mut() else {
         return NOT_OPEN;
     };
     let known = engine.result(ch, cookie);
@@ -260,7 +259,7 @@ pub extern "C" fn dma330_running(controller: &mut Controller, ch: u8, run: &mut 
     ensures { Returns controller.old.engine.value (ask_value (the_run ch)) result
         (a_run run.old run.new) controller.new.engine.value }
 {
-    let Some(engine) = controller.as_kept().get_mut() else {
+    let Some(engine) = controller.get_mut() else {
         return NOT_OPEN;
     };
     found(engine.running(ch), run, NOT_RUNNING)
@@ -272,7 +271,7 @@ pub extern "C" fn dma330_unfinished(controller: &mut Controller, ch: u8, count: 
     ensures { Returns controller.old.engine.value (ask_value (the_unfinished ch)) result
         (a_number count.old count.new) controller.new.engine.value }
 {
-    let Some(engine) = controller.as_kept().get_mut() else {
+    let Some(engine) = controller.get_mut() else {
         return NOT_OPEN;
     };
     *count = engine.unfinished(ch);
@@ -285,7 +284,7 @@ pub extern "C" fn dma330_forgotten(controller: &mut Controller, ch: u8, count: &
     ensures { Returns controller.old.engine.value (ask_value (the_forgotten ch)) result
         (a_number count.old count.new) controller.new.engine.value }
 {
-    let Some(engine) = controller.as_kept().get_mut() else {
+    let Some(engine) = controller.get_mut() else {
         return NOT_OPEN;
     };
     *count = engine.forgotten(ch);
@@ -298,7 +297,7 @@ pub extern "C" fn dma330_mark(controller: &mut Controller, kind: u32, range: Seg
     ensures { Returns controller.old.engine.value (ask_mark kind range) result nothing
         controller.new.engine.value }
 {
-    let Some(engine) = controller.as_kept().get_mut() else {
+    let Some(engine) = controller.get_mut() else {
         return NOT_OPEN;
     };
     match kind_of(kind) {
@@ -313,7 +312,7 @@ pub extern "C" fn dma330_unmark(controller: &mut Controller) -> i32
     ensures { Returns controller.old.engine.value (ask_call Call.Unmark) result nothing
         controller.new.engine.value }
 {
-    let Some(engine) = controller.as_kept().get_mut() else {
+    let Some(engine) = controller.get_mut() else {
         return NOT_OPEN;
     };
     done(engine.unmark())
@@ -325,7 +324,7 @@ pub extern "C" fn dma330_raise(controller: &mut Controller, event: u8) -> i32
     ensures { Returns controller.old.engine.value (ask_call (Call.Raise event)) result nothing
         controller.new.engine.value }
 {
-    let Some(engine) = controller.as_kept().get_mut() else {
+    let Some(engine) = controller.get_mut() else {
         return NOT_OPEN;
     };
     done(engine.raise(event))
@@ -338,7 +337,7 @@ pub extern "C" fn dma330_checkpoint(controller: &mut Controller, conflict: &mut 
     ensures { Returns controller.old.engine.value (ask_call Call.Checkpoint) result
         (a_conflict conflict.old conflict.new) controller.new.engine.value }
 {
-    let Some(engine) = controller.as_kept().get_mut() else {
+    let Some(engine) = controller.get_mut() else {
         return NOT_OPEN;
     };
     done_unless(engine.checkpoint(), conflict)
@@ -350,7 +349,7 @@ pub extern "C" fn dma330_steps(controller: &mut Controller, steps: &mut u64) -> 
     ensures { Returns controller.old.engine.value (ask_value the_steps) result
         (a_number steps.old steps.new) controller.new.engine.value }
 {
-    let Some(engine) = controller.as_kept().get_mut() else {
+    let Some(engine) = controller.get_mut() else {
         return NOT_OPEN;
     };
     *steps = engine.steps();
@@ -363,7 +362,7 @@ pub extern "C" fn dma330_history_entries(controller: &mut Controller, count: &mu
     ensures { Returns controller.old.engine.value (ask_value the_history_entries) result
         (a_number count.old count.new) controller.new.engine.value }
 {
-    let Some(engine) = controller.as_kept().get_mut() else {
+    let Some(engine) = controller.get_mut() else {
         return NOT_OPEN;
     };
     *count = engine.history().len() as u64;
@@ -376,7 +375,7 @@ pub extern "C" fn dma330_history_bytes(controller: &mut Controller, count: &mut 
     ensures { Returns controller.old.engine.value (ask_value the_history_bytes) result
         (a_number count.old count.new) controller.new.engine.value }
 {
-    let Some(engine) = controller.as_kept().get_mut() else {
+    let Some(engine) = controller.get_mut() else {
         return NOT_OPEN;
     };
     *count = engine.history_bytes();
@@ -389,7 +388,7 @@ pub extern "C" fn dma330_running_count(controller: &mut Controller, count: &mut 
     ensures { Returns controller.old.engine.value (ask_value the_running_count) result
         (a_number count.old count.new) controller.new.engine.value }
 {
-    let Some(engine) = controller.as_kept().get_mut() else {
+    let Some(engine) = controller.get_mut() else {
         return NOT_OPEN;
     };
     *count = u32::from(engine.running_count());

@@ -55,11 +55,10 @@ pub extern "C" fn dma330_device_open(
         Ok(device) => device,
         Err(fault) => return code_of_device(fault),
     };
-    let Ok(device) = Box::new(alloc, device) else {
-        return NO_MEMORY;
-    };
-    kept.open(device);
-    OK
+    match kept.open(alloc, device) {
+        Ok(()) => OK,
+        Err(_) => NO_MEMORY,
+    }
 }
 
 /// Closes a device and frees its memory, if it is open.
@@ -76,7 +75,7 @@ pub extern "C" fn dma330_device_reset(kept: &mut KeptDevice) -> i32
     ensures { Becomes (λ d. reset_device d.config) kept.old.device.value result
         kept.new.device.value }
 {
-    let Some(device) = kept.as_kept().get_mut() else {
+    let Some(device) = kept.get_mut() else {
         return NOT_OPEN;
     };
     device.reset();
@@ -91,7 +90,7 @@ pub extern "C" fn dma330_device_read(kept: &mut KeptDevice, offset: u32, value: 
     ensures { WritesValue (λ d. read_at d offset) kept.old.device.value result value.old value.new
         kept.new.device.value }
 {
-    let Some(device) = kept.as_kept().get_mut() else {
+    let Some(device) = kept.get_mut() else {
         return NOT_OPEN;
     };
     *value = device.read(offset);
@@ -110,7 +109,7 @@ pub extern "C" fn dma330_device_write(
     ensures { OnOpen (WritesRegister regions.now offset value) kept.old.device.value result
         kept.new.device.value }
 {
-    let Some(device) = kept.as_kept().get_mut() else {
+    let Some(device) = kept.get_mut() else {
         return NOT_OPEN;
     };
     if are_usable(regions) {
@@ -147,7 +146,7 @@ pub extern "C" fn dma330_device_step(
     ensures { ReportsTurn channel most kept.old.device.value regions.old turn.old result
         kept.new.device.value regions.new turn.new }
 {
-    let Some(device) = kept.as_kept().get_mut() else {
+    let Some(device) = kept.get_mut() else {
         return NOT_OPEN;
     };
     if !are_usable(regions) {
@@ -164,7 +163,7 @@ pub extern "C" fn dma330_device_irqs(kept: &mut KeptDevice, lines: &mut u32) -> 
     ensures { WritesValue irqs kept.old.device.value result lines.old lines.new
         kept.new.device.value }
 {
-    let Some(device) = kept.as_kept().get_mut() else {
+    let Some(device) = kept.get_mut() else {
         return NOT_OPEN;
     };
     *lines = device.irqs();
@@ -177,7 +176,7 @@ pub extern "C" fn dma330_device_irq_abort(kept: &mut KeptDevice, line: &mut u32)
     ensures { WritesValue abort_line kept.old.device.value result line.old line.new
         kept.new.device.value }
 {
-    let Some(device) = kept.as_kept().get_mut() else {
+    let Some(device) = kept.get_mut() else {
         return NOT_OPEN;
     };
     *line = u32::from(device.irq_abort());
@@ -190,7 +189,7 @@ pub extern "C" fn dma330_device_can_step(kept: &mut KeptDevice, can_step: &mut u
     ensures { WritesValue any_can_step kept.old.device.value result can_step.old can_step.new
         kept.new.device.value }
 {
-    let Some(device) = kept.as_kept().get_mut() else {
+    let Some(device) = kept.get_mut() else {
         return NOT_OPEN;
     };
     *can_step = u32::from(device.can_step());
@@ -205,7 +204,7 @@ pub extern "C" fn dma330_device_save(kept: &mut KeptDevice, out: &mut [u8], len:
     ensures { WritesSave saved_device FitsSave kept.old.device.value result out.old out.new
         len.old len.new kept.new.device.value }
 {
-    let Some(device) = kept.as_kept().get_mut() else {
+    let Some(device) = kept.get_mut() else {
         return NOT_OPEN;
     };
     found(device.save(out), len, BUFFER_TOO_SMALL)
@@ -228,7 +227,7 @@ fn code_of_restore(answer: Result<(), RestoreFault>) -> i32
 pub extern "C" fn dma330_device_restore(kept: &mut KeptDevice, save: &[u8]) -> i32
     ensures { OnOpen (Restores save.now) kept.old.device.value result kept.new.device.value }
 {
-    let Some(device) = kept.as_kept().get_mut() else {
+    let Some(device) = kept.get_mut() else {
         return NOT_OPEN;
     };
     code_of_restore(device.restore(save))

@@ -292,7 +292,7 @@ pub extern "C" fn dma330_device_explain(
         })
         kept.new.device.value }
 {
-    let Some(device) = kept.as_kept().get_mut() else {
+    let Some(device) = kept.get_mut() else {
         return NOT_OPEN;
     };
     let found = device.explain(alloc, channel, most);

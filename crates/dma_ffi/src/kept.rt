@@ -1,11 +1,11 @@
 //! A value that C keeps between calls, of any type.
 
-ghost use Rattle.std.specs.Prelude.{◌≡◌, ◌↔◌, IsTrue, IsSome, None, Some};
+ghost use Rattle.std.specs.Prelude.{◌≡◌, ◌↔◌, IsTrue, IsSome, None, OnErr, OnOk, Some};
 ghost use Rattle.std.specs.Borrow.{sem};
 ghost use Rattle.std.specs.Option.{option_map};
 
 use crate::heap_pointer::HeapPointer;
-use std::alloc::Global;
+use std::alloc::{AllocError, Global};
 
 /// A value on the heap, or none. It has no `Drop`, so the compiler rejects code that drops or overwrites it.
 #[repr(C)]
@@ -37,13 +37,16 @@ impl<T: Drop> Kept<T> {
         }
     }
 
-    /// Keeps a value, where there was none.
-    pub fn open(&mut self, value: Box<T>)
+    /// Keeps a value, where there was none. Fails if out of memory.
+    pub fn open(&mut self, alloc: Global, value: T) -> Result<(), AllocError>
         requires { self.old.at.value ≡ None }
-        ensures { self.new.at.value ≡ Some value.value }
+        ensures ok { OnOk result (self.new.at.value ≡ Some value) }
+        ensures err { OnErr result (self.new.at.value ≡ None) }
     {
-        std::mem::replace(&mut self.at, HeapPointer::of(value)).end();
+        let value = HeapPointer::of(Box::new(alloc, value)?);
+        std::mem::replace(&mut self.at, value).end();
         self.is_open = true;
+        Ok(())
     }
 
     /// Frees the value, if any.

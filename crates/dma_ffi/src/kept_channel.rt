@@ -2,6 +2,7 @@
 
 ghost use Rattle.std.specs.Prelude.{◌≡◌, ◌↔◌, IsTrue, IsSome, Option};
 ghost use Rattle.std.specs.Borrow.{sem};
+ghost use Rattle.std.specs.Option.{option_map};
 ghost use Rattle.dma_ffi.specs.declared.marked_channel.MarkedChannel.{MarkedChannel};
 ghost use Rattle.dma_ffi.specs.contracts.marked_channel.MarkedChannel.{the_row};
 ghost use Rattle.dma_ffi.specs.inner.Owned.{owned};
@@ -36,14 +37,22 @@ pub struct KeptChannel {
 }
 
 impl KeptChannel {
-    ghost use Rattle.dma_ffi.specs.inner.Lending.{LendsKeptChannel};
+    ghost use Rattle.dma_ffi.specs.inner.Lending.{LendsChannel, LendsKeptChannel, of_channel};
 
     /// Returns the channel as a [`Kept`], which has the same fields.
     pub fn as_kept(&mut self) -> &mut Kept<MarkedChannel>
         ensures* writes_back { sem 𝓛 (LendsKeptChannel self.entry result) }
-        ensures value { result.now.at.value ≡ self.old.channel.value }
+        ensures value { result.now ≡ of_channel self.old }
     {
         unsafe { &mut *(self as *mut KeptChannel as *mut Kept<MarkedChannel>) }
+    }
+
+    /// Returns the channel, if any.
+    pub fn get_mut(&mut self) -> Option<&mut MarkedChannel>
+        ensures* writes_back { sem 𝓛 (LendsChannel self.entry result) }
+        ensures value { option_map (λ r. r.now) result ≡ self.old.channel.value }
+    {
+        self.as_kept().get_mut()
     }
 }
 

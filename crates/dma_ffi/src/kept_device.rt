@@ -2,6 +2,7 @@
 
 ghost use Rattle.std.specs.Prelude.{◌≡◌, ◌↔◌, IsTrue, IsSome, Option};
 ghost use Rattle.std.specs.Borrow.{sem};
+ghost use Rattle.std.specs.Option.{option_map};
 ghost use Rattle.dma_device.specs.Device.{DeviceValue};
 ghost use Rattle.dma_device.specs.contracts.device.Device.{the_row};
 ghost use Rattle.dma_ffi.specs.inner.Owned.{owned};
@@ -36,14 +37,22 @@ pub struct KeptDevice {
 }
 
 impl KeptDevice {
-    ghost use Rattle.dma_ffi.specs.inner.Lending.{LendsKeptDevice};
+    ghost use Rattle.dma_ffi.specs.inner.Lending.{LendsDevice, LendsKeptDevice, of_device};
 
     /// Returns the device as a [`Kept`], which has the same fields.
     pub fn as_kept(&mut self) -> &mut Kept<Device>
         ensures* writes_back { sem 𝓛 (LendsKeptDevice self.entry result) }
-        ensures value { result.now.at.value ≡ self.old.device.value }
+        ensures value { result.now ≡ of_device self.old }
     {
         unsafe { &mut *(self as *mut KeptDevice as *mut Kept<Device>) }
+    }
+
+    /// Returns the device, if any.
+    pub fn get_mut(&mut self) -> Option<&mut Device>
+        ensures* writes_back { sem 𝓛 (LendsDevice self.entry result) }
+        ensures value { option_map (λ r. r.now) result ≡ self.old.device.value }
+    {
+        self.as_kept().get_mut()
     }
 }
 

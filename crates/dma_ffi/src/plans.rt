@@ -26,13 +26,12 @@ fn plan(
 ) -> i32
     ensures { PlansMade made bus result out.old out.new len.old len.new }
 {
-    let transfer = match made {
-        Ok(transfer) => transfer,
-        Err(fault) => return code_of_transfer(fault),
-    };
-    match compile_on(alloc, bus, &transfer) {
-        Ok(program) => copy_out(program.bytes(), out, len),
-        Err(_) => NO_MEMORY,
+    match made {
+        Ok(transfer) => match compile_on(alloc, bus, &transfer) {
+            Ok(program) => copy_out(program.bytes(), out, len),
+            Err(_) => NO_MEMORY,
+        },
+        Err(fault) => code_of_transfer(fault),
     }
 }
 

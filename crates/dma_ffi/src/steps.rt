@@ -6,7 +6,7 @@ ghost use Rattle.dma_ffi.specs.Requests.{AnswersSteps, steps_answer, turn_before
 use dma_engine::{Engine, EngineFault, Turn};
 
 /// The steps that were taken.
-#[derive(Clone, Copy, Debug, PartialEq, Eq)]
+#[derive(Clone, Copy)]
 pub struct StepsTaken {
     /// Their number.
     pub count: u32,

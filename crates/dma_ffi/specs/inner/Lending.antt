@@ -35,22 +35,52 @@ LendsKept R s r = LendsIf (kept_row R) R s r (holding R (s.now)) (s.now)
 abbrev pub as_controller : Kept EngineState → Controller
 as_controller k = record { engine = record { at = k.at.at; value = k.at.value }; is_open = k.is_open; holds = k.holds }
 
+-- the other way round
+abbrev pub of_controller : Controller → Kept EngineState
+of_controller c =
+    record { at = record { at = c.engine.at; value = c.engine.value }; is_open = c.is_open; holds = c.holds }
+
 -- a controller lends itself as a kept engine
 abbrev pub LendsController : MutBor Controller → MutBor (Kept EngineState) → Fml
 LendsController s r = Lends controller_row (kept_row engine_row) s r as_controller
+
+-- it lends its engine, if any
+abbrev pub LendsEngine : MutBor Controller → Option (MutBor EngineState) → Fml
+LendsEngine s r =
+    LendsIf controller_row engine_row s r (λ w. as_controller (holding engine_row (of_controller (s.now)) w)) (s.now)
 
 -- a kept channel in the form for C
 abbrev pub as_channel : Kept MarkedChannel → KeptChannel
 as_channel k = record { channel = record { at = k.at.at; value = k.at.value }; is_open = k.is_open; holds = k.holds }
 
+-- the other way round
+abbrev pub of_channel : KeptChannel → Kept MarkedChannel
+of_channel c =
+    record { at = record { at = c.channel.at; value = c.channel.value }; is_open = c.is_open; holds = c.holds }
+
 -- a channel lends itself as a kept one
 abbrev pub LendsKeptChannel : MutBor KeptChannel → MutBor (Kept MarkedChannel) → Fml
 LendsKeptChannel s r = Lends kept_channel_row (kept_row channel_row) s r as_channel
+
+-- it lends its channel, if any
+abbrev pub LendsChannel : MutBor KeptChannel → Option (MutBor MarkedChannel) → Fml
+LendsChannel s r =
+    LendsIf kept_channel_row channel_row s r (λ w. as_channel (holding channel_row (of_channel (s.now)) w)) (s.now)
 
 -- a kept device in the form for C
 abbrev pub as_device : Kept DeviceValue → KeptDevice
 as_device k = record { device = record { at = k.at.at; value = k.at.value }; is_open = k.is_open; holds = k.holds }
 
+-- the other way round
+abbrev pub of_device : KeptDevice → Kept DeviceValue
+of_device c =
+    record { at = record { at = c.device.at; value = c.device.value }; is_open = c.is_open; holds = c.holds }
+
 -- a device lends itself as a kept one
 abbrev pub LendsKeptDevice : MutBor KeptDevice → MutBor (Kept DeviceValue) → Fml
 LendsKeptDevice s r = Lends kept_device_row (kept_row device_row) s r as_device
+
+-- it lends its device, if any
+abbrev pub LendsDevice : MutBor KeptDevice → Option (MutBor DeviceValue) → Fml
+LendsDevice s r =
+    LendsIf kept_device_row device_row s r (λ w. as_device (holding device_row (of_device (s.now)) w)) (s.now)

@@ -8,7 +8,7 @@ use Rattle.dma_ffi.proofs.channel_calls.dma330_channel_load_copy.Goals as goal
 
 pub returns : goal.returns
 returns c =
-    let held = (rw c.in-Some.is at c.get_mut.ensures.value) ∙ c.as_kept.ensures.value in
+    let held = rw c.in-Some.is at c.get_mut.ensures.value in
     let m = c.in-Some.marked.now in
     let d = c.load.new.channel in
     let src = c.args.src.now in

@@ -14,7 +14,7 @@ at c regions flags = record { channel = c; image = image_of (pieces_of regions);
 
 pub returns : goal.returns
 returns c =
-    let held = (rw c.in-Some.is at c.get_mut.ensures.value) ∙ c.as_kept.ensures.value in
+    let held = rw c.in-Some.is at c.get_mut.ensures.value in
     let taken = c.step_regions-taken in
     let most = c.args.most in
     let regions = c.args.regions.now in

@@ -7,7 +7,7 @@ use Rattle.dma_ffi.proofs.controller_calls.dma330_submit_fill.Goals as goal
 
 pub returns : goal.returns
 returns c =
-    let held = (rw c.in-Some.is at c.get_mut.ensures.value) ∙ c.as_kept.ensures.value in
+    let held = rw c.in-Some.is at c.get_mut.ensures.value in
     let e = c.in-Some.engine.now in
     let e' = c.submit.new.engine in
     let before = c.args.cookie.now in

@@ -1,4 +1,4 @@
-use Rattle.std.proofs.Common.{◌∙◌, ℤ, Some, refl, subst, sym, w32, to_z, of_z}
+use Rattle.std.proofs.Common.{ℤ, Some, refl, subst, sym, w32, to_z, of_z}
 use Rattle.std.proofs.lemmas.Int.{to_z-of_z}
 use Rattle.dma_ffi.specs.Explaining.{Outputs}
 use Rattle.dma_ffi.specs.inner.Found.{AnswersDevice}
@@ -7,7 +7,7 @@ use Rattle.dma_ffi.proofs.explaining.dma330_device_explain.Goals as goal
 
 pub returns : goal.returns
 returns c =
-    let held = (rw c.in-Some.is at c.get_mut.ensures.value) ∙ c.as_kept.ensures.value in
+    let held = rw c.in-Some.is at c.get_mut.ensures.value in
     let d = c.in-Some.device.now in
     let code = c.answer_device.result in
     let before : Outputs = record { src = c.args.src.now; dst = c.args.dst.now; happenings = c.args.happenings.now; explanation = c.args.explanation.now } in
