@@ -5,14 +5,14 @@ const INTERVAL: u32 = 1 << 22;
 
 /// Receives reports of how far a run has come. No result depends on what it does with them.
 pub trait Progress {
-    /// `steps` instructions were executed so far.
-    fn report(&mut self, steps: u32);
+    /// So many things of a kind, such as instructions, are done so far.
+    fn report(&mut self, done: u64, kind: &str);
 }
 
 /// Reports the number of instructions, if it is a multiple of the interval.
 #[inline(always)]
 pub(crate) fn report<P: Progress>(progress: &mut P, steps: u32) {
     if steps % INTERVAL == 0 {
-        progress.report(steps);
+        progress.report(u64::from(steps), "instructions");
     }
 }
