@@ -4,8 +4,10 @@ ghost use Rattle.std.specs.Prelude.{◌≡◌, ◌+◌, ◌<◌, ◌≤◌, ◌+
 ghost use Rattle.std.specs.List.{sum_by};
 ghost use Rattle.std.specs.Str.Lines.{lines};
 ghost use Rattle.dma_engine.specs.Answer.{answer, answers, reply_of};
+ghost use Rattle.dma_engine.specs.View.{new_view};
 ghost use Rattle.dma_script.specs.Command.{printed_text};
 ghost use Rattle.dma_script.specs.Race.{IsRace};
+ghost use Rattle.dma_script.specs.Statements.{IsWithin};
 ghost use Rattle.dma_commands.specs.Left.{lines_left};
 ghost use Rattle.dma_commands.specs.Run.{line_answer, lines_answered};
 ghost use Rattle.dma_seeds.specs.Expect.{lines_verdict, verdict, without_expects};
@@ -22,7 +24,7 @@ use dma_script::fault::ScriptError;
 use dma_script::interpreter::Interpreter;
 use dma_script::printing::print_line;
 use dma_script::race::{Jobs, RaceScript, read_race_script};
-use dma_script::statements::{Statement, Statements};
+use dma_script::statements::{RunScript, Statement, Statements};
 use std::alloc::{AllocError, Global};
 
 /// An engine, and the length of what each line of a script printed that was executed on it.
@@ -48,6 +50,21 @@ impl Interpreter for MeasuredEngine {
         run_line(&mut self.engine, line, out)?;
         self.lengths.push_reserved(out.len() - start);
         Ok(())
+    }
+}
+
+impl MeasuredEngine {
+    /// Returns the engine of a script, whose memory line prints nothing. Fails if memory runs out.
+    fn new(alloc: Global, script: &RunScript) -> Result<MeasuredEngine, AllocError>
+        requires { IsWithin script.now }
+        ensures view { IfOk result (λ measured.
+            measured.engine.view ≡ new_view script.now.size script.now.channels) }
+        ensures lengths { IfOk result (λ measured. measured.lengths.items ≡ 0 ∷ []) }
+    {
+        let mut lengths = Vec::new(alloc);
+        lengths.push(0)?;
+        let engine = new_engine(alloc, script)?;
+        Ok(MeasuredEngine { engine, lengths })
     }
 }
 
@@ -149,22 +166,19 @@ pub(crate) fn start(
     ensures text { IfOk result (λ race. Prints (before_go script)
         out.old.items out.new.items [] race.measured.lengths.items) }
 {
-    let engine = new_engine(alloc, &script.before)?;
+    let measured = MeasuredEngine::new(alloc, &script.before)?;
     let RaceScript {
         before,
         jobs,
         after,
     } = script;
-    let mut lengths = Vec::new(alloc);
-    // the memory line prints nothing
-    lengths.push(0)?;
-    let mut measured = MeasuredEngine { engine, lengths };
-    run_measured(before.statements, &mut measured, out)?;
-    Ok(StartedRace {
+    let mut started = StartedRace {
         measured,
         jobs,
         after,
-    })
+    };
+    run_measured(before.statements, &mut started.measured, out)?;
+    Ok(started)
 }
 
 /// Appends the line of `go`, and its length. Fails if memory runs out.
