@@ -12,7 +12,7 @@ ghost use Rattle.dma_commands.specs.Left.{lines_left};
 ghost use Rattle.dma_commands.specs.Run.{line_answer, lines_answered};
 ghost use Rattle.dma_seeds.specs.Expect.{lines_verdict, verdict, without_expects};
 ghost use Rattle.dma_seeds.specs.Turns.{turns_of_seed};
-ghost use Rattle.dma_seeds.specs.Race.{before_go, finishes_in, from_go, go_text, race_printed, raced, step_calls, steps_in};
+ghost use Rattle.dma_seeds.specs.Race.{before_go, finishes_in, from_go, go_line, go_text, race_printed, raced, step_calls, steps_in};
 ghost use Rattle.dma_seeds.specs.inner.Measured.{Prints};
 ghost use Rattle.dma_seeds.specs.inner.Started.{IsStarted};
 
@@ -31,7 +31,7 @@ use std::alloc::{AllocError, Global};
 #[derive(Drop)]
 pub(crate) struct MeasuredEngine {
     engine: Engine,
-    pub(crate) lengths: Vec<usize>,
+    lengths: Vec<usize>,
 }
 
 impl Interpreter for MeasuredEngine {
@@ -196,31 +196,62 @@ fn print_go(totals: Totals, out: &mut Vec<u8>, lengths: &mut Vec<usize>) -> Resu
 }
 
 impl StartedRace {
+    /// Takes the turns of the jobs in the order that a seed determines, and appends the line of `go`. Fails if memory
+    /// runs out.
+    fn go(&mut self, alloc: Global, seed: u64, out: &mut Vec<u8>) -> Result<(), AllocError>
+        requires { length self.old.jobs ≤ 16 }
+        ensures left { OnOk result (self.new.measured.engine.view ≡ (answers
+            self.old.measured.engine.view (step_calls (turns_of_seed self.old.jobs seed))).1) }
+        ensures after { self.new.after ≡ self.old.after }
+        ensures text { OnOk result (Prints ((go_line (answers self.old.measured.engine.view
+            (step_calls (turns_of_seed self.old.jobs seed))).0 ∷ []) ∷ []) out.old.items
+            out.new.items self.old.measured.lengths.items self.new.measured.lengths.items) }
+    {
+        let turns = Turns::of_seed(alloc, self.jobs.as_slice(), seed)?;
+        let totals = take_turns(&mut self.measured.engine, turns)?;
+        print_go(totals, out, &mut self.measured.lengths)
+    }
+
     /// Takes the turns of the jobs in the order that a seed determines, executes the lines after `go`, and appends what
-    /// is printed from the line of `go` on. Fails if memory runs out.
+    /// is printed from the line of `go` on. Returns the length of what each line of the script printed. Fails if memory
+    /// runs out.
     pub(crate) fn finish(
         self,
         alloc: Global,
         seed: u64,
         out: &mut Vec<u8>,
-    ) -> Result<MeasuredEngine, AllocError>
+    ) -> Result<Vec<usize>, AllocError>
         requires { length self.jobs ≤ 16 }
-        ensures { IfOk result (λ measured. Prints
+        ensures { IfOk result (λ lengths. Prints
             (from_go self.measured.engine.view (turns_of_seed self.jobs seed) self.after)
-            out.old.items out.new.items self.measured.lengths.items measured.lengths.items) }
+            out.old.items out.new.items self.measured.lengths.items lengths.items) }
     {
+        let mut race = self;
+        race.go(alloc, seed, out)?;
         let StartedRace {
-            measured,
-            jobs,
+            mut measured,
+            jobs: _,
             after,
-        } = self;
-        let mut measured = measured;
-        let turns = Turns::of_seed(alloc, jobs.as_slice(), seed)?;
-        let totals = take_turns(&mut measured.engine, turns)?;
-        print_go(totals, out, &mut measured.lengths)?;
+        } = race;
         run_measured(after, &mut measured, out)?;
-        Ok(measured)
+        Ok(measured.lengths)
     }
+}
+
+/// Executes a race, and appends what it prints. Returns the length of what each line of its script printed. Fails if
+/// memory runs out.
+fn run_whole(
+    alloc: Global,
+    race: RaceScript,
+    seed: u64,
+    out: &mut Vec<u8>,
+) -> Result<Vec<usize>, AllocError>
+    requires { IsRace race }
+    ensures { IfOk result (λ lengths. Prints (raced race (turns_of_seed race.jobs seed)).groups
+        out.old.items out.new.items [] lengths.items) }
+{
+    let started = start(alloc, race, out)?;
+    started.finish(alloc, seed, out)
 }
 
 /// Executes a race, appends what it prints, and returns whether the `expect` lines of its script hold. Fails if memory
@@ -240,9 +271,8 @@ fn run_race(
     ensures err { OnErr result (out.new.items ≡ out.old.items) }
 {
     let mut text = Vec::new(alloc);
-    let started = start(alloc, race, &mut text)?;
-    let measured = started.finish(alloc, seed, &mut text)?;
-    let verdict = lines_verdict(alloc, seed, script, &text, &measured.lengths)?;
+    let lengths = run_whole(alloc, race, seed, &mut text)?;
+    let verdict = lines_verdict(alloc, seed, script, &text, &lengths)?;
     out.extend_from_slice(&text)?;
     Ok(verdict)
 }
