@@ -1,19 +1,17 @@
 //! How far a long call has come, on standard error.
-use dma_trace::progress::Progress;
+use dma_text::progress::Progress;
 use std::io::IsTerminal;
-use std::time::{Duration, Instant};
+use std::time::Instant;
 
-/// How many seconds a call takes before its progress is shown.
-const DELAY: u64 = 1;
-
-/// A line on standard error with the number of instructions that were executed so far, if standard error is a terminal
-/// and the call takes more than a second.
+/// A line on standard error that says how far the call has come, if standard error is a terminal and the call takes more
+/// than a second. It is written once a second.
 #[derive(Drop)]
 pub struct Meter<'a> {
     rt: &'a HostRuntime,
     /// The start, or `None` if nothing is shown.
     start: Option<Instant>,
-    is_shown: bool,
+    /// How many seconds had passed when the line was last written, or 0 if it wasn't.
+    shown: u64,
 }
 
 impl<'a> Meter<'a> {
@@ -27,13 +25,13 @@ impl<'a> Meter<'a> {
         Meter {
             rt,
             start,
-            is_shown: false,
+            shown: 0,
         }
     }
 
     /// Removes the line.
     pub fn clear(&self) {
-        if self.is_shown {
+        if self.shown > 0 {
             // (the answer follows, whether the line is gone or not)
             let _ = eprint!(self.rt; "\r{:60}\r", "");
         }
@@ -41,17 +39,16 @@ impl<'a> Meter<'a> {
 }
 
 impl Progress for Meter<'_> {
-    fn report(&mut self, steps: u32) {
+    fn report(&mut self, done: u64, kind: &str) {
         let Some(start) = self.start else {
             return;
         };
         let Ok(passed) = start.elapsed(self.rt) else {
             return;
         };
-        if passed >= Duration::from_secs(DELAY) {
-            let millions = steps / 1_000_000;
-            let _ = eprint!(self.rt; "\rdma330: {millions} million instructions so far");
-            self.is_shown = true;
+        if passed.as_secs() > self.shown {
+            let _ = eprint!(self.rt; "\rdma330: {kind} so far: {done}");
+            self.shown = passed.as_secs();
         }
     }
 }

@@ -1,6 +1,7 @@
 //! What a request prints for its input.
 ghost use Rattle.std.specs.Prelude.{◌≡◌, ◌≤◌, ◌++◌, IfOk, IsTrue, length};
 ghost use Rattle.dma_mem.specs.Regions.{in_order, pieces_of};
+ghost use Rattle.dma_seeds.specs.Expect.{is_good, verdict_text};
 ghost use Rattle.dma330.specs.Answer.{printed_of};
 ghost use Rattle.dma330.specs.Replies.{Answers, Assembles, Explains, HexReplies, InputReplies, IsUnderName, Lists, Races, RacesSeeds, RawReplies, Reasons, Replies, Traces, byte_words, hex_refusal, hint, is_text, is_text_byte, program_of, takes_program};
 
@@ -12,13 +13,14 @@ use dma_manual::assembler::{assemble, assemble_text};
 use dma_manual::errors::AsmError;
 use dma_manual::listing::disassemble;
 use dma_mem::regions::Region;
+use dma_seeds::expect::Verdict;
 use dma_seeds::race::race_by_seed;
 use dma_seeds::script::script_of_seed;
 use dma_seeds::seeds::{SeedRange, race_by_seeds};
+use dma_text::progress::Progress;
 use dma_text::text::{HexByte, print};
 use dma_trace::explain::explain;
 use dma_trace::options::TraceOptions;
-use dma_trace::progress::Progress;
 use dma_trace::trace::trace;
 use dma_why::why::why;
 use std::alloc::{AllocError, Global};
@@ -106,16 +108,22 @@ fn tracing<P: Progress>(
     })
 }
 
-/// Returns what `race` prints for a script, with the script of `run` for its file.
-fn racing(alloc: Global, script: &[u8], seed: u64) -> Result<Answer, AllocError>
-    ensures { IfOk result (λ answer. Races seed script.now (printed_of answer)) }
+/// Returns the answer with the output of a race, its verdict, and the text for its file.
+fn judged(
+    alloc: Global,
+    out: Vec<u8>,
+    verdict: &Verdict,
+    file: Vec<u8>,
+) -> Result<Answer, AllocError>
+    ensures { IfOk result (λ answer. printed_of answer ≡ record {
+      out = out.items;
+      err = verdict_text verdict.now;
+      file = file.items;
+      succeeds = is_good verdict.now;
+    }) }
 {
-    let mut out = Vec::new(alloc);
-    let verdict = race_by_seed(alloc, script, seed, &mut out)?;
     let mut err = Vec::new(alloc);
     verdict.print(&mut err)?;
-    let mut file = Vec::new(alloc);
-    script_of_seed(alloc, script, seed, &mut file)?;
     let succeeds = verdict.is_good();
     Ok(Answer {
         out,
@@ -125,22 +133,29 @@ fn racing(alloc: Global, script: &[u8], seed: u64) -> Result<Answer, AllocError>
     })
 }
 
+/// Returns what `race` prints for a script, with the script of `run` for its file.
+fn racing(alloc: Global, script: &[u8], seed: u64) -> Result<Answer, AllocError>
+    ensures { IfOk result (λ answer. Races seed script.now (printed_of answer)) }
+{
+    let mut file = Vec::new(alloc);
+    script_of_seed(alloc, script, seed, &mut file)?;
+    let mut out = Vec::new(alloc);
+    let verdict = race_by_seed(alloc, script, seed, &mut out)?;
+    judged(alloc, out, &verdict, file)
+}
+
 /// Returns what `race` prints for a script and a range of seeds.
-fn racing_seeds(alloc: Global, script: &[u8], seeds: SeedRange) -> Result<Answer, AllocError>
+fn racing_seeds<P: Progress>(
+    alloc: Global,
+    script: &[u8],
+    seeds: SeedRange,
+    progress: &mut P,
+) -> Result<Answer, AllocError>
     ensures { IfOk result (λ answer. RacesSeeds seeds script.now (printed_of answer)) }
 {
     let mut out = Vec::new(alloc);
-    let verdict = race_by_seeds(alloc, script, seeds, &mut out)?;
-    let mut err = Vec::new(alloc);
-    verdict.print(&mut err)?;
-    let file = Vec::new(alloc);
-    let succeeds = verdict.is_good();
-    Ok(Answer {
-        out,
-        err,
-        file,
-        succeeds,
-    })
+    let verdict = race_by_seeds(alloc, script, seeds, &mut out, progress)?;
+    judged(alloc, out, &verdict, Vec::new(alloc))
 }
 
 /// Returns what `why` prints for a script.
@@ -170,7 +185,7 @@ fn reply<P: Progress>(
         Request::Explain { bus, most } => explanation(alloc, input, *bus, *most, progress),
         Request::Trace(options) => tracing(alloc, input, options, ram, progress),
         Request::Race { seed } => racing(alloc, input, *seed),
-        Request::RaceSeeds(seeds) => racing_seeds(alloc, input, *seeds),
+        Request::RaceSeeds(seeds) => racing_seeds(alloc, input, *seeds, progress),
         Request::Why => reasons(alloc, input),
     }
 }

@@ -1,5 +1,5 @@
 //! The subcommands with their options and help, as clap has them.
-use clap::{Arg, ArgAction, Command};
+use clap::{Arg, ArgAction, ArgGroup, Command};
 use std::alloc::{AllocError, Global};
 
 /// The version of the program, the same as that of the library for C.
@@ -23,7 +23,11 @@ fn option<'a>(alloc: Global, name: &'a str, value: &'a str, what: &'a str) -> Ar
 
 /// Returns an option with a value that may be given several times.
 fn options<'a>(alloc: Global, name: &'a str, value: &'a str, what: &'a str) -> Arg<'a> {
-    option(alloc, name, value, what).action(ArgAction::Append)
+    Arg::new(alloc, name)
+        .long(name)
+        .value_name(value)
+        .action(ArgAction::Append)
+        .help(what)
 }
 
 /// Returns an option without a value.
@@ -150,20 +154,22 @@ fn trace<'a>(alloc: Global) -> Result<Command<'a>, AllocError> {
 fn race<'a>(alloc: Global) -> Result<Command<'a>, AllocError> {
     let about =
         "Executes a script of dmasim race in one thread, with its turns in the order of a seed";
-    let example = "Examples:\n  dma330 race --seed 7 --script seven.dma examples/race.dma\n  \
+    let example =
+        "A line `expect TEXT` of the script compares TEXT with a line that the race prints.\n\n\
+        Examples:\n  dma330 race --seed 7 --script seven.dma examples/race.dma\n  \
         dmasim run < seven.dma\n  dma330 race --seeds 0-999 examples/conflict.dma";
-    let seed = option(alloc, "seed", "N", "What the order is drawn from").required_unless_present(
-        "seeds",
-    )?;
     let what = "Take each of these seeds, and print which outputs they give";
-    let seeds = option(alloc, "seeds", "FIRST-LAST", what)
-        .conflicts_with("seed")?
-        .conflicts_with("script")?;
+    let seeds = option(alloc, "seeds", "FIRST-LAST", what).conflicts_with("script")?;
+    let seed = option(alloc, "seed", "N", "What the order is drawn from");
     let what = "Write the same as a script of dmasim run, with the turns as step lines";
     let script = option(alloc, "script", "FILE", what);
     let text = file(alloc, "The script; standard input if it is - or missing");
     let args = Vec::from_array(alloc, [seed, seeds, script, text])?;
-    command(alloc, "race", about, example, args)
+    let order = ArgGroup::new(alloc, "order")
+        .arg("seed")?
+        .arg("seeds")?
+        .required(true);
+    command(alloc, "race", about, example, args)?.group(order)
 }
 
 /// Returns the command of `why`.
@@ -190,7 +196,6 @@ pub fn dma330<'a>(alloc: Global) -> Result<Command<'a>, AllocError> {
             "docs/DMA330.md has what each command reads and prints.\n\
              Status: 0, 1 for a fault of the input, 2 for wrong use, 3 if out of memory.",
         )
-        .disable_help_subcommand(true)
         .subcommand_required(true)
         .subcommand(dis(alloc)?)?
         .subcommand(asm(alloc)?)?

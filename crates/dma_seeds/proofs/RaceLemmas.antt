@@ -168,14 +168,19 @@ started_prints script v a c l m n view first rest =
           ∙ append_assoc l (0 ∷ []) (lengths_of (lines_answered v script.before.statements));
     })
 
+-- the line of `go`, in the words of the turns
+pub go_printed : (v : View) (turns taken : List RaceTurn) (steps finished : ℕ) (a b l m : List ℕ) → taken ≡ turns → steps ≡ sum_by steps_in (answers v (step_calls taken)).0 → finished ≡ sum_by finishes_in (answers v (step_calls taken)).0 → Prints ((go_text steps finished ∷ []) ∷ []) a b l m → Prints ((go_line (answers v (step_calls turns)).0 ∷ []) ∷ []) a b l m
+go_printed v turns taken steps finished a b l m all some ends printed =
+    let stepped = subst (λ (x : ℕ). Prints ((go_text x finished ∷ []) ∷ []) a b l m) some printed in
+    let ended = subst (λ (x : ℕ). Prints ((go_text (sum_by steps_in (answers v (step_calls taken)).0) x ∷ []) ∷ []) a b l m) ends stepped in
+    subst (λ (x : List RaceTurn). Prints ((go_line (answers v (step_calls x)).0 ∷ []) ∷ []) a b l m) all ended
+
 -- the line of `go`, and then the lines after it
-pub go_and_after : (v w : View) (turns taken : List RaceTurn) (steps finished : ℕ) (after : List Statement) (a b c l m n : List ℕ) → taken ≡ turns → w ≡ (answers v (step_calls taken)).1 → steps ≡ sum_by steps_in (answers v (step_calls taken)).0 → finished ≡ sum_by finishes_in (answers v (step_calls taken)).0 → Prints ((go_text steps finished ∷ []) ∷ []) a b l m → Prints (lines_answered w after) b c m n → Prints (from_go v turns after) a c l n
-go_and_after v w turns taken steps finished after a b c l m n all left some ends first rest =
-    let whole = prints_both ((go_text steps finished ∷ []) ∷ []) (lines_answered w after) a b c l m n first rest in
-    let stepped = subst (λ (x : ℕ). Prints ((go_text x finished ∷ []) ∷ lines_answered w after) a c l n) some whole in
-    let ended = subst (λ (x : ℕ). Prints ((go_text (sum_by steps_in (answers v (step_calls taken)).0) x ∷ []) ∷ lines_answered w after) a c l n) ends stepped in
-    let viewed = subst (λ (x : View). Prints ((go_line (answers v (step_calls taken)).0 ∷ []) ∷ lines_answered x after) a c l n) left ended in
-    subst (λ (x : List RaceTurn). Prints (from_go v x after) a c l n) all viewed
+pub go_and_after : (v w : View) (turns : List RaceTurn) (after rest : List Statement) (a b c l m n : List ℕ) → w ≡ (answers v (step_calls turns)).1 → rest ≡ after → Prints ((go_line (answers v (step_calls turns)).0 ∷ []) ∷ []) a b l m → Prints (lines_answered w rest) b c m n → Prints (from_go v turns after) a c l n
+go_and_after v w turns after rest a b c l m n left same first last =
+    let viewed = subst (λ (x : View). Prints (lines_answered x rest) b c m n) left last in
+    let lines = subst (λ (x : List Statement). Prints (lines_answered (answers v (step_calls turns)).1 x) b c m n) same viewed in
+    prints_both ((go_line (answers v (step_calls turns)).0 ∷ []) ∷ []) (lines_answered (answers v (step_calls turns)).1 after) a b c l m n first lines
 
 -- what is printed from `go` on
 pub from_started : (script : RaceScript) (seed : ℕ) (v : View) (jobs : List JobLine) (after : List Statement) (a c l n : List ℕ) → IsStarted script v jobs after → a ≡ [] → Prints (from_go v (turns_of_seed jobs seed) after) a c l n → c ≡ text_from_go (Ok script) seed

@@ -4,13 +4,15 @@ ghost use Rattle.std.specs.Prelude.{◌≡◌, ◌+◌, ◌<◌, ◌≤◌, ◌+
 ghost use Rattle.std.specs.List.{sum_by};
 ghost use Rattle.std.specs.Str.Lines.{lines};
 ghost use Rattle.dma_engine.specs.Answer.{answer, answers, reply_of};
+ghost use Rattle.dma_engine.specs.View.{new_view};
 ghost use Rattle.dma_script.specs.Command.{printed_text};
 ghost use Rattle.dma_script.specs.Race.{IsRace};
+ghost use Rattle.dma_script.specs.Statements.{IsWithin};
 ghost use Rattle.dma_commands.specs.Left.{lines_left};
 ghost use Rattle.dma_commands.specs.Run.{line_answer, lines_answered};
 ghost use Rattle.dma_seeds.specs.Expect.{lines_verdict, verdict, without_expects};
 ghost use Rattle.dma_seeds.specs.Turns.{turns_of_seed};
-ghost use Rattle.dma_seeds.specs.Race.{before_go, finishes_in, from_go, go_text, race_printed, raced, step_calls, steps_in};
+ghost use Rattle.dma_seeds.specs.Race.{before_go, finishes_in, from_go, go_line, go_text, race_printed, raced, step_calls, steps_in};
 ghost use Rattle.dma_seeds.specs.inner.Measured.{Prints};
 ghost use Rattle.dma_seeds.specs.inner.Started.{IsStarted};
 
@@ -22,14 +24,14 @@ use dma_script::fault::ScriptError;
 use dma_script::interpreter::Interpreter;
 use dma_script::printing::print_line;
 use dma_script::race::{Jobs, RaceScript, read_race_script};
-use dma_script::statements::{Statement, Statements};
+use dma_script::statements::{RunScript, Statement, Statements};
 use std::alloc::{AllocError, Global};
 
 /// An engine, and the length of what each line of a script printed that was executed on it.
 #[derive(Drop)]
 pub(crate) struct MeasuredEngine {
     engine: Engine,
-    pub(crate) lengths: Vec<usize>,
+    lengths: Vec<usize>,
 }
 
 impl Interpreter for MeasuredEngine {
@@ -48,6 +50,21 @@ impl Interpreter for MeasuredEngine {
         run_line(&mut self.engine, line, out)?;
         self.lengths.push_reserved(out.len() - start);
         Ok(())
+    }
+}
+
+impl MeasuredEngine {
+    /// Returns the engine of a script, whose memory line prints nothing. Fails if memory runs out.
+    fn new(alloc: Global, script: &RunScript) -> Result<MeasuredEngine, AllocError>
+        requires { IsWithin script.now }
+        ensures view { IfOk result (λ measured.
+            measured.engine.view ≡ new_view script.now.size script.now.channels) }
+        ensures lengths { IfOk result (λ measured. measured.lengths.items ≡ 0 ∷ []) }
+    {
+        let mut lengths = Vec::new(alloc);
+        lengths.push(0)?;
+        let engine = new_engine(alloc, script)?;
+        Ok(MeasuredEngine { engine, lengths })
     }
 }
 
@@ -149,22 +166,19 @@ pub(crate) fn start(
     ensures text { IfOk result (λ race. Prints (before_go script)
         out.old.items out.new.items [] race.measured.lengths.items) }
 {
-    let engine = new_engine(alloc, &script.before)?;
+    let measured = MeasuredEngine::new(alloc, &script.before)?;
     let RaceScript {
         before,
         jobs,
         after,
     } = script;
-    let mut lengths = Vec::new(alloc);
-    // the memory line prints nothing
-    lengths.push(0)?;
-    let mut measured = MeasuredEngine { engine, lengths };
-    run_measured(before.statements, &mut measured, out)?;
-    Ok(StartedRace {
+    let mut started = StartedRace {
         measured,
         jobs,
         after,
-    })
+    };
+    run_measured(before.statements, &mut started.measured, out)?;
+    Ok(started)
 }
 
 /// Appends the line of `go`, and its length. Fails if memory runs out.
@@ -182,31 +196,62 @@ fn print_go(totals: Totals, out: &mut Vec<u8>, lengths: &mut Vec<usize>) -> Resu
 }
 
 impl StartedRace {
+    /// Takes the turns of the jobs in the order that a seed determines, and appends the line of `go`. Fails if memory
+    /// runs out.
+    fn go(&mut self, alloc: Global, seed: u64, out: &mut Vec<u8>) -> Result<(), AllocError>
+        requires { length self.old.jobs ≤ 16 }
+        ensures left { OnOk result (self.new.measured.engine.view ≡ (answers
+            self.old.measured.engine.view (step_calls (turns_of_seed self.old.jobs seed))).1) }
+        ensures after { self.new.after ≡ self.old.after }
+        ensures text { OnOk result (Prints ((go_line (answers self.old.measured.engine.view
+            (step_calls (turns_of_seed self.old.jobs seed))).0 ∷ []) ∷ []) out.old.items
+            out.new.items self.old.measured.lengths.items self.new.measured.lengths.items) }
+    {
+        let turns = Turns::of_seed(alloc, self.jobs.as_slice(), seed)?;
+        let totals = take_turns(&mut self.measured.engine, turns)?;
+        print_go(totals, out, &mut self.measured.lengths)
+    }
+
     /// Takes the turns of the jobs in the order that a seed determines, executes the lines after `go`, and appends what
-    /// is printed from the line of `go` on. Fails if memory runs out.
+    /// is printed from the line of `go` on. Returns the length of what each line of the script printed. Fails if memory
+    /// runs out.
     pub(crate) fn finish(
         self,
         alloc: Global,
         seed: u64,
         out: &mut Vec<u8>,
-    ) -> Result<MeasuredEngine, AllocError>
+    ) -> Result<Vec<usize>, AllocError>
         requires { length self.jobs ≤ 16 }
-        ensures { IfOk result (λ measured. Prints
+        ensures { IfOk result (λ lengths. Prints
             (from_go self.measured.engine.view (turns_of_seed self.jobs seed) self.after)
-            out.old.items out.new.items self.measured.lengths.items measured.lengths.items) }
+            out.old.items out.new.items self.measured.lengths.items lengths.items) }
     {
+        let mut race = self;
+        race.go(alloc, seed, out)?;
         let StartedRace {
-            measured,
-            jobs,
+            mut measured,
+            jobs: _,
             after,
-        } = self;
-        let mut measured = measured;
-        let turns = Turns::of_seed(alloc, jobs.as_slice(), seed)?;
-        let totals = take_turns(&mut measured.engine, turns)?;
-        print_go(totals, out, &mut measured.lengths)?;
+        } = race;
         run_measured(after, &mut measured, out)?;
-        Ok(measured)
+        Ok(measured.lengths)
     }
+}
+
+/// Executes a race, and appends what it prints. Returns the length of what each line of its script printed. Fails if
+/// memory runs out.
+fn run_whole(
+    alloc: Global,
+    race: RaceScript,
+    seed: u64,
+    out: &mut Vec<u8>,
+) -> Result<Vec<usize>, AllocError>
+    requires { IsRace race }
+    ensures { IfOk result (λ lengths. Prints (raced race (turns_of_seed race.jobs seed)).groups
+        out.old.items out.new.items [] lengths.items) }
+{
+    let started = start(alloc, race, out)?;
+    started.finish(alloc, seed, out)
 }
 
 /// Executes a race, appends what it prints, and returns whether the `expect` lines of its script hold. Fails if memory
@@ -226,9 +271,8 @@ fn run_race(
     ensures err { OnErr result (out.new.items ≡ out.old.items) }
 {
     let mut text = Vec::new(alloc);
-    let started = start(alloc, race, &mut text)?;
-    let measured = started.finish(alloc, seed, &mut text)?;
-    let verdict = lines_verdict(alloc, seed, script, &text, &measured.lengths)?;
+    let lengths = run_whole(alloc, race, seed, &mut text)?;
+    let verdict = lines_verdict(alloc, seed, script, &text, &lengths)?;
     out.extend_from_slice(&text)?;
     Ok(verdict)
 }

@@ -1,16 +1,17 @@
 //! A race whose turns are taken in the order that a seed determines, as a script of `run`.
 
-ghost use Rattle.std.specs.Prelude.{◌≡◌, ◌++◌, IfOk, OnErr, OnOk, is_ok};
+ghost use Rattle.std.specs.Prelude.{◌≡◌, ◌≤◌, ◌++◌, IfOk, OnErr, OnOk, is_ok, length};
 ghost use Rattle.dma_script.specs.Race.{race_script_of};
 ghost use Rattle.dma_script.specs.Words.{words_of};
 ghost use Rattle.dma_seeds.specs.Expect.{without_expects};
 ghost use Rattle.dma_seeds.specs.Script.{script_text, text_for, text_with, turns_text};
+ghost use Rattle.dma_seeds.specs.Turns.{turns_of_seed};
 
 use crate::expect::without_expects;
 use crate::turns::Turns;
 use dma_script::fault::ScriptError;
 use dma_script::printing::print_line;
-use dma_script::race::read_race_script;
+use dma_script::race::{JobLine, read_race_script};
 use dma_script::words::{next_word, split_line};
 use dma_text::bytes::is_text;
 use std::alloc::{AllocError, Global};
@@ -54,6 +55,24 @@ fn push_lines(script: &[u8], turns: &[u8], out: &mut Vec<u8>) -> Result<(), Allo
     Ok(())
 }
 
+/// Returns a race script as a script of `run`, given the lines of its jobs. Fails if memory runs out.
+fn script_of_jobs(
+    alloc: Global,
+    script: &[u8],
+    jobs: &[JobLine],
+    seed: u64,
+) -> Result<Vec<u8>, AllocError>
+    requires { length jobs.now ≤ 16 }
+    ensures { IfOk result (λ text.
+        text.items ≡ text_with (turns_text (turns_of_seed jobs.now seed)) script.now) }
+{
+    let turns = Turns::of_seed(alloc, jobs, seed)?;
+    let turns = text_of_turns(alloc, turns)?;
+    let mut text = Vec::new(alloc);
+    push_lines(script, &turns, &mut text)?;
+    Ok(text)
+}
+
 /// Appends a race script as a script of `run`, whose `step` lines are the turns of the jobs, in the order that a seed
 /// determines. Skipped lines and `expect` lines are left out. Returns false, and appends nothing, if the race script has
 /// a fault. If memory runs out, appends nothing.
@@ -75,10 +94,7 @@ pub fn script_of_seed(
         Err(ScriptError::NoMemory) => return Err(AllocError),
         Err(_) => return Ok(false),
     };
-    let turns = Turns::of_seed(alloc, race.jobs.as_slice(), seed)?;
-    let turns = text_of_turns(alloc, turns)?;
-    let mut text = Vec::new(alloc);
-    push_lines(&kept, &turns, &mut text)?;
+    let text = script_of_jobs(alloc, &kept, race.jobs.as_slice(), seed)?;
     out.extend_from_slice(&text)?;
     Ok(true)
 }

@@ -12,6 +12,7 @@ use dma_mem::lists::Bytes;
 use dma_script::fault::ScriptError;
 use dma_script::printing::print_line;
 use dma_script::race::{RaceScript, read_race_script};
+use dma_text::progress::Progress;
 use std::alloc::{AllocError, Global};
 
 /// The seeds from a first one to a last one.
@@ -49,7 +50,12 @@ fn text_from_go(alloc: Global, script: &[u8], seed: u64) -> Result<Vec<u8>, Allo
 }
 
 /// Executes a race script once for each seed, and returns the different outputs. Fails if memory runs out.
-fn outputs_of(alloc: Global, script: &[u8], seeds: SeedRange) -> Result<Vec<Output>, AllocError>
+fn outputs_of<P: Progress>(
+    alloc: Global,
+    script: &[u8],
+    seeds: SeedRange,
+    progress: &mut P,
+) -> Result<Vec<Output>, AllocError>
     ensures { IfOk result (λ outputs. outputs.items ≡ outputs_of
         (text_from_go (race_script_of script.now)) seeds.first (seeds.last + 1 - seeds.first)) }
 {
@@ -63,6 +69,7 @@ fn outputs_of(alloc: Global, script: &[u8], seeds: SeedRange) -> Result<Vec<Outp
             first: seed,
         };
         count_output(&mut outputs, new)?;
+        progress.report(seed + 1 - u64::from(seeds.first), "seeds");
     }
     Ok(outputs)
 }
@@ -81,18 +88,19 @@ fn print_seeds(seeds: SeedRange, outputs: &[Output], out: &mut Vec<u8>) -> Resul
 
 /// Executes a race script once for each seed of a range, and appends the different outputs, or the script's fault.
 /// Returns whether the script has no fault. Fails if memory runs out.
-fn print_outputs_of(
+fn print_outputs_of<P: Progress>(
     alloc: Global,
     script: &[u8],
     seeds: SeedRange,
     out: &mut Vec<u8>,
+    progress: &mut P,
 ) -> Result<bool, AllocError>
     ensures text { OnOk result (out.new.items ≡ out.old.items ++ seeds_printed script.now seeds) }
     ensures good { IfOk result (λ good. good ≡ is_ok (race_script_of script.now)) }
 {
     match read_race_script(alloc, script) {
         Ok(_) => {
-            let outputs = outputs_of(alloc, script, seeds)?;
+            let outputs = outputs_of(alloc, script, seeds, progress)?;
             print_seeds(seeds, &outputs, out)?;
             Ok(true)
         }
@@ -107,7 +115,12 @@ fn print_outputs_of(
 /// Returns the verdict for the first seed for which an `expect` line of the script fails, else `Holds`. Fails if memory
 /// runs out.
 #[tactic(auto, using(crate::proofs::ExpectLemmas::one_seed, crate::proofs::ExpectLemmas::goes_on, crate::proofs::ExpectLemmas::stops, crate::proofs::ExpectLemmas::all_seeds_hold))]
-fn first_verdict(alloc: Global, script: &[u8], seeds: SeedRange) -> Result<Verdict, AllocError>
+fn first_verdict<P: Progress>(
+    alloc: Global,
+    script: &[u8],
+    seeds: SeedRange,
+    progress: &mut P,
+) -> Result<Verdict, AllocError>
     requires { is_ok (race_script_of (without_expects script.now)) ≡ true }
     ensures { IfOk result (λ found. found
         ≡ first_verdict (verdict script.now) seeds.first (seeds.last + 1 - seeds.first)) }
@@ -121,6 +134,7 @@ fn first_verdict(alloc: Global, script: &[u8], seeds: SeedRange) -> Result<Verdi
         if !verdict.is_good() {
             return Ok(verdict);
         }
+        progress.report(seed + 1 - u64::from(seeds.first), "seeds compared");
     }
     Ok(Verdict::Holds)
 }
@@ -131,13 +145,15 @@ fn first_verdict(alloc: Global, script: &[u8], seeds: SeedRange) -> Result<Verdi
 /// nothing.
 ///
 /// Takes for each seed the time of `race_by_seed`, twice for a script with `expect` lines, and compares its output with
-/// each different one before. Keeps each different output, and of no seed more than that.
+/// each different one before. Keeps each different output, and of no seed more than that. Reports progress after each
+/// seed.
 #[tactic(auto, using(crate::proofs::ExpectLemmas::seeds_good, crate::proofs::ExpectLemmas::seeds_bad))]
-pub fn race_by_seeds(
+pub fn race_by_seeds<P: Progress>(
     alloc: Global,
     script: &[u8],
     seeds: SeedRange,
     out: &mut Vec<u8>,
+    progress: &mut P,
 ) -> Result<Verdict, AllocError>
     ensures text { OnOk result
         (out.new.items ≡ out.old.items ++ seeds_printed (without_expects script.now) seeds) }
@@ -146,9 +162,9 @@ pub fn race_by_seeds(
 {
     let kept = without_expects(alloc, script)?;
     let mut text = Vec::new(alloc);
-    let good = print_outputs_of(alloc, &kept, seeds, &mut text)?;
+    let good = print_outputs_of(alloc, &kept, seeds, &mut text, progress)?;
     let verdict = if good {
-        first_verdict(alloc, script, seeds)?
+        first_verdict(alloc, script, seeds, progress)?
     } else {
         Verdict::Refused
     };

@@ -131,7 +131,8 @@ impl Turns {
 
     /// Takes the next turn, or returns `None` if none is left.
     pub fn next(&mut self) -> Option<RaceTurn>
-        ensures { MatchOption result (self.old ≡ []) (λ turn. self.old ≡ turn ∷ self.new) }
+        ensures { MatchOption result ((self.old ≡ []) × (self.new ≡ []))
+            (λ turn. self.old ≡ turn ∷ self.new) }
     {
         if self.left == 0 {
             return None;

@@ -11,7 +11,7 @@ ghost use Rattle.dma_trace.specs.Front.{front_at};
 
 use crate::amounts::{Bytes, Instructions, Range};
 use crate::front::Front;
-use crate::progress::{Progress, report};
+use crate::progress::report;
 use crate::words::{LongProgram, Place, Point, State, Why, first_byte};
 use dma_chan::bus::Bus;
 use dma_chan::explain as runs;
@@ -20,6 +20,7 @@ use dma_chan::turn::FaultKind;
 use dma_insn::codec::{DecodeFault, decode};
 use dma_insn::insn::Insn;
 use dma_mem::segment::Segment;
+use dma_text::progress::Progress;
 use dma_text::text::{Text, print};
 use std::alloc::{AllocError, Global};
 

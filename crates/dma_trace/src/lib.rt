@@ -13,7 +13,7 @@ pub mod explain;
 mod front;
 mod lines;
 pub mod options;
-pub mod progress;
+mod progress;
 pub mod trace;
 mod vcd;
 mod wave;

@@ -17,7 +17,7 @@ use crate::amounts::Instructions;
 use crate::front::Front;
 use crate::lines::{push_dumps, push_step};
 pub use crate::options::TraceOptions;
-use crate::progress::{Progress, report};
+use crate::progress::report;
 use crate::wave::{push_first, push_last, push_next};
 use crate::words::{Failure, LongProgram, Place, Point, State, Why, first_byte};
 use dma_chan::channel::Channel;
@@ -30,6 +30,7 @@ use dma_mem::events::Events;
 use dma_mem::marks::{MarkKind, Marks};
 use dma_mem::regions::Region;
 use dma_mem::segment::Segment;
+use dma_text::progress::Progress;
 use dma_text::text::Text;
 use std::alloc::{AllocError, Global};
 

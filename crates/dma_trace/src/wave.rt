@@ -118,7 +118,6 @@ struct Header;
 impl Text for Header {
     ghost text = { λ _. header_text };
 
-    #[tactic(auto, unfolding(crate::specs::Wave::header_text))]
     fn push(&self, out: &mut Vec<u8>) -> Result<(), AllocError> {
         let head = "$comment a time unit is an instruction $end\n\
             $timescale 1 ns $end\n$scope module dma330 $end\n";

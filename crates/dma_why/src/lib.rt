@@ -10,6 +10,6 @@
 
 pub mod circles;
 pub mod laws;
-pub mod lines;
+mod lines;
 pub mod waits;
 pub mod why;

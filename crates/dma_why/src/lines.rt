@@ -291,7 +291,11 @@ fn push_circles(
 }
 
 /// Appends why each channel is where it is.
-pub fn push_explanation(alloc: Global, engine: &Engine, out: &mut Vec<u8>) -> Result<(), AllocError>
+pub(crate) fn push_explanation(
+    alloc: Global,
+    engine: &Engine,
+    out: &mut Vec<u8>,
+) -> Result<(), AllocError>
     ensures { OnOk result
         (out.new.items ≡ out.old.items ++ text_of (explanation engine.now.view)) }
 {

@@ -5,7 +5,7 @@ use Rattle.dma_seeds.specs.Seeds.{outputs_of, text_from_go}
 use Rattle.dma_seeds.proofs.seeds.outputs_of.Given as goal
 
 abbrev pub invariant-loop-seed : goal.invariant-loop-seed
-invariant-loop-seed l = record {
+invariant-loop-seed g l = record {
   same : l.outputs.items ≡ outputs_of (text_from_go (race_script_of l.script)) l.fn.seeds.first (l.seed - l.fn.seeds.first);
   few : l.seed - l.fn.seeds.first ≤ l.fn.seeds.last + 1 - l.fn.seeds.first;
 }

@@ -8,7 +8,8 @@ use Rattle.dma_seeds.proofs.turns.Turns.next.Goals as goal
 pub returns-then-self-eq0 : goal.returns-then-self-eq0
 returns-then-self-eq0 c =
     let t = c.self.inside in
-    sym c.self.view_is ∙ ap (λ n. drawn n t.rng t.jobs.items) c.if-self-eq0.true ∙ drawn_none t.rng t.jobs.items
+    let none = sym c.self.view_is ∙ ap (λ n. drawn n t.rng t.jobs.items) c.if-self-eq0.true ∙ drawn_none t.rng t.jobs.items in
+    (none, none)
 
 pub returns : goal.returns
 returns c =
