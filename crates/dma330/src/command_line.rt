@@ -162,13 +162,8 @@ fn request_of(alloc: Global, name: &str, matches: &ArgMatches<'_>) -> Result<Req
     }
 }
 
-/// Returns the call that the words of a command line ask for. Fails with a mistake in the words, or with the text of
-/// `--help` or `--version`.
-pub fn call_of<'a>(alloc: Global, words: &'a [String]) -> Result<Call<'a>, Error> {
-    let matches = dma330(alloc)?.try_get_matches_from(words)?;
-    let Some((name, matches)) = matches.subcommand() else {
-        return Err(dma330(alloc)?.error(ErrorKind::MissingSubcommand, "no command is given")?);
-    };
+/// Reads the options of a subcommand.
+fn call_by<'a>(alloc: Global, name: &str, matches: &ArgMatches<'a>) -> Result<Call<'a>, Error> {
     Ok(Call {
         request: request_of(alloc, name, matches)?,
         input: matches.get_str("file").filter(|file| *file != "-"),
@@ -179,4 +174,14 @@ pub fn call_of<'a>(alloc: Global, words: &'a [String]) -> Result<Call<'a>, Error
             .or(matches.get_str("script"))
             .or(matches.get_str("vcd")),
     })
+}
+
+/// Returns the call that the words of a command line ask for. Fails with a mistake in the words, or with the text of
+/// `--help` or `--version`.
+pub fn call_of<'a>(alloc: Global, words: &'a [String]) -> Result<Call<'a>, Error> {
+    let matches = dma330(alloc)?.try_get_matches_from(words)?;
+    match matches.subcommand() {
+        Some((name, matches)) => call_by(alloc, name, matches),
+        None => Err(dma330(alloc)?.error(ErrorKind::MissingSubcommand, "no command is given")?),
+    }
 }

@@ -186,8 +186,21 @@ fn why<'a>(alloc: Global) -> Result<Command<'a>, AllocError> {
     )
 }
 
+/// Returns the subcommands, in the order of the help.
+fn subcommands<'a>(alloc: Global) -> Result<Vec<Command<'a>>, AllocError> {
+    let mut commands = Vec::new(alloc);
+    commands.push(dis(alloc)?)?;
+    commands.push(asm(alloc)?)?;
+    commands.push(explain(alloc)?)?;
+    commands.push(trace(alloc)?)?;
+    commands.push(race(alloc)?)?;
+    commands.push(why(alloc)?)?;
+    Ok(commands)
+}
+
 /// Returns the command of the program.
 pub fn dma330<'a>(alloc: Global) -> Result<Command<'a>, AllocError> {
+    let subcommands = subcommands(alloc)?;
     Command::new(alloc, "dma330")
         .bin_name("dma330")?
         .version(VERSION)
@@ -197,10 +210,5 @@ pub fn dma330<'a>(alloc: Global) -> Result<Command<'a>, AllocError> {
              Status: 0, 1 for a fault of the input, 2 for wrong use, 3 if out of memory.",
         )
         .subcommand_required(true)
-        .subcommand(dis(alloc)?)?
-        .subcommand(asm(alloc)?)?
-        .subcommand(explain(alloc)?)?
-        .subcommand(trace(alloc)?)?
-        .subcommand(race(alloc)?)?
-        .subcommand(why(alloc)?)
+        .subcommands(subcommands)
 }
