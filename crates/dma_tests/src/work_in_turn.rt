@@ -117,13 +117,16 @@ fn paused_and_halted(alloc: Global) -> Result<Engine, Fail> {
     Ok(engine)
 }
 
-// Copies of channels 0 and 1 don't move, and that of channel 2 still runs after seven rounds.
+// The copies of channels 0 and 1 don't move, and that of channel 2 still runs after seven rounds.
 #[test]
 fn a_desk_ends_as_the_steps_do(rt: HostRuntime) -> Result<(), Fail> {
     let job = Job::new(0, 3, 28).ok_or("no job")?;
-    let engine = paused_and_halted(rt.alloc())?;
-    let mut that = paused_and_halted(rt.alloc())?;
-    let (mut this, _) = worked(&rt, rt.alloc(), engine, &[job], &NoGate)?;
-    step_rounds(&mut that, 7);
-    compare(&rt, rt.alloc(), &mut this, &mut that)
+    for is_reported in [false, true] {
+        let mut that = paused_and_halted(rt.alloc())?;
+        let engine = paused_and_halted(rt.alloc())?;
+        let (mut this, _) = worked(&rt, rt.alloc(), engine, &[job], &NoGate, is_reported)?;
+        step_rounds(&mut that, 7);
+        compare(&rt, rt.alloc(), &mut this, &mut that)?;
+    }
+    Ok(())
 }

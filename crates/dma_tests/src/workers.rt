@@ -7,7 +7,9 @@ use crate::desk_refused::parts_of;
 use dma_engine::{Engine, Status};
 use dma_mem::segment::Segment;
 use dma_mem::transfer::Transfer;
-use dma_work::{DeskName, Gate, Job, Parts, Shared, StatusReader, Tally, run_workers};
+use dma_work::{
+    DeskName, Gate, Job, MissingTally, Parts, Shared, StatusReader, Tally, run_workers, settle,
+};
 use std::alloc::Global;
 use std::marker::Brand;
 use std::process::Abort;
@@ -78,6 +80,21 @@ fn run_jobs<N: DeskName + Send + Sync, R: Threads + Wait + Sync + Abort + Print,
     Ok((tallies, reader.status(0, 1)))
 }
 
+// Settles a desk, or closes it if tallies are missing.
+fn ended<N: DeskName, R: Wait>(rt: &R, shared: Shared<N>, tallies: Vec<Tally<N>>) -> Engine {
+    match settle(rt, shared, tallies) {
+        Ok((engine, _totals)) => engine,
+        Err(missing) => {
+            let MissingTally {
+                shared,
+                tallies: _,
+                book: _,
+            } = missing;
+            shared.close(rt)
+        }
+    }
+}
+
 fn shared_by<N: DeskName + Send + Sync, R: Threads + Wait + Sync + Abort + Print, G: Gate>(
     rt: &R,
     alloc: Global,
@@ -85,38 +102,37 @@ fn shared_by<N: DeskName + Send + Sync, R: Threads + Wait + Sync + Abort + Print
     reader: StatusReader,
     jobs: &[Job],
     gate: &G,
+    is_reported: bool,
 ) -> Result<(Engine, Option<Status>), Fail>
     requires { Names N.opening N.base N.log parts }
 {
     let shared = Shared::<N>::new(parts);
-    let answer = run_jobs(rt, alloc, &shared, reader, jobs, gate);
-    let desk = shared.into_desk();
-    match answer {
-        Ok((tallies, status)) => match desk.settle(rt, &tallies) {
-            Ok((engine, _)) => Ok((engine, status)),
-            Err(desk) => {
-                desk.close(rt);
-                Err(Fail::from("a tally is missing"))
+    match run_jobs(rt, alloc, &shared, reader, jobs, gate) {
+        Ok((mut tallies, status)) => {
+            if !is_reported {
+                tallies.clear();
             }
-        },
+            Ok((ended(rt, shared, tallies), status))
+        }
         Err(fail) => {
-            desk.close(rt);
+            shared.close(rt);
             Err(fail)
         }
     }
 }
 
-/// Runs jobs at a desk over an engine, and settles it. Returns the engine, and the status of cookie 1 of channel 0 that
-/// a reader then sees.
+/// Runs jobs at a desk over an engine, and ends the desk, with the tallies or without. Returns the engine, and the
+/// status of cookie 1 of channel 0 that a reader sees after the jobs.
 pub fn worked<R: Threads + Wait + Sync + Abort + Print, G: Gate>(
     rt: &R,
     alloc: Global,
     engine: Engine,
     jobs: &[Job],
     gate: &G,
+    is_reported: bool,
 ) -> Result<(Engine, Option<Status>), Fail> {
     let (parts, reader) = parts_of(rt, alloc, engine)?;
-    shared_by::<Brand, R, G>(rt, alloc, parts, reader, jobs, gate)
+    shared_by::<Brand, R, G>(rt, alloc, parts, reader, jobs, gate, is_reported)
 }
 
 /// Runs two jobs at a desk over two channels with a copy each. Returns the steps, how many copies have finished, and
@@ -130,7 +146,7 @@ pub fn two_copies<R: Threads + Wait + Sync + Abort + Print, G: Gate>(
     let mut engine = Engine::new(alloc, 0x4000, 2)?;
     issue(alloc, &mut engine, 0, (0x1000, 0x2000), (None, None))?;
     issue(alloc, &mut engine, 1, (0x1000, 0x3000), (None, None))?;
-    let (engine, status) = worked(rt, alloc, engine, jobs, gate)?;
+    let (engine, status) = worked(rt, alloc, engine, jobs, gate, true)?;
     Ok((engine.steps(), engine.finished_all(), status))
 }
 
