@@ -4,23 +4,14 @@
 
 ghost use Rattle.dma_work.specs.Desk.{Names};
 
+use crate::transfers::{copy, four, issue};
 use dma_engine::{Engine, EngineFault, Status};
 use dma_mem::marks::MarkKind;
-use dma_mem::segment::Segment;
-use dma_mem::transfer::{Transfer, TransferFault};
 use dma_work::{Desk, DeskName, Parts, StatusReader};
 use std::alloc::Global;
 use std::marker::Brand;
 use std::sync::Wait;
 use std::test::Fail;
-
-fn four(addr: u32) -> Segment {
-    Segment { addr, len: 4 }
-}
-
-fn copy(alloc: Global) -> Result<Transfer, TransferFault> {
-    Transfer::new(alloc, &[four(0x1000)], &[four(0x2000)], None, None)
-}
 
 #[derive(Clone, Copy)]
 enum Asked {
@@ -50,7 +41,7 @@ fn submit<N: DeskName, R: Wait>(
     alloc: Global,
     desk: &mut Desk<N>,
 ) -> Result<(), EngineFault> {
-    let Ok(transfer) = copy(alloc) else {
+    let Ok(transfer) = copy(alloc, 0x1000, 0x2000) else {
         return Err(EngineFault::NoMemory);
     };
     match desk.submit(rt, 0, transfer) {
@@ -97,11 +88,13 @@ fn seen(reader: &mut StatusReader) -> Seen {
     ]
 }
 
-// Returns whether the only reader of a desk sees these statuses, and so does another, which the desk has once that one
-// was dropped.
-fn are_seen<N: DeskName>(desk: &mut Desk<N>, mut reader: StatusReader, wanted: Seen) -> bool {
-    let is_right = seen(&mut reader) == wanted && desk.reader().is_none();
-    drop(reader);
+// Returns whether the reader of a desk, if it has one, sees these statuses, and so does another, which the desk has only
+// once that one was dropped.
+fn are_seen<N: DeskName>(desk: &mut Desk<N>, reader: Option<StatusReader>, wanted: Seen) -> bool {
+    let is_right = match reader {
+        Some(mut first) => seen(&mut first) == wanted && desk.reader().is_none(),
+        None => true,
+    };
     match desk.reader() {
         Some(mut next) => is_right && seen(&mut next) == wanted,
         None => false,
@@ -116,7 +109,7 @@ fn at_a_desk<N: DeskName, R: Wait + Print>(
     rt: &R,
     alloc: Global,
     parts: Parts,
-    reader: StatusReader,
+    reader: Option<StatusReader>,
     row: Row,
 ) -> Result<bool, Fail>
     requires { Names N.opening N.base N.log parts }
@@ -136,35 +129,22 @@ fn at_a_desk<N: DeskName, R: Wait + Print>(
     Ok(is_right)
 }
 
-// Returns the parts of an engine and their only reader. Asks again if they are out of memory.
+/// Returns the parts of an engine and one of so many readers, if any. Asks again if they are out of memory.
 pub fn parts_of<R: Wait + Print>(
     rt: &R,
     alloc: Global,
     engine: Engine,
-) -> Result<(Parts, StatusReader), Fail> {
+    count: usize,
+) -> Result<(Parts, Option<StatusReader>), Fail> {
     println!(rt; "row Parts::new")?;
-    let engine = match one_reader(rt, alloc, engine) {
-        Ok(made) => return Ok(made),
-        Err(engine) => engine,
+    let engine = match Parts::new(rt, alloc, engine, count) {
+        Ok((parts, mut readers)) => return Ok((parts, readers.pop())),
+        Err(refused) => refused.engine,
     };
     println!(rt; "refused Parts::new")?;
-    match one_reader(rt, alloc, engine) {
-        Ok(made) => Ok(made),
+    match Parts::new(rt, alloc, engine, count) {
+        Ok((parts, mut readers)) => Ok((parts, readers.pop())),
         Err(_) => Err(Fail::from("no parts")),
-    }
-}
-
-fn one_reader<R: Wait>(
-    rt: &R,
-    alloc: Global,
-    engine: Engine,
-) -> Result<(Parts, StatusReader), Engine> {
-    match Parts::new(rt, alloc, engine, 1) {
-        Ok((parts, mut readers)) => match readers.pop() {
-            Some(reader) => Ok((parts, reader)),
-            None => unreachable!(),
-        },
-        Err(refused) => Err(refused.engine),
     }
 }
 
@@ -172,14 +152,6 @@ fn step_often(engine: &mut Engine, steps: u32) -> Result<(), EngineFault> {
     for _ in 0..steps {
         engine.step(0)?;
     }
-    Ok(())
-}
-
-fn issue_copy(alloc: Global, engine: &mut Engine) -> Result<(), Fail> {
-    let Ok(_) = engine.submit(0, copy(alloc)?) else {
-        return Err(Fail::from("submit was refused"));
-    };
-    engine.issue(0)?;
     Ok(())
 }
 
@@ -192,9 +164,9 @@ fn without_room(alloc: Global, steps: u32) -> Result<Engine, Fail> {
 }
 
 fn prepare(alloc: Global, engine: &mut Engine, steps: u32) -> Result<(), Fail> {
-    issue_copy(alloc, engine)?;
+    issue(engine, 0, copy(alloc, 0x1000, 0x2000)?)?;
     step_often(engine, 9)?;
-    issue_copy(alloc, engine)?;
+    issue(engine, 0, copy(alloc, 0x1000, 0x2000)?)?;
     engine.checkpoint()?;
     step_often(engine, steps)?;
     Ok(())
@@ -206,16 +178,17 @@ fn calls_are_made_again(rt: HostRuntime) -> Result<(), Fail> {
     const GIVEN: Option<Status> = Some(Status::InProgress);
     const NONE: Option<Status> = Some(Status::Unknown);
     let rows = [
-        ("calls by name", Asked::Named, 0, [DONE, GIVEN, NONE]),
-        ("submit", Asked::Submit, 0, [DONE, GIVEN, GIVEN]),
-        ("terminate", Asked::Terminate, 0, [DONE, DONE, NONE]),
-        ("step that finishes", Asked::Step, 8, [DONE, DONE, NONE]),
-        ("checkpoint", Asked::Checkpoint, 0, [DONE, GIVEN, GIVEN]),
+        ("calls by name", Asked::Named, 0, 1, [DONE, GIVEN, NONE]),
+        ("submit", Asked::Submit, 0, 0, [DONE, GIVEN, GIVEN]),
+        ("terminate", Asked::Terminate, 0, 1, [DONE, DONE, NONE]),
+        ("step that finishes", Asked::Step, 8, 1, [DONE, DONE, NONE]),
+        ("checkpoint", Asked::Checkpoint, 0, 1, [DONE, GIVEN, GIVEN]),
     ];
-    for (name, asked, steps, wanted) in rows {
+    // the steps of the second copy before the call, and the number of readers
+    for (name, asked, steps, count, wanted) in rows {
         let engine = without_room(rt.alloc(), steps)?;
         println!(rt; "row Desk {name}")?;
-        let (parts, reader) = parts_of(&rt, rt.alloc(), engine)?;
+        let (parts, reader) = parts_of(&rt, rt.alloc(), engine, count)?;
         let row = (name, asked, wanted);
         let is_right = at_a_desk::<Brand, _>(&rt, rt.alloc(), parts, reader, row)?;
         assert!(rt; is_right, "{name}");

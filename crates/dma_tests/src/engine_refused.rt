@@ -3,10 +3,9 @@
 //! this test in turn, and requires that each row meets a refusal; with ample memory none does. That a refused call
 //! changes nothing is in its contract.
 
+use crate::transfers::copy;
 use dma_engine::{Call, Engine, EngineFault, Reply};
 use dma_mem::lists::Bytes;
-use dma_mem::segment::Segment;
-use dma_mem::transfer::Transfer;
 use std::alloc::Global;
 use std::test::Fail;
 
@@ -22,8 +21,7 @@ enum Asked {
 
 // Submits a copy of a copy.
 fn submit(alloc: Global, engine: &mut Engine) -> Result<(), EngineFault> {
-    let four = |addr: u32| Segment { addr, len: 4 };
-    let Ok(transfer) = Transfer::new(alloc, &[four(0)], &[four(8)], None, None) else {
+    let Ok(transfer) = copy(alloc, 0, 8) else {
         return Err(EngineFault::NoMemory);
     };
     match engine.carry_out(&Call::Submit { ch: 0, transfer }) {

@@ -15,6 +15,8 @@ mod lists;
 #[cfg(test)]
 mod memory_refused;
 #[cfg(test)]
+mod transfers;
+#[cfg(test)]
 mod turns;
 #[cfg(test)]
 mod work_in_turn;

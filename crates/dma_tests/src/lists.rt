@@ -1,23 +1,19 @@
 //! Lists of calls and of segments.
 
+use crate::transfers::copy;
 use dma_engine::run::run;
 use dma_engine::{Call, Engine, Reply};
 use dma_mem::lists::Bytes;
 use dma_mem::memory::{MemFault, Memory};
 use dma_mem::segment::Segment;
-use dma_mem::transfer::Transfer;
 use std::alloc::Global;
 use std::test::Fail;
-
-fn four(addr: u32) -> Segment {
-    Segment { addr, len: 4 }
-}
 
 // Executes calls, each of another kind, that nothing but memory refuses. Returns how many there are, and how many of
 // them are refused.
 fn carried_out(alloc: Global, engine: &mut Engine) -> Result<(usize, usize), Fail> {
     let bytes = Bytes::from_slice(alloc, &[1, 2, 3, 4])?;
-    let transfer = Transfer::new(alloc, &[four(0)], &[four(8)], None, None)?;
+    let transfer = copy(alloc, 0, 8)?;
     let calls = [
         Call::Write { addr: 0, bytes },
         Call::Submit { ch: 0, transfer },

@@ -1,9 +1,11 @@
 //! An engine after a worker's thread and the end of a desk is the same as after the same steps by one thread.
 
-use crate::workers::{issue, worked};
+use crate::transfers::{copy, four, issue};
+use crate::workers::worked;
 use dma_engine::{Engine, Entry, Outcome, Running};
 use dma_mem::marks::MarkKind;
 use dma_mem::segment::Segment;
+use dma_mem::transfer::Transfer;
 use dma_work::{Job, NoGate};
 use std::alloc::Global;
 use std::process::Abort;
@@ -19,19 +21,24 @@ fn pause_and_halt(alloc: Global, engine: &mut Engine) -> Result<(), Fail> {
     };
     engine.mark(MarkKind::Reading, third)?;
     engine.raise(3)?;
-    issue(alloc, engine, 0, (0x100, 0x200), (Some(3), Some(4)))?;
-    issue(alloc, engine, 1, (0x180, 0x240), (None, None))?;
-    issue(alloc, engine, 2, (0x100, 0x280), (None, None))?;
+    let (src, dst) = (four(0x100), four(0x200));
+    issue(
+        engine,
+        0,
+        Transfer::new(alloc, &[src], &[dst], Some(3), Some(4))?,
+    )?;
+    issue(engine, 1, copy(alloc, 0x180, 0x240)?)?;
+    issue(engine, 2, copy(alloc, 0x100, 0x280)?)?;
     engine.step(0)?;
     engine.pause(0)?;
     engine.advance(1, 9);
     Ok(())
 }
 
-// Steps the channels 0 to 3 in rotation. There is no channel 3.
-fn step_rounds(engine: &mut Engine, rounds: u32) {
-    for turn in 0..rounds.saturating_mul(4) {
-        let _ = engine.step((turn % 4) as u8);
+// Steps the three channels in rotation.
+fn step_often(engine: &mut Engine, turns: u32) {
+    for turn in 0..turns {
+        let _ = engine.step((turn % 3) as u8);
     }
 }
 
@@ -40,8 +47,8 @@ fn step_rounds(engine: &mut Engine, rounds: u32) {
 fn go_on(alloc: Global, engine: &mut Engine) -> Result<(), Fail> {
     engine.resume(0)?;
     engine.terminate(1)?;
-    issue(alloc, engine, 1, (0x180, 0x240), (None, None))?;
-    step_rounds(engine, 15);
+    issue(engine, 1, copy(alloc, 0x180, 0x240)?)?;
+    step_often(engine, 45);
     Ok(())
 }
 
@@ -117,15 +124,17 @@ fn paused_and_halted(alloc: Global) -> Result<Engine, Fail> {
     Ok(engine)
 }
 
-// The copies of channels 0 and 1 don't move, and that of channel 2 still runs after seven rounds.
+// The copies of channels 0 and 1 don't move, and that of channel 2 still runs after seven rounds. The other job's channel
+// doesn't exist.
 #[test]
 fn a_desk_ends_as_the_steps_do(rt: HostRuntime) -> Result<(), Fail> {
-    let job = Job::new(0, 3, 28).ok_or("no job")?;
+    let job = Job::new(0, 2, 21).ok_or("no job")?;
+    let idle = Job::new(3, 3, 21).ok_or("no job")?;
     for is_reported in [false, true] {
         let mut that = paused_and_halted(rt.alloc())?;
         let engine = paused_and_halted(rt.alloc())?;
-        let (mut this, _) = worked(&rt, rt.alloc(), engine, &[job], &NoGate, is_reported)?;
-        step_rounds(&mut that, 7);
+        let (mut this, _) = worked(&rt, rt.alloc(), engine, [job, idle], &NoGate, is_reported)?;
+        step_often(&mut that, 21);
         compare(&rt, rt.alloc(), &mut this, &mut that)?;
     }
     Ok(())

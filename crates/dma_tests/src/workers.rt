@@ -4,11 +4,11 @@ ghost use Rattle.std.specs.Prelude.{◌<◌};
 ghost use Rattle.dma_work.specs.Desk.{Names};
 
 use crate::desk_refused::parts_of;
+use crate::transfers::{copy, issue};
 use dma_engine::{Engine, Status};
-use dma_mem::segment::Segment;
-use dma_mem::transfer::Transfer;
 use dma_work::{
-    DeskName, Gate, Job, MissingTally, Parts, Shared, StatusReader, Tally, run_workers, settle,
+    DeskName, Gate, Job, MAX_READERS, MissingTally, Parts, Shared, StatusReader, Tally,
+    run_workers, settle,
 };
 use std::alloc::Global;
 use std::marker::Brand;
@@ -17,23 +17,6 @@ use std::sync::{Mutex, MutexGuard, Wait};
 use std::test::Fail;
 use std::thread;
 use std::thread::Threads;
-
-/// Submits a copy of four bytes to a channel, and issues it.
-pub fn issue(
-    alloc: Global,
-    engine: &mut Engine,
-    ch: u8,
-    (src, dst): (u32, u32),
-    (wait, signal): (Option<u8>, Option<u8>),
-) -> Result<(), Fail> {
-    let four = |addr: u32| Segment { addr, len: 4 };
-    let transfer = Transfer::new(alloc, &[four(src)], &[four(dst)], wait, signal)?;
-    let Ok(_) = engine.submit(ch, transfer) else {
-        return Err(Fail::from("submit was refused"));
-    };
-    engine.issue(ch)?;
-    Ok(())
-}
 
 // Asks for two statuses many times. Returns the reader, and whether it always knew both.
 fn ask_often(mut reader: StatusReader) -> (StatusReader, bool) {
@@ -52,21 +35,21 @@ fn counts<N: DeskName, R: Wait>(rt: &R, shared: &Shared<N>) -> (u64, usize) {
     counts
 }
 
-// Runs jobs while another thread asks the reader. If they are out of memory, they have done nothing, and are run again.
+// Runs two jobs while another thread asks the reader. If they are out of memory, they have done nothing, and are run again.
 // Returns the tallies, and the last status of cookie 1 of channel 0.
 fn run_jobs<N: DeskName + Send + Sync, R: Threads + Wait + Sync + Abort + Print, G: Gate>(
     rt: &R,
     alloc: Global,
     shared: &Shared<N>,
     reader: StatusReader,
-    jobs: &[Job],
+    jobs: [Job; 2],
     gate: &G,
 ) -> Result<(Vec<Tally<N>>, Option<Status>), Fail> {
     let before = counts(rt, shared);
     let ((mut reader, is_right), tallies) = thread::join(
         rt,
         move || ask_often(reader),
-        || run_workers(rt, alloc, shared, jobs, gate),
+        || run_workers(rt, alloc, shared, &jobs, gate),
     );
     assert!(rt; is_right);
     let tallies = match tallies {
@@ -74,7 +57,7 @@ fn run_jobs<N: DeskName + Send + Sync, R: Threads + Wait + Sync + Abort + Print,
         Err(_) => {
             println!(rt; "refused run_workers")?;
             assert!(rt; counts(rt, shared) == before);
-            run_workers(rt, alloc, shared, jobs, gate)?
+            run_workers(rt, alloc, shared, &jobs, gate)?
         }
     };
     Ok((tallies, reader.status(0, 1)))
@@ -99,14 +82,18 @@ fn shared_by<N: DeskName + Send + Sync, R: Threads + Wait + Sync + Abort + Print
     rt: &R,
     alloc: Global,
     parts: Parts,
-    reader: StatusReader,
-    jobs: &[Job],
+    reader: Option<StatusReader>,
+    jobs: [Job; 2],
     gate: &G,
     is_reported: bool,
 ) -> Result<(Engine, Option<Status>), Fail>
     requires { Names N.opening N.base N.log parts }
 {
     let shared = Shared::<N>::new(parts);
+    let Some(reader) = reader else {
+        shared.close(rt);
+        return Err(Fail::from("no reader"));
+    };
     match run_jobs(rt, alloc, &shared, reader, jobs, gate) {
         Ok((mut tallies, status)) => {
             if !is_reported {
@@ -121,17 +108,17 @@ fn shared_by<N: DeskName + Send + Sync, R: Threads + Wait + Sync + Abort + Print
     }
 }
 
-/// Runs jobs at a desk over an engine, and ends the desk, with the tallies or without. Returns the engine, and the
+/// Runs two jobs at a desk over an engine, and ends the desk, with the tallies or without. Returns the engine, and the
 /// status of cookie 1 of channel 0 that a reader sees after the jobs.
 pub fn worked<R: Threads + Wait + Sync + Abort + Print, G: Gate>(
     rt: &R,
     alloc: Global,
     engine: Engine,
-    jobs: &[Job],
+    jobs: [Job; 2],
     gate: &G,
     is_reported: bool,
 ) -> Result<(Engine, Option<Status>), Fail> {
-    let (parts, reader) = parts_of(rt, alloc, engine)?;
+    let (parts, reader) = parts_of(rt, alloc, engine, MAX_READERS)?;
     shared_by::<Brand, R, G>(rt, alloc, parts, reader, jobs, gate, is_reported)
 }
 
@@ -140,12 +127,12 @@ pub fn worked<R: Threads + Wait + Sync + Abort + Print, G: Gate>(
 pub fn two_copies<R: Threads + Wait + Sync + Abort + Print, G: Gate>(
     rt: &R,
     alloc: Global,
-    jobs: &[Job],
+    jobs: [Job; 2],
     gate: &G,
 ) -> Result<(u64, u64, Option<Status>), Fail> {
     let mut engine = Engine::new(alloc, 0x4000, 2)?;
-    issue(alloc, &mut engine, 0, (0x1000, 0x2000), (None, None))?;
-    issue(alloc, &mut engine, 1, (0x1000, 0x3000), (None, None))?;
+    issue(&mut engine, 0, copy(alloc, 0x1000, 0x2000)?)?;
+    issue(&mut engine, 1, copy(alloc, 0x1000, 0x3000)?)?;
     let (engine, status) = worked(rt, alloc, engine, jobs, gate, true)?;
     Ok((engine.steps(), engine.finished_all(), status))
 }
@@ -204,7 +191,7 @@ fn two_workers_in_step(rt: HostRuntime) -> Result<(), Fail> {
         turns: Mutex::new([0; 2]),
         is_wrong: Mutex::new(false),
     };
-    let done = two_copies(&rt, rt.alloc(), &[first, second], &gate)?;
+    let done = two_copies(&rt, rt.alloc(), [first, second], &gate)?;
     assert!(rt; done == (16, 2, Some(Status::Complete)));
     let InStep { turns, is_wrong } = gate;
     assert!(rt; turns.into_inner() == [9, 9]);

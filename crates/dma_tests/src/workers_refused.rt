@@ -12,7 +12,7 @@ fn workers_begin_when_asked_again(rt: HostRuntime) -> Result<(), Fail> {
     let first = Job::new(0, 0, 12).ok_or("no job")?;
     let second = Job::new(1, 1, 12).ok_or("no job")?;
     println!(rt; "row run_workers")?;
-    let done = two_copies(&rt, rt.alloc(), &[first, second], &NoGate)?;
+    let done = two_copies(&rt, rt.alloc(), [first, second], &NoGate)?;
     assert!(rt; done == (16, 2, Some(Status::Complete)));
     Ok(())
 }
