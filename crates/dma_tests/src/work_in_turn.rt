@@ -2,7 +2,7 @@
 
 use crate::transfers::{copy, four, issue};
 use crate::workers::worked;
-use dma_engine::{Engine, Entry, Outcome, Running};
+use dma_engine::{Engine, EngineFault, Entry, Outcome, Running};
 use dma_mem::marks::MarkKind;
 use dma_mem::segment::Segment;
 use dma_mem::transfer::Transfer;
@@ -11,24 +11,28 @@ use std::alloc::Global;
 use std::process::Abort;
 use std::test::Fail;
 
-// Channel 0 is paused before a wait for a flag that is set, channel 1 is halted by a mark, and channel 2 has an issued
-// copy.
-fn pause_and_halt(alloc: Global, engine: &mut Engine) -> Result<(), Fail> {
+// Sets the flag of event 3, and makes a load fail at 0x182.
+fn prepare(engine: &mut Engine) -> Result<(), EngineFault> {
     engine.write(0x100, &[1, 2, 3, 4])?;
     let third = Segment {
         addr: 0x182,
         len: 1,
     };
     engine.mark(MarkKind::Reading, third)?;
-    engine.raise(3)?;
+    engine.raise(3)
+}
+
+// Issues a copy that waits for event 3 and signals event 4, and two others, the first of which fails.
+fn issue_all(alloc: Global, engine: &mut Engine) -> Result<(), Fail> {
     let (src, dst) = (four(0x100), four(0x200));
-    issue(
-        engine,
-        0,
-        Transfer::new(alloc, &[src], &[dst], Some(3), Some(4))?,
-    )?;
+    let first = Transfer::new(alloc, &[src], &[dst], Some(3), Some(4))?;
+    issue(engine, 0, first)?;
     issue(engine, 1, copy(alloc, 0x180, 0x240)?)?;
-    issue(engine, 2, copy(alloc, 0x100, 0x280)?)?;
+    issue(engine, 2, copy(alloc, 0x100, 0x280)?)
+}
+
+// Pauses channel 0 before its wait, and steps channel 1 until it is halted.
+fn pause_and_halt(engine: &mut Engine) -> Result<(), EngineFault> {
     engine.step(0)?;
     engine.pause(0)?;
     engine.advance(1, 9);
@@ -120,7 +124,9 @@ fn compare(
 
 fn paused_and_halted(alloc: Global) -> Result<Engine, Fail> {
     let mut engine = Engine::new(alloc, 0x400, 3)?;
-    pause_and_halt(alloc, &mut engine)?;
+    prepare(&mut engine)?;
+    issue_all(alloc, &mut engine)?;
+    pause_and_halt(&mut engine)?;
     Ok(engine)
 }
 

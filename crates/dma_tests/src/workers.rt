@@ -122,6 +122,11 @@ pub fn worked<R: Threads + Wait + Sync + Abort + Print, G: Gate>(
     shared_by::<Brand, R, G>(rt, alloc, parts, reader, jobs, gate, is_reported)
 }
 
+fn issue_both(alloc: Global, engine: &mut Engine) -> Result<(), Fail> {
+    issue(engine, 0, copy(alloc, 0x1000, 0x2000)?)?;
+    issue(engine, 1, copy(alloc, 0x1000, 0x3000)?)
+}
+
 /// Runs two jobs at a desk over two channels with a copy each. Returns the steps, how many copies have finished, and
 /// the status of the first that a reader then sees.
 pub fn two_copies<R: Threads + Wait + Sync + Abort + Print, G: Gate>(
@@ -131,8 +136,7 @@ pub fn two_copies<R: Threads + Wait + Sync + Abort + Print, G: Gate>(
     gate: &G,
 ) -> Result<(u64, u64, Option<Status>), Fail> {
     let mut engine = Engine::new(alloc, 0x4000, 2)?;
-    issue(&mut engine, 0, copy(alloc, 0x1000, 0x2000)?)?;
-    issue(&mut engine, 1, copy(alloc, 0x1000, 0x3000)?)?;
+    issue_both(alloc, &mut engine)?;
     let (engine, status) = worked(rt, alloc, engine, jobs, gate, true)?;
     Ok((engine.steps(), engine.finished_all(), status))
 }
