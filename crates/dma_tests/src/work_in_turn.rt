@@ -35,7 +35,9 @@ fn issue_all(alloc: Global, engine: &mut Engine) -> Result<(), Fail> {
 fn pause_and_halt(engine: &mut Engine) -> Result<(), EngineFault> {
     engine.step(0)?;
     engine.pause(0)?;
-    engine.advance(1, 9);
+    for _ in 0..5 {
+        engine.step(1)?;
+    }
     Ok(())
 }
 
