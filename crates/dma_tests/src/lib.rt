@@ -1,0 +1,26 @@
+//! Tests of public items: of what no clause states, no row of the top-level `tests/` shows, and no test in C or Rust
+//! reaches. They have a crate of their own, because the gate proves a crate with tests once more together with its tests.
+#![tactic(auto)]
+
+#[cfg(test)]
+mod blocks;
+#[cfg(test)]
+mod desk_refused;
+#[cfg(test)]
+mod engine_refused;
+#[cfg(test)]
+mod example;
+#[cfg(test)]
+mod lists;
+#[cfg(test)]
+mod memory_refused;
+#[cfg(test)]
+mod transfers;
+#[cfg(test)]
+mod turns;
+#[cfg(test)]
+mod work_in_turn;
+#[cfg(test)]
+mod workers;
+#[cfg(test)]
+mod workers_refused;

@@ -1,0 +1,204 @@
+//! Workers at a desk, each in its thread, while another thread asks for statuses.
+
+ghost use Rattle.std.specs.Prelude.{◌<◌};
+ghost use Rattle.dma_work.specs.Desk.{Names};
+
+use crate::desk_refused::parts_of;
+use crate::transfers::{copy, issue};
+use dma_engine::{Engine, Status};
+use dma_work::{
+    DeskName, Gate, Job, MAX_READERS, MissingTally, Parts, Shared, StatusReader, Tally,
+    run_workers, settle,
+};
+use std::alloc::Global;
+use std::marker::Brand;
+use std::process::Abort;
+use std::sync::{Mutex, MutexGuard, Wait};
+use std::test::Fail;
+use std::thread;
+use std::thread::Threads;
+
+// Asks for two statuses many times. Returns the reader, and whether it always knew both.
+fn ask_often(mut reader: StatusReader) -> (StatusReader, bool) {
+    let mut is_right = true;
+    for _ in 0..10_000 {
+        is_right &= reader.status(0, 1).is_some() && reader.status(1, 1).is_some();
+    }
+    (reader, is_right)
+}
+
+// Returns the steps and the number of entries of an engine at a desk.
+fn counts<N: DeskName, R: Wait>(rt: &R, shared: &Shared<N>) -> (u64, usize) {
+    let desk = shared.desk().lock(rt);
+    let counts = (desk.engine().steps(), desk.engine().history().len());
+    MutexGuard::unlock(desk);
+    counts
+}
+
+// Runs two jobs while another thread asks the reader. If they are out of memory, they have done nothing, and are run again.
+// Returns the tallies, and the last status of cookie 1 of channel 0.
+fn run_jobs<N: DeskName + Send + Sync, R: Threads + Wait + Sync + Abort + Print, G: Gate>(
+    rt: &R,
+    alloc: Global,
+    shared: &Shared<N>,
+    reader: StatusReader,
+    jobs: [Job; 2],
+    gate: &G,
+) -> Result<(Vec<Tally<N>>, Option<Status>), Fail> {
+    let before = counts(rt, shared);
+    let ((mut reader, is_right), tallies) = thread::join(
+        rt,
+        move || ask_often(reader),
+        || run_workers(rt, alloc, shared, &jobs, gate),
+    );
+    assert!(rt; is_right);
+    let tallies = match tallies {
+        Ok(tallies) => tallies,
+        Err(_) => {
+            println!(rt; "refused run_workers")?;
+            assert!(rt; counts(rt, shared) == before);
+            run_workers(rt, alloc, shared, &jobs, gate)?
+        }
+    };
+    Ok((tallies, reader.status(0, 1)))
+}
+
+// Settles a desk, or closes it if tallies are missing.
+fn ended<N: DeskName, R: Wait>(rt: &R, shared: Shared<N>, tallies: Vec<Tally<N>>) -> Engine {
+    match settle(rt, shared, tallies) {
+        Ok((engine, _totals)) => engine,
+        Err(missing) => {
+            let MissingTally {
+                shared,
+                tallies: _,
+                book: _,
+            } = missing;
+            shared.close(rt)
+        }
+    }
+}
+
+fn shared_by<N: DeskName + Send + Sync, R: Threads + Wait + Sync + Abort + Print, G: Gate>(
+    rt: &R,
+    alloc: Global,
+    parts: Parts,
+    reader: Option<StatusReader>,
+    jobs: [Job; 2],
+    gate: &G,
+    is_reported: bool,
+) -> Result<(Engine, Option<Status>), Fail>
+    requires { Names N.opening N.base N.log parts }
+{
+    let shared = Shared::<N>::new(parts);
+    let Some(reader) = reader else {
+        shared.close(rt);
+        return Err(Fail::from("no reader"));
+    };
+    match run_jobs(rt, alloc, &shared, reader, jobs, gate) {
+        Ok((mut tallies, status)) => {
+            if !is_reported {
+                tallies.clear();
+            }
+            Ok((ended(rt, shared, tallies), status))
+        }
+        Err(fail) => {
+            shared.close(rt);
+            Err(fail)
+        }
+    }
+}
+
+/// Runs two jobs at a desk over an engine, and ends the desk, with the tallies or without. Returns the engine, and the
+/// status of cookie 1 of channel 0 that a reader sees after the jobs.
+pub fn worked<R: Threads + Wait + Sync + Abort + Print, G: Gate>(
+    rt: &R,
+    alloc: Global,
+    engine: Engine,
+    jobs: [Job; 2],
+    gate: &G,
+    is_reported: bool,
+) -> Result<(Engine, Option<Status>), Fail> {
+    let (parts, reader) = parts_of(rt, alloc, engine, MAX_READERS)?;
+    shared_by::<Brand, R, G>(rt, alloc, parts, reader, jobs, gate, is_reported)
+}
+
+fn issue_both(alloc: Global, engine: &mut Engine) -> Result<(), Fail> {
+    issue(engine, 0, copy(alloc, 0x1000, 0x2000)?)?;
+    issue(engine, 1, copy(alloc, 0x1000, 0x3000)?)
+}
+
+/// Runs two jobs at a desk over two channels with a copy each. Returns the steps, how many copies have finished, and
+/// the status of the first that a reader then sees.
+pub fn two_copies<R: Threads + Wait + Sync + Abort + Print, G: Gate>(
+    rt: &R,
+    alloc: Global,
+    jobs: [Job; 2],
+    gate: &G,
+) -> Result<(u64, u64, Option<Status>), Fail> {
+    let mut engine = Engine::new(alloc, 0x4000, 2)?;
+    issue_both(alloc, &mut engine)?;
+    let (engine, status) = worked(rt, alloc, engine, jobs, gate, true)?;
+    Ok((engine.steps(), engine.finished_all(), status))
+}
+
+// ---- a gate
+
+// The most times that a gate looks for the other worker.
+const MOST_LOOKS: u64 = 20_000_000;
+
+// Holds each of two workers before each of its turns until the other has arrived there too.
+#[derive(Drop)]
+struct InStep {
+    // the number of the turn at which each worker has arrived
+    turns: Mutex<[u64; 2]>,
+    is_wrong: Mutex<bool>,
+}
+
+impl InStep {
+    // Returns whether the other worker arrives at this turn too.
+    fn meets<R: Wait>(&self, rt: &R, other: usize, n: u64) -> bool
+        requires { other < 2 }
+    {
+        for _ in 0..MOST_LOOKS {
+            if self.turns.lock(rt)[other] >= n {
+                return true;
+            }
+        }
+        false
+    }
+}
+
+impl Gate for InStep {
+    ghost passes = { λ worker n. Unit {0} };
+
+    fn turn<R: Wait>(&self, rt: &R, worker: u32, n: u64) {
+        if worker > 1 || n == 0 {
+            *self.is_wrong.lock(rt) = true;
+            return;
+        }
+        let me = worker as usize;
+        let mut turns = self.turns.lock(rt);
+        let follows = turns[me] == n - 1;
+        turns[me] = n;
+        drop(turns);
+        if !self.meets(rt, 1 - me, n) || !follows {
+            *self.is_wrong.lock(rt) = true;
+        }
+    }
+}
+
+#[test]
+fn two_workers_in_step(rt: HostRuntime) -> Result<(), Fail> {
+    let first = Job::new(0, 0, 9).ok_or("no job")?;
+    let second = Job::new(1, 1, 9).ok_or("no job")?;
+    let gate = InStep {
+        turns: Mutex::new([0; 2]),
+        is_wrong: Mutex::new(false),
+    };
+    let done = two_copies(&rt, rt.alloc(), [first, second], &gate)?;
+    assert!(rt; done == (16, 2, Some(Status::Complete)));
+    let InStep { turns, is_wrong } = gate;
+    assert!(rt; turns.into_inner() == [9, 9]);
+    assert!(rt; !is_wrong.into_inner());
+    Ok(())
+}

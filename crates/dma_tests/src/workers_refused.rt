@@ -1,0 +1,18 @@
+//! Workers that run out of memory before they begin, and then begin. `tests/refuse_calls` refuses each allocation of
+//! this test in turn, and requires that each row meets a refusal; with ample memory none does.
+
+use crate::workers::two_copies;
+use dma_engine::Status;
+use dma_work::{Job, NoGate};
+use std::test::Fail;
+
+// The jobs have more turns than they need: a refused step changes nothing, and is taken again in the next turn.
+#[test]
+fn workers_begin_when_asked_again(rt: HostRuntime) -> Result<(), Fail> {
+    let first = Job::new(0, 0, 12).ok_or("no job")?;
+    let second = Job::new(1, 1, 12).ok_or("no job")?;
+    println!(rt; "row run_workers")?;
+    let done = two_copies(&rt, rt.alloc(), [first, second], &NoGate)?;
+    assert!(rt; done == (16, 2, Some(Status::Complete)));
+    Ok(())
+}

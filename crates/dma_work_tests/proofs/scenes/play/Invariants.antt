@@ -1,5 +1,0 @@
-use Rattle.std.specs.Prelude.{[]}
-use Rattle.dma_work_tests.proofs.scenes.play.Given as goal
-
-abbrev pub ghosts-at_a_desk : goal.ghosts-at_a_desk
-ghosts-at_a_desk g a = record { base = a.parts.base; log = a.parts.log; opening = a.parts.engine.view; jobs = [] }
