@@ -240,16 +240,32 @@ static int ends_as_wanted(uint32_t first, uint32_t second)
     return (end.end == DMA330_END_ENDED ? end.turns : end.event) == wanted.number;
 }
 
-/* Each first byte is a check. */
+/* Whether a program ends in its first instruction with a fault of this kind. */
+static int fails_first(ending of, uint32_t fault)
+{
+    return of.end == DMA330_END_FAULT && of.number == fault && of.pc == 0;
+}
+
+/* Each first byte is a check. So are the sums: how many pairs begin an instruction, one with a wrong field, or none. */
 static void run_all_pairs(void)
 {
-    uint32_t first, second;
+    uint32_t first, second, instructions = 0, wrong_fields = 0, unknown = 0;
     for (first = 0; first < 0x100; first++) {
-        for (second = 0; second < 0x100 && ends_as_wanted(first, second); second++)
-            ;
+        for (second = 0; second < 0x100 && ends_as_wanted(first, second); second++) {
+            ending found = end_of_pair(first, second);
+            if (fails_first(found, DMA330_UNDEF_INSTR))
+                unknown++;
+            else if (fails_first(found, DMA330_OPERAND_INVALID))
+                wrong_fields++;
+            else
+                instructions++;
+        }
         if (!is_right(second == 0x100))
             printf("WRONG: a program that begins with %02lX %02lX\n", (unsigned long)first, (unsigned long)second);
     }
+    if (!is_right(instructions == 2659 && wrong_fields == 669 && unknown == 62208))
+        printf("WRONG: %lu instructions, %lu wrong fields, %lu unknown\n", (unsigned long)instructions,
+               (unsigned long)wrong_fields, (unsigned long)unknown);
 }
 
 /* ---- the version, and the longest text ---- */
