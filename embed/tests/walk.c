@@ -1,7 +1,8 @@
 /* Carries out each group of the files that it is given, rows.txt and calls of dmasim, in three ways: with a call for each
  * step; with as few calls as possible; and the same again, where a call that fails must change no reading. Also checks
  * that every call has returned every code that the header names for it, and what no row covers: programs cut at each
- * byte, programs with all pairs of first bytes, the longest texts, lengths above 32 bits, and regions that end at 2^64. */
+ * byte, programs with all pairs of first bytes, the longest texts, lengths above 32 bits, and regions that end at
+ * 2^64 or above. */
 #define _DEFAULT_SOURCE
 #include "lines.h"
 #include "rows.h"
@@ -240,13 +241,14 @@ static int ends_as_wanted(uint32_t first, uint32_t second)
     return (end.end == DMA330_END_ENDED ? end.turns : end.event) == wanted.number;
 }
 
-/* Whether a program ends in its first instruction with a fault of this kind. */
+/* Returns whether a program ends in its first instruction with this fault. */
 static int fails_first(ending of, uint32_t fault)
 {
     return of.end == DMA330_END_FAULT && of.number == fault && of.pc == 0;
 }
 
-/* Each first byte is a check. So are the sums: how many pairs begin an instruction, one with a wrong field, or none. */
+/* Each first byte is a check, and so are the numbers of pairs that begin an instruction, of pairs that begin one with a
+ * wrong field, and of pairs that begin none. */
 static void run_all_pairs(void)
 {
     uint32_t first, second, instructions = 0, wrong_fields = 0, unknown = 0;
@@ -369,7 +371,7 @@ static int refuses_region(dma330_channel *channel, size_t len)
            memcmp(&report, &former, sizeof report) == 0 && memcmp(bytes, zeros, sizeof bytes) == 0;
 }
 
-static void step_over_endless_regions(void)
+static void refuse_regions_past_2_64(void)
 {
     static uint8_t before[DMA330_MAX_SAVE], after[DMA330_MAX_SAVE];
     const uint8_t sets_event_3[3] = {0x34, 0x18, 0x00};
@@ -404,7 +406,7 @@ int main(int count, char **words)
     compare_version();
     write_longest_texts();
     call_with_long_lengths();
-    step_over_endless_regions();
+    refuse_regions_past_2_64();
     printf("%ld passed, %ld failed\n", passed, failed);
     return failed != 0;
 }

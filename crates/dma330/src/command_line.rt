@@ -162,8 +162,12 @@ fn request_of(alloc: Global, name: &str, matches: &ArgMatches<'_>) -> Result<Req
     }
 }
 
-/// Reads the options of a subcommand.
-fn call_by<'a>(alloc: Global, name: &str, matches: &ArgMatches<'a>) -> Result<Call<'a>, Error> {
+/// Returns the call that a subcommand and its options ask for. Fails with a mistake in an option.
+fn call_of_subcommand<'a>(
+    alloc: Global,
+    name: &str,
+    matches: &ArgMatches<'a>,
+) -> Result<Call<'a>, Error> {
     Ok(Call {
         request: request_of(alloc, name, matches)?,
         input: matches.get_str("file").filter(|file| *file != "-"),
@@ -181,7 +185,7 @@ fn call_by<'a>(alloc: Global, name: &str, matches: &ArgMatches<'a>) -> Result<Ca
 pub fn call_of<'a>(alloc: Global, words: &'a [String]) -> Result<Call<'a>, Error> {
     let matches = dma330(alloc)?.try_get_matches_from(words)?;
     match matches.subcommand() {
-        Some((name, matches)) => call_by(alloc, name, matches),
+        Some((name, matches)) => call_of_subcommand(alloc, name, matches),
         None => Err(dma330(alloc)?.error(ErrorKind::MissingSubcommand, "no command is given")?),
     }
 }

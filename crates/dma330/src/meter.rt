@@ -3,15 +3,15 @@ use dma_text::progress::Progress;
 use std::io::IsTerminal;
 use std::time::Instant;
 
-/// A line on standard error that says how far the call has come, if standard error is a terminal and the call takes more
-/// than a second. It is written once a second.
+/// A line on standard error that says how far the call has come. It is written at most once a second, first after a
+/// second, and only if standard error is a terminal.
 #[derive(Drop)]
 pub struct Meter<'a> {
     rt: &'a HostRuntime,
     /// The start, or `None` if nothing is shown.
     start: Option<Instant>,
-    /// How many seconds had passed when the line was last written, or 0 if it wasn't.
-    shown: u64,
+    /// How many whole seconds had passed when the line was last written, or 0 if it was never written.
+    shown_at: u64,
 }
 
 impl<'a> Meter<'a> {
@@ -25,13 +25,13 @@ impl<'a> Meter<'a> {
         Meter {
             rt,
             start,
-            shown: 0,
+            shown_at: 0,
         }
     }
 
     /// Removes the line.
     pub fn clear(&self) {
-        if self.shown > 0 {
+        if self.shown_at > 0 {
             // (the answer follows, whether the line is gone or not)
             let _ = eprint!(self.rt; "\r{:60}\r", "");
         }
@@ -46,9 +46,9 @@ impl Progress for Meter<'_> {
         let Ok(passed) = start.elapsed(self.rt) else {
             return;
         };
-        if passed.as_secs() > self.shown {
+        if passed.as_secs() > self.shown_at {
             let _ = eprint!(self.rt; "\rdma330: {kind} so far: {done}");
-            self.shown = passed.as_secs();
+            self.shown_at = passed.as_secs();
         }
     }
 }

@@ -168,7 +168,7 @@ started_prints script v a c l m n view first rest =
           ∙ append_assoc l (0 ∷ []) (lengths_of (lines_answered v script.before.statements));
     })
 
--- the line of `go`, in the words of the turns
+-- the line of `go`, if the counts are those of the turns
 pub go_printed : (v : View) (turns taken : List RaceTurn) (steps finished : ℕ) (a b l m : List ℕ) → taken ≡ turns → steps ≡ sum_by steps_in (answers v (step_calls taken)).0 → finished ≡ sum_by finishes_in (answers v (step_calls taken)).0 → Prints ((go_text steps finished ∷ []) ∷ []) a b l m → Prints ((go_line (answers v (step_calls turns)).0 ∷ []) ∷ []) a b l m
 go_printed v turns taken steps finished a b l m all some ends printed =
     let stepped = subst (λ (x : ℕ). Prints ((go_text x finished ∷ []) ∷ []) a b l m) some printed in

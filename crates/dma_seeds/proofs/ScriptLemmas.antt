@@ -36,7 +36,7 @@ races_are_runs script turns =
     ∙ lines_answered_append start before (steps_of turns ++ script.after)
     ∙ ap (λ l. lines_answered start before ++ l) (steps_answered v turns script.after))
 
--- the line of one turn more
+-- the text so far, with the line of the next turn
 pub turn_more : (all now new : List ℕ) (turn : RaceTurn) (turns left : List RaceTurn) → all ≡ now ++ turns_text turns → turns ≡ turn ∷ left → new ≡ now ++ text_of (turn_line turn ∷ []) → all ≡ new ++ turns_text left
 turn_more all now new turn turns left so_far split more =
     so_far ∙ ap (λ l. now ++ turns_text l) split

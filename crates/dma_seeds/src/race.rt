@@ -54,7 +54,8 @@ impl Interpreter for MeasuredEngine {
 }
 
 impl MeasuredEngine {
-    /// Returns the engine of a script, whose memory line prints nothing. Fails if memory runs out.
+    /// Returns a new engine as the memory line describes it, with the length 0 of what that line prints. Fails if
+    /// memory runs out.
     fn new(alloc: Global, script: &RunScript) -> Result<MeasuredEngine, AllocError>
         requires { IsWithin script.now }
         ensures view { IfOk result (λ measured.

@@ -55,7 +55,8 @@ fn push_lines(script: &[u8], turns: &[u8], out: &mut Vec<u8>) -> Result<(), Allo
     Ok(())
 }
 
-/// Returns a race script as a script of `run`, given the lines of its jobs. Fails if memory runs out.
+/// Returns a race script as a script of `run`, whose `step` lines are the turns of these jobs, in the order that a
+/// seed determines. Fails if memory runs out.
 fn script_of_jobs(
     alloc: Global,
     script: &[u8],
