@@ -413,7 +413,7 @@ int32_t make_call(runner *p, const call *c)
             p->outputs.report.taken += taken;
             return code;
         }
-        p->on_no_memory(p, is_cut ? &p->outputs.report : NULL);
+        p->on_no_memory(p, c, is_cut ? &p->outputs.report : NULL);
         if (is_cut) {
             taken += p->outputs.report.taken;
             p->arguments.numbers[0] -= p->outputs.report.taken;

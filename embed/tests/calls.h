@@ -27,6 +27,8 @@ typedef struct outputs {
 /* How the steps of a line are taken: with a call for each, or with as few calls as possible. */
 typedef enum way { SINGLE, MANY } way;
 
+struct call;
+
 /* The state of a run of lines. make_runner makes one. */
 typedef struct runner {
     dma330_controller controller;
@@ -43,7 +45,7 @@ typedef struct runner {
     int wrongs;     /* the number of broken rules for every call */
     /* Called after a call that was out of memory, which is then made again: without a report if the call returned
      * NO_MEMORY, with one if it ended after the steps of the report. If this is NULL, no call is made again. */
-    void (*on_no_memory)(struct runner *runner, const dma330_report *cut_short);
+    void (*on_no_memory)(struct runner *runner, const struct call *c, const dma330_report *cut_short);
 } runner;
 
 /* A call: its name without dma330_, the shape of its arguments, how it is made, and what it prints if it succeeds. */

@@ -1,7 +1,8 @@
 /* Carries out each group of the files that it is given, rows.txt and calls of dmasim, once for each of its allocations,
  * which fails in that run, and once more for each with all later allocations failing too. When a call is out of memory,
  * checks that all readings are those of a controller that has made the calls before it with enough memory, and that the
- * call, made again, prints what it should. Also checks that nothing is leaked. */
+ * call, made again, prints what it should. Also checks that nothing is leaked, and that each call and each kind of step
+ * that allocates memory was out of it. */
 #include "heap.h"
 #include "lines.h"
 #include "readings.h"
@@ -46,8 +47,30 @@ static int is_right(int holds, const char *what)
     return holds;
 }
 
+/* What steps that were out of memory do otherwise. */
+static const char *const kinds[] = {"starts", "passes a wait", "signals", "finishes", "fails"};
+enum { KINDS = sizeof kinds / sizeof kinds[0] };
+static long refused_steps[KINDS];
+
+/* Counts the kind of a channel's next step, which was out of memory. If it moves, it passes a wait, which comes before
+ * all stores, or signals, which comes after them. */
+static void note_step(dma330_controller *controller, uint8_t channel)
+{
+    dma330_report report;
+    dma330_run run = {0, 0};
+    dma330_running(controller, channel, &run);
+    if (!is_right(dma330_step(controller, channel, 1, &report) == DMA330_OK, "a step is refused with enough memory"))
+        return;
+    if (report.turn == DMA330_MOVED)
+        refused_steps[run.stored > 0 ? 2 : 1]++;
+    if (report.turn == DMA330_STARTED)
+        refused_steps[0]++;
+    if (report.turn == DMA330_FINISHED)
+        refused_steps[report.result == DMA330_NO_ERROR ? 3 : 4]++;
+}
+
 /* Makes the first `calls` calls of the group with enough memory, then the steps of the report, and compares. */
-static int is_as_before(const runner *p, long calls, const dma330_report *steps)
+static int is_as_before(const runner *p, const call *refused, long calls, const dma330_report *steps)
 {
     static char output[OUTPUT_ROOM];
     static readings here, there;
@@ -64,12 +87,14 @@ static int is_as_before(const runner *p, long calls, const dma330_report *steps)
     take_readings(&reference.controller, p->size, &there);
     tested.has_reads = 1;
     is_same = is_same && are_same(&here, &there) && memcmp(p->ram, reference.ram, RAM_BYTES) == 0;
+    if (refused == call_of("step"))
+        note_step(&reference.controller, p->arguments.channel);
     dma330_close(&reference.controller);
     return is_same;
 }
 
 /* Checks a call that is out of memory. The report has the steps that it took before, or is NULL. */
-static void on_no_memory(runner *p, const dma330_report *cut_short)
+static void on_no_memory(runner *p, const call *c, const dma330_report *cut_short)
 {
     static dma330_report steps_before;
     allocator = SUCCEEDS;
@@ -88,7 +113,7 @@ static void on_no_memory(runner *p, const dma330_report *cut_short)
         return;
     }
     /* with must_fail_next, another call came after these steps */
-    if (!is_right(is_as_before(p, p->calls - (must_fail_next ? 2 : 1), cut_short || must_fail_next ? &steps_before : NULL),
+    if (!is_right(is_as_before(p, c, p->calls - (must_fail_next ? 2 : 1), cut_short || must_fail_next ? &steps_before : NULL),
                   "a call that was out of memory changed something"))
         p->wrongs++;
     must_fail_next = 0;
@@ -159,6 +184,11 @@ int main(int words_count, char **words)
         count(has);
         if (!has)
             printf("WRONG: %s was never out of memory\n", growing[n]);
+    }
+    for (n = 0; n < KINDS; n++) {
+        count(refused_steps[n] > 0);
+        if (refused_steps[n] == 0)
+            printf("WRONG: no step that %s was out of memory\n", kinds[n]);
     }
     printf("%ld calls were out of memory\n", out_of_memory);
     printf("%ld passed, %ld failed\n", passed, failed);

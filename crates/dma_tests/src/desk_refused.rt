@@ -7,9 +7,10 @@ ghost use Rattle.dma_work.specs.Desk.{Names};
 use crate::transfers::{copy, four, issue};
 use dma_engine::{Engine, EngineFault, Status};
 use dma_mem::marks::MarkKind;
-use dma_work::{Desk, DeskName, Parts, StatusReader};
+use dma_work::{Desk, DeskName, Parts, ShareFaultKind, StatusReader};
 use std::alloc::Global;
 use std::marker::Brand;
+use std::process::Abort;
 use std::sync::Wait;
 use std::test::Fail;
 
@@ -20,8 +21,9 @@ enum Asked {
     Submit,
     Terminate,
     Step,
-    /// A checkpoint, and then a submit.
     Checkpoint,
+    /// A checkpoint, and then a submit.
+    Later,
 }
 
 fn call_by_name<N: DeskName>(desk: &mut Desk<N>) -> Result<(), EngineFault> {
@@ -70,7 +72,8 @@ fn make<N: DeskName, R: Wait>(
             Ok(())
         }
         Asked::Step => step(rt, desk),
-        Asked::Checkpoint => {
+        Asked::Checkpoint => desk.checkpoint(),
+        Asked::Later => {
             desk.checkpoint()?;
             submit(rt, alloc, desk)
         }
@@ -80,6 +83,12 @@ fn make<N: DeskName, R: Wait>(
 // The statuses of cookies 1 to 3 of channel 0.
 type Seen = [Option<Status>; 3];
 
+const DONE: Option<Status> = Some(Status::Complete);
+
+const GIVEN: Option<Status> = Some(Status::InProgress);
+
+const NONE: Option<Status> = Some(Status::Unknown);
+
 fn seen(reader: &mut StatusReader) -> Seen {
     [
         reader.status(0, 1),
@@ -88,13 +97,21 @@ fn seen(reader: &mut StatusReader) -> Seen {
     ]
 }
 
-// Returns whether the reader of a desk, if it has one, sees these statuses, and so does another, which the desk has only
-// once that one was dropped.
-fn are_seen<N: DeskName>(desk: &mut Desk<N>, reader: Option<StatusReader>, wanted: Seen) -> bool {
-    let is_right = match reader {
-        Some(mut first) => seen(&mut first) == wanted && desk.reader().is_none(),
-        None => true,
-    };
+// Returns whether each of these readers sees these statuses.
+fn all_see(readers: &mut [StatusReader], wanted: Seen) -> bool {
+    let mut is_right = true;
+    for reader in readers.iter_mut() {
+        is_right &= seen(reader) == wanted;
+    }
+    is_right
+}
+
+// Returns whether the readers of a desk, if it has any, see these statuses, and so does another, which the desk has only
+// once they were dropped.
+fn are_seen<N: DeskName>(desk: &mut Desk<N>, mut readers: Vec<StatusReader>, wanted: Seen) -> bool {
+    let is_full = readers.is_empty() || desk.reader().is_none();
+    let is_right = is_full && all_see(&mut readers, wanted);
+    drop(readers);
     match desk.reader() {
         Some(mut next) => is_right && seen(&mut next) == wanted,
         None => false,
@@ -104,24 +121,26 @@ fn are_seen<N: DeskName>(desk: &mut Desk<N>, reader: Option<StatusReader>, wante
 // A call, the name of its row, and what a reader sees after it.
 type Row = (&'static str, Asked, Seen);
 
-// Makes a call on a desk, and again if it is out of memory. Returns whether it was done and seen then.
+// Makes a call on a desk, and again if it is out of memory. Returns whether it was done and seen then, and whether the
+// readers saw the first two cookies before it.
 fn at_a_desk<N: DeskName, R: Wait + Print>(
     rt: &R,
     alloc: Global,
     parts: Parts,
-    reader: Option<StatusReader>,
+    mut readers: Vec<StatusReader>,
     row: Row,
 ) -> Result<bool, Fail>
     requires { Names N.opening N.base N.log parts }
 {
     let (name, asked, wanted) = row;
     let mut desk = Desk::<N>::new(parts);
+    let was_seen = all_see(&mut readers, [DONE, GIVEN, NONE]);
     let first = make(rt, alloc, &mut desk, asked);
     let second = match first {
         Err(EngineFault::NoMemory) => make(rt, alloc, &mut desk, asked),
         other => other,
     };
-    let is_right = second.is_ok() && are_seen(&mut desk, reader, wanted);
+    let is_right = was_seen && second.is_ok() && are_seen(&mut desk, readers, wanted);
     desk.close(rt);
     if first.is_err() {
         println!(rt; "refused Desk {name}")?;
@@ -129,21 +148,22 @@ fn at_a_desk<N: DeskName, R: Wait + Print>(
     Ok(is_right)
 }
 
-/// Returns the parts of an engine and one of so many readers, if any. Asks again if they are out of memory.
-pub fn parts_of<R: Wait + Print>(
+/// Returns the parts of an engine and so many readers. Asks again if they are out of memory.
+pub fn parts_of<R: Wait + Abort + Print>(
     rt: &R,
     alloc: Global,
     engine: Engine,
     count: usize,
-) -> Result<(Parts, Option<StatusReader>), Fail> {
+) -> Result<(Parts, Vec<StatusReader>), Fail> {
     println!(rt; "row Parts::new")?;
-    let engine = match Parts::new(rt, alloc, engine, count) {
-        Ok((parts, mut readers)) => return Ok((parts, readers.pop())),
-        Err(refused) => refused.engine,
+    let refused = match Parts::new(rt, alloc, engine, count) {
+        Ok(made) => return Ok(made),
+        Err(refused) => refused,
     };
     println!(rt; "refused Parts::new")?;
-    match Parts::new(rt, alloc, engine, count) {
-        Ok((parts, mut readers)) => Ok((parts, readers.pop())),
+    assert_eq!(rt; refused.fault, ShareFaultKind::NoMemory);
+    match Parts::new(rt, alloc, refused.engine, count) {
+        Ok(made) => Ok(made),
         Err(_) => Err(Fail::from("no parts")),
     }
 }
@@ -174,23 +194,21 @@ fn prepare(alloc: Global, engine: &mut Engine, steps: u32) -> Result<(), Fail> {
 
 #[test]
 fn calls_are_made_again(rt: HostRuntime) -> Result<(), Fail> {
-    const DONE: Option<Status> = Some(Status::Complete);
-    const GIVEN: Option<Status> = Some(Status::InProgress);
-    const NONE: Option<Status> = Some(Status::Unknown);
     let rows = [
-        ("calls by name", Asked::Named, 0, 1, [DONE, GIVEN, NONE]),
+        ("calls by name", Asked::Named, 0, 2, [DONE, GIVEN, NONE]),
         ("submit", Asked::Submit, 0, 0, [DONE, GIVEN, GIVEN]),
         ("terminate", Asked::Terminate, 0, 1, [DONE, DONE, NONE]),
-        ("step that finishes", Asked::Step, 8, 1, [DONE, DONE, NONE]),
-        ("checkpoint", Asked::Checkpoint, 0, 1, [DONE, GIVEN, GIVEN]),
+        ("step that finishes", Asked::Step, 8, 2, [DONE, DONE, NONE]),
+        ("checkpoint", Asked::Checkpoint, 0, 2, [DONE, GIVEN, NONE]),
+        ("a submit then", Asked::Later, 0, 2, [DONE, GIVEN, GIVEN]),
     ];
     // the steps of the second copy before the call, and the number of readers
     for (name, asked, steps, count, wanted) in rows {
         let engine = without_room(rt.alloc(), steps)?;
         println!(rt; "row Desk {name}")?;
-        let (parts, reader) = parts_of(&rt, rt.alloc(), engine, count)?;
+        let (parts, readers) = parts_of(&rt, rt.alloc(), engine, count)?;
         let row = (name, asked, wanted);
-        let is_right = at_a_desk::<Brand, _>(&rt, rt.alloc(), parts, reader, row)?;
+        let is_right = at_a_desk::<Brand, _>(&rt, rt.alloc(), parts, readers, row)?;
         assert!(rt; is_right, "{name}");
     }
     Ok(())

@@ -5,6 +5,8 @@
 #[cfg(test)]
 mod blocks;
 #[cfg(test)]
+mod control;
+#[cfg(test)]
 mod desk_refused;
 #[cfg(test)]
 mod engine_refused;
@@ -14,6 +16,8 @@ mod example;
 mod lists;
 #[cfg(test)]
 mod memory_refused;
+#[cfg(test)]
+mod streams;
 #[cfg(test)]
 mod transfers;
 #[cfg(test)]

@@ -2,11 +2,11 @@
 
 use crate::transfers::{copy, four, issue};
 use crate::workers::worked;
-use dma_engine::{Engine, EngineFault, Entry, Outcome, Running};
+use dma_engine::{Engine, EngineFault, Entry, Outcome, Running, Signaller};
 use dma_mem::marks::MarkKind;
 use dma_mem::segment::Segment;
 use dma_mem::transfer::Transfer;
-use dma_work::{Job, NoGate};
+use dma_work::{Job, NoGate, Totals};
 use std::alloc::Global;
 use std::process::Abort;
 use std::test::Fail;
@@ -59,18 +59,26 @@ fn go_on(alloc: Global, engine: &mut Engine) -> Result<(), Fail> {
 }
 
 // Returns the number of an entry's kind, and its numbers.
-fn numbers_of(entry: &Entry) -> [u32; 3] {
+fn numbers_of(entry: &Entry) -> [u32; 4] {
     match entry {
-        Entry::Wrote { addr, .. } => [0, *addr, 0],
-        Entry::ReadBack { addr, .. } => [1, *addr, 0],
-        Entry::Submitted { ch, cookie, .. } => [2, u32::from(*ch), *cookie],
-        Entry::Issued { ch } => [3, u32::from(*ch), 0],
-        Entry::Passed { ch, event } => [4, u32::from(*ch), u32::from(*event)],
-        Entry::Signalled { event, .. } => [5, u32::from(*event), 0],
-        Entry::Finished { ch, done, .. } => [6, u32::from(*ch), *done],
-        Entry::Terminated { ch, done, .. } => [7, u32::from(*ch), *done],
-        Entry::Marked { segment, .. } => [8, segment.addr, segment.len],
-        Entry::Unmarked => [9, 0, 0],
+        Entry::Wrote { addr, .. } => [0, *addr, 0, 0],
+        Entry::ReadBack { addr, .. } => [1, *addr, 0, 0],
+        Entry::Submitted { ch, cookie, .. } => [2, u32::from(*ch), *cookie, 0],
+        Entry::Issued { ch } => [3, u32::from(*ch), 0, 0],
+        Entry::Passed { ch, event } => [4, u32::from(*ch), u32::from(*event), 0],
+        Entry::Signalled { by, event } => [5, u32::from(*event), channel_of(*by), 0],
+        Entry::Finished { ch, result, done } => [6, u32::from(*ch), *done, *result as u32],
+        Entry::Terminated { ch, done, count } => [7, u32::from(*ch), *done, *count],
+        Entry::Marked { kind, segment } => [8, segment.addr, segment.len, *kind as u32],
+        Entry::Unmarked => [9, 0, 0, 0],
+    }
+}
+
+// Returns the channel that signalled, or 8 for the host.
+fn channel_of(by: Signaller) -> u32 {
+    match by {
+        Signaller::Channel(ch) => u32::from(ch),
+        Signaller::Host => 8,
     }
 }
 
@@ -133,15 +141,22 @@ fn paused_and_halted(alloc: Global) -> Result<Engine, Fail> {
 }
 
 // The copies of channels 0 and 1 don't move, and that of channel 2 still runs after seven rounds. The other job's channel
-// doesn't exist.
+// doesn't exist, so the desk is settled without its tally, but not without the first.
 #[test]
 fn a_desk_ends_as_the_steps_do(rt: HostRuntime) -> Result<(), Fail> {
     let job = Job::new(0, 2, 21).ok_or("no job")?;
     let idle = Job::new(3, 3, 21).ok_or("no job")?;
-    for is_reported in [false, true] {
+    let totals = Totals {
+        steps: 6,
+        finished: 0,
+        terminated: 0,
+    };
+    for reported in 0..3 {
         let mut that = paused_and_halted(rt.alloc())?;
         let engine = paused_and_halted(rt.alloc())?;
-        let (mut this, _) = worked(&rt, rt.alloc(), engine, [job, idle], &NoGate, is_reported)?;
+        let (ended, _) = worked(&rt, rt.alloc(), engine, [job, idle], &NoGate, reported)?;
+        let (mut this, counted, is_settled) = ended;
+        assert!(rt; counted == totals && is_settled == (reported > 0));
         step_often(&mut that, 21);
         compare(&rt, rt.alloc(), &mut this, &mut that)?;
     }

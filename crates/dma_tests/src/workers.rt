@@ -7,7 +7,7 @@ use crate::desk_refused::parts_of;
 use crate::transfers::{copy, issue};
 use dma_engine::{Engine, Status};
 use dma_work::{
-    DeskName, Gate, Job, MAX_READERS, MissingTally, Parts, Shared, StatusReader, Tally,
+    DeskName, Gate, Job, MAX_READERS, MissingTally, Parts, Shared, StatusReader, Tally, Totals,
     run_workers, settle,
 };
 use std::alloc::Global;
@@ -60,20 +60,25 @@ fn run_jobs<N: DeskName + Send + Sync, R: Threads + Wait + Sync + Abort + Print,
             run_workers(rt, alloc, shared, &jobs, gate)?
         }
     };
+    assert!(rt; tallies[0].turns() == jobs[0].turns && tallies[1].turns() == jobs[1].turns);
     Ok((tallies, reader.status(0, 1)))
 }
 
+/// The engine of a desk that has ended, with the totals of its settlement, or with those of its book if tallies were
+/// missing, and whether it was settled.
+pub type Ended = (Engine, Totals, bool);
+
 // Settles a desk, or closes it if tallies are missing.
-fn ended<N: DeskName, R: Wait>(rt: &R, shared: Shared<N>, tallies: Vec<Tally<N>>) -> Engine {
+fn ended<N: DeskName, R: Wait>(rt: &R, shared: Shared<N>, tallies: Vec<Tally<N>>) -> Ended {
     match settle(rt, shared, tallies) {
-        Ok((engine, _totals)) => engine,
+        Ok((engine, totals)) => (engine, totals, true),
         Err(missing) => {
             let MissingTally {
                 shared,
                 tallies: _,
-                book: _,
+                book,
             } = missing;
-            shared.close(rt)
+            (shared.close(rt), book, false)
         }
     }
 }
@@ -85,8 +90,8 @@ fn shared_by<N: DeskName + Send + Sync, R: Threads + Wait + Sync + Abort + Print
     reader: Option<StatusReader>,
     jobs: [Job; 2],
     gate: &G,
-    is_reported: bool,
-) -> Result<(Engine, Option<Status>), Fail>
+    reported: usize,
+) -> Result<(Ended, Option<Status>), Fail>
     requires { Names N.opening N.base N.log parts }
 {
     let shared = Shared::<N>::new(parts);
@@ -96,9 +101,7 @@ fn shared_by<N: DeskName + Send + Sync, R: Threads + Wait + Sync + Abort + Print
     };
     match run_jobs(rt, alloc, &shared, reader, jobs, gate) {
         Ok((mut tallies, status)) => {
-            if !is_reported {
-                tallies.clear();
-            }
+            tallies.truncate(reported);
             Ok((ended(rt, shared, tallies), status))
         }
         Err(fail) => {
@@ -108,18 +111,18 @@ fn shared_by<N: DeskName + Send + Sync, R: Threads + Wait + Sync + Abort + Print
     }
 }
 
-/// Runs two jobs at a desk over an engine, and ends the desk, with the tallies or without. Returns the engine, and the
-/// status of cookie 1 of channel 0 that a reader sees after the jobs.
+/// Runs two jobs at a desk over an engine, and ends the desk with the first `reported` tallies. Returns how it ended, and
+/// the status of cookie 1 of channel 0 that a reader sees after the jobs.
 pub fn worked<R: Threads + Wait + Sync + Abort + Print, G: Gate>(
     rt: &R,
     alloc: Global,
     engine: Engine,
     jobs: [Job; 2],
     gate: &G,
-    is_reported: bool,
-) -> Result<(Engine, Option<Status>), Fail> {
-    let (parts, reader) = parts_of(rt, alloc, engine, MAX_READERS)?;
-    shared_by::<Brand, R, G>(rt, alloc, parts, reader, jobs, gate, is_reported)
+    reported: usize,
+) -> Result<(Ended, Option<Status>), Fail> {
+    let (parts, mut readers) = parts_of(rt, alloc, engine, MAX_READERS)?;
+    shared_by::<Brand, R, G>(rt, alloc, parts, readers.pop(), jobs, gate, reported)
 }
 
 fn issue_both(alloc: Global, engine: &mut Engine) -> Result<(), Fail> {
@@ -127,8 +130,8 @@ fn issue_both(alloc: Global, engine: &mut Engine) -> Result<(), Fail> {
     issue(engine, 1, copy(alloc, 0x1000, 0x3000)?)
 }
 
-/// Runs two jobs at a desk over two channels with a copy each. Returns the steps, how many copies have finished, and
-/// the status of the first that a reader then sees.
+/// Runs two jobs at a desk over two channels with a copy each, and settles it. Returns the steps, how many copies have
+/// finished, and the status of the first that a reader then sees.
 pub fn two_copies<R: Threads + Wait + Sync + Abort + Print, G: Gate>(
     rt: &R,
     alloc: Global,
@@ -137,8 +140,10 @@ pub fn two_copies<R: Threads + Wait + Sync + Abort + Print, G: Gate>(
 ) -> Result<(u64, u64, Option<Status>), Fail> {
     let mut engine = Engine::new(alloc, 0x4000, 2)?;
     issue_both(alloc, &mut engine)?;
-    let (engine, status) = worked(rt, alloc, engine, jobs, gate, true)?;
-    Ok((engine.steps(), engine.finished_all(), status))
+    let ((engine, totals, is_settled), status) = worked(rt, alloc, engine, jobs, gate, 2)?;
+    assert!(rt; is_settled && totals.terminated == 0);
+    assert!(rt; (totals.steps, totals.finished) == (engine.steps(), engine.finished_all()));
+    Ok((totals.steps, totals.finished, status))
 }
 
 // ---- a gate
