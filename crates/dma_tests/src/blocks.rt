@@ -9,15 +9,16 @@ use dma_mem::segment::Segment;
 use std::alloc::Global;
 use std::test::Fail;
 
-// Copies 16 bytes from 0x11 to 0x81 by four bursts of 4. The loop's body is at offset 20 and has five instructions.
+// Copies 16 bytes from 0x11 to 0x81 by four bursts of 4 bytes. The loop's body is at offset 20 and has five instructions.
 static LOOP: &[u8] =
     b"\xbc\0\x11\0\0\0\xbc\x02\x81\0\0\0\xbc\x01\x31\x40\x0c\0\x22\x03\x04\x12\x08\x13\x3c\x04\0";
 
-// Copies 512 bytes from 0x11 to 0x811 by two rounds of an outer loop, each 256 of an inner one.
+// Copies 512 bytes from 0x11 to 0x811 by two turns of an outer loop, each with 256 turns of an inner one.
 static NEST: &[u8] =
     b"\xbc\0\x11\0\0\0\xbc\x02\x11\x08\0\0\xbc\x01\x01\x40\0\0\x20\x01\x22\xff\x04\x12\x08\x13\x3c\x04\x38\x08\0";
 
-// Executes this many instructions. Returns false if there is no program, no count or no page for one of them.
+// Executes this many instructions. Returns false before one for which no program is loaded, the count is at its largest
+// value, or a page is not made.
 fn step(channel: &mut Channel, memory: &mut Memory, marks: &Marks, steps: u32) -> bool {
     let mut events = Events::new();
     for _ in 0..steps {
@@ -29,8 +30,8 @@ fn step(channel: &mut Channel, memory: &mut Memory, marks: &Marks, steps: u32) -
     true
 }
 
-// Returns how many instructions a block of at most `most` executes after the first `steps` of a program, over a memory
-// with a mark for writes.
+// Returns how many instructions a block executes, of at most `most`, after `steps` instructions of a program, or `None`
+// if these can't be executed. Loads may read the address `mark`, and stores to it fail.
 fn block(
     channel: &mut Channel,
     memory: &mut Memory,

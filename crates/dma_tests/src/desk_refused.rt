@@ -1,6 +1,6 @@
 //! Calls on a desk that run out of memory and are then made again, and what a reader without a ticket sees then.
-//! `tests/refuse_calls` refuses each allocation of this test in turn, and requires that each row meets a refusal; with
-//! ample memory none does. That a refused call changes nothing is in its contract.
+//! `tests/refuse_calls` lets each allocation of this test fail in turn; each row must be out of memory in some run. That
+//! a call that is out of memory changes nothing is in its contract.
 
 ghost use Rattle.dma_work.specs.Desk.{Names};
 
@@ -16,8 +16,8 @@ use std::test::Fail;
 
 #[derive(Clone, Copy)]
 enum Asked {
-    /// Each call that publishes nothing, by its name.
-    Named,
+    /// Each call that publishes nothing, except a checkpoint.
+    Quiet,
     Submit,
     Terminate,
     Step,
@@ -26,7 +26,7 @@ enum Asked {
     Later,
 }
 
-fn call_by_name<N: DeskName>(desk: &mut Desk<N>) -> Result<(), EngineFault> {
+fn make_quiet<N: DeskName>(desk: &mut Desk<N>) -> Result<(), EngineFault> {
     desk.write(0x1000, &[1, 2, 3, 4])?;
     desk.mark(MarkKind::Reading, four(0x1000))?;
     desk.unmark()?;
@@ -65,7 +65,7 @@ fn make<N: DeskName, R: Wait>(
     asked: Asked,
 ) -> Result<(), EngineFault> {
     match asked {
-        Asked::Named => call_by_name(desk),
+        Asked::Quiet => make_quiet(desk),
         Asked::Submit => submit(rt, alloc, desk),
         Asked::Terminate => {
             desk.terminate(rt, 0)?;
@@ -106,8 +106,8 @@ fn all_see(readers: &mut [StatusReader], wanted: Seen) -> bool {
     is_right
 }
 
-// Returns whether the readers of a desk, if it has any, see these statuses, and so does another, which the desk has only
-// once they were dropped.
+// Returns whether the readers of a desk, if it has any, see these statuses, and so does the next that the desk returns.
+// As long as there are readers, the desk returns no other.
 fn are_seen<N: DeskName>(desk: &mut Desk<N>, mut readers: Vec<StatusReader>, wanted: Seen) -> bool {
     let is_full = readers.is_empty() || desk.reader().is_none();
     let is_right = is_full && all_see(&mut readers, wanted);
@@ -121,8 +121,8 @@ fn are_seen<N: DeskName>(desk: &mut Desk<N>, mut readers: Vec<StatusReader>, wan
 // A call, the name of its row, and what a reader sees after it.
 type Row = (&'static str, Asked, Seen);
 
-// Makes a call on a desk, and again if it is out of memory. Returns whether it was done and seen then, and whether the
-// readers saw the first two cookies before it.
+// Makes a call on a desk, and once more if it is out of memory. Returns whether the last of these succeeded, readers then
+// see the statuses of the row, and they saw the first two cookies before the call.
 fn at_a_desk<N: DeskName, R: Wait + Print>(
     rt: &R,
     alloc: Global,
@@ -148,7 +148,7 @@ fn at_a_desk<N: DeskName, R: Wait + Print>(
     Ok(is_right)
 }
 
-/// Returns the parts of an engine and so many readers. Asks again if they are out of memory.
+/// Returns the parts of a desk over an engine, with `count` readers. Makes them once more if they are out of memory.
 pub fn parts_of<R: Wait + Abort + Print>(
     rt: &R,
     alloc: Global,
@@ -175,8 +175,8 @@ fn step_often(engine: &mut Engine, steps: u32) -> Result<(), EngineFault> {
     Ok(())
 }
 
-// Returns an engine whose lists have no room, since a checkpoint freed it. On channel 0 cookie 1 is finished, and cookie
-// 2 is issued and has taken some steps.
+// Returns an engine whose lists have no room, since a checkpoint freed it. On channel 0 cookie 1 is finished, and
+// cookie 2 is issued and has taken some steps.
 fn without_room(alloc: Global, steps: u32) -> Result<Engine, Fail> {
     let mut engine = Engine::new(alloc, 0x4000, 1)?;
     prepare(alloc, &mut engine, steps)?;
@@ -194,15 +194,22 @@ fn prepare(alloc: Global, engine: &mut Engine, steps: u32) -> Result<(), Fail> {
 
 #[test]
 fn calls_are_made_again(rt: HostRuntime) -> Result<(), Fail> {
+    // A row has the call's name, the call, the steps of the second copy before it, the number of readers, and the
+    // statuses after it.
     let rows = [
-        ("calls by name", Asked::Named, 0, 2, [DONE, GIVEN, NONE]),
+        (
+            "calls that publish nothing",
+            Asked::Quiet,
+            0,
+            2,
+            [DONE, GIVEN, NONE],
+        ),
         ("submit", Asked::Submit, 0, 0, [DONE, GIVEN, GIVEN]),
         ("terminate", Asked::Terminate, 0, 1, [DONE, DONE, NONE]),
         ("step that finishes", Asked::Step, 8, 2, [DONE, DONE, NONE]),
         ("checkpoint", Asked::Checkpoint, 0, 2, [DONE, GIVEN, NONE]),
         ("a submit then", Asked::Later, 0, 2, [DONE, GIVEN, GIVEN]),
     ];
-    // the steps of the second copy before the call, and the number of readers
     for (name, asked, steps, count, wanted) in rows {
         let engine = without_room(rt.alloc(), steps)?;
         println!(rt; "row Desk {name}")?;

@@ -1,7 +1,6 @@
-//! Calls that run out of memory and are then made again, and that no program in C makes: those that take over bytes or
-//! leave them in the history, that copy a transfer, and that make room. `tests/refuse_calls` refuses each allocation of
-//! this test in turn, and requires that each row meets a refusal; with ample memory none does. That a refused call
-//! changes nothing is in its contract.
+//! Calls that C can't make, which run out of memory and are then made again: those that take bytes over or leave them in
+//! the history, that copy a transfer, and that make room. `tests/refuse_calls` lets each allocation of this test fail in
+//! turn; each row must be out of memory in some run. That a call that is out of memory changes nothing is in its contract.
 
 use crate::transfers::copy;
 use dma_engine::{Call, Engine, EngineFault, Reply};
@@ -19,7 +18,7 @@ enum Asked {
     Reserve,
 }
 
-// Submits a copy of a copy.
+// Carries out a borrowed submit, of which the engine copies the transfer.
 fn submit(alloc: Global, engine: &mut Engine) -> Result<(), EngineFault> {
     let Ok(transfer) = copy(alloc, 0, 8) else {
         return Err(EngineFault::NoMemory);
@@ -30,7 +29,7 @@ fn submit(alloc: Global, engine: &mut Engine) -> Result<(), EngineFault> {
     }
 }
 
-// Makes a call. The bytes lie in two chunks of memory, none of which is made.
+// Makes a call. The bytes lie in two chunks of memory, neither of which is made.
 fn make(alloc: Global, engine: &mut Engine, asked: Asked) -> Result<(), EngineFault> {
     match asked {
         Asked::WriteOwned => engine.write_owned(0x3FFE, Bytes::from_slice(alloc, &[7, 8, 9])?),

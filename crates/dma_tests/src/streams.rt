@@ -100,7 +100,8 @@ impl Command for Echo {
     ghost some_print = { λ input. (record { groups = (input ∷ []) ∷ []; status = 0 }, refl, lit< tt) };
 }
 
-// Returns the status and the output of a command that may make so many reads and writes before one fails.
+// Returns the status and the output of a command of which read number `reads` and write number `writes`, from 0 on, and
+// all after them fail.
 fn served(alloc: Global, reads: u32, writes: u32) -> (u8, Vec<u8>) {
     let mut reader = Bytes {
         rest: b"abc",

@@ -11,7 +11,7 @@ use std::alloc::Global;
 use std::process::Abort;
 use std::test::Fail;
 
-// Sets the flag of event 3, and makes a load fail at 0x182.
+// Writes four bytes, lets loads fail at 0x182, and sets the flag of event 3.
 fn prepare(engine: &mut Engine) -> Result<(), EngineFault> {
     engine.write(0x100, &[1, 2, 3, 4])?;
     let third = Segment {
@@ -48,7 +48,7 @@ fn step_often(engine: &mut Engine, turns: u32) {
     }
 }
 
-// Continues, which shows pauses, halts, flags and marks: the copies of channels 0 and 2 finish, and that of channel 1
+// Goes on, so that pauses, halts, flags and marks have an effect: the copies of channels 0 and 2 finish, and that of channel 1
 // fails again.
 fn go_on(alloc: Global, engine: &mut Engine) -> Result<(), Fail> {
     engine.resume(0)?;
@@ -58,7 +58,7 @@ fn go_on(alloc: Global, engine: &mut Engine) -> Result<(), Fail> {
     Ok(())
 }
 
-// Returns the number of an entry's kind, and its numbers.
+// Returns a number for the kind of an entry, and up to three numbers of the entry, else 0.
 fn numbers_of(entry: &Entry) -> [u32; 4] {
     match entry {
         Entry::Wrote { addr, .. } => [0, *addr, 0, 0],
@@ -140,8 +140,8 @@ fn paused_and_halted(alloc: Global) -> Result<Engine, Fail> {
     Ok(engine)
 }
 
-// The copies of channels 0 and 1 don't move, and that of channel 2 still runs after seven rounds. The other job's channel
-// doesn't exist, so the desk is settled without its tally, but not without the first.
+// The copies of channels 0 and 1 don't move, and that of channel 2 still runs after seven steps. The channel of the other
+// job doesn't exist, so the desk is settled without its tally, but not without the first.
 #[test]
 fn a_desk_ends_as_the_steps_do(rt: HostRuntime) -> Result<(), Fail> {
     let job = Job::new(0, 2, 21).ok_or("no job")?;

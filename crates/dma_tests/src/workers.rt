@@ -35,8 +35,8 @@ fn counts<N: DeskName, R: Wait>(rt: &R, shared: &Shared<N>) -> (u64, usize) {
     counts
 }
 
-// Runs two jobs while another thread asks the reader. If they are out of memory, they have done nothing, and are run again.
-// Returns the tallies, and the last status of cookie 1 of channel 0.
+// Runs two jobs while another thread asks the reader. If they are out of memory, they have done nothing, and are run
+// again. Returns the tallies, and the last status of cookie 1 of channel 0.
 fn run_jobs<N: DeskName + Send + Sync, R: Threads + Wait + Sync + Abort + Print, G: Gate>(
     rt: &R,
     alloc: Global,

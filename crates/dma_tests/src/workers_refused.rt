@@ -1,5 +1,5 @@
-//! Workers that run out of memory before they begin, and then begin. `tests/refuse_calls` refuses each allocation of
-//! this test in turn, and requires that each row meets a refusal; with ample memory none does.
+//! Workers that run out of memory before they begin, and then begin. `tests/refuse_calls` lets each allocation of this
+//! test fail in turn; the row must be out of memory in some run.
 
 use crate::workers::two_copies;
 use dma_engine::Status;
