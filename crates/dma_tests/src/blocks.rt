@@ -9,7 +9,8 @@ use dma_mem::segment::Segment;
 use std::alloc::Global;
 use std::test::Fail;
 
-// Copies 16 bytes from 0x11 to 0x81 by four bursts of 4 bytes. The loop's body is at offset 20 and has five instructions.
+// Copies 16 bytes from 0x11 to 0x81 by four bursts of 4 bytes. The loop's body is at offset 20 and has five
+// instructions.
 static LOOP: &[u8] =
     b"\xbc\0\x11\0\0\0\xbc\x02\x81\0\0\0\xbc\x01\x31\x40\x0c\0\x22\x03\x04\x12\x08\x13\x3c\x04\0";
 

@@ -1,6 +1,6 @@
 //! Calls on a desk that run out of memory and are then made again, and what a reader without a ticket sees then.
-//! `tests/refuse_calls` lets each allocation of this test fail in turn; each row must be out of memory in some run. That
-//! a call that is out of memory changes nothing is in its contract.
+//! `tests/refuse_calls` lets each allocation of this test fail in turn; each row must be out of memory in some run.
+//! That a call that is out of memory changes nothing is in its contract.
 
 ghost use Rattle.dma_work.specs.Desk.{Names};
 
@@ -121,8 +121,8 @@ fn are_seen<N: DeskName>(desk: &mut Desk<N>, mut readers: Vec<StatusReader>, wan
 // A call, the name of its row, and what a reader sees after it.
 type Row = (&'static str, Asked, Seen);
 
-// Makes a call on a desk, and once more if it is out of memory. Returns whether the last of these succeeded, readers then
-// see the statuses of the row, and they saw the first two cookies before the call.
+// Makes a call on a desk, and once more if it is out of memory. Returns whether the last of these succeeded, readers
+// then see the statuses of the row, and they saw the first two cookies before the call.
 fn at_a_desk<N: DeskName, R: Wait + Print>(
     rt: &R,
     alloc: Global,

@@ -1,6 +1,7 @@
-//! Calls that C can't make, which run out of memory and are then made again: those that take bytes over or leave them in
-//! the history, that copy a transfer, and that make room. `tests/refuse_calls` lets each allocation of this test fail in
-//! turn; each row must be out of memory in some run. That a call that is out of memory changes nothing is in its contract.
+//! Calls that C can't make, which run out of memory and are then made again: those that take bytes over or leave them
+//! in the history, that copy a transfer, and that make room. `tests/refuse_calls` lets each allocation of this test
+//! fail in turn; each row must be out of memory in some run. That a call that is out of memory changes nothing is in
+//! its contract.
 
 use crate::transfers::copy;
 use dma_engine::{Call, Engine, EngineFault, Reply};

@@ -9,8 +9,8 @@ use dma_mem::segment::Segment;
 use std::alloc::Global;
 use std::test::Fail;
 
-// Executes calls of different kinds, which nothing but memory can refuse. Returns the number of replies, and how many of
-// them are refusals.
+// Executes calls of different kinds, which nothing but memory can refuse. Returns the number of replies, and how many
+// of them are refusals.
 fn carried_out(alloc: Global, engine: &mut Engine) -> Result<(usize, usize), Fail> {
     let bytes = Bytes::from_slice(alloc, &[1, 2, 3, 4])?;
     let transfer = copy(alloc, 0, 8)?;

@@ -48,8 +48,8 @@ fn step_often(engine: &mut Engine, turns: u32) {
     }
 }
 
-// Goes on, so that pauses, halts, flags and marks have an effect: the copies of channels 0 and 2 finish, and that of channel 1
-// fails again.
+// Goes on, so that pauses, halts, flags and marks have an effect: the copies of channels 0 and 2 finish, and that of
+// channel 1 fails again.
 fn go_on(alloc: Global, engine: &mut Engine) -> Result<(), Fail> {
     engine.resume(0)?;
     engine.terminate(1)?;
@@ -140,8 +140,8 @@ fn paused_and_halted(alloc: Global) -> Result<Engine, Fail> {
     Ok(engine)
 }
 
-// The copies of channels 0 and 1 don't move, and that of channel 2 still runs after seven steps. The channel of the other
-// job doesn't exist, so the desk is settled without its tally, but not without the first.
+// The copies of channels 0 and 1 don't move, and that of channel 2 still runs after seven steps. The channel of the
+// other job doesn't exist, so the desk is settled without its tally, but not without the first.
 #[test]
 fn a_desk_ends_as_the_steps_do(rt: HostRuntime) -> Result<(), Fail> {
     let job = Job::new(0, 2, 21).ok_or("no job")?;

@@ -111,8 +111,8 @@ fn shared_by<N: DeskName + Send + Sync, R: Threads + Wait + Sync + Abort + Print
     }
 }
 
-/// Runs two jobs at a desk over an engine, and ends the desk with the first `reported` tallies. Returns how it ended, and
-/// the status of cookie 1 of channel 0 that a reader sees after the jobs.
+/// Runs two jobs at a desk over an engine, and ends the desk with the first `reported` tallies. Returns how it ended,
+/// and the status of cookie 1 of channel 0 that a reader sees after the jobs.
 pub fn worked<R: Threads + Wait + Sync + Abort + Print, G: Gate>(
     rt: &R,
     alloc: Global,
