@@ -1,7 +1,8 @@
 -- What a call prints, and how it is written.
-use Rattle.std.specs.Prelude.{◌≡◌, ◌⊎◌, ◌||◌, ℕ, nat_lt, Bool, if◌then◌else◌, List, [], ◌∷◌, ◌++◌, length, Option}
+use Rattle.std.specs.Prelude.{◌≡◌, ◌⊎◌, ◌||◌, ℕ, nat_lt, Bool, if◌then◌else◌, List, [], ◌∷◌, ◌++◌, length, Option, Result, Ok, Err}
 use Rattle.std.specs.Io.KnownBytes.{Appends}
 use Rattle.dma_script.specs.Command.{Failures, Unfailed}
+use Rattle.dma_script.specs.declared.output.OutputFailed.{OutputFailed}
 use Rattle.dma330.specs.declared.answer.Answer.{Answer}
 
 -- What a call prints: to standard output, to standard error, and into the file that an option names; and whether it
@@ -20,15 +21,19 @@ writes_file p = p.succeeds || nat_lt 0 (length p.file)
 abbrev pub printed_of : Answer → Printed
 printed_of a = record { out = a.out.items; err = a.err.items; file = a.file.items; succeeds = a.succeeds }
 
+-- the same with a note behind the message on standard error
+abbrev pub with_note : Printed → List ℕ → Printed
+with_note p note = record p { err = p.err ++ note }
+
 -- a message behind the name of the input and a colon; an empty message stays empty
 abbrev pub named : List ℕ → List ℕ → List ℕ
 named name [] = []
 named name (b ∷ message) = name ++ 58 ∷ [] ++ (b ∷ message)
 
 -- How a call ends (profile): both texts are written, no write failed, and the status is 0 if the call succeeds, else 1;
--- or a write failed, and the status is 1. `old` and `new` are the bytes that a writer held before and holds now.
-abbrev pub Delivers : Printed → Failures → Failures → Option (List ℕ) → Option (List ℕ) → Option (List ℕ) → Option (List ℕ) → ℕ → Type 0
-Delivers p out err old_out new_out old_err new_err status =
-    ((status ≡ (if p.succeeds then 0 else 1)) × Appends old_out new_out p.out × Appends old_err new_err p.err
-    × Unfailed out × Unfailed err)
-    ⊎ ((status ≡ 1) × (out.after ⊎ err.after))
+-- or a write failed. `old` and `new` are the bytes that a writer held before and holds now.
+abbrev pub Delivers : Printed → Failures → Failures → Option (List ℕ) → Option (List ℕ) → Option (List ℕ) → Option (List ℕ) → Result ℕ OutputFailed → Type 0
+Delivers p out err old_out new_out old_err new_err (Ok status) =
+    (status ≡ (if p.succeeds then 0 else 1)) × Appends old_out new_out p.out × Appends old_err new_err p.err
+    × Unfailed out × Unfailed err
+Delivers p out err old_out new_out old_err new_err (Err failed) = out.after ⊎ err.after

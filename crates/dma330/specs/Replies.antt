@@ -1,7 +1,5 @@
 -- What a request prints for its input (profile).
-use Rattle.std.specs.Prelude.{◌≡◌, ℕ, Bool, true, false, ◌==◌, ◌||◌, ◌&&◌, not, nat_le, length, if◌then◌else◌, List, [], ◌∷◌, ◌++◌, Option, Some, None, Result, Ok, Err, codes, decimal, is_ok, slice_get}
-use Rattle.std.specs.List.{list_all}
-use Rattle.dma_text.specs.Digits.{hex_pair}
+use Rattle.std.specs.Prelude.{◌≡◌, ℕ, Bool, ◌==◌, if◌then◌else◌, List, [], ◌++◌, Option, Some, None, Result, Ok, Err, is_ok}
 use Rattle.dma_chan.specs.declared.bus.Bus.{Bus}
 use Rattle.dma_mem.specs.declared.regions.Region.{Region}
 use Rattle.std.specs.Result.{result_unwrap_or}
@@ -18,8 +16,10 @@ use Rattle.dma_why.specs.Why.{why_printed}
 use Rattle.dma_trace.specs.declared.options.TraceOptions.{TraceOptions}
 use Rattle.dma_trace.specs.Explained.{Appends}
 use Rattle.dma_trace.specs.Traced.{Shows}
-use Rattle.dma330.specs.Answer.{Printed, named}
-use Rattle.dma330.specs.Hexadecimal.{column_of, is_digit, line_of, read}
+use Rattle.dma330.specs.Answer.{Printed, named, with_note}
+use Rattle.dma330.specs.Notes.{hint, idle_note}
+use Rattle.dma330.specs.Text.{refusal, spelled}
+use Rattle.dma330.specs.declared.text.Notation.{Notation}
 use Rattle.dma330.specs.declared.command_line.Request.{Request}
 use Rattle.dma330.specs.declared.command_line.Request.TheVariants.{Dis, Asm, Explain, Trace, Race, RaceSeeds, Why}
 
@@ -80,76 +80,35 @@ Replies (Race seed) ram input = Races seed input
 Replies (RaceSeeds seeds) ram input = RacesSeeds seeds input
 Replies Why ram input = Reasons input
 
--- What is wrong with a byte of hexadecimal text. A digit is refused only behind a pair that has a mark; a colon and a
--- vertical bar are those of dumps.
-abbrev pub byte_words : ℕ → List ℕ
-byte_words b =
-    if is_digit b then codes " is a third digit after 0x: each number is one byte, the lowest byte of a word first\n" else (
-    if b == 58 || b == 124 then codes " is of a dump with addresses: leave them and the characters out, as xxd -p does\n"
-    else codes " is not a hexadecimal digit here\n")
-
--- what is wrong with a byte of hexadecimal text, or with its end
-abbrev pub hex_words : Option ℕ → List ℕ
-hex_words (Some b) = codes "byte 0x" ++ hex_pair b ++ byte_words b
-hex_words None = codes "the last byte lacks a digit\n"
-
--- what is printed for hexadecimal text with a fault at this offset: its line and column, and what is wrong
-abbrev pub hex_refusal : List ℕ → ℕ → Printed
-hex_refusal text at = record {
-  out = [];
-  err = (decimal (line_of text at) ++ codes ":" ++ decimal (column_of text at) ++ codes ": ") ++ hex_words (slice_get text at);
-  file = [];
-  succeeds = false;
-}
+-- What a request prints for a program, with a warning if only its first byte is executed.
+abbrev pub ProgramReplies : Request → List Region → List ℕ → Printed → Type 0
+ProgramReplies request ram program p =
+    (q : Printed) × Replies request ram program q × (p ≡ with_note q (idle_note request program))
 
 -- What a request prints for a program that was read from hexadecimal text, or for the text's first fault.
-abbrev pub ReadReplies : Request → List Region → List ℕ → Result (List ℕ) ℕ → Printed → Type 0
-ReadReplies request ram text (Ok program) p = Replies request ram program p
-ReadReplies request ram text (Err at) p = p ≡ hex_refusal text at
+abbrev pub ReadReplies : Request → Notation → List Region → List ℕ → Result (List ℕ) ℕ → Printed → Type 0
+ReadReplies request notation ram text (Ok program) p = ProgramReplies request ram program p
+ReadReplies request notation ram text (Err at) p = p ≡ refusal notation text at
 
 -- What a request prints for a program in hexadecimal text.
-abbrev pub HexReplies : Request → List Region → List ℕ → Printed → Type 0
-HexReplies request ram text = ReadReplies request ram text (read text)
-
--- whether a request takes a program
-abbrev pub takes_program : Request → Bool
-takes_program (Dis at) = true
-takes_program (Asm to_file) = false
-takes_program (Explain bus most) = true
-takes_program (Trace options) = true
-takes_program (Race seed) = false
-takes_program (RaceSeeds seeds) = false
-takes_program Why = false
-
--- a printable byte, a tab or a line end
-abbrev pub is_text_byte : ℕ → Bool
-is_text_byte b = (nat_le 32 b && nat_le b 126) || (b == 9 || (b == 10 || b == 13))
-
--- whether all bytes of an input are text
-abbrev pub is_text : List ℕ → Bool
-is_text input = list_all is_text_byte input
-
--- the hint behind the message for a program that fails, has bytes, and is text
-abbrev pub hint : Request → List ℕ → Bool → List ℕ
-hint request input succeeds =
-    if takes_program request && (not succeeds && (not (length input == 0) && is_text input))
-    then codes "  (these bytes are text; --hex reads hexadecimal digits, asm instructions)\n" else []
+abbrev pub TextReplies : Request → Notation → List Region → List ℕ → Printed → Type 0
+TextReplies request notation ram text = ReadReplies request notation ram text (spelled notation text)
 
 -- What a request prints for an input that isn't read as hexadecimal text, without the name of the input.
 abbrev pub RawReplies : Request → List Region → List ℕ → Printed → Type 0
 RawReplies request ram input p =
-    (q : Printed) × Replies request ram input q × (p ≡ record q { err = q.err ++ hint request input q.succeeds })
+    (q : Printed) × ProgramReplies request ram input q × (p ≡ with_note q (hint request input q.succeeds))
 
 -- What a request prints for an input, without the name of the input.
-abbrev pub InputReplies : Request → Bool → List Region → List ℕ → Printed → Type 0
-InputReplies request true ram input = HexReplies request ram input
-InputReplies request false ram input = RawReplies request ram input
+abbrev pub InputReplies : Request → Option Notation → List Region → List ℕ → Printed → Type 0
+InputReplies request (Some notation) ram input = TextReplies request notation ram input
+InputReplies request None ram input = RawReplies request ram input
 
 -- the same with the name of the input before the message on standard error
 abbrev pub IsUnderName : List ℕ → Printed → Printed → Type 0
 IsUnderName name q p = p ≡ record q { err = named name q.err }
 
 -- What a call prints: the message on standard error begins with the name of the input.
-abbrev pub Answers : Request → Bool → List ℕ → List Region → List ℕ → Printed → Type 0
-Answers request is_hex name ram input p =
-    (q : Printed) × InputReplies request is_hex ram input q × IsUnderName name q p
+abbrev pub Answers : Request → Option Notation → List ℕ → List Region → List ℕ → Printed → Type 0
+Answers request notation name ram input p =
+    (q : Printed) × InputReplies request notation ram input q × IsUnderName name q p

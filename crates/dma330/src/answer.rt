@@ -72,14 +72,17 @@ fn write_texts<O: Sink, E: Sink>(
     write_output(err, &answer.err)
 }
 
-/// Writes an answer to standard output and standard error, and returns the exit status.
-pub fn deliver<O: Sink, E: Sink>(answer: &Answer, out: &mut O, err: &mut E) -> u8
+/// Writes an answer to standard output and standard error, and returns the exit status. Fails at the first write that
+/// fails.
+pub fn deliver<O: Sink, E: Sink>(
+    answer: &Answer,
+    out: &mut O,
+    err: &mut E,
+) -> Result<u8, OutputFailed>
     ensures { Delivers (printed_of answer.now)
         (failures O.has_failed out.old out.new) (failures E.has_failed err.old err.new)
         (O.contents out.old) (O.contents out.new) (E.contents err.old) (E.contents err.new) result }
 {
-    match write_texts(answer, out, err) {
-        Ok(()) if answer.succeeds => SUCCESS,
-        Ok(()) | Err(OutputFailed) => FAULT,
-    }
+    write_texts(answer, out, err)?;
+    Ok(if answer.succeeds { SUCCESS } else { FAULT })
 }

@@ -1,5 +1,6 @@
 //! What the words of a command line ask for.
-use crate::subcommands::dma330;
+use crate::subcommands::{dma330, subcommand};
+use crate::text::Notation;
 use crate::values::{RamRange, number, ram_range, range, seed_range};
 use clap::error::ErrorKind;
 use clap::{ArgMatches, Error};
@@ -7,7 +8,7 @@ use dma_chan::bus::{Bus, BusWidth};
 use dma_mem::segment::Segment;
 use dma_seeds::seeds::SeedRange;
 use dma_trace::options::TraceOptions;
-use std::alloc::{AllocError, Global};
+use std::alloc::{AllocError, AllocFailed, Global};
 
 /// A subcommand with its options.
 #[derive(Drop)]
@@ -27,71 +28,99 @@ pub struct Call<'a> {
     pub request: Request,
     /// The file that is read, if it isn't standard input.
     pub input: Option<&'a str>,
-    /// The input is hexadecimal text.
-    pub is_hex: bool,
+    /// How the input spells a program, if it is text.
+    pub notation: Option<Notation>,
     /// The RAM of a trace.
     pub ram: Vec<RamRange<'a>>,
     /// The file that is written.
     pub output: Option<&'a str>,
 }
 
-/// Returns the error for a wrong value of an option.
-fn mistake(alloc: Global, id: &str, word: &str, wanted: &str) -> Result<Error, AllocError> {
-    let message = format!(in alloc; "invalid value '{word}' for '--{id}': {wanted}")?;
-    dma330(alloc)?.error(ErrorKind::ValueValidation, message.as_str())
+/// Why the values of a subcommand's options aren't those of a call.
+#[derive(Debug, Drop)]
+enum Wrong<'a> {
+    /// The value of an option isn't what is wanted.
+    Value {
+        id: &'static str,
+        word: &'a str,
+        wanted: &'static str,
+    },
+    /// Out of memory.
+    NoMemory,
 }
 
-/// Reads a number, or returns `default` if the option is missing.
-fn number_at(
-    alloc: Global,
-    matches: &ArgMatches<'_>,
-    id: &str,
-    default: u32,
-) -> Result<u32, Error> {
-    let Some(word) = matches.get_str(id) else {
-        return Ok(default);
-    };
-    match number(word) {
-        Some(number) => Ok(number),
-        None => {
-            let wanted = "not a number from 0 to 4294967295";
-            Err(mistake(alloc, id, word, wanted)?)
-        }
+impl From<AllocError> for Wrong<'_> {
+    fn from(_error: AllocError) -> Self {
+        Wrong::NoMemory
     }
 }
 
+impl<T: Drop> From<AllocFailed<T>> for Wrong<'_> {
+    fn from(_error: AllocFailed<T>) -> Self {
+        Wrong::NoMemory
+    }
+}
+
+impl Wrong<'_> {
+    /// Returns the error of a subcommand, with its usage.
+    fn error(&self, alloc: Global, name: &str) -> Result<Error, AllocError> {
+        let Wrong::Value { id, word, wanted } = self else {
+            return Err(AllocError);
+        };
+        let message = format!(in alloc; "invalid value '{word}' for '--{id}': {wanted}")?;
+        let usage = format!(in alloc; "dma330 {name}")?;
+        subcommand(alloc, name)?
+            .bin_name(usage.as_str())?
+            .error(ErrorKind::ValueValidation, message.as_str())
+    }
+}
+
+/// Reads a number, or returns `default` if the option is missing.
+fn number_at<'a>(
+    matches: &ArgMatches<'a>,
+    id: &'static str,
+    default: u32,
+) -> Result<u32, Wrong<'a>> {
+    let Some(word) = matches.get_str(id) else {
+        return Ok(default);
+    };
+    let wanted = "not a number from 0 to 4294967295";
+    number(word).ok_or(Wrong::Value { id, word, wanted })
+}
+
 /// Reads the ranges of addresses of an option.
-fn ranges_at(alloc: Global, matches: &ArgMatches<'_>, id: &str) -> Result<Vec<Segment>, Error> {
+fn ranges_at<'a>(
+    alloc: Global,
+    matches: &ArgMatches<'a>,
+    id: &'static str,
+) -> Result<Vec<Segment>, Wrong<'a>> {
+    let wanted = "not ADDRESS+LENGTH";
     let mut ranges = Vec::new(alloc);
-    for word in matches.get_strs(id).unwrap_or(&[]) {
-        match range(word) {
-            Some(range) => ranges.push(range)?,
-            None => return Err(mistake(alloc, id, word, "not ADDRESS+LENGTH")?),
-        }
+    for &word in matches.get_strs(id).unwrap_or(&[]) {
+        ranges.push(range(word).ok_or(Wrong::Value { id, word, wanted })?)?;
     }
     Ok(ranges)
 }
 
 /// Reads the RAM of a trace, and puts it in the order of its addresses.
-fn ram_at<'a>(alloc: Global, matches: &ArgMatches<'a>) -> Result<Vec<RamRange<'a>>, Error> {
+fn ram_at<'a>(alloc: Global, matches: &ArgMatches<'a>) -> Result<Vec<RamRange<'a>>, Wrong<'a>> {
+    let (id, wanted) = ("ram", "not ADDRESS+LENGTH[=FILE]");
     let mut ram = Vec::new(alloc);
-    for word in matches.get_strs("ram").unwrap_or(&[]) {
-        match ram_range(word) {
-            Some(range) => ram.push(range)?,
-            None => return Err(mistake(alloc, "ram", word, "not ADDRESS+LENGTH[=FILE]")?),
-        }
+    for &word in matches.get_strs(id).unwrap_or(&[]) {
+        ram.push(ram_range(word).ok_or(Wrong::Value { id, word, wanted })?)?;
     }
     ram.sort_by_key(|it| it.range.addr)?;
     Ok(ram)
 }
 
 /// Reads the numbers of events, and returns their flags.
-fn events_at(alloc: Global, matches: &ArgMatches<'_>) -> Result<u32, Error> {
+fn events_at<'a>(matches: &ArgMatches<'a>) -> Result<u32, Wrong<'a>> {
+    let (id, wanted) = ("event", "not a number from 0 to 31");
     let mut events = 0u32;
-    for word in matches.get_strs("event").unwrap_or(&[]) {
+    for &word in matches.get_strs(id).unwrap_or(&[]) {
         match number(word) {
             Some(event) if event < 32 => events |= 1 << event,
-            _ => return Err(mistake(alloc, "event", word, "not a number from 0 to 31")?),
+            _ => return Err(Wrong::Value { id, word, wanted }),
         }
     }
     Ok(events)
@@ -108,70 +137,84 @@ fn bus_at(matches: &ArgMatches<'_>) -> Bus {
 }
 
 /// Reads the options of `trace`.
-fn trace_of(alloc: Global, matches: &ArgMatches<'_>) -> Result<Request, Error> {
+fn trace_of<'a>(alloc: Global, matches: &ArgMatches<'a>) -> Result<Request, Wrong<'a>> {
     let count = if matches.get_flag("quiet") {
         0
     } else {
-        number_at(alloc, matches, "count", u32::MAX)?
+        number_at(matches, "count", u32::MAX)?
     };
     Ok(Request::Trace(TraceOptions {
         bus: bus_at(matches),
-        events: events_at(alloc, matches)?,
+        events: events_at(matches)?,
         failing: ranges_at(alloc, matches, "fail")?,
-        from: number_at(alloc, matches, "from", 1)?,
+        from: number_at(matches, "from", 1)?,
         count,
-        limit: number_at(alloc, matches, "limit", 1_000_000)?,
+        limit: number_at(matches, "limit", 1_000_000)?,
         dumps: ranges_at(alloc, matches, "dump")?,
         wave: matches.contains_id("vcd"),
     }))
 }
 
 /// Reads the options of `race`.
-fn race_of(alloc: Global, matches: &ArgMatches<'_>) -> Result<Request, Error> {
-    let Some(word) = matches.get_str("seeds") else {
-        let seed = number_at(alloc, matches, "seed", 0)?;
+fn race_of<'a>(matches: &ArgMatches<'a>) -> Result<Request, Wrong<'a>> {
+    let id = "seeds";
+    let Some(word) = matches.get_str(id) else {
+        let seed = number_at(matches, "seed", 0)?;
         return Ok(Request::Race {
             seed: u64::from(seed),
         });
     };
+    let wanted = "not FIRST-LAST, two numbers up to 4294967295 in rising order";
     match seed_range(word) {
         Some(seeds) => Ok(Request::RaceSeeds(seeds)),
-        None => {
-            let wanted = "not FIRST-LAST, two numbers up to 4294967295 in rising order";
-            Err(mistake(alloc, "seeds", word, wanted)?)
-        }
+        None => Err(Wrong::Value { id, word, wanted }),
     }
 }
 
 /// Reads the request of a subcommand.
-fn request_of(alloc: Global, name: &str, matches: &ArgMatches<'_>) -> Result<Request, Error> {
+fn request_of<'a>(
+    alloc: Global,
+    name: &str,
+    matches: &ArgMatches<'a>,
+) -> Result<Request, Wrong<'a>> {
     match name {
         "dis" => Ok(Request::Dis {
-            at: number_at(alloc, matches, "at", 0)?,
+            at: number_at(matches, "at", 0)?,
         }),
         "asm" => Ok(Request::Asm {
             to_file: matches.contains_id("output"),
         }),
         "explain" => Ok(Request::Explain {
             bus: bus_at(matches),
-            most: number_at(alloc, matches, "most", 10_000_000)?,
+            most: number_at(matches, "most", 10_000_000)?,
         }),
-        "race" => race_of(alloc, matches),
+        "race" => race_of(matches),
         "why" => Ok(Request::Why),
         _ => trace_of(alloc, matches),
     }
 }
 
-/// Returns the call that a subcommand and its options ask for. Fails with a mistake in an option.
+/// Returns how the input spells a program, if it is text.
+fn notation_at(matches: &ArgMatches<'_>) -> Option<Notation> {
+    if matches.get_flag("hex") {
+        Some(Notation::Pairs)
+    } else if matches.get_flag("words") {
+        Some(Notation::Words)
+    } else {
+        None
+    }
+}
+
+/// Returns the call that a subcommand and its options ask for.
 fn call_of_subcommand<'a>(
     alloc: Global,
     name: &str,
     matches: &ArgMatches<'a>,
-) -> Result<Call<'a>, Error> {
+) -> Result<Call<'a>, Wrong<'a>> {
     Ok(Call {
         request: request_of(alloc, name, matches)?,
         input: matches.get_str("file").filter(|file| *file != "-"),
-        is_hex: matches.get_flag("hex"),
+        notation: notation_at(matches),
         ram: ram_at(alloc, matches)?,
         output: matches
             .get_str("output")
@@ -184,8 +227,11 @@ fn call_of_subcommand<'a>(
 /// `--help` or `--version`.
 pub fn call_of<'a>(alloc: Global, words: &'a [String]) -> Result<Call<'a>, Error> {
     let matches = dma330(alloc)?.try_get_matches_from(words)?;
-    match matches.subcommand() {
-        Some((name, matches)) => call_of_subcommand(alloc, name, matches),
-        None => Err(dma330(alloc)?.error(ErrorKind::MissingSubcommand, "no command is given")?),
+    let Some((name, matches)) = matches.subcommand() else {
+        return Err(dma330(alloc)?.error(ErrorKind::MissingSubcommand, "no command is given")?);
+    };
+    match call_of_subcommand(alloc, name, matches) {
+        Ok(call) => Ok(call),
+        Err(wrong) => Err(wrong.error(alloc, name)?),
     }
 }

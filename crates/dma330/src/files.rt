@@ -6,6 +6,7 @@ use crate::replies::answer;
 use crate::values::RamRange;
 use dma_mem::regions::{Region, are_in_order};
 use dma_script::command::{FAULT, OUT_OF_MEMORY};
+use dma_script::output::OutputFailed;
 use std::alloc::{AllocError, AllocFailed, Global};
 use std::io::{IsTerminal, Read};
 use std::{fs, io};
@@ -27,6 +28,8 @@ pub enum Failure<'a> {
     TooLong(&'a str),
     /// Two ranges of RAM overlap, or one ends above 2^32.
     Ram,
+    /// Standard output or standard error can't be written.
+    Output,
 }
 
 impl From<AllocError> for Failure<'_> {
@@ -72,6 +75,10 @@ impl<'a> Failure<'a> {
                     "dma330: two ranges of --ram overlap, or one ends above 2^32"
                 );
                 WRONG_USE
+            }
+            Failure::Output => {
+                let _ = eprintln!(rt; "dma330: the output can't be written");
+                FAULT
             }
         }
     }
@@ -139,7 +146,7 @@ pub fn run<'a>(rt: &HostRuntime, call: &Call<'a>) -> Result<u8, Failure<'a>> {
     let answer = answer(
         rt.alloc(),
         &call.request,
-        call.is_hex,
+        call.notation,
         name,
         &input,
         &mut regions,
@@ -152,5 +159,8 @@ pub fn run<'a>(rt: &HostRuntime, call: &Call<'a>) -> Result<u8, Failure<'a>> {
     {
         fs::write(rt, path, answer.file.as_slice()).map_err(|error| Failure::of(path, error))?;
     }
-    Ok(deliver(&answer, &mut rt.stdout(), &mut rt.stderr()))
+    match deliver(&answer, &mut rt.stdout(), &mut rt.stderr()) {
+        Ok(status) => Ok(status),
+        Err(OutputFailed) => Err(Failure::Output),
+    }
 }

@@ -24,7 +24,7 @@ pub enum Reading {
 }
 
 /// Returns whether a byte may be between pairs: a space, a tab, a carriage return, a line feed or a comma.
-fn is_gap(byte: u8) -> bool
+pub fn is_gap(byte: u8) -> bool
     ensures { result ≡ is_gap byte }
 {
     matches!(byte, b' ' | b'\t' | b'\r' | b'\n' | b',')

@@ -1,19 +1,23 @@
 //! The program `dma330`: a workbench for channel programs.
 //!
-//! Proved: the answer to a request is a function of its input (`answer`); hexadecimal text is read as its pairs or its
-//! first fault (`read_hexadecimal`); what standard output and standard error get, and the status, are those of the
+//! Proved: the answer to a request is a function of its input (`answer`); hexadecimal text is read as its pairs or words,
+//! or its first fault (`read_text`); what standard output and standard error get, and the status, are those of the
 //! answer (`deliver`). Not proved: `main`, which reads the command line and the files, writes the file that an option
 //! names, and shows progress.
 #![tactic(auto)]
 
+mod addresses;
 mod answer;
 mod command_line;
 mod files;
 mod hexadecimal;
 mod meter;
+mod notes;
 mod replies;
 mod subcommands;
+mod text;
 mod values;
+mod words;
 
 use command_line::call_of;
 use files::{Failure, run};

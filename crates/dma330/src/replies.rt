@@ -1,13 +1,14 @@
 //! What a request prints for its input.
-ghost use Rattle.std.specs.Prelude.{◌≡◌, ◌≤◌, ◌++◌, IfOk, IsTrue, length};
+ghost use Rattle.std.specs.Prelude.{◌≡◌, IfOk, IsTrue};
 ghost use Rattle.dma_mem.specs.Regions.{in_order, pieces_of};
 ghost use Rattle.dma_seeds.specs.Expect.{is_good, verdict_text};
 ghost use Rattle.dma330.specs.Answer.{printed_of};
-ghost use Rattle.dma330.specs.Replies.{Answers, Assembles, Explains, HexReplies, InputReplies, IsUnderName, Lists, Races, RacesSeeds, RawReplies, Reasons, Replies, Traces, byte_words, hex_refusal, hint, is_text, is_text_byte, program_of, takes_program};
+ghost use Rattle.dma330.specs.Replies.{Answers, Assembles, Explains, InputReplies, IsUnderName, Lists, ProgramReplies, Races, RacesSeeds, RawReplies, Reasons, Replies, TextReplies, Traces, program_of};
 
 use crate::answer::{Answer, named};
 use crate::command_line::Request;
-use crate::hexadecimal::{column_of, is_digit, line_of, read_hexadecimal};
+use crate::notes::{hint, idle_note, noted};
+use crate::text::{Notation, read_text, refusal};
 use dma_chan::bus::Bus;
 use dma_manual::assembler::{assemble, assemble_text};
 use dma_manual::errors::AsmError;
@@ -18,7 +19,6 @@ use dma_seeds::race::race_by_seed;
 use dma_seeds::script::script_of_seed;
 use dma_seeds::seeds::{SeedRange, race_by_seeds};
 use dma_text::progress::Progress;
-use dma_text::text::{HexByte, print};
 use dma_trace::explain::explain;
 use dma_trace::options::TraceOptions;
 use dma_trace::trace::trace;
@@ -190,107 +190,39 @@ fn reply<P: Progress>(
     }
 }
 
-/// Returns what is wrong with a byte of hexadecimal text.
-fn byte_words(byte: u8) -> &'static str
-    ensures { result.now ≡ byte_words byte }
+/// Returns what a request prints for a program, with a warning if only its first byte is executed.
+fn program_reply<P: Progress>(
+    alloc: Global,
+    request: &Request,
+    program: &[u8],
+    ram: &mut [Region<'_>],
+    progress: &mut P,
+) -> Result<Answer, AllocError>
+    requires { IsTrue (in_order (pieces_of ram.old)) }
+    ensures { IfOk result (λ answer.
+        ProgramReplies request.now ram.old program.now (printed_of answer)) }
 {
-    if is_digit(byte) {
-        " is a third digit after 0x: each number is one byte, the lowest byte of a word first\n"
-    } else if byte == b':' || byte == b'|' {
-        " is of a dump with addresses: leave them and the characters out, as xxd -p does\n"
-    } else {
-        " is not a hexadecimal digit here\n"
-    }
-}
-
-/// Returns what is printed for hexadecimal text with a fault at an offset.
-fn hex_refusal(alloc: Global, text: &[u8], at: usize) -> Result<Answer, AllocError>
-    requires { at ≤ length text.now }
-    ensures { IfOk result (λ answer. printed_of answer ≡ hex_refusal text.now at) }
-{
-    let mut err = Vec::new(alloc);
-    print(
-        &mut err,
-        &(line_of(text, at), ":", column_of(text, at), ": "),
-    )?;
-    match text.get(at) {
-        Some(byte) => print(&mut err, &("byte 0x", HexByte(*byte), byte_words(*byte)))?,
-        None => print(&mut err, &"the last byte lacks a digit\n")?,
-    }
-    Ok(Answer::printed(alloc, Vec::new(alloc), err, false))
+    let replied = reply(alloc, request, program, ram, progress)?;
+    noted(replied, idle_note(request, program))
 }
 
 /// Returns what a request prints for a program in hexadecimal text.
-fn hex_reply<P: Progress>(
+fn text_reply<P: Progress>(
     alloc: Global,
     request: &Request,
+    notation: Notation,
     text: &[u8],
     ram: &mut [Region<'_>],
     progress: &mut P,
 ) -> Result<Answer, AllocError>
     requires { IsTrue (in_order (pieces_of ram.old)) }
     ensures { IfOk result (λ answer.
-        HexReplies request.now ram.old text.now (printed_of answer)) }
+        TextReplies request.now notation ram.old text.now (printed_of answer)) }
 {
-    match read_hexadecimal(alloc, text)? {
-        Ok(program) => reply(alloc, request, &program, ram, progress),
-        Err(at) => hex_refusal(alloc, text, at),
+    match read_text(alloc, notation, text)? {
+        Ok(program) => program_reply(alloc, request, &program, ram, progress),
+        Err(at) => refusal(alloc, notation, text, at),
     }
-}
-
-/// Returns whether a request takes a program.
-fn takes_program(request: &Request) -> bool
-    ensures { result ≡ takes_program request.now }
-{
-    match request {
-        Request::Dis { .. } | Request::Explain { .. } | Request::Trace(_) => true,
-        Request::Asm { .. } | Request::Race { .. } | Request::RaceSeeds(_) | Request::Why => false,
-    }
-}
-
-/// Returns whether a byte is printable, a tab or a line end.
-fn is_text_byte(byte: u8) -> bool
-    ensures { result ≡ is_text_byte byte }
-{
-    matches!(byte, b' '..=b'~' | b'\t' | b'\n' | b'\r')
-}
-
-/// Returns whether all bytes of an input are text.
-fn is_text(input: &[u8]) -> bool
-    ensures { result ≡ is_text input.now }
-{
-    input.iter().all(|byte| is_text_byte(*byte))
-}
-
-/// Returns the hint behind the message for a program that is text, or no text.
-fn hint(request: &Request, input: &[u8], succeeds: bool) -> &'static str
-    ensures { result.now ≡ hint request.now input.now succeeds }
-{
-    if takes_program(request) && !succeeds && !input.is_empty() && is_text(input) {
-        "  (these bytes are text; --hex reads hexadecimal digits, asm instructions)\n"
-    } else {
-        ""
-    }
-}
-
-/// Appends the hint to the message of an answer.
-fn hinted(request: &Request, input: &[u8], answer: Answer) -> Result<Answer, AllocError>
-    ensures { let q = printed_of answer in IfOk result (λ shown. printed_of shown
-        ≡ record q { err = q.err ++ hint request.now input.now q.succeeds }) }
-{
-    let Answer {
-        out,
-        mut err,
-        file,
-        succeeds,
-    } = answer;
-    print(&mut err, &hint(request, input, succeeds))?;
-    Ok(Answer {
-        out,
-        err,
-        file,
-        succeeds,
-    })
 }
 
 /// Returns what a request prints for an input that isn't read as hexadecimal text.
@@ -305,27 +237,27 @@ fn raw_reply<P: Progress>(
     ensures { IfOk result (λ answer.
         RawReplies request.now ram.old input.now (printed_of answer)) }
 {
-    let replied = reply(alloc, request, input, ram, progress)?;
-    hinted(request, input, replied)
+    let replied = program_reply(alloc, request, input, ram, progress)?;
+    let note = hint(request, input, replied.succeeds);
+    noted(replied, note)
 }
 
 /// Returns what a request prints for its input.
 fn input_reply<P: Progress>(
     alloc: Global,
     request: &Request,
-    is_hex: bool,
+    notation: Option<Notation>,
     input: &[u8],
     ram: &mut [Region<'_>],
     progress: &mut P,
 ) -> Result<Answer, AllocError>
     requires { IsTrue (in_order (pieces_of ram.old)) }
     ensures { IfOk result (λ answer.
-        InputReplies request.now is_hex ram.old input.now (printed_of answer)) }
+        InputReplies request.now notation ram.old input.now (printed_of answer)) }
 {
-    if is_hex {
-        hex_reply(alloc, request, input, ram, progress)
-    } else {
-        raw_reply(alloc, request, input, ram, progress)
+    match notation {
+        Some(notation) => text_reply(alloc, request, notation, input, ram, progress),
+        None => raw_reply(alloc, request, input, ram, progress),
     }
 }
 
@@ -352,7 +284,7 @@ fn under_name(alloc: Global, name: &str, answer: Answer) -> Result<Answer, Alloc
 pub fn answer<P: Progress>(
     alloc: Global,
     request: &Request,
-    is_hex: bool,
+    notation: Option<Notation>,
     name: &str,
     input: &[u8],
     ram: &mut [Region<'_>],
@@ -360,8 +292,8 @@ pub fn answer<P: Progress>(
 ) -> Result<Answer, AllocError>
     requires { IsTrue (in_order (pieces_of ram.old)) }
     ensures { IfOk result (λ answer.
-        Answers request.now is_hex name.now ram.old input.now (printed_of answer)) }
+        Answers request.now notation name.now ram.old input.now (printed_of answer)) }
 {
-    let replied = input_reply(alloc, request, is_hex, input, ram, progress)?;
+    let replied = input_reply(alloc, request, notation, input, ram, progress)?;
     under_name(alloc, name, replied)
 }

@@ -38,10 +38,16 @@ fn flag<'a>(alloc: Global, name: &'a str, what: &'a str) -> Arg<'a> {
         .help(what)
 }
 
-/// Returns the option for hexadecimal text.
+/// Returns the option for bytes in hexadecimal text.
 fn hex<'a>(alloc: Global) -> Arg<'a> {
     let what = "FILE is text: pairs of hexadecimal digits, and comments after #";
     flag(alloc, "hex", what)
+}
+
+/// Returns the option for words in hexadecimal text.
+fn words<'a>(alloc: Global) -> Result<Arg<'a>, AllocError> {
+    let what = "FILE is text: 32-bit words of eight digits, as debuggers print them";
+    flag(alloc, "words", what).conflicts_with("hex")
 }
 
 /// Returns the option for the bus.
@@ -76,7 +82,8 @@ fn dis<'a>(alloc: Global) -> Result<Command<'a>, AllocError> {
         "ADDRESS",
         "Address of the first byte [default: 0]",
     );
-    let args = Vec::from_array(alloc, [at, hex(alloc), file(alloc, PROGRAM)])?;
+    let args = [at, hex(alloc), words(alloc)?, file(alloc, PROGRAM)];
+    let args = Vec::from_array(alloc, args)?;
     command(alloc, "dis", about, example, args)
 }
 
@@ -102,7 +109,13 @@ fn explain<'a>(alloc: Global) -> Result<Command<'a>, AllocError> {
         "N",
         "Give up after N instructions [default: 10000000]",
     );
-    let args = [hex(alloc), bus(alloc), most, file(alloc, PROGRAM)];
+    let args = [
+        hex(alloc),
+        words(alloc)?,
+        bus(alloc),
+        most,
+        file(alloc, PROGRAM),
+    ];
     let args = Vec::from_array(alloc, args)?;
     command(alloc, "explain", about, example, args)
 }
@@ -143,7 +156,12 @@ fn trace<'a>(alloc: Global) -> Result<Command<'a>, AllocError> {
     let about = "Executes a program over RAM, and prints a line for each instruction";
     let example = "Example:\n  dma330 trace --hex --ram 0x10000000+0x2000 --quiet \
         --dump 0x10001000+16 examples/linux.hex";
-    let args = [hex(alloc), bus(alloc), file(alloc, PROGRAM)];
+    let args = [
+        hex(alloc),
+        words(alloc)?,
+        bus(alloc),
+        file(alloc, PROGRAM),
+    ];
     let args = Vec::from_array(alloc, args)?;
     command(alloc, "trace", about, example, args)?
         .args(machine_options(alloc)?)?
@@ -184,6 +202,18 @@ fn why<'a>(alloc: Global) -> Result<Command<'a>, AllocError> {
         example,
         Vec::from_array(alloc, [text])?,
     )
+}
+
+/// Returns the subcommand of this name.
+pub fn subcommand<'a>(alloc: Global, name: &str) -> Result<Command<'a>, AllocError> {
+    match name {
+        "dis" => dis(alloc),
+        "asm" => asm(alloc),
+        "explain" => explain(alloc),
+        "race" => race(alloc),
+        "why" => why(alloc),
+        _ => trace(alloc),
+    }
 }
 
 /// Returns the subcommands, in the order of the help.

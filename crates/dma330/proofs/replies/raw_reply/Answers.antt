@@ -5,5 +5,5 @@ use Rattle.dma330.proofs.replies.raw_reply.Goals as goal
 
 pub returns : goal.returns
 returns g c =
-    IfOk-weaker c.hinted.result _ _
-    (λ shown with_hint. (printed_of c.in_ok-replied.replied, c.in_ok-replied.ensures, with_hint)) c.hinted.ensures
+    IfOk-weaker c.noted.result _ _
+    (λ shown with_hint. (printed_of c.in_ok-replied.replied, c.in_ok-replied.ensures, with_hint)) c.noted.ensures

@@ -1,0 +1,59 @@
+-- Programs in hexadecimal text, and what is printed for a text with a fault (profile).
+use Rattle.std.specs.Prelude.{ℕ, false, ◌==◌, ◌||◌, if◌then◌else◌, List, [], ◌++◌, Option, Some, None, Result, codes, decimal, slice_get}
+use Rattle.dma_text.specs.Digits.{hex_pair}
+use Rattle.dma330.specs.Addresses.{without_addresses}
+use Rattle.dma330.specs.Answer.{Printed}
+use Rattle.dma330.specs.Hexadecimal.{column_of, is_digit, is_gap, line_of, read}
+use Rattle.dma330.specs.Words.{read_words}
+use Rattle.dma330.specs.declared.text.Notation.{Notation}
+use Rattle.dma330.specs.declared.text.Notation.TheVariants.{Pairs, Words}
+
+-- The bytes that a text spells, or the offset of its first fault.
+abbrev pub spelled : Notation → List ℕ → Result (List ℕ) ℕ
+spelled Pairs text = read (without_addresses text)
+spelled Words text = read_words (without_addresses text)
+
+-- What is wrong with a byte of a text of pairs. A digit is refused only behind a pair that has a mark.
+abbrev pub pair_words : ℕ → List ℕ
+pair_words b =
+    if is_digit b
+    then codes " is a third digit after 0x: each number is one byte, the lowest byte of a word first; --words reads words\n"
+    else codes " is not a hexadecimal digit here\n"
+
+-- What is wrong with a byte of a text of words. A digit is refused only behind a whole word, a gap only within one.
+abbrev pub word_words : ℕ → List ℕ
+word_words b =
+    if is_digit b then codes " is a ninth digit: each word has eight, the highest first\n" else (
+    if is_gap b then codes " ends a word of fewer than eight digits\n"
+    else codes " is not a hexadecimal digit here\n")
+
+-- what is wrong with a byte of a text; a colon and a vertical bar are those of dumps
+abbrev pub byte_words : Notation → ℕ → List ℕ
+byte_words notation b =
+    if b == 58 || b == 124
+    then codes " is of a dump with addresses: leave them and the characters out, as xxd -p does\n"
+    else in_notation notation b
+  where
+    in_notation : Notation → ℕ → List ℕ
+    in_notation Pairs c = pair_words c
+    in_notation Words c = word_words c
+
+-- what is wrong with the end of a text
+abbrev pub end_words : Notation → List ℕ
+end_words Pairs = codes "the last byte lacks a digit\n"
+end_words Words = codes "the last word has fewer than eight digits\n"
+
+-- what is wrong with a byte of a text, or with its end
+abbrev pub fault_words : Notation → Option ℕ → List ℕ
+fault_words notation (Some b) = codes "byte 0x" ++ hex_pair b ++ byte_words notation b
+fault_words notation None = end_words notation
+
+-- what is printed for a text with a fault at this offset: its line and column, and what is wrong
+abbrev pub refusal : Notation → List ℕ → ℕ → Printed
+refusal notation text at = record {
+  out = [];
+  err = (decimal (line_of text at) ++ codes ":" ++ decimal (column_of text at) ++ codes ": ")
+      ++ fault_words notation (slice_get text at);
+  file = [];
+  succeeds = false;
+}

@@ -1,0 +1,76 @@
+//! Leaves the addresses of a dump out of its text.
+ghost use Rattle.std.specs.Prelude.{◌≡◌, IfOk, length};
+ghost use Rattle.dma330.specs.Addresses.{ends_address, has_colon, is_address, is_address_after, without_addresses};
+
+use crate::hexadecimal::is_digit;
+use std::alloc::{AllocError, Global};
+
+/// The fewest digits of an address. So pairs with colons between them are none.
+const ADDRESS_DIGITS: usize = 4;
+
+/// Returns whether a line has a colon that isn't in a comment.
+fn has_colon(text: &[u8]) -> bool
+    ensures { result ≡ has_colon text.now }
+{
+    for byte in text {
+        match *byte {
+            b':' => return true,
+            b'\n' | b'#' => return false,
+            _ => {}
+        }
+    }
+    false
+}
+
+/// Returns whether a text that follows digits ends an address: with a colon, perhaps after a symbol's name as gdb
+/// prints it.
+fn ends_address(text: &[u8]) -> bool
+    ensures { result ≡ ends_address text.now }
+{
+    match text {
+        [b':', ..] => true,
+        [b' ', b'<', symbol @ ..] => has_colon(symbol),
+        _ => false,
+    }
+}
+
+/// Returns whether a text begins with the digits of an address and its end.
+fn begins_with_digits(text: &[u8]) -> bool
+    ensures { result ≡ is_address_after 0 text.now }
+{
+    for (count, byte) in text.iter().enumerate() {
+        if !is_digit(*byte) {
+            return count >= ADDRESS_DIGITS && ends_address(&text[count..]);
+        }
+    }
+    false
+}
+
+/// Returns whether a text begins with an address.
+fn is_address(text: &[u8]) -> bool
+    ensures { result ≡ is_address text.now }
+{
+    match text {
+        [b'0', b'x', digits @ ..] => begins_with_digits(digits),
+        _ => begins_with_digits(text),
+    }
+}
+
+/// Returns the text with spaces in place of the addresses that lines begin with, up to their colons. Fails if memory
+/// runs out.
+pub fn without_addresses(alloc: Global, text: &[u8]) -> Result<Vec<u8>, AllocError>
+    ensures text { IfOk result (λ blanked. blanked.items ≡ without_addresses text.now) }
+    ensures length { IfOk result (λ blanked. length blanked.items ≡ length text.now) }
+{
+    let mut blanked = Vec::with_capacity(alloc, text.len())?;
+    let mut in_address = is_address(text);
+    for (at, byte) in text.iter().enumerate() {
+        blanked.push(if in_address { b' ' } else { *byte })?;
+        in_address = match *byte {
+            b'\n' => is_address(&text[at + 1..]),
+            b':' => false,
+            _ => in_address,
+        };
+    }
+    Ok(blanked)
+}
