@@ -47,6 +47,7 @@ pub mod BusKept
 pub mod AddressesAligned
 pub mod ExplainedAlone
 pub mod RunLists
+pub mod LowestPlaces
 pub mod TracerSteps
 pub mod Explaining
 pub mod Turns
