@@ -1,5 +1,5 @@
 -- What sets and takes events.
-use Rattle.std.proofs.Common.{◌≡◌, ◌≢◌, ◌∙◌, ◌⊎◌, ℕ, zero, suc, ◌+◌, ◌-◌, ◌%◌, ◌^◌, ◌<◌, Bool, true, false, ◌&&◌, List, length, get_or, Option, Some, ap, refl, sym, subst, arith, inl, inr, true≢false, bit_and, w32}
+use Rattle.std.proofs.Common.{◌≡◌, ◌≢◌, ◌∙◌, ◌⊎◌, ℕ, zero, suc, ◌+◌, ◌-◌, ◌%◌, ◌^◌, ◌<◌, Bool, true, false, ◌&&◌, List, length, get_or, Option, Some, None, ap, refl, sym, subst, arith, inl, inr, true≢false, bit_and, w32}
 use Rattle.std.specs.Prelude.{◌↔◌, if◌then◌else◌, max, min, nat_lt, slice_get}
 use Rattle.std.specs.Int.{bit_at, bit_not}
 use Rattle.std.proofs.lemmas.Bool.{cases_Bool, cases_eq, eq-eqb, ne_eqb}
