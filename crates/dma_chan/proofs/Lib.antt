@@ -3,6 +3,7 @@ pub mod BurstReach
 pub mod BurstRounds
 pub mod LoopEnds
 pub mod NextFits
+pub mod ActCases
 pub mod WaitsAndFaults
 pub mod RunAlone
 pub mod RunPages
