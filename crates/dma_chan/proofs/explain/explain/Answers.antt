@@ -1,4 +1,4 @@
-use Rattle.std.proofs.Common.{◌≡◌, ℕ, ◌+◌, arith, inl, inr, refl, ap, subst, ◌∙◌, Ok, Err}
+use Rattle.std.proofs.Common.{◌≡◌, ℕ, ◌+◌, arith, inr, refl, ap, subst, ◌∙◌, Ok, Err}
 use Rattle.dma_insn.specs.declared.insn.Insn.TheVariants.{End}
 use Rattle.dma_mem.specs.Places.{places}
 use Rattle.dma_chan.specs.declared.explain.Cause.TheVariants.{Fails, NoEnd}
