@@ -1,10 +1,9 @@
 -- A program that copies, over a memory that others write between its steps.
-use Rattle.std.proofs.Common.{◌≡◌, ℕ, zero, suc, ◌+◌, ◌≤◌, ◌<◌, true, List, [], ◌∷◌, length, get_or, refl, sym, ap, ◌∙◌, subst, arith, length-append, inl, inr, Bool, None, Result, Ok}
-use Rattle.std.specs.Prelude.{IsSomeAnd, slice_index_or}
-use Rattle.std.specs.List.{AllByRecursion}
+use Rattle.std.proofs.Common.{◌≡◌, ℕ, zero, suc, ◌+◌, ◌≤◌, ◌<◌, true, List, length, get_or, refl, sym, ap, ◌∙◌, subst, arith, length-append, inl, inr, Bool, None, Result, Ok}
+use Rattle.std.specs.Prelude.{IsSomeAnd}
 use Rattle.std.proofs.lemmas.Bool.{and_parts}
 use Rattle.dma_insn.specs.declared.insn.Insn.{Insn}
-use Rattle.dma_insn.specs.declared.insn.Insn.TheVariants.{Mov, Ld, St, Rmb, Wmb, Nop, End, Lp, LpEnd, Sev, Wfe}
+use Rattle.dma_insn.specs.declared.insn.Insn.TheVariants.{St, End, Wfe}
 use Rattle.dma_mem.specs.Places.{Descriptor, all_below, sources, destinations, size_of, lies_below}
 use Rattle.dma_mem.specs.Image.{laid}
 use Rattle.dma_mem.specs.Marking.{MarkList}
@@ -20,24 +19,19 @@ use Rattle.dma_chan.specs.Explains.{Explains, IsIn, IsLoadedWith, IsWait, Starts
 use Rattle.dma_chan.specs.Others.{Misses, Touches, CopiesAmongOthers}
 use Rattle.dma_chan.specs.Stepping.{Machine, answer_at, after_step}
 use Rattle.dma_chan.proofs.CallWrites.{Nexts, Goes, Ends, ahead_at, does_next, ends_then, inside, nexts, traced_next, turned}
-use Rattle.dma_chan.proofs.LayerLaws.{below_places, below_sources}
+use Rattle.dma_chan.proofs.LayerLaws.{below_places, below_size, below_sources}
 use Rattle.dma_chan.proofs.CopyAlone.{laid_none}
 use Rattle.dma_chan.proofs.GoingOn.{Can, length_up}
 use Rattle.dma_chan.proofs.Traced.{Answers, Inside, Mirrors, answers}
 
 -- ---- what a transfer touches, in a memory that has its ranges
 
-below_at : (size : ℕ) (xs : List ℕ) (k a : ℕ) → AllByRecursion (λ x. x < size) xs → k < length xs → slice_index_or xs k a ≡ a → a < size
-below_at size [] k a all l e = absurd (omega arith)
-below_at size (x ∷ xs) zero a all l e = omega (arith, all.0, e)
-below_at size (x ∷ xs) (suc k) a all l e = below_at size xs k a all.1 (omega arith) e
-
 pub touched_below : (t : Descriptor) (size a : ℕ) → lies_below t size ≡ true → Touches t a → a < size
 touched_below t size a below touches =
     let parts = and_parts (all_below t.src size) (all_below t.dst size) below in
     elim touches [
-      | inl i ↦ below_at size (sources t) i.0 a (below_sources size t parts.0) i.1 i.2
-      | inr i ↦ below_at size (destinations t) i.0 a (below_places size t.dst parts.1) i.1 i.2
+      | inl i ↦ below_size size a (sources t) (below_sources size t parts.0) i
+      | inr i ↦ below_size size a (destinations t) (below_places size t.dst parts.1) i
     ]
 
 -- all addresses that a transfer touches lie below the memory's size
@@ -83,16 +77,7 @@ kept bus program t n first k image other c d w same unchanged fits =
 -- how many bytes an instruction stores
 stored_insn : (i : Insn) (x : Trace) → Can i x → length (after_insn i x).stores ≡ length x.stores + stored_by (Ok i) x.registers
 stored_insn St x c = let b = destination_of x.registers in omega (arith, length-append x.stores (touched b), length_up b c.1)
-stored_insn Ld x c = omega arith
-stored_insn (Mov r v) x c = omega arith
-stored_insn Rmb x c = omega arith
-stored_insn Wmb x c = omega arith
-stored_insn Nop x c = omega arith
-stored_insn End x c = omega arith
-stored_insn (Lp k n) x c = omega arith
-stored_insn (LpEnd k b) x c = omega arith
-stored_insn (Sev e) x c = omega arith
-stored_insn (Wfe e v) x c = omega arith
+stored_insn i x c = omega arith
 
 module _ (bus : Bus) (program : List ℕ) (t : Descriptor) (n : ℕ) (marks : MarkList) (first : List ℕ) (h : Explains bus program t n) (low : Fits t (length first)) where
   -- the program has ended, and all bytes are copied
@@ -156,8 +141,7 @@ module _ (bus : Bus) (program : List ℕ) (t : Descriptor) (n : ℕ) (marks : Ma
   went : (k : ℕ) (i : Insn) (x : Trace) (turn : ChanTurn) (s : State) → k < n → next_in program (traced bus program k) ≡ Ok i → Answers t first marks i x (turn, s) → Before turn
   went k i x Moved s less next a = tt
   went k i x (Waiting e) s less next a = waits_at k i e less next a
-  went k i x Ended s less next a = a
-  went k i x (Fault kind) s less next a = a
+  went k i x turn s less next a = a
 
   before_by : (k : ℕ) (u : Machine) (turn : ChanTurn) → answer_at marks u ≡ turn → Among bus program t n first k u.image u.channel → k < n → Nexts bus program t n k → Before turn
   before_by k u turn e w l (Ends last next) = absurd (omega (arith, l, last))

@@ -2,7 +2,7 @@
 use Rattle.std.proofs.Common.{◌≡◌, ℕ, ◌+◌, ◌^◌, Option, Some, None, refl, ap, ◌∙◌}
 use Rattle.std.specs.Option.{option_map}
 use Rattle.dma_insn.specs.declared.control.BeatSize.{BeatSize}
-use Rattle.dma_insn.specs.declared.control.BeatSize.TheVariants.{One, Two, Four, Eight, Sixteen}
+use Rattle.dma_insn.specs.declared.control.BeatSize.TheVariants.{One}
 use Rattle.dma_insn.specs.declared.control.BurstEnd.{BurstEnd}
 use Rattle.dma_insn.specs.ControlWord.{field, size_code, size_of, beat_bytes, end_with, end_at}
 use Rattle.dma_insn.proofs.ControlLaws.{size_code_size_of}
@@ -13,10 +13,7 @@ use Rattle.dma_chan.specs.Bursts.{burst_at, skip_of}
 -- the bytes of a beat are a power of two, by its code
 beat_bytes_power : (s : BeatSize) → beat_bytes s ≡ 2 ^ size_code s
 beat_bytes_power One = refl
-beat_bytes_power Two = refl
-beat_bytes_power Four = refl
-beat_bytes_power Eight = refl
-beat_bytes_power Sixteen = refl
+beat_bytes_power s = refl
 
 abbrev burst_of : Bus → ℕ → BurstEnd → Burst
 burst_of bus addr e = record {

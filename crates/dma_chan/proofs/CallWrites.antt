@@ -1,30 +1,28 @@
 -- A call writes only what its steps write, and one of a program that copies only its destinations.
-use Rattle.std.proofs.Common.{◌≡◌, ◌≢◌, ℕ, zero, suc, ◌+◌, ◌≤◌, ◌<◌, ◌⊎◌, Bool, true, false, ◌&&◌, cond, List, ◌++◌, length, Option, Some, None, Result, Ok, Err, refl, sym, ap, ◌∙◌, subst, arith, inl, inr}
-use Rattle.std.specs.Prelude.{IsSomeAnd, nat_lt, slice_index_or}
+use Rattle.std.proofs.Common.{◌≡◌, ◌≢◌, ℕ, zero, suc, ◌≤◌, ◌<◌, ◌⊎◌, true, List, ◌++◌, Option, Some, None, Result, Ok, Err, refl, sym, ap, ◌∙◌, subst, arith, inl, inr}
+use Rattle.std.specs.Prelude.{IsSomeAnd}
 use Rattle.std.specs.List.{Contains}
 use Rattle.std.proofs.lemmas.Bool.{cases_lt}
 use Rattle.std.proofs.lemmas.List.Elements.{Contains-append_left, Contains-append_right}
 use Rattle.dma_insn.specs.declared.insn.Insn.{Insn}
-use Rattle.dma_insn.specs.declared.insn.Insn.TheVariants.{Mov, Ld, St, Rmb, Wmb, Nop, End, Lp, LpEnd, Sev, Wfe}
-use Rattle.dma_insn.specs.declared.insn.Reg.TheVariants.{Sar, Ccr, Dar}
+use Rattle.dma_insn.specs.declared.insn.Insn.TheVariants.{Ld, St, End}
 use Rattle.dma_mem.specs.Places.{Descriptor, destinations}
 use Rattle.dma_mem.specs.Marking.{MarkList}
-use Rattle.dma_mem.specs.declared.marks.MarkKind.TheVariants.{Reading, Writing}
 use Rattle.dma_chan.specs.declared.bus.Bus.{Bus}
 use Rattle.dma_chan.specs.declared.exec.Registers.{Registers}
 use Rattle.dma_chan.specs.declared.turn.ChanTurn.{ChanTurn}
-use Rattle.dma_chan.specs.declared.turn.ChanTurn.TheVariants.{Moved, Waiting, Ended, Fault}
+use Rattle.dma_chan.specs.declared.turn.ChanTurn.TheVariants.{Moved, Ended}
 use Rattle.dma_chan.specs.declared.turn.FaultKind.{FaultKind}
-use Rattle.dma_chan.specs.Bursts.{burst_len, touched, reaches}
-use Rattle.dma_chan.specs.Exec.{State, source_of, destination_of, counter_of, act, exec_fetched, buffer_size, moved}
+use Rattle.dma_chan.specs.Bursts.{touched}
+use Rattle.dma_chan.specs.Exec.{State, act, destination_of, exec_fetched, moved}
 use Rattle.dma_chan.specs.Channel.{ChannelValue, ahead_of, bytes_of_program, state_of, step_of, after_turn, stored_by}
 use Rattle.dma_chan.specs.Explains.{Executes, Explains, GoesOn, IsIn, StartsWith, Trace, after_fetch, after_insn, next_in, traced}
-use Rattle.dma_chan.specs.Bus.{accepts}
 use Rattle.dma_chan.specs.Next.{next_of}
 use Rattle.dma_chan.specs.NextWrites.{written_by, written_next}
 use Rattle.dma_chan.specs.Programs.{ProgramValue}
 use Rattle.dma_chan.specs.Stepping.{Machine, answer_at, after_step, after_steps, goes_on_after, written_after}
 use Rattle.dma_chan.specs.CallWrites.{CallWritesNoOther, LoadExecutes, CallStaysIn}
+use Rattle.dma_chan.proofs.ActCases.{act_cases}
 use Rattle.dma_chan.proofs.GoingOn.{Can, can_next, few_at}
 use Rattle.dma_chan.proofs.Longer.{next_longer}
 use Rattle.dma_chan.proofs.ShapeLaws.{is_store}
@@ -42,26 +40,17 @@ call_writes_no_other marks s most taken last after h = kept_outside marks s afte
 abbrev Leads : Registers → ChanTurn × State → Type 0
 Leads r x = x.0 ≡ Moved → x.1.registers ≡ r
 
-either : (b : Bool) (r : Registers) (x y : ChanTurn × State) → Leads r x → Leads r y → Leads r (cond b x y)
-either true r x y f g = f
-either false r x y f g = g
-
 pub act_leads : (marks : MarkList) (i : Insn) (s : State) → Leads (moved i s.registers) (act marks i s)
-act_leads marks (Mov Sar v) s = λ e. refl
-act_leads marks (Mov Dar v) s = λ e. refl
-act_leads marks (Mov Ccr v) s = either (accepts s.registers.bus v) _ _ _ (λ e. refl) (λ e. absurd (cc))
-act_leads marks Ld s =
-    either (nat_lt buffer_size (length s.buffer + burst_len (source_of s.registers))) _ _ _ (λ e. absurd (cc)) (either (reaches Reading marks (length s.image) (touched (source_of s.registers))) _ _ _ (λ e. refl) (λ e. absurd (cc)))
-act_leads marks St s =
-    either (nat_lt (length s.buffer) (burst_len (destination_of s.registers))) _ _ _ (λ e. absurd (cc)) (either (reaches Writing marks (length s.image) (touched (destination_of s.registers))) _ _ _ (λ e. refl) (λ e. absurd (cc)))
-act_leads marks (Lp c n) s = λ e. refl
-act_leads marks (LpEnd c back) s = either (nat_lt 0 (counter_of c s.registers) && nat_lt s.registers.pc back) _ _ _ (λ e. absurd (cc)) (λ e. refl)
-act_leads marks (Sev n) s = λ e. refl
-act_leads marks (Wfe n v) s = either (slice_index_or s.flags n false) _ _ _ (λ e. refl) (λ e. absurd (cc))
-act_leads marks Rmb s = λ e. refl
-act_leads marks Wmb s = λ e. refl
-act_leads marks Nop s = λ e. refl
-act_leads marks End s = λ e. absurd (cc)
+act_leads marks i s =
+    act_cases (Leads (moved i s.registers)) marks i s (λ _ e. absurd (cc)) (λ _. record {
+      moves = λ e. refl;
+      loads = λ e. refl;
+      stores = λ _ _ e. refl;
+      sets = λ _ _ e. refl;
+      takes = λ _ _ _ e. refl;
+      waits = λ _ _ _ _ e. absurd (cc);
+      ends = λ e. absurd (cc);
+    })
 
 -- ---- a channel that executes a program that copies
 
@@ -92,21 +81,11 @@ ends_then marks u ahead = ap (λ (x : ChanTurn × State). x.0) (does_next marks 
 
 registers_after : (i : Insn) (x : Trace) → (after_insn i x).registers ≡ moved i x.registers
 registers_after Ld x = refl
-registers_after St x = refl
 registers_after i x = refl
 
 none_written : (i : Insn) (r : Registers) (a : ℕ) → i ≢ St → ¬ Contains (written_by (Ok i) r) a
 none_written St r a ne w = ne refl
-none_written Ld r a ne w = omega (arith, w.1)
-none_written (Mov x v) r a ne w = omega (arith, w.1)
-none_written Rmb r a ne w = omega (arith, w.1)
-none_written Wmb r a ne w = omega (arith, w.1)
-none_written Nop r a ne w = omega (arith, w.1)
-none_written End r a ne w = omega (arith, w.1)
-none_written (Lp c n) r a ne w = omega (arith, w.1)
-none_written (LpEnd c b) r a ne w = omega (arith, w.1)
-none_written (Sev e) r a ne w = omega (arith, w.1)
-none_written (Wfe e v) r a ne w = omega (arith, w.1)
+none_written i r a ne w = omega (arith, w.1)
 
 module _ (bus : Bus) (program : List ℕ) (t : Descriptor) (n : ℕ) (h : Explains bus program t n) where
   fetched : (k : ℕ) → k < n → (r : Result Insn FaultKind) → next_in program (traced bus program k) ≡ r → GoesOn r (traced bus program k) → Nexts bus program t n k
@@ -171,9 +150,8 @@ module _ (bus : Bus) (program : List ℕ) (t : Descriptor) (n : ℕ) (h : Explai
 
   after_one : (marks : MarkList) (k : ℕ) (u : Machine) (turn : ChanTurn) → IsIn bus program n k u.channel → answer_at marks u ≡ turn → Executes bus program n (after_step marks u).channel ⊎ ((after_step marks u).channel.program ≡ None)
   after_one marks k u Moved w e = inl (suc k, moved_in marks k u w e)
-  after_one marks k u (Waiting x) w e = inl (k, subst (IsIn bus program n k) (sym (turned marks u (Waiting x) e)) w)
-  after_one marks k u (Fault x) w e = inl (k, subst (IsIn bus program n k) (sym (turned marks u (Fault x) e)) w)
   after_one marks k u Ended w e = inr (ap (λ (c : ChannelValue). c.program) (turned marks u Ended e))
+  after_one marks k u turn w e = inl (k, subst (IsIn bus program n k) (sym (turned marks u turn e)) w)
 
   -- steps that all moved
   pub many_in : (marks : MarkList) (s : Machine) (j : ℕ) → Executes bus program n s.channel → ((k : ℕ) → k < suc j → goes_on_after marks s k ≡ true) → Executes bus program n (after_steps marks s j).channel

@@ -1,11 +1,11 @@
 -- Calls that step a channel with a program that copies, over a memory that others write between them.
-use Rattle.std.proofs.Common.{◌≡◌, ◌≢◌, ℕ, zero, suc, ◌+◌, ◌<◌, ◌⊎◌, true, false, true≢false, List, take, drop, length, get_or, Option, Some, None, Result, Ok, Err, refl, sym, ap, ◌∙◌, subst, arith, inl, inr}
+use Rattle.std.proofs.Common.{◌≡◌, ◌≢◌, ℕ, zero, suc, ◌+◌, ◌<◌, ◌⊎◌, true, false, true≢false, List, take, drop, length, get_or, Option, Some, None, Result, Ok, refl, sym, ap, ◌∙◌, subst, arith, inl, inr}
 use Rattle.std.specs.Prelude.{IsSome}
 use Rattle.std.specs.List.{Contains}
 use Rattle.std.proofs.lemmas.Bool.{false≢true, false_from_ne_true}
 use Rattle.std.proofs.lemmas.List.Folds.{Any-from_list_any}
 use Rattle.dma_insn.specs.declared.insn.Insn.{Insn}
-use Rattle.dma_insn.specs.declared.insn.Insn.TheVariants.{Mov, Ld, St, Rmb, Wmb, Nop, End, Lp, LpEnd, Sev, Wfe}
+use Rattle.dma_insn.specs.declared.insn.Insn.TheVariants.{End, Sev}
 use Rattle.dma_mem.specs.Places.{Descriptor, size_of}
 use Rattle.dma_mem.specs.Image.{laid}
 use Rattle.dma_mem.specs.Marking.{MarkList, is_marked, meets_mark}
@@ -57,18 +57,8 @@ not_none o some e = let bad = e in let w = some in grind arith
 
 -- only a DMASEV signals
 is_signal : (next : Result Insn FaultKind) (e : ℕ) → signal_of next ≡ Some e → next ≡ Ok (Sev e)
-is_signal (Err kind) e h = absurd (cc)
 is_signal (Ok (Sev d)) e h = let same : d ≡ e = cc in ap (λ (k : ℕ). Ok (Sev k)) same
-is_signal (Ok (Wfe d v)) e h = absurd (cc)
-is_signal (Ok (Mov r v)) e h = absurd (cc)
-is_signal (Ok (Lp c n)) e h = absurd (cc)
-is_signal (Ok (LpEnd c b)) e h = absurd (cc)
-is_signal (Ok Ld) e h = absurd (cc)
-is_signal (Ok St) e h = absurd (cc)
-is_signal (Ok Rmb) e h = absurd (cc)
-is_signal (Ok Wmb) e h = absurd (cc)
-is_signal (Ok Nop) e h = absurd (cc)
-is_signal (Ok End) e h = absurd (cc)
+is_signal next e h = absurd (cc)
 
 module _ (bus : Bus) (program : List ℕ) (t : Descriptor) (n : ℕ) (first : List ℕ) where
   -- a channel into which the program was just loaded, over the first memory
@@ -77,19 +67,13 @@ module _ (bus : Bus) (program : List ℕ) (t : Descriptor) (n : ℕ) (first : Li
 
   -- a channel that still has a program is not finished
   pub goes : (last : Option ChanTurn) (v : Machine) → Leads bus program t n first last v → IsSome v.channel.program → Runs bus program t n first v
-  goes None v r some = r
-  goes (Some Moved) v r some = r
-  goes (Some (Waiting x)) v r some = r
-  goes (Some (Fault kind)) v r some = r
   goes (Some Ended) v d some = absurd (let bad = d.dropped in let w = some in grind arith)
+  goes last v r some = r
 
   -- after a call the channel is not finished, or it has ended
   pub either_way : (last : Option ChanTurn) (v : Machine) → Leads bus program t n first last v → Runs bus program t n first v ⊎ (v.channel.program ≡ None)
-  either_way None v r = inl r
-  either_way (Some Moved) v r = inl r
-  either_way (Some (Waiting x)) v r = inl r
-  either_way (Some (Fault kind)) v r = inl r
   either_way (Some Ended) v d = inr d.dropped
+  either_way last v r = inl r
 
   -- what others do between two calls
   pub survived : (v w : Machine) → Runs bus program t n first v → w.channel ≡ v.channel → ((a : ℕ) → Touches t a → get_or w.image a 0 ≡ get_or v.image a 0) → Fits t (length w.image) → Runs bus program t n first w
@@ -117,8 +101,7 @@ module _ (bus : Bus) (program : List ℕ) (t : Descriptor) (n : ℕ) (marks : Ma
   one : (k : ℕ) (u : Machine) (turn : ChanTurn) → Among bus program t n first k u.image u.channel → answer_at marks u ≡ turn → Leads bus program t n first (Some turn) (after_step marks u)
   one k u Moved w e = (suc k, moved_on k u w e)
   one k u Ended w e = let over = after k u Ended e w in record { dropped = over.dropped; stored = over.stored; all = over.all }
-  one k u (Waiting x) w e = still k u w (subst ChangesNothing (sym e) tt)
-  one k u (Fault kind) w e = still k u w (subst ChangesNothing (sym e) tt)
+  one k u turn w e = still k u w (subst ChangesNothing (sym e) tt)
 
   -- after steps of which each moved
   pub many : (j : ℕ) (s : Machine) → Runs bus program t n first s → ((k : ℕ) → k < suc j → goes_on_after marks s k ≡ true) → Runs bus program t n first (after_steps marks s j)

@@ -349,12 +349,5 @@ end_of rises s k = record { increments = rises; size = s; beats = k; protection 
 pub both_ends : (rises : Bool) (s : BeatSize) (k : ℕ) → bits_of (record { src = end_of rises s k; dst = end_of true s k }) ≡ control_word (not rises) (beat_bytes s) k
 unfolding bits_of end_bits
 both_ends false One k = omega arith
-both_ends false Two k = omega arith
-both_ends false Four k = omega arith
-both_ends false Eight k = omega arith
-both_ends false Sixteen k = omega arith
 both_ends true One k = omega arith
-both_ends true Two k = omega arith
-both_ends true Four k = omega arith
-both_ends true Eight k = omega arith
-both_ends true Sixteen k = omega arith
+both_ends rises s k = omega arith

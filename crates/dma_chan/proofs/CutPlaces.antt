@@ -1,8 +1,8 @@
 -- Two lists of segments, cut into pieces. The pieces have the places of both lists, in order, and there are fewer
 -- pieces than segments.
-use Rattle.std.proofs.Common.{◌≡◌, ℕ, zero, suc, ◌+◌, ◌-◌, ◌^◌, ◌≤◌, ◌<◌, Bool, true, false, cond, ltb, List, [], ◌∷◌, ◌++◌, length, refl, sym, ap, ◌∙◌, arith, append_assoc, append-nil, length-append}
+use Rattle.std.proofs.Common.{◌≡◌, ℕ, zero, suc, ◌+◌, ◌-◌, ◌^◌, ◌≤◌, ◌<◌, Bool, true, false, ltb, List, [], ◌∷◌, ◌++◌, length, refl, sym, ap, ◌∙◌, arith, append_assoc, append-nil, length-append}
 use Rattle.std.specs.List.{AllByRecursion, range_with_len}
-use Rattle.std.proofs.lemmas.Bool.{ltb-true, ltb-false}
+use Rattle.std.proofs.lemmas.Bool.{cond_both, ltb-true, ltb-false}
 use Rattle.std.specs.Prelude.{replicate}
 use Rattle.std.proofs.lemmas.List.{length-replicate, replicate-append-replicate}
 use Rattle.std.proofs.lemmas.List.FromFn.{length-range_with_len}
@@ -85,14 +85,10 @@ record Cut (a n : ℕ) (ds : List Segment) (r : List Piece × List Segment) : Ty
   few : length r.0 + length r.1 ≤ length ds + 1
   last : byte_count r.1 ≡ 0 → length r.0 + length r.1 ≤ length ds
 
-by_test : {A : Type 0} (P : A → Type 0) (t : Bool) (x y : A) → (t ≡ true → P x) → (t ≡ false → P y) → P (cond t x y)
-by_test P true x y f g = f refl
-by_test P false x y f g = g refl
-
 cut_right : (a n : ℕ) (ds : List Segment) → 0 < n → n ≤ 2 ^ 20 → a + n ≤ 2 ^ 32 → n ≤ byte_count ds → AllByRecursion IsRange ds → Cut a n ds (cut_one a n ds)
 cut_right a n [] some below fits enough all = absurd (omega arith)
 cut_right a n (d ∷ ds) some below fits enough all =
-    by_test (Cut a n (d ∷ ds)) (ltb n d.len) _ _ (λ t.
+    cond_both (ltb n d.len) _ _ (Cut a n (d ∷ ds)) (λ t.
     let less : n < d.len = ltb-true n d.len t in
     let split : range_with_len d.addr d.len ≡ range_with_len d.addr n ++ range_with_len (d.addr + n) (d.len - n) = let e : d.len ≡ n + (d.len - n) = omega arith in ap (range_with_len d.addr) e ∙ range_add d.addr n (d.len - n) in
     record {
@@ -105,7 +101,7 @@ cut_right a n (d ∷ ds) some below fits enough all =
       last = λ z. absurd (omega arith);
     }) (λ t.
     let more : d.len ≤ n = ltb-false n d.len t in
-    by_test (Cut a n (d ∷ ds)) (ltb d.len n) _ _ (λ u.
+    cond_both (ltb d.len n) _ _ (Cut a n (d ∷ ds)) (λ u.
     let less : d.len < n = ltb-true d.len n u in
     let r = cut_right (a + d.len) (n - d.len) ds (omega arith) (omega arith) (omega arith) (omega arith) all.1 in
     let split : range_with_len a n ≡ range_with_len a d.len ++ range_with_len (a + d.len) (n - d.len) = let e : n ≡ d.len + (n - d.len) = omega arith in ap (range_with_len a) e ∙ range_add a d.len (n - d.len) in

@@ -4,8 +4,8 @@ use Rattle.std.specs.Prelude.{◌==◌, if◌then◌else◌, nat_lt, not}
 use Rattle.std.proofs.lemmas.Bool.{le-ltb, lt-ltb, ltb-false, cases_lt, true≢false}
 use Rattle.std.proofs.lemmas.List.FromFn.{length-range_with_len}
 use Rattle.dma_insn.specs.declared.insn.Insn.{Insn}
-use Rattle.dma_insn.specs.declared.insn.Insn.TheVariants.{Mov, Ld, St, Rmb, Wmb, Nop, End, Lp, LpEnd, Sev, Wfe}
-use Rattle.dma_insn.specs.declared.insn.Reg.TheVariants.{Sar, Dar, Ccr}
+use Rattle.dma_insn.specs.declared.insn.Insn.TheVariants.{Mov, Ld, St, End, LpEnd}
+use Rattle.dma_insn.specs.declared.insn.Reg.TheVariants.{Ccr}
 use Rattle.dma_mem.specs.Places.{end_of_addresses}
 use Rattle.dma_chan.specs.declared.bursts.Burst.{Burst}
 use Rattle.dma_chan.specs.declared.bus.Bus.{Bus}
@@ -97,30 +97,15 @@ can St x few ne e =
       up.0,
     )
 can (Mov Ccr w) x few ne e = (none_second (accepts x.registers.bus w) (Fails OperandInvalid) _ e).0
-can (Mov Sar v) x few ne e = tt
-can (Mov Dar v) x few ne e = tt
 can (LpEnd c back) x few ne e =
     no_jump (counter_of c x.registers) x.registers.pc back (none_first (nat_lt 0 (counter_of c x.registers) && nat_lt x.registers.pc back) (Fails InstrFetchErr) None e).0
 can End x few ne e = absurd (ne refl)
-can (Lp c n) x few ne e = tt
-can Rmb x few ne e = tt
-can Wmb x few ne e = tt
-can Nop x few ne e = tt
-can (Sev n) x few ne e = tt
-can (Wfe n v) x few ne e = tt
+can i x few ne e = tt
 
 few_insn : (i : Insn) (x : Trace) → Few x → Can i x → Few (after_insn i x)
 few_insn Ld x few c = omega (arith, few, length-append x.loads (touched (source_of x.registers)))
 few_insn St x few c = let b = destination_of x.registers in omega (arith, c.0, length-append x.stores (touched b), length_up b c.1)
-few_insn (Mov r v) x few c = few
-few_insn (Lp k n) x few c = few
-few_insn (LpEnd k b) x few c = few
-few_insn Rmb x few c = few
-few_insn Wmb x few c = few
-few_insn Nop x few c = few
-few_insn End x few c = few
-few_insn (Sev e) x few c = few
-few_insn (Wfe e v) x few c = few
+few_insn i x few c = few
 
 pub can_next : (i : Insn) (x : Trace) → Few x → GoesOn (Ok i) x → Can i x
 can_next i x few go = can i x few (λ e. go.0 (ap (λ (j : Insn). Ok j) e)) go.1

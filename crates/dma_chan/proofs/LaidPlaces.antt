@@ -1,5 +1,5 @@
 -- The first bytes of a transfer laid over an image, place by place.
-use Rattle.std.proofs.Common.{◌≡◌, ◌≢◌, ℕ, zero, suc, ◌<◌, List, [], ◌∷◌, length, take, get_or, Option, Some, false, refl, sym, ap, ◌∙◌, arith, eq-eqb, inr}
+use Rattle.std.proofs.Common.{◌≡◌, ◌≢◌, ℕ, zero, suc, ◌<◌, List, ◌∷◌, length, take, get_or, Option, Some, false, refl, sym, ap, ◌∙◌, arith, eq-eqb, inr}
 use Rattle.std.specs.Prelude.{nat_eq, unwrap_or}
 use Rattle.std.specs.List.{AllPairs, zip}
 use Rattle.std.specs.Map.{lookup}
@@ -16,14 +16,12 @@ use Rattle.dma_chan.proofs.AmongOthers.{Fits, touched_below}
 
 -- the move with this number is found by its destination
 found : (image ds ss : List ℕ) (k p : ℕ) → AllPairs (λ a b. a ≢ b) ds → length ss ≡ length ds → p < k → p < length ds → lookup (nat_eq (get_or ds p 0)) (carried image (take k (zip ds ss))) ≡ Some (get_or image (get_or ss p 0) 0)
-found image [] ss k p once long low within = absurd (omega arith)
-found image (d ∷ ds) [] k p once long low within = absurd (omega arith)
-found image (d ∷ ds) (s ∷ ss) zero p once long low within = absurd (omega arith)
 found image (d ∷ ds) (s ∷ ss) (suc k) zero once long low within = rw (eq-eqb d d refl) refl
 found image (d ∷ ds) (s ∷ ss) (suc k) (suc p) once long low within =
     let other : nat_eq (get_or ds p 0) d ≡ false = false_from_ne_true _ (λ e. once 0 (suc p) 0 (omega arith) (omega arith) (sym (eqb-true (get_or ds p 0) d e))) in
     let later = found image ds ss k p (λ i j x l m. once (suc i) (suc j) x (omega arith) (omega arith)) (omega arith) (omega arith) (omega arith) in
     rw other later
+found image ds ss k p once long low within = absurd (omega arith)
 
 pub laid_by_fits : (t : Descriptor) (first : List ℕ) (k : ℕ) → IsCopy t → Fits t (length first) → HasFirst t k (bytes_in first) (bytes_in (laid first t k))
 unfolding after_moves

@@ -3,6 +3,7 @@ pub mod BurstReach
 pub mod BurstRounds
 pub mod LoopEnds
 pub mod NextFits
+pub mod ActCases
 pub mod WaitsAndFaults
 pub mod RunAlone
 pub mod RunPages
@@ -47,6 +48,7 @@ pub mod BusKept
 pub mod AddressesAligned
 pub mod ExplainedAlone
 pub mod RunLists
+pub mod LowestPlaces
 pub mod TracerSteps
 pub mod Explaining
 pub mod Turns

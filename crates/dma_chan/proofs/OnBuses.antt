@@ -1,12 +1,13 @@
 -- A run without memory is the same on each bus, but for the bus, if its bursts begin at multiples of their beats'
 -- sizes.
-use Rattle.std.proofs.Common.{◌≡◌, ℕ, zero, suc, ◌+◌, ◌≤◌, ◌&&◌, Bool, true, false, cond, List, ◌++◌, Some, None, Result, Ok, Err, refl, sym, ap, ◌∙◌, subst, arith}
+use Rattle.std.proofs.Common.{◌≡◌, ℕ, zero, suc, ◌+◌, ◌≤◌, Bool, true, cond, List, ◌++◌, Some, None, Result, Ok, Err, refl, sym, ap, ◌∙◌, subst, arith}
+use Rattle.std.proofs.lemmas.Bool.{and_from, and_parts}
 use Rattle.dma_insn.specs.ControlWord.{is_control}
 use Rattle.dma_insn.specs.declared.insn.Counter.{Counter}
 use Rattle.dma_insn.specs.declared.insn.Counter.TheVariants.{Lc0, Lc1}
 use Rattle.dma_insn.specs.declared.insn.Reg.TheVariants.{Sar, Dar, Ccr}
 use Rattle.dma_insn.specs.declared.insn.Insn.{Insn}
-use Rattle.dma_insn.specs.declared.insn.Insn.TheVariants.{Mov, Ld, St, Rmb, Wmb, Nop, End, Lp, LpEnd, Sev, Wfe}
+use Rattle.dma_insn.specs.declared.insn.Insn.TheVariants.{Mov, Ld, St, Lp, LpEnd}
 use Rattle.std.specs.Prelude.{nat_lt}
 use Rattle.dma_chan.specs.declared.bus.Bus.{Bus}
 use Rattle.dma_chan.specs.declared.bus.Bus.TheVariants.{Ideal}
@@ -31,9 +32,8 @@ module _ (bus : Bus) where
   trace_on x = record x { registers = registers_on x.registers }
 
   looped_on : (k : ℕ) (c : Counter) (back : ℕ) (r : Registers) → looped k c back (registers_on r) ≡ registers_on (looped k c back r)
-  looped_on zero c back r = refl
   looped_on (suc k) Lc0 back r = refl
-  looped_on (suc k) Lc1 back r = refl
+  looped_on k c back r = refl
 
   -- a burst at a multiple of its beat's size is the same on the bus
   source_on : (r : Registers) → IsAligned (source_of r) → source_of (registers_on r) ≡ source_of r
@@ -43,11 +43,6 @@ module _ (bus : Bus) where
   destination_on r aligned = sym (same_burst r.bus bus 14 r.dar r.ccr aligned)
 
   insn_on : (i : Insn) (x : Trace) → MovesAligned (Ok i) x.registers → after_insn i (trace_on x) ≡ trace_on (after_insn i x)
-  insn_on (Mov Sar v) x a = refl
-  insn_on (Mov Dar v) x a = refl
-  insn_on (Mov Ccr v) x a = refl
-  insn_on (Lp Lc0 n) x a = refl
-  insn_on (Lp Lc1 n) x a = refl
   insn_on (LpEnd Lc0 back) x a =
       ap (λ (r : Registers). record x { registers = r }) (looped_on x.registers.lc0 Lc0 back x.registers)
   insn_on (LpEnd Lc1 back) x a =
@@ -58,6 +53,8 @@ module _ (bus : Bus) where
   insn_on St x a =
       let r = registers_on x.registers in
       ap (λ (b : Burst). record { registers = past St (record r { dar = wrapped (r.dar + advance b) }); loads = x.loads; stores = x.stores ++ touched b }) (destination_on x.registers a)
+  insn_on (Mov Sar v) x a = refl
+  insn_on (Lp Lc0 n) x a = refl
   insn_on i x a = refl
 
   fetch_on : (r : Result Insn FaultKind) (x : Trace) → MovesAligned r x.registers → after_fetch r (trace_on x) ≡ trace_on (after_fetch r x)
@@ -71,37 +68,18 @@ module _ (bus : Bus) where
       ap (λ (y : Trace). after_fetch (next_in program y) y) (traced_on program n (λ k l. a k (omega arith)))
       ∙ fetch_on (next_in program x) x (a n (omega arith))
 
-  both : (a b : Bool) → a ≡ true → b ≡ true → (a && b) ≡ true
-  both true b e f = f
-  both false b e f = e
-
-  ideal : (b : Bus) (v : ℕ) → accepts b v ≡ true → is_control v ≡ true
-  ideal b v e = by (fits b v) (is_control v) e
-    where
-      by : (c d : Bool) → (c && d) ≡ true → d ≡ true
-      by true d f = f
-      by false true f = refl
-      by false false f = f
-
   goes_on : (i : Insn) (x : Trace) → fits_bus bus (Ok i) ≡ true → MovesAligned (Ok i) x.registers → SetsEmpty (Ok i) (held x) → stop_of_insn i x ≡ None → stop_of_insn i (trace_on x) ≡ None
   goes_on (Mov Ccr v) x f a d g =
-      let valid = ideal x.registers.bus v (none_second (accepts x.registers.bus v) (Fails OperandInvalid) _ g).0 in
-      ap (λ (b : Bool). cond b (stop_of_mov (Mov Ccr v) (trace_on x)) (Some (Fails OperandInvalid))) (both (fits bus v) (is_control v) f valid) ∙ mov_empty (Mov Ccr v) (trace_on x) d
+      let valid = (and_parts (fits x.registers.bus v) (is_control v) (none_second (accepts x.registers.bus v) (Fails OperandInvalid) _ g).0).1 in
+      ap (λ (b : Bool). cond b (stop_of_mov (Mov Ccr v) (trace_on x)) (Some (Fails OperandInvalid))) (and_from (fits bus v) (is_control v) f valid) ∙ mov_empty (Mov Ccr v) (trace_on x) d
   goes_on (Mov Sar v) x f a d g = refl
   goes_on (Mov Dar v) x f a d g = mov_empty (Mov Dar v) (trace_on x) d
   goes_on Ld x f a d g =
       subst (λ (b : Burst). cond (nat_lt buffer_size (held x + burst_len b)) (Some (Fails MfifoErr)) (cond (passes b) (Some LoadsPast) None) ≡ None) (sym (source_on x.registers a)) g
   goes_on St x f a d g =
       subst (λ (b : Burst). cond (nat_lt (held x) (burst_len b)) (Some (Fails StDataUnavailable)) (cond (passes b) (Some StoresPast) (cond b.increments None (Some StoresFixed))) ≡ None) (sym (destination_on x.registers a)) g
-  goes_on (Lp c n) x f a d g = g
   goes_on (LpEnd Lc0 back) x f a d g = g
-  goes_on (LpEnd Lc1 back) x f a d g = g
-  goes_on (Sev e) x f a d g = g
-  goes_on (Wfe e v) x f a d g = g
-  goes_on Rmb x f a d g = g
-  goes_on Wmb x f a d g = g
-  goes_on Nop x f a d g = g
-  goes_on End x f a d g = g
+  goes_on i x f a d g = g
 
   goes_next : (r : Result Insn FaultKind) (x : Trace) → fits_bus bus r ≡ true → MovesAligned r x.registers → SetsEmpty r (held x) → GoesOn r x → GoesOn r (trace_on x)
   goes_next (Ok i) x f a d g = (g.0, goes_on i x f a d g.1)

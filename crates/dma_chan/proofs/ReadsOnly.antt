@@ -7,8 +7,8 @@ use Rattle.std.proofs.lemmas.Bool.{cases_lt}
 use Rattle.std.proofs.lemmas.List.{get_or_past}
 use Rattle.std.proofs.lemmas.List.Elements.{Contains-append_left, Contains-append_right}
 use Rattle.dma_insn.specs.declared.insn.Insn.{Insn}
-use Rattle.dma_insn.specs.declared.insn.Insn.TheVariants.{Mov, Ld, St, Rmb, Wmb, Nop, End, Lp, LpEnd, Sev, Wfe}
-use Rattle.dma_insn.specs.declared.insn.Reg.TheVariants.{Sar, Ccr, Dar}
+use Rattle.dma_insn.specs.declared.insn.Insn.TheVariants.{Mov, Ld, St, End, LpEnd, Sev, Wfe}
+use Rattle.dma_insn.specs.declared.insn.Reg.TheVariants.{Ccr}
 use Rattle.dma_mem.specs.Image.{put}
 use Rattle.dma_mem.specs.Places.{Descriptor, sources}
 use Rattle.dma_mem.specs.Marking.{MarkList}
@@ -18,7 +18,7 @@ use Rattle.dma_mem.proofs.PageImages.{put_none}
 use Rattle.dma_chan.specs.declared.bus.Bus.{Bus}
 use Rattle.dma_chan.specs.declared.exec.Registers.{Registers}
 use Rattle.dma_chan.specs.declared.turn.ChanTurn.{ChanTurn}
-use Rattle.dma_chan.specs.declared.turn.ChanTurn.TheVariants.{Moved, Waiting, Ended, Fault}
+use Rattle.dma_chan.specs.declared.turn.ChanTurn.TheVariants.{Moved}
 use Rattle.dma_chan.specs.declared.turn.FaultKind.{FaultKind}
 use Rattle.dma_chan.specs.Bursts.{burst_len, touched, writes_of, reaches}
 use Rattle.dma_chan.specs.Bus.{accepts}
@@ -52,8 +52,6 @@ either true x y p q r s h k = h
 either false x y p q r s h k = k
 
 act_alike : (marks : MarkList) (i : Insn) (r : Registers) (buffer x y : List ℕ) (flags : List Bool) → AgreeAt (read_by (Ok i) r) x y → Alike x y (act marks i (state r buffer x flags)) (act marks i (state r buffer y flags))
-act_alike marks (Mov Sar v) r buffer x y flags h = same _ _ buffer flags x y
-act_alike marks (Mov Dar v) r buffer x y flags h = same _ _ buffer flags x y
 act_alike marks (Mov Ccr v) r buffer x y flags h = either (accepts r.bus v) x y _ _ _ _ (same _ _ buffer flags x y) (same _ _ buffer flags x y)
 act_alike marks Ld r buffer x y flags h =
     let places = touched (source_of r) in
@@ -68,14 +66,10 @@ act_alike marks St r buffer x y flags h =
     (either (reaches Writing marks (length y) (touched b)) x y _ _ _ _
     (record { turn = refl; registers = refl; buffer = refl; flags = refl; writes = writes_of b (take (burst_len b) buffer); first = refl; second = refl })
     (same _ _ buffer flags x y)))
-act_alike marks (Lp c n) r buffer x y flags h = same _ _ buffer flags x y
 act_alike marks (LpEnd c back) r buffer x y flags h = either (nat_lt 0 (counter_of c r) && nat_lt r.pc back) x y _ _ _ _ (same _ _ buffer flags x y) (same _ _ buffer flags x y)
 act_alike marks (Sev e) r buffer x y flags h = same _ _ buffer _ x y
 act_alike marks (Wfe e v) r buffer x y flags h = either (slice_index_or flags e false) x y _ _ _ _ (same _ _ buffer _ x y) (same _ _ buffer flags x y)
-act_alike marks Rmb r buffer x y flags h = same _ _ buffer flags x y
-act_alike marks Wmb r buffer x y flags h = same _ _ buffer flags x y
-act_alike marks Nop r buffer x y flags h = same _ _ buffer flags x y
-act_alike marks End r buffer x y flags h = same _ _ buffer flags x y
+act_alike marks i r buffer x y flags h = same _ _ buffer flags x y
 
 fetched_alike : (marks : MarkList) (next : Result Insn FaultKind) (r : Registers) (buffer x y : List ℕ) (flags : List Bool) → AgreeAt (read_by next r) x y → Alike x y (exec_fetched marks next (state r buffer x flags)) (exec_fetched marks next (state r buffer y flags))
 fetched_alike marks (Ok i) r buffer x y flags h = act_alike marks i r buffer x y flags h
@@ -83,9 +77,7 @@ fetched_alike marks (Err kind) r buffer x y flags h = same _ _ buffer flags x y
 
 turned_alike : (turn : ChanTurn) (s u : State) (n : ℕ) (c : ChannelValue) → s.registers ≡ u.registers → s.buffer ≡ u.buffer → after_turn turn s n c ≡ after_turn turn u n c
 turned_alike Moved s u n c e f = rw (e, f) refl
-turned_alike Ended s u n c e f = refl
-turned_alike (Waiting x) s u n c e f = refl
-turned_alike (Fault kind) s u n c e f = refl
+turned_alike turn s u n c e f = refl
 
 pub reads_no_other : ReadsNoOther
 reads_no_other marks c x y flags h =
@@ -123,16 +115,7 @@ module _ (bus : Bus) (program : List ℕ) (t : Descriptor) (n : ℕ) (h : Explai
 
   insn_reads : (k a : ℕ) (i : Insn) → k < n → next_in program (traced bus program k) ≡ Ok i → Contains (read_by (Ok i) (traced bus program k).registers) a → Contains (sources t) a
   insn_reads k a Ld less next j = load_in k a less next j
-  insn_reads k a St less next j = absurd (omega (arith, j.1))
-  insn_reads k a (Mov x v) less next j = absurd (omega (arith, j.1))
-  insn_reads k a Rmb less next j = absurd (omega (arith, j.1))
-  insn_reads k a Wmb less next j = absurd (omega (arith, j.1))
-  insn_reads k a Nop less next j = absurd (omega (arith, j.1))
-  insn_reads k a End less next j = absurd (omega (arith, j.1))
-  insn_reads k a (Lp c m) less next j = absurd (omega (arith, j.1))
-  insn_reads k a (LpEnd c b) less next j = absurd (omega (arith, j.1))
-  insn_reads k a (Sev e) less next j = absurd (omega (arith, j.1))
-  insn_reads k a (Wfe e v) less next j = absurd (omega (arith, j.1))
+  insn_reads k a i less next j = absurd (omega (arith, j.1))
 
   next_reads : (k : ℕ) (c : ChannelValue) (a : ℕ) → IsIn bus program n k c → Nexts bus program t n k → Contains (read_next c) a → Contains (sources t) a
   next_reads k c a w (Ends e next) j = let none : Contains (read_by (Ok End) (traced bus program k).registers) a = reads_at k c a End w next j in absurd (omega (arith, none.1))

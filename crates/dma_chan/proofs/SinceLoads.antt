@@ -10,7 +10,7 @@ use Rattle.dma_mem.specs.Places.{Descriptor, destinations, sources}
 use Rattle.dma_mem.specs.Image.{laid}
 use Rattle.dma_chan.specs.declared.bus.Bus.{Bus}
 use Rattle.dma_chan.specs.declared.turn.ChanTurn.{ChanTurn}
-use Rattle.dma_chan.specs.declared.turn.ChanTurn.TheVariants.{Moved, Waiting, Ended, Fault}
+use Rattle.dma_chan.specs.declared.turn.ChanTurn.TheVariants.{Ended}
 use Rattle.dma_chan.specs.Channel.{ChannelValue}
 use Rattle.dma_chan.specs.Stepping.{Machine}
 use Rattle.dma_chan.specs.Written.{LiesIn}
@@ -42,11 +42,8 @@ module _ (bus : Bus) (program : List ℕ) (t : Descriptor) (n : ℕ) (first : Li
   runs_laid v r a touches = r.1.mirrors.same a touches ∙ ap (λ (k : ℕ). get_or (laid first t k) a 0) (sym r.1.stored)
 
   leads_laid : (o : Option ChanTurn) (v : Machine) → Leads bus program t n first o v → IsLaid v
-  leads_laid None v r = runs_laid v r
-  leads_laid (Some Moved) v r = runs_laid v r
-  leads_laid (Some (Waiting x)) v r = runs_laid v r
-  leads_laid (Some (Fault kind)) v r = runs_laid v r
   leads_laid (Some Ended) v d = λ a touches. d.all a touches ∙ ap (λ (k : ℕ). get_or (laid first t k) a 0) (sym d.stored)
+  leads_laid o v r = runs_laid v r
 
   has_first : (o : Option ChanTurn) (v : Machine) → Leads bus program t n first o v → HasFirst t v.channel.stored (bytes_in first) (bytes_in v.image)
   has_first o v r =
@@ -246,9 +243,8 @@ one (Calls c) before after s v takes gives holds ch = elim (cases_eq ch c.channe
 ]
 
 apart_alone : (t : Descriptor) (ch : ℕ) (own : ℕ → Option Descriptor) (change : Change) (s v : System) → Does change s v → ((d : ℕ) → Holds (own d) (s.channels d)) → IsApart t ch own change s v → LeavesAlone t ch change s v
-apart_alone t ch own (Sets d c) s v does holds apart = apart
-apart_alone t ch own Guest s v does holds apart = apart
 apart_alone t ch own (Calls c) s v takes holds apart = (apart.0, λ ne. elsewhere c s v takes t (own c.channel) (holds c.channel) (apart.1 ne))
+apart_alone t ch own change s v does holds apart = apart
 
 module _ (own : ℕ → ℕ → Option Descriptor) (changes : ℕ → Change) (states : ℕ → System) (from count : ℕ) (does : DoesAll changes states from count) (have : HaveTransfers own changes states from count) where
   hold : (d : ℕ) → from + d ≤ count → (ch : ℕ) → Holds (own (from + d) ch) ((states (from + d)).channels ch)

@@ -1,15 +1,15 @@
 -- A run without memory, and one instruction of the machine beside it.
-use Rattle.std.proofs.Common.{◌≡◌, ℕ, zero, suc, ◌+◌, ◌-◌, ◌≤◌, ◌<◌, Bool, true, false, cond, ltb, ◌&&◌, List, [], ◌∷◌, ◌++◌, length, get_or, take, drop, refl, sym, ap, ◌∙◌, subst, arith, append_assoc, append-nil, length-append, inl, inr, Result, Ok, Err}
+use Rattle.std.proofs.Common.{◌≡◌, ℕ, zero, suc, ◌+◌, ◌-◌, ◌≤◌, ◌<◌, Bool, true, false, ltb, ◌&&◌, List, [], ◌∷◌, ◌++◌, length, get_or, take, drop, refl, sym, ap, ◌∙◌, subst, arith, append_assoc, append-nil, length-append, inl, inr, Result, Ok, Err}
 use Rattle.std.specs.Prelude.{not, nat_eq, nat_lt, slice_index, slice_index_or, slice_set, unwrap_or}
 use Rattle.std.specs.List.{Contains, range_with_len, zip}
 use Rattle.std.specs.Map.{keys_of, lookup}
-use Rattle.std.proofs.lemmas.Bool.{le-ltb, lt-ltb, cases_lt, true≢false}
+use Rattle.std.proofs.lemmas.Bool.{and_from, cond_both, le-ltb, lt-ltb, cases_lt, not_from_false, true≢false}
 use Rattle.std.proofs.lemmas.List.{map-append, drop-append-le, take_at, drop_at, drop-drop, length-drop, length-take-le, take-map, drop-map, take-append-le}
 use Rattle.std.proofs.lemmas.List.Elements.{Contains-append_left, Contains-append_right}
 use Rattle.std.proofs.Math.Seq.{take-add}
-use Rattle.dma_insn.specs.declared.insn.Reg.TheVariants.{Sar, Dar, Ccr}
+use Rattle.dma_insn.specs.declared.insn.Reg.TheVariants.{Ccr}
 use Rattle.dma_insn.specs.declared.insn.Insn.{Insn}
-use Rattle.dma_insn.specs.declared.insn.Insn.TheVariants.{Mov, Ld, St, Rmb, Wmb, Nop, End, Lp, LpEnd, Sev, Wfe}
+use Rattle.dma_insn.specs.declared.insn.Insn.TheVariants.{Mov, Ld, St, End, LpEnd, Sev, Wfe}
 use Rattle.dma_mem.specs.Image.{put, after_moves, carried, laid}
 use Rattle.dma_mem.specs.Places.{Descriptor, Apart, sources, destinations, moves}
 use Rattle.dma_mem.specs.Marking.{MarkList, is_marked}
@@ -115,27 +115,14 @@ length_laid first t k = length_after_moves first (moves t k)
 
 -- ---- where a burst isn't stopped
 
-test_all : (x y : Bool) → x ≡ true → y ≡ true → (x && y) ≡ true
-test_all true true e f = refl
-test_all true false e f = f
-test_all false y e f = absurd (cc)
-
-unmarked : (m : Bool) → m ≡ false → not m ≡ true
-unmarked false e = refl
-unmarked true e = absurd (cc)
-
 pub reaches_all : (kind : MarkKind) (marks : MarkList) (size : ℕ) (places : List ℕ) → ((a : ℕ) → Contains places a → a < size) → ((a : ℕ) → Contains places a → is_marked kind marks a ≡ false) → reaches kind marks size places ≡ true
 unfolding reaches
 reaches_all kind marks size [] low none = refl
 reaches_all kind marks size (a ∷ places) low none =
     let here : Contains (a ∷ places) a = (0, omega arith, refl) in
     let rest = λ (b : ℕ) (i : Contains places b). Contains-append_right (a ∷ []) places b i in
-    let one : (nat_lt a size && not (is_marked kind marks a)) ≡ true = test_all _ _ (lt-ltb a size (low a here)) (unmarked _ (none a here)) in
-    test_all _ _ one (reaches_all kind marks size places (λ b i. low b (rest b i)) (λ b i. none b (rest b i)))
-
-by_test : (P : ChanTurn × State → Type 0) (b : Bool) (x y : ChanTurn × State) → (b ≡ true → P x) → (b ≡ false → P y) → P (cond b x y)
-by_test P true x y f g = f refl
-by_test P false x y f g = g refl
+    let one : (nat_lt a size && not (is_marked kind marks a)) ≡ true = and_from _ _ (lt-ltb a size (low a here)) (not_from_false _ (none a here)) in
+    and_from _ _ one (reaches_all kind marks size places (λ b i. low b (rest b i)) (λ b i. none b (rest b i)))
 
 -- ---- the machine beside the run without memory
 
@@ -181,7 +168,7 @@ module _ (t : Descriptor) (first : List ℕ) (marks : MarkList) (copy : IsCopy t
       let source : (a : ℕ) → Contains new a → Contains (sources t) a =
       λ a i. subst (λ (xs : List ℕ). Contains xs a) (sym part.loads) (Contains-append_left (x.loads ++ new) part.loads_rest a (Contains-append_right x.loads new a i)) in
       let bytes : read_at image new ≡ read_at first new = read_at_agrees image first new (λ a i. m.same a (inl (source a i)) ∙ source_kept first t (length x.stores) a copy (source a i)) in
-      rw room (by_test (Answers t first marks Ld (after_insn Ld x)) (reaches Reading marks (length image) new) _ _ (λ e. record {
+      rw room (cond_both (reaches Reading marks (length image) new) _ _ (Answers t first marks Ld (after_insn Ld x)) (λ e. record {
         registers_are = refl;
         buffer_is =
             ap (λ (xs : List ℕ). xs ++ read_at image new) m.buffer_is
@@ -225,7 +212,7 @@ module _ (t : Descriptor) (first : List ℕ) (marks : MarkList) (copy : IsCopy t
       ∙ ap (zip (take n (drop k (destinations t)))) bytes in
       let count : length (x.stores ++ new) ≡ k + n = omega (arith, length-append x.stores new, long) in
       let base = laid first t k in
-      rw whole (by_test (Answers t first marks St (after_insn St x)) (reaches Writing marks (length image) new) _ _ (λ e. record {
+      rw whole (cond_both (reaches Writing marks (length image) new) _ _ (Answers t first marks St (after_insn St x)) (λ e. record {
         registers_are = refl;
         buffer_is = ap (drop n) m.buffer_is ∙ drop-drop n k (read_at first x.loads) ∙ ap (λ (j : ℕ). drop j (read_at first x.loads)) (sym count);
         few = omega (arith, c.0, count);
@@ -241,13 +228,8 @@ module _ (t : Descriptor) (first : List ℕ) (marks : MarkList) (copy : IsCopy t
   answers Ld part before c = load_answers part c
   answers St part before c = store_answers part before c
   answers (Mov Ccr v) part before c = rw c (quiet (Mov Ccr v) (moved (Mov Ccr v) x.registers) flags)
-  answers (Mov Sar v) part before c = quiet (Mov Sar v) (moved (Mov Sar v) x.registers) flags
-  answers (Mov Dar v) part before c = quiet (Mov Dar v) (moved (Mov Dar v) x.registers) flags
-  answers (Lp k n) part before c = quiet (Lp k n) (moved (Lp k n) x.registers) flags
   answers (LpEnd k back) part before c = rw (cannot_jump (counter_of k x.registers) x.registers.pc back (λ n. c (omega (arith, n)))) (quiet (LpEnd k back) (moved (LpEnd k back) x.registers) flags)
-  answers Rmb part before c = quiet Rmb (moved Rmb x.registers) flags
-  answers Wmb part before c = quiet Wmb (moved Wmb x.registers) flags
-  answers Nop part before c = quiet Nop (moved Nop x.registers) flags
   answers End part before c = absurd c
   answers (Sev e) part before c = quiet (Sev e) (moved (Sev e) x.registers) (slice_set flags e true)
-  answers (Wfe e v) part before c = by_test (Answers t first marks (Wfe e v) (after_insn (Wfe e v) x)) (slice_index_or flags e false) _ _ (λ set. quiet (Wfe e v) (moved (Wfe e v) x.registers) (slice_set flags e false)) (λ clear. (v, refl))
+  answers (Wfe e v) part before c = cond_both (slice_index_or flags e false) _ _ (Answers t first marks (Wfe e v) (after_insn (Wfe e v) x)) (λ set. quiet (Wfe e v) (moved (Wfe e v) x.registers) (slice_set flags e false)) (λ clear. (v, refl))
+  answers i part before c = quiet i (moved i x.registers) flags

@@ -3,7 +3,8 @@
 ghost use Rattle.std.specs.Prelude.{◌≡◌, ◌≢◌, ◌<◌, ◌↔◌, IfErr, IfOk, IsErrAnd, length};
 ghost use Rattle.dma_insn.specs.AssemblyText.{most_program_bytes};
 ghost use Rattle.dma_insn.specs.declared.insn.Insn.TheVariants.{End};
-ghost use Rattle.dma_chan.specs.Explains.{Finds, Refuses};
+ghost use Rattle.dma_mem.specs.Places.{places};
+ghost use Rattle.dma_chan.specs.Explains.{Finds, HasAddress, Refuses, unrolled};
 ghost use Rattle.dma_chan.specs.inner.Tracing.{IsCopied, IsTracer, Stops};
 
 mod counts;
@@ -108,23 +109,41 @@ pub enum Cause {
     NoMemory,
 }
 
-/// Why no copy explains a program, and where: the instruction's offset in the program, and how many instructions are
-/// executed before it. For `TooLong` and `NoMemory` these two mean nothing.
+/// Why no copy explains a program, and where. For `TooLong` and `NoMemory` all but the cause means nothing.
 #[derive(Clone, Copy, PartialEq, Eq, Debug)]
 pub struct Unexplained {
     pub cause: Cause,
+    /// The instruction's offset in the program.
     pub pc: u32,
+    /// How many instructions are executed before it.
     pub steps: u32,
+    /// The lowest address that is stored twice for `StoresTwice`, the lowest that is loaded and stored for
+    /// `StoresSource`, else 0.
+    pub addr: u32,
+    /// How many bytes are stored before it.
+    pub stored: u64,
+}
+
+// Why a program stops at its DMAEND, with the address of `Unexplained`.
+#[derive(Clone, Copy)]
+struct Stop {
+    cause: Cause,
+    addr: u32,
 }
 
 // Returns what a run to DMAEND has copied.
-fn finish(alloc: Global, tracer: Tracer, steps: u32) -> Result<Explained, Cause>
+fn finish(alloc: Global, tracer: Tracer, steps: u32) -> Result<Explained, Stop>
     requires { IsTracer tracer }
     ensures ok { IfOk result (λ x. IsCopied tracer steps x) }
-    ensures err { IfErr result (λ cause. Stops End tracer cause) }
+    ensures err { IfErr result (λ stop. Stops End tracer stop.cause) }
+    ensures addr { IfErr result (λ stop. HasAddress stop.cause
+        (places (unrolled tracer.src.items)) (places tracer.dst.items) stop.addr) }
 {
     if tracer.held > 0 {
-        return Err(Cause::BytesLeft);
+        return Err(Stop {
+            cause: Cause::BytesLeft,
+            addr: 0,
+        });
     }
     overlap(alloc, tracer.src.as_slice(), tracer.dst.as_slice())?;
     let Tracer {
@@ -165,6 +184,8 @@ pub fn explain(alloc: Global, bus: Bus, program: &[u8], most: u32) -> Result<Exp
             cause: Cause::TooLong,
             pc: 0,
             steps: 0,
+            addr: 0,
+            stored: 0,
         });
     }
     let mut tracer = Tracer::new(alloc, bus);
@@ -172,26 +193,34 @@ pub fn explain(alloc: Global, bus: Bus, program: &[u8], most: u32) -> Result<Exp
     let mut steps = 0;
     while steps < most {
         let pc = tracer.registers.pc;
+        let here = Unexplained {
+            cause: Cause::NoEnd,
+            pc,
+            steps,
+            addr: 0,
+            stored: tracer.stored,
+        };
         let next = match Next::at(program, pc) {
             Ok(next) => next,
             Err(kind) => {
-                return Err(Unexplained {
-                    cause: Cause::Fails(kind),
-                    pc,
-                    steps,
-                });
+                let cause = Cause::Fails(kind);
+                return Err(Unexplained { cause, ..here });
             }
         };
         if let Insn::End = next.insn() {
             return match finish(alloc, tracer, steps + 1) {
                 Ok(explained) => Ok(explained),
-                Err(cause) => Err(Unexplained { cause, pc, steps }),
+                Err(stop) => Err(Unexplained {
+                    cause: stop.cause,
+                    addr: stop.addr,
+                    ..here
+                }),
             };
         }
         match tracer.run(program, next, most - steps, &mut last) {
             Ok(count) => steps += count,
             Err(cause) => {
-                return Err(Unexplained { cause, pc, steps });
+                return Err(Unexplained { cause, ..here });
             }
         }
     }
@@ -199,5 +228,7 @@ pub fn explain(alloc: Global, bus: Bus, program: &[u8], most: u32) -> Result<Exp
         cause: Cause::NoEnd,
         pc: tracer.registers.pc,
         steps: most,
+        addr: 0,
+        stored: tracer.stored,
     })
 }

@@ -8,11 +8,8 @@ use Rattle.dma_device.specs.Thread.{answer, is_faulting, is_stopped, moved, wait
 use Rattle.dma_device.specs.declared.thread.Thread.{Thread}
 
 pub is_ended : (last : Option ChanTurn) → (last ≡ Some Ended) ⊎ (last ≢ Some Ended)
-is_ended None = inr (λ e. cc)
-is_ended (Some Moved) = inr (λ e. cc)
 is_ended (Some Ended) = inl refl
-is_ended (Some (Waiting x)) = inr (λ e. cc)
-is_ended (Some (Fault kind)) = inr (λ e. cc)
+is_ended last = inr (λ e. cc)
 
 moved_channel : (events : ℕ) (th : Thread) (signal : Option ℕ) → (moved events th signal).channel ≡ th.channel
 moved_channel events th None = refl
@@ -22,11 +19,9 @@ waited_channel : (events : ℕ) (th : Thread) (e : ℕ) → (waited events th e)
 waited_channel events th e = grind arith
 
 pub answer_channel : (events : ℕ) (th : Thread) (last : Option ChanTurn) (signal : Option ℕ) → (answer events th last signal).channel ≡ th.channel
-answer_channel events th None signal = refl
 answer_channel events th (Some Moved) signal = moved_channel events th signal
 answer_channel events th (Some (Waiting e)) signal = waited_channel events th e
-answer_channel events th (Some Ended) signal = refl
-answer_channel events th (Some (Fault kind)) signal = refl
+answer_channel events th last signal = refl
 
 moved_busy : (events : ℕ) (th : Thread) (signal : Option ℕ) → is_stopped (moved events th signal) ≡ false
 moved_busy events th None = refl
@@ -36,11 +31,10 @@ waited_busy : (events : ℕ) (th : Thread) (e : ℕ) → is_stopped (waited even
 waited_busy events th e = grind arith
 
 pub answer_busy : (events : ℕ) (th : Thread) (last : Option ChanTurn) (signal : Option ℕ) → last ≢ Some Ended → is_stopped (answer events th last signal) ≡ false
-answer_busy events th None signal goes = refl
 answer_busy events th (Some Moved) signal goes = moved_busy events th signal
 answer_busy events th (Some (Waiting e)) signal goes = waited_busy events th e
 answer_busy events th (Some Ended) signal goes = absurd (goes refl)
-answer_busy events th (Some (Fault kind)) signal goes = refl
+answer_busy events th last signal goes = refl
 
 -- ---- a thread that doesn't fail
 

@@ -12,7 +12,7 @@ use Rattle.dma_chan.specs.Stepping.{Machine, TakesSteps, after_steps, last_of, m
 use Rattle.dma_chan.specs.Written.{joined}
 use Rattle.dma_chan.specs.declared.lent.Taken.{Taken}
 use Rattle.dma_chan.specs.declared.turn.ChanTurn.{ChanTurn}
-use Rattle.dma_device.specs.CallSteps.{Executes, first_in, second_in}
+use Rattle.dma_device.specs.CallSteps.{Executes, first_in, marks_in, second_in}
 use Rattle.dma_device.specs.Device.{DeviceValue, with_thread}
 use Rattle.dma_device.specs.Thread.{answered}
 use Rattle.dma_device.specs.Turns.{AreKept, Outcome, Setup, TakesTurn, begins, called, called_if, follows, idle, last_in, lines_differ, machine_in, machine_left, number_of, outcome_of, second_call, setup_of, stepped, steps_in, visible_events, with_flags}
@@ -42,6 +42,13 @@ pub call_acts : {made : Bool} {n : ℕ} {s : Setup} (marks : MarkList) (most : �
 call_acts {n = n} {s = s} marks most x =
     ap (λ (b : Bool). if b then called marks n most (slice_get s.device.threads n) s else idle s) x.on
     ∙ ap (λ (o : Option Thread). called marks n most o s) x.found
+
+-- what its steps keep, a call keeps
+pub call_keeps : (P : DeviceValue → Type 0) (made : Bool) (marks : MarkList) (n most : ℕ) (s : Setup) → P s.device → ((x : Executes made n s) → P (stepped marks n most x.thread s).left.device) → P (called_if made marks n most s).left.device
+call_keeps P made marks n most s h steps = elim (call_is made marks n most s) [
+  | inl rests ↦ subst (λ (o : Outcome). P o.left.device) (sym rests.is) h
+  | inr acts ↦ subst (λ (o : Outcome). P o.left.device) (sym (call_acts marks most acts)) (steps acts)
+]
 
 -- what a call of a thread takes
 pub takes : (marks : MarkList) (most : ℕ) (t : Thread) (s : Setup) → TakesSteps marks (machine_in s t) most (steps_in marks most t s) (last_in marks most t s) (machine_left marks most t s)
@@ -128,3 +135,9 @@ module _ {d e : DeviceValue} {regions left : List Region} {n most : ℕ} {turn :
 
   pub turn_lines : lines_differ d (second_in d regions n most).left.device ≡ turn.lines_changed
   turn_lines = ap (λ (p : Setup × Turn). p.1.lines_changed) x.is
+
+  -- what each of its calls keeps, the turn keeps
+  pub turn_keeps : (P : DeviceValue → Type 0) → ((made : Bool) (marks : MarkList) (most : ℕ) (s : Setup) → P s.device → P (called_if made marks n most s).left.device) → P d → P e
+  turn_keeps P keeps h =
+      let first = first_in d regions n most in
+      subst P turn_device (keeps (follows first.left.device n first.called) (marks_in regions) 1 first.left (keeps (begins d n most) (marks_in regions) most (setup_of d regions) h))

@@ -1,17 +1,19 @@
 -- What the debug instruction, a DMAGO and a write of a register leave, case by case.
-use Rattle.std.proofs.Common.{◌≡◌, ℕ, ◌+◌, ◌%◌, ◌/◌, Bool, true, false, ◌&&◌, List, Some, refl, bit_and, w32}
+use Rattle.std.proofs.Common.{◌≡◌, ◌≢◌, ℕ, ◌+◌, ◌%◌, ◌/◌, Bool, true, false, ◌&&◌, List, Option, Some, None, refl, bit_and, w32}
 use Rattle.std.specs.Prelude.{◌==◌, if◌then◌else◌, not, slice_get}
 use Rattle.std.specs.Int.{bit_not}
+use Rattle.std.proofs.lemmas.Bool.{cond_both, eqb-false, eqb-true}
+use Rattle.dma_insn.specs.ControlWord.{field}
 use Rattle.dma_mem.specs.Regions.{Piece}
 use Rattle.dma_device.specs.Offsets as offset
+use Rattle.dma_device.specs.declared.device.Manager.{Manager}
 use Rattle.dma_device.specs.declared.thread.Thread.{Thread}
 use Rattle.dma_device.specs.Device.{DeviceValue, all_events, by_manager, by_thread, debugged, go, gone, is_event, manager_failed, program_at, signalled, with_thread, written}
 use Rattle.dma_device.specs.Thread.{dbg_instr, dmago_err, failed, is_faulting, is_stopped, killed, operand_invalid, started, undef_instr}
 
 module _ (P : DeviceValue → Type 0) where
   pub branch : (b : Bool) (x y : DeviceValue) → (b ≡ true → P x) → (b ≡ false → P y) → P (if b then x else y)
-  branch true x y f g = f refl
-  branch false x y f g = g refl
+  branch b x y = cond_both b x y P
 
   -- after an instruction that a channel thread executes
   pub record ThreadCases (n : ℕ) (t : Thread) (opcode byte : ℕ) (d : DeviceValue) : Type 0 where
@@ -73,6 +75,52 @@ module _ (P : DeviceValue → Type 0) where
       (λ sev. branch (is_event d byte) (signalled (byte / 8) d) (manager_failed operand_invalid d) (x.sev no fine sev) (x.no_event no fine sev))
       (λ none. branch (opcode == 0xA0) secure last (x.secure no fine none)
       (λ more. branch (opcode == 0xA2) other undefined (x.nonsecure no fine none more) (x.undefined no fine none more)))))
+
+  -- after the debug instruction
+  pub record DebugCases (ram : List Piece) (d : DeviceValue) : Type 0 where
+    pub same : P d
+    pub manager : field 0 1 d.dbginst0 ≢ 1 → (m : Manager) → P (record d { manager = m })
+    pub sev : (byte : ℕ) → is_event d byte ≡ true → P (signalled (byte / 8) d)
+    pub kills : (t : Thread) → let n = field 8 3 d.dbginst0 in field 0 1 d.dbginst0 ≡ 1 → slice_get d.threads n ≡ Some t → P (with_thread n (killed t) d)
+    pub fails : (why : ℕ) (t : Thread) → let n = field 8 3 d.dbginst0 in field 0 1 d.dbginst0 ≡ 1 → slice_get d.threads n ≡ Some t → P (with_thread n (failed why t) d)
+    pub starts : (n : ℕ) (t : Thread) (nonsecure : Bool) → is_stopped t ≡ true → slice_get d.threads n ≡ Some t → P (with_thread n (started d.config.bus nonsecure d.dbginst1 (program_at ram d.dbginst1)) d)
+
+  pub debug_cases : (ram : List Piece) (d : DeviceValue) → DebugCases ram d → P (debugged ram d)
+  debug_cases ram d x =
+      branch (field 0 1 d.dbginst0 == 1) _ _ (λ is. threads (eqb-true (field 0 1 d.dbginst0) 1 is) (slice_get d.threads (field 8 3 d.dbginst0)) refl)
+      (λ is. managed (eqb-false (field 0 1 d.dbginst0) 1 is))
+    where
+      opcode : ℕ
+      opcode = field 16 8 d.dbginst0
+
+      byte : ℕ
+      byte = field 24 8 d.dbginst0
+
+      threads : field 0 1 d.dbginst0 ≡ 1 → (o : Option Thread) → slice_get d.threads (field 8 3 d.dbginst0) ≡ o → P (by_thread (field 8 3 d.dbginst0) o opcode byte d)
+      threads on None is = x.same
+      threads on (Some t) is = thread_cases (field 8 3 d.dbginst0) t opcode byte d (record {
+        kill = λ _. x.kills t on is;
+        faulting = λ _ _. x.same;
+        sev = λ _ _ _ event. x.sev byte event;
+        no_event = λ _ _ _ _. x.fails _ t on is;
+        undefined = λ _ _ _. x.fails _ t on is;
+      })
+
+      goes : field 0 1 d.dbginst0 ≢ 1 → (nonsecure : Bool) (o : Option Thread) → slice_get d.threads byte ≡ o → P (go ram nonsecure byte o d)
+      goes off nonsecure None is = x.manager off _
+      goes off nonsecure (Some t) is =
+          go_cases ram nonsecure byte t d (record { refused = λ _. x.manager off _; starts = λ _ stopped. x.starts byte t nonsecure stopped is; busy = λ _ _. x.same })
+
+      managed : field 0 1 d.dbginst0 ≢ 1 → P (by_manager ram opcode byte d)
+      managed off = manager_cases ram opcode byte d (record {
+        kill = λ _. x.manager off _;
+        faulting = λ _ _. x.same;
+        sev = λ _ _ _ event. x.sev byte event;
+        no_event = λ _ _ _ _. x.manager off _;
+        secure = λ _ _ _ _. goes off false (slice_get d.threads byte) refl;
+        nonsecure = λ _ _ _ _ _. goes off true (slice_get d.threads byte) refl;
+        undefined = λ _ _ _ _ _. x.manager off _;
+      })
 
   -- after a write of a register
   pub record WriteCases (ram : List Piece) (at value : ℕ) (d : DeviceValue) : Type 0 where

@@ -20,18 +20,16 @@ use Rattle.dma_device.specs.Copies.{AreCopied, DmagoCopies, DmagoInterrupts, Dma
 use Rattle.dma_device.specs.Device.{DeviceValue, irqs}
 use Rattle.dma_device.specs.Dmago.{Go, RunsCopy, GivenTurns, bus_of, csr_status, image_in}
 use Rattle.dma_device.specs.Interrupts.{HasLine, IsHigh}
-use Rattle.dma_device.specs.Thread.{is_faulting, is_faulting_status, is_stopped_status}
+use Rattle.dma_device.specs.Thread.{is_faulting}
 use Rattle.dma_device.specs.Turns.{TakesTurn, begins, nothing, runs_at, setup_of}
 use Rattle.dma_device.specs.declared.config.Config.{Config}
 use Rattle.dma_device.specs.declared.device.turns.Called.{Called}
 use Rattle.dma_device.specs.declared.device.turns.Turn.{Turn}
-use Rattle.dma_device.specs.declared.thread.Status.{Status}
-use Rattle.dma_device.specs.declared.thread.Status.TheVariants.{Stopped, Executing, WaitingForEvent, Faulting}
 use Rattle.dma_device.specs.declared.thread.Thread.{Thread}
 use Rattle.dma_device.proofs.Answered.{answer_fine}
 use Rattle.dma_device.proofs.CallKeeps.{if_config}
 use Rattle.dma_device.proofs.Driven.{After, Before, Call, Copying, Going, Has, Keeps, Leaves, after_steps_of, after_turn, along, at_answer, channel_after, copying, count_in, from, last_answer, new, one_of, result_of, sent_by, sets, steps_of, to, two_of}
-use Rattle.dma_device.proofs.Starts.{reads_fine, reads_stopped}
+use Rattle.dma_device.proofs.Starts.{reads_fine, reads_stopped, stopped_fine}
 use Rattle.dma_device.proofs.Stored.{call_grows}
 use Rattle.dma_device.proofs.TurnRaises.{turn_raises}
 
@@ -141,13 +139,6 @@ module _ (c : Copying) (n : ℕ) where
       after_turn c n d regions most e left turn x (Unit {0}) Fine (Unit {0}) Fine (Unit {0}) Fine
       (keeps_fine one) (leaves_fine one (λ made. ltb-true 0 most (and_parts (nat_lt 0 most) (runs_at d n) made).0) fit)
       (keeps_fine two) (leaves_fine two (λ made. omega arith) (fit_kept d regions most fit)) g
-
--- a stopped thread isn't faulting
-stopped_fine : (s : Status) → is_stopped_status s ≡ true → is_faulting_status s ≡ false
-stopped_fine Stopped is = refl
-stopped_fine Executing is = refl
-stopped_fine (WaitingForEvent e) is = refl
-stopped_fine Faulting is = absurd (true≢false (sym is))
 
 -- ---- along the turns
 

@@ -1,8 +1,8 @@
 -- A save in which one byte is another byte is the save of no device.
-use Rattle.std.proofs.Common.{◌≡◌, ◌≢◌, ◌∙◌, ℕ, zero, suc, ◌+◌, ◌%◌, ◌^◌, ◌<◌, ◌≤◌, ◌++◌, List, [], ◌∷◌, length, take, drop, get_or, set, ap, refl, sym, arith, inl, inr}
+use Rattle.std.proofs.Common.{◌≡◌, ◌≢◌, ◌∙◌, ℕ, zero, suc, ◌+◌, ◌%◌, ◌^◌, ◌<◌, ◌++◌, List, [], ◌∷◌, length, take, drop, get_or, set, ap, refl, sym, arith, inl, inr}
 use Rattle.std.specs.Int.{w32, from_le_bytes, to_le_bytes}
 use Rattle.std.proofs.lemmas.Bool.{cases_eq, cases_lt}
-use Rattle.std.proofs.lemmas.List.{drop_at, get_or-set_other, get_or-set_same, length-set, take-append-drop, take_at}
+use Rattle.std.proofs.lemmas.List.{drop-set-lt, drop_at, get_or-set_other, get_or-set_same, get_or-take, length-set, take-append-drop, take-set-le, take_at}
 use Rattle.std.proofs.lemmas.Nat.{from_le_bytes-to_le_bytes_4}
 use Rattle.dma_chan.specs.Saved.{adler, checksum}
 use Rattle.dma_device.specs.Device.{DeviceValue}
@@ -11,31 +11,11 @@ use Rattle.dma_device.proofs.SavedDevices.{old_version, own_length, own_parts, o
 
 -- ---- a list with another item
 
-take_above : (xs : List ℕ) (n k v : ℕ) → n ≤ k → take n (set xs k v) ≡ take n xs
-take_above [] n k v h = refl
-take_above (x ∷ xs) zero k v h = refl
-take_above (x ∷ xs) (suc n) zero v h = absurd (omega arith)
-take_above (x ∷ xs) (suc n) (suc k) v h = ap (λ (ys : List ℕ). x ∷ ys) (take_above xs n k v (omega arith))
-
-drop_below : (xs : List ℕ) (n k v : ℕ) → k < n → drop n (set xs k v) ≡ drop n xs
-drop_below [] n k v h = refl
-drop_below (x ∷ xs) zero k v h = absurd (omega arith)
-drop_below (x ∷ xs) (suc n) zero v h = refl
-drop_below (x ∷ xs) (suc n) (suc k) v h = drop_below xs n k v (omega arith)
-
 take_below : (xs : List ℕ) (n k v : ℕ) → k < n → take n (set xs k v) ≡ set (take n xs) k v
-take_below [] zero k v h = refl
 take_below [] (suc n) k v h = refl
 take_below (x ∷ xs) zero k v h = absurd (omega arith)
-take_below (x ∷ xs) (suc n) zero v h = refl
 take_below (x ∷ xs) (suc n) (suc k) v h = ap (λ (ys : List ℕ). x ∷ ys) (take_below xs n k v (omega arith))
-
-get_take : (xs : List ℕ) (n k : ℕ) → k < n → get_or (take n xs) k 0 ≡ get_or xs k 0
-get_take [] zero k h = absurd (omega arith)
-get_take [] (suc n) k h = refl
-get_take (x ∷ xs) zero k h = absurd (omega arith)
-get_take (x ∷ xs) (suc n) zero h = refl
-get_take (x ∷ xs) (suc n) (suc k) h = get_take xs n k (omega arith)
+take_below xs n k v h = refl
 
 -- ---- the sum of bytes, which is in the low half of the checksum
 
@@ -107,16 +87,16 @@ damage_is_refused d e save k v is bytes within few other version (inl own) =
     elim (cases_lt k n) [
       | inl below ↦
           let parts : parts_in 2 e ≡ set (parts_in 2 d) k v = sym two ∙ take_below save n k v below ∙ ap (λ (l : List ℕ). set l k v) one in
-          let sums : to_le_bytes w32 (checksum (parts_in 2 e)) ≡ to_le_bytes w32 (checksum (parts_in 2 d)) = sym sum_two ∙ drop_below save n k v below ∙ sum_one in
+          let sums : to_le_bytes w32 (checksum (parts_in 2 e)) ≡ to_le_bytes w32 (checksum (parts_in 2 d)) = sym sum_two ∙ drop-set-lt n save k v below ∙ sum_one in
           let same : checksum (parts_in 2 e) ≡ checksum (parts_in 2 d) =
           sym (from_le_bytes-to_le_bytes_4 (checksum (parts_in 2 e)) (sum_few (parts_in 2 e))) ∙ ap (from_le_bytes w32) sums ∙ from_le_bytes-to_le_bytes_4 (checksum (parts_in 2 d)) (sum_few (parts_in 2 d)) in
-          let item : get_or (parts_in 2 d) k 0 ≡ get_or save k 0 = ap (λ (l : List ℕ). get_or l k 0) (sym one) ∙ get_take save n k below in
+          let item : get_or (parts_in 2 d) k 0 ≡ get_or save k 0 = ap (λ (l : List ℕ). get_or l k 0) (sym one) ∙ get_or-take n save k 0 below in
           one_differs (parts_in 2 d) k v below (omega (arith, item, bytes k)) few (λ e. other (sym item ∙ e)) (ap checksum (sym parts) ∙ same)
       | inr above ↦
-          let parts : parts_in 2 e ≡ parts_in 2 d = sym two ∙ take_above save n k v above ∙ one in
+          let parts : parts_in 2 e ≡ parts_in 2 d = sym two ∙ take-set-le n save k v above ∙ one in
           let sums : drop n changed ≡ drop n save = sum_two ∙ ap (λ (l : List ℕ). to_le_bytes w32 (checksum l)) parts ∙ sym sum_one in
           let all : changed ≡ save =
-          sym (take-append-drop n changed) ∙ ap (λ (l : List ℕ). l ++ drop n changed) (take_above save n k v above)
+          sym (take-append-drop n changed) ∙ ap (λ (l : List ℕ). l ++ drop n changed) (take-set-le n save k v above)
           ∙ ap (λ (l : List ℕ). take n save ++ l) sums ∙ take-append-drop n save in
           other (ap (λ (l : List ℕ). get_or l k 0) (sym all) ∙ get_or-set_same save k v 0 within)
     ]

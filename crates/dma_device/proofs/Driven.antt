@@ -13,7 +13,7 @@ use Rattle.dma_chan.specs.Others.{Touches}
 use Rattle.dma_chan.specs.Programs.{ProgramValue}
 use Rattle.dma_chan.specs.Stepping.{Machine, TakesSteps, machine}
 use Rattle.dma_chan.specs.declared.turn.ChanTurn.{ChanTurn}
-use Rattle.dma_chan.specs.declared.turn.ChanTurn.TheVariants.{Moved, Waiting, Ended, Fault}
+use Rattle.dma_chan.specs.declared.turn.ChanTurn.TheVariants.{Ended}
 use Rattle.dma_chan.proofs.AmongOthers.{Fits, touched_below}
 use Rattle.dma_chan.proofs.CallsAmongOthers.{Leads, Runs, at_first, call, survived}
 use Rattle.dma_device.specs.CallSteps.{Executes, first_in, marks_in}
@@ -112,11 +112,8 @@ module _ (c : Copying) where
   Stands O E image th = (Over image th × O) ⊎ (Going image th × E th)
 
   leads_runs : (last : Option ChanTurn) (w : Machine) → Leads c.bus c.program c.t c.count c.first last w → last ≢ Some Ended → RunsOn w
-  leads_runs None w l goes = l
-  leads_runs (Some Moved) w l goes = l
-  leads_runs (Some (Waiting x)) w l goes = l
-  leads_runs (Some (Fault kind)) w l goes = l
   leads_runs (Some Ended) w l goes = absurd (goes refl)
+  leads_runs last w l goes = l
 
   module _ (n : ℕ) where
     -- the device has thread n, in one of these states

@@ -1,36 +1,26 @@
 -- What sets and takes events.
-use Rattle.std.proofs.Common.{◌≡◌, ◌≢◌, ◌∙◌, ◌⊎◌, ℕ, zero, suc, ◌+◌, ◌-◌, ◌%◌, ◌^◌, ◌<◌, ◌≤◌, Bool, true, false, ◌&&◌, List, [], ◌∷◌, length, get_or, set, Option, Some, None, Result, Ok, Err, ap, refl, sym, subst, arith, inl, inr, true≢false, bit_and, w32}
-use Rattle.std.specs.Prelude.{◌↔◌, if◌then◌else◌, max, min, nat_lt, slice_get, slice_index_or}
+use Rattle.std.proofs.Common.{◌≡◌, ◌≢◌, ◌∙◌, ◌⊎◌, ℕ, zero, suc, ◌+◌, ◌-◌, ◌%◌, ◌^◌, ◌<◌, Bool, true, false, ◌&&◌, List, length, get_or, Option, Some, None, ap, refl, sym, subst, arith, inl, inr, true≢false, bit_and, w32}
+use Rattle.std.specs.Prelude.{◌↔◌, if◌then◌else◌, max, min, nat_lt, slice_get}
 use Rattle.std.specs.Int.{bit_at, bit_not}
-use Rattle.std.proofs.lemmas.Bool.{cases_eq, eq-eqb, ne_eqb}
-use Rattle.std.proofs.lemmas.List.{get_or-set_same, get_or-set_other, length-set}
+use Rattle.std.proofs.lemmas.Bool.{cases_Bool, cases_eq, eq-eqb, ne_eqb}
 use Rattle.std.proofs.lemmas.Nat.Bits.{bit_at-lt, bit_at_and, bit_at_not, bit_at_ones, bit_at_or, bit_at-zero}
 use Rattle.dma_insn.specs.ControlWord.{flag}
-use Rattle.dma_insn.specs.declared.insn.Insn.{Insn}
-use Rattle.dma_insn.specs.declared.insn.Insn.TheVariants.{Mov, Ld, St, Rmb, Wmb, Nop, End, Lp, LpEnd, Sev, Wfe}
-use Rattle.dma_insn.specs.declared.insn.Reg.TheVariants.{Sar, Ccr, Dar}
-use Rattle.dma_mem.specs.declared.marks.MarkKind.TheVariants.{Reading, Writing}
 use Rattle.dma_mem.specs.Flags.{flags_of}
 use Rattle.dma_mem.specs.Marking.{MarkList}
 use Rattle.dma_mem.specs.Regions.{pieces_of}
 use Rattle.dma_mem.specs.declared.regions.Region.{Region}
 use Rattle.dma_mem.proofs.FlagBits.{get_or_flags_of, length_flags_of}
-use Rattle.dma_chan.specs.Bus.{accepts}
-use Rattle.dma_chan.specs.declared.exec.Registers.{Registers}
 use Rattle.dma_chan.specs.declared.turn.ChanTurn.{ChanTurn}
-use Rattle.dma_chan.specs.declared.turn.ChanTurn.TheVariants.{Moved, Waiting, Ended, Fault}
-use Rattle.dma_chan.specs.declared.turn.FaultKind.{FaultKind}
-use Rattle.dma_chan.specs.Bursts.{reaches, burst_len, touched}
-use Rattle.dma_chan.specs.Channel.{ahead_of, state_of}
-use Rattle.dma_chan.specs.Exec.{ChangesNothing, State, act, buffer_size, counter_of, destination_of, exec_fetched, source_of}
-use Rattle.dma_chan.specs.Stepping.{Machine, TakesSteps, after_steps, answer_at, goes_on_after, signal_after, signal_of}
+use Rattle.dma_chan.specs.declared.turn.ChanTurn.TheVariants.{Moved, Waiting}
+use Rattle.dma_chan.specs.Exec.{ChangesNothing}
+use Rattle.dma_chan.specs.Stepping.{Machine, TakesSteps, after_steps, answer_at, goes_on_after}
 use Rattle.dma_chan.proofs.StepsTaken.{steps_move}
-use Rattle.dma_chan.proofs.SteppedOver.{is_still, went_before}
+use Rattle.dma_chan.proofs.SteppedOver.{is_still}
 use Rattle.dma_device.specs.Offsets as offset
 use Rattle.dma_device.specs.declared.device.turns.Turn.{Turn}
 use Rattle.dma_device.specs.declared.thread.Status.TheVariants.{Executing, WaitingForEvent}
 use Rattle.dma_device.specs.declared.thread.Thread.{Thread}
-use Rattle.dma_device.specs.Accesses.{Access, Answer, Does, Reads, Resets, Restores, Stores, Turns, Writes}
+use Rattle.dma_device.specs.Accesses.{Access, Answer, Does, Resets, Restores, Turns, Writes}
 use Rattle.dma_device.specs.CallSteps.{Executes, first_in, marks_in, second_in}
 use Rattle.dma_device.specs.Device.{DeviceValue, all_events, is_interrupt, with_thread, written}
 use Rattle.dma_device.specs.Events.{CallTakes, Ends, EventsAreExact, IsSet, SetSince, Sets, TakenWasSet, TurnTakes, WaitsForUnset}
@@ -40,174 +30,13 @@ use Rattle.dma_device.specs.Turns.{Outcome, Setup, TakesTurn, begins, called_if,
 use Rattle.dma_device.proofs.CallKeeps.{if_config, if_inten}
 use Rattle.dma_device.proofs.Calls.{call_acts, call_is, takes, turn_device}
 use Rattle.dma_device.proofs.FlagNumber.{flag_is, number_bit}
-use Rattle.dma_device.proofs.FlagSteps.{steps_flags}
+use Rattle.dma_device.proofs.FlagSteps.{Is, IsClear, Passes, clear_since, flag_exact, passed, steps_flags}
 use Rattle.dma_device.proofs.Interrupts.{Exact, all_have, restored_bit, same_exact}
-use Rattle.dma_device.proofs.Sound.{step_waits}
 use Rattle.dma_device.proofs.Starts.{set_found}
-use Rattle.dma_device.proofs.TurnRaises.{IsClear, flag_bit, hidden, is_signal, quiet, step_clear, step_sets}
-use Rattle.dma_device.proofs.Waits.{is_wfe}
+use Rattle.dma_device.proofs.TurnRaises.{flag_bit, hidden, seen_bit}
+use Rattle.dma_device.proofs.WaitSteps.{waits_at}
 use Rattle.dma_device.proofs.WriteRaises.{dbgcmd_raises, has_kept, others_keep_lines}
 use Rattle.dma_device.proofs.History as history
-
--- ---- one step
-
-set_true : (xs : List Bool) (e k : ℕ) → get_or xs k false ≡ true → get_or (set xs e true) k false ≡ true
-set_true [] e k h = h
-set_true (x ∷ xs) zero zero h = refl
-set_true (x ∷ xs) zero (suc k) h = h
-set_true (x ∷ xs) (suc e) zero h = h
-set_true (x ∷ xs) (suc e) (suc k) h = set_true xs e k h
-
-set_false : (xs : List Bool) (k : ℕ) → IsClear k (set xs k false)
-set_false [] k = refl
-set_false (x ∷ xs) zero = refl
-set_false (x ∷ xs) (suc k) = set_false xs k
-
-abbrev Is : ℕ → List Bool → Type 0
-Is k flags = get_or flags k false ≡ true
-
-chosen : (b : Bool) (x y : ChanTurn × State) (k : ℕ) → Is k x.1.flags → Is k y.1.flags → Is k (if b then x else y).1.flags
-chosen true x y k p q = p
-chosen false x y k p q = q
-
-abbrev passes_if : Bool → ℕ → Registers → State → ChanTurn × State
-passes_if b e r s = if b then (Moved, record s { registers = r; flags = set s.flags e false }) else (Waiting e, s)
-
-wfe_keeps : (e k : ℕ) (b : Bool) (s : State) (r : Registers) → Is k s.flags → (e ≡ k → (passes_if b e r s).0 ≢ Moved) → Is k (passes_if b e r s).1.flags
-wfe_keeps e k true s r h none = elim (cases_eq e k) [
-  | inl same ↦ absurd (none same refl)
-  | inr other ↦ get_or-set_other s.flags e k false false (λ same. other (sym same)) ∙ h
-]
-wfe_keeps e k false s r h none = h
-
-act_keeps : (marks : MarkList) (i : Insn) (s : State) (k : ℕ) → Is k s.flags → ((v : Bool) → i ≡ Wfe k v → (act marks i s).0 ≢ Moved) → Is k (act marks i s).1.flags
-act_keeps marks (Mov Sar v) s k h none = h
-act_keeps marks (Mov Dar v) s k h none = h
-act_keeps marks (Mov Ccr v) s k h none = chosen (accepts s.registers.bus v) _ _ k h h
-act_keeps marks Ld s k h none =
-    let b = source_of s.registers in
-    chosen (nat_lt buffer_size (length s.buffer + burst_len b)) _ _ k h (chosen (reaches Reading marks (length s.image) (touched b)) _ _ k h h)
-act_keeps marks St s k h none =
-    let b = destination_of s.registers in
-    chosen (nat_lt (length s.buffer) (burst_len b)) _ _ k h (chosen (reaches Writing marks (length s.image) (touched b)) _ _ k h h)
-act_keeps marks (Lp c n) s k h none = h
-act_keeps marks (LpEnd c back) s k h none = chosen (nat_lt 0 (counter_of c s.registers) && nat_lt s.registers.pc back) _ _ k h h
-act_keeps marks (Sev e) s k h none = set_true s.flags e k h
-act_keeps marks (Wfe e v) s k h none = wfe_keeps e k (slice_index_or s.flags e false) s _ h (λ same. none v (ap (λ (j : ℕ). Wfe j v) same))
-act_keeps marks Rmb s k h none = h
-act_keeps marks Wmb s k h none = h
-act_keeps marks Nop s k h none = h
-act_keeps marks End s k h none = h
-
--- a set flag stays set, unless a DMAWFE takes it
-step_keeps : (marks : MarkList) (next : Result Insn FaultKind) (s : State) (k : ℕ) → Is k s.flags → ((v : Bool) → next ≡ Ok (Wfe k v) → (exec_fetched marks next s).0 ≢ Moved) → Is k (exec_fetched marks next s).1.flags
-step_keeps marks (Ok i) s k h none = act_keeps marks i s k h (λ v is. none v (ap (λ (j : Insn). Ok j) is))
-step_keeps marks (Err kind) s k h none = h
-
--- a DMAWFE that passes found its flag set, and clears it
-wfe_takes : (marks : MarkList) (s : State) (k : ℕ) (v b : Bool) → get_or s.flags k false ≡ b → (act marks (Wfe k v) s).0 ≡ Moved → Is k s.flags × IsClear k (act marks (Wfe k v) s).1.flags
-wfe_takes marks s k v true is moved = (is, rw is (set_false s.flags k))
-wfe_takes marks s k v false is moved = absurd (let waits : Waiting k ≡ Moved = rw is at moved in cc)
-
-step_takes : (marks : MarkList) (next : Result Insn FaultKind) (s : State) (k : ℕ) (v : Bool) → next ≡ Ok (Wfe k v) → (exec_fetched marks next s).0 ≡ Moved → Is k s.flags × IsClear k (exec_fetched marks next s).1.flags
-step_takes marks next s k v is moved =
-    subst (λ (x : Result Insn FaultKind). Is k s.flags × IsClear k (exec_fetched marks x s).1.flags) (sym is)
-    (wfe_takes marks s k v (get_or s.flags k false) refl (ap (λ (x : Result Insn FaultKind). (exec_fetched marks x s).0) (sym is) ∙ moved))
-
--- one that waits found it clear
-wfe_unset : (marks : MarkList) (s : State) (k : ℕ) (v b : Bool) → get_or s.flags k false ≡ b → (act marks (Wfe k v) s).0 ≡ Waiting k → IsClear k s.flags
-wfe_unset marks s k v true is waits = absurd (let moves : Moved ≡ Waiting k = rw is at waits in cc)
-wfe_unset marks s k v false is waits = is
-
-step_unset : (marks : MarkList) (next : Result Insn FaultKind) (s : State) (k : ℕ) → (exec_fetched marks next s).0 ≡ Waiting k → IsClear k s.flags
-step_unset marks next s k waits =
-    let w = is_wfe next k (step_waits marks next s k waits) in
-    wfe_unset marks s k w.0 (get_or s.flags k false) refl (ap (λ (x : Result Insn FaultKind). (exec_fetched marks x s).0) (sym w.1) ∙ waits)
-
--- ---- the steps of a call
-
-abbrev state_in : Machine → State
-state_in u = state_of u.channel u.image u.flags
-
-module _ (marks : MarkList) (s : Machine) (k : ℕ) where
-  abbrev at : ℕ → Machine
-  at j = after_steps marks s j
-
-  abbrev Clear : ℕ → Type 0
-  Clear j = IsClear k (at j).flags
-
-  abbrev Passes : ℕ → Type 0
-  Passes j = (v : Bool) × (ahead_of (at j).channel ≡ Ok (Wfe k v)) × (answer_at marks (at j) ≡ Moved)
-
-  abbrev GoesTo : ℕ → Type 0
-  GoesTo j = (m : ℕ) → m < suc j → goes_on_after marks s m ≡ true
-
-  clear_since : (i j : ℕ) → i ≤ j → GoesTo j → Clear i → Clear j
-  clear_since i zero few goes h = let none : i ≡ 0 = omega arith in subst Clear none h
-  clear_since i (suc j) few goes h = elim (cases_eq i (suc j)) [
-    | inl same ↦ subst Clear same h
-    | inr early ↦
-        let before = clear_since i j (omega arith) (λ m l. goes m (omega arith)) h in
-        let next = ahead_of (at j).channel in
-        step_clear marks next (state_in (at j)) k before (quiet (answer_at marks (at j)) (signal_of next) k (went_before marks s (suc j) (goes (suc j) (omega arith))))
-  ]
-
-  set_since : (j : ℕ) → GoesTo j → Is k s.flags → ((i : ℕ) → i < j → ¬ Passes i) → Is k (at j).flags
-  set_since zero goes h none = h
-  set_since (suc j) goes h none =
-      step_keeps marks (ahead_of (at j).channel) (state_in (at j)) k (set_since j (λ m l. goes m (omega arith)) h (λ i l. none i (omega arith)))
-      (λ v is moved. none j (omega arith) (v, is, moved))
-
-  passed : (j : ℕ) → Passes j → Is k (at j).flags × Clear (suc j)
-  passed j w = step_takes marks (ahead_of (at j).channel) (state_in (at j)) k w.0 w.1 w.2
-
-  set_or_clear : (flags : List Bool) → Is k flags ⊎ IsClear k flags
-  set_or_clear flags = by (get_or flags k false)
-    where
-      by : (b : Bool) → (b ≡ true) ⊎ (b ≡ false)
-      by true = inl refl
-      by false = inr refl
-
-  -- a flag is set after a call exactly if the last step signals its event, or if it was set and no step took it
-  flag_exact : (v : Machine) (most taken : ℕ) (last : Option ChanTurn) → TakesSteps marks s most taken last v → length v.flags ≡ 32 → k < 32 → Is k v.flags ↔ ((signal_after marks s taken ≡ Some k) ⊎ (Is k s.flags × ((j : ℕ) → j < taken → ¬ Passes j)))
-  flag_exact v most zero last x len below = (
-    (λ high. inr (subst (λ (m : Machine). Is k m.flags) x.ends_at high, λ j less. absurd (omega arith))),
-    (λ why. elim why [
-      | inl bad ↦ absurd (cc)
-      | inr kept ↦ subst (λ (m : Machine). Is k m.flags) (sym x.ends_at) kept.0
-    ]),
-  )
-  flag_exact v most (suc p) last x len below =
-      let u = at p in
-      let next = ahead_of u.channel in
-      let flags : v.flags ≡ (exec_fetched marks next (state_in u)).1.flags = ap (λ (m : Machine). m.flags) x.ends_at in
-      let clears : signal_of next ≢ Some k → Clear p → IsClear k v.flags = (λ other clear. subst (IsClear k) (sym flags) (step_clear marks next (state_in u) k clear other)) in (
-        (λ high. elim (is_signal (signal_of next) k) [
-          | inl here ↦ inl here
-          | inr other ↦
-              inr (
-                elim (set_or_clear s.flags) [
-                  | inl was ↦ was
-                  | inr clear ↦ absurd (true≢false (sym high ∙ clears other (clear_since 0 p (omega arith) (steps_move x) clear)))
-                ],
-                λ j less w. elim (cases_eq j p) [
-                  | inl last ↦
-                      let clear = subst (λ (m : ℕ). Clear (suc m)) last (passed j w).1 in
-                      true≢false (sym high ∙ ap (λ (m : Machine). get_or m.flags k false) x.ends_at ∙ clear)
-                  | inr early ↦ true≢false (sym high ∙ clears other (clear_since (suc j) p (omega arith) (steps_move x) (passed j w).1))
-                ],
-              )
-        ]),
-        (λ why. elim why [
-          | inl here ↦
-              let new : v.flags ≡ set u.flags k true = flags ∙ step_sets marks next (state_in u) k here in
-              let long : length u.flags ≡ 32 = sym (length-set u.flags k true) ∙ sym (ap (λ (f : List Bool). length f) new) ∙ len in
-              ap (λ (f : List Bool). get_or f k false) new ∙ get_or-set_same u.flags k true false (omega arith)
-          | inr kept ↦
-              let before = set_since p (steps_move x) kept.0 (λ i l. kept.1 i (omega arith)) in
-              subst (Is k) (sym flags) (step_keeps marks next (state_in u) k before (λ v is moved. kept.1 p (omega arith) (v, is, moved)))
-        ]),
-      )
 
 -- ---- a call
 
@@ -222,10 +51,6 @@ event_after flags k d below event range =
     ∙ ap (λ (m : ℕ). min m (bit_at (bit_not w32 d.inten) k)) (bit_at_and flags (all_events d) k ∙ ap (λ (m : ℕ). min (bit_at flags k) m) (bit_at_ones d.config.events k event))
     ∙ ap (λ (m : ℕ). min (min (bit_at flags k) 1) m) (bit_at_not w32 d.inten k range below)
     )
-
--- the bit of an event that channels see
-pub seen_bit : (d : DeviceValue) (k : ℕ) → k < 32 → d.inten < 2 ^ 32 → bit_at (visible_events d) k ≡ min (bit_at d.events k) (1 - bit_at d.inten k)
-seen_bit d k below range = bit_at_and d.events (bit_not w32 d.inten) k ∙ ap (λ (m : ℕ). min (bit_at d.events k) m) (bit_at_not w32 d.inten k range below)
 
 pub flag_of_bit : (flags k : ℕ) → k < 32 → bit_at flags k ≡ 1 → Is k (flags_of flags)
 flag_of_bit flags k below on = get_or_flags_of flags k below ∙ eq-eqb (bit_at flags k) 1 on
@@ -306,7 +131,7 @@ module _ (marks : MarkList) (most : ℕ) (t : Thread) (s : Setup) (k : ℕ) (has
   takes_set : (j : ℕ) → j < count → PassesIn j → IsSet d k × (¬ IsHigh d.inten k)
   takes_set j less w =
       let off : ¬ IsHigh d.inten k = (λ on. (hides on).1 j less w) in
-      elim (set_or_clear marks from k from.flags) [
+      elim (cases_Bool (get_or from.flags k false)) [
         | inl was ↦ (sym (seen off) ∙ flag_bit (visible_events d) k below was, off)
         | inr clear ↦
             let still = clear_since marks from k 0 j (omega arith) (goes j less) clear in
@@ -324,15 +149,13 @@ moved_waits events th (Some e) k is = by (nat_lt e events) is
     by false is = cc
 
 answer_waits : (events : ℕ) (th : Thread) (last : Option ChanTurn) (signal : Option ℕ) (k : ℕ) → (answer events th last signal).status ≡ WaitingForEvent k → last ≡ Some (Waiting k)
-answer_waits events th None signal k is = absurd (cc)
 answer_waits events th (Some Moved) signal k is = absurd (moved_waits events th signal k is)
 answer_waits events th (Some (Waiting e)) signal k is = by (nat_lt e events) is
   where
     by : (b : Bool) → (if b then record th { status = WaitingForEvent e } else failed operand_invalid th).status ≡ WaitingForEvent k → Some (Waiting e) ≡ Some (Waiting k)
     by true is = let same : e ≡ k = cc in ap (λ (j : ℕ). Some (Waiting j)) same
     by false is = absurd (cc)
-answer_waits events th (Some Ended) signal k is = absurd (cc)
-answer_waits events th (Some (Fault kind)) signal k is = absurd (cc)
+answer_waits events th last signal k is = absurd (cc)
 
 -- a call whose last step waits leaves the flag clear
 last_unset : (marks : MarkList) (s v : Machine) (most taken : ℕ) (last : Option ChanTurn) (k : ℕ) → TakesSteps marks s most taken last v → last ≡ Some (Waiting k) → IsClear k v.flags
@@ -341,7 +164,7 @@ last_unset marks s v most (suc p) last k x is =
     let u = after_steps marks s p in
     let answers : Some (answer_at marks u) ≡ Some (Waiting k) = sym x.answer ∙ is in
     let waits : answer_at marks u ≡ Waiting k = cc in
-    let clear = step_unset marks (ahead_of u.channel) (state_in u) k waits in
+    let clear = (waits_at marks u k waits).1.1 in
     let same : v ≡ u = x.ends_at ∙ is_still marks u (subst ChangesNothing (sym waits) tt) in
     subst (λ (m : Machine). IsClear k m.flags) (sym same) clear
 
@@ -559,15 +382,14 @@ turn_exact k n most d e regions left turn has x =
     subst (λ (v : DeviceValue). Exact k d.events v.events (Sets k (Turns n most) d regions) (Ends k (Turns n most) d regions)) (turn_device x) (turn_sets d regions n most k has)
 
 access_exact : (k : ℕ) (a : Access) (d e : DeviceValue) (regions left : List Region) (answer : Answer) → HasLine d k → Does a d regions answer e left → Exact k d.events e.events (Sets k a d regions) (Ends k a d regions)
-access_exact k (Reads at) d e regions left answer has x = same_exact k d.events e.events (Sets k (Reads at) d regions) ⊥ (ap (λ (v : DeviceValue). v.events) x.1) (λ up. up.1) (λ down. down)
 access_exact k (Writes at value) d e regions left answer has x =
     subst (λ (v : DeviceValue). Exact k d.events v.events (Sets k (Writes at value) d regions) (Ends k (Writes at value) d regions)) (sym x.1) (write_exact k at value d regions has)
 access_exact k (Turns n most) d e regions left answer has x = turn_exact k n most d e regions left x.0 has x.1.1
-access_exact k (Stores addr byte) d e regions left answer has x = same_exact k d.events e.events (Sets k (Stores addr byte) d regions) ⊥ (ap (λ (v : DeviceValue). v.events) x.1) (λ up. up.1) (λ down. down)
 access_exact k Resets d e regions left answer has x =
     let low : ¬ IsSet e k = (λ high. let zero_bit = ap (λ (v : DeviceValue). bit_at v.events k) x.1 ∙ bit_at-zero k in omega (arith, zero_bit, high)) in
     ((λ high. absurd (low high)), (λ why. elim why [ inl up ↦ absurd (up.1) | inr stays ↦ absurd (stays.1 tt) ]))
 access_exact k (Restores saved) d e regions left answer has x = restored_bit k saved.events d.events e.events (ap (λ (v : DeviceValue). v.events) x.1)
+access_exact k a d e regions left answer has x = same_exact k d.events e.events (Sets k a d regions) ⊥ (ap (λ (v : DeviceValue). v.events) x.1) (λ up. up.1) (λ down. down)
 
 -- ---- accesses in a row
 
@@ -578,9 +400,5 @@ events_are_exact access answer before lent left count k n happen has within =
     (λ j less. access_exact k (access j) (before j) (before (j + 1)) (lent j) (left j) (answer j) (all_have access answer before lent left count k happen has j (omega arith)) (happen j less)) within
 
 pub taken_was_set : TakenWasSet
-taken_was_set (Reads at) d e regions left answer k x has w = absurd w
-taken_was_set (Writes at value) d e regions left answer k x has w = absurd w
 taken_was_set (Turns n most) d e regions left answer k x has w = turn_takes_set d regions n most k has w
-taken_was_set (Stores addr byte) d e regions left answer k x has w = absurd w
-taken_was_set Resets d e regions left answer k x has w = absurd w
-taken_was_set (Restores saved) d e regions left answer k x has w = absurd w
+taken_was_set a d e regions left answer k x has w = absurd w

@@ -1,9 +1,9 @@
 -- A channel's turns stay in the copy that explains its program.
-use Rattle.std.proofs.Common.{◌≡◌, ◌≢◌, ◌∙◌, ◌⊎◌, ℕ, zero, suc, ◌+◌, ◌-◌, ◌%◌, ◌/◌, ◌^◌, ◌<◌, Bool, true, false, ◌&&◌, List, [], append-nil, Option, Some, None, ap, refl, sym, subst, arith, inl, inr, true≢false}
-use Rattle.std.specs.Prelude.{◌==◌, IsSomeAnd, is_some, nat_lt, not, replicate, slice_get}
+use Rattle.std.proofs.Common.{◌≡◌, ◌∙◌, ◌⊎◌, ℕ, suc, ◌+◌, ◌-◌, ◌%◌, ◌/◌, ◌^◌, ◌<◌, Bool, true, false, ◌&&◌, List, [], append-nil, Option, Some, None, ap, refl, sym, subst, arith, inl, inr, true≢false}
+use Rattle.std.specs.Prelude.{IsSomeAnd, is_some, nat_lt, not, replicate, slice_get}
 use Rattle.std.proofs.lemmas.Bool.{and_parts, cases_eq}
-use Rattle.dma_insn.specs.ControlWord.{field}
 use Rattle.std.specs.List.{Contains}
+use Rattle.dma_insn.specs.ControlWord.{field}
 use Rattle.dma_mem.specs.Marking.{MarkList}
 use Rattle.dma_mem.specs.Places.{Descriptor, destinations, sources}
 use Rattle.dma_mem.specs.Regions.{Piece, pieces_of}
@@ -18,20 +18,21 @@ use Rattle.dma_chan.specs.Stepping.{after_steps}
 use Rattle.dma_chan.proofs.CallWrites.{call_stays_in, load_executes, many_in, next_inside, nexts}
 use Rattle.dma_chan.proofs.ReadsOnly.{reads_inside}
 use Rattle.dma_chan.proofs.StepsTaken.{steps_move}
-use Rattle.dma_device.specs.Accesses.{Access, Answer, Does, Happen, Reads, Resets, Restores, Stores, Turns, Writes}
+use Rattle.dma_device.specs.Accesses.{Access, Answer, Does, Happen, Resets, Restores, Turns, Writes}
 use Rattle.dma_device.specs.CallSteps.{Executes as Steps, first_in, marks_in}
-use Rattle.dma_device.specs.Device.{DeviceValue, by_manager, by_thread, go, is_interrupt, program_at, signalled, with_thread, written}
+use Rattle.dma_device.specs.Device.{DeviceValue, is_interrupt, program_at, signalled, with_thread, written}
 use Rattle.dma_device.specs.Explaining.{CallReads, GivesNone, IsUnderway, OnlyDmagoGives, StaysIn, TurnsStayIn, bus_of, channel_if, channel_of, copy_of, program_if, program_of}
-use Rattle.dma_device.specs.Thread.{dbg_instr, failed, is_faulting, killed, operand_invalid, reset_thread, started, undef_instr}
-use Rattle.dma_device.specs.Turns.{Outcome, Setup, TakesTurn, begins, called_if, follows, last_in, machine_in, machine_left, may_follow, runs_at, runs_if, setup_of, signal_in, steps_in, thread_left}
+use Rattle.dma_device.specs.Thread.{failed, is_faulting, killed, reset_thread, started}
+use Rattle.dma_device.specs.Turns.{Setup, TakesTurn, begins, called_if, follows, last_in, machine_in, machine_left, may_follow, runs_at, runs_if, setup_of, signal_in, steps_in, thread_left}
 use Rattle.dma_device.specs.Writes.{CallWrote}
 use Rattle.dma_device.specs.declared.device.turns.Called.{Called}
 use Rattle.dma_device.specs.declared.device.turns.Turn.{Turn}
 use Rattle.dma_device.specs.declared.thread.Thread.{Thread}
 use Rattle.dma_device.proofs.Answered.{answer_channel}
-use Rattle.dma_device.proofs.Calls.{call_acts, call_is, takes, turn_device}
-use Rattle.dma_device.proofs.Cases.{branch, go_cases, manager_cases, thread_cases, write_cases}
+use Rattle.dma_device.proofs.Calls.{call_keeps, takes, turn_device, turn_keeps}
+use Rattle.dma_device.proofs.Cases.{branch, debug_cases, write_cases}
 use Rattle.dma_device.proofs.Faults.{set_other}
+use Rattle.dma_device.proofs.History.{kept_along}
 use Rattle.dma_device.proofs.Starts.{set_found}
 use Rattle.dma_device.proofs.Writes.{turn_writes_each}
 
@@ -61,19 +62,14 @@ module _ (bus : Bus) (program : List ℕ) (t : Descriptor) (count : ℕ) (h : Ex
   -- ---- a call
 
   after_call : (marks : MarkList) (made : Bool) (most : ℕ) (s : Setup) → (made ≡ true → runs_at s.device n ≡ true) → HasCopy s.device → HasCopy (called_if made marks n most s).left.device
-  after_call marks made most s on g = elim (call_is made marks n most s) [
-    | inl rests ↦ subst (λ (o : Outcome). HasCopy o.left.device) (sym rests.is) g
-    | inr acts ↦
-        let d = s.device in
-        let th = acts.thread in
-        let to = machine_left marks most th s in
-        let w = runs_copy d th acts.found (on acts.on) g in
-        let stays = call_stays_in bus program t count marks (machine_in s th) most (steps_in marks most th s) (last_in marks most th s) to h w (takes marks most th s) in
-        let after = thread_left marks most th s in
-        let there : slice_get (called_if made marks n most s).left.device.threads n ≡ Some after = ap (λ (o : Outcome). slice_get o.left.device.threads n) (call_acts marks most acts) ∙ set_found d.threads n th after acts.found in
-        let same : after.channel ≡ to.channel = answer_channel d.config.events (record th { channel = to.channel; pc = (th.base + to.channel.registers.pc) % 2 ^ 32 }) (last_in marks most th s) (signal_in marks most th s) in
-        subst (λ (o : Option Thread). InCopy (channel_if o)) (sym there) (subst (λ (c : ChannelValue). Executes bus program count c ⊎ (c.program ≡ None)) (sym same) stays.channel)
-  ]
+  after_call marks made most s on g = call_keeps HasCopy made marks n most s g (λ acts.
+      let d = s.device in
+      let th = acts.thread in
+      let to = machine_left marks most th s in
+      let w = runs_copy d th acts.found (on acts.on) g in
+      let stays = call_stays_in bus program t count marks (machine_in s th) most (steps_in marks most th s) (last_in marks most th s) to h w (takes marks most th s) in
+      let same : (thread_left marks most th s).channel ≡ to.channel = answer_channel d.config.events (record th { channel = to.channel; pc = (th.base + to.channel.registers.pc) % 2 ^ 32 }) (last_in marks most th s) (signal_in marks most th s) in
+      subst (λ (o : Option Thread). InCopy (channel_if o)) (sym (set_found d.threads n th (thread_left marks most th s) acts.found)) (subst (λ (c : ChannelValue). Executes bus program count c ⊎ (c.program ≡ None)) (sym same) stays.channel))
 
   step_at : (marks : MarkList) (made : Bool) (most : ℕ) (s : Setup) → (made ≡ true → runs_at s.device n ≡ true) → HasCopy s.device → (x : Steps made n s) (j : ℕ) → j < steps_in marks most x.thread s → Executes bus program count (after_steps marks (machine_in s x.thread) j).channel
   step_at marks made most s on g x j less =
@@ -134,41 +130,22 @@ module _ (bus : Bus) (program : List ℕ) (t : Descriptor) (count : ℕ) (h : Ex
   given_none c (Some x) (inl same) g = subst InCopy (sym same) g
   given_none c (Some x) (inr none) g = inr none
 
-  one_other : (marks : MarkList) (made : Bool) (m most : ℕ) (s : Setup) → n ≢ m → channel_of (called_if made marks m most s).left.device n ≡ channel_of s.device n
-  one_other marks made m most s other = elim (call_is made marks m most s) [
-    | inl rests ↦ ap (λ (o : Outcome). channel_of o.left.device n) rests.is
-    | inr acts ↦
-        ap (λ (o : Outcome). channel_of o.left.device n) (call_acts marks most acts)
-        ∙ ap channel_if (set_other s.device.threads m n _ other)
-  ]
-
   after_access : (a : Access) (d e : DeviceValue) (regions left : List Region) (answer : Answer) → Does a d regions answer e left → GivesNone a n d e → HasCopy d → HasCopy e
   after_access (Turns m most) d e regions left answer does none g =
       let x = does.1.1 in
       elim (cases_eq n m) [
         | inl own ↦ after_turn d regions most e left does.0 g (subst (λ (j : ℕ). TakesTurn d regions j most e left does.0) (sym own) x)
         | inr other ↦
-            let marks = marks_in regions in
-            let first = first_in d regions m most in
-            let same : channel_of e n ≡ channel_of d n = ap (λ (v : DeviceValue). channel_of v n) (sym (turn_device x))
-            ∙ one_other marks (follows first.left.device m first.called) m 1 first.left other
-            ∙ one_other marks (begins d m most) m most (setup_of d regions) other in
+            let same : channel_of e n ≡ channel_of d n = turn_keeps x (λ (v : DeviceValue). channel_of v n ≡ channel_of d n) (λ made marks k s h.
+            call_keeps (λ (v : DeviceValue). channel_of v n ≡ channel_of d n) made marks m k s h (λ _. ap channel_if (set_other s.device.threads m n _ other) ∙ h)) refl in
             subst InCopy (sym same) g
       ]
-  after_access (Reads at) d e regions left answer does none g = given_none (channel_of d n) (channel_of e n) none g
-  after_access (Writes at value) d e regions left answer does none g = given_none (channel_of d n) (channel_of e n) none g
-  after_access (Stores addr byte) d e regions left answer does none g = given_none (channel_of d n) (channel_of e n) none g
-  after_access Resets d e regions left answer does none g = given_none (channel_of d n) (channel_of e n) none g
-  after_access (Restores saved) d e regions left answer does none g = given_none (channel_of d n) (channel_of e n) none g
+  after_access a d e regions left answer does none g = given_none (channel_of d n) (channel_of e n) none g
 
   -- the accesses up to number k
   pub along : (access : ℕ → Access) (answer : ℕ → Answer) (before : ℕ → DeviceValue) (lent left : ℕ → List Region) (all k : ℕ) → Happen access answer before lent left all → ((j : ℕ) → j < k → GivesNone (access j) n (before j) (before (j + 1))) → k < suc all → HasCopy (before 0) → HasCopy (before k)
-  along access answer before lent left all zero happen none less g = g
-  along access answer before lent left all (suc j) happen none less g =
-      let next : j + 1 ≡ suc j = omega arith in
-      let here = along access answer before lent left all j happen (λ i l. none i (omega arith)) (omega arith) g in
-      subst (λ (i : ℕ). HasCopy (before i)) next
-      (after_access (access j) (before j) (before (j + 1)) (lent j) (left j) (answer j) (happen j (omega arith)) (none j (omega arith)) here)
+  along access answer before lent left all k happen none less g =
+      kept_along (λ j. HasCopy (before j)) k g (λ j l h. after_access (access j) (before j) (before (j + 1)) (lent j) (left j) (answer j) (happen j (omega arith)) (none j l) h) k (omega arith)
 
 -- ---- from where the copy was found
 
@@ -242,62 +219,30 @@ start_thread n m d t nonsecure base program found =
 signalled_gives : (n k : ℕ) (d : DeviceValue) → Gives n d (signalled k d)
 signalled_gives n k d = branch (Gives n d) (is_interrupt d k) _ _ (λ on. inl (inl refl)) (λ off. inl (inl refl))
 
-thread_gives : (n m : ℕ) (o : Option Thread) (opcode byte : ℕ) (d : DeviceValue) → slice_get d.threads m ≡ o → Gives n d (by_thread m o opcode byte d)
-thread_gives n m None opcode byte d is = inl (inl refl)
-thread_gives n m (Some t) opcode byte d is = thread_cases (Gives n d) m t opcode byte d (record {
-  kill = λ _. set_thread n m d t (killed t) is (inr refl);
-  faulting = λ _ _. inl (inl refl);
-  sev = λ _ _ _ _. signalled_gives n (byte / 8) d;
-  no_event = λ _ _ _ _. set_thread n m d t (failed (operand_invalid + dbg_instr) t) is (inl refl);
-  undefined = λ _ _ _. set_thread n m d t (failed (undef_instr + dbg_instr) t) is (inl refl);
-})
-
-go_gives : (n m : ℕ) (ram : List Piece) (nonsecure : Bool) (o : Option Thread) (d : DeviceValue) → slice_get d.threads m ≡ o → Gives n d (go ram nonsecure m o d)
-go_gives n m ram nonsecure None d is = inl (inl refl)
-go_gives n m ram nonsecure (Some t) d is = go_cases (Gives n d) ram nonsecure m t d (record {
-  refused = λ _. inl (inl refl);
-  starts = λ _ _. start_thread n m d t nonsecure d.dbginst1 (program_at ram d.dbginst1) is;
-  busy = λ _ _. inl (inl refl);
-})
-
-manager_gives : (n : ℕ) (ram : List Piece) (opcode byte : ℕ) (d : DeviceValue) → Gives n d (by_manager ram opcode byte d)
-manager_gives n ram opcode byte d = manager_cases (Gives n d) ram opcode byte d (record {
-  kill = λ _. inl (inl refl);
-  faulting = λ _ _. inl (inl refl);
-  sev = λ _ _ _ _. signalled_gives n (byte / 8) d;
-  no_event = λ _ _ _ _. inl (inl refl);
-  secure = λ _ _ _ _. go_gives n byte ram false (slice_get d.threads byte) d refl;
-  nonsecure = λ _ _ _ _ _. go_gives n byte ram true (slice_get d.threads byte) d refl;
-  undefined = λ _ _ _ _ _. inl (inl refl);
-})
-
 written_gives : (n : ℕ) (ram : List Piece) (at value : ℕ) (d : DeviceValue) → Gives n d (written ram at value d)
 written_gives n ram at value d = write_cases (Gives n d) ram at value d (record {
   inten = inl (inl refl);
   intclr = λ _. inl (inl refl);
-  dbgcmd = λ _.
-      let opcode = field 16 8 d.dbginst0 in
-      let byte = field 24 8 d.dbginst0 in
-      let m = field 8 3 d.dbginst0 in
-      branch (Gives n d) (field 0 1 d.dbginst0 == 1) (by_thread m (slice_get d.threads m) opcode byte d) (by_manager ram opcode byte d)
-      (λ _. thread_gives n m (slice_get d.threads m) opcode byte d refl) (λ _. manager_gives n ram opcode byte d);
+  dbgcmd = λ _. debug_cases (Gives n d) ram d (record {
+    same = inl (inl refl);
+    manager = λ _ _. inl (inl refl);
+    sev = λ byte _. signalled_gives n (byte / 8) d;
+    kills = λ t _ is. set_thread n (field 8 3 d.dbginst0) d t (killed t) is (inr refl);
+    fails = λ why t _ is. set_thread n (field 8 3 d.dbginst0) d t (failed why t) is (inl refl);
+    starts = λ m t nonsecure _ is. start_thread n m d t nonsecure d.dbginst1 (program_at ram d.dbginst1) is;
+  });
   dbginst0 = inl (inl refl);
   dbginst1 = inl (inl refl);
   other = inl (inl refl);
 })
 
 none_after_reset : (bus : BusWidth) (count n : ℕ) → program_if (channel_if (slice_get (replicate count (reset_thread bus)) n)) ≡ None
-none_after_reset bus zero n = refl
-none_after_reset bus (suc count) zero = refl
 none_after_reset bus (suc count) (suc n) = none_after_reset bus count n
-
-same_device : (n : ℕ) (d e : DeviceValue) → e ≡ d → (channel_of e n ≡ channel_of d n) ⊎ (program_of e n ≡ None)
-same_device n d e is = inl (ap (λ (v : DeviceValue). channel_of v n) is)
+none_after_reset bus count n = refl
 
 pub only_dmago_gives : OnlyDmagoGives
-only_dmago_gives (Reads at) d e regions left answer n does fresh = inl (same_device n d e does.1)
 only_dmago_gives (Writes at value) d e regions left answer n does fresh = subst (Gives n d) (sym does.1) (written_gives n (pieces_of regions) at value d)
 only_dmago_gives (Turns m most) d e regions left answer n does fresh = inl tt
-only_dmago_gives (Stores addr byte) d e regions left answer n does fresh = inl (same_device n d e does.1)
 only_dmago_gives Resets d e regions left answer n does fresh = inl (inr (ap (λ (v : DeviceValue). program_of v n) does.1 ∙ none_after_reset d.config.bus d.config.channels n))
 only_dmago_gives (Restores saved) d e regions left answer n does fresh = absurd (fresh saved refl)
+only_dmago_gives a d e regions left answer n does fresh = inl (inl (ap (λ (v : DeviceValue). channel_of v n) does.1))

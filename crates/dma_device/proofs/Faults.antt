@@ -1,10 +1,9 @@
 -- What makes threads faulting, and with them the line irq_abort high.
-use Rattle.std.proofs.Common.{◌≡◌, ◌≢◌, ◌∙◌, ◌⊎◌, ℕ, zero, suc, ◌+◌, ◌-◌, ◌*◌, ◌%◌, ◌/◌, ◌^◌, ◌≤◌, Bool, true, false, ◌&&◌, ◌||◌, List, [], ◌∷◌, Option, Some, None, ap, refl, sym, subst, arith, inl, inr, true≢false, bit_and, bit_or, w32, replicate}
+use Rattle.std.proofs.Common.{◌≡◌, ◌≢◌, ◌∙◌, ◌⊎◌, ℕ, zero, suc, ◌+◌, ◌-◌, ◌*◌, ◌%◌, ◌/◌, ◌^◌, ◌≤◌, Bool, true, false, ◌&&◌, ◌||◌, List, [], ◌∷◌, Option, Some, None, ap, refl, sym, subst, arith, inl, inr, true≢false, replicate}
 use Rattle.std.specs.Prelude.{◌↔◌, ◌==◌, if◌then◌else◌, nat_lt, not, slice_get, slice_set}
-use Rattle.std.specs.Int.{bit_at, bit_not}
+use Rattle.std.specs.Int.{bit_at}
 use Rattle.std.specs.List.{list_any}
-use Rattle.std.proofs.Math.Bool.{or-true}
-use Rattle.std.proofs.lemmas.Bool.{and_parts, cases_eq, eq-eqb, ltb-false, ne_eqb, not-true}
+use Rattle.std.proofs.lemmas.Bool.{and_from, and_parts, cases_eq, eq-eqb, false_from_ne_true, ltb-false, ne_eqb, not-true, or_cases, or_left, or_right, true_from_ne_false}
 use Rattle.std.proofs.lemmas.List.Elements.{All-replicate}
 use Rattle.std.proofs.lemmas.List.Folds.{list_any_none}
 use Rattle.std.proofs.lemmas.Nat.Bits.{bit_at-suc, bit_at-zero, bit_at_lowest}
@@ -15,35 +14,32 @@ use Rattle.dma_mem.specs.Regions.{Piece, pieces_of}
 use Rattle.dma_mem.specs.declared.regions.Region.{Region}
 use Rattle.dma_chan.specs.declared.bus.BusWidth.{BusWidth}
 use Rattle.dma_chan.specs.declared.turn.ChanTurn.{ChanTurn}
-use Rattle.dma_chan.specs.declared.turn.ChanTurn.TheVariants.{Moved, Waiting, Ended, Fault}
+use Rattle.dma_chan.specs.declared.turn.ChanTurn.TheVariants.{Moved, Waiting, Ended}
 use Rattle.dma_device.specs.Offsets as offset
 use Rattle.dma_device.specs.declared.device.Manager.{Manager}
 use Rattle.dma_device.specs.declared.config.Config.{Config}
 use Rattle.dma_device.specs.declared.device.turns.Turn.{Turn}
-use Rattle.dma_device.specs.declared.thread.Status.{Status}
-use Rattle.dma_device.specs.declared.thread.Status.TheVariants.{Stopped, Executing, WaitingForEvent, Faulting}
+use Rattle.dma_device.specs.declared.thread.Status.TheVariants.{Executing, WaitingForEvent}
 use Rattle.dma_device.specs.declared.thread.Thread.{Thread}
-use Rattle.dma_device.specs.Accesses.{Access, Answer, Does, Reads, Resets, Restores, Stores, Turns, Writes}
+use Rattle.dma_device.specs.Accesses.{Access, Answer, Does, Reads, Resets, Restores, Turns, Writes}
 use Rattle.dma_device.specs.CallSteps.{Executes, first_in, marks_in, second_in}
-use Rattle.dma_device.specs.Device.{reset_device, DeviceValue, all_events, by_manager, by_thread, debugged, faulting_bits, go, irq_abort, is_interrupt, program_at, signalled, with_thread, written}
+use Rattle.dma_device.specs.Device.{reset_device, DeviceValue, by_manager, by_thread, debugged, faulting_bits, go, irq_abort, is_interrupt, program_at, signalled, with_thread, written}
 use Rattle.dma_device.specs.Faults.{EndsFault, EndsAll, AbortIsFaulting, AbortsAreExact, Addresses, CallFails, DebugFails, FailedSince, Fails, FaultsAreExact, Kills, LastFails, TheChannel, TheManager, TurnFails, Who, can_execute, channel_fails, debug_fails, faults_at, faults_if, go_fails, manager_fails}
 use Rattle.dma_device.specs.Interrupts.{is_fine}
-use Rattle.dma_device.specs.Thread.{answer, dbg_instr, failed, is_faulting, is_faulting_status, is_stopped_status, killed, operand_invalid, reset_thread, started, undef_instr}
+use Rattle.dma_device.specs.Thread.{answer, dbg_instr, failed, is_faulting, killed, operand_invalid, reset_thread, started, undef_instr}
 use Rattle.dma_device.specs.Turns.{Outcome, Setup, TakesTurn, begins, called_if, follows, last_in, machine_left, may_follow, number_of, runs_at, runs_if, setup_of, signal_in, thread_left, with_flags}
-use Rattle.dma_device.proofs.Calls.{call_acts, call_is, turn_device}
-use Rattle.dma_device.proofs.Cases.{branch, go_cases, manager_cases, thread_cases, write_cases}
+use Rattle.dma_device.proofs.Calls.{call_acts, call_is, call_keeps, turn_device, turn_keeps}
+use Rattle.dma_device.proofs.Cases.{branch, debug_cases, go_cases, manager_cases, thread_cases, write_cases}
 use Rattle.dma_device.proofs.FlagNumber.{flag_few, flag_is}
-use Rattle.dma_device.proofs.Starts.{set_found}
+use Rattle.dma_device.proofs.Starts.{set_found, stopped_fine}
 use Rattle.dma_device.proofs.History as history
 
 -- ---- a thread is replaced
 
 pub set_other : (ts : List Thread) (n m : ℕ) (u : Thread) → m ≢ n → slice_get (slice_set ts n u) m ≡ slice_get ts m
-set_other [] n m u other = refl
 set_other (t ∷ ts) zero zero u other = absurd (other refl)
-set_other (t ∷ ts) zero (suc m) u other = refl
-set_other (t ∷ ts) (suc n) zero u other = refl
 set_other (t ∷ ts) (suc n) (suc m) u other = set_other ts n m u (λ same. other (ap suc same))
+set_other ts n m u other = refl
 
 set_there : (d : DeviceValue) (n : ℕ) (t u : Thread) → slice_get d.threads n ≡ Some t → faults_at (TheChannel n) (with_thread n u d) ≡ is_faulting u
 set_there d n t u found = ap faults_if (set_found d.threads n t u found)
@@ -51,9 +47,13 @@ set_there d n t u found = ap faults_if (set_found d.threads n t u found)
 set_elsewhere : (d : DeviceValue) (n m : ℕ) (u : Thread) → m ≢ n → faults_at (TheChannel m) (with_thread n u d) ≡ faults_at (TheChannel m) d
 set_elsewhere d n m u other = ap faults_if (set_other d.threads n m u other)
 
+-- the manager and the threads are the same
+same_parts : (who : Who) (d e : DeviceValue) → e.manager ≡ d.manager → e.threads ≡ d.threads → faults_at who e ≡ faults_at who d
+same_parts TheManager d e manager threads = ap (λ (m : Manager). m.is_faulting) manager
+same_parts (TheChannel n) d e manager threads = ap (λ (ts : List Thread). faults_if (slice_get ts n)) threads
+
 signal_same : (who : Who) (k : ℕ) (d : DeviceValue) → faults_at who (signalled k d) ≡ faults_at who d
-signal_same TheManager k d = branch (λ (e : DeviceValue). faults_at TheManager e ≡ faults_at TheManager d) (is_interrupt d k) (record d { interrupts = bit_or d.interrupts (2 ^ k) }) (record d { events = bit_or d.events (2 ^ k) }) (λ on. refl) (λ off_it. refl)
-signal_same (TheChannel n) k d = branch (λ (e : DeviceValue). faults_at (TheChannel n) e ≡ faults_at (TheChannel n) d) (is_interrupt d k) (record d { interrupts = bit_or d.interrupts (2 ^ k) }) (record d { events = bit_or d.events (2 ^ k) }) (λ on. refl) (λ off_it. refl)
+signal_same who k d = branch (λ (e : DeviceValue). faults_at who e ≡ faults_at who d) (is_interrupt d k) _ _ (λ _. same_parts who d _ refl refl) (λ _. same_parts who d _ refl refl)
 
 -- ---- the debug instruction by a channel thread
 
@@ -71,18 +71,6 @@ thread_own n (Some t) opcode byte d found =
       sev = λ no fine is event. (let right : r ≡ false = rw (no, fine, is, event) refl in signal_same (TheChannel n) (byte / 8) d ∙ ap faults_if found ∙ fine ∙ sym right);
       no_event = λ no fine is none. (let right : r ≡ true = rw (no, fine, is, none) refl in set_there d n t (failed (operand_invalid + dbg_instr) t) found ∙ sym right);
       undefined = λ no fine other. (let right : r ≡ true = rw (no, fine, other) refl in set_there d n t (failed (undef_instr + dbg_instr) t) found ∙ sym right);
-    })
-
--- what it leaves of another thread
-by_other : (who : Who) (n : ℕ) (o : Option Thread) (opcode byte : ℕ) (d : DeviceValue) → ((u : Thread) → faults_at who (with_thread n u d) ≡ faults_at who d) → faults_at who (by_thread n o opcode byte d) ≡ faults_at who d
-by_other who n None opcode byte d keeps = refl
-by_other who n (Some t) opcode byte d keeps =
-    thread_cases (λ (e : DeviceValue). faults_at who e ≡ faults_at who d) n t opcode byte d (record {
-      kill = λ is. keeps (killed t);
-      faulting = λ no is. refl;
-      sev = λ no fine is event. signal_same who (byte / 8) d;
-      no_event = λ no fine is none. keeps (failed (operand_invalid + dbg_instr) t);
-      undefined = λ no fine other. keeps (failed (undef_instr + dbg_instr) t);
     })
 
 -- ---- by the manager
@@ -104,40 +92,6 @@ manager_own ram opcode byte d =
       secure = λ no fine other is. (let right : r ≡ go_fails d false (slice_get d.threads byte) = rw (no, fine, other, is) refl in go_own ram false byte (slice_get d.threads byte) d fine ∙ sym right);
       nonsecure = λ no fine other more is. (let right : r ≡ go_fails d true (slice_get d.threads byte) = rw (no, fine, other, more, is) refl in go_own ram true byte (slice_get d.threads byte) d fine ∙ sym right);
       undefined = λ no fine other more rest. (let right : r ≡ true = rw (no, fine, other, more, rest) refl in sym right);
-    })
-
-stopped_fine : (s : Status) → is_stopped_status s ≡ true → is_faulting_status s ≡ false
-stopped_fine Stopped is = refl
-stopped_fine Executing is = refl
-stopped_fine (WaitingForEvent e) is = refl
-stopped_fine Faulting is = absurd (true≢false (sym is))
-
-go_channel : (ram : List Piece) (nonsecure : Bool) (n m : ℕ) (o : Option Thread) (d : DeviceValue) → slice_get d.threads n ≡ o → faults_at (TheChannel m) (go ram nonsecure n o d) ≡ faults_at (TheChannel m) d
-go_channel ram nonsecure n m None d found = refl
-go_channel ram nonsecure n m (Some t) d found =
-    let u = started d.config.bus nonsecure d.dbginst1 (program_at ram d.dbginst1) in
-    let new : DeviceValue = with_thread n u d in
-    go_cases (λ (e : DeviceValue). faults_at (TheChannel m) e ≡ faults_at (TheChannel m) d) ram nonsecure n t d (record {
-      refused = λ is. refl;
-      starts = λ allowed stopped. elim (cases_eq m n) [
-        | inl same ↦
-            let here : faults_at (TheChannel n) new ≡ faults_at (TheChannel n) d = set_there d n t u found ∙ sym (ap faults_if found ∙ stopped_fine t.status stopped) in
-            subst (λ (j : ℕ). faults_at (TheChannel j) new ≡ faults_at (TheChannel j) d) (sym same) here
-        | inr other ↦ set_elsewhere d n m u other
-      ];
-      busy = λ allowed runs. refl;
-    })
-
-manager_channel : (ram : List Piece) (m opcode byte : ℕ) (d : DeviceValue) → faults_at (TheChannel m) (by_manager ram opcode byte d) ≡ faults_at (TheChannel m) d
-manager_channel ram m opcode byte d =
-    manager_cases (λ (e : DeviceValue). faults_at (TheChannel m) e ≡ faults_at (TheChannel m) d) ram opcode byte d (record {
-      kill = λ is. refl;
-      faulting = λ no is. refl;
-      sev = λ no fine is event. signal_same (TheChannel m) (byte / 8) d;
-      no_event = λ no fine is none. refl;
-      secure = λ no fine other is. go_channel ram false byte m (slice_get d.threads byte) d refl;
-      nonsecure = λ no fine other more is. go_channel ram true byte m (slice_get d.threads byte) d refl;
-      undefined = λ no fine other more rest. refl;
     })
 
 -- ---- by either
@@ -182,17 +136,30 @@ module _ (ram : List Piece) (d : DeviceValue) where
       (when_channel (TheChannel number) is.0 ∙ thread_own number (slice_get d.threads number) first_byte second_byte d refl)
 
   passed_by : (who : Who) → ¬ Addresses d who → faults_at who (debugged ram d) ≡ faults_at who d
-  passed_by TheManager off_it = elim (cases_eq (field 0 1 d.dbginst0) 1) [
-    | inl is ↦ when_channel TheManager is ∙ by_other TheManager number (slice_get d.threads number) first_byte second_byte d (λ u. refl)
-    | inr other ↦ absurd (off_it other)
-  ]
-  passed_by (TheChannel m) off_it = elim (cases_eq (field 0 1 d.dbginst0) 1) [
-    | inl is ↦ elim (cases_eq number m) [
-      | inl same ↦ absurd (off_it (is, same))
-      | inr other ↦ when_channel (TheChannel m) is ∙ by_other (TheChannel m) number (slice_get d.threads number) first_byte second_byte d (λ u. set_elsewhere d number m u (λ same. other (sym same)))
-    ]
-    | inr other ↦ when_manager (TheChannel m) other ∙ manager_channel ram m first_byte second_byte d
-  ]
+  passed_by TheManager off_it =
+      debug_cases (λ (e : DeviceValue). faults_at TheManager e ≡ faults_at TheManager d) ram d (record {
+        same = refl;
+        manager = λ other _. absurd (off_it other);
+        sev = λ byte _. signal_same TheManager (byte / 8) d;
+        kills = λ _ _ _. refl;
+        fails = λ _ _ _ _. refl;
+        starts = λ _ _ _ _ _. refl;
+      })
+  passed_by (TheChannel m) off_it =
+      debug_cases (λ (e : DeviceValue). faults_at (TheChannel m) e ≡ faults_at (TheChannel m) d) ram d (record {
+        same = refl;
+        manager = λ _ _. refl;
+        sev = λ byte _. signal_same (TheChannel m) (byte / 8) d;
+        kills = λ t is _. set_elsewhere d number m (killed t) (λ same. off_it (is, sym same));
+        fails = λ why t is _. set_elsewhere d number m (failed why t) (λ same. off_it (is, sym same));
+        starts = λ n t nonsecure stopped found. (let u = started d.config.bus nonsecure d.dbginst1 (program_at ram d.dbginst1) in
+        elim (cases_eq m n) [
+          | inl same ↦
+              let here : faults_at (TheChannel n) (with_thread n u d) ≡ faults_at (TheChannel n) d = set_there d n t u found ∙ sym (ap faults_if found ∙ stopped_fine t.status stopped) in
+              subst (λ (j : ℕ). faults_at (TheChannel j) (with_thread n u d) ≡ faults_at (TheChannel j) d) (sym same) here
+          | inr other ↦ set_elsewhere d n m u other
+        ]);
+      })
 
 decide_addresses : (who : Who) (d : DeviceValue) → Addresses d who ⊎ (¬ Addresses d who)
 decide_addresses TheManager d = elim (cases_eq (field 0 1 d.dbginst0) 1) [ inl is ↦ inr (λ off_it. off_it is) | inr other ↦ inl other ]
@@ -213,26 +180,18 @@ same_exact who d e Up Down same = history.same_exact (faults_at who d ≡ true) 
 others_keep : (who : Who) (ram : List Piece) (at value : ℕ) (d : DeviceValue) → at ≢ offset.dbgcmd → faults_at who (written ram at value d) ≡ faults_at who d
 others_keep who ram at value d not_dbgcmd =
     write_cases (λ (e : DeviceValue). faults_at who e ≡ faults_at who d) ram at value d (record {
-      inten = same who (record d { inten = bit_and value (all_events d) }) refl refl;
-      intclr = λ is. same who (record d { interrupts = bit_and d.interrupts (bit_not w32 (bit_and value d.inten)) }) refl refl;
+      inten = same_parts who d _ refl refl;
+      intclr = λ is. same_parts who d _ refl refl;
       dbgcmd = λ is. absurd (true≢false (sym is ∙ ne_eqb at offset.dbgcmd not_dbgcmd));
-      dbginst0 = same who (record d { dbginst0 = value }) refl refl;
-      dbginst1 = same who (record d { dbginst1 = value }) refl refl;
+      dbginst0 = same_parts who d _ refl refl;
+      dbginst1 = same_parts who d _ refl refl;
       other = refl;
     })
-  where
-    same : (who : Who) (e : DeviceValue) → e.manager ≡ d.manager → e.threads ≡ d.threads → faults_at who e ≡ faults_at who d
-    same TheManager e manager threads = ap (λ (m : Manager). m.is_faulting) manager
-    same (TheChannel n) e manager threads = ap (λ (ts : List Thread). faults_if (slice_get ts n)) threads
 
 -- a DMAKILL doesn't fail
 kill_passes : (who : Who) (d : DeviceValue) → opcode_of d ≡ 0x01 → debug_fails who d ≡ false
 kill_passes TheManager d is = let one : (opcode_of d == 0x01) ≡ true = eq-eqb (opcode_of d) 0x01 is in rw one refl
 kill_passes (TheChannel n) d is = let one : (opcode_of d == 0x01) ≡ true = eq-eqb (opcode_of d) 0x01 is in rw one refl
-
-either : (a b : Bool) → (a || b) ≡ true → (a ≡ true) ⊎ (b ≡ true)
-either true b is = inl refl
-either false b is = inr is
 
 debug_exact : (who : Who) (ram : List Piece) (value : ℕ) (d : DeviceValue) → value % 4 ≡ 0 → Exact who d (debugged ram d) ((offset.dbgcmd ≡ offset.dbgcmd) × DebugFails who d value) ((offset.dbgcmd ≡ offset.dbgcmd) × ((value % 4 ≡ 0) × ((opcode_of d ≡ 0x01) × Addresses d who)))
 debug_exact who ram value d even =
@@ -255,7 +214,7 @@ debug_exact who ram value d even =
             | inr other ↦
                 let off_it : (opcode_of d == 0x01) ≡ false = ne_eqb (opcode_of d) 0x01 other in
                 let on : debug_result who d ≡ (faults_at who d || (can_execute who d && debug_fails who d)) = ap (λ (b : Bool). if b then false else (faults_at who d || (can_execute who d && debug_fails who d))) off_it in (
-                  (λ high. elim (either (faults_at who d) (can_execute who d && debug_fails who d) (sym on ∙ sym result ∙ high)) [
+                  (λ high. elim (or_cases (faults_at who d) (can_execute who d && debug_fails who d) (sym on ∙ sym result ∙ high)) [
                     | inl was ↦ inr (was, λ down. other down.1.1.0)
                     | inr new ↦
                         let w = and_parts (can_execute who d) (debug_fails who d) new in
@@ -263,47 +222,31 @@ debug_exact who ram value d even =
                   ]),
                   (λ why. result ∙ on ∙ elim why [
                     | inl up ↦
-                        ap (λ (b : Bool). faults_at who d || b) (ap (λ (b : Bool). b && debug_fails who d) up.1.executes ∙ up.1.fails) ∙ or-true (faults_at who d)
-                    | inr stays ↦ ap (λ (b : Bool). b || (can_execute who d && debug_fails who d)) stays.0
+                        or_right (faults_at who d) _ (and_from (can_execute who d) (debug_fails who d) up.1.executes up.1.fails)
+                    | inr stays ↦ or_left (faults_at who d) _ stays.0
                   ]),
                 )
           ]
     ]
 
-write_exact : (who : Who) (at value : ℕ) (d : DeviceValue) (regions left : List Region) → let e = written (pieces_of regions) at value d in Exact who d e (Fails who (Writes at value) d regions) (Kills who (Writes at value) d)
-write_exact who at value d regions left =
-    let ram = pieces_of regions in
-    elim (cases_eq at offset.dbgcmd) [
-      | inl dbgcmd ↦ by who (cases_eq (value % 4) 0) dbgcmd
-      | inr other ↦ not_debug who other
-    ]
-  where
-    not_debug : (who : Who) → at ≢ offset.dbgcmd → let e = written (pieces_of regions) at value d in Exact who d e (Fails who (Writes at value) d regions) (Kills who (Writes at value) d)
-    not_debug TheManager other = same_exact TheManager d (written (pieces_of regions) at value d) _ _ (others_keep TheManager (pieces_of regions) at value d other) (λ up. other up.0) (λ down. other down.0)
-    not_debug (TheChannel n) other = same_exact (TheChannel n) d (written (pieces_of regions) at value d) _ _ (others_keep (TheChannel n) (pieces_of regions) at value d other) (λ up. other up.0) (λ down. other down.0)
+-- after a write to the register at an offset
+abbrev Written : Who → ℕ → ℕ → DeviceValue → List Region → Type 0
+Written who at value d regions = Exact who d (written (pieces_of regions) at value d) ((at ≡ offset.dbgcmd) × DebugFails who d value) ((at ≡ offset.dbgcmd) × ((value % 4 ≡ 0) × ((opcode_of d ≡ 0x01) × Addresses d who)))
 
-    Goal : Who → ℕ → Type 0
-    Goal who j = Exact who d (written (pieces_of regions) j value d) ((j ≡ offset.dbgcmd) × DebugFails who d value) ((j ≡ offset.dbgcmd) × ((value % 4 ≡ 0) × ((opcode_of d ≡ 0x01) × Addresses d who)))
-
-    executes : (who : Who) → value % 4 ≡ 0 → Goal who offset.dbgcmd
-    executes who even =
+write_exact : (who : Who) (at value : ℕ) (d : DeviceValue) (regions : List Region) → Written who at value d regions
+write_exact who at value d regions = elim (cases_eq at offset.dbgcmd) [
+  | inr other ↦ same_exact who d (written (pieces_of regions) at value d) _ _ (others_keep who (pieces_of regions) at value d other) (λ up. other up.0) (λ down. other down.0)
+  | inl dbgcmd ↦ subst (λ (j : ℕ). Written who j value d regions) (sym dbgcmd) (elim (cases_eq (value % 4) 0) [
+    | inl even ↦
         let one : (value % 4 == 0) ≡ true = eq-eqb (value % 4) 0 even in
         let is : debugged (pieces_of regions) d ≡ written (pieces_of regions) offset.dbgcmd value d = ap (λ (b : Bool). let v : DeviceValue = if b then debugged (pieces_of regions) d else d in v) (sym one) in
         subst (λ (e : DeviceValue). Exact who d e ((offset.dbgcmd ≡ offset.dbgcmd) × DebugFails who d value) ((offset.dbgcmd ≡ offset.dbgcmd) × ((value % 4 ≡ 0) × ((opcode_of d ≡ 0x01) × Addresses d who)))) is (debug_exact who (pieces_of regions) value d even)
-
-    ignores : (who : Who) → value % 4 ≢ 0 → Goal who offset.dbgcmd
-    ignores who some =
+    | inr some ↦
         let off_it : (value % 4 == 0) ≡ false = ne_eqb (value % 4) 0 some in
         let is : d ≡ written (pieces_of regions) offset.dbgcmd value d = ap (λ (b : Bool). let v : DeviceValue = if b then debugged (pieces_of regions) d else d in v) (sym off_it) in
         same_exact who d (written (pieces_of regions) offset.dbgcmd value d) _ _ (ap (faults_at who) (sym is)) (λ up. some up.1.command) (λ down. some down.1.0)
-
-    there : (who : Who) → (value % 4 ≡ 0) ⊎ (value % 4 ≢ 0) → at ≡ offset.dbgcmd → Goal who at
-    there who (inl even) is = subst (Goal who) (sym is) (executes who even)
-    there who (inr some) is = subst (Goal who) (sym is) (ignores who some)
-
-    by : (who : Who) → (value % 4 ≡ 0) ⊎ (value % 4 ≢ 0) → at ≡ offset.dbgcmd → let e = written (pieces_of regions) at value d in Exact who d e (Fails who (Writes at value) d regions) (Kills who (Writes at value) d)
-    by TheManager c is = there TheManager c is
-    by (TheChannel n) c is = there (TheChannel n) c is
+  ])
+]
 
 -- ---- a call
 
@@ -316,12 +259,11 @@ waited_faults events th e true is = ((λ bad. absurd (true≢false (sym bad))), 
 waited_faults events th e false is = ((λ t. ltb-false e events is), (λ over. refl))
 
 answer_faults : (events : ℕ) (th : Thread) (last : Option ChanTurn) (signal : Option ℕ) → (is_faulting (answer events th last signal) ≡ true) ↔ LastFails events last signal
-answer_faults events th None signal = ((λ t. tt), (λ t. refl))
 answer_faults events th (Some Moved) None = ((λ bad. absurd (true≢false (sym bad))), (λ bad. absurd bad))
 answer_faults events th (Some Moved) (Some e) = moved_faults events th e (nat_lt e events) refl
 answer_faults events th (Some (Waiting e)) signal = waited_faults events th e (nat_lt e events) refl
 answer_faults events th (Some Ended) signal = ((λ bad. absurd (true≢false (sym bad))), (λ bad. absurd bad))
-answer_faults events th (Some (Fault kind)) signal = ((λ t. tt), (λ t. refl))
+answer_faults events th last signal = ((λ t. tt), (λ t. refl))
 
 executes_faults : (marks : MarkList) (n : ℕ) (made : Bool) (most : ℕ) (s : Setup) (x : Executes made n s) → (faults_at (TheChannel n) (called_if made marks n most s).left.device ≡ true) ↔ LastFails s.device.config.events (last_in marks most x.thread s) (signal_in marks most x.thread s)
 executes_faults marks n made most s x =
@@ -348,28 +290,18 @@ call_own marks n made most s fine = elim (call_is made marks n most s) [
   )
 ]
 
-call_keeps : (who : Who) (marks : MarkList) (n : ℕ) (made : Bool) (most : ℕ) (s : Setup) → ((u : Thread) (v : DeviceValue) → faults_at who (with_thread n u v) ≡ faults_at who v) → ((flags : ℕ) → faults_at who (with_flags flags s.device) ≡ faults_at who s.device) → faults_at who (called_if made marks n most s).left.device ≡ faults_at who s.device
-call_keeps who marks n made most s keeps flags = elim (call_is made marks n most s) [
-  | inl rests ↦ ap (λ (o : Outcome). faults_at who o.left.device) rests.is
-  | inr acts ↦
-      let left = number_of (machine_left marks most acts.thread s).flags in
-      ap (λ (o : Outcome). faults_at who o.left.device) (call_acts marks most acts)
-      ∙ keeps (thread_left marks most acts.thread s) (with_flags left s.device) ∙ flags left
-]
-
 runs_fine : (o : Option Thread) → runs_if o ≡ true → faults_if o ≡ false
 runs_fine None on = absurd (true≢false (sym on))
 runs_fine (Some t) on = not-true (is_faulting t) (and_parts _ (not (is_faulting t)) on).1
 
 -- ---- a turn
 
-turn_keeps : (who : Who) (d : DeviceValue) (regions : List Region) (n most : ℕ) → ((u : Thread) (v : DeviceValue) → faults_at who (with_thread n u v) ≡ faults_at who v) → ((flags : ℕ) (v : DeviceValue) → faults_at who (with_flags flags v) ≡ faults_at who v) → faults_at who (second_in d regions n most).left.device ≡ faults_at who d
-turn_keeps who d regions n most keeps flags =
-    let marks = marks_in regions in
-    let first = first_in d regions n most in
-    let m = first.left.device in
-    call_keeps who marks n (follows m n first.called) 1 first.left keeps (λ f. flags f m)
-    ∙ call_keeps who marks n (begins d n most) most (setup_of d regions) keeps (λ f. flags f d)
+-- a turn leaves a thread that it doesn't step
+turn_leaves : (who : Who) (d e : DeviceValue) (regions left : List Region) (n most : ℕ) (turn : Turn) → TakesTurn d regions n most e left turn → ((u : Thread) (v : DeviceValue) → faults_at who (with_thread n u v) ≡ faults_at who v) → ((flags : ℕ) (v : DeviceValue) → faults_at who (with_flags flags v) ≡ faults_at who v) → faults_at who e ≡ faults_at who d
+turn_leaves who d e regions left n most turn x keeps flags =
+    turn_keeps x (λ (v : DeviceValue). faults_at who v ≡ faults_at who d) (λ made marks m s h. call_keeps (λ (v : DeviceValue). faults_at who v ≡ faults_at who d) made marks n m s h (λ acts.
+    let changed = number_of (machine_left marks m acts.thread s).flags in
+    keeps (thread_left marks m acts.thread s) (with_flags changed s.device) ∙ flags changed s.device ∙ h)) refl
 
 turn_own : (d : DeviceValue) (regions : List Region) (n most : ℕ) → (faults_at (TheChannel n) (second_in d regions n most).left.device ≡ true) ↔ (TurnFails d regions n most ⊎ (faults_at (TheChannel n) d ≡ true))
 turn_own d regions n most =
@@ -390,12 +322,12 @@ turn_own d regions n most =
 
 turn_exact : (who : Who) (n most : ℕ) (d e : DeviceValue) (regions left : List Region) (turn : Turn) → TakesTurn d regions n most e left turn → Exact who d e (Fails who (Turns n most) d regions) ⊥
 turn_exact TheManager n most d e regions left turn x =
-    same_exact TheManager d e ⊥ ⊥ (ap (faults_at TheManager) (sym (turn_device x)) ∙ turn_keeps TheManager d regions n most (λ u v. refl) (λ f v. refl)) (λ up. up) (λ down. down)
+    same_exact TheManager d e ⊥ ⊥ (turn_leaves TheManager d e regions left n most turn x (λ u v. refl) (λ f v. refl)) (λ up. up) (λ down. down)
 turn_exact (TheChannel m) n most d e regions left turn x = elim (cases_eq m n) [
   | inl same ↦ subst (λ (j : ℕ). Exact (TheChannel j) d e ((j ≡ n) × TurnFails d regions n most) ⊥) (sym same) here
   | inr other ↦
       same_exact (TheChannel m) d e ((m ≡ n) × TurnFails d regions n most) ⊥
-      (ap (faults_at (TheChannel m)) (sym (turn_device x)) ∙ turn_keeps (TheChannel m) d regions n most (λ u v. set_elsewhere v n m u other) (λ f v. refl)) (λ up. other up.0) (λ down. down)
+      (turn_leaves (TheChannel m) d e regions left n most turn x (λ u v. set_elsewhere v n m u other) (λ f v. refl)) (λ up. other up.0) (λ down. down)
 ]
   where
     here : Exact (TheChannel n) d e ((n ≡ n) × TurnFails d regions n most) ⊥
@@ -415,9 +347,8 @@ turn_exact (TheChannel m) n most d e regions left turn x = elim (cases_eq m n) [
 -- ---- one access
 
 none_faults : (bus : BusWidth) (n m : ℕ) → faults_if (slice_get (replicate m (reset_thread bus)) n) ≡ false
-none_faults bus n zero = refl
-none_faults bus zero (suc m) = refl
 none_faults bus (suc n) (suc m) = none_faults bus n m
+none_faults bus n m = refl
 
 reset_fine : (who : Who) (g : Config) → faults_at who (reset_device g) ≡ false
 reset_fine TheManager g = refl
@@ -429,31 +360,20 @@ reset_exact who d e is Up none = (
   (λ why. elim why [ inl up ↦ absurd (none up) | inr stays ↦ absurd (stays.1 tt) ]),
 )
 
-not_false : (b : Bool) → (b ≡ false → ⊥) → b ≡ true
-not_false true h = refl
-not_false false h = absurd (h refl)
-
 restored_exact : (who : Who) (d e saved : DeviceValue) → e ≡ saved → Exact who d e (faults_at who saved ≡ true) (faults_at who saved ≡ false)
 restored_exact who d e saved is = (
   (λ high. inl (ap (faults_at who) (sym is) ∙ high)),
-  (λ why. ap (faults_at who) is ∙ elim why [ inl up ↦ up | inr stays ↦ not_false (faults_at who saved) stays.1 ]),
+  (λ why. ap (faults_at who) is ∙ elim why [ inl up ↦ up | inr stays ↦ true_from_ne_false (faults_at who saved) stays.1 ]),
 )
 
 access_exact : (who : Who) (a : Access) (d e : DeviceValue) (regions left : List Region) (answer : Answer) → Does a d regions answer e left → Exact who d e (Fails who a d regions) (EndsFault who a d)
 access_exact TheManager (Reads at) d e regions left answer x = same_exact TheManager d e ⊥ ⊥ (ap (faults_at TheManager) x.1) (λ up. up) (λ down. down)
-access_exact (TheChannel n) (Reads at) d e regions left answer x = same_exact (TheChannel n) d e ⊥ ⊥ (ap (faults_at (TheChannel n)) x.1) (λ up. up) (λ down. down)
-access_exact TheManager (Writes at value) d e regions left answer x =
-    subst (λ (v : DeviceValue). Exact TheManager d v (Fails TheManager (Writes at value) d regions) (Kills TheManager (Writes at value) d)) (sym x.1) (write_exact TheManager at value d regions left)
-access_exact (TheChannel n) (Writes at value) d e regions left answer x =
-    subst (λ (v : DeviceValue). Exact (TheChannel n) d v (Fails (TheChannel n) (Writes at value) d regions) (Kills (TheChannel n) (Writes at value) d)) (sym x.1) (write_exact (TheChannel n) at value d regions left)
-access_exact TheManager (Turns n most) d e regions left answer x = turn_exact TheManager n most d e regions left x.0 x.1.1
-access_exact (TheChannel m) (Turns n most) d e regions left answer x = turn_exact (TheChannel m) n most d e regions left x.0 x.1.1
-access_exact TheManager (Stores addr byte) d e regions left answer x = same_exact TheManager d e ⊥ ⊥ (ap (faults_at TheManager) x.1) (λ up. up) (λ down. down)
-access_exact (TheChannel n) (Stores addr byte) d e regions left answer x = same_exact (TheChannel n) d e ⊥ ⊥ (ap (faults_at (TheChannel n)) x.1) (λ up. up) (λ down. down)
-access_exact TheManager Resets d e regions left answer x = reset_exact TheManager d e x.1 ⊥ (λ up. up)
-access_exact (TheChannel n) Resets d e regions left answer x = reset_exact (TheChannel n) d e x.1 ⊥ (λ up. up)
-access_exact TheManager (Restores saved) d e regions left answer x = restored_exact TheManager d e saved x.1
-access_exact (TheChannel n) (Restores saved) d e regions left answer x = restored_exact (TheChannel n) d e saved x.1
+access_exact who (Writes at value) d e regions left answer x =
+    subst (λ (v : DeviceValue). Exact who d v (Fails who (Writes at value) d regions) (Kills who (Writes at value) d)) (sym x.1) (write_exact who at value d regions)
+access_exact who (Turns n most) d e regions left answer x = turn_exact who n most d e regions left x.0 x.1.1
+access_exact who Resets d e regions left answer x = reset_exact who d e x.1 ⊥ (λ up. up)
+access_exact who (Restores saved) d e regions left answer x = restored_exact who d e saved x.1
+access_exact who a d e regions left answer x = same_exact who d e ⊥ ⊥ (ap (faults_at who) x.1) (λ up. up) (λ down. down)
 
 pub faults_are_exact : FaultsAreExact
 faults_are_exact access answer before lent left count n who happen within =
@@ -465,19 +385,19 @@ faults_are_exact access answer before lent left count n who happen within =
 
 any_index : (ts : List Thread) → list_any is_faulting ts ≡ true → (n : ℕ) × (faults_if (slice_get ts n) ≡ true)
 any_index [] is = absurd (true≢false (sym is))
-any_index (t ∷ ts) is = elim (either (is_faulting t) (list_any is_faulting ts) is) [
+any_index (t ∷ ts) is = elim (or_cases (is_faulting t) (list_any is_faulting ts) is) [
   | inl here ↦ (0, here)
   | inr more ↦ let w = any_index ts more in (suc w.0, w.1)
 ]
 
 any_from : (ts : List Thread) (n : ℕ) → faults_if (slice_get ts n) ≡ true → list_any is_faulting ts ≡ true
 any_from [] n is = absurd (true≢false (sym is))
-any_from (t ∷ ts) zero is = ap (λ (b : Bool). b || list_any is_faulting ts) is
-any_from (t ∷ ts) (suc n) is = ap (λ (b : Bool). is_faulting t || b) (any_from ts n is) ∙ or-true (is_faulting t)
+any_from (t ∷ ts) zero is = or_left (is_faulting t) (list_any is_faulting ts) is
+any_from (t ∷ ts) (suc n) is = or_right (is_faulting t) (list_any is_faulting ts) (any_from ts n is)
 
 line_is : (d : DeviceValue) → (irq_abort d ≡ true) ↔ ((who : Who) × (faults_at who d ≡ true))
 line_is d = (
-  (λ high. elim (either d.manager.is_faulting (list_any is_faulting d.threads) high) [
+  (λ high. elim (or_cases d.manager.is_faulting (list_any is_faulting d.threads) high) [
     | inl manager ↦ (TheManager, manager)
     | inr some ↦ let w = any_index d.threads some in (TheChannel w.0, w.1)
   ]),
@@ -485,8 +405,8 @@ line_is d = (
 )
   where
     by : (who : Who) → faults_at who d ≡ true → irq_abort d ≡ true
-    by TheManager is = ap (λ (b : Bool). b || list_any is_faulting d.threads) is
-    by (TheChannel n) is = ap (λ (b : Bool). d.manager.is_faulting || b) (any_from d.threads n is) ∙ or-true d.manager.is_faulting
+    by TheManager is = or_left d.manager.is_faulting (list_any is_faulting d.threads) is
+    by (TheChannel n) is = or_right d.manager.is_faulting (list_any is_faulting d.threads) (any_from d.threads n is)
 
 bits_are : (ts : List Thread) (n : ℕ) → bit_at (faulting_bits ts) n ≡ flag (faults_if (slice_get ts n))
 bits_are [] n = bit_at-zero n
@@ -507,13 +427,6 @@ abort_is_faulting = record {
 low_none : (d : DeviceValue) (who : Who) → irq_abort d ≡ false → faults_at who d ≡ true → ⊥
 low_none d who low is = true≢false (sym ((line_is d).1 (who, is)) ∙ low)
 
-not_high : (d : DeviceValue) → (irq_abort d ≡ true → ⊥) → irq_abort d ≡ false
-not_high d off_it = by (irq_abort d) off_it
-  where
-    by : (b : Bool) → (b ≡ true → ⊥) → b ≡ false
-    by true off_it = absurd (off_it refl)
-    by false off_it = refl
-
 -- a debug DMAKILL of this thread
 abbrev KillsBy : Who → ℕ → ℕ → DeviceValue → Type 0
 KillsBy who at value d = (at ≡ offset.dbgcmd) × ((value % 4 ≡ 0) × ((opcode_of d ≡ 0x01) × Addresses d who))
@@ -532,20 +445,14 @@ decide_write who at value d = elim (cases_eq at offset.dbgcmd) [
 
 -- what ends a fault, and leaves the line low, kills the thread, or ends each fault
 ends_by : (who : Who) (a : Access) (d e : DeviceValue) (regions left : List Region) (answer : Answer) → Does a d regions answer e left → irq_abort e ≡ false → EndsFault who a d → EndsAll a ⊎ Kills who a d
-ends_by who (Writes at value) d e regions left answer x low w = inr w
-ends_by who (Reads at) d e regions left answer x low w = inr w
-ends_by who (Turns n most) d e regions left answer x low w = inr w
-ends_by who (Stores addr byte) d e regions left answer x low w = inr w
 ends_by who Resets d e regions left answer x low w = inl tt
 ends_by who (Restores saved) d e regions left answer x low w = inl (ap irq_abort (sym x.1) ∙ low)
+ends_by who a d e regions left answer x low w = inr w
 
 kill_ends : (who : Who) (a : Access) (d : DeviceValue) → Kills who a d → EndsFault who a d
 kill_ends who (Writes at value) d w = w
-kill_ends who (Reads at) d w = absurd w
-kill_ends who (Turns n most) d w = absurd w
-kill_ends who (Stores addr byte) d w = absurd w
 kill_ends who Resets d w = tt
-kill_ends who (Restores saved) d w = absurd w
+kill_ends who a d w = absurd w
 
 is_low : (b : Bool) → (b ≡ false) ⊎ (¬ (b ≡ false))
 is_low true = inr (λ low. true≢false low)
@@ -553,11 +460,9 @@ is_low false = inl refl
 
 decide_ends : (who : Who) (a : Access) (d : DeviceValue) → EndsFault who a d ⊎ (¬ EndsFault who a d)
 decide_ends who (Writes at value) d = decide_write who at value d
-decide_ends who (Reads at) d = inr (λ w. w)
-decide_ends who (Turns n most) d = inr (λ w. w)
-decide_ends who (Stores addr byte) d = inr (λ w. w)
 decide_ends who Resets d = inl tt
 decide_ends who (Restores saved) d = is_low (faults_at who saved)
+decide_ends who a d = inr (λ w. w)
 
 -- one debug instruction has one thread
 one_addressed : (who other : Who) (d : DeviceValue) → Addresses d who → Addresses d other → other ≡ who
@@ -568,21 +473,13 @@ one_addressed (TheChannel m) (TheChannel n) d a b = ap TheChannel (sym b.1 ∙ a
 
 kills_one : (who other : Who) (a : Access) (d : DeviceValue) → Kills who a d → Kills other a d → other ≡ who
 kills_one who other (Writes at value) d x y = one_addressed who other d x.1.1.1 y.1.1.1
-kills_one who other (Reads at) d x y = absurd x
-kills_one who other (Turns n most) d x y = absurd x
-kills_one who other (Stores addr byte) d x y = absurd x
-kills_one who other Resets d x y = absurd x
-kills_one who other (Restores saved) d x y = absurd x
+kills_one who other a d x y = absurd x
 
 -- what kills a thread makes none fail
 kill_fails_none : (who other : Who) (a : Access) (d : DeviceValue) (regions : List Region) → Kills who a d → ¬ Fails other a d regions
 kill_fails_none who TheManager (Writes at value) d regions x f = true≢false (sym f.1.fails ∙ kill_passes TheManager d x.1.1.0)
-kill_fails_none who (TheChannel n) (Writes at value) d regions x f = true≢false (sym f.1.fails ∙ kill_passes (TheChannel n) d x.1.1.0)
-kill_fails_none who other (Reads at) d regions x f = absurd x
-kill_fails_none who other (Turns n most) d regions x f = absurd x
-kill_fails_none who other (Stores addr byte) d regions x f = absurd x
-kill_fails_none who other Resets d regions x f = absurd x
-kill_fails_none who other (Restores saved) d regions x f = absurd x
+kill_fails_none who other (Writes at value) d regions x f = true≢false (sym f.1.fails ∙ kill_passes other d x.1.1.0)
+kill_fails_none who other a d regions x f = absurd x
 
 -- after an access that leaves the line low, the fault of a thread that was faulting was ended
 was_ended : (who : Who) (a : Access) (d e : DeviceValue) (regions left : List Region) (answer : Answer) → Does a d regions answer e left → irq_abort e ≡ false → faults_at who d ≡ true → EndsFault who a d
@@ -600,20 +497,14 @@ was_killed who a d e regions left answer other x low is = elim (ends_by who a d 
 
 -- after what ends each fault the line is low
 all_low : (a : Access) (d e : DeviceValue) (regions left : List Region) (answer : Answer) → EndsAll a → Does a d regions answer e left → irq_abort e ≡ false
-all_low (Reads at) d e regions left answer is x = absurd is
-all_low (Writes at value) d e regions left answer is x = absurd is
-all_low (Turns n most) d e regions left answer is x = absurd is
-all_low (Stores addr byte) d e regions left answer is x = absurd is
 all_low Resets d e regions left answer is x = ap irq_abort x.1 ∙ abort_is_faulting.reset d.config
 all_low (Restores saved) d e regions left answer is x = ap irq_abort x.1 ∙ is
+all_low a d e regions left answer is x = absurd is
 
 decide_all : (a : Access) → EndsAll a ⊎ (¬ EndsAll a)
-decide_all (Reads at) = inr (λ w. w)
-decide_all (Writes at value) = inr (λ w. w)
-decide_all (Turns n most) = inr (λ w. w)
-decide_all (Stores addr byte) = inr (λ w. w)
 decide_all Resets = inl tt
 decide_all (Restores saved) = is_low (irq_abort saved)
+decide_all a = inr (λ w. w)
 
 pub aborts_are_exact : AbortsAreExact
 aborts_are_exact a d e regions left answer x = record {
@@ -636,7 +527,7 @@ aborts_are_exact a d e regions left answer x = record {
     ]),
     (λ why. elim why [
       | inl all ↦ all_low a d e regions left answer all x
-      | inr w ↦ not_high e (λ still.
+      | inr w ↦ false_from_ne_true (irq_abort e) (λ still.
           let v = (line_is e).0 still in
           elim ((access_exact v.0 a d e regions left answer x).0 v.1) [
             | inl fails ↦ kill_fails_none w.0 v.0 a d regions w.1 fails

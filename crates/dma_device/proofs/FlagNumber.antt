@@ -29,9 +29,8 @@ number_bit (f ∷ fs) (suc i) h =
     bit_at-suc (flag f + 2 * number_of fs) i ∙ ap (λ (n : ℕ). bit_at n i) half ∙ number_bit fs i (omega arith)
 
 flag_of_bit : (m : ℕ) → m < 2 → flag (nat_eq m 1) ≡ m
-flag_of_bit zero h = refl
-flag_of_bit (suc zero) h = refl
 flag_of_bit (suc (suc m)) h = absurd (omega arith)
+flag_of_bit m h = refl
 
 pub number_is : (n : ℕ) → n < 2 ^ 32 → number_of (flags_of n) ≡ n
 number_is n range =

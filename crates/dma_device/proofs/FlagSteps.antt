@@ -1,45 +1,33 @@
 -- What steps make of the flags: only a DMASEV and a DMAWFE change one.
-use Rattle.std.proofs.Common.{◌≡◌, ◌∙◌, ℕ, zero, suc, ◌+◌, Bool, true, false, ◌&&◌, List, length, set, Result, Ok, Err, ap, refl}
-use Rattle.std.specs.Prelude.{if◌then◌else◌, nat_lt, slice_index_or}
-use Rattle.std.proofs.lemmas.List.{length-set}
+use Rattle.std.proofs.Common.{◌≡◌, ◌≢◌, ◌∙◌, ◌⊎◌, ℕ, zero, suc, ◌<◌, ◌≤◌, Bool, true, false, List, ◌∷◌, length, get_or, set, Option, Some, None, Result, Ok, Err, ap, refl, sym, subst, arith, inl, inr, true≢false}
+use Rattle.std.specs.Prelude.{◌↔◌}
+use Rattle.std.proofs.lemmas.Bool.{cases_Bool, cases_eq}
+use Rattle.std.proofs.lemmas.List.{get_or-set_other, get_or-set_same, length-set}
 use Rattle.dma_insn.specs.declared.insn.Insn.{Insn}
-use Rattle.dma_insn.specs.declared.insn.Insn.TheVariants.{Mov, Ld, St, Rmb, Wmb, Nop, End, Lp, LpEnd, Sev, Wfe}
-use Rattle.dma_insn.specs.declared.insn.Reg.TheVariants.{Sar, Ccr, Dar}
+use Rattle.dma_insn.specs.declared.insn.Insn.TheVariants.{Sev, Wfe}
 use Rattle.dma_mem.specs.Marking.{MarkList}
-use Rattle.dma_mem.specs.declared.marks.MarkKind.TheVariants.{Reading, Writing}
-use Rattle.dma_chan.specs.Bus.{accepts}
-use Rattle.dma_chan.specs.Bursts.{burst_len, reaches, touched}
 use Rattle.dma_chan.specs.Channel.{ahead_of, state_of}
-use Rattle.dma_chan.specs.Exec.{State, act, buffer_size, counter_of, destination_of, exec_fetched, source_of}
-use Rattle.dma_chan.specs.Stepping.{Machine, after_steps}
+use Rattle.dma_chan.specs.Exec.{State, act, exec_fetched}
+use Rattle.dma_chan.specs.Stepping.{Machine, TakesSteps, after_steps, answer_at, goes_on, goes_on_after, signal_after, signal_of}
 use Rattle.dma_chan.specs.declared.turn.ChanTurn.{ChanTurn}
+use Rattle.dma_chan.specs.declared.turn.ChanTurn.TheVariants.{Moved, Waiting}
 use Rattle.dma_chan.specs.declared.turn.FaultKind.{FaultKind}
+use Rattle.dma_chan.proofs.ActCases.{act_cases}
+use Rattle.dma_chan.proofs.StepsTaken.{steps_move}
+use Rattle.dma_chan.proofs.SteppedOver.{went_before}
 
 -- what holds of flags, and still holds once a DMASEV set one or a DMAWFE cleared one
-module _ (P : List Bool → Type 0) (marks : MarkList) where
-  chosen : (b : Bool) (x y : ChanTurn × State) → P x.1.flags → P y.1.flags → P (if b then x else y).1.flags
-  chosen true x y p q = p
-  chosen false x y p q = q
-
-  pub act_flags : (i : Insn) (s : State) → P s.flags → ((e : ℕ) → i ≡ Sev e → P (set s.flags e true)) → ((e : ℕ) (v : Bool) → i ≡ Wfe e v → P (set s.flags e false)) → P (act marks i s).1.flags
-  act_flags (Mov Sar v) s h sets clears = h
-  act_flags (Mov Dar v) s h sets clears = h
-  act_flags (Mov Ccr v) s h sets clears = chosen (accepts s.registers.bus v) _ _ h h
-  act_flags Ld s h sets clears =
-      let b = source_of s.registers in
-      chosen (nat_lt buffer_size (length s.buffer + burst_len b)) _ _ h
-      (chosen (reaches Reading marks (length s.image) (touched b)) _ _ h h)
-  act_flags St s h sets clears =
-      let b = destination_of s.registers in
-      chosen (nat_lt (length s.buffer) (burst_len b)) _ _ h (chosen (reaches Writing marks (length s.image) (touched b)) _ _ h h)
-  act_flags (Lp c n) s h sets clears = h
-  act_flags (LpEnd c back) s h sets clears = chosen (nat_lt 0 (counter_of c s.registers) && nat_lt s.registers.pc back) _ _ h h
-  act_flags (Sev e) s h sets clears = sets e refl
-  act_flags (Wfe e v) s h sets clears = chosen (slice_index_or s.flags e false) _ _ (clears e v refl) h
-  act_flags Rmb s h sets clears = h
-  act_flags Wmb s h sets clears = h
-  act_flags Nop s h sets clears = h
-  act_flags End s h sets clears = h
+act_flags : (P : List Bool → Type 0) (marks : MarkList) (i : Insn) (s : State) → P s.flags → ((e : ℕ) → i ≡ Sev e → P (set s.flags e true)) → ((e : ℕ) (v : Bool) → i ≡ Wfe e v → P (set s.flags e false)) → P (act marks i s).1.flags
+act_flags P marks i s h sets clears =
+    act_cases (λ (x : ChanTurn × State). P x.1.flags) marks i s (λ _. h) (λ _. record {
+      moves = h;
+      loads = h;
+      stores = λ _ _. h;
+      sets = sets;
+      takes = clears;
+      waits = λ _ _ _ _. h;
+      ends = h;
+    })
 
 -- steps keep the number of flags
 fetched_length : (marks : MarkList) (next : Result Insn FaultKind) (s : State) → length (exec_fetched marks next s).1.flags ≡ length s.flags
@@ -52,3 +40,155 @@ steps_flags marks s zero = refl
 steps_flags marks s (suc k) =
     let u = after_steps marks s k in
     fetched_length marks (ahead_of u.channel) (state_of u.channel u.image u.flags) ∙ steps_flags marks s k
+
+-- ---- one flag
+
+abbrev pub IsClear : ℕ → List Bool → Type 0
+IsClear k flags = get_or flags k false ≡ false
+
+cleared : (xs : List Bool) (e k : ℕ) → IsClear k xs → IsClear k (set xs e false)
+cleared (x ∷ xs) zero zero h = refl
+cleared (x ∷ xs) (suc e) (suc k) h = cleared xs e k h
+cleared xs e k h = h
+
+act_clear : (marks : MarkList) (i : Insn) (s : State) (k : ℕ) → IsClear k s.flags → signal_of (Ok i) ≢ Some k → IsClear k (act marks i s).1.flags
+act_clear marks i s k h other =
+    act_flags (IsClear k) marks i s h (λ e is. get_or-set_other s.flags e k true false (λ same. other (ap (λ (j : Insn). signal_of (Ok j)) is ∙ ap Some (sym same))) ∙ h)
+    (λ e v is. cleared s.flags e k h)
+
+step_clear : (marks : MarkList) (next : Result Insn FaultKind) (s : State) (k : ℕ) → IsClear k s.flags → signal_of next ≢ Some k → IsClear k (exec_fetched marks next s).1.flags
+step_clear marks (Ok i) s k h other = act_clear marks i s k h other
+step_clear marks (Err kind) s k h other = h
+
+-- an instruction that signals an event sets its flag
+insn_sets : (marks : MarkList) (i : Insn) (s : State) (k : ℕ) → signal_of (Ok i) ≡ Some k → (act marks i s).1.flags ≡ set s.flags k true
+insn_sets marks (Sev e) s k is = let same : e ≡ k = cc in ap (λ (j : ℕ). set s.flags j true) same
+insn_sets marks i s k is = absurd (cc)
+
+step_sets : (marks : MarkList) (next : Result Insn FaultKind) (s : State) (k : ℕ) → signal_of next ≡ Some k → (exec_fetched marks next s).1.flags ≡ set s.flags k true
+step_sets marks (Ok i) s k is = insn_sets marks i s k is
+step_sets marks (Err kind) s k is = absurd (cc)
+
+quiet : (turn : ChanTurn) (signal : Option ℕ) (k : ℕ) → goes_on turn signal ≡ true → signal ≢ Some k
+quiet Moved (Some e) k h is = true≢false (sym h)
+quiet turn (Some e) k h is = true≢false (sym h)
+quiet turn None k h is = cc
+
+is_signal : (signal : Option ℕ) (k : ℕ) → (signal ≡ Some k) ⊎ (signal ≢ Some k)
+is_signal None k = inr (λ is. cc)
+is_signal (Some e) k = elim (cases_eq e k) [ inl same ↦ inl (ap Some same) | inr other ↦ inr (λ is. other (cc is)) ]
+
+abbrev pub Is : ℕ → List Bool → Type 0
+Is k flags = get_or flags k false ≡ true
+
+set_true : (xs : List Bool) (e k : ℕ) → Is k xs → Is k (set xs e true)
+set_true (x ∷ xs) zero zero h = refl
+set_true (x ∷ xs) (suc e) (suc k) h = set_true xs e k h
+set_true xs e k h = h
+
+set_false : (xs : List Bool) (k : ℕ) → IsClear k (set xs k false)
+set_false (x ∷ xs) (suc k) = set_false xs k
+set_false xs k = refl
+
+-- a set flag stays set, unless a DMAWFE takes it
+act_keeps : (marks : MarkList) (i : Insn) (s : State) (k : ℕ) → Is k s.flags → ((v : Bool) → i ≡ Wfe k v → (act marks i s).0 ≢ Moved) → Is k (act marks i s).1.flags
+act_keeps marks i s k h none = act_flags (Is k) marks i s h (λ e is. set_true s.flags e k h) (λ e v is. elim (cases_eq e k) [
+  | inl same ↦
+      let there : i ≡ Wfe k v = is ∙ ap (λ (j : ℕ). Wfe j v) same in
+      let set_flag : get_or s.flags k false ≡ true = h in
+      let moves : (act marks (Wfe k v) s).0 ≡ Moved = rw set_flag refl in
+      absurd (none v there (ap (λ (j : Insn). (act marks j s).0) there ∙ moves))
+  | inr other ↦ get_or-set_other s.flags e k false false (λ same. other (sym same)) ∙ h
+])
+
+step_keeps : (marks : MarkList) (next : Result Insn FaultKind) (s : State) (k : ℕ) → Is k s.flags → ((v : Bool) → next ≡ Ok (Wfe k v) → (exec_fetched marks next s).0 ≢ Moved) → Is k (exec_fetched marks next s).1.flags
+step_keeps marks (Ok i) s k h none = act_keeps marks i s k h (λ v is. none v (ap (λ (j : Insn). Ok j) is))
+step_keeps marks (Err kind) s k h none = h
+
+-- a DMAWFE that passes found its flag set, and clears it
+wfe_takes : (marks : MarkList) (s : State) (k : ℕ) (v b : Bool) → get_or s.flags k false ≡ b → (act marks (Wfe k v) s).0 ≡ Moved → Is k s.flags × IsClear k (act marks (Wfe k v) s).1.flags
+wfe_takes marks s k v true is moved = (is, rw is (set_false s.flags k))
+wfe_takes marks s k v false is moved = absurd (let waits : Waiting k ≡ Moved = rw is at moved in cc)
+
+step_takes : (marks : MarkList) (next : Result Insn FaultKind) (s : State) (k : ℕ) (v : Bool) → next ≡ Ok (Wfe k v) → (exec_fetched marks next s).0 ≡ Moved → Is k s.flags × IsClear k (exec_fetched marks next s).1.flags
+step_takes marks next s k v is moved =
+    subst (λ (x : Result Insn FaultKind). Is k s.flags × IsClear k (exec_fetched marks x s).1.flags) (sym is)
+    (wfe_takes marks s k v (get_or s.flags k false) refl (ap (λ (x : Result Insn FaultKind). (exec_fetched marks x s).0) (sym is) ∙ moved))
+
+-- ---- the steps of a call
+
+abbrev state_in : Machine → State
+state_in u = state_of u.channel u.image u.flags
+
+module _ (marks : MarkList) (s : Machine) (k : ℕ) where
+  abbrev pub at : ℕ → Machine
+  at j = after_steps marks s j
+
+  abbrev pub Clear : ℕ → Type 0
+  Clear j = IsClear k (at j).flags
+
+  abbrev pub Passes : ℕ → Type 0
+  Passes j = (v : Bool) × (ahead_of (at j).channel ≡ Ok (Wfe k v)) × (answer_at marks (at j) ≡ Moved)
+
+  abbrev pub GoesTo : ℕ → Type 0
+  GoesTo j = (m : ℕ) → m < suc j → goes_on_after marks s m ≡ true
+
+  pub clear_since : (i j : ℕ) → i ≤ j → GoesTo j → Clear i → Clear j
+  clear_since i zero few goes h = let none : i ≡ 0 = omega arith in subst Clear none h
+  clear_since i (suc j) few goes h = elim (cases_eq i (suc j)) [
+    | inl same ↦ subst Clear same h
+    | inr early ↦
+        let before = clear_since i j (omega arith) (λ m l. goes m (omega arith)) h in
+        let next = ahead_of (at j).channel in
+        step_clear marks next (state_in (at j)) k before (quiet (answer_at marks (at j)) (signal_of next) k (went_before marks s (suc j) (goes (suc j) (omega arith))))
+  ]
+
+  set_since : (j : ℕ) → GoesTo j → Is k s.flags → ((i : ℕ) → i < j → ¬ Passes i) → Is k (at j).flags
+  set_since zero goes h none = h
+  set_since (suc j) goes h none =
+      step_keeps marks (ahead_of (at j).channel) (state_in (at j)) k (set_since j (λ m l. goes m (omega arith)) h (λ i l. none i (omega arith)))
+      (λ v is moved. none j (omega arith) (v, is, moved))
+
+  pub passed : (j : ℕ) → Passes j → Is k (at j).flags × Clear (suc j)
+  passed j w = step_takes marks (ahead_of (at j).channel) (state_in (at j)) k w.0 w.1 w.2
+
+  -- a flag is set after a call exactly if the last step signals its event, or if it was set and no step took it
+  pub flag_exact : (v : Machine) (most taken : ℕ) (last : Option ChanTurn) → TakesSteps marks s most taken last v → length v.flags ≡ 32 → k < 32 → Is k v.flags ↔ ((signal_after marks s taken ≡ Some k) ⊎ (Is k s.flags × ((j : ℕ) → j < taken → ¬ Passes j)))
+  flag_exact v most zero last x len below = (
+    (λ high. inr (subst (λ (m : Machine). Is k m.flags) x.ends_at high, λ j less. absurd (omega arith))),
+    (λ why. elim why [
+      | inl bad ↦ absurd (cc)
+      | inr kept ↦ subst (λ (m : Machine). Is k m.flags) (sym x.ends_at) kept.0
+    ]),
+  )
+  flag_exact v most (suc p) last x len below =
+      let u = at p in
+      let next = ahead_of u.channel in
+      let flags : v.flags ≡ (exec_fetched marks next (state_in u)).1.flags = ap (λ (m : Machine). m.flags) x.ends_at in
+      let clears : signal_of next ≢ Some k → Clear p → IsClear k v.flags = (λ other clear. subst (IsClear k) (sym flags) (step_clear marks next (state_in u) k clear other)) in (
+        (λ high. elim (is_signal (signal_of next) k) [
+          | inl here ↦ inl here
+          | inr other ↦
+              inr (
+                elim (cases_Bool (get_or s.flags k false)) [
+                  | inl was ↦ was
+                  | inr clear ↦ absurd (true≢false (sym high ∙ clears other (clear_since 0 p (omega arith) (steps_move x) clear)))
+                ],
+                λ j less w. elim (cases_eq j p) [
+                  | inl last ↦
+                      let clear = subst (λ (m : ℕ). Clear (suc m)) last (passed j w).1 in
+                      true≢false (sym high ∙ ap (λ (m : Machine). get_or m.flags k false) x.ends_at ∙ clear)
+                  | inr early ↦ true≢false (sym high ∙ clears other (clear_since (suc j) p (omega arith) (steps_move x) (passed j w).1))
+                ],
+              )
+        ]),
+        (λ why. elim why [
+          | inl here ↦
+              let new : v.flags ≡ set u.flags k true = flags ∙ step_sets marks next (state_in u) k here in
+              let long : length u.flags ≡ 32 = sym (length-set u.flags k true) ∙ sym (ap (λ (f : List Bool). length f) new) ∙ len in
+              ap (λ (f : List Bool). get_or f k false) new ∙ get_or-set_same u.flags k true false (omega arith)
+          | inr kept ↦
+              let before = set_since p (steps_move x) kept.0 (λ i l. kept.1 i (omega arith)) in
+              subst (Is k) (sym flags) (step_keeps marks next (state_in u) k before (λ v is moved. kept.1 p (omega arith) (v, is, moved)))
+        ]),
+      )

@@ -11,6 +11,13 @@ pub same_exact : (before after Up Down : Type 0) → (before → after) → (aft
 same_exact before after Up Down to back no_up no_down =
     ((λ high. inr (back high, no_down)), (λ why. elim why [ inl up ↦ absurd (no_up up) | inr stays ↦ to stays.0 ]))
 
+-- what holds at first, and each access keeps
+pub kept_along : (P : ℕ → Type 0) (count : ℕ) → P 0 → ((n : ℕ) → n < count → P n → P (n + 1)) → (n : ℕ) → n ≤ count → P n
+kept_along P count first step zero within = first
+kept_along P count first step (suc n) within =
+    let e : n + 1 ≡ suc n = omega arith in
+    subst P e (step n (omega arith) (kept_along P count first step n (omega arith)))
+
 module _ (P Up Down : ℕ → Type 0) where
   -- from number i up to, and without, number n nothing ends it
   abbrev pub Stays : ℕ → ℕ → Type 0

@@ -1,8 +1,8 @@
 -- The bytes of regions in the memory that they lend, and the program that a DMAGO reads there.
-use Rattle.std.proofs.Common.{◌≡◌, ◌∙◌, ◌⊎◌, ℕ, zero, suc, ◌+◌, ◌-◌, ◌<◌, ◌≤◌, Bool, true, false, ◌||◌, List, [], ◌∷◌, ◌++◌, drop, get_or, length, replicate, take, Some, ap, refl, sym, subst, arith, inl, inr, true≢false}
+use Rattle.std.proofs.Common.{◌≡◌, ◌∙◌, ℕ, zero, suc, ◌+◌, ◌-◌, ◌<◌, ◌≤◌, Bool, true, false, ◌||◌, List, [], ◌∷◌, ◌++◌, drop, get_or, length, replicate, take, Some, ap, refl, sym, subst, arith, inl, inr, true≢false}
 use Rattle.std.specs.Prelude.{slice_get}
 use Rattle.std.specs.List.{list_any}
-use Rattle.std.proofs.lemmas.Bool.{cases_lt}
+use Rattle.std.proofs.lemmas.Bool.{cases_Bool, cases_lt}
 use Rattle.std.proofs.lemmas.List.{ext_get_or, get_or-append_right, get_or-drop, get_or-take, get_or_append_left, length-append, length-drop, length-replicate, length-take, length-take-le, take-append-drop}
 use Rattle.dma_mem.specs.Regions.{Piece, bytes_above, end_of, has, image_of, piece_of, pieces_of, rises_from, run_from}
 use Rattle.dma_mem.specs.declared.regions.Region.{Region}
@@ -65,10 +65,6 @@ image_has_bytes regions i k r order is less =
 
 -- ---- the bytes from an address on
 
-either : (b : Bool) → (b ≡ true) ⊎ (b ≡ false)
-either true = inl refl
-either false = inr refl
-
 -- what lies in one of the pieces and not in the first lies in a later one
 later_has : (p : Piece) (ps : List Piece) (a : ℕ) → has a p ≡ false → list_any (has a) (p ∷ ps) ≡ true → list_any (has a) ps ≡ true
 later_has p ps a here lies = ap (λ (b : Bool). b || list_any (has a) ps) (sym here) ∙ lies
@@ -78,7 +74,7 @@ low_has : (at : ℕ) (ps : List Piece) (a : ℕ) → rises_from at ps ≡ true �
 low_has at [] a rises lies = absurd (true≢false (sym lies))
 low_has at (p ∷ ps) a rises lies =
     let f = first at p ps rises in
-    elim (either (has a p)) [
+    elim (cases_Bool (has a p)) [
       | inl here ↦ omega (arith, f.after, (has_parts a p here).0)
       | inr other ↦ omega (arith, f.after, low_has (end_of p) ps a f.rest (later_has p ps a other lies))
     ]
@@ -94,7 +90,7 @@ low_run : (at : ℕ) (ps : List Piece) (a : ℕ) → rises_from at ps ≡ true �
 low_run at [] a rises some = absurd (omega (arith, some))
 low_run at (p ∷ ps) a rises some =
     let f = first at p ps rises in
-    elim (either (has a p)) [
+    elim (cases_Bool (has a p)) [
       | inl here ↦ omega (arith, f.after, (has_parts a p here).0)
       | inr other ↦ omega (arith, f.after, low_run (end_of p) ps a f.rest (subst (λ (xs : List ℕ). 0 < length xs) (run_later p ps a other) some))
     ]
@@ -109,7 +105,7 @@ long_run at (p ∷ ps) a n rises lie =
     let f = first at p ps rises in
     elim (cases_lt 0 n) [
       | inr none ↦ omega (arith, none)
-      | inl some ↦ elim (either (has a p)) [
+      | inl some ↦ elim (cases_Bool (has a p)) [
         | inl here ↦
             let w = has_parts a p here in
             let m = end_of p - a in
@@ -130,7 +126,7 @@ run_shown : (at : ℕ) (ps : List Piece) (a k : ℕ) → rises_from at ps ≡ tr
 run_shown at [] a k rises less = absurd (omega (arith, less))
 run_shown at (p ∷ ps) a k rises less =
     let f = first at p ps rises in
-    elim (either (has a p)) [
+    elim (cases_Bool (has a p)) [
       | inl here ↦
           let w = has_parts a p here in
           let part = drop (a - p.addr) p.bytes in

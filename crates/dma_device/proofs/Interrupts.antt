@@ -1,5 +1,5 @@
 -- Interrupts along accesses in a row.
-use Rattle.std.proofs.Common.{◌≡◌, ◌∙◌, ◌⊎◌, ℕ, true, zero, suc, ◌+◌, ◌<◌, ◌≤◌, List, ap, refl, sym, subst, arith, inl, inr}
+use Rattle.std.proofs.Common.{◌≡◌, ◌∙◌, ◌⊎◌, ℕ, true, ◌+◌, ◌<◌, ◌≤◌, List, ap, refl, sym, subst, arith, inl, inr}
 use Rattle.std.specs.Prelude.{◌↔◌}
 use Rattle.std.proofs.lemmas.Bool.{cases_eq}
 use Rattle.std.proofs.lemmas.Nat.Bits.{bit_at-zero}
@@ -7,7 +7,7 @@ use Rattle.std.specs.Int.{bit_at}
 use Rattle.dma_mem.specs.Regions.{Piece, pieces_of}
 use Rattle.dma_mem.specs.declared.regions.Region.{Region}
 use Rattle.dma_device.specs.Offsets as offset
-use Rattle.dma_device.specs.Accesses.{Access, Answer, Does, Happen, Reads, Resets, Restores, Stores, Turns, Writes}
+use Rattle.dma_device.specs.Accesses.{Access, Answer, Does, Happen, Resets, Restores, Turns, Writes}
 use Rattle.dma_device.specs.Device.{DeviceValue, irqs, written}
 use Rattle.dma_device.specs.Turns.{TakesTurn}
 use Rattle.dma_device.specs.declared.config.Config.{Config}
@@ -82,15 +82,14 @@ restored_bit k bits before after is = (
 )
 
 access_exact : (k : ℕ) (a : Access) (d e : DeviceValue) (regions left : List Region) (answer : Answer) → HasLine d k → Does a d regions answer e left → Exact k (irqs d) (irqs e) (Raises k a d regions) (Clears k a d)
-access_exact k (Reads at) d e regions left answer has x = same_exact k (irqs d) (irqs e) (Raises k (Reads at) d regions) ⊥ (ap irqs x.1) (λ up. up.1) (λ down. down)
 access_exact k (Writes at value) d e regions left answer has x =
     subst (λ (v : DeviceValue). Exact k (irqs d) (irqs v) (Raises k (Writes at value) d regions) (Clears k (Writes at value) d)) (sym x.1) (write_exact k at value d regions has)
 access_exact k (Turns n most) d e regions left answer has x = turn_exact k n most d e regions left x.0 has x.1.1
-access_exact k (Stores addr byte) d e regions left answer has x = same_exact k (irqs d) (irqs e) (Raises k (Stores addr byte) d regions) ⊥ (ap irqs x.1) (λ up. up.1) (λ down. down)
 access_exact k Resets d e regions left answer has x =
     let low : ¬ IsHigh (irqs e) k = (λ high. let zero_bit = ap (λ (v : DeviceValue). bit_at (irqs v) k) x.1 ∙ bit_at-zero k in omega (arith, zero_bit, high)) in
     ((λ high. absurd (low high)), (λ why. elim why [ inl up ↦ absurd (up.1) | inr stays ↦ absurd (stays.1 tt) ]))
 access_exact k (Restores saved) d e regions left answer has x = restored_bit k (irqs saved) (irqs d) (irqs e) (ap irqs x.1)
+access_exact k a d e regions left answer has x = same_exact k (irqs d) (irqs e) (Raises k a d regions) ⊥ (ap irqs x.1) (λ up. up.1) (λ down. down)
 
 -- ---- an access leaves a device its lines
 
@@ -107,11 +106,9 @@ written_has k ram at value d has =
     ]
 
 pub access_has : (k : ℕ) (a : Access) (d e : DeviceValue) (regions left : List Region) (answer : Answer) → HasLine d k → Does a d regions answer e left → HasLine e k
-access_has k (Reads at) d e regions left answer has x = subst (λ (v : DeviceValue). HasLine v k) (sym x.1) has
 access_has k (Writes at value) d e regions left answer has x = subst (λ (v : DeviceValue). HasLine v k) (sym x.1) (written_has k (pieces_of regions) at value d has)
 access_has k (Turns n most) d e regions left answer has x =
     has_kept k d e (turn_config d e regions left n most x.0 x.1.1) (turn_inten d e regions left n most x.0 x.1.1) has
-access_has k (Stores addr byte) d e regions left answer has x = subst (λ (v : DeviceValue). HasLine v k) (sym x.1) has
 access_has k Resets d e regions left answer has x =
     subst (λ (v : DeviceValue). HasLine v k) (sym x.1) (record { events = has.events; event = has.event; inten = omega arith })
 access_has k (Restores saved) d e regions left answer has x =
@@ -122,15 +119,13 @@ access_has k (Restores saved) d e regions left answer has x =
       event = subst (λ (g : Config). k < g.events) (sym x.3) has.event;
       inten = fits_word saved.inten saved.config.events few x.4.known.inten;
     })
+access_has k a d e regions left answer has x = subst (λ (v : DeviceValue). HasLine v k) (sym x.1) has
 
 -- ---- accesses in a row
 
-module _ (access : ℕ → Access) (answer : ℕ → Answer) (before : ℕ → DeviceValue) (lent left : ℕ → List Region) (count k : ℕ) (happen : Happen access answer before lent left count) (has : HasLine (before 0) k) where
-  pub all_have : (n : ℕ) → n ≤ count → HasLine (before n) k
-  all_have zero within = has
-  all_have (suc n) within =
-      let e : n + 1 ≡ suc n = omega arith in
-      subst (λ (m : ℕ). HasLine (before m) k) e (access_has k (access n) (before n) (before (n + 1)) (lent n) (left n) (answer n) (all_have n (omega arith)) (happen n (omega arith)))
+pub all_have : (access : ℕ → Access) (answer : ℕ → Answer) (before : ℕ → DeviceValue) (lent left : ℕ → List Region) (count k : ℕ) → Happen access answer before lent left count → HasLine (before 0) k → (n : ℕ) → n ≤ count → HasLine (before n) k
+all_have access answer before lent left count k happen has =
+    history.kept_along (λ n. HasLine (before n) k) count has (λ n less h. access_has k (access n) (before n) (before (n + 1)) (lent n) (left n) (answer n) h (happen n less))
 
 pub interrupts_are_exact : InterruptsAreExact
 interrupts_are_exact access answer before lent left count k n happen has within =

@@ -27,21 +27,21 @@ use Rattle.dma_chan.proofs.StepsTaken.{steps_move}
 use Rattle.dma_chan.proofs.SteppedOver.{is_still, was_moved, went_before}
 use Rattle.dma_device.specs.CallSteps.{Executes, marks_in}
 use Rattle.dma_device.specs.Device.{DeviceValue, csr, of_thread}
-use Rattle.dma_device.specs.Dmago.{Go, RunsCopy, GivenTurns, bus_of, csr_status, image_in}
+use Rattle.dma_device.specs.Dmago.{Go, RunsCopy, GivenTurns, bus_of, csr_status}
 use Rattle.dma_device.specs.Interrupts.{HasLine, IsHigh}
 use Rattle.dma_device.specs.Progress.{CompiledGoesOn, CompiledHasEvents, CompiledSignals, DmagoFinishes, DmagoSignals, IsReady, IsCompiled, IsVisible, MayPass, WasHigh, compiled_count}
 use Rattle.dma_device.specs.Thread.{is_faulting, is_stopped, is_stopped_status, runs, status_bits}
 use Rattle.dma_device.specs.Turns.{TakesTurn, runs_at, runs_if, setup_of, visible_events}
 use Rattle.dma_device.specs.declared.device.turns.Turn.{Turn}
 use Rattle.dma_device.specs.declared.thread.Status.{Status}
-use Rattle.dma_device.specs.declared.thread.Status.TheVariants.{Stopped, Executing, WaitingForEvent, Faulting}
+use Rattle.dma_device.specs.declared.thread.Status.TheVariants.{Stopped}
 use Rattle.dma_device.specs.declared.thread.Thread.{Thread}
 use Rattle.dma_device.proofs.Copies.{Fit, call_fine, fit_kept, fits_all}
 use Rattle.dma_device.proofs.Driven.{After, Before, Call, Copying, Going, Has, Keeps, Leaves, after_turn, along, channel_after, copying, count_in, from, last_answer, one_of, sent_by, sets, steps_of, to, two_of}
-use Rattle.dma_device.proofs.Events.{flag_of_bit, seen_bit}
+use Rattle.dma_device.proofs.Events.{flag_of_bit}
 use Rattle.dma_device.proofs.WaitSteps.{before_end, waits_at}
 use Rattle.dma_device.proofs.Starts.{read_csr, reads_stopped}
-use Rattle.dma_device.proofs.TurnRaises.{turn_raises}
+use Rattle.dma_device.proofs.TurnRaises.{seen_bit, turn_raises}
 
 -- ---- a call of a channel with a program that copies
 
@@ -273,11 +273,8 @@ module _ (c : Copying) (n i stored : ℕ) (sev : IsSignal c.bus c.program c.coun
 -- ---- CSR
 
 stopped_reads : (s : Status) (b : Bool) → is_stopped_status s ≡ true → (status_bits s + flag b * 2 ^ 21) % 16 ≡ 0
-stopped_reads Stopped true is = omega arith
-stopped_reads Stopped false is = omega arith
-stopped_reads Executing b is = absurd (true≢false (sym is))
-stopped_reads (WaitingForEvent e) b is = absurd (true≢false (sym is))
-stopped_reads Faulting b is = absurd (true≢false (sym is))
+stopped_reads Stopped b is = omega arith
+stopped_reads s b is = absurd (true≢false (sym is))
 
 csr_stopped : (d : DeviceValue) (n : ℕ) (th : Thread) → n < 8 → slice_get d.threads n ≡ Some th → is_stopped th ≡ true → csr_status d n ≡ 0
 csr_stopped d n th few is stopped =

@@ -15,7 +15,7 @@ use Rattle.dma_chan.specs.Saved.{saved}
 use Rattle.dma_chan.proofs.SavedParts.{saved_parts}
 use Rattle.dma_device.specs.declared.save.head.Head.{Head}
 use Rattle.dma_device.specs.declared.thread.Status.{Status}
-use Rattle.dma_device.specs.declared.thread.Status.TheVariants.{Stopped, Executing, WaitingForEvent, Faulting}
+use Rattle.dma_device.specs.declared.thread.Status.TheVariants.{WaitingForEvent}
 use Rattle.dma_device.specs.declared.thread.Thread.{Thread}
 use Rattle.dma_device.specs.Device.{csr}
 use Rattle.dma_device.specs.Snapshot.{IsThreadValue, head_bytes, saved_thread, thread_bytes}
@@ -66,11 +66,9 @@ unfolding saved_thread
 thread_length t = omega (arith, length-append (thread_bytes t (length (saved t.channel))) (saved t.channel), thread_head_length t (length (saved t.channel)))
 
 status_few : (events : ℕ) (t : Thread) (s : Status) → events ≤ 32 → has_status events t s ≡ true → status_bits s < 2 ^ 9
-status_few events t Stopped few h = omega arith
-status_few events t Executing few h = omega arith
 status_few events t (WaitingForEvent e) few h =
     let less = ltb-true e events (and_parts (nat_lt e events) _ (and_parts (is_some t.channel.program) _ h).1).0 in omega arith
-status_few events t Faulting few h = omega arith
+status_few events t s few h = omega arith
 
 csr_parts : (bits : ℕ) (b : Bool) → bits < 2 ^ 9 → ((bits + flag b * 2 ^ 21) % 512 ≡ bits) × (((bits + flag b * 2 ^ 21) / 2 ^ 21 % 2 ≡ flag b) × (bits + flag b * 2 ^ 21 < 2 ^ 32))
 csr_parts bits true few = (omega arith, (omega arith, omega arith))

@@ -1,25 +1,18 @@
 -- Each thread has a status that goes with its program, after a call too, and events stay among those of the device.
-use Rattle.std.proofs.Common.{◌≡◌, ◌∙◌, ℕ, zero, suc, ◌+◌, ◌-◌, ◌*◌, ◌%◌, ◌^◌, ◌<◌, ◌≤◌, ◌&&◌, Bool, true, false, List, [], Option, Some, None, Result, Ok, Err, ap, get_or, inl, inr, length, refl, replicate, sym, subst, arith, bit_and}
-use Rattle.std.specs.Prelude.{is_some, nat_eq, nat_le, nat_lt, slice_index_or, slice_set, if◌then◌else◌}
+use Rattle.std.proofs.Common.{◌≡◌, ◌∙◌, ℕ, zero, suc, ◌+◌, ◌-◌, ◌*◌, ◌%◌, ◌^◌, ◌<◌, ◌≤◌, Bool, true, false, List, [], Option, Some, None, ap, get_or, inl, inr, length, refl, replicate, sym, subst, arith, bit_and}
+use Rattle.std.specs.Prelude.{is_some, nat_eq, nat_le, nat_lt, slice_set, if◌then◌else◌}
 use Rattle.std.proofs.Math.Nat.{mod-le}
 use Rattle.std.proofs.Math.Pow.{pow-lt, pow_mono}
-use Rattle.std.proofs.lemmas.Bool.{and_parts, cases_eq, eq-eqb, leb-true, lt-ltb}
+use Rattle.std.proofs.lemmas.Bool.{and_parts, cases_eq, cond_both, eq-eqb, leb-true, lt-ltb}
 use Rattle.std.proofs.lemmas.List.{drop_all, get_or-set_other, get_or-set_same, length-set, with_items_is}
 use Rattle.std.proofs.lemmas.List.Elements.{All-replicate, All-set}
 use Rattle.std.specs.List.{All}
 use Rattle.std.specs.Vec.{with_item, with_items}
 use Rattle.std.proofs.lemmas.Nat.{and_le_l, and_le_r, pow_pos}
 use Rattle.dma_mem.specs.Marking.{MarkList}
-use Rattle.dma_chan.specs.Bus.{accepts}
 use Rattle.dma_chan.specs.Channel.{ChannelValue, after_turn, ahead_of, bytes_of_program, last_count, state_of, step_of, stored_by}
-use Rattle.dma_chan.specs.Bursts.{burst_len, reaches, touched}
-use Rattle.dma_chan.specs.Exec.{State, act, buffer_size, counter_of, destination_of, exec_fetched, source_of}
-use Rattle.dma_insn.specs.declared.insn.Insn.{Insn}
-use Rattle.dma_insn.specs.declared.insn.Insn.TheVariants.{Mov, Ld, St, Rmb, Wmb, Nop, End, Lp, LpEnd, Sev, Wfe}
-use Rattle.dma_insn.specs.declared.insn.Reg.TheVariants.{Sar, Ccr, Dar}
-use Rattle.dma_mem.specs.declared.marks.MarkKind.TheVariants.{Reading, Writing}
+use Rattle.dma_chan.specs.Exec.{State, exec_fetched}
 use Rattle.dma_chan.specs.declared.bus.BusWidth.{BusWidth}
-use Rattle.dma_chan.specs.declared.turn.FaultKind.{FaultKind}
 use Rattle.dma_chan.specs.Next.{fetched, next_of}
 use Rattle.dma_insn.specs.Decoding.{decoded}
 use Rattle.dma_chan.specs.Programs.{ProgramValue}
@@ -32,64 +25,26 @@ use Rattle.dma_chan.proofs.SteppedOver.{was_moved, went_before}
 use Rattle.dma_device.specs.Config.{is_valid}
 use Rattle.dma_device.specs.declared.config.Config.{Config}
 use Rattle.dma_device.specs.declared.device.Device.TheInside.{Inside}
+use Rattle.dma_device.specs.declared.device.Manager.{Manager}
 use Rattle.dma_device.specs.Device.{DeviceValue, with_thread}
 use Rattle.dma_device.specs.Idle.{IsSoundDevice}
 use Rattle.dma_device.specs.inner.Fields.{AreOn, IsDevice, device_value}
 use Rattle.dma_device.proofs.ControlFits.{reset_is_on}
+use Rattle.dma_device.proofs.WaitSteps.{waits_at}
 use Rattle.dma_device.specs.Thread.{IsOn, IsSound, answer, answered, failed, is_before_wait, moved, operand_invalid, reset_thread, waits_for}
 use Rattle.dma_device.specs.declared.thread.Status.TheVariants.{Executing, WaitingForEvent}
 use Rattle.dma_device.specs.declared.thread.Thread.{Thread}
 
 -- ---- a thread after a call
 
-if_sound : (events : ℕ) (b : Bool) (t u : Thread) → IsSound events t → IsSound events u → IsSound events (if b then t else u)
-if_sound events true t u left right = left
-if_sound events false t u left right = right
-
 moved_sound : (events : ℕ) (t : Thread) (signal : Option ℕ) → is_some t.channel.program ≡ true → IsSound events (moved events t signal)
 moved_sound events t None loaded = loaded
 moved_sound events t (Some e) loaded =
-    if_sound events (nat_lt e events) (record t { status = Executing }) (failed operand_invalid (record t { pc = (t.pc + (2 ^ 32 - 2)) % 2 ^ 32 })) loaded refl
+    cond_both (nat_lt e events) (record t { status = Executing }) (failed operand_invalid (record t { pc = (t.pc + (2 ^ 32 - 2)) % 2 ^ 32 })) (IsSound events) (λ _. loaded) (λ _. refl)
 
 waits_sound : (events e : ℕ) (t : Thread) (b : Bool) → nat_lt e events ≡ b → is_some t.channel.program ≡ true → is_before_wait e t ≡ true → IsSound events (if b then record t { status = WaitingForEvent e } else failed operand_invalid t)
 waits_sound events e t true less loaded before = rw (loaded, less) before
 waits_sound events e t false less loaded before = refl
-
--- ---- what answers that it waits is a DMAWFE
-
-abbrev WaitsFor : Result Insn FaultKind → ChanTurn × State → Type 0
-WaitsFor next x = (e : ℕ) → x.0 ≡ Waiting e → waits_for e next ≡ true
-
-either_waits : (b : Bool) (next : Result Insn FaultKind) (x y : ChanTurn × State) → WaitsFor next x → WaitsFor next y → WaitsFor next (if b then x else y)
-either_waits true next x y f g = f
-either_waits false next x y f g = g
-
-act_waits : (marks : MarkList) (i : Insn) (s : State) → WaitsFor (Ok i) (act marks i s)
-act_waits marks (Mov Sar v) s = λ e is. absurd (cc)
-act_waits marks (Mov Dar v) s = λ e is. absurd (cc)
-act_waits marks (Mov Ccr v) s = either_waits (accepts s.registers.bus v) (Ok (Mov Ccr v)) _ _ (λ e is. absurd (cc)) (λ e is. absurd (cc))
-act_waits marks Ld s =
-    let b = source_of s.registers in
-    either_waits (nat_lt buffer_size (length s.buffer + burst_len b)) (Ok Ld) _ _ (λ e is. absurd (cc))
-    (either_waits (reaches Reading marks (length s.image) (touched b)) (Ok Ld) _ _ (λ e is. absurd (cc)) (λ e is. absurd (cc)))
-act_waits marks St s =
-    let b = destination_of s.registers in
-    either_waits (nat_lt (length s.buffer) (burst_len b)) (Ok St) _ _ (λ e is. absurd (cc))
-    (either_waits (reaches Writing marks (length s.image) (touched b)) (Ok St) _ _ (λ e is. absurd (cc)) (λ e is. absurd (cc)))
-act_waits marks (Lp c n) s = λ e is. absurd (cc)
-act_waits marks (LpEnd c back) s = either_waits (nat_lt 0 (counter_of c s.registers) && nat_lt s.registers.pc back) (Ok (LpEnd c back)) _ _ (λ e is. absurd (cc)) (λ e is. absurd (cc))
-act_waits marks (Sev k) s = λ e is. absurd (cc)
-act_waits marks (Wfe k v) s =
-    either_waits (slice_index_or s.flags k false) (Ok (Wfe k v)) _ _ (λ e is. absurd (cc))
-    (λ e is. let same : k ≡ e = cc in eq-eqb k e same)
-act_waits marks Rmb s = λ e is. absurd (cc)
-act_waits marks Wmb s = λ e is. absurd (cc)
-act_waits marks Nop s = λ e is. absurd (cc)
-act_waits marks End s = λ e is. absurd (cc)
-
-pub step_waits : (marks : MarkList) (next : Result Insn FaultKind) (s : State) → WaitsFor next (exec_fetched marks next s)
-step_waits marks (Ok i) s = act_waits marks i s
-step_waits marks (Err kind) s = λ e is. absurd (cc)
 
 -- after a step of a channel that has a program
 by_turn : (events : ℕ) (t : Thread) (turn : ChanTurn) (signal : Option ℕ) (s : State) (n : ℕ) (c : ChannelValue) → is_some c.program ≡ true → t.channel ≡ after_turn turn s n c → ((e : ℕ) → turn ≡ Waiting e → is_before_wait e t ≡ true) → IsSound events (answer events t (Some turn) signal)
@@ -127,7 +82,7 @@ waits_before marks u t e waits is counts pc =
     let c = u.channel in
     let x = step_of marks c u.image u.flags in
     let same : t.channel ≡ c = is ∙ ap (λ (a : ChanTurn). after_turn a x.1 (stored_by (ahead_of c) c.registers) c) waits in
-    let next : waits_for e (ahead_of t.channel) ≡ true = ap (λ (d : ChannelValue). waits_for e (ahead_of d)) same ∙ step_waits marks (ahead_of c) (state_of c u.image u.flags) e waits in
+    let next : waits_for e (ahead_of t.channel) ≡ true = ap (λ (d : ChannelValue). waits_for e (ahead_of d)) same ∙ ap (waits_for e) (waits_at marks u e waits).1.0 ∙ eq-eqb e e refl in
     let few : nat_lt t.channel.taken last_count ≡ true = ap (λ (d : ChannelValue). nat_lt d.taken last_count) same ∙ lt-ltb c.taken last_count counts in
     let here : nat_eq t.pc ((t.base + t.channel.registers.pc) % 2 ^ 32) ≡ true = eq-eqb t.pc ((t.base + t.channel.registers.pc) % 2 ^ 32) pc in
     rw (next, few, here) refl
@@ -242,14 +197,14 @@ with_new d n old new h is kept sound = record {
   marks = h.marks;
 }
 
--- all threads are replaced
-pub with_all : (d : Inside) (ts : List Thread) → IsDevice d → length ts ≡ d.threads.len → length ts ≡ length d.threads.items → All (IsSound d.config.events) ts → AreOn d.config.bus ts → IsDevice (record d { threads = with_items d.threads ts })
-with_all d ts h len count sound on =
+-- all threads, the manager and the registers are replaced
+pub with_parts : (d : Inside) (ts : List Thread) (manager : Manager) (events interrupts inten dbginst0 dbginst1 : ℕ) → IsDevice d → length ts ≡ d.threads.len → length ts ≡ length d.threads.items → All (IsSound d.config.events) ts → AreOn d.config.bus ts → events < 2 ^ d.config.events → interrupts < 2 ^ d.config.events → inten < 2 ^ d.config.events → IsDevice (record d { threads = with_items d.threads ts; manager = manager; events = events; interrupts = interrupts; inten = inten; dbginst0 = dbginst0; dbginst1 = dbginst1 })
+with_parts d ts manager events interrupts inten dbginst0 dbginst1 h len count sound on a b c =
     let is = with_items_is d.threads ts len in
     record {
       config = h.config;
       count = ap length is ∙ count ∙ h.count;
-      sound = record { few = h.sound.few; known = h.sound.known; threads = subst (All (IsSound d.config.events)) (sym is) sound };
+      sound = record { few = h.sound.few; known = record { events = a; interrupts = b; inten = c }; threads = subst (All (IsSound d.config.events)) (sym is) sound };
       on = subst (AreOn d.config.bus) (sym is) on;
       marks = h.marks;
     }

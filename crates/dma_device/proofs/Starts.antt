@@ -1,5 +1,5 @@
 -- What a read of CSR returns, and the thread that a DMAGO starts.
-use Rattle.std.proofs.Common.{◌≡◌, ◌∙◌, ℕ, zero, suc, ◌+◌, ◌*◌, ◌%◌, ◌^◌, ◌<◌, Bool, true, false, ◌&&◌, List, get_or, length, Option, Some, ap, refl, sym, arith, ◌≢◌, true≢false}
+use Rattle.std.proofs.Common.{◌≡◌, ◌∙◌, ℕ, suc, ◌+◌, ◌*◌, ◌%◌, ◌^◌, ◌<◌, Bool, true, false, ◌&&◌, List, get_or, length, Option, Some, ap, refl, sym, arith, ◌≢◌, true≢false}
 use Rattle.std.specs.Prelude.{◌==◌, if◌then◌else◌, not, slice_get, slice_set}
 use Rattle.std.proofs.Math.ListN.{length-set}
 use Rattle.std.proofs.lemmas.List.{get_or-set_same}
@@ -11,30 +11,18 @@ use Rattle.dma_device.specs.Device.{DeviceValue, by_manager, by_thread, csr, go 
 use Rattle.dma_device.specs.Dmago.{Go, MayGo, csr_status, started_by}
 use Rattle.dma_device.specs.Thread.{is_faulting, is_faulting_status, is_stopped, is_stopped_status, reset_thread, started, status_bits}
 use Rattle.dma_device.specs.declared.thread.Status.{Status}
-use Rattle.dma_device.specs.declared.thread.Status.TheVariants.{Stopped, Executing, WaitingForEvent, Faulting}
+use Rattle.dma_device.specs.declared.thread.Status.TheVariants.{Stopped, Faulting}
 use Rattle.dma_device.specs.declared.thread.Thread.{Thread}
 
 -- ---- CSR
 
 pub read_csr : (d : DeviceValue) (n : ℕ) → n < 8 → read_at d (offset.csr + 8 * n) ≡ of_thread csr (slice_get d.threads n)
-read_csr d zero h = refl
-read_csr d (suc zero) h = refl
-read_csr d (suc (suc zero)) h = refl
-read_csr d (suc (suc (suc zero))) h = refl
-read_csr d (suc (suc (suc (suc zero)))) h = refl
-read_csr d (suc (suc (suc (suc (suc zero))))) h = refl
-read_csr d (suc (suc (suc (suc (suc (suc zero)))))) h = refl
-read_csr d (suc (suc (suc (suc (suc (suc (suc zero))))))) h = refl
 read_csr d (suc (suc (suc (suc (suc (suc (suc (suc n)))))))) h = absurd (omega arith)
+read_csr d n h = refl
 
 stopped_by : (s : Status) (b : Bool) → (status_bits s + flag b * 2 ^ 21) % 16 ≡ 0 → is_stopped_status s ≡ true
 stopped_by Stopped b h = refl
-stopped_by Executing true h = absurd (omega arith)
-stopped_by Executing false h = absurd (omega arith)
-stopped_by (WaitingForEvent e) true h = absurd (omega arith)
-stopped_by (WaitingForEvent e) false h = absurd (omega arith)
-stopped_by Faulting true h = absurd (omega arith)
-stopped_by Faulting false h = absurd (omega arith)
+stopped_by s b h = absurd (omega arith)
 
 -- a thread whose CSR reads as stopped is stopped
 pub reads_stopped : (d : DeviceValue) (n : ℕ) (th : Thread) → n < 8 → slice_get d.threads n ≡ Some th → csr_status d n ≡ 0 → is_stopped th ≡ true
@@ -43,19 +31,19 @@ reads_stopped d n th few is h =
     stopped_by th.status th.nonsecure (ap (λ (m : ℕ). m % 16) read ∙ h)
 
 fine_by : (s : Status) (b : Bool) → is_faulting_status s ≡ false → (status_bits s + flag b * 2 ^ 21) % 16 ≢ 15
-fine_by Stopped true h e = absurd (omega arith)
-fine_by Stopped false h e = absurd (omega arith)
-fine_by Executing true h e = absurd (omega arith)
-fine_by Executing false h e = absurd (omega arith)
-fine_by (WaitingForEvent x) true h e = absurd (omega arith)
-fine_by (WaitingForEvent x) false h e = absurd (omega arith)
 fine_by Faulting b h e = absurd (true≢false h)
+fine_by s b h e = absurd (omega arith)
 
 -- the CSR of a thread that isn't faulting doesn't read so
 pub reads_fine : (d : DeviceValue) (n : ℕ) (th : Thread) → n < 8 → slice_get d.threads n ≡ Some th → is_faulting th ≡ false → csr_status d n ≢ 15
 reads_fine d n th few is fine e =
     let read : csr th ≡ read_at d (offset.csr + 8 * n) = sym (read_csr d n few ∙ ap (of_thread csr) is) in
     fine_by th.status th.nonsecure fine (ap (λ (m : ℕ). m % 16) read ∙ e)
+
+-- a stopped thread isn't faulting
+pub stopped_fine : (s : Status) → is_stopped_status s ≡ true → is_faulting_status s ≡ false
+stopped_fine Faulting is = absurd (true≢false (sym is))
+stopped_fine s is = refl
 
 -- ---- DMAGO
 

@@ -1,16 +1,14 @@
 -- The bytes that a transfer's program has stored: they become no fewer, and all are stored from its DMASEV on.
-use Rattle.std.proofs.Common.{◌≡◌, ◌≢◌, ◌∙◌, ◌⊎◌, ℕ, zero, suc, ◌≤◌, ◌<◌, true, List, length, get_or, Option, Some, ap, refl, sym, subst, arith, length-append, inl, inr}
-use Rattle.dma_mem.specs.Image.{laid}
+use Rattle.std.proofs.Common.{◌≡◌, ◌≢◌, ◌∙◌, ◌⊎◌, ℕ, zero, suc, ◌≤◌, ◌<◌, true, List, length, Option, Some, ap, refl, sym, subst, arith, length-append, inl, inr}
 use Rattle.dma_mem.specs.Marking.{MarkList}
 use Rattle.dma_mem.specs.Places.{Descriptor, size_of}
 use Rattle.dma_chan.specs.declared.bus.Bus.{Bus}
 use Rattle.dma_chan.specs.Channel.{ahead_of}
 use Rattle.dma_chan.specs.Exec.{ChangesNothing}
-use Rattle.dma_chan.specs.Others.{Touches}
 use Rattle.dma_chan.specs.Stepping.{Machine, TakesSteps, after_step, after_steps, answer_at, goes_on_after}
 use Rattle.dma_chan.specs.Explains.{Explains, traced}
 use Rattle.dma_chan.specs.declared.turn.ChanTurn.{ChanTurn}
-use Rattle.dma_chan.specs.declared.turn.ChanTurn.TheVariants.{Moved, Waiting, Ended, Fault}
+use Rattle.dma_chan.specs.declared.turn.ChanTurn.TheVariants.{Moved, Ended}
 use Rattle.dma_chan.proofs.AmongOthers.{Among, Fits}
 use Rattle.dma_chan.proofs.CallsAmongOthers.{Leads, Runs, call, many, moved_on}
 use Rattle.dma_chan.proofs.CallWrites.{inside}
@@ -20,9 +18,7 @@ use Rattle.dma_chan.proofs.SteppedOver.{is_still, was_moved, went_before}
 
 is_end : (turn : ChanTurn) → (turn ≡ Ended) ⊎ (turn ≢ Ended)
 is_end Ended = inl refl
-is_end Moved = inr (λ e. cc)
-is_end (Waiting x) = inr (λ e. cc)
-is_end (Fault kind) = inr (λ e. cc)
+is_end turn = inr (λ e. cc)
 
 module _ (bus : Bus) (program : List ℕ) (t : Descriptor) (count : ℕ) (marks : MarkList) (first : List ℕ) (h : Explains bus program t count) (low : Fits t (length first)) where
   grows : (k : ℕ) → length (traced bus program k).stores ≤ length (traced bus program (suc k)).stores
@@ -53,8 +49,7 @@ module _ (bus : Bus) (program : List ℕ) (t : Descriptor) (count : ℕ) (marks 
   one_grows : (n : ℕ) (u : Machine) (turn : ChanTurn) → turn ≢ Ended → Among bus program t count first n u.image u.channel → answer_at marks u ≡ turn → u.channel.stored ≤ (after_step marks u).channel.stored
   one_grows n u Moved other w e = moved_grows n u w e
   one_grows n u Ended other w e = absurd (other refl)
-  one_grows n u (Waiting x) other w e = still_same u (subst ChangesNothing (sym e) tt)
-  one_grows n u (Fault kind) other w e = still_same u (subst ChangesNothing (sym e) tt)
+  one_grows n u turn other w e = still_same u (subst ChangesNothing (sym e) tt)
 
   -- after a call there are no fewer than before it
   pub call_grows : (s v : Machine) (most taken : ℕ) (last : Option ChanTurn) → Runs bus program t count first s → TakesSteps marks s most taken last v → s.channel.stored ≤ v.channel.stored
@@ -71,7 +66,3 @@ module _ (bus : Bus) (program : List ℕ) (t : Descriptor) (count : ℕ) (marks 
             let same = ap (λ (m : Machine). m.channel.stored) steps.ends_at in
             omega (arith, many_grow p s r (steps_move steps), one_grows w.0 u (answer_at marks u) other w.1 refl)
       ]
-
-  -- once all are stored, all bytes are copied
-  pub all_copied : (v : Machine) → Runs bus program t count first v → v.channel.stored ≡ size_of t → (a : ℕ) → Touches t a → get_or v.image a 0 ≡ get_or (laid first t (size_of t)) a 0
-  all_copied v r all a touches = r.1.mirrors.same a touches ∙ ap (λ (k : ℕ). get_or (laid first t k) a 0) (sym r.1.stored ∙ all)

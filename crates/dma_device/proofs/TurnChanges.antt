@@ -5,7 +5,7 @@ use Rattle.std.specs.Int.{bit_at}
 use Rattle.std.proofs.lemmas.Bool.{and_parts, lt-ltb}
 use borrow.Author.Tests.{ltb-true}
 use Rattle.dma_insn.specs.declared.insn.Insn.{Insn}
-use Rattle.dma_insn.specs.declared.insn.Insn.TheVariants.{Sev, Wfe}
+use Rattle.dma_insn.specs.declared.insn.Insn.TheVariants.{Sev}
 use Rattle.dma_mem.specs.Flags.{flags_of}
 use Rattle.dma_mem.specs.Marking.{MarkList}
 use Rattle.dma_mem.proofs.FlagBits.{get_or_flags_of}
@@ -23,21 +23,18 @@ use Rattle.dma_device.specs.declared.thread.Thread.{Thread}
 use Rattle.dma_device.specs.CallSteps.{Executes, first_in, marks_in}
 use Rattle.dma_device.specs.Device.{DeviceValue}
 use Rattle.dma_device.specs.Idle.{TurnChanges}
-use Rattle.dma_device.specs.Thread.{answer, answered, can_step, is_faulting, is_faulting_status, is_signalled, runs, waited}
+use Rattle.dma_device.specs.Thread.{answer, can_step, is_faulting, is_faulting_status, is_signalled, runs, waited}
 use Rattle.dma_device.specs.Turns.{Outcome, Setup, begins, called_if, follows, last_in, machine_in, machine_left, may_follow, raises, runs_at, runs_if, setup_of, signal_in, steps_in, thread_left, visible_events}
 use Rattle.dma_device.proofs.Answered.{answer_channel}
 use Rattle.dma_device.proofs.Calls.{call_acts, call_is, takes, turn_device}
-use Rattle.dma_device.proofs.Sound.{step_waits}
 use Rattle.dma_device.proofs.Starts.{set_found}
-use Rattle.dma_device.proofs.Waits.{is_wfe}
+use Rattle.dma_device.proofs.WaitSteps.{waits_at}
 
 -- ---- the count of instructions
 
 turn_counts : (turn : ChanTurn) (s : State) (n : ℕ) (c : ChannelValue) → c.taken ≤ (after_turn turn s n c).taken
 turn_counts Moved s n c = omega arith
-turn_counts Ended s n c = omega arith
-turn_counts (Waiting e) s n c = omega arith
-turn_counts (Fault kind) s n c = omega arith
+turn_counts turn s n c = omega arith
 
 step_counts : (marks : MarkList) (s : Machine) → s.channel.taken ≤ (after_step marks s).channel.taken
 step_counts marks s = turn_counts (answer_at marks s) (step_of marks s.channel s.image s.flags).1 (stored_by (ahead_of s.channel) s.channel.registers) s.channel
@@ -66,15 +63,6 @@ all_rise marks s (suc j) moved = omega (arith, all_rise marks s j moved, step_co
 silent : (marks : MarkList) (next : Result Insn FaultKind) (s : State) → (exec_fetched marks next s).0 ≢ Moved → signal_of next ≡ None
 silent marks (Ok (Sev e)) s other = absurd (other refl)
 silent marks next s other = refl
-
--- a DMAWFE of an event whose flag is set doesn't wait
-set_moves : (marks : MarkList) (s : Machine) (e : ℕ) → answer_at marks s ≡ Waiting e → get_or s.flags e false ≡ true → ⊥
-set_moves marks s e waits is_set =
-    let from = state_of s.channel s.image s.flags in
-    let next = is_wfe (ahead_of s.channel) e (step_waits marks (ahead_of s.channel) from e waits) in
-    let here : (exec_fetched marks (Ok (Wfe e next.0)) from).0 ≡ Moved = rw is_set refl in
-    let moved : answer_at marks s ≡ Moved = ap (λ (x : Result Insn FaultKind). (exec_fetched marks x from).0) next.1 ∙ here in
-    cc (moved, waits)
 
 -- ---- a call
 
@@ -117,7 +105,7 @@ by_turn events seen t at s marks (Waiting e) few can same flags is answers =
             let status : t.status ≡ WaitingForEvent e = sym i ∙ waits.0 in
             let high : nat_eq (bit_at seen e) 1 ≡ true = sym (ap (is_signalled seen) status) ∙ parts.1 in
             let below : e < 32 = omega (arith, few, waits.1) in
-            set_moves marks s e answers (ap (λ (fs : List Bool). get_or fs e false) flags ∙ get_or_flags_of seen e below ∙ high)),
+            true≢false (sym (ap (λ (fs : List Bool). get_or fs e false) flags ∙ get_or_flags_of seen e below ∙ high) ∙ (waits_at marks s e answers).1.1)),
         quiet,
       )
     ]

@@ -13,13 +13,12 @@ use Rattle.std.proofs.lemmas.Option.{get_or_from_slice_get, slice_get_within}
 use Rattle.dma_insn.specs.ControlWord.{flag}
 use Rattle.dma_insn.specs.declared.insn.Insn.{Insn}
 use Rattle.dma_insn.specs.declared.insn.Insn.TheVariants.{Wfe}
-use Rattle.dma_mem.specs.Flags.{flags_of}
 use Rattle.dma_mem.specs.Marking.{MarkList}
 use Rattle.dma_mem.specs.Regions.{image_of, pieces_of, read_only_of}
 use Rattle.dma_mem.specs.declared.regions.Region.{Region}
 use Rattle.dma_mem.specs.declared.segment.Segment.{Segment}
 use Rattle.dma_mem.proofs.FlagBits.{get_or_flags_of}
-use Rattle.dma_chan.specs.Channel.{ChannelValue, ahead_of, last_count, state_of}
+use Rattle.dma_chan.specs.Channel.{ahead_of, last_count, state_of}
 use Rattle.dma_chan.specs.Exec.{ChangesNothing, exec_fetched}
 use Rattle.dma_chan.specs.LentRegions.{segment_of}
 use Rattle.dma_chan.specs.Stepping.{Machine, TakesSteps, answer_at, signal_after, signal_of, written_after}
@@ -31,7 +30,7 @@ use Rattle.dma_chan.proofs.StepsTaken.{steps_move, steps_stop}
 use Rattle.dma_chan.proofs.SteppedOver.{is_still, was_moved, went_before}
 use Rattle.dma_device.specs.declared.device.turns.Turn.{Turn}
 use Rattle.dma_device.specs.declared.thread.Status.{Status}
-use Rattle.dma_device.specs.declared.thread.Status.TheVariants.{Stopped, Executing, WaitingForEvent, Faulting}
+use Rattle.dma_device.specs.declared.thread.Status.TheVariants.{WaitingForEvent}
 use Rattle.dma_device.specs.declared.thread.Thread.{Thread}
 use Rattle.dma_device.specs.Accesses.{AreAlike}
 use Rattle.dma_device.specs.Device.{DeviceValue, all_events, irq_abort, with_thread}
@@ -71,14 +70,11 @@ pub record Waits (events flags : ℕ) (t : Thread) : Type 0 where
   pub few : t.channel.taken < last_count
   pub here : t.pc ≡ (t.base + t.channel.registers.pc) % 2 ^ 32
 
-pub is_wfe : (next : Result Insn FaultKind) (e : ℕ) → waits_for e next ≡ true → (v : Bool) × (next ≡ Ok (Wfe e v))
+is_wfe : (next : Result Insn FaultKind) (e : ℕ) → waits_for e next ≡ true → (v : Bool) × (next ≡ Ok (Wfe e v))
 is_wfe (Ok (Wfe k v)) e is = let same : k ≡ e = eqb-true k e is in (v, ap (λ (j : ℕ). Ok (Wfe j v)) same)
 is_wfe next e is = absurd (true≢false (sym is))
 
 waits_by : (events flags : ℕ) (t : Thread) (s : Status) → t.status ≡ s → has_status events t s ≡ true → is_signalled flags s ≡ false → Waits events flags t
-waits_by events flags t Stopped is sound none = absurd (true≢false none)
-waits_by events flags t Executing is sound none = absurd (true≢false none)
-waits_by events flags t Faulting is sound none = absurd (true≢false none)
 waits_by events flags t (WaitingForEvent e) is sound none =
     let known = and_parts (nat_lt e events) (is_before_wait e t) (and_parts (is_some t.channel.program) _ sound).1 in
     let parts = and_parts (waits_for e (ahead_of t.channel)) _ known.1 in
@@ -94,6 +90,7 @@ waits_by events flags t (WaitingForEvent e) is sound none =
       few = ltb-true t.channel.taken last_count rest.0;
       here = eqb-true t.pc ((t.base + t.channel.registers.pc) % 2 ^ 32) rest.1;
     }
+waits_by events flags t s is sound none = absurd (true≢false none)
 
 -- a thread that runs and can't step waits
 pub idle_waits : (events flags : ℕ) (t : Thread) → IsSound events t → runs t ≡ true → can_step flags t ≡ false → Waits events flags t

@@ -1,5 +1,5 @@
 -- What a turn writes.
-use Rattle.std.proofs.Common.{◌≡◌, ◌∙◌, ℕ, zero, suc, ◌≤◌, Bool, true, ◌&&◌, List, Option, Some, None, ap, refl, sym, subst, arith, inl, inr}
+use Rattle.std.proofs.Common.{◌≡◌, ◌∙◌, ℕ, zero, suc, ◌≤◌, Bool, true, List, Option, Some, None, ap, refl, sym, subst, arith, inl, inr}
 use Rattle.std.specs.Prelude.{◌==◌, slice_get}
 use Rattle.std.proofs.Math.Bool.{or-true}
 use Rattle.std.proofs.lemmas.Bool.{and_parts, cases_eq}
@@ -8,7 +8,7 @@ use Rattle.dma_mem.specs.declared.segment.Segment.{Segment}
 use Rattle.dma_chan.specs.Stepping.{Machine, answer_at, written_after}
 use Rattle.dma_chan.specs.Written.{KeepsOutside, LiesIn, adjoins, also_written, joined, range_at, store_ahead}
 use Rattle.dma_chan.specs.declared.turn.ChanTurn.{ChanTurn}
-use Rattle.dma_chan.specs.declared.turn.ChanTurn.TheVariants.{Moved, Waiting, Ended, Fault}
+use Rattle.dma_chan.specs.declared.turn.ChanTurn.TheVariants.{Moved}
 use Rattle.dma_chan.proofs.CallWrites.{call_writes_no_other}
 use Rattle.dma_chan.proofs.StepsTaken.{steps_few, steps_move}
 use Rattle.dma_chan.proofs.SteppedOver.{writes_each}
@@ -50,9 +50,7 @@ by_length w r close = elim (cases_eq r.len 0) [
 
 by_answer : (w r : Segment) (turn : ChanTurn) → adjoins w r ≡ true → adjoins w (also_written turn r (range_at 0 0)) ≡ true
 by_answer w r Moved close = by_length w r close
-by_answer w r (Waiting x) close = adjoins_none w (range_at 0 0) refl
-by_answer w r Ended close = adjoins_none w (range_at 0 0) refl
-by_answer w r (Fault kind) close = adjoins_none w (range_at 0 0) refl
+by_answer w r turn close = adjoins_none w (range_at 0 0) refl
 
 by_count : (w : Segment) (marks : MarkList) (s : Machine) (k : ℕ) → k ≤ 1 → adjoins w (store_ahead s.channel) ≡ true → adjoins w (written_after marks s k) ≡ true
 by_count w marks s zero few close = adjoins_none w (range_at 0 0) refl

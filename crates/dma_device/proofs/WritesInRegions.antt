@@ -1,5 +1,5 @@
 -- What a turn writes lies in the regions, and in none that is read-only.
-use Rattle.std.proofs.Common.{◌≡◌, ◌∙◌, ◌⊎◌, ℕ, zero, suc, ◌+◌, ◌-◌, ◌<◌, ◌≤◌, Bool, true, false, ◌&&◌, ◌||◌, List, [], ◌∷◌, ◌++◌, length, get_or, Result, Ok, ap, refl, sym, subst, arith, inl, inr, true≢false}
+use Rattle.std.proofs.Common.{◌≡◌, ◌∙◌, ℕ, zero, suc, ◌+◌, ◌-◌, ◌<◌, ◌≤◌, Bool, true, false, ◌&&◌, ◌||◌, List, [], ◌∷◌, ◌++◌, length, get_or, Result, Ok, ap, refl, sym, subst, arith, inl, inr, true≢false}
 use Rattle.std.specs.Prelude.{nat_lt, not}
 use Rattle.std.specs.List.{Contains, list_all, list_any}
 use borrow.Author.Tests.{ltb-true}

@@ -1,16 +1,17 @@
 //! Lists of ranges that a run reads and writes.
 
-ghost use Rattle.std.specs.Prelude.{◌≡◌, ◌≢◌, ◌++◌, ◌∷◌, [], All, IfErr, IfOk, OnOk, OnSome, IfSome, None, Some};
+ghost use Rattle.std.specs.Prelude.{◌≡◌, ◌≢◌, ◌++◌, ◌∷◌, ◌≤◌, ◌<◌, [], ℕ, All, IfErr, IfOk, OnOk, OnSome, IfSome, None, Some, is_some, true};
 ghost use Rattle.std.specs.List.{list_any, range_with_len};
 ghost use Rattle.std.specs.List.Sorted.{IsNonDecreasingBy, IsPermutation};
 ghost use Rattle.dma_mem.specs.declared.segment.Segment.{Segment};
 ghost use Rattle.dma_mem.specs.Places.{places, range_of, share};
+ghost use Rattle.dma_mem.specs.Refusals.{some_meet};
 ghost use Rattle.dma_mem.specs.inner.RangesInOrder.{IsOrdered};
-ghost use Rattle.dma_chan.specs.Explains.{IsRead, IsRun, stop_of_lists, unrolled};
+ghost use Rattle.dma_chan.specs.Explains.{HasAddress, IsLowest, IsRead, IsRun, IsShared, IsTwice, stop_of_lists, unrolled};
 
-use crate::explain::{Cause, Repeated};
-use dma_mem::ordered::{meets_ordered, sort_by_address};
-use dma_mem::segment::{Segment, neighbours_meet};
+use crate::explain::{Cause, Repeated, Stop};
+use dma_mem::ordered::{clear_of_ordered, meets_ordered, sort_by_address};
+use dma_mem::segment::Segment;
 use std::alloc::{AllocError, Global};
 
 // Returns the two ranges as one, if the second continues the first.
@@ -119,6 +120,23 @@ fn sorted(alloc: Global, list: &[Segment]) -> Result<Vec<Segment>, AllocError>
     Ok(sorted)
 }
 
+// Returns the lowest address that two of the ranges have, or `None` if no two of them meet. They are sorted by their
+// first addresses, so that address begins the first range that meets the one before it.
+fn lowest_twice(sorted: &[Segment]) -> Option<u32>
+    requires filled { All (λ s. 0 < s.len) sorted.now }
+    requires rising { IsNonDecreasingBy (λ (s : Segment). s.addr) sorted.now }
+    ensures meets { is_some result ≡ some_meet sorted.now }
+    ensures lowest { IfSome result (λ a. IsLowest (IsTwice (places sorted.now)) a) }
+{
+    for next in 1..sorted.len() {
+        let addr = sorted[next].addr;
+        if u64::from(addr) < sorted[next - 1].end() {
+            return Some(addr);
+        }
+    }
+    None
+}
+
 // Returns whether an item reads an address of the ranges.
 fn any_reads(ranges: &[Segment], items: &[Repeated]) -> bool
     requires { IsOrdered ranges.now }
@@ -130,22 +148,64 @@ fn any_reads(ranges: &[Segment], items: &[Repeated]) -> bool
         .any(|item| meets_ordered(ranges, item.segment()))
 }
 
+// Returns the lowest address that an item reads and a range has, or the last address, 2^32 - 1, if there is none.
+fn first_read(ranges: &[Segment], item: Repeated) -> u32
+    requires ranges { IsOrdered ranges.now }
+    requires item { IsRead item }
+    ensures least { (a : ℕ)
+        → IsShared (range_with_len item.addr item.len) (places ranges.now) a → result ≤ a }
+    ensures found { result < u32.MAX
+        → IsShared (range_with_len item.addr item.len) (places ranges.now) result }
+{
+    let clear = clear_of_ordered(ranges, item.segment());
+    if clear == item.len {
+        return u32::MAX;
+    }
+    item.addr + clear
+}
+
+// Returns the lowest address that one of the items reads and a range has. There is one.
+fn lowest_read(ranges: &[Segment], items: &[Repeated]) -> u32
+    requires ranges { IsOrdered ranges.now }
+    requires items { All IsRead items.now }
+    requires some { list_any (λ r. share (range_with_len r.addr r.len) (places ranges.now)) items.now
+        ≡ true }
+    ensures { IsLowest (IsShared (places (unrolled items.now)) (places ranges.now)) result }
+{
+    let mut lowest = u32::MAX;
+    for item in items {
+        lowest = lowest.min(first_read(ranges, *item));
+    }
+    lowest
+}
+
 // Tests that no address is in `dst` twice, and none in both lists.
-pub(super) fn overlap(alloc: Global, src: &[Repeated], dst: &[Segment]) -> Result<(), Cause>
+pub(super) fn overlap(alloc: Global, src: &[Repeated], dst: &[Segment]) -> Result<(), Stop>
     requires items { All IsRead src.now }
     requires runs { All IsRun dst.now }
     ensures ok { OnOk result (stop_of_lists (places (unrolled src.now)) (places dst.now) ≡ None) }
-    ensures err { IfErr result (λ cause. cause ≢ Cause.NoMemory
-        → stop_of_lists (places (unrolled src.now)) (places dst.now) ≡ Some cause) }
+    ensures err { IfErr result (λ stop. stop.cause ≢ Cause.NoMemory
+        → stop_of_lists (places (unrolled src.now)) (places dst.now) ≡ Some stop.cause) }
+    ensures addr { IfErr result (λ stop.
+        HasAddress stop.cause (places (unrolled src.now)) (places dst.now) stop.addr) }
 {
     let Ok(ranges) = sorted(alloc, dst) else {
-        return Err(Cause::NoMemory);
+        return Err(Stop {
+            cause: Cause::NoMemory,
+            addr: 0,
+        });
     };
-    if neighbours_meet(&ranges) {
-        return Err(Cause::StoresTwice);
+    if let Some(addr) = lowest_twice(&ranges) {
+        return Err(Stop {
+            cause: Cause::StoresTwice,
+            addr,
+        });
     }
     if any_reads(&ranges, src) {
-        return Err(Cause::StoresSource);
+        return Err(Stop {
+            cause: Cause::StoresSource,
+            addr: lowest_read(&ranges, src),
+        });
     }
     Ok(())
 }

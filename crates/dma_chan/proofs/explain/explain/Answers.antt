@@ -1,5 +1,10 @@
-use Rattle.std.proofs.Common.{◌+◌, arith, refl, ap, ◌∙◌, Ok}
-use Rattle.dma_chan.proofs.Explaining.{finds, follows_new}
+use Rattle.std.proofs.Common.{◌≡◌, ℕ, ◌+◌, arith, inr, refl, ap, subst, ◌∙◌, Ok, Err}
+use Rattle.dma_insn.specs.declared.insn.Insn.TheVariants.{End}
+use Rattle.dma_mem.specs.Places.{places}
+use Rattle.dma_chan.specs.declared.explain.Cause.TheVariants.{Fails, NoEnd}
+use Rattle.dma_chan.specs.Explains.{unrolled}
+use Rattle.dma_chan.specs.inner.Tracing.{Follows, trace_of}
+use Rattle.dma_chan.proofs.Explaining.{finds, follows_new, has_none, refuses, stops_here}
 use Rattle.dma_chan.proofs.explain.explain.Goals as goal
 
 pub returns-in-Ok-finish-clause-ok : goal.returns-in-Ok-finish-clause-ok
@@ -31,3 +36,40 @@ loop-steps-preserved c = record {
   few = omega (arith, c.in-Ok-run.ensures.some, c.loop-steps-test.true);
   last = c.in-Ok-run.ensures.last;
 }
+
+pub returns-in-Err-clause-err : goal.returns-in-Err-clause-err
+returns-in-Err-clause-err c = λ _ _.
+    let bus = c.args.bus in
+    let program = c.args.program.now in
+    let now = c.loop-steps in
+    let cause = Fails c.in-Err.kind in
+    let stops = stops_here bus program c.args.most now.steps now.tracer (Err c.in-Err.kind) cause now.invariant.follows c.in-Err.ensures c.loop-steps-test.true refl in
+    refuses bus program c.args.most now.steps now.tracer cause 0 now.invariant.follows stops refl
+
+pub returns-in-Err-finish-clause-err : goal.returns-in-Err-finish-clause-err
+returns-in-Err-finish-clause-err c = λ memory _.
+    let bus = c.args.bus in
+    let program = c.args.program.now in
+    let now = c.loop-steps in
+    let stop = c.in-Err-finish.stop in
+    let stops = stops_here bus program c.args.most now.steps now.tracer (Ok End) stop.cause now.invariant.follows (ap Ok c.in-End.ensures ∙ c.in-Ok.ensures) c.loop-steps-test.true (c.in-Err-finish.ensures.err memory) in
+    refuses bus program c.args.most now.steps now.tracer stop.cause stop.addr now.invariant.follows stops c.in-Err-finish.ensures.addr
+
+pub returns-in-Err-run-clause-err : goal.returns-in-Err-run-clause-err
+returns-in-Err-run-clause-err c = λ memory _.
+    let bus = c.args.bus in
+    let program = c.args.program.now in
+    let now = c.loop-steps in
+    let x = now.tracer in
+    let cause = c.in-Err-run.cause in
+    let stop = c.in-Err-run.ensures.err memory in
+    let stops = stops_here bus program c.args.most now.steps x (Ok c.in-Ok.next) cause now.invariant.follows c.in-Ok.ensures c.loop-steps-test.true stop in
+    let none = has_none c.in-Ok.next (trace_of x) (λ e. c.in_default.not-End (c.insn.ensures ∙ e)) cause (places (unrolled x.src.items)) (places x.dst.items) stop in
+    refuses bus program c.args.most now.steps x cause 0 now.invariant.follows stops none
+
+pub returns-clause-err : goal.returns-clause-err
+returns-clause-err c = λ _ _.
+    let now = c.loop-steps in
+    let all : now.steps ≡ c.args.most = omega (arith, now.invariant.few, c.loop-steps-test.false) in
+    let follows = subst (λ (n : ℕ). Follows c.args.bus c.args.program.now n now.tracer) all now.invariant.follows in
+    refuses c.args.bus c.args.program.now c.args.most c.args.most now.tracer NoEnd 0 follows (inr (refl, refl)) refl

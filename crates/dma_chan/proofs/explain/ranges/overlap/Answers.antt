@@ -1,9 +1,12 @@
 use Rattle.std.proofs.Common.{◌<◌, List, All, ap, subst, sym, ◌∙◌}
 use Rattle.std.proofs.lemmas.List.Sorted.{All-permutation}
 use Rattle.dma_mem.specs.declared.segment.Segment.{Segment}
+use Rattle.dma_mem.specs.Places.{places}
 use Rattle.dma_mem.specs.Refusals.{some_meet}
 use Rattle.dma_mem.specs.inner.RangesInOrder.{IsOrdered}
 use Rattle.dma_mem.proofs.NeighboursMeet.{ordered_apart}
+use Rattle.dma_chan.specs.Explains.{IsLowest, IsShared, IsTwice, unrolled}
+use Rattle.dma_chan.proofs.LowestPlaces.{shared_permuted, twice_permuted}
 use Rattle.dma_chan.proofs.RunLists.{stores_source, stores_twice, stores_well}
 use Rattle.dma_chan.proofs.explain.ranges.overlap.Goals as goal
 use Rattle.dma_chan.proofs.explain.ranges.overlap.Goals.{After-deref}
@@ -11,23 +14,42 @@ use Rattle.dma_chan.proofs.explain.ranges.overlap.Goals.{After-deref}
 filled : (c : After-deref) → All (λ s. 0 < s.len) c.in-Ok.ranges.items
 filled c = All-permutation (λ (s : Segment). 0 < s.len) c.args.dst.now c.in-Ok.ranges.items c.in-Ok.ensures.same (λ k d l. (c.requires.runs k d l).0)
 
-pub neighbours_meet-requires-clause-filled : goal.neighbours_meet-requires-clause-filled
-neighbours_meet-requires-clause-filled c =
-    subst (λ (xs : List Segment). All (λ s. 0 < s.len) xs) (sym c.deref.ensures.value) (filled (goal.at.neighbours_meet-requires-clause-filled c).After-deref)
+pub lowest_twice-requires-clause-filled : goal.lowest_twice-requires-clause-filled
+lowest_twice-requires-clause-filled c =
+    subst (λ (xs : List Segment). All (λ s. 0 < s.len) xs) (sym c.deref.ensures.value) (filled (goal.at.lowest_twice-requires-clause-filled c).After-deref)
 
-pub returns-then-neighbours_meet-clause-err : goal.returns-then-neighbours_meet-clause-err
-returns-then-neighbours_meet-clause-err c = λ _.
-    stores_twice c.args.src.now c.args.dst.now c.in-Ok.ranges.items c.requires.items c.in-Ok.ensures.same (ap some_meet (sym c.deref.ensures.value) ∙ sym c.if-neighbours_meet.ensures)
+pub returns-in-Some-clause-err : goal.returns-in-Some-clause-err
+returns-in-Some-clause-err c = λ _.
+    stores_twice c.args.src.now c.args.dst.now c.in-Ok.ranges.items c.requires.items c.in-Ok.ensures.same (ap some_meet (sym c.deref.ensures.value) ∙ sym c.in-Some.ensures.meets)
+
+pub returns-in-Some-clause-addr : goal.returns-in-Some-clause-addr
+returns-in-Some-clause-addr c =
+    twice_permuted c.args.dst.now c.in-Ok.ranges.items c.in-Some.addr c.in-Ok.ensures.same
+    (subst (λ (xs : List Segment). IsLowest (IsTwice (places xs)) c.in-Some.addr) c.deref.ensures.value c.in-Some.ensures.lowest)
 
 pub any_reads-requires : goal.any_reads-requires
 any_reads-requires c =
     subst IsOrdered (sym c.deref-2.ensures.value)
-    (ordered_apart c.in-Ok.ranges.items (filled (goal.at.any_reads-requires c).After-deref) c.in-Ok.ensures.rising (ap some_meet (sym c.deref.ensures.value) ∙ sym c.if-neighbours_meet.ensures))
+    (ordered_apart c.in-Ok.ranges.items (filled (goal.at.any_reads-requires c).After-deref) c.in-Ok.ensures.rising (ap some_meet (sym c.deref.ensures.value) ∙ sym c.in_default-lowest_twice.ensures.meets))
 
 pub returns-then-any_reads-clause-err : goal.returns-then-any_reads-clause-err
 returns-then-any_reads-clause-err c = λ _.
-    stores_source c.args.src.now c.args.dst.now c.in-Ok.ranges.items c.requires.items c.in-Ok.ensures.same (ap some_meet (sym c.deref.ensures.value) ∙ sym c.if-neighbours_meet.ensures) (rw (← c.deref-2.ensures.value) (sym c.if-any_reads.ensures))
+    stores_source c.args.src.now c.args.dst.now c.in-Ok.ranges.items c.requires.items c.in-Ok.ensures.same (ap some_meet (sym c.deref.ensures.value) ∙ sym c.in_default-lowest_twice.ensures.meets) (rw (← c.deref-2.ensures.value) (sym c.if-any_reads.ensures))
+
+pub lowest_read-requires-clause-ranges : goal.lowest_read-requires-clause-ranges
+lowest_read-requires-clause-ranges c =
+    subst IsOrdered (sym c.deref-then-any_reads.ensures.value)
+    (ordered_apart c.in-Ok.ranges.items (filled (goal.at.lowest_read-requires-clause-ranges c).After-deref) c.in-Ok.ensures.rising (ap some_meet (sym c.deref.ensures.value) ∙ sym c.in_default-lowest_twice.ensures.meets))
+
+pub lowest_read-requires-clause-some : goal.lowest_read-requires-clause-some
+lowest_read-requires-clause-some c =
+    rw c.deref-then-any_reads.ensures.value (rw (← c.deref-2.ensures.value) (sym c.if-any_reads.ensures))
+
+pub returns-then-any_reads-clause-addr : goal.returns-then-any_reads-clause-addr
+returns-then-any_reads-clause-addr c =
+    shared_permuted (places (unrolled c.args.src.now)) c.args.dst.now c.in-Ok.ranges.items c.lowest_read.result c.in-Ok.ensures.same
+    (subst (λ (xs : List Segment). IsLowest (IsShared (places (unrolled c.args.src.now)) (places xs)) c.lowest_read.result) c.deref-then-any_reads.ensures.value c.lowest_read.ensures)
 
 pub returns-clause-ok : goal.returns-clause-ok
 returns-clause-ok c =
-    stores_well c.args.src.now c.args.dst.now c.in-Ok.ranges.items c.requires.items c.in-Ok.ensures.same (ap some_meet (sym c.deref.ensures.value) ∙ sym c.if-neighbours_meet.ensures) (rw (← c.deref-2.ensures.value) (sym c.if-any_reads.ensures))
+    stores_well c.args.src.now c.args.dst.now c.in-Ok.ranges.items c.requires.items c.in-Ok.ensures.same (ap some_meet (sym c.deref.ensures.value) ∙ sym c.in_default-lowest_twice.ensures.meets) (rw (← c.deref-2.ensures.value) (sym c.if-any_reads.ensures))

@@ -3,7 +3,7 @@ use Rattle.std.proofs.lemmas.Nat.{pow_pos}
 use Rattle.std.specs.List.{All}
 use Rattle.dma_device.specs.Thread.{IsSound}
 use Rattle.dma_device.specs.inner.Fields.{AreOn}
-use Rattle.dma_device.proofs.Sound.{all_reset, reset_on, with_all}
+use Rattle.dma_device.proofs.Sound.{all_reset, reset_on, with_parts}
 use Rattle.dma_device.proofs.device.Device.reset.Goals as goal
 
 pub invariant_of-self : goal.invariant_of-self
@@ -12,5 +12,4 @@ invariant_of-self c =
     let n = d.config.events in
     let new = c.reset_threads.new.threads in
     let len : length new ≡ d.threads.len = omega (arith, c.reset_threads.auto.threads, c.deref_mut.ensures.len) in
-    let all = with_all d new c.self.invariant len (c.reset_threads.auto.threads ∙ ap length c.deref_mut.ensures.value) (subst (All (IsSound n)) (sym c.reset_threads.ensures) (all_reset d.config.bus n _)) (subst (AreOn d.config.bus) (sym c.reset_threads.ensures) (reset_on d.config.bus _)) in
-    record { config = all.config; count = all.count; sound = record { few = all.sound.few; known = record { events = pow_pos n; interrupts = pow_pos n; inten = pow_pos n }; threads = all.sound.threads }; on = all.on; marks = all.marks }
+    with_parts d new _ _ _ _ _ _ c.self.invariant len (c.reset_threads.auto.threads ∙ ap length c.deref_mut.ensures.value) (subst (All (IsSound n)) (sym c.reset_threads.ensures) (all_reset d.config.bus n _)) (subst (AreOn d.config.bus) (sym c.reset_threads.ensures) (reset_on d.config.bus _)) (pow_pos n) (pow_pos n) (pow_pos n)

@@ -1,4 +1,4 @@
-use Rattle.std.proofs.Common.{◌≡◌, ◌∙◌, ◌^◌, ◌<◌, ◌++◌, List, ap, arith, drop, length, refl, subst, sym, true≢false, ℕ}
+use Rattle.std.proofs.Common.{◌≡◌, ◌∙◌, ◌++◌, List, ap, arith, drop, length, refl, subst, sym, true≢false, ℕ}
 use Rattle.std.proofs.lemmas.List.{take-append-drop, with_items_is}
 use Rattle.std.specs.List.{All, flat_map}
 use Rattle.std.specs.Vec.{with_items}
@@ -12,8 +12,12 @@ use Rattle.dma_device.proofs.SavedParts.{tail_is}
 use Rattle.dma_device.proofs.SavedDevices.{device_ranges_in, device_value_is, from_head, known_in, threads_behind}
 use Rattle.dma_device.specs.inner.Fields.{AreOn}
 use Rattle.dma_device.specs.inner.Saves.{HasHeadRanges}
-use Rattle.dma_device.proofs.Sound.{all_reset, are_on, on_of, reset_on, with_all}
+use Rattle.dma_device.proofs.Sound.{all_reset, are_on, on_of, reset_on, with_parts}
 use Rattle.dma_device.proofs.device.Device.restore_parts.Goals as goal
+
+-- a head's events are known to a device of its configuration
+known_on : (h : Head) (g : Config) → h.config ≡ g → HasKnownEvents h → HasKnownEvents (record h { config = g })
+known_on h g same known = subst (λ (f : Config). HasKnownEvents (record h { config = f })) same known
 
 pub returns-in_default-clause-all : goal.returns-in_default-clause-all
 unfolding parts_in
@@ -63,25 +67,8 @@ invariant_of-self-2 c =
     let d = c.self.inside in
     let new = c.restore_threads.new.threads in
     let len : length new ≡ d.threads.len = omega (arith, c.restore_threads.auto.threads, c.deref_mut.ensures.len) in
-    let k = c.in-Some.ensures.known in
-    let same = ap (λ (g : Config). 2 ^ g.events) c.in-Some.ensures.config in
-    let h = c.in-Some.head in
-    let all = with_all d new c.self.invariant len (c.restore_threads.auto.threads ∙ ap length c.deref_mut.ensures.value) c.restore_threads.ensures.sound (are_on d.config.bus new c.restore_threads.ensures.on) in
-    record {
-      config = all.config;
-      count = all.count;
-      sound = record {
-        few = all.sound.few;
-        known = record {
-          events = subst (λ (m : ℕ). h.events < m) same k.events;
-          interrupts = subst (λ (m : ℕ). h.interrupts < m) same k.interrupts;
-          inten = subst (λ (m : ℕ). h.inten < m) same k.inten;
-        };
-        threads = all.sound.threads;
-      };
-      on = all.on;
-      marks = all.marks;
-    }
+    let known = known_on c.in-Some.head d.config c.in-Some.ensures.config c.in-Some.ensures.known in
+    with_parts d new _ _ _ _ _ _ c.self.invariant len (c.restore_threads.auto.threads ∙ ap length c.deref_mut.ensures.value) c.restore_threads.ensures.sound (are_on d.config.bus new c.restore_threads.ensures.on) known.events known.interrupts known.inten
 
 pub returns-clause-ok : goal.returns-clause-ok
 unfolding parts_in
@@ -125,16 +112,10 @@ returns-clause-value c =
     let h = c.in-Some.head in
     let new = c.restore_threads.new.threads in
     let len : length new ≡ d.threads.len = omega (arith, c.restore_threads.auto.threads, c.deref_mut.ensures.len) in
-    let k = c.in-Some.ensures.known in
     let r = c.in-Some.ensures.ranges in
-    let same = ap (λ (g : Config). 2 ^ g.events) c.in-Some.ensures.config in
-    let all = with_all d new c.self.invariant len (c.restore_threads.auto.threads ∙ ap length c.deref_mut.ensures.value) c.restore_threads.ensures.sound (are_on d.config.bus new c.restore_threads.ensures.on) in
+    let known = known_on h d.config c.in-Some.ensures.config c.in-Some.ensures.known in
+    let all = with_parts d new h.manager h.events h.interrupts h.inten h.dbginst0 h.dbginst1 c.self.invariant len (c.restore_threads.auto.threads ∙ ap length c.deref_mut.ensures.value) c.restore_threads.ensures.sound (are_on d.config.bus new c.restore_threads.ensures.on) known.events known.interrupts known.inten in
     let e = from_head d.config h (with_items d.threads new).items in
-    let known : HasKnownEvents (head_of e) = record {
-      events = subst (λ (m : ℕ). h.events < m) same k.events;
-      interrupts = subst (λ (m : ℕ). h.interrupts < m) same k.interrupts;
-      inten = subst (λ (m : ℕ). h.inten < m) same k.inten;
-    } in
     let ranges : HasHeadRanges (head_of e) = record { fault = r.fault; events = r.events; interrupts = r.interrupts; inten = r.inten; dbginst0 = r.dbginst0; dbginst1 = r.dbginst1 } in
     let values = subst (All (IsThreadValue d.config.events)) (sym (with_items_is d.threads new len)) (c.restore_threads.ensures.values c.if-not-restore_threads.false) in
-    device_value_is e all.config known ranges all.count values (on_of d.config.bus _ all.on))
+    device_value_is e all.config all.sound.known ranges all.count values (on_of d.config.bus _ all.on))

@@ -30,9 +30,8 @@ other_lines d e a b p q ne =
 
 by_flags : (x y : Bool) → beq x y ≡ (flag x == flag y)
 by_flags true true = refl
-by_flags true false = refl
 by_flags false true = refl
-by_flags false false = refl
+by_flags x y = refl
 
 same_lines : (d e : DeviceValue) (a b : ℕ) (x y : Bool) → a ≡ irqs d → b ≡ irqs e → a ≡ b → x ≡ irq_abort d → y ≡ irq_abort e → not (beq x y) ≡ lines_differ d e
 same_lines d e a b x y p q same left right =
