@@ -1,13 +1,13 @@
 -- What each answer adds to the ticks, to the step count and to the number of finished cookies.
 use Rattle.std.proofs.Common.{◌≡◌, ℕ, ◌+◌, ◌<◌, List, [], ◌∷◌, ◌++◌, length, map, drop, Option, Some, None, true, false, refl, ap, sym, ◌∙◌, subst, arith, append-nil, inl, inr}
-use Rattle.std.specs.Prelude.{slice_set, Result, Ok, Err, sum}
+use Rattle.std.specs.Prelude.{slice_set, Result, Ok, sum}
 use Rattle.std.proofs.lemmas.List.{map-set, set-get_or, length-append, length_push, length-drop}
 use Rattle.std.proofs.lemmas.List.Sums.{sum_by-set, sum-map}
 use Rattle.std.proofs.Math.ListN.{get_or-map}
 use Rattle.dma_mem.specs.Places.{Descriptor}
 use Rattle.dma_chan.specs.Traffic.{stored_after}
 use Rattle.dma_mem.specs.declared.call.Call.{Call}
-use Rattle.dma_mem.specs.declared.call.Call.TheVariants.{Write, Read, Submit, Issue, Pause, Resume, Terminate, Step, Status, Result as ResultOf, Mark, Unmark, Raise, Checkpoint}
+use Rattle.dma_mem.specs.declared.call.Call.TheVariants.{Write, Read, Submit, Issue, Pause, Resume, Terminate, Status, Result as ResultOf, Mark, Unmark, Raise}
 use Rattle.dma_engine.specs.declared.call.Reply.{Reply}
 use Rattle.dma_engine.specs.declared.call.Reply.TheVariants.{Done, Cookie, Count}
 use Rattle.dma_engine.specs.declared.entry.Entry.{Entry}
@@ -16,14 +16,14 @@ use Rattle.dma_engine.specs.declared.entry.Signaller.TheVariants.{Channel, Host}
 use Rattle.dma_engine.specs.declared.fault.EngineFault.{EngineFault}
 use Rattle.dma_engine.specs.declared.outcome.TransResult.{TransResult}
 use Rattle.dma_engine.specs.declared.turn.Turn.{Turn}
-use Rattle.dma_engine.specs.declared.turn.Turn.TheVariants.{Nothing, Held, Started, Moved, Waiting, Paused, Halted, Finished as FinishedTurn}
+use Rattle.dma_engine.specs.declared.turn.Turn.TheVariants.{Moved, Finished as FinishedTurn}
 use Rattle.dma_engine.specs.Object.{Object, ChannelState, after, channel, empty_channel, with_channel, with_flag, with_front_laid, with_outcome, with_all_aborted, finished, finished_all, unfinished, used, front_of, outcome_of, aborted}
 use Rattle.dma_engine.specs.Ticks.{Submitted, Finished, ticks_of}
 use Rattle.dma_engine.specs.View.{View, object_of, channels}
 use Rattle.dma_engine.specs.Turn.{Stepped, turn, ends, next_moved, finishes, with_entry}
 use Rattle.dma_engine.specs.Answer.{CallAnswers, answer, unless, write_fault, read_fault, submit_fault, channel_fault, mark_fault, raise_fault, with_pause, terminated, done_on}
 use Rattle.dma_engine.specs.Laws.{Adds, SameCounts, IsQuiet, QuietCallsKeepCounts, StepsAdd, EndsByTurn, ticks_in, steps_in, finishes_in}
-use Rattle.dma_engine.proofs.Endings.{length_aborted}
+use Rattle.dma_engine.proofs.Boards.{length_aborted}
 use Rattle.dma_engine.proofs.Histories.{object_after_append}
 use Rattle.dma_engine.proofs.Turns.{answer_is, step_is_law, turn_cases}
 
@@ -31,16 +31,10 @@ use Rattle.dma_engine.proofs.Turns.{answer_is, step_is_law, turn_cases}
 
 pub ticks_append : (xs ys : List Entry) → ticks_of (xs ++ ys) ≡ ticks_of xs ++ ticks_of ys
 ticks_append [] ys = refl
-ticks_append (Wrote addr bytes ∷ xs) ys = ticks_append xs ys
-ticks_append (ReadBack addr bytes ∷ xs) ys = ticks_append xs ys
 ticks_append (SubmittedEntry ch t cookie ∷ xs) ys = ap (λ l. Submitted ch ∷ l) (ticks_append xs ys)
-ticks_append (Issued ch ∷ xs) ys = ticks_append xs ys
-ticks_append (Passed ch event ∷ xs) ys = ticks_append xs ys
-ticks_append (Signalled by event ∷ xs) ys = ticks_append xs ys
 ticks_append (FinishedEntry ch result done ∷ xs) ys = ap (λ l. Finished ch 1 ∷ l) (ticks_append xs ys)
 ticks_append (Terminated ch done count ∷ xs) ys = ap (λ l. Finished ch count ∷ l) (ticks_append xs ys)
-ticks_append (Marked kind segment ∷ xs) ys = ticks_append xs ys
-ticks_append (Unmarked ∷ xs) ys = ticks_append xs ys
+ticks_append (e ∷ xs) ys = ticks_append xs ys
 
 -- ---- the number of finished cookies
 
@@ -66,29 +60,19 @@ IsQuietEntry (Terminated ch done count) = ⊥
 IsQuietEntry _ = Unit {0}
 
 quiet_ticks : (e : Entry) → IsQuietEntry e → ticks_of (e ∷ []) ≡ []
-quiet_ticks (Wrote addr bytes) q = refl
-quiet_ticks (ReadBack addr bytes) q = refl
 quiet_ticks (SubmittedEntry ch t cookie) q = absurd q
-quiet_ticks (Issued ch) q = refl
-quiet_ticks (Passed ch event) q = refl
-quiet_ticks (Signalled by event) q = refl
 quiet_ticks (FinishedEntry ch result done) q = absurd q
 quiet_ticks (Terminated ch done count) q = absurd q
-quiet_ticks (Marked kind segment) q = refl
-quiet_ticks Unmarked q = refl
+quiet_ticks e q = refl
 
 quiet_after : (o : Object) (e : Entry) → IsQuietEntry e → finished_all (after o e) ≡ finished_all o
-quiet_after o (Wrote addr bytes) q = refl
-quiet_after o (ReadBack addr bytes) q = refl
 quiet_after o (SubmittedEntry ch t cookie) q = absurd q
 quiet_after o (Issued ch) q = finished_same o ch _ refl
 quiet_after o (Passed ch event) q = finished_same (with_flag o event false) ch _ refl
 quiet_after o (Signalled (Channel ch) event) q = finished_same (with_flag o event true) ch _ refl
-quiet_after o (Signalled Host event) q = refl
 quiet_after o (FinishedEntry ch result done) q = absurd q
 quiet_after o (Terminated ch done count) q = absurd q
-quiet_after o (Marked kind segment) q = refl
-quiet_after o Unmarked q = refl
+quiet_after o e q = refl
 
 pub object_one : (v : View) (e : Entry) → object_of (with_entry v e) ≡ after (object_of v) e
 object_one v e = object_after_append v.base v.history (e ∷ [])
@@ -120,18 +104,15 @@ answered v w call reply P o h a = elim (answer_is v w call reply a) [
 call_still : (v : View) (call : Call) → IsQuiet call → SameCounts v (answer v call).1
 call_still v (Write addr bytes) q = unless_still v (write_fault v addr (length bytes)) _ (entry_still v (Wrote addr bytes) tt)
 call_still v (Read addr len) q = unless_still v (read_fault v addr len) _ (entry_still v (ReadBack addr _) tt)
-call_still v (Submit ch t) q = absurd q
 call_still v (Issue ch) q = unless_still v (channel_fault v ch) _ (entry_still v (Issued ch) tt)
 call_still v (Pause ch) q = unless_still v (channel_fault v ch) (Done, with_pause v ch true) (record { ticks = refl; steps = refl; finished = refl })
 call_still v (Resume ch) q = unless_still v (channel_fault v ch) (Done, with_pause v ch false) (record { ticks = refl; steps = refl; finished = refl })
-call_still v (Terminate ch) q = absurd q
-call_still v (Step ch) q = absurd q
 call_still v (Status ch cookie) q = same v
 call_still v (ResultOf ch cookie) q = same v
 call_still v (Mark kind segment) q = unless_still v (mark_fault segment) _ (entry_still v (Marked kind segment) tt)
 call_still v Unmark q = entry_still v Unmarked tt
 call_still v (Raise event) q = unless_still v (raise_fault event) _ (entry_still v (Signalled Host event) tt)
-call_still v Checkpoint q = absurd q
+call_still v call q = absurd q
 
 pub quiet_calls_keep_counts : QuietCallsKeepCounts
 quiet_calls_keep_counts v w call reply q h = answered v w call reply (SameCounts v) (same v) (call_still v call q) h
@@ -188,13 +169,7 @@ deed_adds v w ch (Ok Moved) d = record {
   steps = d.1;
   finished = omega (arith, d.2);
 }
-deed_adds v w ch (Ok Nothing) d = still_adds v w d
-deed_adds v w ch (Ok (Held a b)) d = still_adds v w d
-deed_adds v w ch (Ok (Started a)) d = still_adds v w d
-deed_adds v w ch (Ok (Waiting a)) d = still_adds v w d
-deed_adds v w ch (Ok Paused) d = still_adds v w d
-deed_adds v w ch (Ok Halted) d = still_adds v w d
-deed_adds v w ch (Err f) d = still_adds v w d
+deed_adds v w ch r d = still_adds v w d
 
 pub steps_add : StepsAdd
 steps_add v w ch r h = elim (step_is_law v w ch r h) [

@@ -6,10 +6,10 @@ use Rattle.std.proofs.lemmas.List.{map-set, length-set, length-map, length-drop,
 use Rattle.std.proofs.Math.ListN.{get_or-map}
 use Rattle.dma_mem.specs.Places.{Descriptor}
 use Rattle.dma_engine.specs.declared.entry.Entry.{Entry}
-use Rattle.dma_engine.specs.declared.entry.Entry.TheVariants.{Wrote, ReadBack, Submitted, Issued, Passed, Signalled, Finished, Terminated, Marked, Unmarked}
-use Rattle.dma_engine.specs.declared.entry.Signaller.TheVariants.{Channel, Host}
+use Rattle.dma_engine.specs.declared.entry.Entry.TheVariants.{Submitted, Issued, Passed, Signalled, Finished, Terminated}
+use Rattle.dma_engine.specs.declared.entry.Signaller.TheVariants.{Channel}
 use Rattle.dma_engine.specs.declared.outcome.TransResult.{TransResult}
-use Rattle.dma_engine.specs.declared.outcome.TransResult.TheVariants.{NoError, ReadFailed, WriteFailed, Aborted}
+use Rattle.dma_engine.specs.declared.outcome.TransResult.TheVariants.{Aborted}
 use Rattle.dma_engine.specs.Object.{Object, ChannelState, Allows, after, channel, empty_channel, with_channel, used, finished, last_cookie, aborted, IsBase, FrontIs, outcome_of, front_of, with_flag, with_front_laid}
 use Rattle.dma_engine.specs.History.{object_after, IsLegal}
 use Rattle.dma_engine.specs.Ticks.{Board, board_after, board_of, counts, counts_of, no_counts, ticks_of, added_up, status_by, status_of}
@@ -38,13 +38,14 @@ with_channel_at o ch c = elim (cases_lt ch (length o.channels)) [
   | inr past ↦ inr (get_or_past (slice_set o.channels ch c) ch empty_channel (omega (arith, length-set o.channels ch c)) ∙ sym (get_or_past o.channels ch empty_channel past))
 ]
 
-counted_with : (o : Object) (ch : ℕ) (c : ChannelState) → AreCounted o → IsCounted c → AreCounted (with_channel o ch c)
-counted_with o ch c h n = λ d. elim (cases_eq d ch) [
+-- what holds of each channel, after one was set
+pub each_with : (P : ChannelState → Type 0) (o : Object) (ch : ℕ) (c : ChannelState) → ((d : ℕ) → P (channel o d)) → P c → (d : ℕ) → P (channel (with_channel o ch c) d)
+each_with P o ch c h n d = elim (cases_eq d ch) [
   | inl e ↦ elim (with_channel_at o ch c) [ inl f ↦ rw (e, f) n | inr f ↦ rw (e, f) (h ch) ]
   | inr e ↦ rw (get_or-set_other o.channels ch d c empty_channel e) (h d)
 ]
 
-length_aborted : (done : ℕ) (ts : List Descriptor) → length (aborted done ts) ≡ length ts
+pub length_aborted : (done : ℕ) (ts : List Descriptor) → length (aborted done ts) ≡ length ts
 length_aborted done [] = refl
 length_aborted done (t ∷ ts) = ap suc (length-map ts _)
 
@@ -61,46 +62,38 @@ issued_one c P h = let f = front_where c P h.1 in omega (arith, f.below)
 
 -- a front that finishes
 fronts : (o : Object) (ch : ℕ) (result : TransResult) (done : ℕ) → Allows o (Finished ch result done) → finished (channel o ch) + 1 ≤ used (channel o ch)
-fronts o ch NoError done h = finished_one (channel o ch) _ h
-fronts o ch ReadFailed done h = finished_one (channel o ch) _ h
-fronts o ch WriteFailed done h = finished_one (channel o ch) _ h
 fronts o ch Aborted done h = absurd h
+fronts o ch result done h = finished_one (channel o ch) _ h
 
 issued_fronts : (o : Object) (ch : ℕ) (result : TransResult) (done : ℕ) → Allows o (Finished ch result done) → finished (channel o ch) + 1 ≤ (channel o ch).issued
-issued_fronts o ch NoError done h = issued_one (channel o ch) _ h
-issued_fronts o ch ReadFailed done h = issued_one (channel o ch) _ h
-issued_fronts o ch WriteFailed done h = issued_one (channel o ch) _ h
 issued_fronts o ch Aborted done h = absurd h
+issued_fronts o ch result done h = issued_one (channel o ch) _ h
 
 pub counted_after : (o : Object) (e : Entry) → AreCounted o → Allows o e → AreCounted (after o e)
-counted_after o (Wrote addr bytes) h a = h
-counted_after o (ReadBack addr bytes) h a = h
 counted_after o (Submitted ch t cookie) h a =
     let c = channel o ch in
     let n = length_push c.submitted t in
     let old = h ch in
-    counted_with o ch _ h (record { finish = omega (arith, old.finish, n); order = old.order; issue = omega (arith, old.issue, n); give = omega (arith, a.3, a.4, n) })
+    each_with IsCounted o ch _ h (record { finish = omega (arith, old.finish, n); order = old.order; issue = omega (arith, old.issue, n); give = omega (arith, a.3, a.4, n) })
 counted_after o (Issued ch) h a =
     let old = h ch in
-    counted_with o ch _ h (record { finish = old.finish; order = old.finish; issue = omega arith; give = old.give })
+    each_with IsCounted o ch _ h (record { finish = old.finish; order = old.finish; issue = omega arith; give = old.give })
 counted_after o (Passed ch event) h a =
     let old = h ch in
-    counted_with (with_flag o event false) ch _ h (record { finish = old.finish; order = old.order; issue = old.issue; give = old.give })
+    each_with IsCounted (with_flag o event false) ch _ h (record { finish = old.finish; order = old.order; issue = old.issue; give = old.give })
 counted_after o (Signalled (Channel ch) event) h a =
     let old = h ch in
-    counted_with (with_flag o event true) ch _ h (record { finish = old.finish; order = old.order; issue = old.issue; give = old.give })
-counted_after o (Signalled Host event) h a = h
+    each_with IsCounted (with_flag o event true) ch _ h (record { finish = old.finish; order = old.order; issue = old.issue; give = old.give })
 counted_after o (Finished ch result done) h a =
     let c = channel o ch in
     let old = h ch in
     let n = length_push c.outcomes (outcome_of result (front_of c) done) in
-    counted_with (with_front_laid o ch done) ch _ h (record { finish = omega (arith, fronts o ch result done a, n); order = omega (arith, issued_fronts o ch result done a, n); issue = old.issue; give = old.give })
+    each_with IsCounted (with_front_laid o ch done) ch _ h (record { finish = omega (arith, fronts o ch result done a, n); order = omega (arith, issued_fronts o ch result done a, n); issue = old.issue; give = old.give })
 counted_after o (Terminated ch done count) h a =
     let c = channel o ch in
     let old = h ch in
-    counted_with (with_front_laid o ch done) ch _ h (record { finish = omega (arith, finished_all_law c done old.finish); order = omega (arith, finished_all_law c done old.finish); issue = omega arith; give = old.give })
-counted_after o (Marked kind segment) h a = h
-counted_after o Unmarked h a = h
+    each_with IsCounted (with_front_laid o ch done) ch _ h (record { finish = omega (arith, finished_all_law c done old.finish); order = omega (arith, finished_all_law c done old.finish); issue = omega arith; give = old.give })
+counted_after o e h a = h
 
 pub counted_object : (o : Object) (es : List Entry) → AreCounted o → IsLegal o es → AreCounted (object_after o es)
 counted_object o [] h a = h
@@ -128,8 +121,6 @@ same_counts o ch c h =
 
 -- the board after one entry
 pub board_after_law : (o : Object) (e : Entry) → AreCounted o → Allows o e → board_after (board_of o) (ticks_of (e ∷ [])) ≡ board_of (after o e)
-board_after_law o (Wrote addr bytes) h a = refl
-board_after_law o (ReadBack addr bytes) h a = refl
 board_after_law o (Submitted ch t cookie) h a =
     let c = channel o ch in
     let n : added_up (used c) 1 ≡ c.forgotten + length (c.submitted ++ t ∷ []) = omega (arith, length_push c.submitted t, a.3, a.4) in
@@ -140,7 +131,6 @@ board_after_law o (Issued ch) h a =
     same_counts o ch _ refl
 board_after_law o (Passed ch event) h a = same_counts o ch _ refl
 board_after_law o (Signalled (Channel ch) event) h a = same_counts o ch _ refl
-board_after_law o (Signalled Host event) h a = refl
 board_after_law o (Finished ch result done) h a =
     let c = channel o ch in
     let old = h ch in
@@ -156,20 +146,11 @@ board_after_law o (Terminated ch done count) h a =
     ap (λ x. slice_set (board_of o) ch (record x { finished = added_up x.finished count })) (counts_at o ch)
     ∙ ap (λ k. slice_set (board_of o) ch (record { used = used c; finished = k })) n
     ∙ sym (board_with o ch _)
-board_after_law o (Marked kind segment) h a = refl
-board_after_law o Unmarked h a = refl
+board_after_law o e h a = refl
 
 ticks_cons : (board : Board) (e : Entry) (es : List Entry) → board_after board (ticks_of (e ∷ es)) ≡ board_after (board_after board (ticks_of (e ∷ []))) (ticks_of es)
-ticks_cons board (Wrote addr bytes) es = refl
-ticks_cons board (ReadBack addr bytes) es = refl
 ticks_cons board (Submitted ch t cookie) es = refl
-ticks_cons board (Issued ch) es = refl
-ticks_cons board (Passed ch event) es = refl
-ticks_cons board (Signalled by event) es = refl
-ticks_cons board (Finished ch result done) es = refl
-ticks_cons board (Terminated ch done count) es = refl
-ticks_cons board (Marked kind segment) es = refl
-ticks_cons board Unmarked es = refl
+ticks_cons board e es = refl
 
 pub board_is : (o : Object) (es : List Entry) → AreCounted o → IsLegal o es → board_after (board_of o) (ticks_of es) ≡ board_of (object_after o es)
 board_is o [] h a = refl

@@ -1,9 +1,10 @@
 -- From the checks of a call to its answer.
 use Rattle.std.proofs.Common.{◌≡◌, ℕ, ◌+◌, ◌-◌, ◌<◌, ◌≤◌, List, [], ◌∷◌, ◌++◌, length, take, drop, Option, Some, None, Bool, true, false, refl, ap, sym, ◌∙◌, subst, arith, ◌||◌, not}
-use Rattle.std.specs.Option.{option_map}
-use Rattle.std.specs.Prelude.{IsErrAnd, Result, nat_lt, nat_le, unwrap_or, Ok, Err, if◌then◌else◌}
-use Rattle.std.proofs.lemmas.Bool.{lt-ltb, le-ltb, le-leb, lt-leb, leb-false}
+use Rattle.std.specs.Prelude.{IsErrAnd, Result, nat_lt, nat_le, Ok, Err, if◌then◌else◌}
+use Rattle.std.proofs.lemmas.Bool.{lt-ltb, le-ltb, le-leb, lt-leb, leb-false, or_right, not-false}
 use Rattle.std.proofs.lemmas.List.{length_push}
+use Rattle.std.proofs.lemmas.Option.{some_pair_parts}
+use Rattle.std.specs.Option.{option_map}
 use Rattle.dma_mem.specs.Places.{Descriptor, lies_below}
 use Rattle.dma_mem.specs.declared.call.Call.{Call}
 use Rattle.dma_mem.specs.declared.call.Call.TheVariants.{Write, Read, Submit, Issue, Pause, Resume, Terminate, Checkpoint}
@@ -12,7 +13,7 @@ use Rattle.dma_engine.specs.declared.call.Reply.TheVariants.{Done, Bytes, Cookie
 use Rattle.dma_engine.specs.declared.entry.Entry.{Entry}
 use Rattle.dma_engine.specs.declared.entry.Entry.TheVariants.{Wrote, ReadBack, Submitted, Issued}
 use Rattle.dma_engine.specs.declared.fault.EngineFault.{EngineFault}
-use Rattle.dma_engine.specs.declared.fault.EngineFault.TheVariants.{OutOfMemoryRange, Busy, Running, NoChannel, CookiesSpent, StepsSpent, BadEvent, BadRange, NoMemory}
+use Rattle.dma_engine.specs.declared.fault.EngineFault.TheVariants.{OutOfMemoryRange, Busy, Running, NoChannel, CookiesSpent, NoMemory}
 use Rattle.dma_engine.specs.declared.access.Access.TheVariants.{Write as WriteWay, Read as ReadWay}
 use Rattle.dma_engine.specs.Object.{channel, used, unfinished, last_cookie}
 use Rattle.dma_engine.specs.View.{View, RunningTransfer, object_of, size, channels}
@@ -22,15 +23,11 @@ use Rattle.dma_engine.specs.inner.Accesses.{named, conflicts}
 
 -- ---- a call that adds an entry takes memory
 
-or_true_law : (b : Bool) → (b || true) ≡ true
-or_true_law true = refl
-or_true_law false = refl
-
 pub starved : (v : View) (call : Call) (reply : Reply) (w : View) (e : Entry) → answer v call ≡ (reply, w) → w.history ≡ v.history ++ e ∷ [] → CallAnswers v call (Refused NoMemory) v
 starved v call reply w e is more =
     let longer : nat_lt (length v.history) (length w.history) ≡ true = lt-ltb _ _ (omega (arith, ap length more, length_push v.history e)) in
-    let grown : (is_started (answer v call).0 || nat_lt (length v.history) (length (answer v call).1.history)) ≡ true = ap (λ (x : Reply × View). is_started x.0 || nat_lt (length v.history) (length x.1.history)) is ∙ ap (λ b. is_started reply || b) longer ∙ or_true_law (is_started reply) in
-    let takes : takes_memory v call ≡ true = ap (λ b. stores_base v call || b) grown ∙ or_true_law (stores_base v call) in
+    let grown : (is_started (answer v call).0 || nat_lt (length v.history) (length (answer v call).1.history)) ≡ true = ap (λ (x : Reply × View). is_started x.0 || nat_lt (length v.history) (length x.1.history)) is ∙ ap (λ b. is_started reply || b) longer ∙ or_right (is_started reply) true refl in
+    let takes : takes_memory v call ≡ true = ap (λ b. stores_base v call || b) grown ∙ or_right (stores_base v call) true refl in
     (takes, refl)
 
 -- a result that is an error, which is this fault
@@ -40,17 +37,20 @@ refusal reply v w call fault (Err e) h a = rw h a
 
 -- ---- a running transfer that conflicts
 
+-- what holds of each running transfer and its name holds of the one that is named
+pub named_by : (x : Option RunningTransfer) (ch cookie : ℕ) (P : Option RunningTransfer → ℕ → ℕ → Type 0) → ((r : RunningTransfer) → P (Some r) r.ch r.cookie) → Some (ch, cookie) ≡ named x → P x ch cookie
+named_by None ch cookie P each h = absurd cc
+named_by (Some r) ch cookie P each h = let same = some_pair_parts ch r.ch cookie r.cookie h in rw (same.0, same.1) (each r)
+
+pub named_none : (x : Option RunningTransfer) → None ≡ named x → x ≡ None
+named_none None h = refl
+named_none (Some r) h = absurd cc
+
 busy_known : (x : Option RunningTransfer) (ch cookie : ℕ) → Some (ch, cookie) ≡ named x → busy x ≡ Some (Busy ch cookie)
-busy_known None ch cookie h = absurd cc
-busy_known (Some r) ch cookie h =
-    let pair : Option (ℕ × ℕ) → ℕ × ℕ = λ o. unwrap_or o (0, 0) in
-    let a : ch ≡ r.ch = ap (λ o. (pair o).0) h in
-    let b : cookie ≡ r.cookie = ap (λ o. (pair o).1) h in
-    rw (a, b) refl
+busy_known x ch cookie h = named_by x ch cookie (λ y c k. busy y ≡ Some (Busy c k)) (λ r. refl) h
 
 busy_none : (x : Option RunningTransfer) → None ≡ named x → busy x ≡ None
-busy_none None h = refl
-busy_none (Some r) h = absurd cc
+busy_none x h = ap busy (named_none x h)
 
 -- ---- write
 
@@ -115,6 +115,13 @@ channel_gone v ch h = let e : nat_le (channels v) ch ≡ true = le-leb _ _ h in 
 pub channel_there : (v : View) (ch : ℕ) → ch < channels v → channel_fault v ch ≡ None
 channel_there v ch h = let e : nat_le (channels v) ch ≡ false = lt-leb _ _ h in rw e refl
 
+pub cause_none : (b : Bool) (fault : EngineFault) (others : Option EngineFault) → cause b fault others ≡ None → (b ≡ false) × (others ≡ None)
+cause_none true fault others h = absurd cc
+cause_none false fault others h = (refl, h)
+
+pub channel_open : (v : View) (ch : ℕ) → channel_fault v ch ≡ None → ch < channels v
+channel_open v ch none = leb-false _ _ (cause_none (nat_le (channels v) ch) NoChannel None none).0
+
 pub issue_answer : (v : View) (ch : ℕ) → ch < channels v → let c = channel (object_of v) ch in answer v (Issue ch) ≡ (Count (used c - c.issued), with_entry v (Issued ch))
 issue_answer v ch h = rw (channel_there v ch h) refl
 
@@ -142,21 +149,13 @@ submit_done v w ch cookie t none number is =
     let given : answer v (Submit ch t) ≡ (Cookie (used (channel (object_of v) ch) + 1), with_entry v (Submitted ch t (used (channel (object_of v) ch) + 1))) = rw none refl in
     ap (λ x. (Cookie cookie, x)) is ∙ ap (λ k. (Cookie k, with_entry v (Submitted ch t k))) number ∙ sym given
 
-no_cause : (b : Bool) (f : EngineFault) (others : Option EngineFault) → cause b f others ≡ None → (b ≡ false) × (others ≡ None)
-no_cause true f others h = absurd cc
-no_cause false f others h = (refl, h)
-
-not_false_law : (b : Bool) → not b ≡ false → b ≡ true
-not_false_law true h = refl
-not_false_law false h = absurd cc
-
 -- what holds if nothing refuses a submit
 pub submit_open : (v : View) (ch : ℕ) (t : Descriptor) → submit_fault v ch t ≡ None → (ch < channels v) × (lies_below t (size v) ≡ true) × (used (channel (object_of v) ch) < last_cookie)
 submit_open v ch t none =
-    let first = no_cause (nat_le (channels v) ch) NoChannel _ none in
-    let second = no_cause (not (lies_below t (size v))) OutOfMemoryRange _ first.1 in
-    let third = no_cause (nat_le last_cookie (used (channel (object_of v) ch))) CookiesSpent None second.1 in
-    (leb-false _ _ first.0, not_false_law (lies_below t (size v)) second.0, leb-false _ _ third.0)
+    let first = cause_none (nat_le (channels v) ch) NoChannel _ none in
+    let second = cause_none (not (lies_below t (size v))) OutOfMemoryRange _ first.1 in
+    let third = cause_none (nat_le last_cookie (used (channel (object_of v) ch))) CookiesSpent None second.1 in
+    (leb-false _ _ first.0, not-false (lies_below t (size v)) second.0, leb-false _ _ third.0)
 
 -- ---- a submit that is checked first
 
@@ -193,15 +192,8 @@ named_cause true f others fault n rest h = let e : f ≡ fault = cc in subst IsN
 named_cause false f others fault n rest h = rest h
 
 refused_as : (v : View) (call : Call) (fault : EngineFault) → IsNamed fault → answer v call ≡ (Refused fault, v) → CallAnswers v call (Refused fault) v
-refused_as v call OutOfMemoryRange n is = sym is
-refused_as v call (Busy ch cookie) n is = sym is
-refused_as v call (Running ch cookie) n is = sym is
-refused_as v call NoChannel n is = sym is
-refused_as v call CookiesSpent n is = sym is
-refused_as v call StepsSpent n is = sym is
-refused_as v call BadEvent n is = sym is
-refused_as v call BadRange n is = sym is
 refused_as v call NoMemory n is = absurd n
+refused_as v call fault n is = sym is
 
 pub submit_checked : (v : View) (ch n : ℕ) (t : Descriptor) (fault : EngineFault) → Err fault ≡ checked (submit_fault v ch t) n → CallAnswers v (Submit ch t) (Refused fault) v
 submit_checked v ch n t fault h =
@@ -218,23 +210,11 @@ checked_cookie (Some f) n k h = absurd cc
 
 -- ---- checkpoint
 
-running_known : (x : Option RunningTransfer) (ch cookie : ℕ) → Some (ch, cookie) ≡ named x → option_map (λ (r : RunningTransfer). Running r.ch r.cookie) x ≡ Some (Running ch cookie)
-running_known None ch cookie h = absurd cc
-running_known (Some r) ch cookie h =
-    let pair : Option (ℕ × ℕ) → ℕ × ℕ = λ x. unwrap_or x (ch, cookie) in
-    let e : r.ch ≡ ch = sym (ap (λ x. (pair x).0) h) in
-    let f : r.cookie ≡ cookie = sym (ap (λ x. (pair x).1) h) in
-    rw (e, f) refl
-
-running_none : (x : Option RunningTransfer) → None ≡ named x → x ≡ None
-running_none None h = refl
-running_none (Some r) h = absurd cc
-
 pub checkpoint_refused : (v : View) (ch cookie : ℕ) → Some (ch, cookie) ≡ named (first_running v (λ _. true)) → CallAnswers v Checkpoint (Refused (Running ch cookie)) v
-checkpoint_refused v ch cookie h = rw (running_known (first_running v (λ _. true)) ch cookie h) refl
-
-pub checkpoint_open : (v : View) → None ≡ named (first_running v (λ _. true)) → first_running v (λ _. true) ≡ None
-checkpoint_open v h = running_none (first_running v (λ _. true)) h
+checkpoint_refused v ch cookie h =
+    let fault : Option RunningTransfer → Option EngineFault = λ x. option_map (λ (r : RunningTransfer). Running r.ch r.cookie) x in
+    let known : fault (first_running v (λ _. true)) ≡ Some (Running ch cookie) = named_by (first_running v (λ _. true)) ch cookie (λ y c k. fault y ≡ Some (Running c k)) (λ r. refl) h in
+    rw known refl
 
 pub checkpoint_starved : (v : View) → first_running v (λ _. true) ≡ None → CallAnswers v Checkpoint (Refused NoMemory) v
 checkpoint_starved v h = (rw h refl, refl)

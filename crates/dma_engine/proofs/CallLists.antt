@@ -1,9 +1,10 @@
 -- Calls one after another.
 use Rattle.std.proofs.Common.{inl, inr, ◌≡◌, ℕ, ◌+◌, ◌-◌, List, [], ◌∷◌, ◌++◌, length, take, drop, Option, Some, None, true, false, refl, ap, sym, ◌∙◌, subst, append-nil, append_assoc}
 use Rattle.std.proofs.lemmas.Bool.{or_parts, true≢false}
+use Rattle.dma_engine.proofs.AnswerCounts.{answered}
 use Rattle.dma_chan.specs.Traffic.{stored_after}
 use Rattle.dma_mem.specs.declared.call.Call.{Call}
-use Rattle.dma_mem.specs.declared.call.Call.TheVariants.{Write, Read, Submit, Issue, Pause, Resume, Terminate, Step, Status, Result as ResultOf, Mark, Unmark, Raise, Checkpoint}
+use Rattle.dma_mem.specs.declared.call.Call.TheVariants.{Write, Read, Submit, Issue, Pause, Resume, Terminate, Step, Mark, Unmark, Raise, Checkpoint}
 use Rattle.dma_engine.specs.declared.call.Reply.{Reply}
 use Rattle.dma_engine.specs.declared.call.Reply.TheVariants.{Done, Bytes, Cookie, Count}
 use Rattle.dma_engine.specs.declared.entry.Entry.{Entry}
@@ -90,37 +91,18 @@ answer_extends v (Terminate ch) o =
     let count = unfinished (channel (object_of v) ch) in
     unless_extends v (channel_fault v ch) (Count count, terminated v ch) (one v (Terminated ch (done_on v ch) count))
 answer_extends v (Step ch) o = turn_extends v ch
-answer_extends v (Status ch cookie) o = still v
-answer_extends v (ResultOf ch cookie) o = still v
 answer_extends v (Mark kind segment) o = unless_extends v (mark_fault segment) (Done, with_entry v (Marked kind segment)) (one v (Marked kind segment))
 answer_extends v Unmark o = one v Unmarked
 answer_extends v (Raise event) o = unless_extends v (raise_fault event) (Done, with_entry v (Signalled Host event)) (one v (Signalled Host event))
 answer_extends v Checkpoint o = absurd o
-
-by_other_law : (v w : View) (call : Call) (reply : Reply) → IsOther call → (reply, w) ≡ answer v call → Extends v w
-by_other_law v w call reply o is = subst (λ (u : View). Extends v u) (sym (ap (λ (x : Reply × View). x.1) is)) (answer_extends v call o)
-
-by_answer_law : (v w : View) (call : Call) (reply : Reply) → is_checkpoint call reply ≡ false → (reply, w) ≡ answer v call → Extends v w
-by_answer_law v w Checkpoint reply n is = checkpoint_extends v w reply is n
-by_answer_law v w (Write addr bytes) reply n is = by_other_law v w (Write addr bytes) reply tt is
-by_answer_law v w (Read addr len) reply n is = by_other_law v w (Read addr len) reply tt is
-by_answer_law v w (Submit ch t) reply n is = by_other_law v w (Submit ch t) reply tt is
-by_answer_law v w (Issue ch) reply n is = by_other_law v w (Issue ch) reply tt is
-by_answer_law v w (Pause ch) reply n is = by_other_law v w (Pause ch) reply tt is
-by_answer_law v w (Resume ch) reply n is = by_other_law v w (Resume ch) reply tt is
-by_answer_law v w (Terminate ch) reply n is = by_other_law v w (Terminate ch) reply tt is
-by_answer_law v w (Step ch) reply n is = by_other_law v w (Step ch) reply tt is
-by_answer_law v w (Status ch cookie) reply n is = by_other_law v w (Status ch cookie) reply tt is
-by_answer_law v w (ResultOf ch cookie) reply n is = by_other_law v w (ResultOf ch cookie) reply tt is
-by_answer_law v w (Mark kind segment) reply n is = by_other_law v w (Mark kind segment) reply tt is
-by_answer_law v w Unmark reply n is = by_other_law v w Unmark reply tt is
-by_answer_law v w (Raise event) reply n is = by_other_law v w (Raise event) reply tt is
+answer_extends v call o = still v
 
 pub answers_extend : (v w : View) (call : Call) (reply : Reply) → is_checkpoint call reply ≡ false → CallAnswers v call reply w → Extends v w
-answers_extend v w call reply n h = elim (answer_is v w call reply h) [
+answers_extend v w Checkpoint reply n h = elim (answer_is v w Checkpoint reply h) [
   | inl none ↦ extends_same v w none.1
-  | inr is ↦ by_answer_law v w call reply n is
+  | inr is ↦ checkpoint_extends v w reply is n
 ]
+answers_extend v w call reply n h = answered v w call reply (λ (u : View). Extends v u) (still v) (answer_extends v call tt) h
 
 pub chain_extends : (v w : View) (calls : List Call) (replies : List Reply) → has_checkpoint calls replies ≡ false → AreAnswers v calls replies w → Extends v w
 chain_extends v w [] [] n h = extends_same v w h
@@ -133,17 +115,5 @@ chain_extends v w (c ∷ cs) (r ∷ rs) n h =
 -- ---- calls that are no checkpoint
 
 pub quiet_extends : (call : Call) (reply : Reply) → IsQuiet call → is_checkpoint call reply ≡ false
-quiet_extends (Write addr bytes) reply q = refl
-quiet_extends (Read addr len) reply q = refl
-quiet_extends (Submit ch t) reply q = refl
-quiet_extends (Issue ch) reply q = refl
-quiet_extends (Pause ch) reply q = refl
-quiet_extends (Resume ch) reply q = refl
-quiet_extends (Terminate ch) reply q = refl
-quiet_extends (Step ch) reply q = refl
-quiet_extends (Status ch cookie) reply q = refl
-quiet_extends (ResultOf ch cookie) reply q = refl
-quiet_extends (Mark kind segment) reply q = refl
-quiet_extends Unmark reply q = refl
-quiet_extends (Raise event) reply q = refl
 quiet_extends Checkpoint reply q = absurd q
+quiet_extends call reply q = refl

@@ -4,6 +4,7 @@ use Rattle.std.specs.Prelude.{slice_get, slice_index, slice_index_or, slice_set,
 use Rattle.std.specs.List.{Contains}
 use Rattle.std.proofs.lemmas.Bool.{cases_eq}
 use Rattle.std.proofs.lemmas.List.{map-set, set-get_or, length-set, get_or-map, get_or-set_same, get_or-set_other}
+use Rattle.std.specs.Option.{option_map}
 use Rattle.dma_mem.specs.Places.{Descriptor, is_free_of, sources, destinations}
 use Rattle.dma_mem.specs.Meeting.{IsFree}
 use Rattle.dma_mem.proofs.SharedPlaces.{share_none, is_free_of_true}
@@ -19,9 +20,9 @@ use Rattle.dma_engine.specs.Object.{Object, ChannelState, channel, empty_channel
 use Rattle.dma_engine.specs.History.{object_after, IsLegal}
 use Rattle.dma_engine.specs.View.{View, ChannelSchedule, RunningTransfer, Fits, Agrees, AreFree, IsSound, running_in, runs, idle, object_of, memory_of, memory_shown}
 use Rattle.dma_engine.specs.inner.Ranges.{AreOfRunning}
-use Rattle.dma_engine.specs.inner.Holds.{Holds, IsPrepared, IsQueue, IsRun, Parts, view_of, schedule_of}
+use Rattle.dma_engine.specs.inner.Holds.{Holds, IsPrepared, IsQueue, IsRun, Parts, view_of, schedule_of, taken_of}
 use Rattle.dma_engine.proofs.Histories.{object_after_append, IsLegal_append}
-use Rattle.dma_engine.proofs.Queues.{slice_get_push}
+use Rattle.dma_engine.proofs.Queues.{slice_get_push, many_queues}
 
 -- ---- free in both directions
 
@@ -41,17 +42,24 @@ AreFree_sym (Some r) (Some s) h =
 
 -- ---- what a machine keeps
 
+-- a machine is where another front and memory have it, if it is at each front that it may have
+pub run_moved : (memory other : List ℕ) (m : ChannelValue) (c d : ChannelState) → ((t : Descriptor) → is_some m.program ≡ true → front c ≡ Some t → IsAt t m.taken memory m → IsSomeAnd (front d) (λ u. IsAt u m.taken other m)) → IsRun memory m c → IsRun other m d
+run_moved memory other m c d moved h = by m.program (front c) refl refl h where
+  by : (o : Option ProgramValue) (f : Option Descriptor) → m.program ≡ o → front c ≡ f → IfSome o (λ _. IsSomeAnd f (λ t. IsAt t m.taken memory m)) → IfSome o (λ _. IsSomeAnd (front d) (λ u. IsAt u m.taken other m))
+  by None f loaded is g = tt
+  by (Some p) None loaded is g = absurd g
+  by (Some p) (Some t) loaded is g = moved t (ap is_some loaded) is g
+
 -- a machine stays where it is over a memory that has the same at its front's sources
 pub run_kept : (memory other : List ℕ) (m : ChannelValue) (c : ChannelState) → ((t : Descriptor) → is_some m.program ≡ true → front c ≡ Some t → (a : ℕ) → Contains (sources t) a → slice_index other a ≡ slice_index memory a) → IsRun memory m c → IsRun other m c
-run_kept memory other m c same h =
-    let by : (o : Option ProgramValue) (f : Option Descriptor) → m.program ≡ o → front c ≡ f → IfSome o (λ _. IsSomeAnd f (λ t. IsAt t m.taken memory m)) → IfSome o (λ _. IsSomeAnd f (λ t. IsAt t m.taken other m)) = λ o f. elim o as (λ o. m.program ≡ o → front c ≡ f → IfSome o (λ _. IsSomeAnd f (λ t. IsAt t m.taken memory m)) → IfSome o (λ _. IsSomeAnd f (λ t. IsAt t m.taken other m))) [
-      | None ↦ λ _ _ g. g
-      | Some p ↦ λ e. elim f as (λ f. front c ≡ f → IsSomeAnd f (λ t. IsAt t m.taken memory m) → IsSomeAnd f (λ t. IsAt t m.taken other m)) [
-        | None ↦ λ _ g. g
-        | Some t ↦ λ i g. survives t m.taken memory other m g (same t (ap is_some e) i)
-      ]
-    ] in
-    by _ _ refl refl h
+run_kept memory other m c same = run_moved memory other m c c (λ t loaded is at. rw is (survives t m.taken memory other m at (same t loaded is)))
+
+-- a machine without a program runs nothing
+pub run_none : (memory : List ℕ) (m : ChannelValue) (c : ChannelState) → taken_of m ≡ None → IsRun memory m c
+run_none memory m c none = by m.program none where
+  by : (o : Option ProgramValue) → option_map (λ _. m.taken) o ≡ None → IfSome o (λ _. IsSomeAnd (front c) (λ t. IsAt t m.taken memory m))
+  by None e = tt
+  by (Some p) e = absurd cc
 
 -- a queue stays as it is when the history grows
 pub queue_kept : (ch : ℕ) (kept : List Descriptor) (history longer : List Entry) (memory other : List ℕ) (q : Queue) (c : ChannelState) → ((k : ℕ) (e : Entry) → slice_get history k ≡ Some e → slice_get longer k ≡ Some e) → IsRun other q.channel c → IsQueue ch kept history memory q c → IsQueue ch kept longer other q c
@@ -191,54 +199,82 @@ view_changed p ch q memory events history steps =
     let s = map-set schedule_of p.queues ch q in
     rw s refl
 
--- the conditions for the object after the new history
-pub record ChangesTo (p : Parts) (ch : ℕ) (q : Queue) (memory : List ℕ) (flags : List Bool) (history : List Entry) (o : Object) : Type 0 where
+-- a history that ends at an object which differs from the present one in one channel alone, which is then `state`
+pub record LeadsTo (p : Parts) (ch : ℕ) (history : List Entry) (o : Object) (state : ChannelState) : Type 0 where
   pub legal : IsLegal (view_of p).base history
   pub becomes : object_after (view_of p).base history ≡ o
   pub grows : (k : ℕ) (e : Entry) → slice_get p.history k ≡ Some e → slice_get history k ≡ Some e
-  pub fits : FitsStill (object_of (view_of p)) o (view_of p).schedule ch (schedule_of q)
+  pub marks : (object_of (view_of p)).marks ≡ o.marks
+  pub many : length o.channels ≡ length (object_of (view_of p)).channels
+  pub here : channel o ch ≡ state
+  pub others : (c : ℕ) → c ≢ ch → channel o c ≡ channel (object_of (view_of p)) c
+
+-- the present history, and one more entry
+pub leads_still : (p : Parts) (ch : ℕ) → Holds p → LeadsTo p ch p.history (object_of (view_of p)) (channel (object_of (view_of p)) ch)
+leads_still p ch h = record { legal = h.sound.legal; becomes = refl; grows = λ k e is. is; marks = refl; many = refl; here = refl; others = λ c f. refl }
+
+pub leads_on : (p : Parts) (ch : ℕ) (e : Entry) (state : ChannelState) → Holds p → ch < length (object_of (view_of p)).channels → Allows (object_of (view_of p)) e → (object_of (view_of p)).marks ≡ (after (object_of (view_of p)) e).marks → (after (object_of (view_of p)) e).channels ≡ slice_set (object_of (view_of p)).channels ch state → LeadsTo p ch (p.history ++ e ∷ []) (after (object_of (view_of p)) e) state
+leads_on p ch e state h there allowed marks is =
+    let cs = (object_of (view_of p)).channels in
+    record {
+      legal = IsLegal_append (view_of p).base p.history (e ∷ []) h.sound.legal (allowed, tt);
+      becomes = object_after_append (view_of p).base p.history (e ∷ []);
+      grows = λ k x. slice_get_push p.history e x k;
+      marks = marks;
+      many = ap length is ∙ length-set cs ch state;
+      here = ap (λ (l : List ChannelState). slice_index_or l ch empty_channel) is ∙ get_or-set_same cs ch state empty_channel there;
+      others = λ c f. ap (λ (l : List ChannelState). slice_index_or l c empty_channel) is ∙ get_or-set_other cs ch c state empty_channel f;
+    }
+
+-- the conditions for the object after the new history
+pub record ChangesTo (p : Parts) (ch : ℕ) (q : Queue) (memory : List ℕ) (flags : List Bool) (history : List Entry) (o : Object) (state : ChannelState) : Type 0 where
+  pub leads : LeadsTo p ch history o state
+  pub agrees : Agrees state (schedule_of q).taken
+  pub free : (c : ℕ) → c < length (object_of (view_of p)).channels → c ≢ ch → AreFree (running_in ch state (schedule_of q).taken) (runs (object_of (view_of p)) (view_of p).schedule c)
   pub shown : memory ≡ memory_shown o (slice_set (view_of p).schedule ch (schedule_of q))
   pub events : flags ≡ o.events
-  pub marks : (object_of (view_of p)).marks ≡ o.marks
-  pub tied : IsQueue ch (channel p.base ch).submitted history memory q (channel o ch)
-  pub prepared : IsPrepared p.made (running_in ch (channel o ch) (schedule_of q).taken)
-  pub ranges : AreOfRunning q.ranges (running_in ch (channel o ch) (schedule_of q).taken)
+  pub tied : IsQueue ch (channel p.base ch).submitted history memory q state
+  pub prepared : IsPrepared p.made (running_in ch state (schedule_of q).taken)
+  pub ranges : AreOfRunning q.ranges (running_in ch state (schedule_of q).taken)
   pub machines : (c : ℕ) (d : Queue) → c < length p.queues → c ≢ ch →
       IsRun p.memory (slice_index_or p.queues c d).channel (channel (object_of (view_of p)) c) →
       IsRun memory (slice_index_or p.queues c d).channel (channel (object_of (view_of p)) c)
 
-pub holds_changed : (p : Parts) (ch : ℕ) (q : Queue) (memory : List ℕ) (events : List Bool) (history : List Entry) (steps : ℕ) (o : Object) → Holds p → ch < length p.queues → ChangesTo p ch q memory events history o → Holds (changed p ch q memory events history steps)
-holds_changed p ch q memory events history steps o h less w =
+pub holds_changed : (p : Parts) (ch : ℕ) (q : Queue) (memory : List ℕ) (events : List Bool) (history : List Entry) (steps : ℕ) (o : Object) (state : ChannelState) → Holds p → ch < length p.queues → ChangesTo p ch q memory events history o state → Holds (changed p ch q memory events history steps)
+holds_changed p ch q memory events history steps o state h less w =
     let v : View = view_of p in
+    let to = w.leads in
     let r = changed p ch q memory events history steps in
     let u : View = changed_view p ch q history steps in
     let is : u ≡ view_of r = sym (view_changed p ch q memory events history steps) in
+    let x : ChannelSchedule = schedule_of q in
+    let there : ch < length (object_of v).channels = omega (arith, less, many_queues p h) in
+    let fits : FitsStill (object_of v) o v.schedule ch x = record { there = there; many = to.many; others = to.others; agrees = rw to.here w.agrees; free = λ c l k. rw to.here (w.free c l k) } in
     let sound : IsSound u = record {
       opens = h.sound.opens;
       makes = h.sound.makes;
-      legal = w.legal;
-      fits = rw w.becomes (fits_changed (object_of v) o v.schedule ch (schedule_of q) h.sound.fits w.fits);
+      legal = to.legal;
+      fits = rw to.becomes (fits_changed (object_of v) o v.schedule ch x h.sound.fits fits);
     } in
-    let becomes : object_of (view_of r) ≡ o = ap object_of (sym is) ∙ w.becomes in
-    let x : ChannelSchedule = schedule_of q in
-    let within : ch < length v.schedule = omega (arith, h.sound.fits.many, w.fits.there) in
+    let becomes : object_of (view_of r) ≡ o = ap object_of (sym is) ∙ to.becomes in
+    let within : ch < length v.schedule = omega (arith, h.sound.fits.many, there) in
     let runs_new : ℕ → Option RunningTransfer = runs (object_of (view_of r)) (view_of r).schedule in
-    let new : (c : ℕ) → runs_new c ≡ runs o (slice_set v.schedule ch x) c = λ c. ap (λ (y : View). runs (object_of y) y.schedule c) (sym is) ∙ ap (λ (y : Object). runs y (slice_set v.schedule ch x) c) w.becomes in
-    let here : (c : ℕ) → c ≡ ch → runs_new c ≡ running_in ch (channel o ch) x.taken = λ c e. new c ∙ ap (runs o (slice_set v.schedule ch x)) e ∙ runs_here_law o v.schedule ch x within in
-    let elsewhere : (c : ℕ) → c ≢ ch → runs_new c ≡ runs (object_of v) v.schedule c = λ c f. new c ∙ runs_other (object_of v) o v.schedule ch c x f (w.fits.others c f) in
+    let new : (c : ℕ) → runs_new c ≡ runs o (slice_set v.schedule ch x) c = λ c. ap (λ (y : View). runs (object_of y) y.schedule c) (sym is) ∙ ap (λ (y : Object). runs y (slice_set v.schedule ch x) c) to.becomes in
+    let here : (c : ℕ) → c ≡ ch → runs_new c ≡ running_in ch state x.taken = λ c e. new c ∙ ap (runs o (slice_set v.schedule ch x)) e ∙ runs_here_law o v.schedule ch x within ∙ ap (λ y. running_in ch y x.taken) to.here in
+    let elsewhere : (c : ℕ) → c ≢ ch → runs_new c ≡ runs (object_of v) v.schedule c = λ c f. new c ∙ runs_other (object_of v) o v.schedule ch c x f (to.others c f) in
     record {
       sound = subst IsSound is sound;
-      shown = w.shown ∙ ap (λ x. memory_shown x (slice_set v.schedule ch (schedule_of q))) (sym w.becomes) ∙ ap memory_of is;
+      shown = w.shown ∙ ap (λ x. memory_shown x (slice_set v.schedule ch (schedule_of q))) (sym to.becomes) ∙ ap memory_of is;
       events = w.events ∙ ap (λ (x : Object). x.events) (sym becomes);
-      marks = h.marks ∙ w.marks ∙ ap (λ (x : Object). x.marks) (sym becomes);
+      marks = h.marks ∙ to.marks ∙ ap (λ (x : Object). x.marks) (sym becomes);
       size = h.size;
       each = λ c d l. elim (cases_eq c ch) [
-        | inl e ↦ rw (e, becomes, get_or-set_same p.queues ch q d less) w.tied
+        | inl e ↦ rw (e, becomes, get_or-set_same p.queues ch q d less, to.here) w.tied
         | inr f ↦
             let l' : c < length p.queues = omega (arith, l, length-set p.queues ch q) in
             let old = h.each c d l' in
-            let kept = queue_kept c (channel p.base c).submitted p.history history p.memory memory (slice_index_or p.queues c d) (channel (object_of v) c) w.grows (w.machines c d l' f old.machine) old in
-            rw (becomes, get_or-set_other p.queues ch c q d f, w.fits.others c f) kept
+            let kept = queue_kept c (channel p.base c).submitted p.history history p.memory memory (slice_index_or p.queues c d) (channel (object_of v) c) to.grows (w.machines c d l' f old.machine) old in
+            rw (becomes, get_or-set_other p.queues ch c q d f, to.others c f) kept
       ];
       prepared = λ c. elim (cases_eq c ch) [
         | inl e ↦ subst (IsPrepared p.made) (sym (here c e)) w.prepared

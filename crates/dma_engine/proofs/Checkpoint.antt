@@ -1,18 +1,16 @@
 -- What an engine keeps at a checkpoint.
 use Rattle.std.proofs.Common.{◌≡◌, ℕ, ◌+◌, ◌<◌, ◌≤◌, List, [], ◌∷◌, ◌++◌, zero, suc, length, map, take, drop, Option, Some, None, true, false, refl, ap, sym, ◌∙◌, subst, arith, inl, inr}
-use Rattle.std.specs.Prelude.{slice_index_or, slice_set, find, IfSome, IsSomeAnd}
+use Rattle.std.specs.Prelude.{slice_index_or, slice_set, find}
 use Rattle.std.proofs.lemmas.Bool.{true≢false, cases_lt}
-use Rattle.std.proofs.lemmas.List.{get_or-map, get_or_past, get_or-drop, length-map, length-drop}
+use Rattle.std.proofs.lemmas.List.{get_or-map, get_or_past, get_or-drop, length-map, length-drop, get_or_default, take_all}
 use Rattle.std.proofs.lemmas.List.Sums.{sum_by-cons}
 use Rattle.std.proofs.lemmas.Option.{slice_get-get_or}
 use Rattle.dma_mem.specs.Image.{over, after_moves}
-use Rattle.dma_engine.proofs.Endings.{put_nil}
-use Rattle.dma_chan.specs.Channel.{ChannelValue}
-use Rattle.dma_chan.specs.Programs.{ProgramValue}
-use Rattle.dma_chan.specs.inner.At.{IsAt}
+use Rattle.dma_mem.proofs.PageImages.{put_none}
 use Rattle.dma_engine.specs.declared.queue.Queue.{Queue}
 use Rattle.std.specs.List.{sum_by}
-use Rattle.dma_engine.specs.Object.{used, finished_all, Object, ChannelState, IsBase, base_from, forget, channel, empty_channel, finished, front}
+use Rattle.dma_engine.proofs.Changes.{run_none}
+use Rattle.dma_engine.specs.Object.{used, finished_all, Object, ChannelState, IsBase, base_from, forget, channel, empty_channel, finished}
 use Rattle.dma_engine.specs.declared.call.Reply.{Reply}
 use Rattle.dma_engine.specs.declared.call.Reply.TheVariants.{Done, Refused}
 use Rattle.dma_engine.specs.declared.fault.EngineFault.{EngineFault}
@@ -23,9 +21,9 @@ use Rattle.dma_engine.specs.inner.Inside.{queue_room}
 use Rattle.dma_engine.specs.inner.Ranges.{AreOfRunning}
 use Rattle.dma_engine.specs.View.{View, ChannelSchedule, RunningTransfer, Agrees, Fits, runs, running_in, running, idle, object_of, memory_of, IsSound, with_stored}
 use Rattle.dma_engine.specs.Ticks.{board_of, counts_of}
-use Rattle.dma_engine.specs.inner.Holds.{Holds, IsPrepared, IsQueue, IsRun, Parts, view_of, schedule_of, taken_of, queue_forgotten}
+use Rattle.dma_engine.specs.inner.Holds.{Holds, IsPrepared, IsQueue, Parts, view_of, schedule_of, taken_of, queue_forgotten}
 use Rattle.dma_engine.proofs.Boards.{counted_at, counted_base, counted_object}
-use Rattle.dma_engine.proofs.Queues.{front_where, runs_front, holds_at, many_queues, get_or_any}
+use Rattle.dma_engine.proofs.Queues.{front_where, runs_front, holds_at, many_queues}
 use Rattle.dma_engine.proofs.QueueCalls.{shown_both}
 use Rattle.dma_engine.proofs.TransferRules.{IsGood, marked_object, ruled_object, ruled_base}
 use Rattle.dma_engine.proofs.Sizes.{flags_object, size_object, many_channels}
@@ -45,17 +43,15 @@ NothingRuns o s = find (λ (r : RunningTransfer). true) (running o s) ≡ None
 
 -- so no schedule has one
 pub none_taken : (o : Object) (s : List ChannelSchedule) (ch : ℕ) → Fits o s → NothingRuns o s → ch < length o.channels → (slice_index_or s ch idle).taken ≡ None
-none_taken o s ch h none less =
-    let c = channel o ch in
-    let by : (x : Option ℕ) → (slice_index_or s ch idle).taken ≡ x → x ≡ None = λ x. elim x as (λ x. (slice_index_or s ch idle).taken ≡ x → x ≡ None) [
-      | None ↦ λ e. refl
-      | Some n ↦ λ e.
-          let agrees : Agrees c (Some n) = rw e at (h.each ch less) in
-          let f = front_where c _ agrees.1 in
-          let is : runs o s ch ≡ Some (record { ch = ch; cookie = finished c + 1; transfer = f.transfer; taken = n }) = ap (running_in ch c) e ∙ runs_front ch c f.transfer n f.is in
-          absurd (true≢false (find_none_at (λ (r : RunningTransfer). true) o s ch _ less none is))
-    ] in
-    by _ refl
+none_taken o s ch h none less = by _ refl where
+  by : (x : Option ℕ) → (slice_index_or s ch idle).taken ≡ x → x ≡ None
+  by None e = refl
+  by (Some n) e =
+      let c = channel o ch in
+      let agrees : Agrees c (Some n) = rw e at (h.each ch less) in
+      let f = front_where c _ agrees.1 in
+      let is : runs o s ch ≡ Some (record { ch = ch; cookie = finished c + 1; transfer = f.transfer; taken = n }) = ap (running_in ch c) e ∙ runs_front ch c f.transfer n f.is in
+      absurd (true≢false (find_none_at (λ (r : RunningTransfer). true) o s ch _ less none is))
 
 -- so no front has passed or signalled
 none_passed : (o : Object) (s : List ChannelSchedule) (ch : ℕ) → Fits o s → NothingRuns o s → ((channel o ch).passed ≡ false) × ((channel o ch).signalled ≡ false)
@@ -96,18 +92,6 @@ base_next v h none =
 
 -- ---- the queues after it
 
-take_all_law : {X : Type 0} (xs : List X) → take (length xs) xs ≡ xs
-take_all_law [] = refl
-take_all_law (x ∷ xs) = ap (λ l. x ∷ l) (take_all_law xs)
-
-run_none : (memory : List ℕ) (m : ChannelValue) (c : ChannelState) → taken_of m ≡ None → IsRun memory m c
-run_none memory m c h =
-    let by : (o : Option ProgramValue) → m.program ≡ o → IfSome o (λ _. IsSomeAnd (front c) (λ t. IsAt t m.taken memory m)) = λ o. elim o as (λ o. m.program ≡ o → IfSome o (λ _. IsSomeAnd (front c) (λ t. IsAt t m.taken memory m))) [
-      | None ↦ λ e. tt
-      | Some x ↦ λ e. let f : Some m.taken ≡ None = rw e at h in absurd cc
-    ] in
-    by _ refl
-
 pub queue_next : (p : Parts) → Holds p → (ch : ℕ) (q : Queue) → ch < length p.queues → q ≡ slice_index_or p.queues ch q → taken_of q.channel ≡ None → let c = channel (object_of (view_of p)) ch in IsQueue ch (forget c).submitted [] p.memory (queue_forgotten q) (forget c)
 queue_next p h ch q less read none =
     let c = channel (object_of (view_of p)) ch in
@@ -117,7 +101,7 @@ queue_next p h ch q less read none =
       forgotten = omega (arith, t.forgotten, ap length t.outcomes);
       given = omega (arith, t.given, counted.finish, length-drop (length c.outcomes) c.submitted);
       many = omega arith;
-      first = take_all_law (drop (length c.outcomes) c.submitted);
+      first = take_all _ (drop (length c.outcomes) c.submitted) (omega arith);
       indexed = λ k l. absurd (omega (arith, l));
       outcomes = refl;
       issued = t.issued;
@@ -191,7 +175,7 @@ holds_next p h none =
           let l : ch < length p.queues = omega (arith, less, length-map p.queues queue_forgotten) in
           let q = slice_index_or p.queues ch d in
           let at = get_or-map queue_forgotten p.queues ch d d l in
-          let read : q ≡ slice_index_or p.queues ch q = get_or_any p.queues ch d q l in
+          let read : q ≡ slice_index_or p.queues ch q = get_or_default p.queues ch d q l in
           let there = (holds_at p h ch q l read).schedule_is in
           let taken : taken_of q.channel ≡ None = ap (λ (x : ChannelSchedule). x.taken) (sym there) ∙ none_taken o s ch h.sound.fits none (omega (arith, l, many_queues p h)) in
           rw (at, forgotten_at o ch) (queue_next p h ch q l read taken);
@@ -212,7 +196,7 @@ pub image_now : (p : Parts) → Holds p → NothingRuns (object_of (view_of p)) 
 unfolding after_moves
 image_now p h none =
     let o = object_of (view_of p) in
-    h.shown ∙ ap (λ l. over o.image (map with_stored l)) (find_any (running o (view_of p).schedule) none) ∙ put_nil o.image
+    h.shown ∙ ap (λ l. over o.image (map with_stored l)) (find_any (running o (view_of p).schedule) none) ∙ put_none o.image
 
 -- ---- one queue after another
 

@@ -1,9 +1,9 @@
 -- The fronts that are found by their entries, and the first running transfer that conflicts.
-use Rattle.std.proofs.Common.{◌≡◌, ℕ, ◌+◌, ◌-◌, ◌<◌, ◌≤◌, List, [], ◌∷◌, length, Option, Some, None, Bool, true, false, cond, refl, ap, sym, ◌∙◌, arith, suc, zero}
-use Rattle.std.specs.Prelude.{find, slice_get, slice_index_or, unwrap_or, is_some, nat_lt}
+use Rattle.std.proofs.Common.{◌≡◌, ℕ, ◌+◌, ◌-◌, ◌<◌, ◌≤◌, List, length, Option, Some, None, Bool, true, false, cond, refl, ap, sym, ◌∙◌, arith}
+use Rattle.std.specs.Prelude.{find, slice_index_or, unwrap_or, is_some, nat_lt}
 use Rattle.std.specs.Option.{option_map, option_to_list}
-use Rattle.std.proofs.lemmas.Bool.{le-ltb, lt-ltb, ltb-false, ltb-true, false≢true}
-use Rattle.std.proofs.lemmas.Option.{get_or_from_slice_get}
+use Rattle.std.proofs.lemmas.Bool.{le-ltb, lt-ltb, ltb-false, ltb-true}
+use Rattle.std.proofs.lemmas.Option.{get_or_from_slice_get, slice_get-get_or}
 use Rattle.dma_mem.specs.Places.{Descriptor}
 use Rattle.dma_chan.specs.Channel.{ChannelValue}
 use Rattle.dma_chan.specs.Programs.{ProgramValue}
@@ -22,11 +22,6 @@ use Rattle.dma_engine.proofs.WhatRuns.{below, find_here}
 
 -- ---- the issued front
 
-some_within : {X : Type 0} (xs : List X) (k : ℕ) → k < length xs → (x : X) × (slice_get xs k ≡ Some x)
-some_within [] k h = absurd (omega arith)
-some_within (x ∷ xs) zero h = (x, refl)
-some_within (x ∷ xs) (suc k) h = some_within xs k (omega arith)
-
 -- if fewer are finished than issued, there is an issued front
 pub front_queued : (p : Parts) → Holds p → (ch : ℕ) (q : Queue) → ch < length p.queues → q ≡ slice_index_or p.queues ch q → q.forgotten + length q.outcomes.items < q.issued → Front (channel (object_of (view_of p)) ch) (λ t. Unit {0})
 front_queued p h ch q less read open_one =
@@ -36,9 +31,9 @@ front_queued p h ch q less read open_one =
     let many : length q.outcomes.items ≡ length c.outcomes = ap length at.tied.outcomes in
     let before : finished c < c.issued = omega (arith, many, at.tied.forgotten, at.tied.issued, open_one) in
     let inside : finished c < used c = omega (arith, counted.issue, before) in
-    let some = some_within c.submitted (length c.outcomes) (omega (arith, inside)) in
+    let is = slice_get-get_or c.submitted (length c.outcomes) no_transfer (omega (arith, inside)) in
     let e : nat_lt (finished c) c.issued ≡ true = lt-ltb _ _ before in
-    record { transfer = some.0; is = some.1; issued = rw e some.1; holds = tt; within = inside; below = before }
+    record { transfer = _; is = is; issued = rw e is; holds = tt; within = inside; below = before }
 
 -- and it is found in the base or in the history
 pub front_found : (p : Parts) → Holds p → (ch : ℕ) (q : Queue) → ch < length p.queues → q ≡ slice_index_or p.queues ch q → front_in q (channel p.base ch).submitted p.history ≡ issued_front (channel (object_of (view_of p)) ch)
@@ -83,12 +78,10 @@ few_issued p h ch q less read =
 -- ---- what runs
 
 pub taken_none : (m : ChannelValue) → is_some m.program ≡ false → taken_of m ≡ None
-taken_none m h =
-    let by : (o : Option ProgramValue) → is_some o ≡ false → o ≡ m.program → taken_of m ≡ None = λ o. elim o as (λ o. is_some o ≡ false → o ≡ m.program → taken_of m ≡ None) [
-      | None ↦ λ _ e. rw (← e) refl
-      | Some p ↦ λ e _. absurd (false≢true (sym e))
-    ] in
-    by m.program h refl
+taken_none m h = by m.program h where
+  by : (o : Option ProgramValue) → is_some o ≡ false → option_map (λ _. m.taken) o ≡ None
+  by None e = refl
+  by (Some p) e = absurd cc
 
 pub runs_none : (p : Parts) → Holds p → (ch : ℕ) (q : Queue) → ch < length p.queues → q ≡ slice_index_or p.queues ch q → is_some q.channel.program ≡ false → None ≡ runs (object_of (view_of p)) (view_of p).schedule ch
 runs_none p h ch q less read unloaded =
@@ -100,12 +93,10 @@ runs_none p h ch q less read unloaded =
 -- a running transfer is named by its channel and the cookie of the front
 runs_named : (ch : ℕ) (c : ChannelState) (taken : Option ℕ) (r : RunningTransfer) → running_in ch c taken ≡ Some r → (r.ch ≡ ch) × (r.cookie ≡ finished c + 1)
 runs_named ch c None r h = absurd cc
-runs_named ch c (Some n) r h =
-    let by : (o : Option Descriptor) → option_map (λ t. record { ch = ch; cookie = finished c + 1; transfer = t; taken = n }) o ≡ Some r → (r.ch ≡ ch) × (r.cookie ≡ finished c + 1) = λ o. elim o as (λ o. option_map (λ t. record { ch = ch; cookie = finished c + 1; transfer = t; taken = n }) o ≡ Some r → (r.ch ≡ ch) × (r.cookie ≡ finished c + 1)) [
-      | None ↦ λ e. absurd cc
-      | Some t ↦ λ e. (sym (ap (λ (x : Option RunningTransfer). (unwrap_or x r).ch) e), sym (ap (λ (x : Option RunningTransfer). (unwrap_or x r).cookie) e))
-    ] in
-    by (front c) h
+runs_named ch c (Some n) r h = by (front c) h where
+  by : (o : Option Descriptor) → option_map (λ t. record { ch = ch; cookie = finished c + 1; transfer = t; taken = n }) o ≡ Some r → (r.ch ≡ ch) × (r.cookie ≡ finished c + 1)
+  by None e = absurd cc
+  by (Some t) e = (sym (ap (λ (x : Option RunningTransfer). (unwrap_or x r).ch) e), sym (ap (λ (x : Option RunningTransfer). (unwrap_or x r).cookie) e))
 
 -- the first transfer that conflicts is the one with these ranges
 pub way_here : (q : Descriptor → Bool) (o : Object) (s : List ChannelSchedule) (ch cookie : ℕ) (r : Ranges) → ch < length o.channels → find (λ x. q x.transfer) (below o s ch) ≡ None → AreOfRunning (Some r) (runs o s ch) → cookie ≡ finished (channel o ch) + 1 → ((t : Descriptor) → HasRangesOf r t → true ≡ q t) → Some (ch, cookie) ≡ named (find (λ x. q x.transfer) (running o s))

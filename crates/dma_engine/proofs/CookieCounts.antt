@@ -1,8 +1,8 @@
 -- The state of a channel after a submit and a terminate on it, and the counts that the ticks of a history sum up to.
-use Rattle.std.proofs.Common.{◌≡◌, ℕ, ◌+◌, ◌<◌, ◌≤◌, ◌^◌, List, [], ◌∷◌, length, drop, Bool, true, false, refl, ap, sym, ◌∙◌, arith, inl, inr}
+use Rattle.std.proofs.Common.{◌≡◌, ℕ, ◌+◌, ◌<◌, ◌≤◌, ◌^◌, List, [], ◌∷◌, length, drop, refl, ap, sym, ◌∙◌, arith, inl, inr}
 use Rattle.std.specs.List.{All}
-use Rattle.std.specs.Prelude.{nat_le, Option, Some, None}
-use Rattle.std.proofs.lemmas.Bool.{cases_lt, leb-false}
+use Rattle.std.specs.Prelude.{Option, Some, None}
+use Rattle.std.proofs.lemmas.Bool.{cases_lt}
 use Rattle.std.proofs.lemmas.List.{length-map, length_push, get_or-set_same, get_or_past, length-append, length-drop}
 use Rattle.std.proofs.lemmas.List.Elements.{All-cons, All-from_get_or, All-nil}
 use Rattle.std.proofs.lemmas.List.Sums.{sum_by-le}
@@ -12,22 +12,20 @@ use Rattle.dma_mem.specs.declared.call.Call.TheVariants.{Submit, Terminate}
 use Rattle.dma_engine.specs.declared.call.Reply.{Reply}
 use Rattle.dma_engine.specs.declared.call.Reply.TheVariants.{Cookie, Count, Refused}
 use Rattle.dma_engine.specs.declared.fault.EngineFault.{EngineFault}
-use Rattle.dma_engine.specs.declared.fault.EngineFault.TheVariants.{NoChannel}
 use Rattle.dma_engine.specs.declared.entry.Entry.{Entry}
-use Rattle.dma_engine.specs.declared.entry.Entry.TheVariants.{Wrote, ReadBack, Submitted as SubmittedEntry, Issued, Passed, Signalled, Finished as FinishedEntry, Terminated as TerminatedEntry, Marked, Unmarked}
+use Rattle.dma_engine.specs.declared.entry.Entry.TheVariants.{Submitted as SubmittedEntry, Finished as FinishedEntry, Terminated as TerminatedEntry}
 use Rattle.dma_engine.specs.declared.outcome.TransResult.{TransResult}
-use Rattle.dma_engine.specs.declared.outcome.TransResult.TheVariants.{NoError, ReadFailed, WriteFailed, Aborted}
-use Rattle.dma_engine.specs.Answer.{CallAnswers, answer, unless, cause, channel_fault, done_on, submit_fault, terminated}
+use Rattle.dma_engine.specs.declared.outcome.TransResult.TheVariants.{Aborted}
+use Rattle.dma_engine.specs.Answer.{CallAnswers, answer, unless, channel_fault, done_on, submit_fault, terminated}
 use Rattle.dma_engine.specs.History.{IsLegal}
 use Rattle.dma_engine.specs.Laws.{SubmitsAdd, TerminatesAdd, BoardsCount, StatusByTicks, BaseCountsBounded, TicksAtMostEntries, TicksNameChannels}
 use Rattle.dma_engine.specs.Object.{Allows, ChannelState, FrontIs, Object, after, channel, empty_channel, last_cookie, used, finished, finished_all, unfinished, aborted, with_transfer, with_all_aborted}
 use Rattle.dma_engine.specs.Ticks.{Counts, Finished, Submitted, counts_of, tick_channel, ticks_of}
 use Rattle.dma_engine.specs.Turn.{with_entry}
 use Rattle.dma_engine.specs.View.{IsSound, View, object_of, channels}
-use Rattle.dma_engine.proofs.CallCases.{submit_open}
-use Rattle.dma_engine.proofs.Boards.{AreCounted, board_is, counted_base, counted_object, status_by_board}
+use Rattle.dma_engine.proofs.CallCases.{submit_open, channel_open}
+use Rattle.dma_engine.proofs.Boards.{AreCounted, board_is, counted_base, counted_object, status_by_board, length_aborted}
 use Rattle.dma_engine.proofs.AnswerCounts.{object_one, submitted, closed}
-use Rattle.dma_engine.proofs.Endings.{length_aborted}
 use Rattle.dma_engine.proofs.Sizes.{made, many_after as channels-after, many_channels as channels-object}
 
 -- ---- a reply that is no refusal
@@ -68,14 +66,6 @@ submits_add v w ch cookie t h =
 
 -- ---- a terminate
 
-inside : (v : View) (ch : ℕ) → channel_fault v ch ≡ None → ch < channels v
-inside v ch h =
-    let by : (b : Bool) → nat_le (channels v) ch ≡ b → cause b NoChannel None ≡ None → ch < channels v = λ b. elim b as (λ b. nat_le (channels v) ch ≡ b → cause b NoChannel None ≡ None → ch < channels v) [
-      | true ↦ λ e f. absurd cc
-      | false ↦ λ e f. leb-false _ _ e
-    ] in
-    by _ refl h
-
 -- all cookies of the channel are finished then
 closes : (v w : View) (ch n : ℕ) → channel_fault v ch ≡ None → CallAnswers v (Terminate ch) (Count n) w → (used (channel (object_of w) ch) ≤ finished (channel (object_of w) ch)) × (ch < channels w)
 closes v w ch n none h =
@@ -83,7 +73,7 @@ closes v w ch n none h =
     let c = channel o ch in
     let done = done_on v ch in
     let e = TerminatedEntry ch done (unfinished c) in
-    let less = inside v ch none in
+    let less = channel_open v ch none in
     let is_answer : answer v (Terminate ch) ≡ (Count (unfinished c), terminated v ch) = rw none refl in
     let is : w ≡ terminated v ch = ap (λ (x : Reply × View). x.1) (h ∙ is_answer) in
     let becomes : object_of w ≡ after o e = ap object_of is ∙ object_one v e in
@@ -95,7 +85,7 @@ closes v w ch n none h =
 pub terminates_add : TerminatesAdd
 terminates_add v w ch count h =
     let none = no_refusal (channel_fault v ch) v w _ (Count count) (λ fault e. absurd cc) h in
-    let s = closed v w ch count none (inside v ch none) h in
+    let s = closed v w ch count none (channel_open v ch none) h in
     let c = closes v w ch count none h in (
       record { ticks = s.1; steps = omega (arith, s.2); finished = s.3 },
       c.1,
@@ -144,37 +134,21 @@ front_there_law o ch P h = elim (cases_lt ch (length o.channels)) [
 ]
 
 finish_there : (o : Object) (ch : ℕ) (result : TransResult) (done : ℕ) → Allows o (FinishedEntry ch result done) → ch < length o.channels
-finish_there o ch NoError done h = front_there_law o ch _ h
-finish_there o ch ReadFailed done h = front_there_law o ch _ h
-finish_there o ch WriteFailed done h = front_there_law o ch _ h
 finish_there o ch Aborted done h = absurd h
+finish_there o ch result done h = front_there_law o ch _ h
 
 -- the ticks of a legal history are of channels that are there
 ticks_there : (n : ℕ) (o : Object) (es : List Entry) → length o.channels ≡ n → IsLegal o es → All (λ t. tick_channel t < n) (ticks_of es)
 ticks_there n o [] many h = All-nil (λ t. tick_channel t < n)
-ticks_there n o (Wrote addr bytes ∷ es) many h = ticks_there n (after o (Wrote addr bytes)) es (channels-after o (Wrote addr bytes) ∙ many) h.1
-ticks_there n o (ReadBack addr bytes ∷ es) many h = ticks_there n (after o (ReadBack addr bytes)) es (channels-after o (ReadBack addr bytes) ∙ many) h.1
 ticks_there n o (SubmittedEntry ch t cookie ∷ es) many h = All-cons (λ t. tick_channel t < n) (Submitted ch) (ticks_of es) (omega (arith, h.0.0, many)) (ticks_there n (after o (SubmittedEntry ch t cookie)) es (channels-after o (SubmittedEntry ch t cookie) ∙ many) h.1)
-ticks_there n o (Issued ch ∷ es) many h = ticks_there n (after o (Issued ch)) es (channels-after o (Issued ch) ∙ many) h.1
-ticks_there n o (Passed ch event ∷ es) many h = ticks_there n (after o (Passed ch event)) es (channels-after o (Passed ch event) ∙ many) h.1
-ticks_there n o (Signalled by event ∷ es) many h = ticks_there n (after o (Signalled by event)) es (channels-after o (Signalled by event) ∙ many) h.1
 ticks_there n o (FinishedEntry ch result done ∷ es) many h = All-cons (λ t. tick_channel t < n) (Finished ch 1) (ticks_of es) (omega (arith, finish_there o ch result done h.0, many)) (ticks_there n (after o (FinishedEntry ch result done)) es (channels-after o (FinishedEntry ch result done) ∙ many) h.1)
 ticks_there n o (TerminatedEntry ch done count ∷ es) many h = All-cons (λ t. tick_channel t < n) (Finished ch count) (ticks_of es) (omega (arith, h.0.0, many)) (ticks_there n (after o (TerminatedEntry ch done count)) es (channels-after o (TerminatedEntry ch done count) ∙ many) h.1)
-ticks_there n o (Marked kind segment ∷ es) many h = ticks_there n (after o (Marked kind segment)) es (channels-after o (Marked kind segment) ∙ many) h.1
-ticks_there n o (Unmarked ∷ es) many h = ticks_there n (after o Unmarked) es (channels-after o Unmarked ∙ many) h.1
+ticks_there n o (e ∷ es) many h = ticks_there n (after o e) es (channels-after o e ∙ many) h.1
 
 pub ticks_name_channels : TicksNameChannels
 ticks_name_channels v h = ticks_there (channels v) v.base v.history (sym (channels-object v.base v.history)) h.legal
 
 pub ticks_at_most_entries : TicksAtMostEntries
 ticks_at_most_entries [] = omega arith
-ticks_at_most_entries (Wrote addr bytes ∷ es) = omega (arith, ticks_at_most_entries es)
-ticks_at_most_entries (ReadBack addr bytes ∷ es) = omega (arith, ticks_at_most_entries es)
 ticks_at_most_entries (SubmittedEntry ch t cookie ∷ es) = omega (arith, ticks_at_most_entries es)
-ticks_at_most_entries (Issued ch ∷ es) = omega (arith, ticks_at_most_entries es)
-ticks_at_most_entries (Passed ch event ∷ es) = omega (arith, ticks_at_most_entries es)
-ticks_at_most_entries (Signalled by event ∷ es) = omega (arith, ticks_at_most_entries es)
-ticks_at_most_entries (FinishedEntry ch result done ∷ es) = omega (arith, ticks_at_most_entries es)
-ticks_at_most_entries (TerminatedEntry ch done count ∷ es) = omega (arith, ticks_at_most_entries es)
-ticks_at_most_entries (Marked kind segment ∷ es) = omega (arith, ticks_at_most_entries es)
-ticks_at_most_entries (Unmarked ∷ es) = omega (arith, ticks_at_most_entries es)
+ticks_at_most_entries (e ∷ es) = omega (arith, ticks_at_most_entries es)

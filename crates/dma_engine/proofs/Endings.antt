@@ -2,13 +2,13 @@
 use Rattle.std.proofs.Common.{◌≡◌, ◌≢◌, ℕ, ◌+◌, ◌-◌, ◌<◌, ◌≤◌, List, [], ◌∷◌, ◌++◌, length, map, take, drop, Some, None, Bool, true, false, refl, ap, sym, ◌∙◌, arith, inl, inr, zero, suc, add-one}
 use Rattle.std.specs.Prelude.{slice_index_or, slice_set, is_some, ◌==◌, if◌then◌else◌, unwrap_or}
 use Rattle.std.proofs.lemmas.Bool.{cases_eq, eq-eqb, ne_eqb}
-use Rattle.std.proofs.lemmas.List.{ext_get_or, length-set, length-drop, length-map, get_or-drop, map_more, get_or-set_same, get_or-set_other}
+use Rattle.std.proofs.lemmas.List.{length-drop, get_or-drop, map_more}
 use Rattle.std.proofs.lemmas.List.Elements.{All-append}
-use Rattle.dma_mem.specs.Image.{put, after_moves, laid}
+use Rattle.dma_chan.proofs.CopyAlone.{laid_none}
+use Rattle.dma_mem.specs.Image.{laid}
 use Rattle.dma_mem.specs.Limits.{most_transfer_bytes}
 use Rattle.dma_mem.specs.Places.{Descriptor, size_of}
 use Rattle.dma_mem.specs.Meeting.{IsFree}
-use Rattle.dma_mem.proofs.ImagePut.{length_put, get_or_put}
 use Rattle.dma_chan.specs.Traffic.{stored_after}
 use Rattle.dma_chan.proofs.ShapeLaws.{stored_is}
 use Rattle.dma_engine.specs.declared.entry.Entry.TheVariants.{Finished, Terminated}
@@ -16,28 +16,20 @@ use Rattle.dma_engine.specs.declared.outcome.Outcome.{Outcome}
 use Rattle.dma_engine.specs.declared.outcome.TransResult.{TransResult}
 use Rattle.dma_engine.specs.declared.outcome.TransResult.TheVariants.{Aborted}
 use Rattle.dma_engine.specs.declared.queue.Queue.{Queue}
-use Rattle.dma_engine.specs.Object.{Object, ChannelState, Allows, after, channel, empty_channel, front, front_of, no_transfer, finished, unfinished, with_outcome, with_all_aborted, outcome_of, aborted, is_failure}
+use Rattle.dma_engine.specs.Object.{Object, ChannelState, Allows, after, channel, front, front_of, no_transfer, finished, unfinished, with_outcome, with_all_aborted, outcome_of, aborted, is_failure}
 use Rattle.dma_engine.specs.View.{View, ChannelSchedule, RunningTransfer, runs, running_in, memory_shown, object_of, channels}
 use Rattle.dma_engine.specs.Answer.{done_by, done_on, terminated}
 use Rattle.dma_engine.specs.inner.Holds.{Holds, Parts, view_of, schedule_of, queue_finished, queue_terminated}
-use Rattle.dma_engine.proofs.Changes.{changed, changed_view, view_changed, holds_changed, runs_here_law, runs_other}
+use Rattle.dma_engine.proofs.Changes.{changed, changed_view, view_changed, holds_changed, runs_here_law, runs_other, leads_on}
 use Rattle.dma_engine.proofs.Fronts.{stored_there}
 use Rattle.dma_engine.proofs.Conflicts.{taken_none}
-use Rattle.dma_engine.proofs.Histories.{object_after_append, IsLegal_append}
 use Rattle.dma_engine.proofs.Memory.{shown_ended}
-use Rattle.dma_engine.proofs.Queues.{holds_at, slice_get_push}
+use Rattle.dma_engine.proofs.Queues.{holds_at}
 use Rattle.dma_engine.proofs.QueueCalls.{shown_both}
 use Rattle.dma_engine.proofs.TransferRules.{running, free_others}
 use Rattle.dma_engine.proofs.WhatRuns.{running_same, below, above}
 
 -- ---- nothing laid
-
-pub put_nil : (image : List ℕ) → put image [] ≡ image
-put_nil image = ext_get_or 0 _ _ (length_put image []) (λ a l. get_or_put image [] a (omega (arith, length_put image [])))
-
-laid_nothing : (image : List ℕ) (t : Descriptor) → laid image t 0 ≡ image
-unfolding after_moves
-laid_nothing image t = put_nil image
 
 -- a front that is known
 pub front_is_law : (c : ChannelState) (t : Descriptor) → front c ≡ Some t → front_of c ≡ t
@@ -65,7 +57,7 @@ shown_over p h ch q o x less read many others none image =
           sym (shown_ended ch old o s t here (record { channels = sym many; there = at.there; others = rest }) r.runs_is now laid_is (All-append (λ y. IsFree here.transfer y.transfer) (below old s ch) (above old s ch) free.0 free.1))
       | false ↦ λ unloaded.
           let before : runs old s ch ≡ None = at.runs_is ∙ ap (running_in ch (channel old ch)) (taken_none q.channel unloaded) in
-          let nothing : o.image ≡ old.image = image ∙ ap (λ y. laid old.image (front_of (channel old ch)) (done_by y)) before ∙ laid_nothing old.image (front_of (channel old ch)) in
+          let nothing : o.image ≡ old.image = image ∙ ap (λ y. laid old.image (front_of (channel old ch)) (done_by y)) before ∙ laid_none old.image (front_of (channel old ch)) in
           let same = running_same old o s t (sym many) (λ c l. elim (cases_eq c ch) [ inl e ↦ rw e (now ∙ sym before) | inr d ↦ sym (rest c d) ]) in
           shown_both old o s t (sym nothing) (sym same)
     ] in
@@ -86,28 +78,24 @@ holds_terminated p ch spare count issued q outcomes h less read all_of many numb
     let x = schedule_of r in
     let w = after o e in
     let history = p.history ++ e ∷ [] in
-    let here : channel w ch ≡ with_all_aborted c done = get_or-set_same o.channels ch (with_all_aborted c done) empty_channel at.there in
-    let other : (d : ℕ) → d ≢ ch → channel w d ≡ channel o d = λ d k. get_or-set_other o.channels ch d (with_all_aborted c done) empty_channel k in
-    let all : length w.channels ≡ length o.channels = length-set o.channels ch (with_all_aborted c done) in
-    holds_changed p ch r p.memory p.events history p.steps w h less (record {
-      legal = IsLegal_append v.base p.history (e ∷ []) h.sound.legal ((at.there, number, stored_there v ch h.sound at.there), tt);
-      becomes = object_after_append v.base p.history (e ∷ []);
-      grows = λ k y. slice_get_push p.history e y k;
-      fits = record { there = at.there; many = all; others = other; agrees = rw here (refl, refl); free = λ d l k. tt };
-      shown = shown_over p h ch q w x less read all other refl refl;
+    let to = leads_on p ch e (with_all_aborted c done) h at.there (at.there, number, stored_there v ch h.sound at.there) refl refl in
+    holds_changed p ch r p.memory p.events history p.steps w (with_all_aborted c done) h less (record {
+      leads = to;
+      agrees = (refl, refl);
+      free = λ d l k. tt;
+      shown = shown_over p h ch q w x less read to.many to.others refl refl;
       events = h.events;
-      marks = refl;
-      tied = rw here (record {
+      tied = record {
         forgotten = t.forgotten;
         given = t.given;
         many = t.many;
         first = t.first;
-        indexed = λ k l. let s = t.indexed k l in (s.0, slice_get_push p.history e _ _ s.1);
+        indexed = λ k l. let s = t.indexed k l in (s.0, to.grows _ _ s.1);
         outcomes = ap (λ l. l ++ outcomes) t.outcomes ∙ ap (λ l. c.outcomes ++ l) all_of;
         issued = many ∙ t.given;
         halted = refl;
         machine = tt;
-      });
+      };
       prepared = tt;
       ranges = tt;
       machines = λ d i l k machine. machine;
@@ -134,28 +122,24 @@ holds_finished p ch spare steps result q outcome halted h less read outcome_is f
     let x = schedule_of r in
     let w = after o e in
     let history = p.history ++ e ∷ [] in
-    let here : channel w ch ≡ with_outcome c result done = get_or-set_same o.channels ch (with_outcome c result done) empty_channel at.there in
-    let other : (d : ℕ) → d ≢ ch → channel w d ≡ channel o d = λ d k. get_or-set_other o.channels ch d (with_outcome c result done) empty_channel k in
-    let all : length w.channels ≡ length o.channels = length-set o.channels ch (with_outcome c result done) in
-    holds_changed p ch r p.memory p.events history steps w h less (record {
-      legal = IsLegal_append v.base p.history (e ∷ []) h.sound.legal (allowed, tt);
-      becomes = object_after_append v.base p.history (e ∷ []);
-      grows = λ k y. slice_get_push p.history e y k;
-      fits = record { there = at.there; many = all; others = other; agrees = rw here (refl, refl); free = λ d l k. tt };
-      shown = shown_over p h ch q w x less read all other refl refl;
+    let to = leads_on p ch e (with_outcome c result done) h at.there allowed refl refl in
+    holds_changed p ch r p.memory p.events history steps w (with_outcome c result done) h less (record {
+      leads = to;
+      agrees = (refl, refl);
+      free = λ d l k. tt;
+      shown = shown_over p h ch q w x less read to.many to.others refl refl;
       events = h.events;
-      marks = refl;
-      tied = rw here (record {
+      tied = record {
         forgotten = t.forgotten;
         given = t.given;
         many = t.many;
         first = t.first;
-        indexed = λ k l. let s = t.indexed k l in (s.0, slice_get_push p.history e _ _ s.1);
+        indexed = λ k l. let s = t.indexed k l in (s.0, to.grows _ _ s.1);
         outcomes = ap (λ l. l ++ outcome ∷ []) t.outcomes ∙ ap (λ y. c.outcomes ++ y ∷ []) outcome_is;
         issued = t.issued;
         halted = fails;
         machine = tt;
-      });
+      };
       prepared = tt;
       ranges = tt;
       machines = λ d i l k machine. machine;
@@ -190,10 +174,6 @@ aborted_step done ts first n stored residue u list low high so_far is part rest 
     ∙ ap (λ x. aborted done (take k (drop first ts)) ++ outcome_of Aborted x (if k == 0 then done else 0) ∷ []) (sym at)
     ∙ sym (aborted_more done (drop first ts) k less)
     ∙ ap (λ i. aborted done (take i (drop first ts))) (sym next)
-
-pub length_aborted : (done : ℕ) (ts : List Descriptor) → length (aborted done ts) ≡ length ts
-length_aborted done [] = refl
-length_aborted done (t ∷ ts) = ap suc (length-map ts _)
 
 -- ---- the readings of what runs
 

@@ -1,12 +1,14 @@
 -- What an engine keeps when an entry is added that changes no channel: a write, a read, a mark, an unmark, a raise.
-use Rattle.std.proofs.Common.{◌≡◌, ◌≢◌, ℕ, ◌+◌, ◌<◌, ◌≤◌, List, [], ◌∷◌, ◌++◌, length, Option, Some, None, Bool, true, false, refl, ap, sym, ◌∙◌, arith, take, drop, inr}
+use Rattle.std.proofs.Common.{◌≡◌, ◌≢◌, ℕ, ◌+◌, ◌<◌, ◌≤◌, List, [], ◌∷◌, ◌++◌, length, Option, Some, None, true, refl, ap, sym, ◌∙◌, arith, take, drop, inr, subst}
 use Rattle.std.specs.Prelude.{nat_lt, slice_index, slice_index_or, slice_set, is_some}
 use Rattle.std.specs.List.{Contains, range_with_len}
 use Rattle.std.specs.Map.{keys_of}
-use Rattle.std.proofs.lemmas.Bool.{ltb-false, false≢true}
-use Rattle.std.proofs.lemmas.List.{length-take, length-drop}
+use Rattle.std.proofs.lemmas.Bool.{ltb-false}
+use Rattle.std.proofs.lemmas.List.{length-take, length-drop, get_or_default}
 use Rattle.std.proofs.lemmas.List.FromFn.{length-range_with_len}
 use Rattle.std.proofs.lemmas.Map.Made.{keys_of-zip}
+use Rattle.std.specs.Option.{option_map}
+use Rattle.dma_engine.proofs.CallCases.{cause_none}
 use Rattle.dma_mem.specs.Image.{put, bytes_at}
 use Rattle.dma_mem.specs.Places.{Descriptor, touches, writes}
 use Rattle.dma_mem.specs.declared.marks.MarkKind.{MarkKind}
@@ -17,27 +19,24 @@ use Rattle.dma_chan.specs.Channel.{ChannelValue}
 use Rattle.dma_chan.specs.Programs.{ProgramValue}
 use Rattle.dma_engine.specs.declared.entry.Entry.TheVariants.{Wrote, ReadBack, Signalled, Marked, Unmarked}
 use Rattle.dma_engine.specs.declared.entry.Signaller.TheVariants.{Host}
-use Rattle.dma_engine.specs.declared.fault.EngineFault.{EngineFault}
 use Rattle.dma_engine.specs.declared.fault.EngineFault.TheVariants.{OutOfMemoryRange}
 use Rattle.dma_engine.specs.declared.queue.Queue.{Queue}
 use Rattle.dma_engine.specs.Object.{Object, Allows, channel, front, finished, after}
-use Rattle.dma_engine.specs.View.{View, ChannelSchedule, RunningTransfer, running, runs, running_in, memory_shown, object_of, size, channels}
-use Rattle.dma_engine.specs.Answer.{write_fault, read_fault, busy, cause, first_running}
+use Rattle.dma_engine.specs.View.{View, ChannelSchedule, RunningTransfer, running, runs, running_in, memory_shown, object_of, size, channels, memory_of}
+use Rattle.dma_engine.specs.Answer.{write_fault, read_fault, busy, first_running}
 use Rattle.dma_engine.specs.inner.Holds.{Holds, Parts, view_of, taken_of}
 use Rattle.dma_engine.proofs.Changes.{holds_entered, with_entry_at, run_kept}
 use Rattle.dma_engine.proofs.Memory.{shown_wrote, shown_read}
-use Rattle.dma_engine.proofs.Queues.{holds_at, many_queues, runs_front, get_or_any}
+use Rattle.dma_engine.proofs.Queues.{holds_at, many_queues, runs_front}
 use Rattle.dma_engine.proofs.WhatRuns.{find_none_at}
 
 -- ---- what runs, by its queue
 
 pub taken_some : (m : ChannelValue) → is_some m.program ≡ true → taken_of m ≡ Some m.taken
-taken_some m h =
-    let by : (o : Option ProgramValue) → is_some o ≡ true → o ≡ m.program → taken_of m ≡ Some m.taken = λ o. elim o as (λ o. is_some o ≡ true → o ≡ m.program → taken_of m ≡ Some m.taken) [
-      | None ↦ λ e _. absurd (false≢true e)
-      | Some p ↦ λ _ e. rw (← e) refl
-    ] in
-    by m.program h refl
+taken_some m h = by m.program h where
+  by : (o : Option ProgramValue) → is_some o ≡ true → option_map (λ _. m.taken) o ≡ Some m.taken
+  by None e = absurd cc
+  by (Some p) e = refl
 
 pub runs_at : (p : Parts) → Holds p → (ch : ℕ) (q : Queue) (t : Descriptor) → ch < length p.queues → q ≡ slice_index_or p.queues ch q → is_some q.channel.program ≡ true → front (channel (object_of (view_of p)) ch) ≡ Some t → runs (object_of (view_of p)) (view_of p).schedule ch ≡ Some (record { ch = ch; cookie = finished (channel (object_of (view_of p)) ch) + 1; transfer = t; taken = q.channel.taken })
 runs_at p h ch q t less read loaded is =
@@ -46,10 +45,6 @@ runs_at p h ch q t less read loaded is =
     at.runs_is ∙ ap (running_in ch c) (taken_some q.channel loaded) ∙ runs_front ch c t q.channel.taken is
 
 -- ---- a write
-
-pub cause_none : (b : Bool) (fault : EngineFault) (others : Option EngineFault) → cause b fault others ≡ None → (b ≡ false) × (others ≡ None)
-cause_none true fault others h = absurd cc
-cause_none false fault others h = (refl, h)
 
 busy_none : (x : Option RunningTransfer) → busy x ≡ None → x ≡ None
 busy_none None h = refl
@@ -84,7 +79,7 @@ holds_wrote p addr bytes h free =
           let q = slice_index_or p.queues ch d in
           run_kept p.memory (put p.memory (bytes_at addr bytes)) q.channel (channel o ch) (λ t loaded is a inside.
           let there : ch < length o.channels = omega (arith, many_queues p h, less) in
-          let runs_is = runs_at p h ch q t less (get_or_any p.queues ch d q less) loaded is in
+          let runs_is = runs_at p h ch q t less (get_or_default p.queues ch d q less) loaded is in
           let clear = find_none_at (λ r. touches r.transfer range) o v.schedule ch _ there may.1 runs_is in
           kept_byte p.memory addr bytes a (λ within. touches_false t range clear (a, within, inr inside))) machine;
     })
@@ -104,16 +99,15 @@ read_entry v addr n bytes free is =
     let long : length bytes ≡ n = ap length is ∙ omega (arith, may.0, length-take n (drop addr image), length-drop addr image) in
     (omega (arith, long, may.0), is ∙ ap (λ k. take k (drop addr image)) (sym long))
 
--- the memory has there what the image has
-pub memory_read_law : (p : Parts) (addr n : ℕ) → Holds p → read_fault (view_of p) addr n ≡ None → take n (drop addr p.memory) ≡ take n (drop addr (object_of (view_of p)).image)
-memory_read_law p addr n h free =
-    let v : View = view_of p in
-    ap (λ m. take n (drop addr m)) h.shown ∙ shown_read (object_of v) v.schedule addr n (read_allowed v addr n free).1
+-- the bytes that are read are the image's
+pub read_seen : (p : Parts) (v : View) (addr n : ℕ) (bytes : List ℕ) → Holds p → view_of p ≡ v → read_fault v addr n ≡ None → bytes ≡ take n (drop addr p.memory) → bytes ≡ take n (drop addr (object_of v).image)
+read_seen p v addr n bytes h is free read =
+    read ∙ ap (λ m. take n (drop addr m)) (h.shown ∙ ap memory_of is) ∙ shown_read (object_of v) v.schedule addr n (read_allowed v addr n free).1
 
-pub holds_read : (p : Parts) (addr n : ℕ) (bytes : List ℕ) → Holds p → read_fault (view_of p) addr n ≡ None → bytes ≡ take n (drop addr (object_of (view_of p)).image) → Holds (with_entry_at p (ReadBack addr bytes) p.memory p.events p.marks)
-holds_read p addr n bytes h free is =
+pub holds_read : (p : Parts) (v : View) (addr n : ℕ) (bytes : List ℕ) → Holds p → view_of p ≡ v → read_fault v addr n ≡ None → bytes ≡ take n (drop addr p.memory) → Holds (with_entry_at p (ReadBack addr bytes) p.memory p.events p.marks)
+holds_read p v addr n bytes h is free read =
     holds_entered p (ReadBack addr bytes) p.memory p.events p.marks h (record {
-      allowed = read_entry (view_of p) addr n bytes free is;
+      allowed = subst (λ (w : View). Allows (object_of w) (ReadBack addr bytes)) (sym is) (read_entry v addr n bytes free (read_seen p v addr n bytes h is free read));
       stay = refl;
       shown = h.shown;
       events = h.events;

@@ -2,7 +2,7 @@
 use Rattle.std.proofs.Common.{◌≡◌, ◌≢◌, ℕ, ◌+◌, ◌-◌, ◌<◌, ◌≤◌, List, [], ◌∷◌, take, drop, Option, Some, None, Bool, true, false, ◌&&◌, ◌||◌, zero, suc, refl, ap, sym, ◌∙◌, subst, arith, inl, inr}
 use Rattle.std.specs.Prelude.{is_some, nat_lt, ◌==◌, IfSome, IsSome, MatchOption}
 use Rattle.std.specs.List.{list_any}
-use Rattle.std.proofs.lemmas.Bool.{cases_lt, eq-eqb, eqb-true, ne_eqb, lt-ltb, ltb-false, false≢true, true≢false}
+use Rattle.std.proofs.lemmas.Bool.{cases_lt, eq-eqb, eqb-true, ne_eqb, lt-ltb, ltb-false, false≢true, true≢false, and_right}
 use Rattle.dma_insn.specs.declared.insn.Insn.TheVariants.{End, Sev, Wfe}
 use Rattle.dma_mem.specs.Marking.{MarkList, meets_mark}
 use Rattle.dma_mem.specs.declared.marks.MarkKind.{MarkKind}
@@ -25,10 +25,6 @@ use Rattle.dma_engine.proofs.Queues.{front_where, runs_front}
 use Rattle.dma_engine.proofs.TransferRules.{Runs, ruled_front}
 
 -- ---- truth values and marks
-
-pub and_false_law : (b : Bool) → (b && false) ≡ false
-and_false_law true = refl
-and_false_law false = refl
 
 still_zero : (w : Bool) (n : ℕ) → w ≡ true → (w && nat_lt 0 n) ≡ false → n ≡ 0
 still_zero true n h e = let z = ltb-false 0 n e in omega arith
@@ -97,27 +93,24 @@ runs_at_law v ch n h less taken =
 
 -- it has passed if it waits
 pub passed_next : (c : ChannelState) (t : Descriptor) (n : ℕ) → IsFront c t n → ((e : ℕ) (v : Bool) → member t n ≢ Wfe e v) → c.passed ≡ (is_some t.wait && nat_lt 0 (n + 1))
-passed_next c t n f other =
-    let shape = shape_is t f.rules in
-    let by : (w : Option ℕ) → IfSome w (λ e. member t 0 ≡ Wfe e false) → (is_some w && nat_lt 0 n) ≡ (is_some w && nat_lt 0 (n + 1)) = λ w. elim w as (λ w. IfSome w (λ e. member t 0 ≡ Wfe e false) → (is_some w && nat_lt 0 n) ≡ (is_some w && nat_lt 0 (n + 1))) [
-      | None ↦ λ _. refl
-      | Some e ↦ λ first.
-          let some : n ≢ 0 = λ z. other e false (ap (member t) z ∙ first) in
-          lt-ltb 0 n (omega arith) ∙ sym (lt-ltb 0 (n + 1) (omega arith))
-    ] in
-    f.passed ∙ by t.wait shape.wait_first
+passed_next c t n f other = f.passed ∙ by t.wait (shape_is t f.rules).wait_first where
+  by : (w : Option ℕ) → IfSome w (λ e. member t 0 ≡ Wfe e false) → (is_some w && nat_lt 0 n) ≡ (is_some w && nat_lt 0 (n + 1))
+  by None first = refl
+  by (Some e) first =
+      let some : n ≢ 0 = λ z. other e false (ap (member t) z ∙ first) in
+      lt-ltb 0 n (omega arith) ∙ sym (lt-ltb 0 (n + 1) (omega arith))
+
+pub has_passed : (c : ChannelState) (t : Descriptor) (n : ℕ) → IsFront c t n → ((e : ℕ) (v : Bool) → member t n ≢ Wfe e v) → IsSome t.wait → c.passed ≡ true
+has_passed c t n f other waits = passed_next c t n f other ∙ ap (λ b. b && nat_lt 0 (n + 1)) waits ∙ lt-ltb 0 (n + 1) (omega arith)
 
 -- it hasn't signalled where it doesn't signal now
 pub signalled_next : (c : ChannelState) (t : Descriptor) (n : ℕ) → IsFront c t n → ((e : ℕ) → member t n ≢ Sev e) → n + 1 < cost t → c.signalled ≡ (is_some t.signal && n + 1 == cost t - 1)
-signalled_next c t n f other next =
-    let shape = shape_is t f.rules in
-    let by : (w : Option ℕ) → IfSome w (λ e. (2 ≤ cost t) × (member t (cost t - 2) ≡ Sev e)) → (is_some w && n == cost t - 1) ≡ (is_some w && n + 1 == cost t - 1) = λ w. elim w as (λ w. IfSome w (λ e. (2 ≤ cost t) × (member t (cost t - 2) ≡ Sev e)) → (is_some w && n == cost t - 1) ≡ (is_some w && n + 1 == cost t - 1)) [
-      | None ↦ λ _. refl
-      | Some e ↦ λ last.
-          let not_there : n + 1 ≢ cost t - 1 = λ z. let at : n ≡ cost t - 2 = omega arith in other e (ap (member t) at ∙ last.1) in
-          ne_eqb n (cost t - 1) (λ z. omega arith) ∙ sym (ne_eqb (n + 1) (cost t - 1) not_there)
-    ] in
-    f.signalled ∙ by t.signal shape.signal_last
+signalled_next c t n f other next = f.signalled ∙ by t.signal (shape_is t f.rules).signal_last where
+  by : (w : Option ℕ) → IfSome w (λ e. (2 ≤ cost t) × (member t (cost t - 2) ≡ Sev e)) → (is_some w && n == cost t - 1) ≡ (is_some w && n + 1 == cost t - 1)
+  by None last = refl
+  by (Some e) last =
+      let not_there : n + 1 ≢ cost t - 1 = λ z. let at : n ≡ cost t - 2 = omega arith in other e (ap (member t) at ∙ last.1) in
+      ne_eqb n (cost t - 1) (λ z. omega arith) ∙ sym (ne_eqb (n + 1) (cost t - 1) not_there)
 
 -- one is left where it doesn't end now
 pub within_next : (c : ChannelState) (t : Descriptor) (n : ℕ) → IsFront c t n → member t n ≢ End → n + 1 < cost t
@@ -132,7 +125,7 @@ within_next c t n f other = elim (cases_lt (n + 1) (cost t)) [
 pub not_signalled : (c : ChannelState) (t : Descriptor) (n : ℕ) → IsFront c t n → member t n ≢ End → c.signalled ≡ false
 not_signalled c t n f other =
     f.signalled ∙ ap (λ b. is_some t.signal && b) (ne_eqb n (cost t - 1) (λ z. other (ap (member t) z ∙ (shape_is t f.rules).end_last)))
-    ∙ and_false_law (is_some t.signal)
+    ∙ and_right (is_some t.signal) false refl
 
 -- ---- its end
 
@@ -143,25 +136,22 @@ finish_may v ch n t NoError f is =
     let last : n + 1 ≡ cost t = (shape_is t f.rules).end_only n f.within is in
     let at_last : n ≡ cost t - 1 = omega arith in
     let not_wfe : (k : ℕ) (i : Bool) → member t n ≢ Wfe k i = λ k i g. let e = sym is ∙ g in absurd cc in
-    let passed : IsSome t.wait → c.passed ≡ true = λ w. passed_next c t n f not_wfe ∙ ap (λ b. b && nat_lt 0 (n + 1)) w ∙ lt-ltb 0 (n + 1) (omega arith) in
     let signalled : IsSome t.signal → c.signalled ≡ true = λ w. f.signalled ∙ ap (λ b. b && n == cost t - 1) w ∙ eq-eqb n (cost t - 1) at_last in
-    (f.goes, rw f.issued (passed, signalled, ap (stored_after t) at_last ∙ (stored_is t f.rules).all))
+    (f.goes, rw f.issued (has_passed c t n f not_wfe, signalled, ap (stored_after t) at_last ∙ (stored_is t f.rules).all))
 finish_may v ch n t ReadFailed f is =
     let c = channel (object_of v) ch in
     let load = (stored_is t f.rules).load n is.0 in
     let not_wfe : (k : ℕ) (i : Bool) → member t n ≢ Wfe k i = λ k i g. let e = sym is.0 ∙ g in absurd cc in
     let not_end : member t n ≢ End = λ g. let e = sym is.0 ∙ g in absurd cc in
-    let passed : IsSome t.wait → c.passed ≡ true = λ w. passed_next c t n f not_wfe ∙ ap (λ b. b && nat_lt 0 (n + 1)) w ∙ lt-ltb 0 (n + 1) (omega arith) in
     let hit = more_marked Reading (object_of v).marks (drop (stored_after t n) (sources t)) (burst t n) load.1 is.1 in
-    (f.goes, rw f.issued (passed, not_signalled c t n f not_end, omega (arith, load.0, load.2), hit))
+    (f.goes, rw f.issued (has_passed c t n f not_wfe, not_signalled c t n f not_end, omega (arith, load.0, load.2), hit))
 finish_may v ch n t WriteFailed f is =
     let c = channel (object_of v) ch in
     let store = (stored_is t f.rules).store n is.0 in
     let not_wfe : (k : ℕ) (i : Bool) → member t n ≢ Wfe k i = λ k i g. let e = sym is.0 ∙ g in absurd cc in
     let not_end : member t n ≢ End = λ g. let e = sym is.0 ∙ g in absurd cc in
-    let passed : IsSome t.wait → c.passed ≡ true = λ w. passed_next c t n f not_wfe ∙ ap (λ b. b && nat_lt 0 (n + 1)) w ∙ lt-ltb 0 (n + 1) (omega arith) in
     let hit = more_marked Writing (object_of v).marks (drop (stored_after t n) (destinations t)) (burst t n) store.1 is.1 in
-    (f.goes, rw f.issued (passed, not_signalled c t n f not_end, omega (arith, store.0, store.2), hit))
+    (f.goes, rw f.issued (has_passed c t n f not_wfe, not_signalled c t n f not_end, omega (arith, store.0, store.2), hit))
 finish_may v ch n t Aborted f is = absurd is
 
 -- this many bytes may be stored when it is terminated
@@ -181,25 +171,23 @@ Fitting c done o =
     (done ≤ size_of t) × (c.halted ≡ true → done ≡ 0) × (IsSome t.wait → c.passed ≡ false → done ≡ 0) × (c.signalled ≡ true → done ≡ size_of t))
 
 nothing_stored : (c : ChannelState) → c.signalled ≡ false → CanHaveStored c 0
-nothing_stored c h =
-    let by : (o : Option Descriptor) → Fitting c 0 o = λ o. elim o as (λ o. Fitting c 0 o) [
-      | None ↦ refl
-      | Some t ↦ (omega arith, λ _. refl, λ _ _. refl, λ e. absurd (true≢false (sym e ∙ h)))
-    ] in
-    by (issued_front c)
+nothing_stored c h = by (issued_front c) where
+  by : (o : Option Descriptor) → Fitting c 0 o
+  by None = refl
+  by (Some t) = (omega arith, λ _. refl, λ _ _. refl, λ e. absurd (true≢false (sym e ∙ h)))
 
 -- how many bytes of the front are stored when its channel is terminated
 pub stored_there : (v : View) (ch : ℕ) → IsSound v → ch < channels v → CanHaveStored (channel (object_of v) ch) (done_on v ch)
-stored_there v ch h less =
-    let c = channel (object_of v) ch in
-    let by : (x : Option ℕ) → (schedule_at v ch).taken ≡ x → CanHaveStored c (done_on v ch) = λ x. elim x as (λ x. (schedule_at v ch).taken ≡ x → CanHaveStored c (done_on v ch)) [
-      | None ↦ λ e.
-          let agrees : Agrees c None = rw e at (h.fits.each ch less) in
-          let none : done_on v ch ≡ 0 = ap (λ x. done_by (running_in ch c x)) e in
-          subst (CanHaveStored c) (sym none) (nothing_stored c agrees.1)
-      | Some n ↦ λ e.
-          let r = runs_at_law v ch n h less e in
-          let some : done_on v ch ≡ stored_after r.transfer n = ap (λ x. done_by (running_in ch c x)) e ∙ ap done_by (runs_front ch c r.transfer n r.it.is) in
-          subst (CanHaveStored c) (sym some) (stored_may c r.transfer n r.it)
-    ] in
-    by _ refl
+stored_there v ch h less = by _ refl where
+  c : ChannelState
+  c = channel (object_of v) ch
+
+  by : (x : Option ℕ) → (schedule_at v ch).taken ≡ x → CanHaveStored c (done_on v ch)
+  by None e =
+      let agrees : Agrees c None = rw e at (h.fits.each ch less) in
+      let none : done_on v ch ≡ 0 = ap (λ x. done_by (running_in ch c x)) e in
+      subst (CanHaveStored c) (sym none) (nothing_stored c agrees.1)
+  by (Some n) e =
+      let r = runs_at_law v ch n h less e in
+      let some : done_on v ch ≡ stored_after r.transfer n = ap (λ x. done_by (running_in ch c x)) e ∙ ap done_by (runs_front ch c r.transfer n r.it.is) in
+      subst (CanHaveStored c) (sym some) (stored_may c r.transfer n r.it)

@@ -1,12 +1,12 @@
 -- A step whose answer is idle does not change the view.
 use Rattle.std.proofs.Common.{◌≡◌, ℕ, Bool, true, false, refl, ap, sym, ◌∙◌}
-use Rattle.std.specs.Prelude.{Result, Ok, Err}
+use Rattle.std.specs.Prelude.{Result, Ok}
 use Rattle.dma_mem.specs.declared.call.Call.TheVariants.{Step}
 use Rattle.dma_engine.specs.declared.call.Reply.{Reply}
 use Rattle.dma_engine.specs.declared.call.Reply.TheVariants.{Turned}
 use Rattle.dma_engine.specs.declared.fault.EngineFault.{EngineFault}
 use Rattle.dma_engine.specs.declared.turn.Turn.{Turn}
-use Rattle.dma_engine.specs.declared.turn.Turn.TheVariants.{Nothing, Held, Started, Moved, Paused, Halted, Waiting, Finished}
+use Rattle.dma_engine.specs.declared.turn.Turn.TheVariants.{Started, Moved, Finished}
 use Rattle.dma_engine.specs.Answer.{answer, reply_of}
 use Rattle.dma_engine.specs.Room.{IsIdle}
 use Rattle.dma_engine.specs.View.{View}
@@ -22,15 +22,10 @@ is_idle (Turned (Finished cookie result residue)) = false
 is_idle _ = true
 
 idle_reply : (r : Result Turn EngineFault) → IsIdle r → is_idle (reply_of Turned r) ≡ true
-idle_reply (Err fault) idle = refl
-idle_reply (Ok Nothing) idle = refl
-idle_reply (Ok (Held ch cookie)) idle = refl
 idle_reply (Ok (Started cookie)) idle = absurd idle
 idle_reply (Ok Moved) idle = absurd idle
-idle_reply (Ok (Waiting event)) idle = refl
-idle_reply (Ok Paused) idle = refl
-idle_reply (Ok Halted) idle = refl
 idle_reply (Ok (Finished cookie result residue)) idle = absurd idle
+idle_reply r idle = refl
 
 -- ---- the table of cases
 

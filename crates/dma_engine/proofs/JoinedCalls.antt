@@ -1,17 +1,18 @@
 -- Answers to consecutive calls, and answers when memory doesn't run out.
-use Rattle.std.proofs.Common.{inl, inr, ◌≡◌, ◌≢◌, ℕ, ◌+◌, List, [], ◌∷◌, ◌++◌, length, take, drop, Option, Some, None, Bool, true, false, refl, ap, ◌∙◌, subst}
+use Rattle.std.proofs.Common.{inl, inr, ◌≡◌, ◌≢◌, ℕ, ◌+◌, List, [], ◌∷◌, ◌++◌, length, take, drop, Option, Some, None, Bool, true, refl, ap, ◌∙◌, subst}
 use Rattle.std.specs.Prelude.{◌==◌, ◌||◌, nat_le, nat_lt, not}
 use Rattle.std.specs.Option.{option_map}
 use Rattle.std.proofs.lemmas.List.Elements.{All-head, All-tail}
+use Rattle.std.proofs.lemmas.Bool.{cond_both}
 use Rattle.dma_mem.specs.Places.{Descriptor, lies_below}
 use Rattle.dma_mem.specs.declared.call.Call.{Call}
-use Rattle.dma_mem.specs.declared.call.Call.TheVariants.{Write, Read, Submit, Issue, Pause, Resume, Terminate, Step, Status, Result as ResultOf, Mark, Unmark, Raise, Checkpoint}
+use Rattle.dma_mem.specs.declared.call.Call.TheVariants.{Write, Read, Submit, Issue, Pause, Resume, Terminate, Step, Mark, Raise, Checkpoint}
 use Rattle.dma_engine.specs.declared.call.Reply.{Reply}
-use Rattle.dma_engine.specs.declared.call.Reply.TheVariants.{Done, Bytes, Cookie, Count, Turned, State, Result as Resulted, Refused}
+use Rattle.dma_engine.specs.declared.call.Reply.TheVariants.{Done, Bytes, Cookie, Turned, Refused}
 use Rattle.dma_engine.specs.declared.entry.Entry.TheVariants.{Wrote, ReadBack, Submitted, Marked, Signalled}
 use Rattle.dma_engine.specs.declared.entry.Signaller.TheVariants.{Host}
 use Rattle.dma_engine.specs.declared.fault.EngineFault.{EngineFault}
-use Rattle.dma_engine.specs.declared.fault.EngineFault.TheVariants.{OutOfMemoryRange, Busy, Running, NoChannel, CookiesSpent, StepsSpent, BadEvent, BadRange, NoMemory}
+use Rattle.dma_engine.specs.declared.fault.EngineFault.TheVariants.{OutOfMemoryRange, Running, NoChannel, CookiesSpent, BadEvent, BadRange, NoMemory}
 use Rattle.dma_engine.specs.Object.{channel, last_cookie, used}
 use Rattle.dma_engine.specs.View.{View, RunningTransfer, object_of, channels, size}
 use Rattle.dma_engine.specs.Turn.{Stepped, turn, with_entry}
@@ -51,22 +52,8 @@ IsOther reply = Unit {0}
 
 -- an answer other than that is one by its definition
 by_answer_law : (v w : View) (call : Call) (reply : Reply) → IsOther reply → (reply, w) ≡ answer v call → CallAnswers v call reply w
-by_answer_law v w call Done o is = is
-by_answer_law v w call (Bytes b) o is = is
-by_answer_law v w call (Cookie n) o is = is
-by_answer_law v w call (Count n) o is = is
-by_answer_law v w call (Turned t) o is = is
-by_answer_law v w call (State s) o is = is
-by_answer_law v w call (Resulted x) o is = is
 by_answer_law v w call (Refused NoMemory) o is = absurd o
-by_answer_law v w call (Refused OutOfMemoryRange) o is = is
-by_answer_law v w call (Refused (Busy ch cookie)) o is = is
-by_answer_law v w call (Refused (Running ch cookie)) o is = is
-by_answer_law v w call (Refused NoChannel) o is = is
-by_answer_law v w call (Refused CookiesSpent) o is = is
-by_answer_law v w call (Refused StepsSpent) o is = is
-by_answer_law v w call (Refused BadEvent) o is = is
-by_answer_law v w call (Refused BadRange) o is = is
+by_answer_law v w call reply o is = is
 
 -- no cause of a refusal is `NoMemory`
 abbrev IsCause : Option EngineFault → Type 0
@@ -74,8 +61,7 @@ IsCause None = Unit {0}
 IsCause (Some fault) = IsOther (Refused fault)
 
 one_cause : (b : Bool) (fault : EngineFault) (others : Option EngineFault) → IsOther (Refused fault) → IsCause others → IsCause (cause b fault others)
-one_cause true fault others h g = h
-one_cause false fault others h g = g
+one_cause b fault others h g = cond_both b (Some fault) others IsCause (λ _. h) (λ _. g)
 
 busy_cause : (x : Option RunningTransfer) → IsCause (busy x)
 busy_cause None = tt
@@ -127,14 +113,12 @@ answer_other v (Pause ch) = unless_other v (channel_fault v ch) _ (channel_cause
 answer_other v (Resume ch) = unless_other v (channel_fault v ch) _ (channel_cause v ch) tt
 answer_other v (Terminate ch) = unless_other v (channel_fault v ch) _ (channel_cause v ch) tt
 answer_other v (Step ch) = turn_other v ch
-answer_other v (Status ch cookie) = tt
-answer_other v (ResultOf ch cookie) = tt
 answer_other v (Mark kind s) =
     unless_other v (mark_fault s) (Done, with_entry v (Marked kind s)) (one_cause (s.len == 0 || nat_lt 4294967296 (s.addr + s.len)) BadRange None tt tt) tt
-answer_other v Unmark = tt
 answer_other v (Raise event) =
     unless_other v (raise_fault event) (Done, with_entry v (Signalled Host event)) (one_cause (nat_lt 31 event) BadEvent None tt tt) tt
 answer_other v Checkpoint = unless_other v (checkpoint_fault v) _ (running_cause (first_running v (λ _. true))) tt
+answer_other v call = tt
 
 pub answer_is_one : AnswerIsOne
 answer_is_one v call = by_answer_law v (answer v call).1 call (answer v call).0 (answer_other v call) refl

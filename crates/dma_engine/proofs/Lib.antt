@@ -20,7 +20,6 @@ pub mod MovingSteps
 pub mod InstructionSteps
 pub mod InstructionAnswers
 pub mod Starts
-pub mod StoppedSteps
 pub mod NextTurns
 pub mod StepsInRow
 pub mod Rooms

@@ -1,7 +1,8 @@
 -- The turn of a channel's next step, in each of its cases.
-use Rattle.std.proofs.Common.{◌≡◌, ℕ, ◌+◌, ◌-◌, ◌^◌, ◌<◌, ◌&&◌, length, Option, Some, None, Bool, true, false, refl, ap, sym, ◌∙◌, arith, inl, inr, cond}
+use Rattle.std.proofs.Common.{◌≡◌, ℕ, ◌+◌, ◌-◌, ◌^◌, ◌<◌, ◌&&◌, length, Some, None, Bool, true, false, refl, ap, sym, ◌∙◌, arith, inl, inr}
 use Rattle.std.specs.Prelude.{slice_index_or, is_some, nat_le, ◌==◌, unwrap_or, Result, Ok, Err}
 use Rattle.std.proofs.lemmas.Bool.{eq-eqb, lt-leb}
+use Rattle.dma_engine.proofs.CallCases.{named_none}
 use Rattle.dma_insn.specs.declared.insn.Insn.TheVariants.{End}
 use Rattle.dma_mem.specs.Places.{Descriptor, size_of}
 use Rattle.dma_chan.proofs.ShapeLaws.{shape_is}
@@ -23,7 +24,7 @@ use Rattle.dma_engine.specs.declared.turn.Turn.{Turn}
 use Rattle.dma_engine.specs.declared.turn.Turn.TheVariants.{Held, Started, Moved, Finished}
 use Rattle.dma_engine.specs.Answer.{CallAnswers, done_by, done_on, reply_of}
 use Rattle.dma_engine.specs.Object.{channel, issued_front, finished}
-use Rattle.dma_engine.specs.Turn.{Stepped, finishes, first_conflicting, front_cookie, last_step, start_turn, turn}
+use Rattle.dma_engine.specs.Turn.{Stepped, first_conflicting, front_cookie, last_step, start_turn, turn}
 use Rattle.dma_engine.specs.View.{View, channels, object_of, schedule_at}
 use Rattle.dma_engine.specs.inner.Accesses.{named}
 use Rattle.dma_engine.specs.inner.Due.{Finishes, IsAny, IsDue, MayStart, failure_of}
@@ -33,7 +34,7 @@ use Rattle.dma_engine.proofs.Fronts.{front_of_law, not_signalled}
 use Rattle.dma_engine.proofs.InstructionAnswers.{failed, only_so, went_on}
 use Rattle.dma_engine.proofs.InstructionSteps.{shared}
 use Rattle.dma_engine.proofs.Queues.{holds_at}
-use Rattle.dma_engine.proofs.Starts.{held_answers, way_clear}
+use Rattle.dma_engine.proofs.Starts.{held_answers}
 use Rattle.dma_engine.proofs.StepCases.{Due, GoesOn, finish_turn, make_due, plain_turn, start_turn_law}
 use Rattle.dma_engine.proofs.TransferRules.{Runs, running}
 
@@ -54,15 +55,13 @@ held_turn v ch other cookie t may some held =
 pub started_turn : (v : View) (ch cookie : ℕ) (t : Descriptor) → MayStart v ch → issued_front (channel (object_of v) ch) ≡ Some t → None ≡ named (first_conflicting v t) → cookie ≡ finished (channel (object_of v) ch) + 1 → Ok (Started cookie) ≡ (turn v ch).0
 started_turn v ch cookie t may some none number =
     ap (λ k. Ok (Started k)) number
-    ∙ sym (ap (λ (s : Stepped). s.0) (start_turn_law v ch t may some ∙ ap (start_turn v ch) (way_clear v t none)))
+    ∙ sym (ap (λ (s : Stepped). s.0) (start_turn_law v ch t may some ∙ ap (start_turn v ch) (named_none (first_conflicting v t) none)))
 
 -- ---- an instruction that neither waits, signals nor ends
 
 fault_is_law : (x : ChanTurn) (kind : FaultKind) → Some kind ≡ fault_in x → x ≡ turns.Fault kind
-fault_is_law turns.Moved kind h = absurd cc
-fault_is_law (turns.Waiting e) kind h = absurd cc
-fault_is_law turns.Ended kind h = absurd cc
 fault_is_law (turns.Fault k) kind h = cc
+fault_is_law x kind h = absurd cc
 
 pub fails_next : (p : Parts) (ch : ℕ) (q : Queue) (kind : FaultKind) → Holds p → (d : Due p ch q GoesOn) → Some kind ≡ fault_in (step_at d.it.transfer q.channel.taken p.marks (shared p)).0 → Finishes (view_of p) (failure_of kind) d.it.transfer q.channel.taken
 fails_next p ch q kind h d is = failed p d.it.transfer q.channel.taken kind h d.holds (fault_is_law _ kind is)

@@ -1,5 +1,5 @@
 -- What a new engine keeps.
-use Rattle.std.proofs.Common.{◌≡◌, ◌≢◌, ℕ, ◌+◌, ◌<◌, ◌≤◌, List, [], ◌∷◌, ◌++◌, length, map, Option, None, true, false, refl, ap, sym, ◌∙◌, subst, arith, inl, inr, zero, suc, add-one}
+use Rattle.std.proofs.Common.{◌≡◌, ◌≢◌, ℕ, ◌+◌, ◌<◌, ◌≤◌, List, [], ◌∷◌, length, map, Option, None, true, false, refl, ap, sym, ◌∙◌, subst, arith, inl, inr, zero, suc}
 use Rattle.std.specs.Prelude.{List, Bool, slice_index_or, replicate, nat_lt, ◌==◌}
 use Rattle.dma_mem.specs.Image.{is_size, over, after_moves}
 use Rattle.std.specs.List.{filter_map, range_with_len}
@@ -11,13 +11,9 @@ use Rattle.dma_engine.specs.View.{View, ChannelSchedule, RunningTransfer, Fits, 
 use Rattle.dma_engine.specs.declared.queue.Queue.{Queue}
 use Rattle.dma_engine.specs.inner.Ranges.{AreOfRunning}
 use Rattle.dma_engine.specs.inner.Holds.{Holds, IsPrepared, Parts, view_of, schedule_of, new_queue}
-use Rattle.dma_engine.proofs.Endings.{put_nil}
+use Rattle.dma_mem.proofs.PageImages.{put_none}
 use Rattle.dma_engine.proofs.Sizes.{opening_size, opening_many, opening_flags}
 use Rattle.dma_engine.proofs.TransferRules.{AreMarks}
-
-pub replicate_push : {X : Type 0} (n : ℕ) (x : X) → replicate n x ++ x ∷ [] ≡ replicate (n + 1) x
-replicate_push zero x = refl
-replicate_push (suc n) x = rw add-one (ap (λ l. x ∷ l) (rw add-one at (replicate_push n x)))
 
 map_same : (n : ℕ) → map schedule_of (replicate n new_queue) ≡ replicate n idle
 map_same zero = refl
@@ -52,7 +48,7 @@ nothing_runs bytes n = filter_none (runs (opening bytes n) (replicate n idle)) 0
 
 opening_shown : (bytes n : ℕ) → replicate bytes 0 ≡ memory_shown (opening bytes n) (replicate n idle)
 unfolding opening after_moves
-opening_shown bytes n = sym (ap (λ l. over (opening bytes n).image (map with_stored l)) (nothing_runs bytes n) ∙ put_nil (replicate bytes 0))
+opening_shown bytes n = sym (ap (λ l. over (opening bytes n).image (map with_stored l)) (nothing_runs bytes n) ∙ put_none (replicate bytes 0))
 
 opening_fits : (bytes n : ℕ) → Fits (opening bytes n) (replicate n idle)
 opening_fits bytes n = record {

@@ -1,11 +1,12 @@
 -- A known outcome never changes.
-use Rattle.std.proofs.Common.{◌≡◌, ℕ, ◌-◌, List, [], ◌∷◌, ◌++◌, Some, None, Bool, true, false, refl, ap, ◌∙◌, inl, inr, zero, suc}
+use Rattle.std.proofs.Common.{◌≡◌, ℕ, ◌-◌, List, [], ◌∷◌, Some, None, Bool, true, false, refl, ap, ◌∙◌, inl, inr}
 use Rattle.std.specs.Prelude.{slice_get, if◌then◌else◌, nat_le}
 use Rattle.std.proofs.lemmas.Bool.{cases_eq}
 use Rattle.std.proofs.lemmas.List.{get_or-set_other}
+use Rattle.dma_engine.proofs.Queues.{slice_get_longer}
 use Rattle.dma_engine.specs.declared.entry.Entry.{Entry}
-use Rattle.dma_engine.specs.declared.entry.Entry.TheVariants.{Wrote, ReadBack, Submitted, Issued, Passed, Signalled, Finished, Terminated, Marked, Unmarked}
-use Rattle.dma_engine.specs.declared.entry.Signaller.TheVariants.{Channel, Host}
+use Rattle.dma_engine.specs.declared.entry.Entry.TheVariants.{Submitted, Issued, Passed, Signalled, Finished, Terminated}
+use Rattle.dma_engine.specs.declared.entry.Signaller.TheVariants.{Channel}
 use Rattle.dma_engine.specs.declared.outcome.Outcome.{Outcome}
 use Rattle.dma_engine.specs.Object.{Object, ChannelState, after, channel, empty_channel, with_channel, with_flag, with_front_laid}
 use Rattle.dma_engine.specs.History.{object_after}
@@ -13,11 +14,6 @@ use Rattle.dma_engine.specs.View.{View, object_of}
 use Rattle.dma_engine.specs.Answer.{Extends, KeepsOutcomes, result_of}
 use Rattle.dma_engine.proofs.Boards.{with_channel_at}
 use Rattle.dma_engine.proofs.Histories.{object_after_append}
-
-longer : {X : Type 0} (xs ys : List X) (k : ℕ) (x : X) → slice_get xs k ≡ Some x → slice_get (xs ++ ys) k ≡ Some x
-longer [] ys k x h = absurd cc
-longer (z ∷ xs) ys zero x h = h
-longer (z ∷ xs) ys (suc k) x h = longer xs ys k x h
 
 -- each outcome of the first channel is one of the second, at its place
 record Keeps (c d : ChannelState) : Type 0 where
@@ -34,17 +30,13 @@ keeps_with o ch c h d = elim (cases_eq d ch) [
 ]
 
 keeps_after : (o : Object) (e : Entry) (d : ℕ) → Keeps (channel o d) (channel (after o e) d)
-keeps_after o (Wrote addr bytes) d = keeps_all_law (channel o d)
-keeps_after o (ReadBack addr bytes) d = keeps_all_law (channel o d)
 keeps_after o (Submitted ch t cookie) d = keeps_with o ch _ (record { forgotten = refl; outcomes = λ k x g. g }) d
 keeps_after o (Issued ch) d = keeps_with o ch _ (record { forgotten = refl; outcomes = λ k x g. g }) d
 keeps_after o (Passed ch event) d = keeps_with (with_flag o event false) ch _ (record { forgotten = refl; outcomes = λ k x g. g }) d
 keeps_after o (Signalled (Channel ch) event) d = keeps_with (with_flag o event true) ch _ (record { forgotten = refl; outcomes = λ k x g. g }) d
-keeps_after o (Signalled Host event) d = keeps_all_law (channel o d)
-keeps_after o (Finished ch result done) d = keeps_with (with_front_laid o ch done) ch _ (record { forgotten = refl; outcomes = λ k x g. longer (channel o ch).outcomes _ k x g }) d
-keeps_after o (Terminated ch done count) d = keeps_with (with_front_laid o ch done) ch _ (record { forgotten = refl; outcomes = λ k x g. longer (channel o ch).outcomes _ k x g }) d
-keeps_after o (Marked kind segment) d = keeps_all_law (channel o d)
-keeps_after o Unmarked d = keeps_all_law (channel o d)
+keeps_after o (Finished ch result done) d = keeps_with (with_front_laid o ch done) ch _ (record { forgotten = refl; outcomes = λ k x g. slice_get_longer (channel o ch).outcomes _ k x g }) d
+keeps_after o (Terminated ch done count) d = keeps_with (with_front_laid o ch done) ch _ (record { forgotten = refl; outcomes = λ k x g. slice_get_longer (channel o ch).outcomes _ k x g }) d
+keeps_after o e d = keeps_all_law (channel o d)
 
 keeps_object : (o : Object) (es : List Entry) (d : ℕ) → Keeps (channel o d) (channel (object_after o es) d)
 keeps_object o [] d = keeps_all_law (channel o d)

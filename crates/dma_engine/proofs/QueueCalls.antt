@@ -1,27 +1,23 @@
 -- What an engine keeps when one channel changes and what runs doesn't: pause, resume, issue, submit.
-use Rattle.std.proofs.Common.{◌≡◌, ◌≢◌, ℕ, ◌+◌, ◌<◌, List, [], ◌∷◌, ◌++◌, length, map, Option, Some, None, Bool, true, false, refl, ap, sym, ◌∙◌, subst, arith, inl, inr}
-use Rattle.std.specs.Prelude.{slice_get, slice_index_or, slice_set, nat_lt, IfSome, IsSomeAnd}
-use Rattle.std.proofs.lemmas.Bool.{cases_lt, cases_eq, lt-ltb}
-use Rattle.std.proofs.lemmas.List.{length-set, length_push, get_or-set_same, get_or-set_other, get_or_append_left, get_or_push, take-append-le}
+use Rattle.std.proofs.Common.{◌≡◌, ℕ, ◌+◌, ◌<◌, List, [], ◌∷◌, ◌++◌, length, map, Option, Some, None, Bool, true, refl, ap, sym, ◌∙◌, subst, arith, inl, inr}
+use Rattle.std.specs.Prelude.{slice_index_or, slice_set, nat_lt}
+use Rattle.std.proofs.lemmas.Bool.{cases_lt, cases_eq, lt-ltb, true_from_ne_false}
+use Rattle.std.proofs.lemmas.List.{length_push, get_or_append_left, get_or_push, take-append-le}
 use Rattle.dma_mem.specs.Places.{Descriptor, lies_below}
 use Rattle.dma_mem.specs.Image.{over}
 use Rattle.dma_mem.specs.Rules.{IsTransfer}
 use Rattle.dma_chan.specs.Channel.{ChannelValue}
-use Rattle.dma_chan.specs.inner.At.{IsAt}
-use Rattle.dma_chan.specs.Programs.{ProgramValue}
 use Rattle.dma_engine.specs.declared.entry.Entry.{Entry}
 use Rattle.dma_engine.specs.declared.entry.Entry.TheVariants.{Submitted, Issued}
 use Rattle.dma_engine.specs.declared.queue.Queue.{Queue}
 use Rattle.dma_engine.specs.declared.access.Ranges.{Ranges}
-use Rattle.dma_engine.specs.Object.{Object, ChannelState, Allows, after, channel, empty_channel, with_transfer, front, issued_front, no_transfer, used, finished, last_cookie}
-use Rattle.dma_engine.specs.History.{object_after, IsLegal}
-use Rattle.dma_engine.specs.View.{View, ChannelSchedule, Agrees, runs, running_in, running, with_stored, memory_shown, object_of, channels}
+use Rattle.dma_engine.specs.Object.{Object, ChannelState, Allows, after, channel, with_transfer, front, issued_front, no_transfer, used, finished, last_cookie}
+use Rattle.dma_engine.specs.View.{View, ChannelSchedule, Agrees, runs, running_in, running, with_stored, memory_shown, object_of}
 use Rattle.dma_engine.specs.Turn.{with_entry}
 use Rattle.dma_engine.specs.Answer.{with_pause}
 use Rattle.dma_engine.specs.inner.Ranges.{AreOfRunning}
 use Rattle.dma_engine.specs.inner.Holds.{Holds, IsPrepared, IsQueue, IsRun, Parts, queue_submitted, view_of, schedule_of}
-use Rattle.dma_engine.proofs.Changes.{ChangesTo, changed, view_changed, holds_changed, runs_here_law, runs_other, schedule_kept}
-use Rattle.dma_engine.proofs.Histories.{object_after_append, IsLegal_append}
+use Rattle.dma_engine.proofs.Changes.{changed, view_changed, holds_changed, runs_here_law, runs_other, schedule_kept, run_moved, LeadsTo, leads_still, leads_on}
 use Rattle.dma_engine.proofs.Queues.{front_where, holds_at, runs_front, slice_get_push, slice_get_push_last}
 use Rattle.dma_engine.proofs.WhatRuns.{running_same}
 
@@ -30,22 +26,17 @@ shown_both o p s t image runs_same = ap (λ l. over o.image (map with_stored l))
 
 -- ---- a change that keeps what runs
 
-pub record StaysAt (p : Parts) (ch : ℕ) (q r : Queue) (flags : List Bool) (history : List Entry) (o : Object) : Type 0 where
-  pub legal : IsLegal (view_of p).base history
-  pub becomes : object_after (view_of p).base history ≡ o
-  pub grows : (k : ℕ) (e : Entry) → slice_get p.history k ≡ Some e → slice_get history k ≡ Some e
+pub record StaysAt (p : Parts) (ch : ℕ) (q r : Queue) (flags : List Bool) (history : List Entry) (o : Object) (state : ChannelState) : Type 0 where
+  pub leads : LeadsTo p ch history o state
   pub image : (object_of (view_of p)).image ≡ o.image
   pub events : flags ≡ o.events
-  pub marks : (object_of (view_of p)).marks ≡ o.marks
-  pub many : length o.channels ≡ channels (view_of p)
-  pub others : (c : ℕ) → c ≢ ch → channel o c ≡ channel (object_of (view_of p)) c
-  pub agrees : Agrees (channel o ch) (schedule_of r).taken
-  pub runs_still : running_in ch (channel o ch) (schedule_of r).taken ≡ running_in ch (channel (object_of (view_of p)) ch) (schedule_of q).taken
+  pub agrees : Agrees state (schedule_of r).taken
+  pub runs_still : running_in ch state (schedule_of r).taken ≡ running_in ch (channel (object_of (view_of p)) ch) (schedule_of q).taken
   pub ranges_still : r.ranges ≡ q.ranges
-  pub tied : IsQueue ch (channel p.base ch).submitted history p.memory r (channel o ch)
+  pub tied : IsQueue ch (channel p.base ch).submitted history p.memory r state
 
-pub stays : (p : Parts) (ch : ℕ) (q r : Queue) (flags : List Bool) (history : List Entry) (o : Object) → Holds p → ch < length p.queues → q ≡ slice_index_or p.queues ch q → StaysAt p ch q r flags history o → ChangesTo p ch r p.memory flags history o
-stays p ch q r flags history o h less read w =
+pub holds_still : (p : Parts) (ch : ℕ) (q r : Queue) (flags : List Bool) (history : List Entry) (o : Object) (state : ChannelState) → Holds p → ch < length p.queues → q ≡ slice_index_or p.queues ch q → StaysAt p ch q r flags history o state → Holds (changed p ch r p.memory flags history p.steps)
+holds_still p ch q r flags history o state h less read w =
     let v : View = view_of p in
     let old = object_of v in
     let s = v.schedule in
@@ -53,29 +44,21 @@ stays p ch q r flags history o h less read w =
     let at = holds_at p h ch q less read in
     let within : ch < length s = omega (arith, h.sound.fits.many, at.there) in
     let still : (c : ℕ) → runs o (slice_set s ch x) c ≡ runs old s c = λ c. elim (cases_eq c ch) [
-      | inl e ↦ rw e (runs_here_law o s ch x within ∙ w.runs_still ∙ sym at.runs_is)
-      | inr d ↦ runs_other old o s ch c x d (w.others c d)
+      | inl e ↦ rw e (runs_here_law o s ch x within ∙ ap (λ y. running_in ch y x.taken) w.leads.here ∙ w.runs_still ∙ sym at.runs_is)
+      | inr d ↦ runs_other old o s ch c x d (w.leads.others c d)
     ] in
-    let same : running o (slice_set s ch x) ≡ running old s = running_same old o s (slice_set s ch x) (sym w.many) (λ c l. still c) in
-    record {
-      legal = w.legal;
-      becomes = w.becomes;
-      grows = w.grows;
-      fits = record {
-        there = at.there;
-        many = w.many;
-        others = w.others;
-        agrees = w.agrees;
-        free = λ d l k. rw (w.runs_still, ← at.runs_is) (h.sound.fits.free ch d at.there l (λ e. k (sym e)));
-      };
+    let same : running o (slice_set s ch x) ≡ running old s = running_same old o s (slice_set s ch x) (sym w.leads.many) (λ c l. still c) in
+    holds_changed p ch r p.memory flags history p.steps o state h less (record {
+      leads = w.leads;
+      agrees = w.agrees;
+      free = λ d l k. rw (w.runs_still, ← at.runs_is) (h.sound.fits.free ch d at.there l (λ e. k (sym e)));
       shown = h.shown ∙ shown_both old o s (slice_set s ch x) w.image (sym same);
       events = w.events;
-      marks = w.marks;
       tied = w.tied;
       prepared = subst (IsPrepared p.made) (at.runs_is ∙ sym w.runs_still) (h.prepared ch);
-      ranges = subst (λ (y : Option Ranges). AreOfRunning y (running_in ch (channel o ch) x.taken)) (sym w.ranges_still) (subst (AreOfRunning q.ranges) (at.runs_is ∙ sym w.runs_still) at.ranges);
+      ranges = subst (λ (y : Option Ranges). AreOfRunning y (running_in ch state x.taken)) (sym w.ranges_still) (subst (AreOfRunning q.ranges) (at.runs_is ∙ sym w.runs_still) at.ranges);
       machines = λ c d l k machine. machine;
-    }
+    })
 
 -- ---- pause and resume
 
@@ -91,20 +74,15 @@ holds_besides p ch a b paused q h less read =
     let at = holds_at p h ch q less read in
     let t = at.tied in
     let r = with_room_paused q a b paused in
-    holds_changed p ch r p.memory p.events p.history p.steps (object_of v) h less (stays p ch q r p.events p.history (object_of v) h less read (record {
-      legal = h.sound.legal;
-      becomes = refl;
-      grows = λ k e x. x;
+    holds_still p ch q r p.events p.history (object_of v) (channel (object_of v) ch) h less read (record {
+      leads = leads_still p ch h;
       image = refl;
       events = h.events;
-      marks = refl;
-      many = refl;
-      others = λ c d. refl;
       agrees = at.agrees;
       runs_still = refl;
       ranges_still = refl;
       tied = record { forgotten = t.forgotten; given = t.given; many = t.many; first = t.first; indexed = t.indexed; outcomes = t.outcomes; issued = t.issued; halted = t.halted; machine = t.machine };
-    }))
+    })
 
 pub holds_paused : (p : Parts) (ch : ℕ) (q : Queue) (b : Bool) → Holds p → ch < length p.queues → q ≡ slice_index_or p.queues ch q → Holds (changed p ch (record q { paused = b }) p.memory p.events p.history p.steps)
 holds_paused p ch q b h less read = holds_besides p ch q.indices.spare q.outcomes.spare b q h less read
@@ -137,22 +115,15 @@ holds_issued p ch q n h less read all =
     let c = channel o ch in
     let at = holds_at p h ch q less read in
     let t = at.tied in
-    let r = record q { issued = n } in
-    let history = p.history ++ e ∷ [] in
-    let here : channel (after o e) ch ≡ record c { issued = used c } = get_or-set_same o.channels ch (record c { issued = used c }) empty_channel at.there in
-    holds_changed p ch r p.memory p.events history p.steps (after o e) h less (stays p ch q r p.events history (after o e) h less read (record {
-      legal = IsLegal_append v.base p.history (e ∷ []) h.sound.legal (at.there, tt);
-      becomes = object_after_append v.base p.history (e ∷ []);
-      grows = λ k x. slice_get_push p.history e x k;
+    let issued = record c { issued = used c } in
+    holds_still p ch q (record q { issued = n }) p.events (p.history ++ e ∷ []) (after o e) issued h less read (record {
+      leads = leads_on p ch e issued h at.there at.there refl refl;
       image = refl;
       events = h.events;
-      marks = refl;
-      many = length-set o.channels ch _;
-      others = λ d k. get_or-set_other o.channels ch d _ empty_channel k;
-      agrees = rw here (agrees_issued c (schedule_of q).taken at.agrees);
-      runs_still = ap (λ x. running_in ch x (schedule_of q).taken) here ∙ runs_issued ch c (schedule_of q).taken;
+      agrees = agrees_issued c (schedule_of q).taken at.agrees;
+      runs_still = runs_issued ch c (schedule_of q).taken;
       ranges_still = refl;
-      tied = rw here (record {
+      tied = record {
         forgotten = t.forgotten;
         given = t.given;
         many = t.many;
@@ -162,8 +133,8 @@ holds_issued p ch q n h less read all =
         issued = all ∙ t.given;
         halted = t.halted;
         machine = t.machine;
-      });
-    }))
+      };
+    })
 
 pub view_entered : (p : Parts) (ch : ℕ) (q r : Queue) (memory : List ℕ) (flags : List Bool) (e : Entry) → ch < length p.queues → q ≡ slice_index_or p.queues ch q → schedule_of r ≡ schedule_of q → view_of (changed p ch r memory flags (p.history ++ e ∷ []) p.steps) ≡ with_entry (view_of p) e
 view_entered p ch q r memory flags e less read same =
@@ -177,12 +148,7 @@ front_submitted : (c : ChannelState) (t u : Descriptor) → front c ≡ Some t �
 front_submitted c t u h = slice_get_push c.submitted u t (length c.outcomes) h
 
 issued_below : (c : ChannelState) (t : Descriptor) → issued_front c ≡ Some t → nat_lt (finished c) c.issued ≡ true
-issued_below c t h =
-    let by : (b : Bool) → nat_lt (finished c) c.issued ≡ b → nat_lt (finished c) c.issued ≡ true = λ b. elim b as (λ b. nat_lt (finished c) c.issued ≡ b → nat_lt (finished c) c.issued ≡ true) [
-      | true ↦ λ e. e
-      | false ↦ λ e. let none : issued_front c ≡ None = rw e refl in absurd cc
-    ] in
-    by _ refl
+issued_below c t h = true_from_ne_false _ (λ e. let none : issued_front c ≡ None = rw e refl in cc)
 
 pub agrees_submitted : (c : ChannelState) (u : Descriptor) (taken : Option ℕ) → Agrees c taken → Agrees (with_transfer c u) taken
 agrees_submitted c u None h = h
@@ -199,15 +165,7 @@ runs_submitted ch c u (Some n) h =
 
 -- a machine stays where the front stays
 pub run_front : (memory : List ℕ) (m : ChannelValue) (c d : ChannelState) → ((t : Descriptor) → front c ≡ Some t → front d ≡ Some t) → IsRun memory m c → IsRun memory m d
-run_front memory m c d same h =
-    let by : (o : Option ProgramValue) (f : Option Descriptor) → front c ≡ f → IfSome o (λ _. IsSomeAnd f (λ t. IsAt t m.taken memory m)) → IfSome o (λ _. IsSomeAnd (front d) (λ t. IsAt t m.taken memory m)) = λ o f. elim o as (λ o. front c ≡ f → IfSome o (λ _. IsSomeAnd f (λ t. IsAt t m.taken memory m)) → IfSome o (λ _. IsSomeAnd (front d) (λ t. IsAt t m.taken memory m))) [
-      | None ↦ λ _ g. g
-      | Some p ↦ elim f as (λ f. front c ≡ f → IsSomeAnd f (λ t. IsAt t m.taken memory m) → IsSomeAnd (front d) (λ t. IsAt t m.taken memory m)) [
-        | None ↦ λ _ g. absurd g
-        | Some t ↦ λ e g. rw (same t e) g
-      ]
-    ] in
-    by m.program (front c) refl h
+run_front memory m c d same = run_moved memory memory m c d (λ t loaded is at. rw (same t is) at)
 
 -- the queue with one more index and one more cookie
 pub queue_submitted_law : (ch spare : ℕ) (kept : List Descriptor) (history : List Entry) (memory : List ℕ) (q : Queue) (c : ChannelState) (t : Descriptor) (cookie : ℕ) → IsQueue ch kept history memory q c → cookie ≡ used c + 1 → IsQueue ch kept (history ++ Submitted ch t cookie ∷ []) memory (queue_submitted q spare (length history) cookie) (with_transfer c t)
@@ -241,23 +199,15 @@ holds_submitted p ch spare cookie t q h less read allowed =
     let e = Submitted ch t cookie in
     let c = channel o ch in
     let at = holds_at p h ch q less read in
-    let r = queue_submitted q spare (length p.history) cookie in
-    let history = p.history ++ e ∷ [] in
-    let here : channel (after o e) ch ≡ with_transfer c t = get_or-set_same o.channels ch (with_transfer c t) empty_channel at.there in
-    holds_changed p ch r p.memory p.events history p.steps (after o e) h less (stays p ch q r p.events history (after o e) h less read (record {
-      legal = IsLegal_append v.base p.history (e ∷ []) h.sound.legal (allowed, tt);
-      becomes = object_after_append v.base p.history (e ∷ []);
-      grows = λ k x. slice_get_push p.history e x k;
+    holds_still p ch q (queue_submitted q spare (length p.history) cookie) p.events (p.history ++ e ∷ []) (after o e) (with_transfer c t) h less read (record {
+      leads = leads_on p ch e (with_transfer c t) h at.there allowed refl refl;
       image = refl;
       events = h.events;
-      marks = refl;
-      many = length-set o.channels ch _;
-      others = λ d k. get_or-set_other o.channels ch d _ empty_channel k;
-      agrees = rw here (agrees_submitted c t (schedule_of q).taken at.agrees);
-      runs_still = ap (λ x. running_in ch x (schedule_of q).taken) here ∙ runs_submitted ch c t (schedule_of q).taken at.agrees;
+      agrees = agrees_submitted c t (schedule_of q).taken at.agrees;
+      runs_still = runs_submitted ch c t (schedule_of q).taken at.agrees;
       ranges_still = refl;
-      tied = rw here (queue_submitted_law ch spare (channel p.base ch).submitted p.history p.memory q c t cookie at.tied allowed.3);
-    }))
+      tied = queue_submitted_law ch spare (channel p.base ch).submitted p.history p.memory q c t cookie at.tied allowed.3;
+    })
 
 pub submitted_allowed : (p : Parts) (ch given : ℕ) (t : Descriptor) (q : Queue) → Holds p → ch < length p.queues → q ≡ slice_index_or p.queues ch q → given ≡ q.given → given < last_cookie → IsTransfer t → lies_below t (length (object_of (view_of p)).image) ≡ true → Allows (object_of (view_of p)) (Submitted ch t (given + 1))
 submitted_allowed p ch given t q h less read many few rules below =

@@ -4,7 +4,7 @@ use Rattle.std.specs.Prelude.{IsSomeAnd, slice_get, slice_index_or, nat_lt}
 use Rattle.std.proofs.lemmas.Bool.{cases_lt, le-ltb, lt-ltb}
 use Rattle.std.proofs.lemmas.Option.{slice_get_within, slice_get-get_or}
 use Rattle.std.proofs.lemmas.Bool.{ltb-true}
-use Rattle.std.proofs.lemmas.List.{get_or-map, length-map, get_or-take}
+use Rattle.std.proofs.lemmas.List.{get_or-map, length-map, get_or-take, get_or_default}
 use Rattle.dma_mem.specs.Places.{Descriptor}
 use Rattle.dma_engine.specs.declared.entry.Entry.{Entry}
 use Rattle.dma_engine.specs.declared.queue.Queue.{Queue}
@@ -26,26 +26,25 @@ pub record Front (c : ChannelState) (P : Descriptor → Type 0) : Type 0 where
   pub below : finished c < c.issued
 
 pub front_where : (c : ChannelState) (P : Descriptor → Type 0) → IsSomeAnd (issued_front c) P → Front c P
-front_where c P h =
-    let by : (b : Bool) (o : Option Descriptor) → nat_lt (finished c) c.issued ≡ b → front c ≡ o → IsSomeAnd (cond b o None) P → Front c P = λ b o. elim b as (λ b. nat_lt (finished c) c.issued ≡ b → front c ≡ o → IsSomeAnd (cond b o None) P → Front c P) [
-      | false ↦ λ e f g. absurd g
-      | true ↦ λ e. elim o as (λ o. front c ≡ o → IsSomeAnd o P → Front c P) [
-        | None ↦ λ f g. absurd g
-        | Some t ↦ λ f g. record {
-          transfer = t;
-          is = f;
-          issued = rw e f;
-          holds = g;
-          within = omega (arith, slice_get_within c.submitted (length c.outcomes) t f);
-          below = ltb-true _ _ e;
-        }
-      ]
-    ] in
-    by _ _ refl refl h
+front_where c P h = by _ _ refl refl h where
+  by : (b : Bool) (o : Option Descriptor) → nat_lt (finished c) c.issued ≡ b → front c ≡ o → IsSomeAnd (cond b o None) P → Front c P
+  by false o e f g = absurd g
+  by true None e f g = absurd g
+  by true (Some t) e f g = record {
+    transfer = t;
+    is = f;
+    issued = rw e f;
+    holds = g;
+    within = omega (arith, slice_get_within c.submitted (length c.outcomes) t f);
+    below = ltb-true _ _ e;
+  }
 
 -- where an issued front is known, it is the front
 pub front_known : (c : ChannelState) (t : Descriptor) → issued_front c ≡ Some t → Front c (λ u. u ≡ t)
 front_known c t h = front_where c (λ u. u ≡ t) (rw h refl)
+
+pub front_issued : (c : ChannelState) (t : Descriptor) → issued_front c ≡ Some t → front c ≡ Some t
+front_issued c t h = let f = front_known c t h in f.is ∙ ap (λ u. Some u) f.holds
 
 -- what runs at a channel whose front is known
 pub runs_front : (ch : ℕ) (c : ChannelState) (t : Descriptor) (taken : ℕ) → front c ≡ Some t → running_in ch c (Some taken) ≡ Some (record { ch = ch; cookie = finished c + 1; transfer = t; taken = taken })
@@ -85,16 +84,10 @@ holds_at p h ch q less read =
 
 -- ---- a queue's transfers
 
--- within a list the default doesn't matter
-pub get_or_any : {X : Type 0} (xs : List X) (k : ℕ) (d e : X) → k < length xs → slice_index_or xs k d ≡ slice_index_or xs k e
-get_or_any [] k d e h = absurd (omega arith)
-get_or_any (x ∷ xs) zero d e h = refl
-get_or_any (x ∷ xs) (suc k) d e h = get_or_any xs k d e (omega arith)
-
 -- a transfer that the base has is the one submitted
 pub first_at : (ch : ℕ) (kept : List Descriptor) (history : List Entry) (memory : List ℕ) (q : Queue) (c : ChannelState) (n : ℕ) (t : Descriptor) → IsQueue ch kept history memory q c → n < length kept → t ≡ slice_index_or kept n t → t ≡ slice_index_or c.submitted n no_transfer
 first_at ch kept history memory q c n t tied less read =
-    read ∙ ap (λ l. slice_index_or l n t) (sym tied.first) ∙ get_or-take (length kept) c.submitted n t less ∙ get_or_any c.submitted n t no_transfer (omega (arith, tied.many))
+    read ∙ ap (λ l. slice_index_or l n t) (sym tied.first) ∙ get_or-take (length kept) c.submitted n t less ∙ get_or_default c.submitted n t no_transfer (omega (arith, tied.many))
 
 -- the transfer of a cookie that isn't forgotten is found in the base, or by its entry
 pub transfer_found : (ch : ℕ) (kept : List Descriptor) (history : List Entry) (memory : List ℕ) (q : Queue) (c : ChannelState) (n : ℕ) → IsQueue ch kept history memory q c → n < length c.submitted → transfer_at kept history q.indices.items n ≡ Some (slice_index_or c.submitted n no_transfer)
@@ -102,7 +95,7 @@ transfer_found ch kept history memory q c n tied less = elim (cases_lt n (length
   | inl early ↦
       let e : nat_lt n (length kept) ≡ true = lt-ltb n (length kept) early in
       let t : Descriptor = slice_index_or kept n no_transfer in
-      let read : t ≡ slice_index_or kept n t = get_or_any kept n no_transfer t early in
+      let read : t ≡ slice_index_or kept n t = get_or_default kept n no_transfer t early in
       let is : slice_get kept n ≡ Some t = slice_get-get_or kept n no_transfer early in
       rw e (is ∙ ap (λ u. Some u) (first_at ch kept history memory q c n t tied early read))
   | inr late ↦
@@ -116,10 +109,13 @@ transfer_found ch kept history memory q c n tied less = elim (cases_lt n (length
 -- ---- lists with one more item
 
 -- an entry keeps its index when more are added
+pub slice_get_longer : {X : Type 0} (xs ys : List X) (k : ℕ) (x : X) → slice_get xs k ≡ Some x → slice_get (xs ++ ys) k ≡ Some x
+slice_get_longer [] ys k x h = absurd cc
+slice_get_longer (z ∷ xs) ys zero x h = h
+slice_get_longer (z ∷ xs) ys (suc k) x h = slice_get_longer xs ys k x h
+
 pub slice_get_push : {X : Type 0} (xs : List X) (y x : X) (k : ℕ) → slice_get xs k ≡ Some x → slice_get (xs ++ y ∷ []) k ≡ Some x
-slice_get_push [] y x k h = absurd cc
-slice_get_push (z ∷ xs) y x zero h = h
-slice_get_push (z ∷ xs) y x (suc k) h = slice_get_push xs y x k h
+slice_get_push xs y x k h = slice_get_longer xs (y ∷ []) k x h
 
 pub slice_get_push_last : {X : Type 0} (xs : List X) (y : X) (k : ℕ) → k ≡ length xs → slice_get (xs ++ y ∷ []) k ≡ Some y
 slice_get_push_last [] y k h = rw h refl

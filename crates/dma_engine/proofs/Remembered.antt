@@ -1,11 +1,12 @@
 -- Which outcomes are known after calls, checkpoints included.
-use Rattle.std.proofs.Common.{◌≡◌, ℕ, ◌-◌, ◌≤◌, List, [], ◌∷◌, Some, None, Bool, true, false, refl, ap, sym, ◌∙◌, subst, arith, inl, inr}
-use Rattle.std.specs.Prelude.{slice_get, if◌then◌else◌, nat_le}
+use Rattle.std.proofs.Common.{◌≡◌, ℕ, ◌-◌, ◌≤◌, List, [], ◌∷◌, Bool, true, false, refl, ap, sym, ◌∙◌, subst, arith, inl, inr}
+use Rattle.std.specs.Prelude.{nat_le}
 use Rattle.std.proofs.lemmas.Option.{slice_get_within}
+use Rattle.std.proofs.lemmas.Bool.{cases_Bool}
 use Rattle.dma_mem.specs.declared.call.Call.{Call}
-use Rattle.dma_mem.specs.declared.call.Call.TheVariants.{Write, Read, Submit, Issue, Pause, Resume, Terminate, Step, Status, Result as ResultOf, Mark, Unmark, Raise, Checkpoint}
+use Rattle.dma_mem.specs.declared.call.Call.TheVariants.{Checkpoint}
 use Rattle.dma_engine.specs.declared.call.Reply.{Reply}
-use Rattle.dma_engine.specs.declared.call.Reply.TheVariants.{Done, Bytes, Cookie, Count, Turned, State, Result as Resulted, Refused}
+use Rattle.dma_engine.specs.declared.call.Reply.TheVariants.{Done}
 use Rattle.dma_engine.specs.Object.{ChannelState, channel, finished}
 use Rattle.dma_engine.specs.View.{View, object_of}
 use Rattle.dma_engine.specs.Answer.{AreAnswers, CallAnswers, Extends, Remembers, checkpoint_fault, checkpointed, is_checkpoint}
@@ -27,11 +28,10 @@ forgets v w is ch cookie x lost =
     let o = object_of v in
     let c = channel o ch in
     let next : (channel (object_of w) ch).forgotten ≡ finished c = ap (λ (u : View). (channel (object_of u) ch).forgotten) is ∙ ap (λ (d : ChannelState). d.forgotten) (forgotten_at o ch) in
-    let by : (b : Bool) → nat_le cookie c.forgotten ≡ b → (if b then None else slice_get c.outcomes (cookie - c.forgotten - 1)) ≡ Some x → cookie ≤ finished c = λ b. elim b as (λ b. nat_le cookie c.forgotten ≡ b → (if b then None else slice_get c.outcomes (cookie - c.forgotten - 1)) ≡ Some x → cookie ≤ finished c) [
-      | true ↦ λ _ e. absurd cc
-      | false ↦ λ _ e. omega (arith, slice_get_within c.outcomes (cookie - c.forgotten - 1) x e)
-    ] in
-    inr (omega (arith, by _ refl lost, next))
+    inr (elim (cases_Bool (nat_le cookie c.forgotten)) [
+      | inl e ↦ let none = rw e at lost in absurd cc
+      | inr e ↦ omega (arith, slice_get_within c.outcomes (cookie - c.forgotten - 1) x (rw e at lost), next)
+    ])
 
 then_remembers : (u v w : View) → Remembers u v → Remembers v w → ((ch : ℕ) → (channel (object_of v) ch).forgotten ≤ (channel (object_of w) ch).forgotten) → Remembers u w
 then_remembers u v w a b rises ch cookie x is = elim (a ch cookie x is) [
@@ -52,26 +52,7 @@ checkpoint_keeps v w is = record {
 
 only_done : (call : Call) (reply : Reply) → is_checkpoint call reply ≡ true → (call ≡ Checkpoint) × (reply ≡ Done)
 only_done Checkpoint Done e = (refl, refl)
-only_done Checkpoint (Bytes b) e = absurd cc
-only_done Checkpoint (Cookie n) e = absurd cc
-only_done Checkpoint (Count n) e = absurd cc
-only_done Checkpoint (Turned t) e = absurd cc
-only_done Checkpoint (State s) e = absurd cc
-only_done Checkpoint (Resulted o) e = absurd cc
-only_done Checkpoint (Refused f) e = absurd cc
-only_done (Write addr bytes) reply e = absurd cc
-only_done (Read addr len) reply e = absurd cc
-only_done (Submit ch t) reply e = absurd cc
-only_done (Issue ch) reply e = absurd cc
-only_done (Pause ch) reply e = absurd cc
-only_done (Resume ch) reply e = absurd cc
-only_done (Terminate ch) reply e = absurd cc
-only_done (Step ch) reply e = absurd cc
-only_done (Status ch cookie) reply e = absurd cc
-only_done (ResultOf ch cookie) reply e = absurd cc
-only_done (Mark kind segment) reply e = absurd cc
-only_done Unmark reply e = absurd cc
-only_done (Raise event) reply e = absurd cc
+only_done call reply e = absurd cc
 
 -- one call, by whether it was an accepted checkpoint
 by_test_law : (v w : View) (call : Call) (reply : Reply) (b : Bool) → is_checkpoint call reply ≡ b → CallAnswers v call reply w → KeepsOutcomes v w

@@ -1,11 +1,11 @@
 -- The room that is allocated before it is needed, transfers found in a history, and which steps end.
-use Rattle.std.proofs.Common.{◌≡◌, ◌≢◌, ℕ, ◌+◌, ◌-◌, ◌<◌, ◌≤◌, List, [], ◌∷◌, ◌++◌, length, map, take, drop, Option, Some, None, Bool, true, false, refl, ap, sym, ◌∙◌, subst, arith, zero, suc, inl, inr}
+use Rattle.std.proofs.Common.{◌≡◌, ◌≢◌, ℕ, ◌+◌, ◌-◌, ◌<◌, ◌≤◌, List, [], ◌∷◌, ◌++◌, length, map, take, drop, Option, Some, Bool, true, false, refl, ap, sym, ◌∙◌, subst, arith, suc, inl, inr}
 use Rattle.std.specs.Prelude.{slice_get, slice_index, slice_index_or, slice_set, is_some, nat_lt, unwrap_or, if◌then◌else◌}
-use Rattle.std.proofs.lemmas.Bool.{cases_eq, cases_lt, le-ltb, lt-ltb}
+use Rattle.std.proofs.lemmas.Bool.{cases_eq, cases_lt, le-ltb, lt-ltb, cond_both}
 use Rattle.std.proofs.lemmas.Option.{slice_get-get_or}
 use Rattle.std.proofs.lemmas.List.{get_or-drop, get_or-map, get_or-append-add, get_or_append_left, map-set, get_or-set_same, get_or-set_other, length-drop, length-map, take-append-drop}
 use Rattle.dma_insn.specs.declared.insn.Insn.{Insn}
-use Rattle.dma_insn.specs.declared.insn.Insn.TheVariants.{Ld, St, End, Sev, Wfe, Mov, Rmb, Wmb, Nop, Lp, LpEnd}
+use Rattle.dma_insn.specs.declared.insn.Insn.TheVariants.{Ld, St, End, Wfe}
 use Rattle.dma_mem.specs.Places.{Descriptor}
 use Rattle.dma_mem.specs.declared.marks.MarkKind.TheVariants.{Reading, Writing}
 use Rattle.dma_chan.specs.Exec.{fault_in}
@@ -17,7 +17,7 @@ use Rattle.dma_chan.specs.declared.turn.ChanTurn.TheVariants.{Moved, Waiting, Fa
 use Rattle.dma_chan.specs.declared.turn.FaultKind.{FaultKind}
 use Rattle.dma_chan.specs.declared.turn.FaultKind.TheVariants.{DataReadErr, DataWriteErr}
 use Rattle.dma_engine.specs.declared.entry.Entry.{Entry}
-use Rattle.dma_engine.specs.declared.entry.Entry.TheVariants.{Wrote, ReadBack, Submitted, Issued, Passed, Signalled, Finished, Terminated, Marked, Unmarked}
+use Rattle.dma_engine.specs.declared.entry.Entry.TheVariants.{Submitted}
 use Rattle.dma_engine.specs.declared.outcome.TransResult.{TransResult}
 use Rattle.dma_engine.specs.declared.outcome.TransResult.TheVariants.{ReadFailed, WriteFailed}
 use Rattle.dma_engine.specs.declared.queue.Queue.{Queue}
@@ -25,8 +25,8 @@ use Rattle.dma_engine.specs.inner.Found.{given_by, transfer_at, transfer_in, tra
 use Rattle.dma_engine.specs.inner.Inside.{queue_room}
 use Rattle.dma_engine.specs.Object.{Object, ChannelState, channel, no_transfer, unfinished, is_set}
 use Rattle.dma_engine.specs.Room.{no_room, room_on, KeepsRoom}
-use Rattle.dma_engine.specs.Turn.{Stepped, ends, insn_turn, front_turn, start_turn, finishes, next_moved, first_conflicting}
-use Rattle.dma_engine.specs.View.{View, EngineState, RunningTransfer, object_of}
+use Rattle.dma_engine.specs.Turn.{Stepped, ends, insn_turn, finishes, next_moved}
+use Rattle.dma_engine.specs.View.{View, EngineState, object_of}
 use Rattle.dma_engine.specs.inner.Holds.{Holds, IsQueue, Parts, view_of}
 use Rattle.dma_engine.proofs.Changes.{changed, view_changed, schedule_kept}
 use Rattle.dma_engine.proofs.QueueCalls.{holds_besides}
@@ -84,11 +84,6 @@ map_same f (x ∷ xs) (t ∷ ts) n h =
     let rest = map_same f xs ts (omega (arith, n)) (λ k l. h (suc k) (omega arith)) in
     ap (λ u. u ∷ map f xs) first ∙ ap (λ l. t ∷ l) rest
 
-pub map_dropped : (f : ℕ → Descriptor) (k : ℕ) (xs : List ℕ) → map f (drop k xs) ≡ drop k (map f xs)
-map_dropped f zero xs = refl
-map_dropped f (suc k) [] = refl
-map_dropped f (suc k) (x ∷ xs) = map_dropped f k xs
-
 -- the transfers of a queue that its entries give
 later_all : (ch : ℕ) (kept : List Descriptor) (history : List Entry) (memory : List ℕ) (q : Queue) (c : ChannelState) → IsQueue ch kept history memory q c → map (transfer_in history) q.indices.items ≡ drop (length kept) c.submitted
 later_all ch kept history memory q c t =
@@ -123,51 +118,21 @@ transfer_at_all kept history indices n less = elim (cases_lt n (length kept)) [
       rw e (given-is (slice_get history (slice_index indices k)) ∙ sym right)
 ] where
   given-is : (o : Option Entry) → unwrap_or (given_by o) no_transfer ≡ transfer_of o
-  given-is None = refl
   given-is (Some (Submitted ch t cookie)) = refl
-  given-is (Some (Wrote a b)) = refl
-  given-is (Some (ReadBack a b)) = refl
-  given-is (Some (Issued ch)) = refl
-  given-is (Some (Passed ch e)) = refl
-  given-is (Some (Signalled by e)) = refl
-  given-is (Some (Finished ch r d)) = refl
-  given-is (Some (Terminated ch d n)) = refl
-  given-is (Some (Marked k s)) = refl
-  given-is (Some Unmarked) = refl
+  given-is o = refl
 
 -- ---- which steps end
-
-start_ends : (v : View) (ch : ℕ) (x : Option RunningTransfer) → false ≡ ends (start_turn v ch x).0
-start_ends v ch None = refl
-start_ends v ch (Some r) = refl
-
-front_ends : (v : View) (ch : ℕ) (o : Option Descriptor) → false ≡ ends (front_turn v ch o None).0
-front_ends v ch None = refl
-front_ends v ch (Some t) = start_ends v ch (first_conflicting v t)
 
 by_mark_law : (b : Bool) (v : View) (ch n : ℕ) (t : Descriptor) (how : TransResult) (kind : FaultKind) (m w : Shared) → ends (if◌then◌else◌ {A = Stepped} b (finishes v ch t n how) (next_moved v ch n)).0 ≡ is_some (fault_in (if◌then◌else◌ {A = ChanTurn × Shared} b (Fault kind, m) (Moved, w)).0)
 by_mark_law true v ch n t how kind m w = refl
 by_mark_law false v ch n t how kind m w = refl
-
-by_flag_law : (b : Bool) (x y : Stepped) → ends x.0 ≡ false → ends y.0 ≡ false → ends (if◌then◌else◌ {A = Stepped} b x y).0 ≡ false
-by_flag_law true x y h g = h
-by_flag_law false x y h g = g
-
-no_fault : (b : Bool) (e : ℕ) (m w : Shared) → is_some (fault_in (if◌then◌else◌ {A = ChanTurn × Shared} b (Moved, w) (Waiting e, m)).0) ≡ false
-no_fault true e m w = refl
-no_fault false e m w = refl
 
 -- an instruction that isn't the end finishes the front where the channel fails at it
 pub ends_insn : (v : View) (ch n : ℕ) (t : Descriptor) (m : Shared) (i : Insn) → i ≢ End → ends (insn_turn v ch t n i).0 ≡ is_some (fault_in (effect_of i (read_places t n) (written_places t n) (object_of v).marks m).0)
 ends_insn v ch n t m End h = absurd (h refl)
 ends_insn v ch n t m Ld h = by_mark_law (meets_mark Reading (object_of v).marks (read_places t n)) v ch n t ReadFailed DataReadErr m m
 ends_insn v ch n t m St h = by_mark_law (meets_mark Writing (object_of v).marks (written_places t n)) v ch n t WriteFailed DataWriteErr m _
-ends_insn v ch n t m (Sev e) h = refl
 ends_insn v ch n t m (Wfe e x) h =
-    by_flag_law (is_set (object_of v) e) _ _ refl refl ∙ sym (no_fault (slice_index_or m.flags e false) e m _)
-ends_insn v ch n t m (Mov a b) h = refl
-ends_insn v ch n t m Rmb h = refl
-ends_insn v ch n t m Wmb h = refl
-ends_insn v ch n t m Nop h = refl
-ends_insn v ch n t m (Lp a b) h = refl
-ends_insn v ch n t m (LpEnd a b) h = refl
+    cond_both {A = Stepped} (is_set (object_of v) e) _ _ (λ (s : Stepped). ends s.0 ≡ false) (λ _. refl) (λ _. refl)
+    ∙ sym (cond_both {A = ChanTurn × Shared} (slice_index_or m.flags e false) (Moved, _) (Waiting e, m) (λ (s : ChanTurn × Shared). is_some (fault_in s.0) ≡ false) (λ _. refl) (λ _. refl))
+ends_insn v ch n t m i h = refl

@@ -1,14 +1,14 @@
 -- How large the parts of an engine are.
-use Rattle.std.proofs.Common.{◌≡◌, ℕ, ◌≤◌, List, [], ◌∷◌, length, Some, None, Bool, true, false, refl, ap, sym, ◌∙◌, arith, ◌||◌, not}
-use Rattle.std.specs.Prelude.{nat_le, nat_lt, ◌==◌, if◌then◌else◌}
-use Rattle.std.proofs.lemmas.Bool.{and_parts, leb-true, ltb-false, or_parts}
+use Rattle.std.proofs.Common.{◌≡◌, ℕ, ◌≤◌, List, [], ◌∷◌, length, Some, None, true, refl, ap, sym, ◌∙◌, arith, ◌||◌, inl, inr}
+use Rattle.std.specs.Prelude.{nat_le, nat_lt, ◌==◌}
+use Rattle.std.proofs.lemmas.Bool.{and_parts, leb-true, ltb-false, or_parts, cases_Bool}
 use Rattle.std.proofs.lemmas.List.{length-replicate, length-set, length-map}
 use Rattle.dma_mem.specs.Image.{bytes_at, is_size}
 use Rattle.dma_mem.specs.Limits.{largest_size}
 use Rattle.dma_mem.proofs.ImageOver.{length_after_moves}
 use Rattle.dma_mem.proofs.ImagePut.{length_put}
 use Rattle.dma_engine.specs.declared.entry.Entry.{Entry}
-use Rattle.dma_engine.specs.declared.entry.Entry.TheVariants.{Wrote, ReadBack, Submitted, Issued, Passed, Signalled, Finished, Terminated, Marked, Unmarked}
+use Rattle.dma_engine.specs.declared.entry.Entry.TheVariants.{Wrote, ReadBack, Passed, Signalled, Finished, Terminated, Marked, Unmarked}
 use Rattle.dma_engine.specs.declared.entry.Signaller.TheVariants.{Channel, Host}
 use Rattle.dma_engine.specs.declared.fault.NewFault.TheVariants.{BadChannels, SizeOutOfRange}
 use Rattle.dma_engine.specs.Object.{Object, after, opening}
@@ -19,30 +19,19 @@ use Rattle.dma_engine.specs.inner.Holds.{Holds, Parts, view_of, schedule_of}
 -- no entry changes the size of the memory
 pub size_after : (o : Object) (e : Entry) → length (after o e).image ≡ length o.image
 size_after o (Wrote addr bytes) = length_put o.image (bytes_at addr bytes)
-size_after o (ReadBack addr bytes) = refl
-size_after o (Submitted ch t cookie) = refl
-size_after o (Issued ch) = refl
-size_after o (Passed ch event) = refl
 size_after o (Signalled (Channel ch) event) = refl
-size_after o (Signalled Host event) = refl
 size_after o (Finished ch result done) = length_after_moves _ _
 size_after o (Terminated ch done count) = length_after_moves _ _
-size_after o (Marked kind segment) = refl
-size_after o Unmarked = refl
+size_after o e = refl
 
 -- nor the number of channels
 pub many_after : (o : Object) (e : Entry) → length (after o e).channels ≡ length o.channels
 many_after o (Wrote addr bytes) = refl
 many_after o (ReadBack addr bytes) = refl
-many_after o (Submitted ch t cookie) = length-set _ _ _
-many_after o (Issued ch) = length-set _ _ _
-many_after o (Passed ch event) = length-set _ _ _
-many_after o (Signalled (Channel ch) event) = length-set _ _ _
 many_after o (Signalled Host event) = refl
-many_after o (Finished ch result done) = length-set _ _ _
-many_after o (Terminated ch done count) = length-set _ _ _
 many_after o (Marked kind segment) = refl
 many_after o Unmarked = refl
+many_after o e = length-set _ _ _
 
 pub many_channels : (o : Object) (h : List Entry) → length (object_after o h).channels ≡ length o.channels
 many_channels o [] = refl
@@ -54,17 +43,10 @@ size_object o (e ∷ es) = size_object (after o e) es ∙ size_after o e
 
 -- nor the number of flags
 pub flags_after_law : (o : Object) (e : Entry) → length (after o e).events ≡ length o.events
-flags_after_law o (Wrote addr bytes) = refl
-flags_after_law o (ReadBack addr bytes) = refl
-flags_after_law o (Submitted ch t cookie) = refl
-flags_after_law o (Issued ch) = refl
 flags_after_law o (Passed ch event) = length-set _ _ _
 flags_after_law o (Signalled (Channel ch) event) = length-set _ _ _
 flags_after_law o (Signalled Host event) = length-set _ _ _
-flags_after_law o (Finished ch result done) = refl
-flags_after_law o (Terminated ch done count) = refl
-flags_after_law o (Marked kind segment) = refl
-flags_after_law o Unmarked = refl
+flags_after_law o e = refl
 
 pub flags_object : (o : Object) (h : List Entry) → length (object_after o h).events ≡ length o.events
 flags_object o [] = refl
@@ -91,21 +73,15 @@ memory_size p h = ap length h.shown ∙ length_after_moves _ _
 pub flags_many : (p : Parts) → Holds p → length (object_of (view_of p)).events ≡ 32
 flags_many p h = flags_object p.base p.history ∙ h.sound.opens.flags
 
-not_false_law : (b : Bool) → not b ≡ false → b ≡ true
-not_false_law true h = refl
-not_false_law false h = absurd cc
-
 -- an engine that can be made has 1 to 8 channels and a memory's size
 pub made : (bytes many : ℕ) → new_fault bytes many ≡ None → (many ≤ 8) × (is_size bytes ≡ true)
-made bytes many h =
-    let by : (b c : Bool) → (many == 0 || nat_lt 8 many) ≡ b → not (is_size bytes) ≡ c → (if b then Some BadChannels else (if c then Some SizeOutOfRange else None)) ≡ None → (many ≤ 8) × (is_size bytes ≡ true) = λ b c. elim b as (λ b. (many == 0 || nat_lt 8 many) ≡ b → not (is_size bytes) ≡ c → (if b then Some BadChannels else (if c then Some SizeOutOfRange else None)) ≡ None → (many ≤ 8) × (is_size bytes ≡ true)) [
-      | true ↦ λ _ _ e. absurd cc
-      | false ↦ λ d. elim c as (λ c. not (is_size bytes) ≡ c → (if c then Some SizeOutOfRange else None) ≡ None → (many ≤ 8) × (is_size bytes ≡ true)) [
-        | true ↦ λ _ e. absurd cc
-        | false ↦ λ f _. (ltb-false 8 many (or_parts _ _ d).1, not_false_law (is_size bytes) f)
-      ]
-    ] in
-    by _ _ refl refl h
+made bytes many h = elim (cases_Bool (many == 0 || nat_lt 8 many)) [
+  | inl d ↦ let never : Some BadChannels ≡ None = rw d at h in absurd cc
+  | inr d ↦ elim (cases_Bool (is_size bytes)) [
+    | inl size ↦ (ltb-false 8 many (or_parts _ _ d).1, size)
+    | inr none ↦ let never : Some SizeOutOfRange ≡ None = rw (d, none) at h in absurd cc
+  ]
+]
 
 pub few_queues : (p : Parts) → Holds p → length p.queues ≤ 8
 few_queues p h =

@@ -1,13 +1,13 @@
 -- Whatever a call answers, a sound view stays sound.
 use Rattle.std.proofs.Common.{◌≡◌, ◌≢◌, ℕ, ◌+◌, ◌-◌, ◌<◌, ◌≤◌, [], ◌∷◌, length, take, drop, Option, Some, None, Bool, true, false, ◌&&◌, refl, ap, sym, ◌∙◌, subst, arith}
-use Rattle.std.specs.Prelude.{if◌then◌else◌, ◌==◌, ◌||◌, nat_le, nat_lt, is_some, slice_get, IfSome, IsSome, Ok, Err}
+use Rattle.std.specs.Prelude.{if◌then◌else◌, ◌==◌, ◌||◌, nat_le, nat_lt, is_some, slice_get, IfSome, Ok, Err}
 use Rattle.std.specs.Option.{option_map}
-use Rattle.std.proofs.lemmas.Bool.{eq-eqb, eqb-false, leb-false, lt-ltb, ltb-false, ne_eqb, or_parts}
+use Rattle.std.proofs.lemmas.Bool.{eq-eqb, eqb-false, leb-false, lt-ltb, ltb-false, ne_eqb, or_parts, and_right, cond_both}
 use Rattle.std.proofs.lemmas.List.{length-set, get_or-set_same, get_or-set_other}
 use Rattle.std.proofs.lemmas.List.Elements.{All-head, All-tail}
 use Rattle.std.proofs.lemmas.Option.{slice_get-get_or}
 use Rattle.dma_insn.specs.declared.insn.Insn.{Insn}
-use Rattle.dma_insn.specs.declared.insn.Insn.TheVariants.{Ld, St, End, Sev, Wfe, Mov, Rmb, Wmb, Nop, Lp, LpEnd}
+use Rattle.dma_insn.specs.declared.insn.Insn.TheVariants.{Ld, St, End, Sev, Wfe}
 use Rattle.dma_mem.specs.Places.{Descriptor}
 use Rattle.dma_mem.specs.Marking.{meets_mark}
 use Rattle.dma_mem.specs.declared.marks.MarkKind.TheVariants.{Reading, Writing}
@@ -16,7 +16,7 @@ use Rattle.dma_chan.specs.Compiled.{cost}
 use Rattle.dma_chan.specs.Traffic.{member, stored_after, read_places, written_places}
 use Rattle.dma_chan.proofs.ShapeLaws.{shape_is}
 use Rattle.dma_mem.specs.declared.call.Call.{Call}
-use Rattle.dma_mem.specs.declared.call.Call.TheVariants.{Write, Read, Submit, Issue, Pause, Resume, Terminate, Step, Status, Result as ResultOf, Mark, Unmark, Raise, Checkpoint}
+use Rattle.dma_mem.specs.declared.call.Call.TheVariants.{Write, Read, Submit, Issue, Pause, Resume, Terminate, Step, Mark, Unmark, Raise, Checkpoint}
 use Rattle.dma_engine.specs.declared.call.Reply.{Reply}
 use Rattle.dma_engine.specs.declared.call.Reply.TheVariants.{Done, Bytes, Cookie, Count}
 use Rattle.dma_engine.specs.declared.entry.Entry.TheVariants.{Wrote, ReadBack, Submitted, Issued, Passed, Signalled, Finished, Terminated, Marked, Unmarked}
@@ -33,10 +33,10 @@ use Rattle.dma_engine.specs.Answer.{answer, unless, write_fault, read_fault, sub
 use Rattle.dma_engine.specs.Laws.{IsCall, NewViewsAreSound, AnswersStaySound, CallsStaySound}
 use Rattle.dma_engine.specs.inner.Due.{Finishes, MayStart}
 use Rattle.dma_engine.proofs.AnswerCounts.{answered}
-use Rattle.dma_engine.proofs.CallCases.{submit_open}
+use Rattle.dma_engine.proofs.CallCases.{cause_none, submit_open, channel_open}
 use Rattle.dma_engine.proofs.Checkpoint.{checkpoint_sound}
-use Rattle.dma_engine.proofs.Entries.{cause_none, read_entry, write_allowed}
-use Rattle.dma_engine.proofs.Fronts.{IsFront, and_false_law, finish_may, passed_next, runs_at_law, signalled_next, stored_there, within_next}
+use Rattle.dma_engine.proofs.Entries.{read_entry, write_allowed}
+use Rattle.dma_engine.proofs.Fronts.{IsFront, finish_may, passed_next, runs_at_law, signalled_next, stored_there, within_next, has_passed}
 use Rattle.dma_engine.proofs.Opening.{new_sound}
 use Rattle.dma_engine.proofs.QueueCalls.{agrees_issued, agrees_submitted, runs_issued, runs_submitted}
 use Rattle.dma_engine.proofs.Sizes.{flags_object}
@@ -65,7 +65,7 @@ pass_sound v ch n event t invalid r is set =
     let small : event ≤ 31 = subst (λ (w : Option ℕ). IfSome w (λ k. k ≤ 31)) only.1 f.rules.wait_event in
     let flags : length o.events ≡ 32 = flags_object v.base v.history ∙ r.sound.opens.flags in
     let raised : slice_get o.events event ≡ Some true = slice_get-get_or o.events event false (omega (arith, flags, small)) ∙ ap (λ b. Some b) set in
-    let before : c.passed ≡ false = f.passed ∙ ap (λ k. is_some t.wait && nat_lt 0 k) only.0 ∙ and_false_law (is_some t.wait) in
+    let before : c.passed ≡ false = f.passed ∙ ap (λ k. is_some t.wait && nat_lt 0 k) only.0 ∙ and_right (is_some t.wait) false refl in
     let allowed : Allows o e = (f.goes, rw f.issued (only.1, before, raised)) in
     change_sound v ch (v.steps + 1) e (record (schedule_at v ch) { taken = Some (n + 1) }) r.sound allowed
     (moved_fits_law v (after o e) ch n t true c.signalled r.sound r.less r.taken f (record {
@@ -85,17 +85,15 @@ signal_sound_law v ch n event t r is =
     let e = Signalled (Channel ch) event in
     let only = (shape_is t f.rules).signal_only n event is in
     let not_wfe : (k : ℕ) (i : Bool) → member t n ≢ Wfe k i = λ k i g. let h = sym is ∙ g in absurd cc in
-    let passed = passed_next c t n f not_wfe in
-    let has_passed : IsSome t.wait → c.passed ≡ true = λ w. passed ∙ ap (λ b. b && nat_lt 0 (n + 1)) w ∙ lt-ltb 0 (n + 1) (omega arith) in
-    let before : c.signalled ≡ false = f.signalled ∙ ap (λ b. is_some t.signal && b) (ne_eqb n (cost t - 1) (λ z. omega (arith, only.0))) ∙ and_false_law (is_some t.signal) in
-    let allowed : Allows o e = (f.goes, rw f.issued (has_passed, only.1, before)) in
+    let before : c.signalled ≡ false = f.signalled ∙ ap (λ b. is_some t.signal && b) (ne_eqb n (cost t - 1) (λ z. omega (arith, only.0))) ∙ and_right (is_some t.signal) false refl in
+    let allowed : Allows o e = (f.goes, rw f.issued (has_passed c t n f not_wfe, only.1, before)) in
     change_sound v ch (v.steps + 1) e (record (schedule_at v ch) { taken = Some (n + 1) }) r.sound allowed
     (moved_fits_law v (after o e) ch n t c.passed true r.sound r.less r.taken f (record {
       many = length-set o.channels ch _;
       others = λ k g. get_or-set_other o.channels ch k _ empty_channel g;
       here = get_or-set_same o.channels ch (record c { signalled = true }) empty_channel r.less;
       within = omega (arith, only.0);
-      passed = passed;
+      passed = passed_next c t n f not_wfe;
       signalled = sym (ap (λ w. is_some w && n + 1 == cost t - 1) only.1 ∙ eq-eqb (n + 1) (cost t - 1) (omega (arith, only.0)));
     }))
 
@@ -128,9 +126,8 @@ plain_sound v ch n t r not_wfe not_sev not_end =
 
 -- ---- the table of cases
 
-if_sound_law : (b : Bool) (x y : Stepped) → (b ≡ true → IsSound x.1) → (b ≡ false → IsSound y.1) → IsSound (if b then x else y).1
-if_sound_law true x y h g = h refl
-if_sound_law false x y h g = g refl
+abbrev IsSoundStep : Stepped → Type 0
+IsSoundStep x = IsSound x.1
 
 -- a known instruction that neither waits, signals nor ends
 known_sound : (v : View) (ch n : ℕ) (t : Descriptor) (i : Insn) → Runs v ch n t → member t n ≡ i → ((k : ℕ) (b : Bool) → i ≢ Wfe k b) → ((k : ℕ) → i ≢ Sev k) → i ≢ End → IsSound (next_moved v ch n).1
@@ -138,24 +135,19 @@ known_sound v ch n t i r is a b c = plain_sound v ch n t r (λ k x e. a k x (sym
 
 insn_sound : (v : View) (ch n : ℕ) (t : Descriptor) (i : Insn) → Runs v ch n t → member t n ≡ i → IsSound (insn_turn v ch t n i).1
 insn_sound v ch n t (Wfe event invalid) r is =
-    if_sound_law (is_set (object_of v) event) (next_moved (with_entry v (Passed ch event)) ch n) (Ok (Waiting event), v)
+    cond_both {A = Stepped} (is_set (object_of v) event) (next_moved (with_entry v (Passed ch event)) ch n) (Ok (Waiting event), v) IsSoundStep
     (λ set. pass_sound v ch n event t invalid r is set) (λ _. r.sound)
 insn_sound v ch n t (Sev event) r is = signal_sound_law v ch n event t r is
 insn_sound v ch n t End r is = finish_sound v ch n t NoError r is
 insn_sound v ch n t Ld r is =
-    if_sound_law (meets_mark Reading (object_of v).marks (read_places t n)) (finishes v ch t n ReadFailed) (next_moved v ch n)
+    cond_both {A = Stepped} (meets_mark Reading (object_of v).marks (read_places t n)) (finishes v ch t n ReadFailed) (next_moved v ch n) IsSoundStep
     (λ hit. finish_sound v ch n t ReadFailed r (is, hit))
     (λ _. known_sound v ch n t Ld r is (λ k b e. absurd cc) (λ k e. absurd cc) (λ e. absurd cc))
 insn_sound v ch n t St r is =
-    if_sound_law (meets_mark Writing (object_of v).marks (written_places t n)) (finishes v ch t n WriteFailed) (next_moved v ch n)
+    cond_both {A = Stepped} (meets_mark Writing (object_of v).marks (written_places t n)) (finishes v ch t n WriteFailed) (next_moved v ch n) IsSoundStep
     (λ hit. finish_sound v ch n t WriteFailed r (is, hit))
     (λ _. known_sound v ch n t St r is (λ k b e. absurd cc) (λ k e. absurd cc) (λ e. absurd cc))
-insn_sound v ch n t (Mov a b) r is = known_sound v ch n t (Mov a b) r is (λ k b e. absurd cc) (λ k e. absurd cc) (λ e. absurd cc)
-insn_sound v ch n t Rmb r is = known_sound v ch n t Rmb r is (λ k b e. absurd cc) (λ k e. absurd cc) (λ e. absurd cc)
-insn_sound v ch n t Wmb r is = known_sound v ch n t Wmb r is (λ k b e. absurd cc) (λ k e. absurd cc) (λ e. absurd cc)
-insn_sound v ch n t Nop r is = known_sound v ch n t Nop r is (λ k b e. absurd cc) (λ k e. absurd cc) (λ e. absurd cc)
-insn_sound v ch n t (Lp a b) r is = known_sound v ch n t (Lp a b) r is (λ k b e. absurd cc) (λ k e. absurd cc) (λ e. absurd cc)
-insn_sound v ch n t (LpEnd a b) r is = known_sound v ch n t (LpEnd a b) r is (λ k b e. absurd cc) (λ k e. absurd cc) (λ e. absurd cc)
+insn_sound v ch n t i r is = known_sound v ch n t i r is (λ k b e. absurd cc) (λ k e. absurd cc) (λ e. absurd cc)
 
 started_sound : (v : View) (ch : ℕ) (t : Descriptor) → IsSound v → MayStart v ch → issued_front (channel (object_of v) ch) ≡ Some t → first_conflicting v t ≡ None → IsSound (with_taken v ch (Some 0))
 started_sound v ch t h may some none =
@@ -174,7 +166,7 @@ front_sound v ch (Some t) (Some n) h less goes active is at =
     let f = runs_at_law v ch n h less at in
     let same : f.transfer ≡ t = let e : Some f.transfer ≡ Some t = sym f.it.issued ∙ is in cc in
     let r : Runs v ch n t = record { sound = h; less = less; taken = at; it = subst (λ u. IsFront (channel (object_of v) ch) u n) same f.it } in
-    if_sound_law (v.steps == last_step) (Err StepsSpent, v) (insn_turn v ch t n (member t n)) (λ _. h) (λ _. insn_sound v ch n t (member t n) r refl)
+    cond_both {A = Stepped} (v.steps == last_step) (Err StepsSpent, v) (insn_turn v ch t n (member t n)) IsSoundStep (λ _. h) (λ _. insn_sound v ch n t (member t n) r refl)
 
 turn_sound_law : (v : View) (ch : ℕ) → IsSound v → IsSound (turn v ch).1
 turn_sound_law v ch h =
@@ -183,9 +175,9 @@ turn_sound_law v ch h =
     let last = front_turn v ch (issued_front c) s.taken in
     let third : Stepped = if s.paused then (Ok Paused, v) else last in
     let second : Stepped = if c.halted then (Ok Halted, v) else third in
-    if_sound_law (nat_le (channels v) ch) (Err NoChannel, v) second (λ _. h)
-    (λ there. if_sound_law c.halted (Ok Halted, v) third (λ _. h)
-    (λ goes. if_sound_law s.paused (Ok Paused, v) last (λ _. h)
+    cond_both {A = Stepped} (nat_le (channels v) ch) (Err NoChannel, v) second IsSoundStep (λ _. h)
+    (λ there. cond_both {A = Stepped} c.halted (Ok Halted, v) third IsSoundStep (λ _. h)
+    (λ goes. cond_both {A = Stepped} s.paused (Ok Paused, v) last IsSoundStep (λ _. h)
     (λ active. front_sound v ch (issued_front c) s.taken h (leb-false _ _ there) goes active refl refl)))
 
 -- ---- the calls
@@ -193,10 +185,6 @@ turn_sound_law v ch h =
 unless_sound : (v : View) (f : Option EngineFault) (x : Reply × View) → IsSound v → (f ≡ None → IsSound x.1) → IsSound (unless f v x).1
 unless_sound v None x h g = g refl
 unless_sound v (Some fault) x h g = h
-
--- the channel is there where nothing refuses a call on it
-there : (v : View) (ch : ℕ) → channel_fault v ch ≡ None → ch < channels v
-there v ch none = leb-false _ _ (cause_none (nat_le (channels v) ch) NoChannel None none).0
 
 submit_sound : (v : View) (ch : ℕ) (t : Descriptor) → IsCall (Submit ch t) → IsSound v → submit_fault v ch t ≡ None → IsSound (with_entry v (Submitted ch t (used (channel (object_of v) ch) + 1)))
 submit_sound v ch t rules h none =
@@ -259,15 +247,13 @@ answer_sound v (Read addr len) is h =
 answer_sound v (Submit ch t) is h =
     let cookie = used (channel (object_of v) ch) + 1 in
     unless_sound v (submit_fault v ch t) (Cookie cookie, with_entry v (Submitted ch t cookie)) h (λ none. submit_sound v ch t is h none)
-answer_sound v (Issue ch) is h = unless_sound v (channel_fault v ch) _ h (λ none. issue_sound v ch h (there v ch none))
-answer_sound v (Pause ch) is h = unless_sound v (channel_fault v ch) (Done, with_pause v ch true) h (λ none. pause_sound v ch true h (there v ch none))
-answer_sound v (Resume ch) is h = unless_sound v (channel_fault v ch) (Done, with_pause v ch false) h (λ none. pause_sound v ch false h (there v ch none))
+answer_sound v (Issue ch) is h = unless_sound v (channel_fault v ch) _ h (λ none. issue_sound v ch h (channel_open v ch none))
+answer_sound v (Pause ch) is h = unless_sound v (channel_fault v ch) (Done, with_pause v ch true) h (λ none. pause_sound v ch true h (channel_open v ch none))
+answer_sound v (Resume ch) is h = unless_sound v (channel_fault v ch) (Done, with_pause v ch false) h (λ none. pause_sound v ch false h (channel_open v ch none))
 answer_sound v (Terminate ch) is h =
     let count = unfinished (channel (object_of v) ch) in
-    unless_sound v (channel_fault v ch) (Count count, terminated v ch) h (λ none. terminate_sound v ch h (there v ch none))
+    unless_sound v (channel_fault v ch) (Count count, terminated v ch) h (λ none. terminate_sound v ch h (channel_open v ch none))
 answer_sound v (Step ch) is h = turn_sound_law v ch h
-answer_sound v (Status ch cookie) is h = h
-answer_sound v (ResultOf ch cookie) is h = h
 answer_sound v (Mark kind s) is h =
     unless_sound v (mark_fault s) (Done, with_entry v (Marked kind s)) h (λ none. entered_sound v (Marked kind s) h (mark_may s none) refl)
 answer_sound v Unmark is h = entered_sound v Unmarked h tt refl
@@ -276,6 +262,7 @@ answer_sound v (Raise event) is h =
     (λ none. entered_sound v (Signalled Host event) h (ltb-false 31 event (cause_none (nat_lt 31 event) BadEvent None none).0) refl)
 answer_sound v Checkpoint is h =
     unless_sound v (checkpoint_fault v) (Done, checkpointed v) h (λ none. checkpoint_sound v h (none_runs (first_running v (λ _. true)) none))
+answer_sound v call is h = h
 
 -- ---- the laws
 

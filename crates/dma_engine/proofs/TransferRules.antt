@@ -1,9 +1,7 @@
 -- Facts of each submitted transfer, and of a running one.
-use Rattle.std.proofs.Common.{◌≡◌, ◌≢◌, ℕ, ◌+◌, ◌-◌, ◌<◌, List, [], ◌∷◌, ◌++◌, length, Option, Some, None, true, false, ◌&&◌, refl, ap, sym, ◌∙◌, subst, arith, inl, inr, ◌⊎◌, zero, suc}
-use Rattle.std.specs.Prelude.{slice_get, slice_index_or, is_some, nat_lt, ◌==◌, IfSome, IsSomeAnd}
+use Rattle.std.proofs.Common.{◌≡◌, ◌≢◌, ℕ, ◌+◌, ◌-◌, ◌<◌, List, [], ◌∷◌, ◌++◌, length, Option, Some, None, true, false, ◌&&◌, refl, ap, ◌∙◌, subst, arith, inl, inr, ◌⊎◌, zero, suc}
+use Rattle.std.specs.Prelude.{slice_get, slice_index_or, is_some, nat_lt, ◌==◌, IfSome}
 use Rattle.std.specs.List.{All}
-use Rattle.std.proofs.lemmas.Bool.{cases_eq}
-use Rattle.std.proofs.lemmas.List.{get_or-set_other}
 use Rattle.std.proofs.lemmas.List.Elements.{All-nil, All-push}
 use Rattle.std.proofs.lemmas.Option.{slice_get_within, get_or_from_slice_get}
 use Rattle.dma_mem.specs.Places.{Descriptor, lies_below}
@@ -17,14 +15,14 @@ use Rattle.dma_chan.specs.Programs.{ProgramValue}
 use Rattle.dma_mem.specs.declared.marks.MarkKind.{MarkKind}
 use Rattle.dma_mem.specs.declared.segment.Segment.{Segment}
 use Rattle.dma_engine.specs.declared.entry.Entry.{Entry}
-use Rattle.dma_engine.specs.declared.entry.Entry.TheVariants.{Wrote, ReadBack, Submitted, Issued, Passed, Signalled, Finished, Terminated, Marked, Unmarked}
-use Rattle.dma_engine.specs.declared.entry.Signaller.TheVariants.{Channel, Host}
+use Rattle.dma_engine.specs.declared.entry.Entry.TheVariants.{Submitted, Issued, Passed, Signalled, Finished, Terminated, Marked, Unmarked}
+use Rattle.dma_engine.specs.declared.entry.Signaller.TheVariants.{Channel}
 use Rattle.dma_engine.specs.declared.queue.Queue.{Queue}
-use Rattle.dma_engine.specs.Object.{Object, ChannelState, Allows, IsMark, after, channel, empty_channel, with_channel, front, issued_front, IsBase, finished, with_flag, with_front_laid}
+use Rattle.dma_engine.specs.Object.{Object, ChannelState, Allows, IsMark, after, channel, with_channel, front, issued_front, IsBase, finished, with_flag, with_front_laid}
 use Rattle.dma_engine.specs.History.{object_after, IsLegal}
 use Rattle.dma_engine.specs.View.{View, ChannelSchedule, RunningTransfer, Agrees, AreFree, Fits, IsSound, runs, object_of, size}
 use Rattle.dma_engine.specs.inner.Holds.{Holds, IsRun, Parts, view_of}
-use Rattle.dma_engine.proofs.Boards.{with_channel_at}
+use Rattle.dma_engine.proofs.Boards.{each_with}
 use Rattle.dma_engine.proofs.Entries.{taken_some, runs_at}
 use Rattle.dma_engine.proofs.Queues.{front_where, holds_at}
 use Rattle.dma_engine.proofs.Sizes.{size_after, size_object}
@@ -40,13 +38,7 @@ abbrev pub AreRuled : ℕ → Object → Type 0
 AreRuled n o = (ch k : ℕ) (t : Descriptor) → slice_get (channel o ch).submitted k ≡ Some t → IsGood n t
 
 ruled_with : (n : ℕ) (o : Object) (ch : ℕ) (c : ChannelState) → AreRuled n o → ((k : ℕ) (t : Descriptor) → slice_get c.submitted k ≡ Some t → IsGood n t) → AreRuled n (with_channel o ch c)
-ruled_with n o ch c h g = λ d k t is. elim (cases_eq d ch) [
-  | inl e ↦ elim (with_channel_at o ch c) [
-    | inl f ↦ g k t (let is' : slice_get (channel (with_channel o ch c) ch).submitted k ≡ Some t = rw e at is in sym (ap (λ (x : ChannelState). slice_get x.submitted k) f) ∙ is')
-    | inr f ↦ h ch k t (let is' : slice_get (channel (with_channel o ch c) ch).submitted k ≡ Some t = rw e at is in sym (ap (λ (x : ChannelState). slice_get x.submitted k) f) ∙ is')
-  ]
-  | inr e ↦ h d k t (sym (ap (λ (x : ChannelState). slice_get x.submitted k) (get_or-set_other o.channels ch d c empty_channel e)) ∙ is)
-]
+ruled_with n o ch c h g = each_with (λ d. (k : ℕ) (t : Descriptor) → slice_get d.submitted k ≡ Some t → IsGood n t) o ch c h g
 
 push_cases : {X : Type 0} (xs : List X) (y x : X) (k : ℕ) → slice_get (xs ++ y ∷ []) k ≡ Some x → (slice_get xs k ≡ Some x) ⊎ (y ≡ x)
 push_cases [] y x zero h = inr cc
@@ -55,8 +47,6 @@ push_cases (z ∷ xs) y x zero h = inl h
 push_cases (z ∷ xs) y x (suc k) h = push_cases xs y x k h
 
 pub ruled_after : (n : ℕ) (o : Object) (e : Entry) → length o.image ≡ n → AreRuled n o → Allows o e → AreRuled n (after o e)
-ruled_after n o (Wrote addr bytes) m h a = h
-ruled_after n o (ReadBack addr bytes) m h a = h
 ruled_after n o (Submitted ch t cookie) m h a =
     let below : lies_below t n ≡ true = rw m at a.2 in
     ruled_with n o ch _ h (λ k u is. elim (push_cases (channel o ch).submitted t u k is) [
@@ -66,11 +56,9 @@ ruled_after n o (Submitted ch t cookie) m h a =
 ruled_after n o (Issued ch) m h a = ruled_with n o ch _ h (λ k u is. h ch k u is)
 ruled_after n o (Passed ch event) m h a = ruled_with n (with_flag o event false) ch _ h (λ k u is. h ch k u is)
 ruled_after n o (Signalled (Channel ch) event) m h a = ruled_with n (with_flag o event true) ch _ h (λ k u is. h ch k u is)
-ruled_after n o (Signalled Host event) m h a = h
 ruled_after n o (Finished ch result done) m h a = ruled_with n (with_front_laid o ch done) ch _ h (λ k u is. h ch k u is)
 ruled_after n o (Terminated ch done count) m h a = ruled_with n (with_front_laid o ch done) ch _ h (λ k u is. h ch k u is)
-ruled_after n o (Marked kind segment) m h a = h
-ruled_after n o Unmarked m h a = h
+ruled_after n o e m h a = h
 
 pub ruled_object : (n : ℕ) (o : Object) (es : List Entry) → length o.image ≡ n → AreRuled n o → IsLegal o es → AreRuled n (object_after o es)
 ruled_object n o [] m h a = h
@@ -88,17 +76,10 @@ abbrev pub AreMarks : List (MarkKind × Segment) → Type 0
 AreMarks = All (λ m. IsMark m.1)
 
 marked_after : (o : Object) (e : Entry) → AreMarks o.marks → Allows o e → AreMarks (after o e).marks
-marked_after o (Wrote addr bytes) h a = h
-marked_after o (ReadBack addr bytes) h a = h
-marked_after o (Submitted ch t cookie) h a = h
-marked_after o (Issued ch) h a = h
-marked_after o (Passed ch event) h a = h
 marked_after o (Signalled (Channel ch) event) h a = h
-marked_after o (Signalled Host event) h a = h
-marked_after o (Finished ch result done) h a = h
-marked_after o (Terminated ch done count) h a = h
 marked_after o (Marked kind segment) h a = All-push (λ m. IsMark m.1) o.marks (kind, segment) h a
 marked_after o Unmarked h a = All-nil (λ m. IsMark m.1)
+marked_after o e h a = h
 
 pub marked_object : (o : Object) (es : List Entry) → AreMarks o.marks → IsLegal o es → AreMarks (object_after o es).marks
 marked_object o [] h a = h
@@ -121,12 +102,10 @@ pub record Runs (p : Parts) (ch : ℕ) (q : Queue) : Type 0 where
   pub machine : IsAt transfer q.channel.taken p.memory q.channel
 
 machine_at : (memory : List ℕ) (m : ChannelValue) (c : ChannelState) (t : Descriptor) → is_some m.program ≡ true → front c ≡ Some t → IsRun memory m c → IsAt t m.taken memory m
-machine_at memory m c t loaded is h =
-    let by : (o : Option ProgramValue) (f : Option Descriptor) → is_some o ≡ true → f ≡ Some t → IfSome o (λ _. IsSomeAnd f (λ u. IsAt u m.taken memory m)) → IsAt t m.taken memory m = λ o f. elim o as (λ o. is_some o ≡ true → f ≡ Some t → IfSome o (λ _. IsSomeAnd f (λ u. IsAt u m.taken memory m)) → IsAt t m.taken memory m) [
-      | None ↦ λ e. absurd cc
-      | Some x ↦ λ _ e g. let g' : IsSomeAnd (Some t) (λ u. IsAt u m.taken memory m) = rw e at g in g'
-    ] in
-    by m.program (front c) loaded is h
+machine_at memory m c t loaded is h = by m.program loaded (rw is at h) where
+  by : (o : Option ProgramValue) → is_some o ≡ true → IfSome o (λ _. IsAt t m.taken memory m) → IsAt t m.taken memory m
+  by None e g = absurd cc
+  by (Some p) e g = g
 
 -- each front of a sound view obeys the rules and lies below the size
 pub ruled_front : (v : View) (ch : ℕ) (t : Descriptor) → IsSound v → front (channel (object_of v) ch) ≡ Some t → IsGood (size v) t

@@ -1,5 +1,5 @@
 -- What runs, as a list.
-use Rattle.std.proofs.Common.{◌≡◌, ◌≢◌, ℕ, ◌+◌, ◌-◌, ◌<◌, ◌≤◌, List, [], ◌∷◌, ◌++◌, length, Option, Some, None, Bool, true, false, cond, refl, ap, ◌∙◌, arith, zero, suc, zero-add, add-zero, sym}
+use Rattle.std.proofs.Common.{◌≡◌, ◌≢◌, ℕ, ◌+◌, ◌-◌, ◌<◌, ◌≤◌, List, [], ◌∷◌, ◌++◌, length, Option, Some, None, Bool, true, false, cond, refl, ap, ◌∙◌, arith, zero, suc, zero-add, add-zero, sym, inl, inr}
 use mir.Val.{bool_byte}
 use Rattle.std.specs.Prelude.{IfSome, find, is_some}
 use Rattle.std.proofs.lemmas.List.{length-append}
@@ -7,6 +7,7 @@ use Rattle.std.specs.List.{All, filter_map, range_with_len, cons_option}
 use Rattle.std.specs.Option.{option_map, option_to_list, option_or}
 use Rattle.std.proofs.lemmas.List.Folds.{find-append}
 use Rattle.std.proofs.lemmas.List.Elements.{All-nil, All-cons, filter_map-append}
+use Rattle.std.proofs.lemmas.Bool.{cases_Bool, false_from_ne_true}
 use Rattle.dma_engine.specs.Object.{Object}
 use Rattle.dma_engine.specs.View.{RunningTransfer, ChannelSchedule, runs, running}
 
@@ -36,9 +37,10 @@ filter_map_same f g a (suc n) h =
 -- nothing is found where each fails the test
 pub All_find : {X : Type 0} (p : X → Bool) (xs : List X) → find p xs ≡ None → All (λ x. p x ≡ false) xs
 All_find p [] h = All-nil (λ x. p x ≡ false)
-All_find {X} p (x ∷ xs) h =
-    let by : (b : Bool) → p x ≡ b → cond b (Some x) (find p xs) ≡ None → All (λ x. p x ≡ false) (x ∷ xs) = λ b. elim b as (λ b. p x ≡ b → cond b (Some x) (find p xs) ≡ None → All (λ x. p x ≡ false) (x ∷ xs)) [ true ↦ λ e f. absurd cc | false ↦ λ e f. All-cons (λ x. p x ≡ false) x xs e (All_find p xs f) ] in
-    by (p x) refl h
+All_find p (x ∷ xs) h = elim (cases_Bool (p x)) [
+  | inl e ↦ let never : Some x ≡ None = rw e at h in absurd cc
+  | inr e ↦ All-cons (λ x. p x ≡ false) x xs e (All_find p xs (rw e at h))
+]
 
 -- ---- what runs
 
@@ -103,8 +105,7 @@ find_none_at p o s ch r h none here =
     let rest = option_to_list (runs o s ch) ++ above o s ch in
     let front : (x y : Option RunningTransfer) → option_or x y ≡ None → x ≡ None = λ x y. elim x as (λ x. option_or x y ≡ None → x ≡ None) [ None ↦ λ _. refl | Some z ↦ λ e. absurd cc ] in
     let before : find p (below o s ch) ≡ None = front _ (find p rest) (sym (ap (find p) (running_split o s ch h) ∙ find-append p (below o s ch) rest) ∙ none) in
-    let by : (b : Bool) → p r ≡ b → p r ≡ false = λ b. elim b as (λ b. p r ≡ b → p r ≡ false) [ false ↦ λ e. e | true ↦ λ e. let found = find_here p o s ch r h before here e in absurd cc ] in
-    by (p r) refl
+    false_from_ne_true (p r) (λ e. let found = find_here p o s ch r h before here e in cc)
 
 -- the same runs where each channel has the same running
 pub running_same : (o p : Object) (s t : List ChannelSchedule) → length o.channels ≡ length p.channels → ((c : ℕ) → c < length o.channels → runs p t c ≡ runs o s c) → running p t ≡ running o s

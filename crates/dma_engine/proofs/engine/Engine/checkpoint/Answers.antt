@@ -1,44 +1,44 @@
-use Rattle.std.proofs.Common.{◌≡◌, ◌<◌, ◌∙◌, ap, length, map, arith, List}
+use Rattle.std.proofs.Common.{◌≡◌, ◌<◌, ◌∙◌, ap, length, map, arith, List, true}
 use Rattle.std.specs.Vec.{with_items}
-use Rattle.std.proofs.lemmas.List.{with_items_is, length-map}
+use Rattle.std.proofs.lemmas.List.{with_items_is, length-map, get_or_default}
 use Rattle.std.specs.Prelude.{slice_index_or}
+use Rattle.dma_engine.specs.Answer.{first_running}
 use Rattle.dma_engine.specs.inner.Holds.{view_of, queue_forgotten}
 use Rattle.dma_mem.specs.declared.call.Call.TheVariants.{Checkpoint}
 use Rattle.dma_engine.specs.declared.call.Reply.TheVariants.{Done}
 use Rattle.dma_engine.specs.declared.fault.EngineFault.TheVariants.{NoMemory}
 use Rattle.dma_engine.specs.declared.queue.Queue.{Queue}
 use Rattle.dma_engine.specs.inner.Inside.{parts_of}
-use Rattle.dma_engine.proofs.CallCases.{checkpoint_done, checkpoint_open, checkpoint_refused, checkpoint_starved, refusal}
+use Rattle.dma_engine.proofs.CallCases.{checkpoint_done, checkpoint_refused, checkpoint_starved, named_none, refusal}
 use Rattle.dma_engine.proofs.Boards.{queue_small}
 use Rattle.dma_engine.proofs.Checkpoint.{holds_next, no_room_next, view_next}
-use Rattle.dma_engine.proofs.Queues.{get_or_any}
 use Rattle.dma_engine.proofs.engine.Engine.checkpoint.Goals as goal
 
 pub returns-in-Some-clause-answer : goal.returns-in-Some-clause-answer
 returns-in-Some-clause-answer c = checkpoint_refused c.args.self.now.view c.in-Some.ch c.in-Some.cookie c.in-Some.ensures
 
 pub next_base-requires : goal.next_base-requires
-next_base-requires c = checkpoint_open c.args.self.now.view c.in_default.ensures
+next_base-requires c = named_none _ c.in_default.ensures
 
 pub returns-in_err-base-clause-answer : goal.returns-in_err-base-clause-answer
 returns-in_err-base-clause-answer c =
     let v = c.args.self.now.view in
     refusal (λ _. Done) v v Checkpoint NoMemory c.from_residual.result c.from_residual.ensures.1
-    (checkpoint_starved v (checkpoint_open v c.in_default.ensures))
+    (checkpoint_starved v (named_none _ c.in_default.ensures))
 
 pub forget_all-requires : goal.forget_all-requires
 forget_all-requires c = λ k d less.
     let p = parts_of c.self.inside in
     let l : k < length p.queues = omega (arith, less, ap length c.deref_mut.ensures.value) in
     let q = slice_index_or p.queues k d in
-    let small = queue_small p c.self.invariant k q l (get_or_any p.queues k d q l) in
+    let small = queue_small p c.self.invariant k q l (get_or_default p.queues k d q l) in
     rw c.deref_mut.ensures.value (omega (arith, small))
 
 pub invariant_of-self : goal.invariant_of-self
 invariant_of-self c =
     let p = parts_of c.self.inside in
     let base = rw (← c.self.view_is) at c.in_ok-base.ensures in
-    let none = checkpoint_open (view_of p) (rw (← c.self.view_is) at c.in_default.ensures) in
+    let none = named_none (first_running (view_of p) (λ _. true)) (rw (← c.self.view_is) at c.in_default.ensures) in
     let vec = c.self.inside.queues in
     let forgotten : c.forget_all.new.queues ≡ map queue_forgotten vec.items = c.forget_all.ensures ∙ ap (λ (l : List Queue). map queue_forgotten l) c.deref_mut.ensures.value in
     let many : length c.forget_all.new.queues ≡ vec.len = omega (arith, ap length forgotten, length-map vec.items queue_forgotten, vec.ok.0) in
@@ -49,7 +49,7 @@ pub returns-clause-answer : goal.returns-clause-answer
 returns-clause-answer c =
     let p = parts_of c.self.inside in
     let base = rw (← c.self.view_is) at c.in_ok-base.ensures in
-    let none = checkpoint_open (view_of p) (rw (← c.self.view_is) at c.in_default.ensures) in
+    let none = named_none (first_running (view_of p) (λ _. true)) (rw (← c.self.view_is) at c.in_default.ensures) in
     let vec = c.self.inside.queues in
     let forgotten : c.forget_all.new.queues ≡ map queue_forgotten vec.items = c.forget_all.ensures ∙ ap (λ (l : List Queue). map queue_forgotten l) c.deref_mut.ensures.value in
     let many : length c.forget_all.new.queues ≡ vec.len = omega (arith, ap length forgotten, length-map vec.items queue_forgotten, vec.ok.0) in

@@ -2,35 +2,19 @@ use Rattle.std.proofs.Common.{◌≡◌, ◌∙◌, arith, refl, sym, inl, inr}
 use Rattle.dma_chan.specs.Layer.{step_at}
 use Rattle.dma_chan.specs.declared.turn.ChanTurn.TheVariants.{Moved, Fault}
 use Rattle.dma_chan.specs.declared.turn.FaultKind.TheVariants.{DataReadErr, DataWriteErr}
-use Rattle.dma_engine.specs.inner.Due.{IsDue, IsNext, Finishes, failure_of}
+use Rattle.dma_engine.specs.inner.Due.{IsDue, Finishes, failure_of}
 use Rattle.dma_engine.specs.inner.Holds.{view_of}
 use Rattle.dma_engine.specs.inner.Inside.{parts_of}
-use Rattle.dma_engine.proofs.InstructionSteps.{ready_here, the_step, shared}
-use Rattle.dma_engine.proofs.InstructionAnswers.{taken_small, went_on, went_on_answers, failed, only_so}
+use Rattle.dma_engine.proofs.InstructionSteps.{the_step, shared}
+use Rattle.dma_engine.proofs.InstructionAnswers.{went_on, went_on_answers, failed, only_so, can_execute}
 use Rattle.dma_engine.proofs.Queues.{many_queues}
-use Rattle.dma_engine.proofs.StepCases.{GoesOn, due, due_ahead, due_other}
+use Rattle.dma_engine.proofs.StepCases.{GoesOn, due, due_other}
 use Rattle.dma_engine.proofs.engine.Engine.execute_other.Goals as goal
 
-pub execute-turn-requires-clause-next : goal.execute-turn-requires-clause-next
-execute-turn-requires-clause-next c =
-    let p = parts_of c.self.inside in
-    let q = c.index_mut-queue.result.now in
-    let d = due p c.self.invariant c.args.ch _ q (IsNext c.args.next) c.from.ensures c.index_mut-queue.ensures.value (rw (← c.self.view_is) at c.requires.due) in
-    due_ahead p c.args.ch q c.args.next d
-
-pub execute-turn-requires-clause-count : goal.execute-turn-requires-clause-count
-execute-turn-requires-clause-count c =
-    let p = parts_of c.self.inside in
-    let q = c.index_mut-queue.result.now in
-    let d = due p c.self.invariant c.args.ch _ q (IsNext c.args.next) c.from.ensures c.index_mut-queue.ensures.value (rw (← c.self.view_is) at c.requires.due) in
-    taken_small p c.args.ch q d.it
-
-pub execute-turn-requires-clause-ready : goal.execute-turn-requires-clause-ready
-execute-turn-requires-clause-ready c =
-    let p = parts_of c.self.inside in
-    let q = c.index_mut-queue.result.now in
-    let d = due p c.self.invariant c.args.ch _ q (IsNext c.args.next) c.from.ensures c.index_mut-queue.ensures.value (rw (← c.self.view_is) at c.requires.due) in
-    ready_here p c.self.invariant c.args.ch q d.it c.self.inside.memory refl
+pub execute-turn-requires : goal.execute-turn-requires
+execute-turn-requires c =
+    let can = can_execute (parts_of c.self.inside) c.self.invariant c.args.ch _ c.index_mut-queue.result.now c.args.next c.self.inside.memory c.from.ensures c.index_mut-queue.ensures.value (rw (← c.self.view_is) at c.requires.due) refl in
+    record { next = can.next; loaded = can.loaded; count = can.count; ready = can.ready }
 
 pub invariant_of-self : goal.invariant_of-self
 invariant_of-self c =
@@ -88,14 +72,10 @@ returns-in-Fault-clause-fails c =
 
 pub index_mut-queue-requires : goal.index_mut-queue-requires
 index_mut-queue-requires c =
-    let p = parts_of c.self.inside in
-    let asked = rw (← c.self.view_is) at c.requires.due in
-    omega (arith, asked.0, c.from.ensures, many_queues p c.self.invariant, c.self.inside.queues.ok.0)
+    omega (arith, (rw (← c.self.view_is) at c.requires.due).0, c.from.ensures, many_queues (parts_of c.self.inside) c.self.invariant, c.self.inside.queues.ok.0)
 
 pub overflow_add-self : goal.overflow_add-self
-overflow_add-self c =
-    let asked = rw (← c.self.view_is) at c.requires.due in
-    omega (arith, asked.2)
+overflow_add-self c = omega (arith, (rw (← c.self.view_is) at c.requires.due).2)
 
 pub returns-in-Moved-clause-fails : goal.returns-in-Moved-clause-fails
 returns-in-Moved-clause-fails c = tt

@@ -1,8 +1,7 @@
-use Rattle.std.proofs.Common.{◌≡◌, ◌-◌, ◌<◌, ◌∙◌, ap, length, arith, refl, subst, sym}
+use Rattle.std.proofs.Common.{◌≡◌, ◌-◌, ◌<◌, ◌∙◌, ap, length, arith, refl}
 use Rattle.dma_mem.specs.declared.call.Call.TheVariants.{Issue}
 use Rattle.dma_engine.specs.declared.call.Reply.TheVariants.{Count}
 use Rattle.dma_engine.specs.declared.fault.EngineFault.TheVariants.{NoMemory}
-use Rattle.dma_engine.specs.Room.{HasRoom}
 use Rattle.dma_engine.specs.declared.entry.Entry.TheVariants.{Issued}
 use Rattle.dma_engine.specs.inner.Holds.{view_of}
 use Rattle.dma_engine.specs.inner.Inside.{parts_of}
@@ -58,9 +57,7 @@ pub push_reserved-requires : goal.push_reserved-requires
 push_reserved-requires c = omega (arith, c.in_ok-reserve.ensures.ok)
 
 pub returns-in_err-reserve-clause-room : goal.returns-in_err-reserve-clause-room
-returns-in_err-reserve-clause-room c = λ room.
-    let before = subst (λ (s : EngineState). HasRoom s c.args.ch) (sym c.self.view_is) room in
-    absurd (omega (arith, before.entry, c.in_err-reserve.ensures.full))
+returns-in_err-reserve-clause-room c = rw (← c.self.view_is) (λ room. absurd (omega (arith, room.entry, c.in_err-reserve.ensures.full)))
 
 pub returns-clause-room : goal.returns-clause-room
 returns-clause-room c = λ _. tt

@@ -91,9 +91,7 @@ pub invariant_of-self : goal.invariant_of-self
 invariant_of-self c = rw c.reserve.ensures.items c.self.invariant
 
 pub returns-in_err-reserve-clause-room : goal.returns-in_err-reserve-clause-room
-returns-in_err-reserve-clause-room c = λ room.
-    let before = subst (λ (s : EngineState). HasRoom s c.args.ch) (sym c.self.view_is) room in
-    absurd (omega (arith, before.entry, c.in_err-reserve.ensures.full))
+returns-in_err-reserve-clause-room c = rw (← c.self.view_is) (λ room. absurd (omega (arith, room.entry, c.in_err-reserve.ensures.full)))
 
 pub returns-clause-room : goal.returns-clause-room
 returns-clause-room c = λ _. tt

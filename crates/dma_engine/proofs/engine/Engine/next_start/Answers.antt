@@ -1,5 +1,4 @@
-use Rattle.std.proofs.Common.{◌+◌}
-use Rattle.dma_engine.specs.Object.{channel, finished, issued_front}
+use Rattle.dma_engine.specs.Object.{channel}
 use Rattle.dma_engine.specs.View.{object_of}
 use Rattle.dma_engine.proofs.NextTurns.{held_turn, started_turn}
 use Rattle.dma_engine.proofs.Starts.{front_with_cookie_law}
@@ -9,14 +8,12 @@ pub returns-in-Some-first_conflict : goal.returns-in-Some-first_conflict
 returns-in-Some-first_conflict c =
     let v = c.args.self.now.view in
     let ch = c.args.ch in
-    let found = rw c.from.ensures at c.in-Some.ensures in
-    let front = front_with_cookie_law (issued_front (channel (object_of v) ch)) c.in-Some.transfer.now c.in-Some.cookie (finished (channel (object_of v) ch) + 1) found in
+    let front = front_with_cookie_law (channel (object_of v) ch) c.in-Some.transfer.now c.in-Some.cookie (rw c.from.ensures at c.in-Some.ensures) in
     held_turn v ch c.in-Some-first_conflict.ch c.in-Some-first_conflict.cookie c.in-Some.transfer.now c.requires front.0 c.in-Some-first_conflict.ensures
 
 pub returns-in-None : goal.returns-in-None
 returns-in-None c =
     let v = c.args.self.now.view in
     let ch = c.args.ch in
-    let found = rw c.from.ensures at c.in-Some.ensures in
-    let front = front_with_cookie_law (issued_front (channel (object_of v) ch)) c.in-Some.transfer.now c.in-Some.cookie (finished (channel (object_of v) ch) + 1) found in
+    let front = front_with_cookie_law (channel (object_of v) ch) c.in-Some.transfer.now c.in-Some.cookie (rw c.from.ensures at c.in-Some.ensures) in
     started_turn v ch c.in-Some.cookie c.in-Some.transfer.now c.requires front.0 c.in-None.ensures front.1

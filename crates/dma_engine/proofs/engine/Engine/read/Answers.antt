@@ -1,15 +1,14 @@
-use Rattle.std.proofs.Common.{◌≡◌, sym, ◌∙◌, ap, subst, take, drop, None, arith}
+use Rattle.std.proofs.Common.{◌≡◌, ◌∙◌, ap, arith}
 use Rattle.dma_engine.specs.declared.entry.Entry.TheVariants.{ReadBack}
 use Rattle.dma_mem.specs.declared.call.Call.TheVariants.{Read}
 use Rattle.dma_engine.specs.declared.fault.EngineFault.TheVariants.{NoMemory}
 use Rattle.dma_engine.specs.declared.call.Reply.TheVariants.{Bytes}
-use Rattle.dma_engine.specs.Answer.{read_fault}
 use Rattle.dma_engine.specs.inner.Holds.{view_of}
 use Rattle.dma_engine.specs.inner.Inside.{parts_of}
 use Rattle.dma_engine.specs.Turn.{with_entry}
-use Rattle.dma_engine.specs.View.{View, EngineState, size, object_of}
+use Rattle.dma_engine.specs.View.{View, EngineState, size}
 use Rattle.dma_engine.proofs.CallCases.{read_starved, read_done, refusal}
-use Rattle.dma_engine.proofs.Entries.{holds_read, memory_read_law}
+use Rattle.dma_engine.proofs.Entries.{holds_read, read_seen}
 use Rattle.dma_engine.proofs.Sizes.{size_is, memory_size}
 use Rattle.dma_engine.proofs.engine.Engine.read.Goals as goal
 
@@ -39,21 +38,16 @@ returns-in_err-reserve-clause-answer c =
 
 pub invariant_of-self-2 : goal.invariant_of-self-2
 invariant_of-self-2 c =
-    let p = parts_of c.self.inside in
-    let is : view_of p ≡ c.args.self.now.view = ap (λ (s : EngineState). s.view) c.self.view_is in
-    let free = c.in_ok-check_read.ensures.free in
-    let free' : read_fault (view_of p) c.args.addr c.args.len ≡ None = subst (λ (w : View). read_fault w c.args.addr c.args.len ≡ None) (sym is) free in
-    let read = c.in_ok-answer.ensures ∙ memory_read_law p c.args.addr c.args.len c.self.invariant free' in
     let same = c.in_ok-kept.ensures ∙ c.as_slice.ensures in
-    rw (c.push_reserved.ensures.items, c.reserve.ensures.items, same) (holds_read p c.args.addr c.args.len c.in_ok-answer.answer c.self.invariant free' read)
+    rw (c.push_reserved.ensures.items, c.reserve.ensures.items, same)
+    (holds_read (parts_of c.self.inside) c.args.self.now.view c.args.addr c.args.len c.in_ok-answer.answer c.self.invariant (ap (λ (s : EngineState). s.view) c.self.view_is) c.in_ok-check_read.ensures.free c.in_ok-answer.ensures)
 
 pub returns-clause-answer : goal.returns-clause-answer
 returns-clause-answer c =
     let p = parts_of c.self.inside in
     let is : view_of p ≡ c.args.self.now.view = ap (λ (s : EngineState). s.view) c.self.view_is in
     let free = c.in_ok-check_read.ensures.free in
-    let free' : read_fault (view_of p) c.args.addr c.args.len ≡ None = subst (λ (w : View). read_fault w c.args.addr c.args.len ≡ None) (sym is) free in
-    let read = c.in_ok-answer.ensures ∙ memory_read_law p c.args.addr c.args.len c.self.invariant free' ∙ ap (λ (w : View). take c.args.len (drop c.args.addr (object_of w).image)) is in
+    let read = read_seen p c.args.self.now.view c.args.addr c.args.len c.in_ok-answer.answer c.self.invariant is free c.in_ok-answer.ensures in
     let same = c.in_ok-kept.ensures ∙ c.as_slice.ensures in
     read_done c.args.self.now.view _ c.args.addr c.args.len c.in_ok-answer.answer free read
     (rw (c.push_reserved.ensures.items, c.reserve.ensures.items, same) (ap (λ (w : View). with_entry w (ReadBack c.args.addr c.in_ok-answer.answer)) is))

@@ -1,10 +1,10 @@
-use Rattle.std.proofs.Common.{◌≡◌, ◌+◌, ◌<◌, ◌∙◌, Option, ap, arith, length, sym}
+use Rattle.std.proofs.Common.{◌≡◌, ◌<◌, ◌∙◌, Option, ap, arith, length, sym}
 use Rattle.std.specs.Prelude.{is_some, unwrap_or}
 use Rattle.dma_chan.proofs.LayerLaws.{ahead_is}
 use Rattle.dma_chan.specs.Traffic.{member}
 use Rattle.dma_insn.specs.declared.insn.Insn.TheVariants.{End}
 use Rattle.dma_mem.specs.Places.{Descriptor}
-use Rattle.dma_engine.specs.Object.{channel, finished, issued_front}
+use Rattle.dma_engine.specs.Object.{channel}
 use Rattle.dma_engine.specs.View.{object_of}
 use Rattle.dma_engine.specs.inner.Holds.{view_of}
 use Rattle.dma_engine.specs.inner.Inside.{parts_of}
@@ -46,7 +46,6 @@ returns-in-Some c =
     let r = running p c.self.invariant ch q less read (sym c.if-not-is_loaded.ensures) in
     let next : member r.transfer q.channel.taken ≡ c.in-Ok.next = ahead_member p c.self.invariant ch q r c.in-Ok.next c.next.result c.next.ensures c.in-Ok.is in
     let ends : member r.transfer q.channel.taken ≡ End = next ∙ sym c.insn.ensures ∙ c.in-End.is in
-    let found = rw (c.from-index.ensures, ← c.self.view_is) at c.in-Some.ensures in
-    let known = front_with_cookie_law (issued_front s) u c.in-Some.field-0-1 (finished s + 1) found in
+    let known = front_with_cookie_law s u c.in-Some.field-0-1 (rw (c.from-index.ensures, ← c.self.view_is) at c.in-Some.ensures) in
     let same : is_some u.signal ≡ is_some r.transfer.signal = ap (λ (o : Option Descriptor). is_some (unwrap_or o u).signal) (sym known.0 ∙ r.issued) in
     rw (← c.self.view_is) (c.is_some.ensures ∙ ap is_some c.signal.ensures ∙ same ∙ sym (signalled_end p ch q r ends))

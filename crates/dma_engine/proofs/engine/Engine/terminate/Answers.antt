@@ -1,11 +1,10 @@
-use Rattle.std.proofs.Common.{◌≡◌, ◌<◌, ◌∙◌, ap, length, drop, arith, refl, subst, sym}
+use Rattle.std.proofs.Common.{◌≡◌, ◌<◌, ◌∙◌, ap, length, drop, arith, refl}
 use Rattle.std.specs.Prelude.{slice_set}
 use Rattle.std.proofs.lemmas.List.{set-get_or}
 use Rattle.dma_mem.specs.declared.call.Call.TheVariants.{Terminate}
 use Rattle.dma_engine.specs.declared.call.Reply.TheVariants.{Count}
 use Rattle.dma_engine.specs.declared.entry.Entry.TheVariants.{Terminated}
 use Rattle.dma_engine.specs.declared.fault.EngineFault.TheVariants.{NoMemory}
-use Rattle.dma_engine.specs.Room.{HasRoom}
 use Rattle.dma_engine.specs.inner.Found.{transfers_in}
 use Rattle.dma_engine.specs.inner.Holds.{view_of}
 use Rattle.dma_engine.specs.inner.Inside.{parts_of}
@@ -86,9 +85,7 @@ returns-in_err-reserve-clause-answer c =
     (starved v (Terminate ch) (Count count) (terminated v ch) (Terminated ch (done_on v ch) count) (terminate_answer v ch there.1) refl))
 
 pub returns-in_err-reserve-clause-room : goal.returns-in_err-reserve-clause-room
-returns-in_err-reserve-clause-room c = λ room.
-    let before = subst (λ (s : EngineState). HasRoom s c.args.ch) (sym c.self.view_is) room in
-    absurd (omega (arith, before.entry, c.in_err-reserve.ensures.full))
+returns-in_err-reserve-clause-room c = rw (← c.self.view_is) (λ room. absurd (omega (arith, room.entry, c.in_err-reserve.ensures.full)))
 
 pub returns-in_err-terminate-clause-answer : goal.returns-in_err-terminate-clause-answer
 returns-in_err-terminate-clause-answer c =

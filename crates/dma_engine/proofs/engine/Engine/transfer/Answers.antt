@@ -13,8 +13,7 @@ pub kept-kept-requires : goal.kept-kept-requires
 kept-kept-requires c =
     let p = parts_of c.self.inside in
     let there = rw (← c.self.view_is) at c.requires.there in
-    let less : c.args.index < length p.queues = omega (arith, there, many_queues p c.self.invariant) in
-    omega (arith, less, many_queues p c.self.invariant, many_channels p.base p.history)
+    omega (arith, there, many_queues p c.self.invariant, many_channels p.base p.history)
 
 pub transfer-requires : goal.transfer-requires
 transfer-requires c =
