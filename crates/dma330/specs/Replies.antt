@@ -3,7 +3,7 @@ use Rattle.std.specs.Prelude.{◌≡◌, ℕ, Bool, ◌==◌, if◌then◌else�
 use Rattle.dma_chan.specs.declared.bus.Bus.{Bus}
 use Rattle.dma_mem.specs.declared.regions.Region.{Region}
 use Rattle.std.specs.Result.{result_unwrap_or}
-use Rattle.dma_manual.specs.Assembled.{assembled}
+use Rattle.dma_manual.specs.Assembled.{assembled, read_text}
 use Rattle.dma_manual.specs.Errors.{assembled_err, assembled_out}
 use Rattle.dma_manual.specs.Listing.{is_whole, listed, rest_text, stop_text}
 use Rattle.dma_script.specs.Command.{printed_text}
@@ -34,12 +34,12 @@ Lists at program p =
 abbrev pub program_of : List ℕ → List ℕ
 program_of text = result_unwrap_or (assembled text) []
 
--- `asm` prints the program's bytes in hexadecimal digits, or writes them to a file, or says on standard error what the
--- text's first fault is.
+-- `asm` prints the program's bytes in hexadecimal digits, or writes them to a file, with the first warning on standard
+-- error; or it says there what the text's first fault is.
 abbrev pub Assembles : Bool → List ℕ → Printed → Type 0
 Assembles to_file text p =
-    (p.out ≡ (if to_file then [] else assembled_out (assembled text))) × (p.err ≡ assembled_err text (assembled text))
-    × (p.file ≡ (if to_file then program_of text else [])) × (p.succeeds ≡ is_ok (assembled text))
+    (p.out ≡ (if to_file then [] else assembled_out (read_text text))) × (p.err ≡ assembled_err text (read_text text))
+    × (p.file ≡ (if to_file then program_of text else [])) × (p.succeeds ≡ is_ok (read_text text))
 
 -- `explain` says what the program copies, or on standard error why it is no copy.
 abbrev pub Explains : Bus → ℕ → List ℕ → Printed → Type 0

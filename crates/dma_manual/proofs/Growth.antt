@@ -1,5 +1,5 @@
 -- What a line of a text adds to what is read.
-use Rattle.std.proofs.Common.{◌≡◌, ℕ, ◌+◌, ◌≤◌, List, [], ◌∷◌, ◌++◌, length, refl, Option, Some, None, Result, Ok}
+use Rattle.std.proofs.Common.{◌≡◌, ℕ, ◌+◌, ◌≤◌, ◌||◌, List, [], ◌∷◌, ◌++◌, length, refl, Option, Some, None, Result, Ok}
 use Rattle.std.proofs.lemmas.Bool.{le-leb}
 use Rattle.dma_insn.specs.Spelling.{spelling}
 use Rattle.dma_insn.specs.AssemblyText.{most_program_bytes, text_lines}
@@ -7,13 +7,14 @@ use Rattle.dma_insn.specs.declared.insn.Counter.{Counter}
 use Rattle.dma_insn.specs.declared.insn.Counter.TheVariants.{Lc0, Lc1}
 use Rattle.dma_insn.specs.declared.insn.Insn.{Insn}
 use Rattle.dma_insn.specs.declared.insn.Insn.TheVariants.{Mov, Ld, St, Rmb, Wmb, Nop, End, Lp, LpEnd, Sev, Wfe}
+use Rattle.dma_manual.specs.Listing.{is_end}
 use Rattle.dma_manual.specs.Words.{code_of, next_of}
 use Rattle.dma_manual.specs.Statements.{statement_at}
-use Rattle.dma_manual.specs.Assembled.{Read, after_statement, assembled, empty, ended_loop, jump_of, label_in, place_of, take_line, take_lines, with_bytes, with_loop, with_statement}
+use Rattle.dma_manual.specs.Assembled.{Read, after_statement, assembled, empty, ended_loop, first_stray, is_closed_by, jump_of, label_in, place_of, slot, take_line, take_lines, with_bytes, with_loop, with_statement}
 use Rattle.dma_manual.specs.declared.assembler.Located.{Located}
 use Rattle.dma_manual.specs.declared.assembler.Spot.{Spot}
-use Rattle.dma_manual.specs.declared.draft.Loops.{Loops}
-use Rattle.dma_manual.specs.declared.draft.Open.{Open}
+use Rattle.dma_manual.specs.declared.loops.Loops.{Loops}
+use Rattle.dma_manual.specs.declared.loops.Open.{Open}
 use Rattle.dma_manual.specs.declared.statements.End.{End as LoopTo}
 use Rattle.dma_manual.specs.declared.statements.End.TheVariants as ends
 use Rattle.dma_manual.specs.declared.statements.Statement.{Statement}
@@ -43,7 +44,7 @@ bytes_fit code bytes spot fits = rw (le-leb (length code + length bytes) most_pr
 
 plain_grown : (r : Read) (i : Insn) (spot : Spot) → length r.code + length (spelling i) ≤ most_program_bytes → Quiet r.loops → Grown r (spelling i) (after_statement r (says.Plain i) spot)
 plain_grown r i spot fits q =
-    record { next = record r { code = r.code ++ spelling i }; is = rw (bytes_fit r.code (spelling i) spot fits) refl; code = refl; labels = refl; quiet = q }
+    record { next = record r { code = r.code ++ spelling i; stops = r.stops || is_end i }; is = rw (bytes_fit r.code (spelling i) spot fits) refl; code = refl; labels = refl; quiet = q }
 
 loop_grown : (r : Read) (c : Counter) (n : ℕ) (spot : Spot) → length r.code + length (spelling (Lp c n)) ≤ most_program_bytes → Quiet r.loops
     → Grown r (spelling (Lp c n)) (after_statement r (says.Loop (Some c) n) spot)
@@ -62,7 +63,11 @@ pub end_grown : (r : Read) (c : Counter) (b : ℕ) (end : LoopTo) (spot : Spot) 
     → length r.code + length (spelling (LpEnd c b)) ≤ most_program_bytes → Quiet r.loops → Grown r (spelling (LpEnd c b)) (after_statement r (says.LoopEnd end) spot)
 end_grown r c b end spot jump fits q =
     record {
-      next = record r { code = r.code ++ spelling (LpEnd c b); loops = with_loop r.loops c None };
+      next = record r {
+        code = r.code ++ spelling (LpEnd c b);
+        loops = with_loop r.loops c None;
+        stray = first_stray r.stray (is_closed_by (slot r.loops c) (length r.code) b) spot;
+      };
       is = rw (jump, bytes_fit r.code (spelling (LpEnd c b)) spot fits) refl;
       code = refl;
       labels = refl;

@@ -16,11 +16,11 @@ use Rattle.dma_insn.specs.declared.insn.Insn.TheVariants.{Mov, Ld, St, Rmb, Wmb,
 use Rattle.dma_manual.specs.ManualText.{counter_name, manual_text}
 use Rattle.dma_manual.specs.Words.{code_of, next_of, plain_byte}
 use Rattle.dma_manual.specs.Statements.{Label, label_of}
-use Rattle.dma_manual.specs.Listing.{Ending, follow, stop, blanks_behind, follow_words, jump_of, label_behind, label_name, label_text, line_text, listed, more_labels, rest_text, statement_text}
+use Rattle.dma_manual.specs.Listing.{Ending, follow, stop, blanks_behind, follow_words, jump_of, label_behind, label_name, label_text, line_text, listed, more_labels, rest_text, statement_text, target_of, target_text}
 use Rattle.dma_manual.specs.Assembled.{Read, after_statement, empty, jump_of as jump_from, place_of, take_line, take_lines, with_statement}
 use Rattle.dma_manual.specs.Laws.{ListingsAssemble, shown}
 use Rattle.dma_manual.specs.declared.assembler.Spot.{Spot}
-use Rattle.dma_manual.specs.declared.draft.Loops.{Loops}
+use Rattle.dma_manual.specs.declared.loops.Loops.{Loops}
 use Rattle.dma_manual.specs.declared.statements.End.TheVariants as ends
 use Rattle.dma_manual.specs.declared.statements.Statement.{Statement}
 use Rattle.dma_manual.specs.declared.statements.Statement.TheVariants as says
@@ -153,12 +153,20 @@ front_inline text h =
     all_append is_inline (codes "    " ++ text) (gap_behind (length (codes "    " ++ text))) (all_append is_inline (codes "    ") text refl h) (spaces_inline (gap_behind (length (codes "    " ++ text))) (gap_is (length (codes "    " ++ text))))
 
 -- The line of an instruction adds its bytes.
-abbrev comment_of : ℕ → ℕ → Insn → List ℕ
-comment_of at o i = 32 ∷ (hex_digits ((at + o) % 2 ^ 32) ++ 32 ∷ spaced_bytes (spelling i))
+abbrev words_of : ℕ → List ℕ → ℕ → Insn → List ℕ
+words_of at labels o i = spaced_bytes (spelling i) ++ target_text (target_of labels at o i)
 
-comment_feed : (at o : ℕ) (i : Insn) → list_all no_feed (comment_of at o i) ≡ true
-comment_feed at o i =
-    all_append no_feed (hex_digits ((at + o) % 2 ^ 32)) (32 ∷ spaced_bytes (spelling i)) (hex_feed ((at + o) % 2 ^ 32)) (spaced_feed (spelling i))
+abbrev comment_of : ℕ → List ℕ → ℕ → Insn → List ℕ
+comment_of at labels o i = 32 ∷ (hex_digits ((at + o) % 2 ^ 32) ++ 32 ∷ words_of at labels o i)
+
+target_feed : (target : Option ℕ) → list_all no_feed (target_text target) ≡ true
+target_feed None = refl
+target_feed (Some address) = all_append no_feed (codes ", jumps to 0x") (hex_digits address) refl (hex_feed address)
+
+comment_feed : (at : ℕ) (labels : List ℕ) (o : ℕ) (i : Insn) → list_all no_feed (comment_of at labels o i) ≡ true
+comment_feed at labels o i =
+    all_append no_feed (hex_digits ((at + o) % 2 ^ 32)) (32 ∷ words_of at labels o i) (hex_feed ((at + o) % 2 ^ 32))
+    (all_append no_feed (spaced_bytes (spelling i)) (target_text (target_of labels at o i)) (spaced_feed (spelling i)) (target_feed (target_of labels at o i)))
 
 record ReadsLine (r : Read) (n : ℕ) (text more bytes : List ℕ) : Type 0 where
   next : Read
@@ -172,11 +180,11 @@ line_read r n at labels o i more h =
     let text = statement_text (jump_of labels o i) i in
     let front = code_front text in
     let inline = front_inline text h.inline in
-    let comment = comment_of at o i in
+    let comment = comment_of at labels o i in
     let line = front ++ 59 ∷ comment in
-    let feed = all_append no_feed front (59 ∷ comment) (inline_no_feed front inline) (comment_feed at o i) in
+    let feed = all_append no_feed front (59 ∷ comment) (inline_no_feed front inline) (comment_feed at labels o i) in
     let split : line_text at labels o i ++ more ≡ line ++ 10 ∷ more =
-    line_split (codes "    " ++ text) (blanks_behind (length (codes "    " ++ text))) (hex_digits ((at + o) % 2 ^ 32)) (spaced_bytes (spelling i)) more in
+    line_split (codes "    " ++ text) (blanks_behind (length (codes "    " ++ text))) (hex_digits ((at + o) % 2 ^ 32)) (words_of at labels o i) more in
     let spot = place_of (n + 1) (length (plain front)) (next_of (plain front)) in
     let g = h.grown spot in
     let took : take_line r (n + 1) (plain (code_of line)) ≡ Ok g.next =

@@ -1,11 +1,12 @@
 -- The program to which a text assembles, or the first fault of the text, with its place (profile).
-use Rattle.std.specs.Prelude.{◌≡◌, ℕ, ◌+◌, ◌-◌, ◌==◌, ◌&&◌, if◌then◌else◌, List, [], ◌∷◌, ◌++◌, length, take, map, slice_index, nat_le, nat_lt, Option, Some, None, is_some, Result, Ok, Err, ok_or}
+use Rattle.std.specs.Prelude.{◌≡◌, ℕ, ◌+◌, ◌-◌, Bool, true, false, ◌==◌, ◌&&◌, ◌||◌, if◌then◌else◌, List, [], ◌∷◌, ◌++◌, length, take, map, slice_index, nat_le, nat_lt, Option, Some, None, is_some, Result, Ok, Err, ok_or}
 use Rattle.dma_insn.specs.LineReading.{◌>>=◌}
 use Rattle.dma_insn.specs.AssemblyText.{most_program_bytes, text_lines}
 use Rattle.dma_insn.specs.Spelling.{spelling}
 use Rattle.dma_insn.specs.declared.insn.Counter.{Counter}
 use Rattle.dma_insn.specs.declared.insn.Counter.TheVariants.{Lc0, Lc1}
 use Rattle.dma_insn.specs.declared.insn.Insn.TheVariants.{Lp, LpEnd}
+use Rattle.dma_manual.specs.Listing.{is_end}
 use Rattle.dma_manual.specs.Words.{code_of, next_of, plain_byte}
 use Rattle.dma_manual.specs.Statements.{Label, label_of, label_view, statement_at}
 use Rattle.dma_manual.specs.declared.assembler.AsmCause.TheVariants as causes
@@ -15,25 +16,41 @@ use Rattle.dma_manual.specs.declared.assembler.Spot.{Spot}
 use Rattle.dma_manual.specs.declared.assembler.Stop.{Stop}
 use Rattle.dma_manual.specs.declared.assembler.Stop.TheVariants.{NoMemory, At}
 use Rattle.dma_manual.specs.declared.draft.Draft.{Draft}
-use Rattle.dma_manual.specs.declared.draft.Loops.{Loops}
-use Rattle.dma_manual.specs.declared.draft.Open.{Open}
+use Rattle.dma_manual.specs.declared.loops.Loops.{Loops}
+use Rattle.dma_manual.specs.declared.loops.Open.{Open}
 use Rattle.dma_manual.specs.declared.statements.End.{End as LoopTo}
 use Rattle.dma_manual.specs.declared.statements.End.TheVariants as ends
 use Rattle.dma_manual.specs.declared.statements.Statement.{Statement}
 use Rattle.dma_manual.specs.declared.statements.Statement.TheVariants as says
 
--- What the lines so far say: the program's bytes, the labels, and the loops that are open.
+-- What the lines so far say: the program's bytes, the labels, the loops that are open, whether an instruction is DMAEND
+-- or a byte is 0, and the place of the first DMALPEND that jumps elsewhere than behind the DMALP of its counter's open
+-- loop.
 pub record Read : Type 0 where
   pub code : List ℕ
   pub labels : List Label
   pub loops : Loops
+  pub stops : Bool
+  pub stray : Option Spot
 
 abbrev pub draft_view : Draft → Read
-draft_view d = record { code = d.code.items; labels = map label_view d.labels.items; loops = d.loops }
+draft_view d = record {
+  code = d.code.items;
+  labels = map label_view d.labels.items;
+  loops = d.loops;
+  stops = d.stops;
+  stray = d.stray;
+}
 
 -- nothing is read
 abbrev pub empty : Read
-empty = record { code = []; labels = []; loops = record { lc0 = None; lc1 = None } }
+empty = record {
+  code = [];
+  labels = [];
+  loops = record { lc0 = None; lc1 = None };
+  stops = false;
+  stray = None;
+}
 
 -- the place of a word of line n, which has `width` bytes, of which this number is after the word
 abbrev pub spot_at : ℕ → ℕ → ℕ → ℕ → Spot
@@ -119,24 +136,39 @@ begun r counter times spot = do
   code ← with_bytes r.code (spelling (Lp c.0 times)) spot
   Ok (record r { code = code; loops = with_loop r.loops c.0 (Some (record { start = length code; unnamed = c.1 })) })
 
+-- whether a jump of this many bytes back from an offset leads to the start of an open loop
+abbrev pub is_closed_by : Option Open → ℕ → ℕ → Bool
+is_closed_by None here back = false
+is_closed_by (Some loop) here back = nat_le back here && (here - back) == loop.start
+
+-- the place of the first DMALPEND that closes no loop, with one more, which has this place
+abbrev pub first_stray : Option Spot → Bool → Spot → Option Spot
+first_stray (Some first) closes spot = Some first
+first_stray None true spot = None
+first_stray None false spot = Some spot
+
 -- with a DMALPEND, which ends the open loop of its counter
 abbrev pub ended : Read → LoopTo → Spot → Result Read Located
 ended r end spot = do
   jump ← jump_of r.loops (length r.code) end spot
   code ← with_bytes r.code (spelling (LpEnd jump.0 jump.1)) spot
-  Ok (record r { code = code; loops = with_loop r.loops jump.0 None })
+  Ok (record r {
+    code = code;
+    loops = with_loop r.loops jump.0 None;
+    stray = first_stray r.stray (is_closed_by (slot r.loops jump.0) (length r.code) jump.1) spot;
+  })
 
--- with more bytes
-abbrev pub with_code : Read → List ℕ → Spot → Result Read Located
-with_code r bytes spot = do
+-- with more bytes, and whether they are DMAEND
+abbrev pub with_code : Read → List ℕ → Bool → Spot → Result Read Located
+with_code r bytes stops spot = do
   code ← with_bytes r.code bytes spot
-  Ok (record r { code = code })
+  Ok (record r { code = code; stops = r.stops || stops })
 
 -- with what a statement says
 abbrev pub after_statement : Read → Statement → Spot → Result Read Located
 after_statement r says.Nothing spot = Ok r
-after_statement r (says.Plain i) spot = with_code r (spelling i) spot
-after_statement r (says.Byte b) spot = with_code r (b ∷ []) spot
+after_statement r (says.Plain i) spot = with_code r (spelling i) (is_end i) spot
+after_statement r (says.Byte b) spot = with_code r (b ∷ []) (b == 0) spot
 after_statement r (says.Loop counter times) spot = begun r counter times spot
 after_statement r (says.LoopEnd end) spot = ended r end spot
 
@@ -197,11 +229,17 @@ unclosed loops = do
   first ← ended_loop loops.lc0
   ended_loop loops.lc1
 
+-- what a text says, or the place and the cause of its first fault
+abbrev pub read_text : List ℕ → Result Read Located
+read_text text = do
+  r ← take_lines empty 0 (text_lines text)
+  done ← unclosed r.loops
+  Ok r
+
 -- the program of a text, or the place and the cause of its first fault
 abbrev pub assembled : List ℕ → Result (List ℕ) Located
 assembled text = do
-  r ← take_lines empty 0 (text_lines text)
-  done ← unclosed r.loops
+  r ← read_text text
   Ok r.code
 
 -- What a function returned, with `view` applied to a value, is `read`, unless memory ran out.

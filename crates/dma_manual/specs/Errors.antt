@@ -1,21 +1,53 @@
--- How the first fault of a text is printed.
-use Rattle.std.specs.Prelude.{◌≡◌, ℕ, ◌-◌, if◌then◌else◌, List, [], ◌∷◌, ◌++◌, length, take, drop, min, nat_le, codes, decimal, Result, Ok, Err}
+-- How the first fault of a text is printed, or the first warning about a text without a fault.
+use Rattle.std.specs.Prelude.{◌≡◌, ℕ, ◌+◌, ◌-◌, Bool, true, false, ◌==◌, ◌||◌, if◌then◌else◌, List, [], ◌∷◌, ◌++◌, length, take, drop, map, min, nat_le, codes, decimal, Option, Some, None, Result, Ok, Err}
+use Rattle.std.specs.Str.{bytes_eq}
 use Rattle.dma_insn.specs.AssemblyText.{text_lines}
 use Rattle.dma_script.specs.Command.{text_of}
 use Rattle.dma_script.specs.Printing.{program_lines}
-use Rattle.dma_manual.specs.Assembled.{assembled}
+use Rattle.dma_manual.specs.Words.{code_of, has_sign, plain_byte}
+use Rattle.dma_manual.specs.Assembled.{Read, assembled, label_in}
 use Rattle.dma_manual.specs.declared.assembler.AsmCause.{AsmCause}
 use Rattle.dma_manual.specs.declared.assembler.AsmCause.TheVariants as causes
+use Rattle.dma_manual.specs.declared.assembler.Field.{Field}
+use Rattle.dma_manual.specs.declared.assembler.Field.TheVariants as field
+use Rattle.dma_manual.specs.declared.assembler.Operand.{Operand}
+use Rattle.dma_manual.specs.declared.assembler.Operand.TheVariants as operand
 use Rattle.dma_manual.specs.declared.assembler.Located.{Located}
 use Rattle.dma_manual.specs.declared.assembler.Spot.{Spot}
 use Rattle.dma_manual.specs.declared.errors.AsmError.{AsmError}
 use Rattle.dma_manual.specs.declared.errors.AsmError.TheVariants as errors
+use Rattle.dma_manual.specs.declared.errors.Note.{Note}
+use Rattle.dma_manual.specs.declared.errors.Note.TheVariants as notes
+use Rattle.dma_manual.specs.declared.manual.Side.{Side}
+use Rattle.dma_manual.specs.declared.manual.Side.TheVariants.{Source, Destination}
+
+-- which operand an instruction lacks
+abbrev pub missing_message : Operand → List ℕ
+missing_message operand.Times = codes "lacks a number of times, 1 to 256"
+missing_message operand.Event = codes "lacks an event, e0 to e31"
+missing_message operand.Byte = codes "lacks a byte, 0 to 255"
+missing_message operand.Register = codes "lacks a register, SAR, CCR or DAR"
+missing_message operand.Address = codes "lacks an address"
+missing_message operand.Fields = codes "lacks fields or a number"
+
+-- which words a field of an end can be
+abbrev pub field_message : Side → Field → List ℕ
+field_message Source field.Beats = codes "is not SB1 to SB16"
+field_message Source field.Size = codes "is not SS8, SS16, SS32, SS64 or SS128"
+field_message Source field.Address = codes "is not SAI or SAF"
+field_message Source field.Protection = codes "is not SP0 to SP7"
+field_message Source field.Cache = codes "is not SC0 to SC7"
+field_message Destination field.Beats = codes "is not DB1 to DB16"
+field_message Destination field.Size = codes "is not DS8, DS16, DS32, DS64 or DS128"
+field_message Destination field.Address = codes "is not DAI or DAF"
+field_message Destination field.Protection = codes "is not DP0 to DP7"
+field_message Destination field.Cache = codes "is not DC0 to DC3 or DC8 to DC11"
 
 -- what is wrong, after the word
 abbrev pub message : AsmCause → List ℕ
 message causes.Name = codes "is no instruction"
 message causes.NotExecuted = codes "is an instruction of the chip that no channel of this model executes"
-message causes.Missing = codes "lacks an operand"
+message (causes.Missing which) = missing_message which
 message causes.Extra = codes "is one word too many"
 message causes.Number = codes "is not a number"
 message causes.Times = codes "is not 1 to 256"
@@ -25,7 +57,8 @@ message causes.Byte = codes "is not 0 to 255"
 message causes.Value = codes "has more than 32 bits"
 message causes.Register = codes "is not SAR, CCR or DAR"
 message causes.Counter = codes "is not lc0 or lc1"
-message causes.Field = codes "is no field of a control word, or has a value that the field cannot have"
+message causes.Field = codes "is no field of a control word: SB, SS, SA, SP, SC, DB, DS, DA, DP, DC or ES"
+message (causes.FieldValue side which) = field_message side which
 message causes.Swap = codes "asks for an endian swap, which this model refuses"
 message causes.Twice = codes "is given twice"
 message causes.Label = codes "is no label before this line"
@@ -44,24 +77,94 @@ abbrev pub word_at : List ℕ → Spot → List ℕ
 word_at line spot =
     let from = drop (min (spot.column - 1) (length line)) line in take (min spot.len (length from)) from
 
--- `LINE:COLUMN: 'WORD' MESSAGE`
-abbrev pub error_text : Located → List ℕ → List ℕ
-error_text l word =
-    decimal l.spot.line ++ codes ":" ++ decimal l.spot.column ++ (codes ": '" ++ word ++ codes "' " ++ message l.cause)
+-- whether a plain line has a label
+abbrev pub label_is : Option (List ℕ × List ℕ) → List ℕ → Bool
+label_is None name = false
+label_is (Some w) name = bytes_eq w.0 name
+
+abbrev pub named_by : List ℕ → List ℕ → Bool
+named_by line name = label_is (label_in line) name
+
+-- whether a line has a label
+abbrev pub has_label : List ℕ → List ℕ → Bool
+has_label line name = named_by (map plain_byte (code_of line)) name
+
+-- the number of the first line with a label, of the lines that follow line n
+abbrev pub line_with : List ℕ → ℕ → List (List ℕ) → Option ℕ
+line_with name n [] = None
+line_with name n (line ∷ lines) = if has_label line name then Some (n + 1) else line_with name (n + 1) lines
+
+-- which line has a label
+abbrev pub label_note : Option ℕ → Note
+label_note None = notes.NoLine
+label_note (Some n) = notes.Line n
+
+-- whether a number sign begins the comment of a line
+abbrev pub sign_note : List ℕ → Note
+sign_note line = if has_sign line then notes.Sign else notes.Nothing
+
+-- whether a cause is that an operand is missing
+abbrev pub is_missing : AsmCause → Bool
+is_missing (causes.Missing which) = true
+is_missing _ = false
+
+-- whether a cause is that no line before has a label
+abbrev pub is_label : AsmCause → Bool
+is_label causes.Label = true
+is_label _ = false
+
+-- What a text says about a fault, besides the word: of a missing operand, whether a number sign begins the line's
+-- comment; of a label that no line before has, which line has it.
+abbrev pub note_of : List ℕ → Located → List ℕ → Note
+note_of text l word =
+    if is_missing l.cause then sign_note (line_of (text_lines text) l.spot.line) else (
+    if is_label l.cause then label_note (line_with (map plain_byte (code_of word)) 0 (text_lines text))
+    else notes.Nothing)
+
+-- how a note is printed
+abbrev pub note_text : Note → List ℕ
+note_text notes.Nothing = []
+note_text notes.Sign = codes ": # begins a comment"
+note_text notes.NoLine = codes ": no line has it"
+note_text (notes.Line n) = codes ": line " ++ decimal n ++ codes " has it"
+
+-- `LINE:COLUMN: 'WORD' MESSAGE`, and behind a colon what the text says besides
+abbrev pub error_text : Located → List ℕ → Note → List ℕ
+error_text l word note =
+    decimal l.spot.line ++ codes ":" ++ decimal l.spot.column
+    ++ (codes ": '" ++ word ++ codes "' " ++ (message l.cause ++ note_text note))
+
+-- the word at a place of a text
+abbrev pub word_in : List ℕ → Spot → List ℕ
+word_in text spot = word_at (line_of (text_lines text) spot.line) spot
 
 -- What `assemble` returns: the bytes of the text's program, or its first fault with the word, or out of memory.
 abbrev pub IsAssembled : {X : Type 0} → (X → List ℕ) → List ℕ → Result X AsmError → Type 0
 IsAssembled view text (Ok program) = assembled text ≡ Ok (view program)
 IsAssembled view text (Err (errors.Wrong e)) =
-    (assembled text ≡ Err e.located) × (e.word.now ≡ word_at (line_of (text_lines text) e.located.spot.line) e.located.spot)
+    (assembled text ≡ Err e.located) × (e.word.now ≡ word_in text e.located.spot)
+    × (e.note ≡ note_of text e.located e.word.now)
 IsAssembled view text (Err errors.NoMemory) = Unit {0}
 
+-- whether a program has a DMAEND, or no bytes
+abbrev pub stops_or_empty : Read → Bool
+stops_or_empty r = r.stops || length r.code == 0
+
+-- The first warning about a program: a DMALPEND jumps elsewhere than behind the DMALP of its counter's open loop, or
+-- the text has no DMAEND.
+abbrev pub warning_text : Option Spot → Bool → List ℕ
+warning_text (Some spot) stops =
+    decimal spot.line ++ codes ":" ++ decimal spot.column
+    ++ codes ": warning: 'DMALPEND' jumps elsewhere than behind its DMALP\n"
+warning_text None true = []
+warning_text None false = codes " warning: the text has no DMAEND\n"
+
 -- what is written for a text: its program's bytes in hexadecimal digits, 16 to a line
-abbrev pub assembled_out : Result (List ℕ) Located → List ℕ
-assembled_out (Ok program) = text_of (program_lines program)
+abbrev pub assembled_out : Result Read Located → List ℕ
+assembled_out (Ok r) = text_of (program_lines r.code)
 assembled_out (Err l) = []
 
--- what is written to standard error for a text: its first fault
-abbrev pub assembled_err : List ℕ → Result (List ℕ) Located → List ℕ
-assembled_err text (Ok program) = []
-assembled_err text (Err l) = error_text l (word_at (line_of (text_lines text) l.spot.line) l.spot) ++ codes "\n"
+-- what is written to standard error for a text: its first fault, or the first warning about its program
+abbrev pub assembled_err : List ℕ → Result Read Located → List ℕ
+assembled_err text (Ok r) = warning_text r.stray (stops_or_empty r)
+assembled_err text (Err l) = error_text l (word_in text l.spot) (note_of text l (word_in text l.spot)) ++ codes "\n"

@@ -8,9 +8,10 @@ use Rattle.dma_insn.specs.declared.control.BeatSize.{BeatSize}
 use Rattle.dma_insn.specs.declared.control.BeatSize.TheVariants.{One, Two, Four, Eight, Sixteen}
 use Rattle.dma_insn.specs.declared.control.BurstEnd.{BurstEnd}
 use Rattle.dma_manual.specs.Words.{next_of}
-use Rattle.dma_manual.specs.Operands.{fault_at, number_at, none_left}
+use Rattle.dma_manual.specs.Operands.{fault_at, field_at, none_left}
 use Rattle.dma_manual.specs.declared.assembler.AsmCause.TheVariants as causes
 use Rattle.dma_manual.specs.declared.assembler.Fault.{Fault}
+use Rattle.dma_manual.specs.declared.assembler.Field.TheVariants as field
 use Rattle.dma_manual.specs.declared.manual.Side.{Side}
 use Rattle.dma_manual.specs.declared.manual.Side.TheVariants.{Source, Destination}
 use Rattle.dma_manual.specs.declared.fields.EndFields.{EndFields}
@@ -60,35 +61,35 @@ cache_of Source n = if nat_lt n 8 then Some n else None
 cache_of Destination n = if nat_lt (n % 8) 4 then Some (n % 4 + 4 * (n / 8)) else None
 
 -- an end with one more field, by its digits or its letter
-abbrev pub set_beats : EndFields → List ℕ → List ℕ → List ℕ → Result EndFields Fault
-set_beats e digits word rest = do
-  n ← number_at causes.Field 1 16 digits word rest
+abbrev pub set_beats : EndFields → Side → List ℕ → List ℕ → List ℕ → Result EndFields Fault
+set_beats e side digits word rest = do
+  n ← field_at (causes.FieldValue side field.Beats) 1 16 digits word rest
   done ← free (is_some e.beats) word rest
   Ok (record e { beats = Some n })
 
-abbrev pub set_size : EndFields → List ℕ → List ℕ → List ℕ → Result EndFields Fault
-set_size e digits word rest = do
-  n ← number_at causes.Field 8 128 digits word rest
-  size ← ok_or (size_of_bits n) (fault_at causes.Field word rest)
+abbrev pub set_size : EndFields → Side → List ℕ → List ℕ → List ℕ → Result EndFields Fault
+set_size e side digits word rest = do
+  n ← field_at (causes.FieldValue side field.Size) 8 128 digits word rest
+  size ← ok_or (size_of_bits n) (fault_at (causes.FieldValue side field.Size) word rest)
   done ← free (is_some e.size) word rest
   Ok (record e { size = Some size })
 
-abbrev pub set_increments : EndFields → List ℕ → List ℕ → List ℕ → Result EndFields Fault
-set_increments e name word rest = do
-  increments ← ok_or (increments_of name) (fault_at causes.Field word rest)
+abbrev pub set_increments : EndFields → Side → List ℕ → List ℕ → List ℕ → Result EndFields Fault
+set_increments e side name word rest = do
+  increments ← ok_or (increments_of name) (fault_at (causes.FieldValue side field.Address) word rest)
   done ← free (is_some e.increments) word rest
   Ok (record e { increments = Some increments })
 
-abbrev pub set_protection : EndFields → List ℕ → List ℕ → List ℕ → Result EndFields Fault
-set_protection e digits word rest = do
-  n ← number_at causes.Field 0 7 digits word rest
+abbrev pub set_protection : EndFields → Side → List ℕ → List ℕ → List ℕ → Result EndFields Fault
+set_protection e side digits word rest = do
+  n ← field_at (causes.FieldValue side field.Protection) 0 7 digits word rest
   done ← free (is_some e.protection) word rest
   Ok (record e { protection = Some n })
 
 abbrev pub set_cache : EndFields → Side → List ℕ → List ℕ → List ℕ → Result EndFields Fault
 set_cache e side digits word rest = do
-  n ← number_at causes.Field 0 15 digits word rest
-  cache ← ok_or (cache_of side n) (fault_at causes.Field word rest)
+  n ← field_at (causes.FieldValue side field.Cache) 0 15 digits word rest
+  cache ← ok_or (cache_of side n) (fault_at (causes.FieldValue side field.Cache) word rest)
   done ← free (is_some e.cache) word rest
   Ok (record e { cache = Some cache })
 
@@ -96,10 +97,10 @@ set_cache e side digits word rest = do
 abbrev pub set_end : EndFields → Side → List ℕ → List ℕ → List ℕ → Result EndFields Fault
 set_end e side [] word rest = Err (fault_at causes.Field word rest)
 set_end e side (key ∷ more) word rest =
-    if key == 98 then set_beats e more word rest else (
-    if key == 115 then set_size e more word rest else (
-    if key == 97 then set_increments e more word rest else (
-    if key == 112 then set_protection e more word rest else (
+    if key == 98 then set_beats e side more word rest else (
+    if key == 115 then set_size e side more word rest else (
+    if key == 97 then set_increments e side more word rest else (
+    if key == 112 then set_protection e side more word rest else (
     if key == 99 then set_cache e side more word rest else Err (fault_at causes.Field word rest)))))
 
 -- succeeds for an endian swap of 8 bits, which is none; no channel of this model swaps (profile)

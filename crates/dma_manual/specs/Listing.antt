@@ -62,15 +62,32 @@ blanks_behind width = drop (min width 43) (replicate 43 32)
 abbrev pub indented : List ℕ → ℕ → Insn → List ℕ
 indented labels o i = codes "    " ++ statement_text (jump_of labels o i) i
 
--- the comment behind a text of this width: the address and the bytes of an instruction
-abbrev pub comment_text : ℕ → ℕ → ℕ → List ℕ → List ℕ
-comment_text width at o bytes =
+-- the address to which a DMALPEND at an address jumps, if that is no label
+abbrev pub target_by : Option ℕ → ℕ → ℕ → Option ℕ
+target_by (Some label) here back = None
+target_by None here back = Some ((here + 2 ^ 32 - back) % 2 ^ 32)
+
+-- the address to which an instruction at the offset o jumps, if it is a DMALPEND that jumps to no label
+abbrev pub target_of : List ℕ → ℕ → ℕ → Insn → Option ℕ
+target_of labels at o (LpEnd c b) = target_by (label_before labels o b) ((at + o) % 2 ^ 32) b
+target_of labels at o _ = None
+
+-- how such an address is printed, behind the bytes of the DMALPEND
+abbrev pub target_text : Option ℕ → List ℕ
+target_text None = []
+target_text (Some address) = codes ", jumps to 0x" ++ hex_digits address
+
+-- the comment behind a text of this width: the address and the bytes of an instruction, and where it jumps to
+abbrev pub comment_text : ℕ → ℕ → ℕ → List ℕ → Option ℕ → List ℕ
+comment_text width at o bytes target =
     blanks_behind width
-    ++ (codes " ; " ++ hex_digits ((at + o) % 2 ^ 32) ++ codes " " ++ (spaced_bytes bytes ++ codes "\n"))
+    ++ (codes " ; " ++ hex_digits ((at + o) % 2 ^ 32) ++ codes " "
+    ++ (spaced_bytes bytes ++ target_text target ++ codes "\n"))
 
 -- the line of an instruction at the offset o
 abbrev pub line_text : ℕ → List ℕ → ℕ → Insn → List ℕ
-line_text at labels o i = indented labels o i ++ comment_text (length (indented labels o i)) at o (spelling i)
+line_text at labels o i =
+    indented labels o i ++ comment_text (length (indented labels o i)) at o (spelling i) (target_of labels at o i)
 
 -- the line of a label
 abbrev pub label_text : Option ℕ → List ℕ

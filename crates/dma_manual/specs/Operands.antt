@@ -48,6 +48,16 @@ within cause low high (Some n) word rest =
 abbrev pub number_at : AsmCause → ℕ → ℕ → List ℕ → List ℕ → List ℕ → Result ℕ Fault
 number_at cause low high digits word rest = within cause low high (number_of digits) word rest
 
+-- the same, with the cause also for what is no number
+abbrev pub in_field : AsmCause → ℕ → ℕ → Option ℕ → List ℕ → List ℕ → Result ℕ Fault
+in_field cause low high None word rest = Err (fault_at cause word rest)
+in_field cause low high (Some n) word rest =
+    if nat_le low n && nat_le n high then Ok n else Err (fault_at cause word rest)
+
+-- the number of a field, by the digits of its word
+abbrev pub field_at : AsmCause → ℕ → ℕ → List ℕ → List ℕ → List ℕ → Result ℕ Fault
+field_at cause low high digits word rest = in_field cause low high (number_of digits) word rest
+
 -- the number of an event, which e may precede
 abbrev pub event_at : List ℕ → List ℕ → Result ℕ Fault
 event_at word rest =

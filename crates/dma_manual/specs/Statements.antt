@@ -15,6 +15,7 @@ use Rattle.dma_manual.specs.Operands.{event_at, fault_at, no_more, number_at, wo
 use Rattle.dma_manual.specs.Fields.{fields_at}
 use Rattle.dma_manual.specs.declared.assembler.AsmCause.TheVariants as causes
 use Rattle.dma_manual.specs.declared.assembler.Fault.{Fault}
+use Rattle.dma_manual.specs.declared.assembler.Operand.TheVariants as operand
 use Rattle.dma_manual.specs.declared.statements.Named.{Named}
 use Rattle.dma_manual.specs.declared.statements.End.{End as LoopTo}
 use Rattle.dma_manual.specs.declared.statements.End.TheVariants as ends
@@ -60,8 +61,8 @@ loop_by (Some counter) word after missing = do
 -- the words after DMALP: a counter, which may be left out, and the number of times
 abbrev pub loop_line : List ℕ → List ℕ → Result Statement Fault
 loop_line name rest = do
-  w ← word_after rest (fault_at causes.Missing name rest)
-  loop_by (counter_of w.0) w.0 w.1 (fault_at causes.Missing name rest)
+  w ← word_after rest (fault_at (causes.Missing operand.Times) name rest)
+  loop_by (counter_of w.0) w.0 w.1 (fault_at (causes.Missing operand.Times) name rest)
 
 -- where a DMALPEND jumps to: the number of bytes after a minus, or a label
 abbrev pub end_at : List Label → Counter → List ℕ → List ℕ → Result LoopTo Fault
@@ -90,7 +91,7 @@ loop_end_line labels rest = loop_end_by labels (next_of rest)
 -- the word after DMASEV: an event
 abbrev pub event_line : List ℕ → List ℕ → Result Statement Fault
 event_line name rest = do
-  w ← word_after rest (fault_at causes.Missing name rest)
+  w ← word_after rest (fault_at (causes.Missing operand.Event) name rest)
   e ← event_at w.0 w.1
   done ← no_more w.1
   Ok (says.Plain (Sev e))
@@ -107,7 +108,7 @@ wait_flag rest = wait_by (next_of rest)
 -- the words after DMAWFE: an event, and optionally `invalid`
 abbrev pub wait_line : List ℕ → List ℕ → Result Statement Fault
 wait_line name rest = do
-  w ← word_after rest (fault_at causes.Missing name rest)
+  w ← word_after rest (fault_at (causes.Missing operand.Event) name rest)
   e ← event_at w.0 w.1
   invalid ← wait_flag w.1
   Ok (says.Plain (Wfe e invalid))
@@ -115,7 +116,7 @@ wait_line name rest = do
 -- the word after DCB: a byte
 abbrev pub byte_line : List ℕ → List ℕ → Result Statement Fault
 byte_line name rest = do
-  w ← word_after rest (fault_at causes.Missing name rest)
+  w ← word_after rest (fault_at (causes.Missing operand.Byte) name rest)
   b ← number_at causes.Byte 0 255 w.0 w.0 w.1
   done ← no_more w.1
   Ok (says.Byte b)
@@ -135,13 +136,13 @@ is_numeral (c ∷ word) = nat_le 48 c && nat_le c 57
 -- the words after DMAMOV CCR: the value, or fields
 abbrev pub control_line : List ℕ → List ℕ → Result Statement Fault
 control_line name rest = do
-  w ← word_after rest (fault_at causes.Missing name rest)
+  w ← word_after rest (fault_at (causes.Missing operand.Fields) name rest)
   if is_numeral w.0 then set_value Ccr w.0 w.1 else (fields_at rest >>= λ v. Ok (says.Plain (Mov Ccr v)))
 
 -- the word after DMAMOV SAR or DAR: an address
 abbrev pub address_line : Reg → List ℕ → List ℕ → Result Statement Fault
 address_line reg name rest = do
-  w ← word_after rest (fault_at causes.Missing name rest)
+  w ← word_after rest (fault_at (causes.Missing operand.Address) name rest)
   set_value reg w.0 w.1
 
 -- the words after DMAMOV: a register and what it is set to
@@ -153,7 +154,7 @@ set_by word rest =
 
 abbrev pub set_line : List ℕ → List ℕ → Result Statement Fault
 set_line name rest = do
-  w ← word_after rest (fault_at causes.Missing name rest)
+  w ← word_after rest (fault_at (causes.Missing operand.Register) name rest)
   set_by w.0 w.1
 
 -- the fault of a word that names no instruction of the model

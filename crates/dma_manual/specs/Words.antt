@@ -1,5 +1,6 @@
 -- The words of a line of assembly text (profile).
-use Rattle.std.specs.Prelude.{ℕ, Bool, ◌==◌, ◌||◌, not, if◌then◌else◌, List, length, take, drop, min, position, unwrap_or, Option, Some, None}
+use Rattle.std.specs.Prelude.{ℕ, Bool, ◌==◌, ◌||◌, not, if◌then◌else◌, List, length, take, drop, min, nat_eq, position, codes, unwrap_or, Option, Some, None}
+use Rattle.std.specs.List.{starts_with}
 use Rattle.std.specs.Char.{to_ascii_lowercase}
 
 -- a byte in lower case; a tab, a carriage return and a comma as a space
@@ -17,6 +18,14 @@ begins_comment b = b == 59 || b == 35 || b == 47
 -- a line without its comment
 abbrev pub code_of : List ℕ → List ℕ
 code_of line = take (place_or_len (position begins_comment line) line) line
+
+-- the comment of a line, with the byte that begins it; no bytes without a comment
+abbrev pub comment_of : List ℕ → List ℕ
+comment_of line = drop (place_or_len (position begins_comment line) line) line
+
+-- whether a number sign begins the comment of a line
+abbrev pub has_sign : List ℕ → Bool
+has_sign line = starts_with nat_eq (comment_of line) (codes "#")
 
 -- whether a byte is no space
 abbrev pub is_word_byte : ℕ → Bool

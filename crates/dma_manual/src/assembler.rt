@@ -2,22 +2,45 @@
 
 ghost use Rattle.std.specs.Prelude.{◌≡◌, ◌++◌, OnOk, OnErr, IfOk, is_ok};
 ghost use Rattle.dma_manual.specs.Errors.{IsAssembled, assembled_err, assembled_out};
-ghost use Rattle.dma_manual.specs.Assembled.{ResultOr, assembled, draft_view, empty, take_lines};
+ghost use Rattle.dma_manual.specs.Assembled.{ResultOr, draft_view, empty, read_text, take_lines};
 ghost use Rattle.dma_insn.specs.AssemblyText.{text_lines};
 
 use crate::draft::{Draft, take_line};
-use crate::errors::{AsmError, Wrong, word_at};
+use crate::errors::{AsmError, Wrong, note_of, word_at};
+use crate::manual::Side;
+use crate::warning::warning_of;
 use crate::words::{plain_line, split_line};
 use dma_script::printing::ProgramLines;
 use dma_text::text::print;
 use std::alloc::{AllocError, Global};
+
+/// An operand that an instruction lacks.
+#[derive(Clone, Copy)]
+pub enum Operand {
+    Times,
+    Event,
+    Byte,
+    Register,
+    Address,
+    Fields,
+}
+
+/// A field of one end of a control word.
+#[derive(Clone, Copy)]
+pub enum Field {
+    Beats,
+    Size,
+    Address,
+    Protection,
+    Cache,
+}
 
 /// What is wrong with a word.
 #[derive(Clone, Copy)]
 pub enum AsmCause {
     Name,
     NotExecuted,
-    Missing,
+    Missing(Operand),
     Extra,
     Number,
     Times,
@@ -27,7 +50,10 @@ pub enum AsmCause {
     Value,
     Register,
     Counter,
+    /// It begins with the name of no field.
     Field,
+    /// The field cannot have this value.
+    FieldValue(Side, Field),
     Swap,
     Twice,
     Label,
@@ -108,13 +134,13 @@ fn draft_of(alloc: Global, text: &[u8]) -> Result<Draft, Stop>
     Ok(draft)
 }
 
-// Returns the bytes of the program that a text describes, or its first fault.
-fn assemble_located(alloc: Global, text: &[u8]) -> Result<Vec<u8>, Stop>
-    ensures { ResultOr (λ program. program.items) result (assembled text.now) }
+// Returns what a text says, or its first fault.
+fn read_text(alloc: Global, text: &[u8]) -> Result<Draft, Stop>
+    ensures { ResultOr (λ draft. draft_view draft) result (read_text text.now) }
 {
     let draft = draft_of(alloc, text)?;
     draft.closed()?;
-    Ok(draft.code)
+    Ok(draft)
 }
 
 /// Returns the bytes of the program that a text describes, or the text's first fault.
@@ -128,19 +154,26 @@ fn assemble_located(alloc: Global, text: &[u8]) -> Result<Vec<u8>, Stop>
 pub fn assemble(alloc: Global, text: &[u8]) -> Result<Vec<u8>, AsmError<'_>>
     ensures { IsAssembled (λ program. program.items) text.now result }
 {
-    match assemble_located(alloc, text) {
-        Ok(program) => Ok(program),
+    match read_text(alloc, text) {
+        Ok(draft) => Ok(draft.code),
         Err(Stop::At(located)) => {
             let word = word_at(text, located.spot);
-            Err(AsmError::Wrong(Wrong { located, word }))
+            match note_of(alloc, text, located, word) {
+                Ok(note) => Err(AsmError::Wrong(Wrong {
+                    located,
+                    word,
+                    note,
+                })),
+                Err(_) => Err(AsmError::NoMemory),
+            }
         }
         Err(Stop::NoMemory) => Err(AsmError::NoMemory),
     }
 }
 
-/// Assembles a text. Appends the program's bytes in hexadecimal digits to `out`, 16 to a line, and returns true; or
-/// appends the text's first fault to `err`, as `LINE:COLUMN: 'WORD' is ..`, and returns false. Appends nothing if memory
-/// runs out.
+/// Assembles a text. Appends the program's bytes in hexadecimal digits to `out`, 16 to a line, and to `err` the first
+/// warning, if there is one, and returns true; or appends the text's first fault to `err`, as
+/// `LINE:COLUMN: 'WORD' is ..`, and returns false. Appends nothing if memory runs out.
 pub fn assemble_text(
     alloc: Global,
     text: &[u8],
@@ -148,21 +181,33 @@ pub fn assemble_text(
     err: &mut Vec<u8>,
 ) -> Result<bool, AllocError>
     ensures out { OnOk result
-        (out.new.items ≡ out.old.items ++ assembled_out (assembled text.now)) }
+        (out.new.items ≡ out.old.items ++ assembled_out (read_text text.now)) }
     ensures err { OnOk result
-        (err.new.items ≡ err.old.items ++ assembled_err text.now (assembled text.now)) }
-    ensures succeeded { IfOk result (λ succeeded. succeeded ≡ is_ok (assembled text.now)) }
+        (err.new.items ≡ err.old.items ++ assembled_err text.now (read_text text.now)) }
+    ensures succeeded { IfOk result (λ succeeded. succeeded ≡ is_ok (read_text text.now)) }
     ensures out_kept { OnErr result (out.new.items ≡ out.old.items) }
     ensures err_kept { OnErr result (err.new.items ≡ err.old.items) }
 {
-    match assemble_located(alloc, text) {
-        Ok(program) => {
-            print(out, &ProgramLines(&program))?;
+    match read_text(alloc, text) {
+        Ok(draft) => {
+            let start = err.len();
+            print(err, &warning_of(&draft))?;
+            let printed = print(out, &ProgramLines(&draft.code));
+            if printed.is_err() {
+                err.truncate(start);
+                return Err(AllocError);
+            }
             Ok(true)
         }
         Err(Stop::At(located)) => {
             let word = word_at(text, located.spot);
-            print(err, &(Wrong { located, word }, "\n"))?;
+            let note = note_of(alloc, text, located, word)?;
+            let wrong = Wrong {
+                located,
+                word,
+                note,
+            };
+            print(err, &(wrong, "\n"))?;
             Ok(false)
         }
         Err(Stop::NoMemory) => Err(AllocError),

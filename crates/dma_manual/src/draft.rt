@@ -1,13 +1,16 @@
 //! The program so far, while a text is assembled.
 
-ghost use Rattle.std.specs.Prelude.{◌≡◌, ◌++◌, ◌+◌, ◌-◌, ◌≤◌, ◌<◌, [], ◌∷◌, length, map, Option, MatchOption, Some, None};
+ghost use Rattle.std.specs.Prelude.{◌≡◌, ◌==◌, ◌++◌, ◌+◌, ◌-◌, ◌≤◌, ◌<◌, [], ◌∷◌, length, map, Option, MatchOption, Some, None};
 ghost use Rattle.dma_insn.specs.Spelling.{spelling};
 ghost use Rattle.dma_insn.specs.LineReading.{ResultIs};
 ghost use Rattle.dma_manual.specs.Words.{next_of};
-ghost use Rattle.dma_manual.specs.Assembled.{ResultOr, after_statement, back_to, begun, chosen, draft_view, empty, ended, free_counter, innermost, jump_of, label_in, located, place_of, slot, spot_at, take_line, unclosed, with_bytes, with_label, with_loop, with_statement};
+ghost use Rattle.dma_manual.specs.Assembled.{ResultOr, after_statement, begun, draft_view, empty, ended, first_stray, label_in, located, place_of, spot_at, take_line, unclosed, with_bytes, with_code, with_label, with_statement};
+ghost use Rattle.dma_manual.specs.Listing.{is_end};
 ghost use Rattle.dma_manual.specs.Statements.{label_view};
 
 use crate::assembler::{AsmCause, Fault, Located, Spot, Stop};
+use crate::listing::is_end;
+use crate::loops::{Loops, Open, chosen, jump_of};
 use crate::statements::{End, Named, Statement, label_of, statement_at};
 use crate::words::next_word;
 use dma_insn::assembler::MAX_PROGRAM_BYTES;
@@ -15,116 +18,16 @@ use dma_insn::codec::encode;
 use dma_insn::insn::{Counter, Insn, Times};
 use std::alloc::Global;
 
-/// A loop that no DMALPEND has ended yet.
-#[derive(Clone, Copy)]
-pub struct Open {
-    /// The offset of the loop's body.
-    start: usize,
-    /// The place of a DMALP without a counter, whose loop has to be ended.
-    unnamed: Option<Spot>,
-}
-
-/// The open loops by their counters.
-#[derive(Clone, Copy)]
-pub struct Loops {
-    lc0: Option<Open>,
-    lc1: Option<Open>,
-}
-
-impl Loops {
-    // Returns the open loop of a counter.
-    fn slot(&self, counter: Counter) -> Option<Open>
-        ensures { result ≡ slot self.now counter }
-    {
-        match counter {
-            Counter::Lc0 => self.lc0,
-            Counter::Lc1 => self.lc1,
-        }
-    }
-
-    // Returns the loops with this one in place of the counter's.
-    fn with(&self, counter: Counter, started: Option<Open>) -> Loops
-        ensures { result ≡ with_loop self.now counter started }
-    {
-        match counter {
-            Counter::Lc0 => Loops {
-                lc0: started,
-                lc1: self.lc1,
-            },
-            Counter::Lc1 => Loops {
-                lc0: self.lc0,
-                lc1: started,
-            },
-        }
-    }
-
-    // Returns the first counter without an open loop.
-    fn free_counter(&self) -> Option<Counter>
-        ensures { result ≡ free_counter self.now }
-    {
-        match (self.lc0, self.lc1) {
-            (None, _) => Some(Counter::Lc0),
-            (Some(_), None) => Some(Counter::Lc1),
-            (Some(_), Some(_)) => None,
-        }
-    }
-
-    // Returns the counter and the start of the open loop that begins last.
-    fn innermost(&self) -> Option<(Counter, usize)>
-        ensures { result ≡ innermost self.now }
-    {
-        match (self.lc0, self.lc1) {
-            (None, None) => None,
-            (Some(a), None) => Some((Counter::Lc0, a.start)),
-            (None, Some(b)) => Some((Counter::Lc1, b.start)),
-            (Some(a), Some(b)) => {
-                if a.start < b.start {
-                    Some((Counter::Lc1, b.start))
-                } else {
-                    Some((Counter::Lc0, a.start))
-                }
-            }
-        }
-    }
-
-    // Succeeds if each loop whose counter was found is ended.
-    fn closed(&self) -> Result<(), Located>
-        ensures { result ≡ unclosed self.now }
-    {
-        if let Some(
-            Open {
-                unnamed: Some(spot),
-                ..
-            },
-        ) = self.lc0
-        {
-            return Err(Located {
-                spot,
-                cause: AsmCause::Open,
-            });
-        }
-        if let Some(
-            Open {
-                unnamed: Some(spot),
-                ..
-            },
-        ) = self.lc1
-        {
-            return Err(Located {
-                spot,
-                cause: AsmCause::Open,
-            });
-        }
-        Ok(())
-    }
-}
-
 /// The program so far.
 #[derive(Drop)]
 pub struct Draft {
     pub code: Vec<u8>,
     pub labels: Vec<Named>,
     pub loops: Loops,
+    /// Whether an instruction is DMAEND, or a byte is 0, which is DMAEND.
+    pub stops: bool,
+    /// The place of the first DMALPEND that jumps elsewhere than behind the DMALP of its counter's open loop.
+    pub stray: Option<Spot>,
 }
 
 impl Draft {
@@ -139,6 +42,8 @@ impl Draft {
                 lc0: None,
                 lc1: None,
             },
+            stops: false,
+            stray: None,
         }
     }
 
@@ -206,62 +111,6 @@ fn push_insn(code: &mut Vec<u8>, insn: Insn, spot: Spot) -> Result<(), Stop>
     push_bytes(code, &bytes[..len], spot)
 }
 
-// Returns the counter of a DMALP, and its place if the counter has to be found.
-fn chosen(
-    loops: &Loops,
-    counter: Option<Counter>,
-    spot: Spot,
-) -> Result<(Counter, Option<Spot>), Located>
-    ensures { result ≡ chosen loops.now counter spot }
-{
-    match counter {
-        Some(counter) => Ok((counter, None)),
-        None => match loops.free_counter() {
-            Some(counter) => Ok((counter, Some(spot))),
-            None => Err(Located {
-                spot,
-                cause: AsmCause::NoCounter,
-            }),
-        },
-    }
-}
-
-// Returns the number of bytes from a loop's start to a DMALPEND, at most 255.
-fn back_to(here: usize, start: usize, spot: Spot) -> Result<u8, Located>
-    ensures { result ≡ back_to here start spot }
-{
-    if start <= here && here - start <= 255 {
-        Ok((here - start) as u8)
-    } else {
-        Err(Located {
-            spot,
-            cause: AsmCause::Far,
-        })
-    }
-}
-
-// Returns the counter of a DMALPEND at an offset, and the length of its jump.
-fn jump_of(loops: &Loops, here: usize, end: End, spot: Spot) -> Result<(Counter, u8), Located>
-    ensures { result ≡ jump_of loops.now here end spot }
-{
-    let missing = Located {
-        spot,
-        cause: AsmCause::NoLoop,
-    };
-    match end {
-        End::Innermost => {
-            let (counter, start) = loops.innermost().ok_or(missing)?;
-            Ok((counter, back_to(here, start, spot)?))
-        }
-        End::Of(counter) => {
-            let open = loops.slot(counter).ok_or(missing)?;
-            Ok((counter, back_to(here, open.start, spot)?))
-        }
-        End::To(counter, start) => Ok((counter, back_to(here, start, spot)?)),
-        End::Back(counter, back) => Ok((counter, back)),
-    }
-}
-
 // Appends a DMALP, and opens its loop.
 fn begin_loop(
     draft: &mut Draft,
@@ -282,14 +131,48 @@ fn begin_loop(
     Ok(())
 }
 
+// Returns the place of the first DMALPEND that closes no loop, with this one, whose place follows.
+fn first_stray(stray: Option<Spot>, closes: bool, spot: Spot) -> Option<Spot>
+    ensures { result ≡ first_stray stray closes spot }
+{
+    match stray {
+        Some(first) => Some(first),
+        None if closes => None,
+        None => Some(spot),
+    }
+}
+
 // Appends a DMALPEND, and closes its loop.
 fn end_loop(draft: &mut Draft, end: End, spot: Spot) -> Result<(), Stop>
     ensures { ResultOr (λ _. draft_view draft.new) result
         (ended (draft_view draft.old) end spot) }
 {
-    let (counter, back) = jump_of(&draft.loops, draft.code.len(), end, spot)?;
+    let here = draft.code.len();
+    let (counter, back) = jump_of(&draft.loops, here, end, spot)?;
+    let closes = draft.loops.is_closed_by(counter, here, back);
     push_insn(&mut draft.code, Insn::LpEnd { counter, back }, spot)?;
     draft.loops = draft.loops.with(counter, None);
+    draft.stray = first_stray(draft.stray, closes, spot);
+    Ok(())
+}
+
+// Appends an instruction that is no DMALP or DMALPEND.
+fn push_plain(draft: &mut Draft, insn: Insn, spot: Spot) -> Result<(), Stop>
+    ensures { ResultOr (λ _. draft_view draft.new) result
+        (with_code (draft_view draft.old) (spelling insn) (is_end insn) spot) }
+{
+    push_insn(&mut draft.code, insn, spot)?;
+    draft.stops = draft.stops || is_end(&insn);
+    Ok(())
+}
+
+// Appends a byte.
+fn push_byte(draft: &mut Draft, byte: u8, spot: Spot) -> Result<(), Stop>
+    ensures { ResultOr (λ _. draft_view draft.new) result
+        (with_code (draft_view draft.old) (byte ∷ []) (byte == 0) spot) }
+{
+    push_bytes(&mut draft.code, &[byte], spot)?;
+    draft.stops = draft.stops || byte == 0;
     Ok(())
 }
 
@@ -300,8 +183,8 @@ fn push_statement(draft: &mut Draft, statement: Statement, spot: Spot) -> Result
 {
     match statement {
         Statement::Nothing => Ok(()),
-        Statement::Plain(insn) => push_insn(&mut draft.code, insn, spot),
-        Statement::Byte(byte) => push_bytes(&mut draft.code, &[byte], spot),
+        Statement::Plain(insn) => push_plain(draft, insn, spot),
+        Statement::Byte(byte) => push_byte(draft, byte, spot),
         Statement::Loop { counter, times } => begin_loop(draft, counter, times, spot),
         Statement::LoopEnd(end) => end_loop(draft, end, spot),
     }
@@ -320,8 +203,8 @@ fn take_statement(draft: &mut Draft, number: usize, line: &[u8], rest: &[u8]) ->
     }
 }
 
-// Returns the label at the front of a line, and what follows it.
-fn label_in(line: &[u8]) -> Option<(&[u8], &[u8])>
+/// Returns the label at the front of a line, and what follows it.
+pub fn label_in(line: &[u8]) -> Option<(&[u8], &[u8])>
     ensures { MatchOption result (label_in line.now ≡ None)
         (λ w. label_in line.now ≡ Some (w.0.now, w.1.now)) }
 {

@@ -4,9 +4,9 @@ ghost use Rattle.std.specs.Prelude.{◌≡◌, ◌≤◌};
 ghost use Rattle.dma_insn.specs.LineReading.{ResultIs};
 ghost use Rattle.dma_manual.specs.Fields.{cache_of, end_of, fields_at, free, increments_of, no_end, no_fields, set_beats, set_cache, set_end, set_field, set_increments, set_protection, set_size, size_of_bits, swap_at, word_of};
 
-use crate::assembler::{AsmCause, Fault};
+use crate::assembler::{AsmCause, Fault, Field};
 use crate::manual::Side;
-use crate::operands::{fault_at, number_at};
+use crate::operands::{fault_at, field_at};
 use crate::words::next_word;
 use dma_insn::control::{Attribute, BeatSize, Beats, BurstEnd, Control};
 use dma_text::bytes::is_text;
@@ -129,38 +129,68 @@ fn cache_of(side: Side, signals: u64) -> Option<Attribute>
     }
 }
 
-fn set_beats(end: &mut EndFields, digits: &[u8], word: &[u8], rest: &[u8]) -> Result<(), Fault>
-    ensures { ResultIs (λ _. end.new) result (set_beats end.old digits.now word.now rest.now) }
+fn set_beats(
+    end: &mut EndFields,
+    side: Side,
+    digits: &[u8],
+    word: &[u8],
+    rest: &[u8],
+) -> Result<(), Fault>
+    ensures { ResultIs (λ _. end.new) result (set_beats end.old side digits.now word.now rest.now) }
 {
-    let beats = number_at(AsmCause::Field, 1, 16, digits, word, rest)?;
+    let cause = AsmCause::FieldValue(side, Field::Beats);
+    let beats = field_at(cause, 1, 16, digits, word, rest)?;
     free(end.beats.is_some(), word, rest)?;
     end.beats = Some(Beats::of_number(beats as u8));
     Ok(())
 }
 
-fn set_size(end: &mut EndFields, digits: &[u8], word: &[u8], rest: &[u8]) -> Result<(), Fault>
-    ensures { ResultIs (λ _. end.new) result (set_size end.old digits.now word.now rest.now) }
+fn set_size(
+    end: &mut EndFields,
+    side: Side,
+    digits: &[u8],
+    word: &[u8],
+    rest: &[u8],
+) -> Result<(), Fault>
+    ensures { ResultIs (λ _. end.new) result (set_size end.old side digits.now word.now rest.now) }
 {
-    let bits = number_at(AsmCause::Field, 8, 128, digits, word, rest)?;
-    let size = size_of_bits(bits).ok_or(fault_at(AsmCause::Field, word, rest))?;
+    let cause = AsmCause::FieldValue(side, Field::Size);
+    let bits = field_at(cause, 8, 128, digits, word, rest)?;
+    let size = size_of_bits(bits).ok_or(fault_at(cause, word, rest))?;
     free(end.size.is_some(), word, rest)?;
     end.size = Some(size);
     Ok(())
 }
 
-fn set_increments(end: &mut EndFields, name: &[u8], word: &[u8], rest: &[u8]) -> Result<(), Fault>
-    ensures { ResultIs (λ _. end.new) result (set_increments end.old name.now word.now rest.now) }
+fn set_increments(
+    end: &mut EndFields,
+    side: Side,
+    name: &[u8],
+    word: &[u8],
+    rest: &[u8],
+) -> Result<(), Fault>
+    ensures { ResultIs (λ _. end.new) result
+        (set_increments end.old side name.now word.now rest.now) }
 {
-    let increments = increments_of(name).ok_or(fault_at(AsmCause::Field, word, rest))?;
+    let cause = AsmCause::FieldValue(side, Field::Address);
+    let increments = increments_of(name).ok_or(fault_at(cause, word, rest))?;
     free(end.increments.is_some(), word, rest)?;
     end.increments = Some(increments);
     Ok(())
 }
 
-fn set_protection(end: &mut EndFields, digits: &[u8], word: &[u8], rest: &[u8]) -> Result<(), Fault>
-    ensures { ResultIs (λ _. end.new) result (set_protection end.old digits.now word.now rest.now) }
+fn set_protection(
+    end: &mut EndFields,
+    side: Side,
+    digits: &[u8],
+    word: &[u8],
+    rest: &[u8],
+) -> Result<(), Fault>
+    ensures { ResultIs (λ _. end.new) result
+        (set_protection end.old side digits.now word.now rest.now) }
 {
-    let protection = number_at(AsmCause::Field, 0, 7, digits, word, rest)?;
+    let cause = AsmCause::FieldValue(side, Field::Protection);
+    let protection = field_at(cause, 0, 7, digits, word, rest)?;
     free(end.protection.is_some(), word, rest)?;
     end.protection = Some(Attribute::of_code(protection as u8));
     Ok(())
@@ -175,8 +205,9 @@ fn set_cache(
 ) -> Result<(), Fault>
     ensures { ResultIs (λ _. end.new) result (set_cache end.old side digits.now word.now rest.now) }
 {
-    let signals = number_at(AsmCause::Field, 0, 15, digits, word, rest)?;
-    let cache = cache_of(side, signals).ok_or(fault_at(AsmCause::Field, word, rest))?;
+    let cause = AsmCause::FieldValue(side, Field::Cache);
+    let signals = field_at(cause, 0, 15, digits, word, rest)?;
+    let cache = cache_of(side, signals).ok_or(fault_at(cause, word, rest))?;
     free(end.cache.is_some(), word, rest)?;
     end.cache = Some(cache);
     Ok(())
@@ -193,10 +224,10 @@ fn set_end(
     ensures { ResultIs (λ _. end.new) result (set_end end.old side name.now word.now rest.now) }
 {
     match name {
-        [b'b', digits @ ..] => set_beats(end, digits, word, rest),
-        [b's', digits @ ..] => set_size(end, digits, word, rest),
-        [b'a', letter @ ..] => set_increments(end, letter, word, rest),
-        [b'p', digits @ ..] => set_protection(end, digits, word, rest),
+        [b'b', digits @ ..] => set_beats(end, side, digits, word, rest),
+        [b's', digits @ ..] => set_size(end, side, digits, word, rest),
+        [b'a', letter @ ..] => set_increments(end, side, letter, word, rest),
+        [b'p', digits @ ..] => set_protection(end, side, digits, word, rest),
         [b'c', digits @ ..] => set_cache(end, side, digits, word, rest),
         _ => Err(fault_at(AsmCause::Field, word, rest)),
     }

@@ -1,9 +1,9 @@
 //! Disassembles a program into lines that the assembler accepts.
 
-ghost use Rattle.std.specs.Prelude.{◌≡◌, ◌++◌, ◌+◌, ◌%◌, ◌<◌, ◌^◌, OnOk, OnErr, IfOk, ◌==◌};
+ghost use Rattle.std.specs.Prelude.{◌≡◌, ◌++◌, ◌+◌, ◌-◌, ◌%◌, ◌<◌, ◌^◌, OnOk, OnErr, IfOk, ◌==◌};
 ghost use Rattle.std.specs.List.{list_any};
 ghost use Rattle.dma_insn.specs.Spelling.{spelling};
-ghost use Rattle.dma_manual.specs.Listing.{blanks_behind, comment_text, follow, follow_words, indented, stop, cause_text, is_end, is_whole, jump_of, label_before, label_behind, label_name, label_text, line_text, listed, more_labels, rest_text, statement_text, stop_text};
+ghost use Rattle.dma_manual.specs.Listing.{blanks_behind, comment_text, follow, follow_words, indented, stop, cause_text, is_end, is_whole, jump_of, label_before, label_behind, label_name, label_text, line_text, listed, more_labels, rest_text, statement_text, stop_text, target_by, target_of, target_text};
 ghost use Rattle.dma_text.specs.Text.{Begins};
 
 use crate::chip_only::chip_only_name;
@@ -96,8 +96,8 @@ impl Text for Label {
     }
 }
 
-// Returns whether an instruction is DMAEND.
-fn is_end(insn: &Insn) -> bool
+/// Returns whether an instruction is DMAEND.
+pub fn is_end(insn: &Insn) -> bool
     ensures { result ≡ is_end insn.now }
 {
     match *insn {
@@ -192,6 +192,51 @@ fn push_indented(
     push_statement(out, labels, offset, insn)
 }
 
+// Returns the address this many bytes before another.
+fn address_before(address: u32, back: u8) -> u32
+    ensures { result ≡ (address + 2 ^ 32 - back) % 2 ^ 32 }
+{
+    ((u64::from(address) + 0x1_0000_0000 - u64::from(back)) % 0x1_0000_0000) as u32
+}
+
+// Returns the address to which a DMALPEND at an address jumps, unless it has a label.
+fn target_by(label: Option<usize>, here: u32, back: u8) -> Option<u32>
+    ensures { result ≡ target_by label here back }
+{
+    match label {
+        Some(_) => None,
+        None => Some(address_before(here, back)),
+    }
+}
+
+// Returns the address to which an instruction jumps, if it is a DMALPEND that jumps to no label.
+fn target_of(labels: &[usize], at: u32, offset: usize, insn: &Insn) -> Option<u32>
+    ensures { result ≡ target_of labels.now at offset insn.now }
+{
+    match *insn {
+        Insn::LpEnd { back, .. } => {
+            let label = label_before(labels, offset, usize::from(back));
+            target_by(label, address_of(at, offset), back)
+        }
+        _ => None,
+    }
+}
+
+/// The address to which a DMALPEND without a label jumps, behind its bytes.
+#[derive(Clone, Copy)]
+struct Target(Option<u32>);
+
+impl Text for Target {
+    ghost text = { λ target. target_text target.0 };
+
+    fn push(&self, out: &mut Vec<u8>) -> Result<(), AllocError> {
+        match self.0 {
+            Some(address) => (", jumps to 0x", Address(address)).push(out),
+            None => "".push(out),
+        }
+    }
+}
+
 // Appends the comment behind a text of this width.
 fn push_comment(
     out: &mut Vec<u8>,
@@ -199,14 +244,16 @@ fn push_comment(
     at: u32,
     offset: usize,
     code: &[u8],
+    target: Option<u32>,
 ) -> Result<(), AllocError>
     ensures ok { OnOk result
-        (out.new.items ≡ out.old.items ++ comment_text width at offset code.now) }
+        (out.new.items ≡ out.old.items ++ comment_text width at offset code.now target) }
     ensures begins { Begins out.new.items out.old.items }
 {
     push_blanks(out, width)?;
     let address = Address(address_of(at, offset));
-    (" ; ", address, " ", (SpacedBytes(code), "\n")).push(out)
+    let words = (SpacedBytes(code), Target(target), "\n");
+    (" ; ", address, " ", words).push(out)
 }
 
 // Returns the address of an offset.
@@ -229,9 +276,10 @@ fn push_line(
     ensures ok { OnOk result (out.new.items ≡ out.old.items ++ line_text at labels.now offset insn.now) }
     ensures begins { Begins out.new.items out.old.items }
 {
+    let target = target_of(labels, at, offset, insn);
     let start = out.len();
     push_indented(out, labels, offset, insn)?;
-    push_comment(out, out.len() - start, at, offset, code)
+    push_comment(out, out.len() - start, at, offset, code, target)
 }
 
 // Appends the line of the label behind an instruction, and adds it to the labels.

@@ -3,7 +3,7 @@
 ghost use Rattle.std.specs.Prelude.{◌≡◌, ◌≤◌, ◌^◌, IfOk, IfSome};
 ghost use Rattle.dma_insn.specs.LineReading.{ResultIs};
 ghost use Rattle.dma_manual.specs.Words.{next_of};
-ghost use Rattle.dma_manual.specs.Operands.{digits_in, event_at, fault_at, no_more, number_at, number_of, word_after};
+ghost use Rattle.dma_manual.specs.Operands.{digits_in, event_at, fault_at, field_at, no_more, number_at, number_of, word_after};
 
 use crate::assembler::{AsmCause, Fault};
 use crate::words::next_word;
@@ -87,6 +87,28 @@ pub fn number_at(
 {
     let Some(number) = number_of(digits) else {
         return Err(fault_at(AsmCause::Number, word, rest));
+    };
+    if low <= number && number <= high {
+        Ok(number)
+    } else {
+        Err(fault_at(cause, word, rest))
+    }
+}
+
+/// Returns the number that `digits` spell, from `low` to `high`. Fails with `cause` also if they spell none.
+pub fn field_at(
+    cause: AsmCause,
+    low: u64,
+    high: u64,
+    digits: &[u8],
+    word: &[u8],
+    rest: &[u8],
+) -> Result<u64, Fault>
+    ensures value { result ≡ field_at cause low high digits.now word.now rest.now }
+    ensures range { IfOk result (λ n. (low ≤ n) × (n ≤ high)) }
+{
+    let Some(number) = number_of(digits) else {
+        return Err(fault_at(cause, word, rest));
     };
     if low <= number && number <= high {
         Ok(number)

@@ -4,7 +4,7 @@ ghost use Rattle.std.specs.Prelude.{◌≡◌, map};
 ghost use Rattle.dma_manual.specs.Statements.{bare, by_name, address_line, byte_line, control_line, counter_of, end_at, event_line, label_of, label_view, loop_end_line, loop_end_to, loop_line, no_name, set_line, set_value, statement_at, times_line, wait_flag, wait_line};
 ghost use Rattle.dma_manual.specs.Words.{next_of};
 
-use crate::assembler::{AsmCause, Fault};
+use crate::assembler::{AsmCause, Fault, Operand};
 use crate::chip_only::is_chip_only;
 use crate::fields::fields_at;
 use crate::operands::{event_at, fault_at, no_more, number_at, word_after};
@@ -95,7 +95,7 @@ fn times_line(counter: Option<Counter>, word: &[u8], rest: &[u8]) -> Result<Stat
 fn loop_line(name: &[u8], rest: &[u8]) -> Result<Statement, Fault>
     ensures { result ≡ loop_line name.now rest.now }
 {
-    let missing = fault_at(AsmCause::Missing, name, rest);
+    let missing = fault_at(AsmCause::Missing(Operand::Times), name, rest);
     let (word, after) = word_after(rest, missing)?;
     match counter_of(word) {
         None => times_line(None, word, after),
@@ -153,7 +153,10 @@ fn loop_end_line(labels: &[Named], rest: &[u8]) -> Result<Statement, Fault>
 fn event_line(name: &[u8], rest: &[u8]) -> Result<Statement, Fault>
     ensures { result ≡ event_line name.now rest.now }
 {
-    let (word, rest) = word_after(rest, fault_at(AsmCause::Missing, name, rest))?;
+    let (word, rest) = word_after(
+        rest,
+        fault_at(AsmCause::Missing(Operand::Event), name, rest),
+    )?;
     let event = event_at(word, rest)?;
     no_more(rest)?;
     Ok(Statement::Plain(Insn::Sev(Event::of_number(event as u8))))
@@ -177,7 +180,10 @@ fn wait_flag(rest: &[u8]) -> Result<bool, Fault>
 fn wait_line(name: &[u8], rest: &[u8]) -> Result<Statement, Fault>
     ensures { result ≡ wait_line name.now rest.now }
 {
-    let (word, rest) = word_after(rest, fault_at(AsmCause::Missing, name, rest))?;
+    let (word, rest) = word_after(
+        rest,
+        fault_at(AsmCause::Missing(Operand::Event), name, rest),
+    )?;
     let number = event_at(word, rest)?;
     let invalid = wait_flag(rest)?;
     Ok(Statement::Plain(Insn::Wfe {
@@ -190,7 +196,7 @@ fn wait_line(name: &[u8], rest: &[u8]) -> Result<Statement, Fault>
 fn byte_line(name: &[u8], rest: &[u8]) -> Result<Statement, Fault>
     ensures { result ≡ byte_line name.now rest.now }
 {
-    let (word, rest) = word_after(rest, fault_at(AsmCause::Missing, name, rest))?;
+    let (word, rest) = word_after(rest, fault_at(AsmCause::Missing(Operand::Byte), name, rest))?;
     let byte = number_at(AsmCause::Byte, 0, 255, word, word, rest)?;
     no_more(rest)?;
     Ok(Statement::Byte(byte as u8))
@@ -209,7 +215,10 @@ fn set_value(reg: Reg, word: &[u8], rest: &[u8]) -> Result<Statement, Fault>
 fn control_line(name: &[u8], rest: &[u8]) -> Result<Statement, Fault>
     ensures { result ≡ control_line name.now rest.now }
 {
-    let (word, after) = word_after(rest, fault_at(AsmCause::Missing, name, rest))?;
+    let (word, after) = word_after(
+        rest,
+        fault_at(AsmCause::Missing(Operand::Fields), name, rest),
+    )?;
     match word {
         [b'0'..=b'9', ..] => set_value(Reg::Ccr, word, after),
         _ => Ok(Statement::Plain(Insn::Mov(Reg::Ccr, fields_at(rest)?))),
@@ -220,7 +229,10 @@ fn control_line(name: &[u8], rest: &[u8]) -> Result<Statement, Fault>
 fn address_line(reg: Reg, name: &[u8], rest: &[u8]) -> Result<Statement, Fault>
     ensures { result ≡ address_line reg name.now rest.now }
 {
-    let (word, after) = word_after(rest, fault_at(AsmCause::Missing, name, rest))?;
+    let (word, after) = word_after(
+        rest,
+        fault_at(AsmCause::Missing(Operand::Address), name, rest),
+    )?;
     set_value(reg, word, after)
 }
 
@@ -228,7 +240,10 @@ fn address_line(reg: Reg, name: &[u8], rest: &[u8]) -> Result<Statement, Fault>
 fn set_line(name: &[u8], rest: &[u8]) -> Result<Statement, Fault>
     ensures { result ≡ set_line name.now rest.now }
 {
-    let (word, rest) = word_after(rest, fault_at(AsmCause::Missing, name, rest))?;
+    let (word, rest) = word_after(
+        rest,
+        fault_at(AsmCause::Missing(Operand::Register), name, rest),
+    )?;
     if is_text(word, b"sar") {
         address_line(Reg::Sar, word, rest)
     } else if is_text(word, b"dar") {

@@ -2,7 +2,7 @@
 
 ghost use Rattle.std.specs.Prelude.{◌≡◌, ◌∷◌, ◌<◌, ◌≤◌, IfOk, MatchOption, None, Some, length, map, position};
 ghost use Rattle.dma_insn.specs.AssemblyText.{text_lines};
-ghost use Rattle.dma_manual.specs.Words.{begins_comment, code_of, is_word_byte, next_of, place_or_len, plain_byte};
+ghost use Rattle.dma_manual.specs.Words.{begins_comment, code_of, comment_of, has_sign, is_word_byte, next_of, place_or_len, plain_byte};
 
 use dma_text::bytes::position_of;
 use std::alloc::{AllocError, Global};
@@ -47,6 +47,24 @@ fn without_comment(line: &[u8]) -> &[u8]
 {
     let (code, _) = line.split_at(place_or_len(comment_place(line), line));
     code
+}
+
+// Returns the comment of a line, with the byte that begins it, or no bytes without a comment.
+fn comment_of(line: &[u8]) -> &[u8]
+    ensures { result.now ≡ comment_of line.now }
+{
+    let (_, comment) = line.split_at(place_or_len(comment_place(line), line));
+    comment
+}
+
+/// Returns whether a number sign begins the comment of a line.
+pub fn has_sign(line: &[u8]) -> bool
+    ensures { result ≡ has_sign line.now }
+{
+    match comment_of(line) {
+        [b'#', ..] => true,
+        _ => false,
+    }
 }
 
 // Returns a byte in lower case; a tab, a carriage return and a comma as a space.
