@@ -8,9 +8,10 @@ use Rattle.dma_manual.specs.Errors.{assembled_err, assembled_out}
 use Rattle.dma_manual.specs.Listing.{is_whole, listed, rest_text, stop_text}
 use Rattle.dma_script.specs.Command.{printed_text}
 use Rattle.dma_seeds.specs.Expect.{is_good, verdict, verdict_text, without_expects}
+use Rattle.dma_seeds.specs.Faults.{race_message, run_message}
 use Rattle.dma_seeds.specs.Race.{race_printed}
 use Rattle.dma_seeds.specs.Script.{script_text}
-use Rattle.dma_seeds.specs.Seeds.{seeds_printed, seeds_verdict}
+use Rattle.dma_seeds.specs.Seeds.{seeds_printed, seeds_verdict, seeds_verdict_text}
 use Rattle.dma_seeds.specs.declared.seeds.SeedRange.{SeedRange}
 use Rattle.dma_why.specs.Why.{why_printed}
 use Rattle.dma_trace.specs.declared.options.TraceOptions.{TraceOptions}
@@ -50,24 +51,28 @@ abbrev pub Traces : TraceOptions → List Region → List ℕ → Printed → Ty
 Traces options ram program p =
     (after : List Region) × Shows options program ram after p.succeeds [] [] [] p.out p.err p.file
 
--- `race` prints what a race prints with its turns in the order of a seed, and on standard error the first expect line
--- that fails, and writes the same race as a script of `run`. The script is raced and written without its expect lines.
+-- `race` prints what a race prints with its turns in the order of a seed, and on standard error the fault of the script
+-- or the first expect line that fails, and writes the same race as a script of `run`. The script is raced and written
+-- without its expect lines.
 abbrev pub Races : ℕ → List ℕ → Printed → Type 0
 Races seed script p =
-    (p.out ≡ printed_text (race_printed (without_expects script) seed).groups) × (p.err ≡ verdict_text (verdict script seed))
+    (p.out ≡ printed_text (race_printed (without_expects script) seed).groups)
+    × (p.err ≡ race_message script ++ verdict_text (verdict script seed))
     × (p.file ≡ script_text (without_expects script) seed) × (p.succeeds ≡ is_good (verdict script seed))
 
 -- `race --seeds` prints which outputs a race has with its turns in the orders of these seeds, and on standard error the
--- first expect line that fails for the first seed for which one fails.
+-- fault of the script, or the first expect line that fails for the first seed for which one fails, and for how many seeds
+-- one fails.
 abbrev pub RacesSeeds : SeedRange → List ℕ → Printed → Type 0
 RacesSeeds seeds script p =
-    (p.out ≡ seeds_printed (without_expects script) seeds) × (p.err ≡ verdict_text (seeds_verdict script seeds)) × (p.file ≡ [])
-    × (p.succeeds ≡ is_good (seeds_verdict script seeds))
+    (p.out ≡ seeds_printed (without_expects script) seeds)
+    × (p.err ≡ race_message script ++ seeds_verdict_text (seeds_verdict script seeds) seeds) × (p.file ≡ [])
+    × (p.succeeds ≡ is_good (seeds_verdict script seeds).first)
 
--- `why` prints why each channel is where it is after a script.
+-- `why` prints why each channel is where it is after a script, and on standard error the fault of the script.
 abbrev pub Reasons : List ℕ → Printed → Type 0
 Reasons script p =
-    (p.out ≡ printed_text (why_printed script).groups) × (p.err ≡ []) × (p.file ≡ [])
+    (p.out ≡ printed_text (why_printed script).groups) × (p.err ≡ run_message script) × (p.file ≡ [])
     × (p.succeeds ≡ ((why_printed script).status == 0))
 
 -- What a request prints for a program over RAM, without the name of the input.

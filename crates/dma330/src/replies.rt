@@ -1,7 +1,9 @@
 //! What a request prints for its input.
-ghost use Rattle.std.specs.Prelude.{◌≡◌, IfOk, IsTrue};
+ghost use Rattle.std.specs.Prelude.{◌≡◌, ◌++◌, [], IfOk, IsTrue};
 ghost use Rattle.dma_mem.specs.Regions.{in_order, pieces_of};
 ghost use Rattle.dma_seeds.specs.Expect.{is_good, verdict_text};
+ghost use Rattle.dma_seeds.specs.Faults.{race_message};
+ghost use Rattle.dma_seeds.specs.Seeds.{seeds_verdict_text};
 ghost use Rattle.dma330.specs.Answer.{printed_of};
 ghost use Rattle.dma330.specs.Replies.{Answers, Assembles, Explains, InputReplies, IsUnderName, Lists, ProgramReplies, Races, RacesSeeds, RawReplies, Reasons, Replies, TextReplies, Traces, program_of};
 
@@ -15,9 +17,10 @@ use dma_manual::errors::AsmError;
 use dma_manual::listing::disassemble;
 use dma_mem::regions::Region;
 use dma_seeds::expect::Verdict;
+use dma_seeds::faults::{push_race_message, push_run_message};
 use dma_seeds::race::race_by_seed;
 use dma_seeds::script::script_of_seed;
-use dma_seeds::seeds::{SeedRange, race_by_seeds};
+use dma_seeds::seeds::{SeedRange, SeedsVerdict, race_by_seeds};
 use dma_text::progress::Progress;
 use dma_trace::explain::explain;
 use dma_trace::options::TraceOptions;
@@ -108,21 +111,23 @@ fn tracing<P: Progress>(
     })
 }
 
-/// Returns the answer with the output of a race, its verdict, and the text for its file.
+/// Returns the answer with the output of a race, the fault of its script or its verdict, and the text for its file.
 fn judged(
     alloc: Global,
+    script: &[u8],
     out: Vec<u8>,
     verdict: &Verdict,
     file: Vec<u8>,
 ) -> Result<Answer, AllocError>
     ensures { IfOk result (λ answer. printed_of answer ≡ record {
       out = out.items;
-      err = verdict_text verdict.now;
+      err = race_message script.now ++ verdict_text verdict.now;
       file = file.items;
       succeeds = is_good verdict.now;
     }) }
 {
     let mut err = Vec::new(alloc);
+    push_race_message(alloc, script, &mut err)?;
     verdict.print(&mut err)?;
     let succeeds = verdict.is_good();
     Ok(Answer {
@@ -141,7 +146,29 @@ fn racing(alloc: Global, script: &[u8], seed: u64) -> Result<Answer, AllocError>
     script_of_seed(alloc, script, seed, &mut file)?;
     let mut out = Vec::new(alloc);
     let verdict = race_by_seed(alloc, script, seed, &mut out)?;
-    judged(alloc, out, &verdict, file)
+    judged(alloc, script, out, &verdict, file)
+}
+
+/// Returns the answer with the outputs of a race, and the fault of its script or its verdict.
+fn all_judged(
+    alloc: Global,
+    script: &[u8],
+    seeds: SeedRange,
+    out: Vec<u8>,
+    verdict: &SeedsVerdict,
+) -> Result<Answer, AllocError>
+    ensures { IfOk result (λ answer. printed_of answer ≡ record {
+      out = out.items;
+      err = race_message script.now ++ seeds_verdict_text verdict.now seeds;
+      file = [];
+      succeeds = is_good verdict.now.first;
+    }) }
+{
+    let mut err = Vec::new(alloc);
+    push_race_message(alloc, script, &mut err)?;
+    verdict.print(seeds, &mut err)?;
+    let succeeds = verdict.first.is_good();
+    Ok(Answer::printed(alloc, out, err, succeeds))
 }
 
 /// Returns what `race` prints for a script and a range of seeds.
@@ -155,7 +182,7 @@ fn racing_seeds<P: Progress>(
 {
     let mut out = Vec::new(alloc);
     let verdict = race_by_seeds(alloc, script, seeds, &mut out, progress)?;
-    judged(alloc, out, &verdict, Vec::new(alloc))
+    all_judged(alloc, script, seeds, out, &verdict)
 }
 
 /// Returns what `why` prints for a script.
@@ -164,7 +191,9 @@ fn reasons(alloc: Global, script: &[u8]) -> Result<Answer, AllocError>
 {
     let mut out = Vec::new(alloc);
     let succeeds = why(alloc, script, &mut out)?;
-    Ok(Answer::printed(alloc, out, Vec::new(alloc), succeeds))
+    let mut err = Vec::new(alloc);
+    push_run_message(alloc, script, &mut err)?;
+    Ok(Answer::printed(alloc, out, err, succeeds))
 }
 
 /// Returns what a request prints for a program.

@@ -1,8 +1,9 @@
 -- Verdicts of several seeds, and scripts without expect lines.
-use Rattle.std.proofs.Common.{◌≡◌, ℕ, zero, suc, ◌+◌, ◌-◌, ◌<◌, Bool, true, false, List, [], ◌∷◌, Option, Some, None, Result, Ok, Err, refl, ap, sym, ◌∙◌, arith, inl, inr, map}
-use Rattle.std.specs.Prelude.{is_ok, is_some}
-use Rattle.std.specs.List.{list_any}
-use Rattle.std.proofs.lemmas.Bool.{true≢false, false≢true}
+use Rattle.std.proofs.Common.{◌≡◌, ℕ, zero, suc, ◌+◌, ◌-◌, ◌<◌, ◌≤◌, Bool, true, false, List, [], ◌∷◌, ◌++◌, Option, Some, None, Result, Ok, Err, refl, ap, sym, ◌∙◌, arith, inl, inr, map}
+use Rattle.std.specs.Prelude.{codes, decimal, if◌then◌else◌, is_ok, is_some}
+use Rattle.std.specs.List.{list_any, range_with_len}
+use Rattle.std.proofs.lemmas.Bool.{ne_eqb, true≢false, false≢true}
+use Rattle.std.proofs.lemmas.List.Sums.{sum_by-cons}
 use Rattle.std.specs.Str.Lines.{lines}
 use Rattle.dma_script.specs.Command.{text_of}
 use Rattle.dma_script.specs.Race.{race_script_of}
@@ -12,8 +13,10 @@ use Rattle.dma_script.specs.declared.race.RaceScript.{RaceScript}
 use Rattle.dma_seeds.specs.Expect.{Unread, after_lines, after_words, expected_in, has_expects, is_answered, is_good, verdict, verdict_of, verdict_on, without_expects}
 use Rattle.dma_seeds.specs.Race.{raced}
 use Rattle.dma_seeds.specs.Turns.{turns_of_seed}
-use Rattle.dma_seeds.specs.Seeds.{first_verdict, seeds_verdict_of, unless_holds}
+use Rattle.dma_seeds.specs.Seeds.{failing, failing_text, first_verdict, number_of_things, seeds_verdict_of, unless_holds, verdicts}
+use Rattle.dma_seeds.specs.inner.Counted.{failing_in}
 use Rattle.dma_seeds.specs.declared.seeds.SeedRange.{SeedRange}
+use Rattle.dma_seeds.specs.declared.seeds.SeedsVerdict.{SeedsVerdict}
 use Rattle.dma_seeds.specs.declared.expect.Verdict.{Verdict}
 use Rattle.dma_seeds.specs.declared.expect.Verdict.TheVariants.{Holds, Misses, Refused}
 use Rattle.dma_seeds.proofs.ReadLemmas.{option_cases}
@@ -30,13 +33,83 @@ stops Holds next bad = absurd (true≢false bad)
 stops Refused next bad = refl
 stops (Misses missed) next bad = refl
 
+pub good_last : (first next : Verdict) → is_good next ≡ true → unless_holds first next ≡ first
+good_last Holds Holds good = refl
+good_last Refused next good = refl
+good_last (Misses missed) next good = refl
+good_last Holds Refused good = absurd (false≢true good)
+good_last Holds (Misses missed) good = absurd (false≢true good)
+
+-- the first of three
+in_turn : (a b c : Verdict) → unless_holds (unless_holds a b) c ≡ unless_holds a (unless_holds b c)
+in_turn Holds b c = refl
+in_turn Refused b c = refl
+in_turn (Misses missed) b c = refl
+
 pub one_seed : (each : ℕ → Verdict) (seed end : ℕ) → seed < end → first_verdict each seed (end - seed) ≡ unless_holds (each seed) (first_verdict each (seed + 1) (end - (seed + 1)))
 one_seed each seed end less =
     let more : end - seed ≡ suc (end - (seed + 1)) = omega arith in ap (λ n. first_verdict each seed n) more
 
+one_failing : (each : ℕ → Verdict) (seed end : ℕ) → seed < end → failing each seed (end - seed) ≡ failing_in (each seed) + failing each (seed + 1) (end - (seed + 1))
+one_failing each seed end less =
+    let more : end - seed ≡ suc (end - (seed + 1)) = omega arith in
+    ap (λ n. failing each seed n) more ∙ sum_by-cons (λ s. failing_in (each s)) seed (range_with_len (seed + 1) (end - (seed + 1)))
+
+at_most_one : (v : Verdict) → failing_in v ≤ 1
+at_most_one Holds = omega arith
+at_most_one Refused = omega arith
+at_most_one (Misses missed) = omega arith
+
+-- The verdicts for the seeds up to `seed` are counted: with those of the others up to `end` they are the verdicts from
+-- `first` on.
+pub record CountedSome (each : ℕ → Verdict) (first end seed : ℕ) (found : SeedsVerdict) : Type 0 where
+  pub first_is : unless_holds found.first (first_verdict each seed (end - seed)) ≡ first_verdict each first (end - first)
+  pub failing_is : found.failing + failing each seed (end - seed) ≡ failing each first (end - first)
+  pub few : found.failing ≤ seed
+
+pub counted_none : (each : ℕ → Verdict) (first end seed : ℕ) → seed ≡ first → CountedSome each first end seed (record { first = Holds; failing = 0 })
+counted_none each first end seed same = record {
+  first_is = ap (λ s. first_verdict each s (end - s)) same;
+  failing_is = omega (arith, ap (λ s. failing each s (end - s)) same);
+  few = omega arith;
+}
+
+pub counted_more : (each : ℕ → Verdict) (first end seed : ℕ) (found after : SeedsVerdict) (v : Verdict) → seed < end → CountedSome each first end seed found → v ≡ each seed → after.first ≡ unless_holds found.first v → after.failing ≡ found.failing + failing_in v → CountedSome each first end (seed + 1) after
+counted_more each first end seed found after v less some is firsts fails =
+    let rest = first_verdict each (seed + 1) (end - (seed + 1)) in
+    record {
+      first_is = ap (λ x. unless_holds x rest) (firsts ∙ ap (λ x. unless_holds found.first x) is)
+          ∙ in_turn found.first (each seed) rest ∙ ap (λ x. unless_holds found.first x) (sym (one_seed each seed end less))
+          ∙ some.first_is;
+      failing_is = omega (arith, fails, ap failing_in is, one_failing each seed end less, some.failing_is);
+      few = omega (arith, fails, at_most_one v, some.few);
+    }
+
+pub counted_all : (each : ℕ → Verdict) (first end seed : ℕ) (found : SeedsVerdict) → end ≤ seed → CountedSome each first end seed found → found ≡ verdicts each first (end - first)
+counted_all each first end seed found done some =
+    let none : end - seed ≡ 0 = omega arith in
+    let firsts : found.first ≡ first_verdict each first (end - first) =
+    sym (good_last found.first Holds refl) ∙ ap (λ n. unless_holds found.first (first_verdict each seed n)) (sym none) ∙ some.first_is in
+    let no_more : failing each seed (end - seed) ≡ 0 = ap (λ n. failing each seed n) none in
+    let fails : found.failing ≡ failing each first (end - first) = omega (arith, no_more, some.failing_is) in
+    ap (λ (v : Verdict). let s : SeedsVerdict = record { first = v; failing = found.failing } in s) firsts
+    ∙ ap (λ (n : ℕ). let s : SeedsVerdict = record { first = first_verdict each first (end - first); failing = n } in s) fails
+
 all_hold : (each : ℕ → Verdict) → ((seed : ℕ) → each seed ≡ Holds) → (first n : ℕ) → first_verdict each first n ≡ Holds
 all_hold each holds first zero = refl
 all_hold each holds first (suc n) = rw (holds first) (all_hold each holds (first + 1) n)
+
+none_failing : (each : ℕ → Verdict) → ((seed : ℕ) → each seed ≡ Holds) → (first n : ℕ) → failing each first n ≡ 0
+none_failing each holds first zero = refl
+none_failing each holds first (suc n) =
+    omega (arith, sum_by-cons (λ s. failing_in (each s)) first (range_with_len (first + 1) n), ap failing_in (holds first), none_failing each holds (first + 1) n)
+
+-- for how many seeds an expect line fails, as it is printed
+pub failing_printed : (n many : ℕ) (seeds : SeedRange) (old new : List ℕ) → (n ≡ 0 → ⊥) → many ≡ seeds.last + 1 - seeds.first → new ≡ old ++ text_of ((codes "  expect lines fail for " ++ decimal n ++ codes " of " ++ number_of_things many (codes "seed")) ∷ []) → new ≡ old ++ failing_text n seeds
+failing_printed n many seeds old new some same printed =
+    let text : ℕ → List ℕ = λ m. text_of ((codes "  expect lines fail for " ++ decimal n ++ codes " of " ++ number_of_things m (codes "seed")) ∷ []) in
+    printed ∙ ap (λ m. old ++ text m) same
+    ∙ ap (λ b. old ++ (if b then [] else text (seeds.last + 1 - seeds.first))) (sym (ne_eqb n 0 some))
 
 -- ---- no expect lines
 
@@ -54,16 +127,18 @@ holds_of (Ok script) input seed ok none =
     none_fails seed 0 (record { left = []; answers = map text_of (raced script (turns_of_seed script.jobs seed)).groups }) (lines input) none
 holds_of (Err fault) input seed ok none = absurd (false≢true ok)
 
-pub all_seeds_hold : (input : List ℕ) (first n : ℕ) → is_ok (race_script_of (without_expects input)) ≡ true → has_expects input ≡ false → first_verdict (verdict input) first n ≡ Holds
+pub all_seeds_hold : (input : List ℕ) (first n : ℕ) → is_ok (race_script_of (without_expects input)) ≡ true → has_expects input ≡ false → verdicts (verdict input) first n ≡ record { first = Holds; failing = 0 }
 all_seeds_hold input first n ok none =
-    all_hold (verdict input) (λ seed. holds_of (race_script_of (without_expects input)) input seed ok none) first n
+    let each : (seed : ℕ) → verdict input seed ≡ Holds = λ seed. holds_of (race_script_of (without_expects input)) input seed ok none in
+    ap (λ (v : Verdict). let s : SeedsVerdict = record { first = v; failing = failing (verdict input) first n } in s) (all_hold (verdict input) each first n)
+    ∙ ap (λ (k : ℕ). let s : SeedsVerdict = record { first = Holds; failing = k } in s) (none_failing (verdict input) each first n)
 
 -- a script without a fault
-pub seeds_good : (r : Result RaceScript Fault) (input : List ℕ) (seeds : SeedRange) → is_ok r ≡ true → seeds_verdict_of r input seeds ≡ first_verdict (verdict input) seeds.first (seeds.last + 1 - seeds.first)
+pub seeds_good : (r : Result RaceScript Fault) (input : List ℕ) (seeds : SeedRange) → is_ok r ≡ true → seeds_verdict_of r input seeds ≡ verdicts (verdict input) seeds.first (seeds.last + 1 - seeds.first)
 seeds_good (Ok script) input seeds ok = refl
 seeds_good (Err fault) input seeds ok = absurd (false≢true ok)
 
 -- and one with a fault
-pub seeds_bad : (r : Result RaceScript Fault) (input : List ℕ) (seeds : SeedRange) → is_ok r ≡ false → seeds_verdict_of r input seeds ≡ Refused
+pub seeds_bad : (r : Result RaceScript Fault) (input : List ℕ) (seeds : SeedRange) → is_ok r ≡ false → seeds_verdict_of r input seeds ≡ record { first = Refused; failing = 0 }
 seeds_bad (Ok script) input seeds bad = absurd (true≢false bad)
 seeds_bad (Err fault) input seeds bad = refl

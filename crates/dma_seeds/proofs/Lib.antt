@@ -1,4 +1,5 @@
 pub mod ExpectLemmas
+pub mod FaultLemmas
 pub mod OutputLemmas
 pub mod RaceLemmas
 pub mod ReadLemmas

@@ -10,12 +10,13 @@ use Rattle.dma_script.specs.declared.fault.Fault.{Fault}
 use Rattle.dma_script.specs.declared.race.RaceScript.{RaceScript}
 use Rattle.dma_commands.specs.Left.{lines_left}
 use Rattle.dma_seeds.specs.Race.{from_go, start_of}
-use Rattle.dma_seeds.specs.Expect.{verdict, without_expects}
+use Rattle.dma_seeds.specs.Expect.{is_good, verdict, verdict_text, without_expects}
 use Rattle.dma_seeds.specs.Turns.{turns_of_seed}
 use Rattle.dma_seeds.specs.declared.expect.Verdict.{Verdict}
 use Rattle.dma_seeds.specs.declared.expect.Verdict.TheVariants.{Holds, Refused}
 use Rattle.dma_seeds.specs.declared.outputs.Output.{Output}
 use Rattle.dma_seeds.specs.declared.seeds.SeedRange.{SeedRange}
+use Rattle.dma_seeds.specs.declared.seeds.SeedsVerdict.{SeedsVerdict}
 
 -- what a parsed script prints for a seed from the line of `go` on; nothing for a script with a fault
 abbrev pub text_from_go : Result RaceScript Fault → ℕ → List ℕ
@@ -90,11 +91,30 @@ abbrev pub first_verdict : (ℕ → Verdict) → ℕ → ℕ → Verdict
 first_verdict verdict first zero = Holds
 first_verdict verdict first (suc n) = unless_holds (verdict first) (first_verdict verdict (first + 1) n)
 
-abbrev pub seeds_verdict_of : Result RaceScript Fault → List ℕ → SeedRange → Verdict
-seeds_verdict_of (Ok script) input seeds = first_verdict (verdict input) seeds.first (seeds.last + 1 - seeds.first)
-seeds_verdict_of (Err fault) input seeds = Refused
+-- for how many of n seeds from `first` on the verdict is not good
+abbrev pub failing : (ℕ → Verdict) → ℕ → ℕ → ℕ
+failing verdict first n = count_by (λ seed. not (is_good (verdict seed))) (range_with_len first n)
 
--- The verdict on a script for a range of seeds: it has a fault, or its expect lines hold for all of them, or this is the
--- first that fails for the first seed for which one fails.
-abbrev pub seeds_verdict : List ℕ → SeedRange → Verdict
+-- the verdict on n seeds from `first` on
+abbrev pub verdicts : (ℕ → Verdict) → ℕ → ℕ → SeedsVerdict
+verdicts verdict first n = record { first = first_verdict verdict first n; failing = failing verdict first n }
+
+abbrev pub seeds_verdict_of : Result RaceScript Fault → List ℕ → SeedRange → SeedsVerdict
+seeds_verdict_of (Ok script) input seeds = verdicts (verdict input) seeds.first (seeds.last + 1 - seeds.first)
+seeds_verdict_of (Err fault) input seeds = record { first = Refused; failing = 0 }
+
+-- The verdict on a script for a range of seeds: it has a fault, or its expect lines hold for all of them, or they fail
+-- for this many, and this is the first that fails for the first seed for which one fails.
+abbrev pub seeds_verdict : List ℕ → SeedRange → SeedsVerdict
 seeds_verdict input seeds = seeds_verdict_of (race_script_of (without_expects input)) input seeds
+
+-- `  expect lines fail for N of M seeds`; nothing if they fail for none
+abbrev pub failing_text : ℕ → SeedRange → List ℕ
+failing_text n seeds =
+    if n == 0 then [] else
+    text_of ((codes "  expect lines fail for " ++ decimal n ++ codes " of "
+    ++ number_of_things (seeds.last + 1 - seeds.first) (codes "seed")) ∷ [])
+
+-- what a verdict for a range of seeds prints: the first expect line that fails, and for how many seeds one fails
+abbrev pub seeds_verdict_text : SeedsVerdict → SeedRange → List ℕ
+seeds_verdict_text found seeds = verdict_text found.first ++ failing_text found.failing seeds

@@ -5,12 +5,14 @@
 //! with the line of `go` in place of the lines of the steps (`laws::races_are_runs`), and so one of the texts that
 //! `dmasim race` may print. `script_of_seed` writes that script of `run`. `race_by_seeds` prints which outputs the seeds
 //! of a range give (`seeds_printed`). This is so for a script without its `expect` lines; whether these hold is a
-//! function of script and seed, too (`verdict`), and of script and range (`seeds_verdict`).
+//! function of script and seed, too (`verdict`), and of script and range (`seeds_verdict`). The message for the first
+//! fault of a script is a function of the script (`race_message`, `run_message`).
 //!
 //! Not proved: that no call is out of memory.
 #![tactic(auto)]
 
 pub mod expect;
+pub mod faults;
 pub mod laws;
 pub mod outputs;
 pub mod race;

@@ -1,9 +1,10 @@
 //! A race executed once for each seed of a range.
 
-ghost use Rattle.std.specs.Prelude.{◌≡◌, ◌++◌, ◌+◌, ◌-◌, IfOk, OnErr, OnOk, is_ok, true, Ok};
+ghost use Rattle.std.specs.Prelude.{◌≡◌, ◌<◌, ◌++◌, ◌+◌, ◌-◌, IfOk, OnErr, OnOk, is_ok, true, Ok};
 ghost use Rattle.dma_script.specs.Race.{IsRace, race_script_of};
 ghost use Rattle.dma_seeds.specs.Expect.{verdict, without_expects};
-ghost use Rattle.dma_seeds.specs.Seeds.{first_verdict, outputs_of, outputs_text, seeds_printed, seeds_verdict, text_from_go};
+ghost use Rattle.dma_seeds.specs.Seeds.{failing_text, outputs_of, outputs_text, seeds_printed, seeds_verdict, seeds_verdict_text, text_from_go, unless_holds, verdicts};
+ghost use Rattle.dma_seeds.specs.inner.Counted.{failing_in};
 
 use crate::expect::{Verdict, has_expects, without_expects};
 use crate::outputs::{Output, Things, count_output, print_outputs};
@@ -22,6 +23,55 @@ pub struct SeedRange {
     pub first: u32,
     /// The last seed.
     pub last: u32,
+}
+
+/// The verdict on a race script for a range of seeds.
+#[derive(Debug, Drop)]
+pub struct SeedsVerdict {
+    /// The verdict for the first seed for which it isn't good, else `Holds`.
+    pub first: Verdict,
+    /// For how many seeds an `expect` line fails.
+    pub failing: u64,
+}
+
+impl SeedsVerdict {
+    /// Counts the verdict for one more seed.
+    #[tactic(auto, using(crate::proofs::ExpectLemmas::goes_on, crate::proofs::ExpectLemmas::stops, crate::proofs::ExpectLemmas::good_last))]
+    fn count(&mut self, verdict: Verdict)
+        requires { self.old.failing < u64.MAX }
+        ensures first { self.new.first ≡ unless_holds self.old.first verdict }
+        ensures failing { self.new.failing ≡ self.old.failing + failing_in verdict }
+    {
+        if verdict.is_good() {
+            return;
+        }
+        self.failing += 1;
+        if self.first.is_good() {
+            self.first = verdict;
+        }
+    }
+
+    /// Appends the line of the first `expect` line that fails, and one with the number of seeds for which one fails, or
+    /// nothing. Fails if memory runs out.
+    pub fn print(&self, seeds: SeedRange, out: &mut Vec<u8>) -> Result<(), AllocError>
+        ensures { OnOk result (out.new.items ≡ out.old.items ++ seeds_verdict_text self.now seeds) }
+    {
+        self.first.print(out)?;
+        print_failing(self.failing, seeds, out)
+    }
+}
+
+/// Appends for how many seeds of a range an `expect` line fails, or nothing if it fails for none. Fails if memory runs
+/// out.
+fn print_failing(failing: u64, seeds: SeedRange, out: &mut Vec<u8>) -> Result<(), AllocError>
+    ensures { OnOk result (out.new.items ≡ out.old.items ++ failing_text failing seeds) }
+{
+    if failing == 0 {
+        return Ok(());
+    }
+    let many = (u64::from(seeds.last) + 1).saturating_sub(u64::from(seeds.first));
+    let all = Things(many, "seed");
+    print_line(out, &("  expect lines fail for ", failing, " of ", all))
 }
 
 /// Returns what a race prints for a seed from the line of `go` on. Fails if memory runs out.
@@ -112,37 +162,37 @@ fn print_outputs_of<P: Progress>(
     }
 }
 
-/// Returns the verdict for the first seed for which an `expect` line of the script fails, else `Holds`. Fails if memory
-/// runs out.
-#[tactic(auto, using(crate::proofs::ExpectLemmas::one_seed, crate::proofs::ExpectLemmas::goes_on, crate::proofs::ExpectLemmas::stops, crate::proofs::ExpectLemmas::all_seeds_hold))]
-fn first_verdict<P: Progress>(
+/// Returns whether the `expect` lines of a script hold for the seeds of a range. Fails if memory runs out.
+fn verdicts<P: Progress>(
     alloc: Global,
     script: &[u8],
     seeds: SeedRange,
     progress: &mut P,
-) -> Result<Verdict, AllocError>
+) -> Result<SeedsVerdict, AllocError>
     requires { is_ok (race_script_of (without_expects script.now)) ≡ true }
     ensures { IfOk result (λ found. found
-        ≡ first_verdict (verdict script.now) seeds.first (seeds.last + 1 - seeds.first)) }
+        ≡ verdicts (verdict script.now) seeds.first (seeds.last + 1 - seeds.first)) }
 {
+    let mut found = SeedsVerdict {
+        first: Verdict::Holds,
+        failing: 0,
+    };
     if !has_expects(script) {
-        return Ok(Verdict::Holds);
+        return Ok(found);
     }
     for seed in u64::from(seeds.first)..u64::from(seeds.last) + 1 {
         let mut text = Vec::new(alloc);
         let verdict = race_by_seed(alloc, script, seed, &mut text)?;
-        if !verdict.is_good() {
-            return Ok(verdict);
-        }
+        found.count(verdict);
         progress.report(seed + 1 - u64::from(seeds.first), "seeds compared");
     }
-    Ok(Verdict::Holds)
+    Ok(found)
 }
 
 /// Executes a race script once for each seed of a range, in one thread, and appends the different outputs from the line
 /// of `go` on, with how many seeds give each and the first of these. Returns whether the script has a fault, and whether
-/// its `expect` lines hold, or which one fails first for the first seed for which one fails. If memory runs out, appends
-/// nothing.
+/// its `expect` lines hold, or which one fails first for the first seed for which one fails, and for how many one fails.
+/// If memory runs out, appends nothing.
 ///
 /// Takes for each seed the time of `race_by_seed`, twice for a script with `expect` lines, and compares its output with
 /// each different one before. Keeps each different output, and of no seed more than that. Reports progress after each
@@ -154,7 +204,7 @@ pub fn race_by_seeds<P: Progress>(
     seeds: SeedRange,
     out: &mut Vec<u8>,
     progress: &mut P,
-) -> Result<Verdict, AllocError>
+) -> Result<SeedsVerdict, AllocError>
     ensures text { OnOk result
         (out.new.items ≡ out.old.items ++ seeds_printed (without_expects script.now) seeds) }
     ensures verdict { IfOk result (λ verdict. verdict ≡ seeds_verdict script.now seeds) }
@@ -164,9 +214,12 @@ pub fn race_by_seeds<P: Progress>(
     let mut text = Vec::new(alloc);
     let good = print_outputs_of(alloc, &kept, seeds, &mut text, progress)?;
     let verdict = if good {
-        first_verdict(alloc, script, seeds, progress)?
+        verdicts(alloc, script, seeds, progress)?
     } else {
-        Verdict::Refused
+        SeedsVerdict {
+            first: Verdict::Refused,
+            failing: 0,
+        }
     };
     out.extend_from_slice(&text)?;
     Ok(verdict)

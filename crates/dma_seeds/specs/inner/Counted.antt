@@ -1,6 +1,8 @@
--- How outputs are counted, one after another.
-use Rattle.std.specs.Prelude.{◌+◌, if◌then◌else◌, List, [], ◌∷◌}
+-- How outputs and verdicts are counted, one after another.
+use Rattle.std.specs.Prelude.{ℕ, ◌+◌, not, if◌then◌else◌, List, [], ◌∷◌}
 use Rattle.std.specs.Str.{bytes_eq}
+use Rattle.dma_seeds.specs.Expect.{is_good}
+use Rattle.dma_seeds.specs.declared.expect.Verdict.{Verdict}
 use Rattle.dma_seeds.specs.declared.outputs.Output.{Output}
 
 -- an output with one more seed
@@ -12,3 +14,7 @@ abbrev pub counted : List Output → Output → List Output
 counted [] new = new ∷ []
 counted (output ∷ rest) new =
     if bytes_eq output.text new.text then one_more output ∷ rest else output ∷ counted rest new
+
+-- how many verdicts are not good: one or none
+abbrev pub failing_in : Verdict → ℕ
+failing_in verdict = if not (is_good verdict) then 1 else 0

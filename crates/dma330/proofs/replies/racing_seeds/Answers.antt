@@ -1,0 +1,20 @@
+use Rattle.std.proofs.Common.{◌++◌, ◌∙◌, ap}
+use Rattle.std.proofs.lemmas.Result.{IfOk-weaker}
+use Rattle.dma_seeds.specs.Expect.{is_good, without_expects}
+use Rattle.dma_seeds.specs.Faults.{race_message}
+use Rattle.dma_seeds.specs.Seeds.{seeds_printed, seeds_verdict_text}
+use Rattle.dma_seeds.specs.declared.seeds.SeedsVerdict.{SeedsVerdict}
+use Rattle.dma330.specs.Answer.{Printed}
+use Rattle.dma330.proofs.replies.racing_seeds.Goals as goal
+
+pub returns : goal.returns
+returns g c =
+    let script = c.args.script.now in
+    let seeds = c.args.seeds in
+    let found = c.in_ok-verdict.ensures in
+    IfOk-weaker c.all_judged.result _ _
+    (λ answer is. (
+      ap (λ (p : Printed). p.out) is ∙ found.text ∙ ap (λ t. t ++ seeds_printed (without_expects script) seeds) c.new-out.ensures.items,
+      ap (λ (p : Printed). p.err) is ∙ ap (λ (v : SeedsVerdict). race_message script ++ seeds_verdict_text v seeds) found.verdict,
+      ap (λ (p : Printed). p.file) is,
+      ap (λ (p : Printed). p.succeeds) is ∙ ap (λ (v : SeedsVerdict). is_good v.first) found.verdict)) c.all_judged.ensures

@@ -1,0 +1,133 @@
+//! Messages for the first fault of a script: the number of its line, the cause, and the line.
+#![tactic(auto, using(dma_text::proofs::Begun::begins_same, dma_text::proofs::Begun::begins_appended, dma_text::proofs::Begun::begins_more))]
+
+ghost use Rattle.std.specs.Prelude.{◌≡◌, ◌++◌, IfOk, OnOk, map};
+ghost use Rattle.dma_script.specs.Printing.{cause_name};
+ghost use Rattle.dma_seeds.specs.Faults.{fault_text, line_at, missing_words, race_message, run_message, shown_byte, shown_line};
+
+use crate::expect::without_expects;
+use dma_script::fault::{Cause, Fault, ScriptError};
+use dma_script::race::read_race_script;
+use dma_script::statements::read_run_script;
+use dma_script::words::split_line;
+use dma_text::text::Text;
+use std::alloc::{AllocError, Global};
+
+/// The most bytes of a line that are shown.
+const MOST_SHOWN: usize = 60;
+
+/// Returns the byte that is shown for a byte of a line.
+fn shown_byte(byte: u8) -> u8
+    ensures { result ≡ shown_byte byte }
+{
+    match byte {
+        b' '..=b'~' => byte,
+        b'\t' => b' ',
+        _ => b'?',
+    }
+}
+
+/// Appends the bytes that are shown for bytes of a line. Fails if memory runs out.
+fn push_shown(bytes: &[u8], out: &mut Vec<u8>) -> Result<(), AllocError>
+    ensures { OnOk result (out.new.items ≡ out.old.items ++ map shown_byte bytes.now) }
+{
+    for byte in bytes {
+        out.push(shown_byte(*byte))?;
+    }
+    Ok(())
+}
+
+/// Appends a line and the quote behind it, or the first bytes of a long line. Fails if memory runs out.
+fn push_line(line: &[u8], out: &mut Vec<u8>) -> Result<(), AllocError>
+    ensures { OnOk result (out.new.items ≡ out.old.items ++ shown_line line.now) }
+{
+    if line.len() > MOST_SHOWN {
+        push_shown(&line[..MOST_SHOWN], out)?;
+        return "'..\n".push(out);
+    }
+    push_shown(line, out)?;
+    "'\n".push(out)
+}
+
+/// Returns the line with this number, from 1, or no bytes if there is none.
+#[tactic(auto, using(crate::proofs::FaultLemmas::later_line))]
+fn line_at(script: &[u8], number: usize) -> &[u8]
+    ensures { result.now ≡ line_at script.now number }
+{
+    let mut rest = script;
+    let mut before = number.saturating_sub(1);
+    while !rest.is_empty() {
+        let (line, after) = split_line(rest);
+        if before == 0 {
+            return line;
+        }
+        before -= 1;
+        rest = after;
+    }
+    &[]
+}
+
+/// Returns the name of a cause.
+fn name_of(cause: Cause) -> &'static str
+    ensures { result.now ≡ cause_name cause }
+{
+    match cause {
+        Cause::Byte => "Byte",
+        Cause::Command => "Command",
+        Cause::First => "First",
+        Cause::Words => "Words",
+        Cause::Number => "Number",
+        Cause::Hex => "Hex",
+        Cause::Range => "Range",
+        Cause::SizeOutOfRange => "SizeOutOfRange",
+        Cause::BadChannels => "BadChannels",
+        Cause::Go => "Go",
+    }
+}
+
+/// Returns which line is missing, if a fault is in no line.
+fn missing_words(cause: Cause) -> &'static str
+    ensures { result.now ≡ missing_words cause }
+{
+    match cause {
+        Cause::Go => ": the line 'go' is missing\n",
+        _ => ": the line 'memory SIZE CHANNELS' is missing\n",
+    }
+}
+
+/// Appends the message for a fault of a script. Fails if memory runs out.
+fn push_fault(script: &[u8], fault: Fault, out: &mut Vec<u8>) -> Result<(), AllocError>
+    ensures { OnOk result (out.new.items ≡ out.old.items ++ fault_text script.now fault) }
+{
+    let name = name_of(fault.cause);
+    if fault.line == 0 {
+        return (" ", name, missing_words(fault.cause)).push(out);
+    }
+    (fault.line, ": ", name, ": '").push(out)?;
+    push_line(line_at(script, fault.line), out)
+}
+
+/// Appends the message for the first fault of a race script, which may have `expect` lines, or nothing if it has no
+/// fault. Fails if memory runs out.
+pub fn push_race_message(alloc: Global, script: &[u8], out: &mut Vec<u8>) -> Result<(), AllocError>
+    ensures { OnOk result (out.new.items ≡ out.old.items ++ race_message script.now) }
+{
+    let kept = without_expects(alloc, script)?;
+    match read_race_script(alloc, &kept) {
+        Ok(_) => Ok(()),
+        Err(ScriptError::NoMemory) => Err(AllocError),
+        Err(ScriptError::Fault(fault)) => push_fault(script, fault, out),
+    }
+}
+
+/// Appends the message for the first fault of a script of `run`, or nothing if it has no fault. Fails if memory runs
+/// out.
+pub fn push_run_message(alloc: Global, script: &[u8], out: &mut Vec<u8>) -> Result<(), AllocError>
+    ensures { OnOk result (out.new.items ≡ out.old.items ++ run_message script.now) }
+{
+    match read_run_script(alloc, script) {
+        Ok(_) => Ok(()),
+        Err(ScriptError::NoMemory) => Err(AllocError),
+        Err(ScriptError::Fault(fault)) => push_fault(script, fault, out),
+    }
+}
