@@ -156,12 +156,7 @@ fn trace<'a>(alloc: Global) -> Result<Command<'a>, AllocError> {
     let about = "Executes a program over RAM, and prints a line for each instruction";
     let example = "Example:\n  dma330 trace --hex --ram 0x10000000+0x2000 --quiet \
         --dump 0x10001000+16 examples/linux.hex";
-    let args = [
-        hex(alloc),
-        words(alloc)?,
-        bus(alloc),
-        file(alloc, PROGRAM),
-    ];
+    let args = [hex(alloc), words(alloc)?, bus(alloc), file(alloc, PROGRAM)];
     let args = Vec::from_array(alloc, args)?;
     command(alloc, "trace", about, example, args)?
         .args(machine_options(alloc)?)?

@@ -1,6 +1,6 @@
 //! Reads the bytes of 32-bit words from hexadecimal text.
-ghost use Rattle.std.specs.Prelude.{◌≡◌, ◌<◌, ◌≤◌, Err, IfOk, MatchResult, Ok, length};
-ghost use Rattle.dma330.specs.Words.{is_whole, next_digit, next_of, outside, read_words};
+ghost use Rattle.std.specs.Prelude.{◌≡◌, ◌<◌, ◌≤◌, ◌++◌, Err, IfOk, MatchResult, Ok, OnOk, length};
+ghost use Rattle.dma330.specs.Words.{is_whole, next_digit, next_of, outside, read_words, word_bytes};
 
 use crate::hexadecimal::{is_digit, is_gap};
 use dma_text::digits::digit_value;
@@ -102,6 +102,16 @@ impl WordReading {
     }
 }
 
+/// Appends the bytes of a word, the lowest first, if there is one.
+fn push_word(bytes: &mut Vec<u8>, word: Option<u32>) -> Result<(), AllocError>
+    ensures { OnOk result (bytes.new.items ≡ bytes.old.items ++ word_bytes word) }
+{
+    if let Some(word) = word {
+        bytes.extend_from_slice(&word.to_le_bytes())?;
+    }
+    Ok(())
+}
+
 /// Returns the bytes of the words that a text spells, the lowest byte of each first, or the offset of the first byte
 /// that is no part of a word, a gap or a comment. Fails if memory runs out.
 pub fn read_words(alloc: Global, text: &[u8]) -> Result<Result<Vec<u8>, usize>, AllocError>
@@ -116,9 +126,7 @@ pub fn read_words(alloc: Global, text: &[u8]) -> Result<Result<Vec<u8>, usize>, 
             return Ok(Err(at));
         };
         reading = next;
-        if let Some(word) = word {
-            bytes.extend_from_slice(&word.to_le_bytes())?;
-        }
+        push_word(&mut bytes, word)?;
     }
     Ok(if reading.is_whole() {
         Ok(bytes)

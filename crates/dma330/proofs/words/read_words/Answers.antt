@@ -1,7 +1,11 @@
-use Rattle.std.proofs.Common.{rules, ◌≡◌, ◌<◌, ◌≤◌, Err, IfOk, MatchResult, Ok, length, ℕ, ◌+◌, ◌-◌, ◌*◌, ◌/◌, ◌%◌, Bool, true, false, nat_eq, nat_lt, List, [], ◌∷◌, ◌++◌, slice_index_or, slice_set, bit_and, bit_or, Fits, w8, w32, w64, Bor, MutBor}
-use Rattle.dma330.specs.Words.{is_whole, next_digit, next_of, outside, read_words}
+use Rattle.std.proofs.Common.{◌≡◌, ◌∙◌, ◌+◌, sym, ap, drop}
+use Rattle.dma330.specs.Words.{read_words_from}
+use Rattle.dma330.proofs.HexadecimalLemmas.{followed, words_step}
 use Rattle.dma330.proofs.words.read_words.Goals as goal
 
--- src/words.rt:114:5
 pub loop-at-preserved : goal.loop-at-preserved
-loop-at-preserved c = ?
+loop-at-preserved c =
+    let text = c.args.text.now in
+    ap (λ bytes. followed bytes (read_words_from c.in-Some.next (c.loop-at.at + 1) (drop (c.loop-at.at + 1) text))) c.in_ok-push_word.ensures
+    ∙ words_step c.loop-at.reading c.in-Some.next c.in-Some.word c.loop-at.at text c.loop-at.bytes.items c.loop-at-test.true (sym c.next.ensures ∙ c.in-Some.is)
+    ∙ c.loop-at.invariant
