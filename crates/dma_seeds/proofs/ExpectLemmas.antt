@@ -1,5 +1,5 @@
 -- Verdicts of several seeds, and scripts without expect lines.
-use Rattle.std.proofs.Common.{◌≡◌, ℕ, zero, suc, ◌+◌, ◌-◌, ◌<◌, ◌≤◌, Bool, true, false, List, [], ◌∷◌, ◌++◌, Option, Some, None, Result, Ok, Err, refl, ap, sym, ◌∙◌, arith, inl, inr, map}
+use Rattle.std.proofs.Common.{◌≡◌, ℕ, zero, suc, ◌+◌, ◌-◌, ◌<◌, ◌≤◌, true, false, List, [], ◌∷◌, ◌++◌, Result, Ok, Err, refl, ap, sym, ◌∙◌, arith, inl, inr, map}
 use Rattle.std.specs.Prelude.{codes, decimal, if◌then◌else◌, is_ok, is_some}
 use Rattle.std.specs.List.{list_any, range_with_len}
 use Rattle.std.proofs.lemmas.Bool.{ne_eqb, true≢false, false≢true}
@@ -10,7 +10,7 @@ use Rattle.dma_script.specs.Race.{race_script_of}
 use Rattle.dma_script.specs.Words.{words_of}
 use Rattle.dma_script.specs.declared.fault.Fault.{Fault}
 use Rattle.dma_script.specs.declared.race.RaceScript.{RaceScript}
-use Rattle.dma_seeds.specs.Expect.{Unread, after_lines, after_words, expected_in, has_expects, is_answered, is_good, verdict, verdict_of, verdict_on, without_expects}
+use Rattle.dma_seeds.specs.Expect.{Unread, after_lines, expected_in, has_expects, is_good, verdict, verdict_of, verdict_on, without_expects}
 use Rattle.dma_seeds.specs.Race.{raced}
 use Rattle.dma_seeds.specs.Turns.{turns_of_seed}
 use Rattle.dma_seeds.specs.Seeds.{failing, failing_text, first_verdict, number_of_things, seeds_verdict_of, unless_holds, verdicts}

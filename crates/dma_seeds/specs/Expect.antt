@@ -1,5 +1,5 @@
 -- The lines `expect TEXT` of a race script (profile). Each compares its text with a line that was printed.
-use Rattle.std.specs.Prelude.{ℕ, ◌+◌, zero, suc, Bool, ◌==◌, ◌||◌, not, true, false, if◌then◌else◌, List, [], ◌∷◌, ◌++◌, flat_map, map, slice_index, Option, Some, None, Result, Ok, Err, codes, decimal}
+use Rattle.std.specs.Prelude.{ℕ, ◌+◌, Bool, ◌==◌, ◌||◌, not, true, false, if◌then◌else◌, List, [], ◌∷◌, ◌++◌, flat_map, map, slice_index, Option, Some, None, Result, Ok, Err, codes, decimal}
 use Rattle.std.specs.List.{list_any}
 use Rattle.std.specs.Option.{is_some}
 use Rattle.std.specs.Str.{bytes_eq}

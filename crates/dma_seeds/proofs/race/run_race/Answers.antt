@@ -1,4 +1,4 @@
-use Rattle.std.proofs.Common.{◌≡◌, ℕ, List, [], ◌++◌, ◌∙◌, ap, arith, length, refl}
+use Rattle.std.proofs.Common.{ℕ, List, [], ◌++◌, ◌∙◌, ap, arith, length, refl}
 use Rattle.std.specs.List.{sum}
 use Rattle.std.specs.Str.Lines.{lines}
 use Rattle.dma_seeds.specs.Expect.{Unread, after_lines, verdict_on}
