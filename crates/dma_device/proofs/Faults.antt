@@ -153,12 +153,12 @@ module _ (ram : List Piece) (d : DeviceValue) where
         kills = λ t is _. set_elsewhere d number m (killed t) (λ same. off_it (is, sym same));
         fails = λ why t is _. set_elsewhere d number m (failed why t) (λ same. off_it (is, sym same));
         starts = λ n t nonsecure stopped found. (let u = started d.config.bus nonsecure d.dbginst1 (program_at ram d.dbginst1) in
-        elim (cases_eq m n) [
-          | inl same ↦
-              let here : faults_at (TheChannel n) (with_thread n u d) ≡ faults_at (TheChannel n) d = set_there d n t u found ∙ sym (ap faults_if found ∙ stopped_fine t.status stopped) in
-              subst (λ (j : ℕ). faults_at (TheChannel j) (with_thread n u d) ≡ faults_at (TheChannel j) d) (sym same) here
-          | inr other ↦ set_elsewhere d n m u other
-        ]);
+            elim (cases_eq m n) [
+              | inl same ↦
+                  let here : faults_at (TheChannel n) (with_thread n u d) ≡ faults_at (TheChannel n) d = set_there d n t u found ∙ sym (ap faults_if found ∙ stopped_fine t.status stopped) in
+                  subst (λ (j : ℕ). faults_at (TheChannel j) (with_thread n u d) ≡ faults_at (TheChannel j) d) (sym same) here
+              | inr other ↦ set_elsewhere d n m u other
+            ]);
       })
 
 decide_addresses : (who : Who) (d : DeviceValue) → Addresses d who ⊎ (¬ Addresses d who)
@@ -347,8 +347,9 @@ turn_exact (TheChannel m) n most d e regions left turn x = elim (cases_eq m n) [
 -- ---- one access
 
 none_faults : (bus : BusWidth) (n m : ℕ) → faults_if (slice_get (replicate m (reset_thread bus)) n) ≡ false
+none_faults bus n zero = refl
+none_faults bus zero (suc m) = refl
 none_faults bus (suc n) (suc m) = none_faults bus n m
-none_faults bus n m = refl
 
 reset_fine : (who : Who) (g : Config) → faults_at who (reset_device g) ≡ false
 reset_fine TheManager g = refl
