@@ -167,13 +167,14 @@ module _ (o : TraceOptions) (marks : MarkList) (first : List Region) (s : Machin
       ∙ ap (λ (g : Front). slice_get (code_of u.channel) g.pc) (at ∙ w.front_is)
 
   -- the end that is printed is that of the run
-  end_same : (turn : Option ChanTurn) (program : List ℕ) (r : Result Insn FaultKind) (steps : ℕ) (f : Front) → turn ≡ last_answer marks s o.limit n → program ≡ code_of s.channel → r ≡ ahead_of c → steps ≡ n → f ≡ front → end_of turn (slice_get program f.pc) r steps f ≡ end_after o marks s n
-  end_same turn program r steps f is loaded ahead count at =
-      ap (λ (t : Option ChanTurn). end_of t (slice_get program f.pc) r steps f) is
-      ∙ ap (λ (b : Option ℕ). end_of (last_answer marks s o.limit n) b r steps f) (first_there program f loaded at)
-      ∙ ap (λ (q : Result Insn FaultKind). end_of (last_answer marks s o.limit n) (first_byte_of u.channel) q steps f) (ahead_there r ahead)
-      ∙ ap (λ (k : ℕ). end_of (last_answer marks s o.limit n) (first_byte_of u.channel) (ahead_of u.channel) k f) count
-      ∙ ap (λ (g : Front). end_of (last_answer marks s o.limit n) (first_byte_of u.channel) (ahead_of u.channel) n g) (at ∙ w.front_is)
+  end_same : (turn : Option ChanTurn) (program : List ℕ) (r : Result Insn FaultKind) (steps : ℕ) (f : Front) (stored : ℕ) → turn ≡ last_answer marks s o.limit n → program ≡ code_of s.channel → r ≡ ahead_of c → steps ≡ n → f ≡ front → stored ≡ c.stored → end_of turn (slice_get program f.pc) r steps f stored ≡ end_after o marks s n
+  end_same turn program r steps f stored is loaded ahead count at bytes =
+      ap (λ (t : Option ChanTurn). end_of t (slice_get program f.pc) r steps f stored) is
+      ∙ ap (λ (b : Option ℕ). end_of (last_answer marks s o.limit n) b r steps f stored) (first_there program f loaded at)
+      ∙ ap (λ (q : Result Insn FaultKind). end_of (last_answer marks s o.limit n) (first_byte_of u.channel) q steps f stored) (ahead_there r ahead)
+      ∙ ap (λ (k : ℕ). end_of (last_answer marks s o.limit n) (first_byte_of u.channel) (ahead_of u.channel) k f stored) count
+      ∙ ap (λ (g : Front). end_of (last_answer marks s o.limit n) (first_byte_of u.channel) (ahead_of u.channel) n g stored) (at ∙ w.front_is)
+      ∙ ap (λ (k : ℕ). end_of (last_answer marks s o.limit n) (first_byte_of u.channel) (ahead_of u.channel) n (front_in u) k) (bytes ∙ ap (λ (m : Machine). m.channel.stored) w.at)
 
   finish : (end : End) (good : Bool) (after err wave new_out new_err new_wave : List ℕ) → end ≡ end_after o marks s n → StopsAfter marks s o.limit n → after ≡ (after_steps marks s (tried o.limit n)).image → Ends end good mid err new_out new_err → new_wave ≡ wave ++ if_wave o (waveform marks s n (last_answer marks s o.limit n)) → Runs o marks (map segment_of first) s good after old err wave new_out new_err new_wave
   finish end good after err wave new_out new_err new_wave same run memory e waved = record {
@@ -187,28 +188,28 @@ module _ (o : TraceOptions) (marks : MarkList) (first : List Region) (s : Machin
   }
 
   -- the next step doesn't move
-  pub stops : (turn : ChanTurn) (program : List ℕ) (r : Result Insn FaultKind) (steps : ℕ) (f : Front) (d : ChannelValue) (left : List Region) (flags_after : List Bool) (good : Bool) (err wave mid_wave new_out new_err new_wave : List ℕ) → n < o.limit → turn ≢ Moved → turn ≡ answer_at marks (machine_over c rs flags) → program ≡ code_of s.channel → r ≡ ahead_of c → steps ≡ n → f ≡ front → machine_over d left flags_after ≡ after_step marks (machine_over c rs flags) → Ends (end_of (Some turn) (slice_get program f.pc) r steps f) good mid err new_out new_err → Waves o marks s n wave mid_wave → new_wave ≡ mid_wave ++ if_wave o (last_text (executing steps r f) (Some turn)) → Runs o marks (map segment_of first) s good (image_of (pieces_of left)) old err wave new_out new_err new_wave
-  stops turn program r steps f d left flags_after good err wave mid_wave new_out new_err new_wave less other is loaded ahead number at to e waves waved =
+  pub stops : (turn : ChanTurn) (program : List ℕ) (r : Result Insn FaultKind) (steps : ℕ) (f : Front) (stored : ℕ) (d : ChannelValue) (left : List Region) (flags_after : List Bool) (good : Bool) (err wave mid_wave new_out new_err new_wave : List ℕ) → n < o.limit → turn ≢ Moved → turn ≡ answer_at marks (machine_over c rs flags) → program ≡ code_of s.channel → r ≡ ahead_of c → steps ≡ n → f ≡ front → stored ≡ c.stored → machine_over d left flags_after ≡ after_step marks (machine_over c rs flags) → Ends (end_of (Some turn) (slice_get program f.pc) r steps f stored) good mid err new_out new_err → Waves o marks s n wave mid_wave → new_wave ≡ mid_wave ++ if_wave o (last_text (executing steps r f) (Some turn)) → Runs o marks (map segment_of first) s good (image_of (pieces_of left)) old err wave new_out new_err new_wave
+  stops turn program r steps f stored d left flags_after good err wave mid_wave new_out new_err new_wave less other is loaded ahead number at bytes to e waves waved =
       let here : turn ≡ answer_at marks u = answer_there turn is in
       let image : image_of (pieces_of left) ≡ (after_step marks u).image = ap (λ (v : Machine). v.image) (to ∙ ap (after_step marks) w.at) in
       let test : nat_lt n o.limit ≡ true = lt-ltb n o.limit less in
       let last : last_answer marks s o.limit n ≡ Some (answer_at marks u) = ap (λ (b : Bool). if b then Some (answer_at marks u) else None) test in
       let count : tried o.limit n ≡ suc n = ap (λ (b : Bool). if b then suc n else n) test in
-      finish (end_of (Some turn) (slice_get program f.pc) r steps f) good (image_of (pieces_of left)) err wave new_out new_err new_wave
-      (end_same (Some turn) program r steps f (ap Some here ∙ sym last) loaded ahead number at)
+      finish (end_of (Some turn) (slice_get program f.pc) r steps f stored) good (image_of (pieces_of left)) err wave new_out new_err new_wave
+      (end_same (Some turn) program r steps f stored (ap Some here ∙ sym last) loaded ahead number at bytes)
       (record { moved = w.moved; few = omega (arith, less); stops = λ more e. other (here ∙ e) })
       (image ∙ ap (λ (k : ℕ). (after_steps marks s k).image) (sym count))
       e
       (wave_ends o marks s n (executing steps r f) (Some turn) wave mid_wave new_wave waves (moment_there r steps f ahead number at) (ap Some here ∙ sym last) waved)
 
   -- the limit is reached
-  pub ends : (program : List ℕ) (r : Result Insn FaultKind) (steps : ℕ) (f : Front) (good : Bool) (err wave mid_wave new_out new_err new_wave : List ℕ) → n ≡ o.limit → program ≡ code_of s.channel → r ≡ ahead_of c → steps ≡ n → f ≡ front → Ends (end_of None (slice_get program f.pc) r steps f) good mid err new_out new_err → Waves o marks s n wave mid_wave → new_wave ≡ mid_wave ++ if_wave o (last_text (executing steps r f) None) → Runs o marks (map segment_of first) s good (image_of (pieces_of rs)) old err wave new_out new_err new_wave
-  ends program r steps f good err wave mid_wave new_out new_err new_wave limit loaded ahead number at e waves waved =
+  pub ends : (program : List ℕ) (r : Result Insn FaultKind) (steps : ℕ) (f : Front) (stored : ℕ) (good : Bool) (err wave mid_wave new_out new_err new_wave : List ℕ) → n ≡ o.limit → program ≡ code_of s.channel → r ≡ ahead_of c → steps ≡ n → f ≡ front → stored ≡ c.stored → Ends (end_of None (slice_get program f.pc) r steps f stored) good mid err new_out new_err → Waves o marks s n wave mid_wave → new_wave ≡ mid_wave ++ if_wave o (last_text (executing steps r f) None) → Runs o marks (map segment_of first) s good (image_of (pieces_of rs)) old err wave new_out new_err new_wave
+  ends program r steps f stored good err wave mid_wave new_out new_err new_wave limit loaded ahead number at bytes e waves waved =
       let test : nat_lt n o.limit ≡ false = le-ltb n o.limit (omega (arith, limit)) in
       let last : last_answer marks s o.limit n ≡ None = ap (λ (b : Bool). if b then Some (answer_at marks u) else None) test in
       let count : tried o.limit n ≡ n = ap (λ (b : Bool). if b then suc n else n) test in
-      finish (end_of None (slice_get program f.pc) r steps f) good (image_of (pieces_of rs)) err wave new_out new_err new_wave
-      (end_same None program r steps f (sym last) loaded ahead number at)
+      finish (end_of None (slice_get program f.pc) r steps f stored) good (image_of (pieces_of rs)) err wave new_out new_err new_wave
+      (end_same None program r steps f stored (sym last) loaded ahead number at bytes)
       (record { moved = w.moved; few = omega (arith, limit); stops = λ more e. omega (arith, more, limit) })
       (ap (λ (v : Machine). v.image) w.at ∙ ap (λ (k : ℕ). (after_steps marks s k).image) (sym count))
       e

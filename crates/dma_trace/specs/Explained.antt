@@ -12,6 +12,7 @@ use Rattle.dma_chan.specs.declared.explain.Sync.TheVariants.{Waits, Signals}
 use Rattle.dma_chan.specs.declared.explain.Unexplained.{Unexplained}
 use Rattle.dma_chan.specs.Explains.{Finds, Refuses, next_in, traced}
 use Rattle.dma_trace.specs.Front.{front_at}
+use Rattle.dma_trace.specs.Touches.{touches_in, where_text}
 use Rattle.dma_trace.specs.Words.{bytes_text, cause_text, count_text, line_feed, long_text, range_text, refusal_text}
 
 -- `  from 0x00002000 + 32 bytes, 64 times`
@@ -46,13 +47,14 @@ explained_text x =
     ((codes "copies " ++ bytes_text x.size ++ (codes ", with " ++ count_text x.steps ++ line_feed)) ++ bursts_text x.bursts)
     ++ flat_map source_line x.src.items ++ flat_map destination_line x.dst.items ++ flat_map event_line x.events.items
 
--- why no copy explains a program on a bus, where, and the registers there
+-- why no copy explains a program on a bus, where, the registers there, and how many bytes were stored before
 abbrev pub unexplained_text : Bus → List ℕ → Unexplained → List ℕ
 unexplained_text bus program u =
     let x = traced bus program u.steps in
     let first = slice_get program x.registers.pc in
     let next = next_in program x in
-    refusal_text (cause_text u.cause first next u.steps (front_at x)) first next u.steps (front_at x)
+    let touches = touches_in bus program u.addr u.steps in
+    refusal_text (cause_text u.cause first next u.steps (front_at x) ++ where_text u.cause u.addr touches) first next u.steps (front_at x) u.stored
 
 -- `explain` prints what it finds of a program on a bus with a limit of instructions.
 pub record PrintsCopy (bus : Bus) (program : List ℕ) (most : ℕ) (printed : List ℕ) : Type 0 where

@@ -1,5 +1,5 @@
 -- What `trace` prints (profile): a function of the program, the memory and the options, by the steps of a channel.
-use Rattle.std.specs.Prelude.{◌≡◌, ◌≢◌, ℕ, zero, suc, ◌+◌, ◌-◌, ◌*◌, ◌/◌, ◌%◌, ◌^◌, ◌<◌, ◌≤◌, ◌++◌, ◌&&◌, ◌⊎◌, nat_le, nat_lt, min, Bool, true, false, List, [], length, map, take, drop, flat_map, slice_get, Option, Some, None, Result, Ok, Err, if◌then◌else◌, codes, decimal}
+use Rattle.std.specs.Prelude.{◌≡◌, ◌≢◌, ℕ, zero, suc, ◌+◌, ◌-◌, ◌*◌, ◌/◌, ◌%◌, ◌^◌, ◌==◌, ◌<◌, ◌≤◌, ◌++◌, ◌&&◌, ◌⊎◌, nat_le, nat_lt, min, Bool, true, false, List, [], length, map, take, drop, flat_map, slice_get, Option, Some, None, Result, Ok, Err, if◌then◌else◌, codes, decimal}
 use Rattle.std.specs.List.{range_with_len}
 use Rattle.dma_text.specs.Digits.{hex_digits, spaced_bytes}
 use Rattle.dma_insn.specs.declared.insn.Insn.{Insn}
@@ -89,22 +89,23 @@ pub record End : Type 0 where
   pub says : List ℕ
   pub wrong : List ℕ
 
--- what is wrong with an instruction, after n others
-abbrev pub refused : List ℕ → Option ℕ → Result Insn FaultKind → ℕ → Front → End
-refused why first next n f = record { succeeds = false; says = []; wrong = refusal_text why first next n f }
+-- what is wrong with an instruction, after n others, which stored this number of bytes
+abbrev pub refused : List ℕ → Option ℕ → Result Insn FaultKind → ℕ → Front → ℕ → End
+refused why first next n f stored = record { succeeds = false; says = []; wrong = refusal_text why first next n f stored }
 
--- The end by the answer of the last step, after n steps that moved, or None at the limit of steps.
-abbrev pub end_of : Option ChanTurn → Option ℕ → Result Insn FaultKind → ℕ → Front → End
-end_of (Some Ended) first next n f =
+-- The end by the answer of the last step, after n steps that moved and stored this number of bytes, or None at the limit
+-- of steps.
+abbrev pub end_of : Option ChanTurn → Option ℕ → Result Insn FaultKind → ℕ → Front → ℕ → End
+end_of (Some Ended) first next n f stored =
     record { succeeds = true; says = codes "ended after " ++ count_text (n + 1) ++ line_feed; wrong = [] }
-end_of (Some (Waiting e)) first next n f = record {
+end_of (Some (Waiting e)) first next n f stored = record {
   succeeds = true;
   says = (codes "waits for event " ++ decimal e) ++ (codes " after " ++ count_text n) ++ line_feed;
   wrong = [];
 }
-end_of (Some (Fault kind)) first next n f = refused (fault_text kind first next f) first next n f
-end_of (Some Moved) first next n f = refused (cause_text NoEnd first next n f) first next n f
-end_of None first next n f = refused (cause_text NoEnd first next n f) first next n f
+end_of (Some (Fault kind)) first next n f stored = refused (fault_text kind first next f) first next n f stored
+end_of (Some Moved) first next n f stored = refused (cause_text NoEnd first next n f) first next n f stored
+end_of None first next n f stored = refused (cause_text NoEnd first next n f) first next n f stored
 
 -- ---- the waveform
 
@@ -132,11 +133,15 @@ waveform marks s n answer = wave_lines marks s n ++ last_text (moment_in n (afte
 
 -- ---- the memory after the end
 
+-- the bytes of a row, or that no region has its first address
+abbrev pub row_bytes : List ℕ → List ℕ
+row_bytes bytes = if length bytes == 0 then codes ": no RAM here" else spaced_bytes bytes
+
 -- row number k of a range: an address and at most 16 bytes, up to the first address that no region has
 unfoldable pub row_text : List Piece → Segment → ℕ → List ℕ
 row_text pieces s k =
     let addr = (s.addr + 16 * k) % 2 ^ 32 in
-    codes "0x" ++ hex_digits addr ++ (spaced_bytes (take (min (s.len - 16 * k) 16) (run_from pieces addr)) ++ line_feed)
+    codes "0x" ++ hex_digits addr ++ (row_bytes (take (min (s.len - 16 * k) 16) (run_from pieces addr)) ++ line_feed)
 
 abbrev pub dump_text : List Piece → Segment → List ℕ
 dump_text pieces s = flat_map (row_text pieces s) (range_with_len 0 ((s.len + 15) / 16))
@@ -165,7 +170,7 @@ first_byte_of c = slice_get (code_of c) c.registers.pc
 abbrev pub end_after : TraceOptions → MarkList → Machine → ℕ → End
 end_after o marks s n =
     let u = after_steps marks s n in
-    end_of (last_answer marks s o.limit n) (first_byte_of u.channel) (ahead_of u.channel) n (front_in u)
+    end_of (last_answer marks s o.limit n) (first_byte_of u.channel) (ahead_of u.channel) n (front_in u) u.channel.stored
 
 -- how many steps are tried, if n moved
 abbrev pub tried : ℕ → ℕ → ℕ

@@ -169,13 +169,15 @@ unfoldable pub place_text : Option ℕ → Result Insn FaultKind → ℕ → ℕ
 place_text first next pc n =
     codes " offset " ++ offset_text pc ++ (codes ": " ++ next_text first next) ++ (codes " (instruction " ++ decimal (n + 1) ++ codes "): ")
 
--- the registers, on two lines
-unfoldable pub state_text : Front → List ℕ
-state_text f = (line_feed ++ codes "  ") ++ front_text f ++ ((line_feed ++ codes "  ") ++ control_text f.ccr ++ line_feed)
+-- the registers, on two lines, and how many bytes were stored: `  1024 bytes stored before`
+unfoldable pub state_text : Front → ℕ → List ℕ
+state_text f stored =
+    (codes "\n  " ++ front_text f) ++ (codes "\n  " ++ control_text f.ccr) ++ (codes "\n  " ++ bytes_text stored ++ codes " stored before\n")
 
--- The lines of an instruction that is refused after n others: where it is and why, then the registers before it.
-abbrev pub refusal_text : List ℕ → Option ℕ → Result Insn FaultKind → ℕ → Front → List ℕ
-refusal_text why first next n f = place_text first next f.pc n ++ why ++ state_text f
+-- The lines of an instruction that is refused after n others: where it is and why, then the registers before it, and
+-- how many bytes were stored before it.
+abbrev pub refusal_text : List ℕ → Option ℕ → Result Insn FaultKind → ℕ → Front → ℕ → List ℕ
+refusal_text why first next n f stored = place_text first next f.pc n ++ why ++ state_text f stored
 
 -- the line of a program that is too long
 unfoldable pub long_text : List ℕ

@@ -8,10 +8,12 @@ ghost use Rattle.dma_chan.specs.Next.{next_of};
 ghost use Rattle.dma_text.specs.Text.{Begins};
 ghost use Rattle.dma_trace.specs.Explained.{Appends, bursts_text, unexplained_text, destination_line, event_line, explained_text, source_line};
 ghost use Rattle.dma_trace.specs.Front.{front_at};
+ghost use Rattle.dma_trace.specs.Touches.{touches_in};
 
 use crate::amounts::{Bytes, Instructions, Range};
 use crate::front::Front;
 use crate::progress::report;
+use crate::touches::{Touches, Whereabouts};
 use crate::words::{LongProgram, Place, Point, State, Why, first_byte};
 use dma_chan::bus::Bus;
 use dma_chan::explain as runs;
@@ -177,22 +179,32 @@ fn ahead(program: &[u8], pc: u32) -> Result<Insn, FaultKind>
     }
 }
 
-// Returns the registers of a program on a bus after `steps` instructions that go on.
-fn reached<P: Progress>(program: &[u8], bus: Bus, steps: u32, progress: &mut P) -> Front
+// Returns the registers of a program on a bus after `steps` instructions that go on, and which of these load and store
+// an address.
+fn reached<P: Progress>(
+    program: &[u8],
+    bus: Bus,
+    steps: u32,
+    addr: u32,
+    progress: &mut P,
+) -> (Front, Touches)
     requires long { length program.now ≤ most_program_bytes }
     requires goes { (k : ℕ) → k < steps → let x = traced bus program.now k in
         GoesOn (next_in program.now x) x }
-    ensures { result ≡ front_at (traced bus program.now steps) }
+    ensures front { result.0 ≡ front_at (traced bus program.now steps) }
+    ensures touches { result.1 ≡ touches_in bus program.now addr steps }
 {
     let mut front = Front::start(bus);
+    let mut touches = Touches::none();
     for done in 0..steps {
         report(progress, done);
         let Ok(insn) = ahead(program, front.pc) else {
             unreachable!()
         };
+        touches.add(&insn, addr, done + 1, &front);
         front.advance(insn);
     }
-    front
+    (front, touches)
 }
 
 // Appends why and where no copy explains a program.
@@ -210,7 +222,7 @@ fn print_cause<P: Progress>(
         (err.new.items ≡ err.old.items ++ unexplained_text bus program.now found) }
     ensures err { OnErr result (err.new.items ≡ err.old.items) }
 {
-    let front = reached(program, bus, found.steps, progress);
+    let (front, touches) = reached(program, bus, found.steps, found.addr, progress);
     let first = first_byte(program, front.pc);
     let at = Point {
         ahead: ahead(program, front.pc),
@@ -223,7 +235,16 @@ fn print_cause<P: Progress>(
         first,
         at: &at,
     };
-    print(err, &(place, why, State(&at.front)))
+    let whereabouts = Whereabouts {
+        cause: found.cause,
+        addr: found.addr,
+        touches: &touches,
+    };
+    let state = State {
+        front: &at.front,
+        stored: found.stored,
+    };
+    print(err, &(place, (why, whereabouts), state))
 }
 
 /// Explains a program on a bus, executing at most `most` instructions: appends to `out` what it copies for every

@@ -6,6 +6,7 @@ ghost use Rattle.dma_insn.specs.Spelling.{spelling};
 ghost use Rattle.dma_insn.specs.declared.insn.Insn.TheVariants.{Ld, Lp, LpEnd, Mov, St};
 ghost use Rattle.dma_chan.specs.Bursts.{burst_at, burst_len};
 ghost use Rattle.dma_chan.specs.Exec.{buffer_size, counter_of, destination_of, moved, source_of, start_on, with_counter};
+ghost use Rattle.dma_trace.specs.Touches.{has_addr};
 ghost use Rattle.dma_trace.specs.Front.{front_of, held_after, registers_of, span_at};
 
 use dma_chan::bus::Bus;
@@ -47,6 +48,13 @@ impl Span {
         ensures { result ≡ self.len * self.times }
     {
         self.len * self.times
+    }
+
+    /// Returns whether the burst touches an address.
+    pub fn has(self, addr: u32) -> bool
+        ensures { result ≡ has_addr self addr }
+    {
+        self.addr <= addr && addr - self.addr < self.len
     }
 }
 

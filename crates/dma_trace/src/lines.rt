@@ -4,7 +4,7 @@
 ghost use Rattle.std.specs.Prelude.{◌≡◌, ◌+◌, ◌++◌, ◌<◌, ◌^◌, OnOk, IfOk, take, flat_map};
 ghost use Rattle.dma_text.specs.Text.{Begins};
 ghost use Rattle.dma_mem.specs.Regions.{pieces_of, run_from};
-ghost use Rattle.dma_trace.specs.Traced.{burst_text, dump_text, line_text, moves_text, row_text, shown_line, step_text};
+ghost use Rattle.dma_trace.specs.Traced.{burst_text, dump_text, line_text, moves_text, row_bytes, row_text, shown_line, step_text};
 
 use crate::amounts::Offset;
 use crate::front::{Front, Span};
@@ -144,6 +144,22 @@ pub fn push_step(
     }
 }
 
+/// The bytes of a row, or that no region has its first address.
+#[derive(Drop)]
+struct RowBytes<'a>(&'a [u8]);
+
+impl Text for RowBytes<'_> {
+    ghost text = { λ row. row_bytes row.0.now };
+
+    fn push(&self, out: &mut Vec<u8>) -> Result<(), AllocError> {
+        let RowBytes(bytes) = *self;
+        if bytes.is_empty() {
+            return ": no RAM here".push(out);
+        }
+        SpacedBytes(bytes).push(out)
+    }
+}
+
 // Appends a row of a range.
 #[tactic(auto, using(dma_text::proofs::Begun::begins_same, dma_text::proofs::Begun::begins_appended, dma_text::proofs::Begun::begins_more), unfolding(crate::specs::Traced::row_text))]
 fn push_row(
@@ -162,7 +178,7 @@ fn push_row(
     let addr = ((u64::from(segment.addr) + done) % (1 << 32)) as u32;
     let count = u64::from(segment.len).saturating_sub(done).min(16) as usize;
     let bytes = bytes_from(alloc, regions, addr, count)?;
-    ("0x", Address(addr), (SpacedBytes(bytes.as_slice()), "\n")).push(out)
+    ("0x", Address(addr), (RowBytes(bytes.as_slice()), "\n")).push(out)
 }
 
 // Appends the rows of a range.

@@ -80,20 +80,26 @@ fn insn_of(at: &Point) -> Insn
 }
 
 // Appends how a run ends, by the answer of its last step, or `None` at the limit, and returns whether it succeeds.
+// `stored` bytes were stored.
 fn push_end(
     turn: &Option<ChanTurn>,
     first: Option<u8>,
     at: &Point,
+    stored: u64,
     out: &mut Vec<u8>,
     err: &mut Vec<u8>,
 ) -> Result<bool, AllocError>
     ensures ok { IfOk result (λ good. Ends
-        (end_of turn.now first at.now.ahead at.now.steps at.now.front) good
+        (end_of turn.now first at.now.ahead at.now.steps at.now.front stored) good
         out.old.items err.old.items out.new.items err.new.items) }
     ensures begins { Begins out.new.items out.old.items }
     ensures begins_err { Begins err.new.items err.old.items }
 {
     let steps = at.steps;
+    let state = State {
+        front: &at.front,
+        stored,
+    };
     match *turn {
         Some(ChanTurn::Ended) => {
             let number = u64::from(steps) + 1;
@@ -108,13 +114,13 @@ fn push_end(
         }
         Some(ChanTurn::Fault(kind)) => {
             let failure = Failure { kind, first, at };
-            (Place { first, at }, failure, State(&at.front)).push(err)?;
+            (Place { first, at }, failure, state).push(err)?;
             Ok(false)
         }
         Some(ChanTurn::Moved) | None => {
             let cause = Cause::NoEnd;
             let why = Why { cause, first, at };
-            (Place { first, at }, why, State(&at.front)).push(err)?;
+            (Place { first, at }, why, state).push(err)?;
             Ok(false)
         }
     }
@@ -126,12 +132,13 @@ fn finish(
     turn: &Option<ChanTurn>,
     program: &[u8],
     at: &Point,
+    stored: u64,
     out: &mut Vec<u8>,
     err: &mut Vec<u8>,
     wave: &mut Vec<u8>,
 ) -> Result<bool, AllocError>
     ensures ok { let first = slice_get program.now at.now.front.pc in IfOk result (λ good. Ends
-        (end_of turn.now first at.now.ahead at.now.steps at.now.front) good
+        (end_of turn.now first at.now.ahead at.now.steps at.now.front stored) good
         out.old.items err.old.items out.new.items err.new.items) }
     ensures wave { OnOk result (wave.new.items ≡ wave.old.items ++ if_wave options.now
         (last_text (executing at.now.steps at.now.ahead at.now.front) turn.now)) }
@@ -140,7 +147,8 @@ fn finish(
     ensures begins_wave { Begins wave.new.items wave.old.items }
 {
     push_last(options, at, turn, wave)?;
-    push_end(turn, first_byte(program, at.front.pc), at, out, err)
+    let first = first_byte(program, at.front.pc);
+    push_end(turn, first, at, stored, out, err)
 }
 
 // Executes a program until it ends, waits or fails, or until the limit. Appends the lines, the end and the waveform.
@@ -180,9 +188,10 @@ fn run<P: Progress>(
             steps,
             front,
         };
+        let stored = channel.stored();
         let turn = step(&mut channel, regions, &mut events, &marks);
         let ChanTurn::Moved = turn else {
-            return finish(options, &Some(turn), program, &at, out, err, wave);
+            return finish(options, &Some(turn), program, &at, stored, out, err, wave);
         };
         front.advance(insn_of(&at));
         push_step(alloc, options, &at, &front, regions, out)?;
@@ -193,7 +202,8 @@ fn run<P: Progress>(
         steps: options.limit,
         front,
     };
-    finish(options, &None, program, &at, out, err, wave)
+    let stored = channel.stored();
+    finish(options, &None, program, &at, stored, out, err, wave)
 }
 
 // Traces a program. If memory runs out, it may have appended a part.

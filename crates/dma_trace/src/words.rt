@@ -336,16 +336,26 @@ impl Text for Place<'_> {
     }
 }
 
-/// The registers, as the end of a line and two more lines.
+/// The registers, as the end of a line and two more lines, and a line with how many bytes were stored before.
 #[derive(Drop)]
-pub struct State<'a>(pub &'a Front);
+pub struct State<'a> {
+    pub front: &'a Front,
+    pub stored: u64,
+}
 
 impl Text for State<'_> {
-    ghost text = { λ state. state_text state.0.now };
+    ghost text = { λ state. state_text state.front.now state.stored };
 
     #[tactic(auto, unfolding(crate::specs::Words::state_text))]
     fn push(&self, out: &mut Vec<u8>) -> Result<(), AllocError> {
-        ("\n  ", *self.0, ("\n  ", Control(self.0.ccr), "\n")).push(out)
+        let control = Control(self.front.ccr);
+        let stored = Bytes(self.stored);
+        (
+            ("\n  ", *self.front),
+            ("\n  ", control),
+            ("\n  ", stored, " stored before\n"),
+        )
+            .push(out)
     }
 }
 

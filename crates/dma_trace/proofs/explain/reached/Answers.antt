@@ -1,6 +1,6 @@
 use Rattle.std.proofs.Common.{sym, ◌∙◌, arith}
 use Rattle.dma_chan.proofs.NextFits.{next_fits}
-use Rattle.dma_trace.proofs.Fronts.{follows_here, front_on, never, next_here, room_here, within_on, within_untraced}
+use Rattle.dma_trace.proofs.Fronts.{follows_here, front_on, never, next_here, room_here, touches_on, within_on, within_untraced}
 use Rattle.dma_trace.proofs.explain.reached.Goals as goal
 
 pub advance-requires-clause-pc : goal.advance-requires-clause-pc
@@ -28,10 +28,11 @@ loop-done-preserved g c =
     record {
       front = front_on bus program n c.loop-done.front c.advance.new.self i c.loop-done.invariant.front next w after.registers after.held;
       within = within_on bus program n i next w;
+      touches = touches_on bus program c.args.addr n c.loop-done.front i c.loop-done.touches c.add.new.self c.loop-done.invariant.front next c.loop-done.invariant.touches c.add.ensures;
     }
 
 pub loop-done-init : goal.loop-done-init
-loop-done-init g c = record { front = c.start-front.ensures; within = within_untraced c.args.bus }
+loop-done-init g c = record { front = c.start-front.ensures; within = within_untraced c.args.bus; touches = c.none-touches.ensures }
 
 pub unreachable-requires : goal.unreachable-requires
 unreachable-requires g c =

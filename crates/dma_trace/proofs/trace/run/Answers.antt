@@ -135,7 +135,7 @@ returns-in_default g c =
     let w = now.invariant.goes in
     let t = took first now.regions c.step-turn.new.regions c.in_ok-marks.marks (marks_at o.failing.items) now.channel c.step-turn.new.channel now.events c.step-turn.new.events c.step-turn.result w.places w.read_only (c.in_ok-marks.ensures ∙ ap marks_at c.deref.ensures.value) c.step-turn.ensures.turn c.step-turn.ensures.after in
     record {
-      ok = on_ok c.finish.result _ _ _ (λ good e waved. stops o marks first s now.steps now.channel now.regions now.events now.front c.args.out.now.items now.out.items w c.step-turn.result c.args.program.now c.ahead-ahead.result now.steps now.front c.step-turn.new.channel c.step-turn.new.regions c.step-turn.new.events good c.args.err.now.items c.args.wave.now.items now.wave.items c.finish.new.out.items c.finish.new.err.items c.finish.new.wave.items c.loop-steps-test.true c.in_default.not-Moved t.answer refl c.ahead-ahead.ensures refl refl t.to (from_err now.invariant.err e) now.invariant.wave waved) c.finish.ensures.ok c.finish.ensures.wave;
+      ok = on_ok c.finish.result _ _ _ (λ good e waved. stops o marks first s now.steps now.channel now.regions now.events now.front c.args.out.now.items now.out.items w c.step-turn.result c.args.program.now c.ahead-ahead.result now.steps now.front c.stored-stored.result c.step-turn.new.channel c.step-turn.new.regions c.step-turn.new.events good c.args.err.now.items c.args.wave.now.items now.wave.items c.finish.new.out.items c.finish.new.err.items c.finish.new.wave.items c.loop-steps-test.true c.in_default.not-Moved t.answer refl c.ahead-ahead.ensures refl refl c.stored-stored.ensures t.to (from_err now.invariant.err e) now.invariant.wave waved) c.finish.ensures.ok c.finish.ensures.wave;
       places = c.step-turn.ensures.places ∙ w.places;
       begins = begins_more _ _ _ (begins_appended _ _ _ w.text) c.finish.ensures.begins;
       begins_err = begins_more _ _ _ (begins_same _ _ now.invariant.err) c.finish.ensures.begins_err;
@@ -172,7 +172,7 @@ returns-clause-ok g c =
     let now = c.loop-steps in
     let w = now.invariant.goes in
     let limit : now.steps ≡ o.limit = omega (arith, c.loop-steps-test.false, now.auto.steps-end) in
-    on_ok c.finish-2.result _ _ _ (λ good e waved. ends o marks first s now.steps now.channel now.regions now.events now.front c.args.out.now.items now.out.items w c.args.program.now c.ahead.result o.limit now.front good c.args.err.now.items c.args.wave.now.items now.wave.items c.finish-2.new.out.items c.finish-2.new.err.items c.finish-2.new.wave.items limit refl c.ahead.ensures (sym limit) refl (from_err now.invariant.err e) now.invariant.wave waved) c.finish-2.ensures.ok c.finish-2.ensures.wave
+    on_ok c.finish-2.result _ _ _ (λ good e waved. ends o marks first s now.steps now.channel now.regions now.events now.front c.args.out.now.items now.out.items w c.args.program.now c.ahead.result o.limit now.front c.stored-stored-2.result good c.args.err.now.items c.args.wave.now.items now.wave.items c.finish-2.new.out.items c.finish-2.new.err.items c.finish-2.new.wave.items limit refl c.ahead.ensures (sym limit) refl c.stored-stored-2.ensures (from_err now.invariant.err e) now.invariant.wave waved) c.finish-2.ensures.ok c.finish-2.ensures.wave
 
 pub returns-clause-begins : goal.returns-clause-begins
 returns-clause-begins g c =
