@@ -17,4 +17,5 @@ returns g c =
       ap (λ (p : Printed). p.out) is ∙ found.text ∙ ap (λ t. t ++ seeds_printed (without_expects script) seeds) c.new-out.ensures.items,
       ap (λ (p : Printed). p.err) is ∙ ap (λ (v : SeedsVerdict). race_message script ++ seeds_verdict_text v seeds) found.verdict,
       ap (λ (p : Printed). p.file) is,
-      ap (λ (p : Printed). p.succeeds) is ∙ ap (λ (v : SeedsVerdict). is_good v.first) found.verdict)) c.all_judged.ensures
+      ap (λ (p : Printed). p.succeeds) is ∙ ap (λ (v : SeedsVerdict). is_good v.first) found.verdict,
+    )) c.all_judged.ensures
