@@ -1,5 +1,6 @@
--- The addresses of a dump (profile): a line may begin with one, of at least four hexadecimal digits, which may have `0x`
--- before them and a symbol's name in angle brackets behind them, and then a colon. So debuggers print memory.
+-- The addresses of a dump (profile): a line may begin with an address and a colon, as debuggers print memory. The
+-- address has at least four hexadecimal digits, perhaps `0x` before them, and perhaps a symbol's name in angle brackets
+-- after them.
 use Rattle.std.specs.Prelude.{ℕ, ◌+◌, Bool, false, true, not, ◌==◌, ◌&&◌, ◌||◌, nat_le, if◌then◌else◌, List, [], ◌∷◌}
 use Rattle.dma330.specs.Hexadecimal.{is_digit}
 

@@ -1,4 +1,4 @@
--- Notes behind the message of a reply: what may have been meant (profile).
+-- Notes and warnings that follow the message of a reply (profile).
 use Rattle.std.specs.Prelude.{ℕ, Bool, true, false, ◌==◌, ◌||◌, ◌&&◌, not, nat_le, length, if◌then◌else◌, List, [], ◌∷◌, codes}
 use Rattle.std.specs.List.{list_all}
 use Rattle.dma330.specs.declared.command_line.Request.{Request}
@@ -26,7 +26,7 @@ is_text input = list_all is_text_byte input
 abbrev pub hint : Request → List ℕ → Bool → List ℕ
 hint request input succeeds =
     if takes_program request && (not succeeds && (not (length input == 0) && is_text input))
-    then codes "  (these bytes are text; --hex reads hexadecimal digits, asm instructions)\n" else []
+    then codes "  (these bytes are text; --hex reads pairs of hexadecimal digits, --words 32-bit words, asm instructions)\n" else []
 
 -- whether a request executes a program
 abbrev pub executes : Request → Bool
@@ -40,9 +40,9 @@ ends_at_once [] = false
 ends_at_once (b ∷ []) = false
 ends_at_once (b ∷ c ∷ rest) = b == 0
 
--- the note for a program of which only its first byte is executed
-abbrev pub idle_note : Request → List ℕ → List ℕ
-idle_note request program =
-    if executes request && ends_at_once program
-    then codes " warning: the first byte is DMAEND, so none behind it is executed (an address in text needs a colon)\n"
+-- the warning for a program that begins with DMAEND and has more bytes, if it is executed without a fault
+abbrev pub end_warning : Request → List ℕ → Bool → List ℕ
+end_warning request program succeeds =
+    if executes request && (succeeds && ends_at_once program)
+    then codes " warning: the first byte is DMAEND, so no byte after it is executed (an address in text needs a colon)\n"
     else []

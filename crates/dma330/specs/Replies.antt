@@ -18,7 +18,7 @@ use Rattle.dma_trace.specs.declared.options.TraceOptions.{TraceOptions}
 use Rattle.dma_trace.specs.Explained.{Appends}
 use Rattle.dma_trace.specs.Traced.{Shows}
 use Rattle.dma330.specs.Answer.{Printed, named, with_note}
-use Rattle.dma330.specs.Notes.{hint, idle_note}
+use Rattle.dma330.specs.Notes.{hint, end_warning}
 use Rattle.dma330.specs.Text.{refusal, spelled}
 use Rattle.dma330.specs.declared.text.Notation.{Notation}
 use Rattle.dma330.specs.declared.command_line.Request.{Request}
@@ -60,9 +60,9 @@ Races seed script p =
     × (p.err ≡ race_message script ++ verdict_text (verdict script seed))
     × (p.file ≡ script_text (without_expects script) seed) × (p.succeeds ≡ is_good (verdict script seed))
 
--- `race --seeds` prints which outputs a race has with its turns in the orders of these seeds, and on standard error the
--- fault of the script, or the first expect line that fails for the first seed for which one fails, and for how many seeds
--- one fails.
+-- `race --seeds` prints which outputs a race has with its turns in the orders of these seeds. On standard error it
+-- prints the fault of the script; or the first expect line that fails for the lowest seed with a failure, and the
+-- number of seeds with a failure.
 abbrev pub RacesSeeds : SeedRange → List ℕ → Printed → Type 0
 RacesSeeds seeds script p =
     (p.out ≡ seeds_printed (without_expects script) seeds)
@@ -88,7 +88,7 @@ Replies Why ram input = Reasons input
 -- What a request prints for a program, with a warning if only its first byte is executed.
 abbrev pub ProgramReplies : Request → List Region → List ℕ → Printed → Type 0
 ProgramReplies request ram program p =
-    (q : Printed) × Replies request ram program q × (p ≡ with_note q (idle_note request program))
+    (q : Printed) × Replies request ram program q × (p ≡ with_note q (end_warning request program q.succeeds))
 
 -- What a request prints for a program that was read from hexadecimal text, or for the text's first fault.
 abbrev pub ReadReplies : Request → Notation → List Region → List ℕ → Result (List ℕ) ℕ → Printed → Type 0

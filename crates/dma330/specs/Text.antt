@@ -14,46 +14,46 @@ spelled Pairs text = read (without_addresses text)
 spelled Words text = read_words (without_addresses text)
 
 -- What is wrong with a byte of a text of pairs. A digit is refused only behind a pair that has a mark.
-abbrev pub pair_words : ℕ → List ℕ
-pair_words b =
+abbrev pub pair_message : ℕ → List ℕ
+pair_message b =
     if is_digit b
-    then codes " is a third digit after 0x: each number is one byte, the lowest byte of a word first; --words reads words\n"
+    then codes " is a third digit after 0x: --hex reads one byte for each number, --words 32-bit words\n"
     else codes " is not a hexadecimal digit here\n"
 
 -- What is wrong with a byte of a text of words. A digit is refused only behind a whole word, a gap only within one.
-abbrev pub word_words : ℕ → List ℕ
-word_words b =
+abbrev pub word_message : ℕ → List ℕ
+word_message b =
     if is_digit b then codes " is a ninth digit: each word has eight, the highest first\n" else (
     if is_gap b then codes " ends a word of fewer than eight digits\n"
     else codes " is not a hexadecimal digit here\n")
 
 -- what is wrong with a byte of a text; a colon and a vertical bar are those of dumps
-abbrev pub byte_words : Notation → ℕ → List ℕ
-byte_words notation b =
+abbrev pub byte_message : Notation → ℕ → List ℕ
+byte_message notation b =
     if b == 58 || b == 124
-    then codes " is of a dump with addresses: leave them and the characters out, as xxd -p does\n"
+    then codes " is of a dump: leave its characters out, and put an address before a colon at the start of the line\n"
     else in_notation notation b
   where
     in_notation : Notation → ℕ → List ℕ
-    in_notation Pairs c = pair_words c
-    in_notation Words c = word_words c
+    in_notation Pairs c = pair_message c
+    in_notation Words c = word_message c
 
 -- what is wrong with the end of a text
-abbrev pub end_words : Notation → List ℕ
-end_words Pairs = codes "the last byte lacks a digit\n"
-end_words Words = codes "the last word has fewer than eight digits\n"
+abbrev pub end_message : Notation → List ℕ
+end_message Pairs = codes "the last byte lacks a digit\n"
+end_message Words = codes "the last word has fewer than eight digits\n"
 
 -- what is wrong with a byte of a text, or with its end
-abbrev pub fault_words : Notation → Option ℕ → List ℕ
-fault_words notation (Some b) = codes "byte 0x" ++ hex_pair b ++ byte_words notation b
-fault_words notation None = end_words notation
+abbrev pub fault_message : Notation → Option ℕ → List ℕ
+fault_message notation (Some b) = codes "byte 0x" ++ hex_pair b ++ byte_message notation b
+fault_message notation None = end_message notation
 
 -- what is printed for a text with a fault at this offset: its line and column, and what is wrong
 abbrev pub refusal : Notation → List ℕ → ℕ → Printed
 refusal notation text at = record {
   out = [];
   err = (decimal (line_of text at) ++ codes ":" ++ decimal (column_of text at) ++ codes ": ")
-      ++ fault_words notation (slice_get text at);
+      ++ fault_message notation (slice_get text at);
   file = [];
   succeeds = false;
 }

@@ -1,5 +1,5 @@
--- Bytes in 32-bit words of hexadecimal text (profile): each word has eight digits, the highest first, and may have a mark
--- `0x` before them. Gaps and comments are between words, as between pairs. A word's lowest byte comes first in memory.
+-- The bytes of 32-bit words in hexadecimal text (profile): a word has eight digits, the highest first, and may have
+-- `0x` before them. Gaps and comments are between words. The lowest byte of a word comes first in memory.
 use Rattle.std.specs.Prelude.{ℕ, ◌+◌, ◌*◌, ◌%◌, ◌^◌, Bool, true, false, not, ◌==◌, ◌||◌, ◌&&◌, nat_le, nat_lt, if◌then◌else◌, List, [], ◌∷◌, ◌++◌, Option, Some, None, Result, Ok, Err}
 use Rattle.std.specs.Char.{digit_value}
 use Rattle.std.specs.Int.{w32, to_le_bytes}
@@ -9,7 +9,7 @@ use Rattle.dma330.specs.Hexadecimal.{is_digit, is_gap}
 use Rattle.dma330.specs.declared.words.WordReading.{WordReading}
 use Rattle.dma330.specs.declared.words.WordReading.TheVariants.{Between, Comment, Word}
 
--- what a byte is a part of that is in no word
+-- what a byte outside a word is a part of
 abbrev pub outside : ℕ → Option (WordReading × Option ℕ)
 outside b =
     if is_gap b then Some (Between, None) else (
@@ -45,8 +45,8 @@ abbrev pub word_bytes : Option ℕ → List ℕ
 word_bytes None = []
 word_bytes (Some w) = to_le_bytes w32 w
 
--- The bytes of the words that a text spells, given what the byte before it is a part of; or the offset of the first byte
--- that can't follow, or of the end if the text can't end there. `at` is the offset at which the text begins.
+-- The bytes of the words that a text spells, if the byte before the text was a part of `reading`; or the offset of the
+-- first byte that can't follow, or of the end if the text can't end there. The text begins at the offset `at`.
 abbrev pub read_words_from : WordReading → ℕ → List ℕ → Result (List ℕ) ℕ
 read_words_from reading at [] = if is_whole reading then Ok [] else Err at
 read_words_from reading at (b ∷ text) = do

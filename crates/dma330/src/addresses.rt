@@ -5,7 +5,7 @@ ghost use Rattle.dma330.specs.Addresses.{ends_address, has_colon, is_address, is
 use crate::hexadecimal::is_digit;
 use std::alloc::{AllocError, Global};
 
-/// The fewest digits of an address. So pairs with colons between them are none.
+/// The least number of digits of an address. A pair before a colon is no address.
 const ADDRESS_DIGITS: usize = 4;
 
 /// Returns whether a line has a colon that isn't in a comment.

@@ -36,10 +36,10 @@ pub struct Call<'a> {
     pub output: Option<&'a str>,
 }
 
-/// Why the values of a subcommand's options aren't those of a call.
+/// Why a subcommand's options give no call.
 #[derive(Debug, Drop)]
 enum Wrong<'a> {
-    /// The value of an option isn't what is wanted.
+    /// The value of an option has the wrong form or range.
     Value {
         id: &'static str,
         word: &'a str,

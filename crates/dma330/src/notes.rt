@@ -1,7 +1,7 @@
-//! Notes behind the message of a reply: what may have been meant.
+//! Notes and warnings that follow the message of a reply.
 ghost use Rattle.std.specs.Prelude.{◌≡◌, IfOk};
 ghost use Rattle.dma330.specs.Answer.{printed_of, with_note};
-ghost use Rattle.dma330.specs.Notes.{ends_at_once, executes, hint, idle_note, is_text, is_text_byte, takes_program};
+ghost use Rattle.dma330.specs.Notes.{ends_at_once, executes, hint, end_warning, is_text, is_text_byte, takes_program};
 
 use crate::answer::Answer;
 use crate::command_line::Request;
@@ -9,7 +9,7 @@ use dma_text::text::print;
 use std::alloc::AllocError;
 
 /// Appends a note to the message of an answer.
-pub fn noted(answer: Answer, note: &str) -> Result<Answer, AllocError>
+pub fn with_note(answer: Answer, note: &str) -> Result<Answer, AllocError>
     ensures { IfOk result (λ shown. printed_of shown ≡ with_note (printed_of answer) note.now) }
 {
     let Answer {
@@ -56,7 +56,7 @@ pub fn hint(request: &Request, input: &[u8], succeeds: bool) -> &'static str
     ensures { result.now ≡ hint request.now input.now succeeds }
 {
     if takes_program(request) && !succeeds && !input.is_empty() && is_text(input) {
-        "  (these bytes are text; --hex reads hexadecimal digits, asm instructions)\n"
+        "  (these bytes are text; --hex reads pairs of hexadecimal digits, --words 32-bit words, asm instructions)\n"
     } else {
         ""
     }
@@ -76,12 +76,12 @@ fn ends_at_once(program: &[u8]) -> bool
     matches!(program, [0, _, ..])
 }
 
-/// Returns the note for a program of which only its first byte is executed, or no text.
-pub fn idle_note(request: &Request, program: &[u8]) -> &'static str
-    ensures { result.now ≡ idle_note request.now program.now }
+/// Returns the warning for a program that begins with DMAEND and has more bytes, or no text.
+pub fn end_warning(request: &Request, program: &[u8], succeeds: bool) -> &'static str
+    ensures { result.now ≡ end_warning request.now program.now succeeds }
 {
-    if executes(request) && ends_at_once(program) {
-        " warning: the first byte is DMAEND, so none behind it is executed (an address in text needs a colon)\n"
+    if executes(request) && (succeeds && ends_at_once(program)) {
+        " warning: the first byte is DMAEND, so no byte after it is executed (an address in text needs a colon)\n"
     } else {
         ""
     }

@@ -9,7 +9,7 @@ ghost use Rattle.dma330.specs.Replies.{Answers, Assembles, Explains, InputReplie
 
 use crate::answer::{Answer, named};
 use crate::command_line::Request;
-use crate::notes::{hint, idle_note, noted};
+use crate::notes::{end_warning, hint, with_note};
 use crate::text::{Notation, read_text, refusal};
 use dma_chan::bus::Bus;
 use dma_manual::assembler::{assemble, assemble_text};
@@ -232,7 +232,8 @@ fn program_reply<P: Progress>(
         ProgramReplies request.now ram.old program.now (printed_of answer)) }
 {
     let replied = reply(alloc, request, program, ram, progress)?;
-    noted(replied, idle_note(request, program))
+    let note = end_warning(request, program, replied.succeeds);
+    with_note(replied, note)
 }
 
 /// Returns what a request prints for a program in hexadecimal text.
@@ -268,7 +269,7 @@ fn raw_reply<P: Progress>(
 {
     let replied = program_reply(alloc, request, input, ram, progress)?;
     let note = hint(request, input, replied.succeeds);
-    noted(replied, note)
+    with_note(replied, note)
 }
 
 /// Returns what a request prints for its input.

@@ -46,7 +46,7 @@ fn hex<'a>(alloc: Global) -> Arg<'a> {
 
 /// Returns the option for words in hexadecimal text.
 fn words<'a>(alloc: Global) -> Result<Arg<'a>, AllocError> {
-    let what = "FILE is text: 32-bit words of eight digits, as debuggers print them";
+    let what = "FILE is text: 32-bit words of eight hexadecimal digits, as debuggers print them";
     flag(alloc, "words", what).conflicts_with("hex")
 }
 
@@ -199,7 +199,7 @@ fn why<'a>(alloc: Global) -> Result<Command<'a>, AllocError> {
     )
 }
 
-/// Returns the subcommand of this name.
+/// Returns the subcommand of this name, or `trace` for any other name.
 pub fn subcommand<'a>(alloc: Global, name: &str) -> Result<Command<'a>, AllocError> {
     match name {
         "dis" => dis(alloc),

@@ -1,7 +1,7 @@
 //! Programs in hexadecimal text, and what is wrong with such a text.
 ghost use Rattle.std.specs.Prelude.{◌≡◌, ◌≤◌, Err, IfOk, MatchResult, Ok, length};
 ghost use Rattle.dma330.specs.Answer.{printed_of};
-ghost use Rattle.dma330.specs.Text.{byte_words, end_words, pair_words, refusal, spelled, word_words};
+ghost use Rattle.dma330.specs.Text.{byte_message, end_message, pair_message, refusal, spelled, word_message};
 
 use crate::addresses::without_addresses;
 use crate::answer::Answer;
@@ -37,19 +37,19 @@ pub fn read_text(
 }
 
 /// Returns what is wrong with a byte of a text of pairs.
-fn pair_words(byte: u8) -> &'static str
-    ensures { result.now ≡ pair_words byte }
+fn pair_message(byte: u8) -> &'static str
+    ensures { result.now ≡ pair_message byte }
 {
     if is_digit(byte) {
-        " is a third digit after 0x: each number is one byte, the lowest byte of a word first; --words reads words\n"
+        " is a third digit after 0x: --hex reads one byte for each number, --words 32-bit words\n"
     } else {
         " is not a hexadecimal digit here\n"
     }
 }
 
 /// Returns what is wrong with a byte of a text of words.
-fn word_words(byte: u8) -> &'static str
-    ensures { result.now ≡ word_words byte }
+fn word_message(byte: u8) -> &'static str
+    ensures { result.now ≡ word_message byte }
 {
     if is_digit(byte) {
         " is a ninth digit: each word has eight, the highest first\n"
@@ -61,21 +61,21 @@ fn word_words(byte: u8) -> &'static str
 }
 
 /// Returns what is wrong with a byte of a text.
-fn byte_words(notation: Notation, byte: u8) -> &'static str
-    ensures { result.now ≡ byte_words notation byte }
+fn byte_message(notation: Notation, byte: u8) -> &'static str
+    ensures { result.now ≡ byte_message notation byte }
 {
     if byte == b':' || byte == b'|' {
-        return " is of a dump with addresses: leave them and the characters out, as xxd -p does\n";
+        return " is of a dump: leave its characters out, and put an address before a colon at the start of the line\n";
     }
     match notation {
-        Notation::Pairs => pair_words(byte),
-        Notation::Words => word_words(byte),
+        Notation::Pairs => pair_message(byte),
+        Notation::Words => word_message(byte),
     }
 }
 
 /// Returns what is wrong with the end of a text.
-fn end_words(notation: Notation) -> &'static str
-    ensures { result.now ≡ end_words notation }
+fn end_message(notation: Notation) -> &'static str
+    ensures { result.now ≡ end_message notation }
 {
     match notation {
         Notation::Pairs => "the last byte lacks a digit\n",
@@ -101,9 +101,9 @@ pub fn refusal(
     match text.get(at) {
         Some(byte) => print(
             &mut err,
-            &("byte 0x", HexByte(*byte), byte_words(notation, *byte)),
+            &("byte 0x", HexByte(*byte), byte_message(notation, *byte)),
         )?,
-        None => print(&mut err, &end_words(notation))?,
+        None => print(&mut err, &end_message(notation))?,
     }
     Ok(Answer::printed(alloc, Vec::new(alloc), err, false))
 }

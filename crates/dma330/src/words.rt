@@ -24,7 +24,7 @@ pub enum WordReading {
     },
 }
 
-/// Returns what a byte is a part of that is in no word, or `None` if it can't be outside a word.
+/// Returns what a byte outside a word is a part of, or `None` if the byte can't be outside a word.
 fn outside(byte: u8) -> Option<(WordReading, Option<u32>)>
     ensures { result ≡ outside byte }
 {

@@ -28,15 +28,15 @@ abbrev pub line_at : List ℕ → ℕ → List ℕ
 line_at input n = slice_index_or (lines input) (n - 1) []
 
 -- which line is missing, if a fault is in no line
-abbrev pub missing_words : Cause → List ℕ
-missing_words Go = codes ": the line 'go' is missing\n"
-missing_words _ = codes ": the line 'memory SIZE CHANNELS' is missing\n"
+abbrev pub missing_message : Cause → List ℕ
+missing_message Go = codes ": the line 'go' is missing\n"
+missing_message _ = codes ": the line 'memory SIZE CHANNELS' is missing\n"
 
 -- `N: CAUSE: 'LINE'` for a fault in line N, and ` CAUSE: the line .. is missing` for one in no line
 abbrev pub fault_text : List ℕ → Fault → List ℕ
 fault_text input fault =
     let name = cause_name fault.cause in
-    if fault.line == 0 then codes " " ++ name ++ missing_words fault.cause
+    if fault.line == 0 then codes " " ++ name ++ missing_message fault.cause
     else (decimal fault.line ++ codes ": " ++ name ++ codes ": '") ++ shown_line (line_at input fault.line)
 
 -- the message for what was read of an input: none without a fault

@@ -99,12 +99,13 @@ failing verdict first n = count_by (λ seed. not (is_good (verdict seed))) (rang
 abbrev pub verdicts : (ℕ → Verdict) → ℕ → ℕ → SeedsVerdict
 verdicts verdict first n = record { first = first_verdict verdict first n; failing = failing verdict first n }
 
+-- the verdict for a range of seeds, by what was read of the script
 abbrev pub seeds_verdict_of : Result RaceScript Fault → List ℕ → SeedRange → SeedsVerdict
 seeds_verdict_of (Ok script) input seeds = verdicts (verdict input) seeds.first (seeds.last + 1 - seeds.first)
 seeds_verdict_of (Err fault) input seeds = record { first = Refused; failing = 0 }
 
--- The verdict on a script for a range of seeds: it has a fault, or its expect lines hold for all of them, or they fail
--- for this many, and this is the first that fails for the first seed for which one fails.
+-- The verdict on a script for a range of seeds: the script has a fault, or its expect lines hold for all seeds, or the
+-- first line that fails for the lowest seed with a failure, and the number of seeds with a failure.
 abbrev pub seeds_verdict : List ℕ → SeedRange → SeedsVerdict
 seeds_verdict input seeds = seeds_verdict_of (race_script_of (without_expects input)) input seeds
 

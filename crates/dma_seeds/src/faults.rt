@@ -3,7 +3,7 @@
 
 ghost use Rattle.std.specs.Prelude.{◌≡◌, ◌++◌, IfOk, OnOk, map};
 ghost use Rattle.dma_script.specs.Printing.{cause_name};
-ghost use Rattle.dma_seeds.specs.Faults.{fault_text, line_at, missing_words, race_message, run_message, shown_byte, shown_line};
+ghost use Rattle.dma_seeds.specs.Faults.{fault_text, line_at, missing_message, race_message, run_message, shown_byte, shown_line};
 
 use crate::expect::without_expects;
 use dma_script::fault::{Cause, Fault, ScriptError};
@@ -86,8 +86,8 @@ fn name_of(cause: Cause) -> &'static str
 }
 
 /// Returns which line is missing, if a fault is in no line.
-fn missing_words(cause: Cause) -> &'static str
-    ensures { result.now ≡ missing_words cause }
+fn missing_message(cause: Cause) -> &'static str
+    ensures { result.now ≡ missing_message cause }
 {
     match cause {
         Cause::Go => ": the line 'go' is missing\n",
@@ -101,7 +101,7 @@ fn push_fault(script: &[u8], fault: Fault, out: &mut Vec<u8>) -> Result<(), Allo
 {
     let name = name_of(fault.cause);
     if fault.line == 0 {
-        return (" ", name, missing_words(fault.cause)).push(out);
+        return (" ", name, missing_message(fault.cause)).push(out);
     }
     (fault.line, ": ", name, ": '").push(out)?;
     push_line(line_at(script, fault.line), out)

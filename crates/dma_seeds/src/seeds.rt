@@ -162,7 +162,7 @@ fn print_outputs_of<P: Progress>(
     }
 }
 
-/// Returns whether the `expect` lines of a script hold for the seeds of a range. Fails if memory runs out.
+/// Returns the verdict on a script for a range of seeds. Fails if memory runs out.
 fn verdicts<P: Progress>(
     alloc: Global,
     script: &[u8],
@@ -190,9 +190,9 @@ fn verdicts<P: Progress>(
 }
 
 /// Executes a race script once for each seed of a range, in one thread, and appends the different outputs from the line
-/// of `go` on, with how many seeds give each and the first of these. Returns whether the script has a fault, and whether
-/// its `expect` lines hold, or which one fails first for the first seed for which one fails, and for how many one fails.
-/// If memory runs out, appends nothing.
+/// of `go` on, with how many seeds give each and the first of these. Returns the verdict: the script has a fault, or
+/// its `expect` lines hold for all seeds, or the first line that fails for the lowest seed with a failure, and the
+/// number of seeds with a failure. If memory runs out, appends nothing.
 ///
 /// Takes for each seed the time of `race_by_seed`, twice for a script with `expect` lines, and compares its output with
 /// each different one before. Keeps each different output, and of no seed more than that. Reports progress after each

@@ -15,6 +15,6 @@ counted [] new = new ∷ []
 counted (output ∷ rest) new =
     if bytes_eq output.text new.text then one_more output ∷ rest else output ∷ counted rest new
 
--- how many verdicts are not good: one or none
+-- 1 if a verdict is not good, else 0
 abbrev pub failing_in : Verdict → ℕ
 failing_in verdict = if not (is_good verdict) then 1 else 0

@@ -7,4 +7,4 @@ pub returns : goal.returns
 returns g c =
     let q = printed_of c.in_ok-replied.replied in
     let note = ap (with_note q) c.hint-note.ensures in
-    IfOk-weaker c.noted.result _ _ (λ shown is. (q, c.in_ok-replied.ensures, is ∙ note)) c.noted.ensures
+    IfOk-weaker c.with_note.result _ _ (λ shown is. (q, c.in_ok-replied.ensures, is ∙ note)) c.with_note.ensures
