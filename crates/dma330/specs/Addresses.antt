@@ -4,16 +4,17 @@
 use Rattle.std.specs.Prelude.{ℕ, ◌+◌, Bool, false, true, not, ◌==◌, ◌&&◌, ◌||◌, nat_le, if◌then◌else◌, List, [], ◌∷◌}
 use Rattle.dma330.specs.Hexadecimal.{is_digit}
 
--- whether a line has a colon that isn't in a comment
-abbrev pub has_colon : List ℕ → Bool
-has_colon [] = false
-has_colon (b ∷ text) = if b == 58 then true else (if b == 10 || b == 35 then false else has_colon text)
+-- whether the first colon of a line, if it isn't in a comment, follows a `>`; `before` is the byte before the text
+abbrev pub closes_symbol : ℕ → List ℕ → Bool
+closes_symbol before [] = false
+closes_symbol before (b ∷ text) =
+    if b == 58 then before == 62 else (if b == 10 || b == 35 then false else closes_symbol b text)
 
--- whether a text that follows digits ends an address: with a colon, perhaps behind ` <`
+-- whether a text that follows digits ends an address: with a colon, perhaps after a space and a name in angle brackets
 abbrev pub ends_address : List ℕ → Bool
 ends_address [] = false
 ends_address (b ∷ []) = b == 58
-ends_address (b ∷ c ∷ text) = b == 58 || (b == 32 && c == 60 && has_colon text)
+ends_address (b ∷ c ∷ text) = b == 58 || (b == 32 && c == 60 && closes_symbol 60 text)
 
 -- whether a text begins with an address, of whose digits n have been read
 abbrev pub is_address_after : ℕ → List ℕ → Bool

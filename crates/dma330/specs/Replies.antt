@@ -85,7 +85,8 @@ Replies (Race seed) ram input = Races seed input
 Replies (RaceSeeds seeds) ram input = RacesSeeds seeds input
 Replies Why ram input = Reasons input
 
--- What a request prints for a program, with a warning if only its first byte is executed.
+-- What a request prints for a program, with a warning if it begins with DMAEND, has more bytes and is executed without
+-- a fault.
 abbrev pub ProgramReplies : Request → List Region → List ℕ → Printed → Type 0
 ProgramReplies request ram program p =
     (q : Printed) × Replies request ram program q × (p ≡ with_note q (end_warning request program q.succeeds))

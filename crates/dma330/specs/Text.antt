@@ -27,10 +27,10 @@ word_message b =
     if is_gap b then codes " ends a word of fewer than eight digits\n"
     else codes " is not a hexadecimal digit here\n")
 
--- what is wrong with a byte of a text; a colon and a vertical bar are those of dumps
+-- what is wrong with a byte of a text; a colon, a vertical bar and a full stop are those of dumps
 abbrev pub byte_message : Notation → ℕ → List ℕ
 byte_message notation b =
-    if b == 58 || b == 124
+    if b == 58 || (b == 124 || b == 46)
     then codes " is of a dump: leave its characters out, and put an address before a colon at the start of the line\n"
     else in_notation notation b
   where

@@ -1,6 +1,6 @@
 //! Leaves the addresses of a dump out of its text.
 ghost use Rattle.std.specs.Prelude.{◌≡◌, IfOk, length};
-ghost use Rattle.dma330.specs.Addresses.{ends_address, has_colon, is_address, is_address_after, without_addresses};
+ghost use Rattle.dma330.specs.Addresses.{closes_symbol, ends_address, is_address, is_address_after, without_addresses};
 
 use crate::hexadecimal::is_digit;
 use std::alloc::{AllocError, Global};
@@ -8,15 +8,16 @@ use std::alloc::{AllocError, Global};
 /// The least number of digits of an address. A pair before a colon is no address.
 const ADDRESS_DIGITS: usize = 4;
 
-/// Returns whether a line has a colon that isn't in a comment.
-fn has_colon(text: &[u8]) -> bool
-    ensures { result ≡ has_colon text.now }
+/// Returns whether the first colon of a line, if it isn't in a comment, follows a `>`. The text follows a `<`.
+fn closes_symbol(text: &[u8]) -> bool
+    ensures { result ≡ closes_symbol 60 text.now }
 {
+    let mut before = b'<';
     for byte in text {
         match *byte {
-            b':' => return true,
+            b':' => return before == b'>',
             b'\n' | b'#' => return false,
-            _ => {}
+            _ => before = *byte,
         }
     }
     false
@@ -29,7 +30,7 @@ fn ends_address(text: &[u8]) -> bool
 {
     match text {
         [b':', ..] => true,
-        [b' ', b'<', symbol @ ..] => has_colon(symbol),
+        [b' ', b'<', symbol @ ..] => closes_symbol(symbol),
         _ => false,
     }
 }

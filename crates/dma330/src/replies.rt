@@ -219,7 +219,7 @@ fn reply<P: Progress>(
     }
 }
 
-/// Returns what a request prints for a program, with a warning if only its first byte is executed.
+/// Returns what a request prints for a program, with a warning if it begins with DMAEND and has more bytes.
 fn program_reply<P: Progress>(
     alloc: Global,
     request: &Request,

@@ -64,7 +64,7 @@ fn word_message(byte: u8) -> &'static str
 fn byte_message(notation: Notation, byte: u8) -> &'static str
     ensures { result.now ≡ byte_message notation byte }
 {
-    if byte == b':' || byte == b'|' {
+    if matches!(byte, b':' | b'|' | b'.') {
         return " is of a dump: leave its characters out, and put an address before a colon at the start of the line\n";
     }
     match notation {
