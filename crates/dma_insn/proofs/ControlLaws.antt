@@ -7,7 +7,7 @@ use Rattle.dma_insn.specs.declared.control.BeatSize.TheVariants.{One, Two, Four,
 use Rattle.dma_insn.specs.declared.control.BurstEnd.{BurstEnd}
 use Rattle.dma_insn.specs.declared.control.Control.{Control}
 use Rattle.dma_insn.specs.declared.control.ControlFault.{ControlFault}
-use Rattle.dma_insn.specs.declared.control.ControlFault.TheVariants.{ReservedSize, Swap, Bit31}
+use Rattle.dma_insn.specs.declared.control.ControlFault.TheVariants.{Swap, Bit31}
 use Rattle.std.specs.Prelude.{IfOk}
 use Rattle.dma_insn.specs.ControlWord.{field, flag, size_code, size_of, end_with, end_at, end_bits, with_ends, control_of, bits_of, HasEndRanges, HasFields}
 
@@ -32,13 +32,10 @@ by_code n c s t rest true is code more e =
     ap size_code (sym same) ∙ code ∙ sym (eqb-true n c is)
 by_code n c s t rest false is code more e = more e
 
-none_some : (s : BeatSize) (n : ℕ) → None ≡ Some s → size_code s ≡ n
-none_some s n e = cc
-
 pub size_code_size_of : (n : ℕ) (s : BeatSize) → size_of n ≡ Some s → size_code s ≡ n
 size_code_size_of n s e =
     by_code n 0 s One _ (eqb n 0) refl refl (by_code n 1 s Two _ (eqb n 1) refl refl (by_code n 2 s Four _ (eqb n 2) refl refl
-    (by_code n 3 s Eight _ (eqb n 3) refl refl (by_code n 4 s Sixteen _ (eqb n 4) refl refl (none_some s n))))) e
+    (by_code n 3 s Eight _ (eqb n 3) refl refl (by_code n 4 s Sixteen _ (eqb n 4) refl refl (λ none. absurd (cc)))))) e
 
 -- The fields of the end whose lowest bit is bit k.
 pub record IsEnd (k w : ℕ) (e : BurstEnd) : Type 0 where
@@ -61,16 +58,11 @@ flag_le : (b : Bool) → flag b ≤ 1
 flag_le true = omega arith
 flag_le false = omega arith
 
-some_same : (a b : BurstEnd) → Some a ≡ Some b → a ≡ b
-some_same a b e = cc
-
-none_end : (e : BurstEnd) → None ≡ Some e → ⊥
-none_end e q = cc
-
 end_fields : (k w : ℕ) (o : Option BeatSize) (e : BurstEnd) → size_of (field (k + 1) 3 w) ≡ o → option_map (end_with k w) o ≡ Some e → IsEnd k w e
-end_fields k w None e is h = absurd (none_end e h)
+end_fields k w None e is h = absurd (cc)
 end_fields k w (Some s) e is h =
-    subst (IsEnd k w) (some_same (end_with k w s) e h) (record {
+    let same : end_with k w s ≡ e = cc in
+    subst (IsEnd k w) same (record {
       increments = bit_flag (field k 1 w) (omega arith);
       size = size_code_size_of (field (k + 1) 3 w) s is;
       beats = refl;
@@ -82,39 +74,26 @@ end_at_fields : (k w : ℕ) (e : BurstEnd) → end_at k w ≡ Some e → IsEnd k
 unfolding end_at
 end_at_fields k w e h = end_fields k w (size_of (field (k + 1) 3 w)) e refl h
 
-abbrev end_of : Bool → BeatSize → ℕ → ℕ → ℕ → BurstEnd
-end_of i s b p c = record { increments = i; size = s; beats = b; protection = p; cache = c }
-
-same_end : (i j : Bool) (s t : BeatSize) (b c p q x y : ℕ) → i ≡ j → s ≡ t → b ≡ c → p ≡ q → x ≡ y → end_of i s b p x ≡ end_of j t c q y
-same_end i j s t b c p q x y e1 e2 e3 e4 e5 = rw (e1, e2, e3, e4, e5) refl
-
 end_again : (k w : ℕ) (e : BurstEnd) → IsEnd k w e → end_at k w ≡ Some e
 unfolding end_at
 end_again k w e h =
     let size : size_of (field (k + 1) 3 w) ≡ Some e.size = ap size_of (sym h.size) ∙ size_of_size_code e.size in
-    let same : end_with k w e.size ≡ e = same_end (eqb (field k 1 w) 1) e.increments e.size e.size (field (k + 4) 4 w + 1) e.beats (field (k + 8) 3 w) e.protection (field (k + 11) 3 w) e.cache (flag_bit e.increments (field k 1 w) h.increments) refl (sym h.beats) (sym h.protection) (sym h.cache) in
+    let same : end_with k w e.size ≡ e = rw (flag_bit e.increments (field k 1 w) h.increments, ← h.beats, ← h.protection, ← h.cache) refl in
     rw size (ap Some same)
-
--- A refused word has no fields.
-err_ok : (fault : ControlFault) (c : Control) → Err fault ≡ Ok c → ⊥
-err_ok fault c h = cc
-
-ok_same : (r : Result Control ControlFault) (a b : Control) → r ≡ Ok a → r ≡ Ok b → a ≡ b
-ok_same r a b p q = cc
 
 ok_tests : (w : ℕ) (s d : BurstEnd) (c : Control) (t u : Bool) → eqb (field 28 3 w) 0 ≡ t → eqb (field 31 1 w) 0 ≡ u
     → cond t (cond u (Ok (record { src = s; dst = d })) (Err Bit31)) (Err Swap) ≡ Ok c
     → (Some s ≡ Some c.src) × (Some d ≡ Some c.dst) × (field 28 3 w ≡ 0) × (field 31 1 w ≡ 0)
 ok_tests w s d c true true a b h =
-    let same = ok_same (Ok c) (record { src = s; dst = d }) c (sym h) refl in
+    let same : record { src = s; dst = d } ≡ c = cc in
     (ap (λ (k : Control). Some k.src) same, ap (λ (k : Control). Some k.dst) same, eqb-true _ 0 a, eqb-true _ 0 b)
-ok_tests w s d c true false a b h = absurd (err_ok Bit31 c h)
-ok_tests w s d c false u a b h = absurd (err_ok Swap c h)
+ok_tests w s d c true false a b h = absurd (cc)
+ok_tests w s d c false u a b h = absurd (cc)
 
 -- A word that is not refused has these fields.
 ok_ends : (w : ℕ) (a b : Option BurstEnd) (c : Control) → with_ends w a b ≡ Ok c → (a ≡ Some c.src) × (b ≡ Some c.dst) × (field 28 3 w ≡ 0) × (field 31 1 w ≡ 0)
-ok_ends w None b c h = absurd (err_ok ReservedSize c h)
-ok_ends w (Some s) None c h = absurd (err_ok ReservedSize c h)
+ok_ends w None b c h = absurd (cc)
+ok_ends w (Some s) None c h = absurd (cc)
 ok_ends w (Some s) (Some d) c h = ok_tests w s d c (eqb (field 28 3 w) 0) (eqb (field 31 1 w) 0) refl refl h
 
 pub control_of_fields : (w : ℕ) (c : Control) → control_of w ≡ Ok c → HasFields w c

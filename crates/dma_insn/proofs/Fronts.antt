@@ -1,14 +1,14 @@
 -- Fronts of bytes that are joined encodings.
 use Rattle.std.proofs.Common.{◌≡◌, ℕ, ◌+◌, ◌<◌, ◌≤◌, zero, suc, List, [], ◌∷◌, ◌++◌, length, take, drop, refl, sym, ap, ◌∙◌, subst, arith, append_assoc, append-nil, length-append, drop-drop, ◌-◌, ◌⊎◌, inl, inr}
 use Rattle.std.specs.Prelude.{Ok, Err}
-use Rattle.std.proofs.lemmas.List.{take-append-drop, take_rest, drop_all, length-drop, get_or-drop}
+use Rattle.std.proofs.lemmas.List.{take-append-drop, take_rest, drop_all, length-drop, get_or-drop, flat_map_more}
 use Rattle.std.proofs.Math.Seq.{take-append_seam}
 use Rattle.dma_insn.specs.declared.insn.Insn.{Insn}
 use Rattle.dma_insn.specs.declared.codec.DecodeFault.{DecodeFault}
 use Rattle.dma_insn.specs.Spelling.{spelling, HasRanges, IsSpelledAt, IsRefusedFor}
 use Rattle.dma_insn.specs.Decoding.{Decoded, decoded}
 use Rattle.dma_insn.specs.AssemblyText.{joined}
-use Rattle.dma_insn.specs.Disassembly.{AllInRange, insn_text, text_of, AreSpelled, Disassembles, StopsAt, DisassemblyReports}
+use Rattle.dma_insn.specs.Disassembly.{AllInRange, insn_text, text_of, AreSpelled, Disassembles, StopsAt, DisassemblyReports, line_of}
 use Rattle.dma_insn.proofs.Laws.{IsBytes, Right, one_front, spelling_some, spelled_within, decoded_right, none_spelled}
 use Rattle.dma_insn.proofs.Texts.{disassembles}
 use Rattle.dma_insn.proofs.OneText.{one_way}
@@ -22,27 +22,18 @@ pub record Front (bytes : List ℕ) (offset : ℕ) : Type 0 where
 
 -- the bytes before a place are spellings joined, and a text is that of their instructions
 pub record WrittenFront (bytes : List ℕ) (offset : ℕ) (text : List ℕ) : Type 0 where
-  pub insns : List Insn
-  pub in_range : AllInRange insns
-  pub bytes_are : bytes ≡ joined insns ++ drop offset bytes
-  pub offset_is : offset ≡ length (joined insns)
-  pub text_is : text ≡ text_of insns
-
--- a front that is written is one
-pub front_of : (bytes : List ℕ) (offset : ℕ) (text : List ℕ) → WrittenFront bytes offset text → Front bytes offset
-front_of bytes offset text f = record { insns = f.insns; in_range = f.in_range; bytes_are = f.bytes_are; offset_is = f.offset_is }
+  pub front : Front bytes offset
+  pub text_is : text ≡ text_of front.insns
 
 all_push : (is : List Insn) (i : Insn) → AllInRange is → HasRanges i → AllInRange (is ++ i ∷ [])
 all_push [] i a h = (h, tt)
 all_push (j ∷ is) i a h = (a.0, all_push is i a.1 h)
 
 joined_push : (is : List Insn) (i : Insn) → joined (is ++ i ∷ []) ≡ joined is ++ spelling i
-joined_push [] i = append-nil (spelling i)
-joined_push (j ∷ is) i = ap (λ (l : List ℕ). spelling j ++ l) (joined_push is i) ∙ sym (append_assoc (spelling j) (joined is) (spelling i))
+joined_push is i = sym (flat_map_more spelling [] is i)
 
 text_push : (is : List Insn) (i : Insn) → text_of (is ++ i ∷ []) ≡ text_of is ++ (insn_text i ++ 10 ∷ [])
-text_push [] i = append-nil (insn_text i ++ 10 ∷ [])
-text_push (j ∷ is) i = ap (λ (l : List ℕ). (insn_text j ++ 10 ∷ []) ++ l) (text_push is i) ∙ sym (append_assoc (insn_text j ++ 10 ∷ []) (text_of is) (insn_text i ++ 10 ∷ []))
+text_push is i = sym (flat_map_more line_of [] is i)
 
 front_bytes : (bytes : List ℕ) (offset : ℕ) (is : List Insn) (i : Insn) (n : ℕ) → bytes ≡ joined is ++ drop offset bytes → IsSpelledAt (drop offset bytes) i n → bytes ≡ joined (is ++ i ∷ []) ++ drop (offset + n) bytes
 front_bytes bytes offset is i n e h =
@@ -54,9 +45,6 @@ front_bytes bytes offset is i n e h =
 
 front_offset : (offset : ℕ) (is : List Insn) (i : Insn) (n : ℕ) → offset ≡ length (joined is) → n ≡ length (spelling i) → offset + n ≡ length (joined (is ++ i ∷ []))
 front_offset offset is i n e c = rw (joined_push is i) (omega (arith, length-append (joined is) (spelling i)))
-
-pub front_none : (bytes : List ℕ) → Front bytes 0
-front_none bytes = record { insns = []; in_range = tt; bytes_are = refl; offset_is = refl }
 
 pub front_more : (bytes : List ℕ) (offset : ℕ) (i : Insn) (n : ℕ) → Front bytes offset → IsSpelledAt (drop offset bytes) i n → Front bytes (offset + n)
 front_more bytes offset i n f h = record {
@@ -71,22 +59,18 @@ front_all bytes offset all f =
     let none : drop offset bytes ≡ [] = drop_all offset bytes all in
     record { insns = f.insns; in_range = f.in_range; bytes_are = f.bytes_are ∙ ap (λ (l : List ℕ). joined f.insns ++ l) none ∙ append-nil (joined f.insns) }
 
-pub written_none : (bytes text : List ℕ) → text ≡ [] → WrittenFront bytes 0 text
-written_none bytes text e = record { insns = []; in_range = tt; bytes_are = refl; offset_is = refl; text_is = e }
-
 pub written_more : (bytes text new : List ℕ) (offset : ℕ) (i : Insn) (n : ℕ) → WrittenFront bytes offset text → IsSpelledAt (drop offset bytes) i n → new ≡ text ++ (insn_text i ++ 10 ∷ []) → WrittenFront bytes (offset + n) new
+unfolding front_more
 written_more bytes text new offset i n f h e = record {
-  insns = f.insns ++ i ∷ [];
-  in_range = all_push f.insns i f.in_range h.in_range;
-  bytes_are = front_bytes bytes offset f.insns i n f.bytes_are h;
-  offset_is = front_offset offset f.insns i n f.offset_is h.count_is;
-  text_is = e ∙ ap (λ (l : List ℕ). l ++ (insn_text i ++ 10 ∷ [])) f.text_is ∙ sym (text_push f.insns i);
+  front = front_more bytes offset i n f.front h;
+  text_is = e ∙ ap (λ (l : List ℕ). l ++ (insn_text i ++ 10 ∷ [])) f.text_is ∙ sym (text_push f.front.insns i);
 }
 
 pub written_all : (bytes text : List ℕ) (offset : ℕ) → length bytes ≤ offset → WrittenFront bytes offset text → Disassembles bytes text
+unfolding front_all
 written_all bytes text offset all f =
-    let none : drop offset bytes ≡ [] = drop_all offset bytes all in
-    disassembles bytes text f.insns f.in_range (f.bytes_are ∙ ap (λ (l : List ℕ). joined f.insns ++ l) none ∙ append-nil (joined f.insns)) f.text_is
+    let spelled = front_all bytes offset all f.front in
+    disassembles bytes text spelled.insns spelled.in_range spelled.bytes_are f.text_is
 
 -- the same of a slice from the place on
 pub front_step : (bytes : List ℕ) (offset : ℕ) (i : Insn) (n : ℕ) → Front bytes offset → IsSpelledAt (take (length bytes - offset) (drop offset bytes)) i n → Front bytes (offset + n)

@@ -1,7 +1,7 @@
 -- How decoding and encoding are related.
 use Rattle.std.proofs.Common.{◌≡◌, ℕ, ◌+◌, ◌-◌, ◌*◌, ◌/◌, ◌%◌, ◌^◌, ◌<◌, ◌≤◌, Bool, true, false, List, [], ◌∷◌, ◌++◌, length, drop, take, get_or, refl, sym, ap, ◌∙◌, subst, Ok, Err, arith, cond, eqb, ltb, suc}
 use Rattle.std.proofs.lemmas.Nat.{div-mul-add, mod-mul-add}
-use Rattle.std.proofs.lemmas.Bool.{eqb-true, eq-eqb, le-ltb, ltb-false, ltb-true, false≢true}
+use Rattle.std.proofs.lemmas.Bool.{eqb-true, le-ltb, ltb-false, ltb-true, false≢true}
 use Rattle.std.proofs.lemmas.List.{take-append-drop, append_cancel_left, length-take}
 use Rattle.byteorder.specs.Numbers.{little_number-reads_back}
 use Rattle.std.specs.Prelude.{MatchResult, IfOk, IfErr}
@@ -12,10 +12,10 @@ use Rattle.dma_insn.specs.declared.insn.Counter.{Counter}
 use Rattle.dma_insn.specs.declared.insn.Counter.TheVariants.{Lc0, Lc1}
 use Rattle.dma_insn.specs.declared.insn.Insn.{Insn}
 use Rattle.dma_insn.specs.declared.insn.Insn.TheVariants.{Mov, Ld, St, Rmb, Wmb, Nop, End, Lp, LpEnd, Sev, Wfe}
-use Rattle.dma_insn.specs.declared.codec.DecodeFault.{DecodeFault}
 use Rattle.dma_insn.specs.declared.codec.DecodeFault.TheVariants.{Cut, BadField}
 use Rattle.dma_insn.specs.Spelling.{spelling, HasRanges, IsSpelledAt, BeginsWith, IsRefusedFor, register_byte, loop_byte, loop_end_byte, invalid_bits, NoSpellingBeginsAnother}
 use Rattle.dma_insn.specs.Decoding.{Decoded, by_second, signal_at, wait_at, set_at, set_by, decoded}
+use Rattle.std.specs.List.{list_any}
 
 abbrev pub IsBytes : List ℕ → Type 0
 IsBytes bytes = (i : ℕ) → get_or bytes i 0 < 256
@@ -174,44 +174,27 @@ set_right [] h = set_cut [] (omega arith)
 set_right (a ∷ rest) h =
     by_test (0xbc ∷ a ∷ rest) (ltb (length (a ∷ rest)) 5) _ _ (λ t. set_cut (a ∷ rest) (ltb-true _ 5 t)) (λ t. set_field a rest (λ i. h (suc i)) t)
 
--- a byte that differs from the first of a spelling
-other_first : (b c : ℕ) (xs tail : List ℕ) → eqb b c ≡ false → c ∷ xs ≡ b ∷ tail → ⊥
-other_first b c xs tail differs e =
-    let same : c ≡ b = cc in
-    let alike : eqb b b ≡ false = subst (λ (k : ℕ). eqb b k ≡ false) same differs in
-    let bad : true ≡ false = sym (eq-eqb b b refl) ∙ alike in
-    false≢true (sym bad)
+-- the bytes with which instructions begin
+abbrev firsts : List ℕ
+firsts = 0x00 ∷ 0x04 ∷ 0x08 ∷ 0x12 ∷ 0x13 ∷ 0x18 ∷ 0x20 ∷ 0x22 ∷ 0x38 ∷ 0x3c ∷ 0x34 ∷ 0x36 ∷ 0xbc ∷ []
 
--- the bytes that begin no instruction
-pub record BeginsNone (b : ℕ) : Type 0 where
-  pub n0 : eqb b 0x00 ≡ false
-  pub n1 : eqb b 0x04 ≡ false
-  pub n2 : eqb b 0x08 ≡ false
-  pub n3 : eqb b 0x12 ≡ false
-  pub n4 : eqb b 0x13 ≡ false
-  pub n5 : eqb b 0x18 ≡ false
-  pub n6 : eqb b 0x20 ≡ false
-  pub n7 : eqb b 0x22 ≡ false
-  pub n8 : eqb b 0x38 ≡ false
-  pub n9 : eqb b 0x3c ≡ false
-  pub n10 : eqb b 0x34 ≡ false
-  pub n11 : eqb b 0x36 ≡ false
-  pub n12 : eqb b 0xbc ≡ false
+first_of : (c b : ℕ) (xs tail : List ℕ) → list_any (eqb c) firsts ≡ true → c ∷ xs ≡ b ∷ tail → list_any (eqb b) firsts ≡ true
+first_of c b xs tail known e = let same : c ≡ b = cc in subst (λ (k : ℕ). list_any (eqb k) firsts ≡ true) same known
 
-none_begins : (b : ℕ) → BeginsNone b → (i : Insn) (tail : List ℕ) → spelling i ≡ b ∷ tail → ⊥
-none_begins b n End tail e = other_first b 0x00 _ tail n.n0 e
-none_begins b n Ld tail e = other_first b 0x04 _ tail n.n1 e
-none_begins b n St tail e = other_first b 0x08 _ tail n.n2 e
-none_begins b n Rmb tail e = other_first b 0x12 _ tail n.n3 e
-none_begins b n Wmb tail e = other_first b 0x13 _ tail n.n4 e
-none_begins b n Nop tail e = other_first b 0x18 _ tail n.n5 e
-none_begins b n (Lp Lc0 m) tail e = other_first b 0x20 _ tail n.n6 e
-none_begins b n (Lp Lc1 m) tail e = other_first b 0x22 _ tail n.n7 e
-none_begins b n (LpEnd Lc0 m) tail e = other_first b 0x38 _ tail n.n8 e
-none_begins b n (LpEnd Lc1 m) tail e = other_first b 0x3c _ tail n.n9 e
-none_begins b n (Sev m) tail e = other_first b 0x34 _ tail n.n10 e
-none_begins b n (Wfe m v) tail e = other_first b 0x36 _ tail n.n11 e
-none_begins b n (Mov r v) tail e = other_first b 0xbc _ tail n.n12 e
+begins_known : (i : Insn) (b : ℕ) (tail : List ℕ) → spelling i ≡ b ∷ tail → list_any (eqb b) firsts ≡ true
+begins_known End b tail e = first_of 0x00 b _ tail refl e
+begins_known Ld b tail e = first_of 0x04 b _ tail refl e
+begins_known St b tail e = first_of 0x08 b _ tail refl e
+begins_known Rmb b tail e = first_of 0x12 b _ tail refl e
+begins_known Wmb b tail e = first_of 0x13 b _ tail refl e
+begins_known Nop b tail e = first_of 0x18 b _ tail refl e
+begins_known (Lp Lc0 m) b tail e = first_of 0x20 b _ tail refl e
+begins_known (Lp Lc1 m) b tail e = first_of 0x22 b _ tail refl e
+begins_known (LpEnd Lc0 m) b tail e = first_of 0x38 b _ tail refl e
+begins_known (LpEnd Lc1 m) b tail e = first_of 0x3c b _ tail refl e
+begins_known (Sev m) b tail e = first_of 0x34 b _ tail refl e
+begins_known (Wfe m v) b tail e = first_of 0x36 b _ tail refl e
+begins_known (Mov r v) b tail e = first_of 0xbc b _ tail refl e
 
 -- each first byte, in the order of the table
 pub decoded_right : (bytes : List ℕ) → IsBytes bytes → Right bytes (decoded bytes)
@@ -231,7 +214,8 @@ decoded_right (b ∷ rest) h =
     first_is b rest 0x34 _ _ (signal_right rest g) (λ n10.
     first_is b rest 0x36 _ _ (wait_right rest g) (λ n11.
     first_is b rest 0xbc _ _ (set_right rest g) (λ n12.
-    (refl, λ i begins. none_begins b (record { n0 = n0; n1 = n1; n2 = n2; n3 = n3; n4 = n4; n5 = n5; n6 = n6; n7 = n7; n8 = n8; n9 = n9; n10 = n10; n11 = n11; n12 = n12 }) i begins.tail begins.bytes_are))))))))))))))
+    let unknown : list_any (eqb b) firsts ≡ false = rw (n0, n1, n2, n3, n4, n5, n6, n7, n8, n9, n10, n11, n12) refl in
+    (refl, λ i begins. absurd (false≢true (sym unknown ∙ begins_known i b begins.tail begins.bytes_are))))))))))))))))
 
 pub right_ok : (bytes : List ℕ) (r : Decoded) → Right bytes r → IfOk r (λ found. IsSpelledAt bytes found.0 found.1)
 right_ok bytes (Ok x) h = h
@@ -241,13 +225,10 @@ pub right_err : (bytes : List ℕ) (r : Decoded) → Right bytes r → IfErr r (
 right_err bytes (Ok x) h = tt
 right_err bytes (Err e) h = h
 
-err_not_ok : (r : Decoded) (fault : DecodeFault) (x : Insn × ℕ) → Err fault ≡ r → r ≡ Ok x → ⊥
-err_not_ok r fault x left right = cc
-
 -- where decoding fails, no instruction is encoded
 pub none_spelled : (bytes : List ℕ) (r : Decoded) → r ≡ decoded bytes → IfErr r (λ _. (i : Insn) (n : ℕ) → IsSpelledAt bytes i n → ⊥)
 none_spelled bytes (Ok x) e = tt
-none_spelled bytes (Err fault) e = λ i n h. err_not_ok (decoded bytes) fault (i, n) e (decoded_at bytes i n h)
+none_spelled bytes (Err fault) e = λ i n h. let found = decoded_at bytes i n h in cc
 
 pub spelling_some : (i : Insn) → 0 < length (spelling i)
 spelling_some End = omega arith

@@ -12,9 +12,9 @@ use Rattle.dma_insn.specs.declared.insn.Insn.{Insn}
 use Rattle.dma_insn.specs.declared.insn.Insn.TheVariants.{Ld, St, Rmb, Wmb, Nop, End, Lp, LpEnd, Sev, Wfe}
 use Rattle.dma_insn.specs.declared.assembler.AsmCause.{AsmCause}
 use Rattle.dma_insn.specs.declared.assembler.AsmCause.TheVariants.{Mnemonic, Operand, Range}
-use Rattle.dma_insn.specs.AssemblyText.{Statement, dmaend, dmald, dmast, dmarmb, dmawmb, dmanop, dmalp, dmalpend, dmasev, dmawfe, dmamov, IsDecimal, IsWritten, insn_of, counter_of, register_word, value_word, names, first_of}
+use Rattle.dma_insn.specs.AssemblyText.{Statement, dmaend, dmald, dmast, dmarmb, dmawmb, dmanop, dmalp, dmalpend, dmasev, dmawfe, dmamov, IsDecimal, IsWritten, insn_of, counter_of, register_word, value_word, names, first_of, HasTwoNumbers}
 use Rattle.std.specs.List.{list_any}
-use Rattle.dma_insn.specs.LineReading.{◌>>=◌, capped, number_of, value_of, register_of, counter_at, times_at, back_at, event_at, loop_line, loop_end_line, signal_line, wait_line, set_line, bare_line, line_in}
+use Rattle.dma_insn.specs.LineReading.{◌>>=◌, capped, number_of, value_of, register_of, counter_at, times_at, back_at, event_at, loop_line, loop_end_line, signal_line, wait_line, set_line, bare_line, line_in, two_numbers, number_at}
 use Rattle.dma_insn.proofs.Numbers.{number_of_reads, number_of_decimal, value_of_reads, value_of_word}
 
 -- the ranges treat a number above 65,535 as 65,535
@@ -39,35 +39,26 @@ event_capped : (k : ℕ) → event_at (capped k) ≡ event_at k
 event_capped k = same_capped event_at (λ j h. rw (lt-leb j 31 (omega arith)) refl) k
 
 -- the ranges tested one after another, and as a statement has them
-loop_ranges : (o : Option Counter) (t : Bool) (m : ℕ) → (ok_or o Range >>= λ c. (cond t (Ok m) (Err Range) >>= λ k. Ok (Lp c k))) ≡ ok_or (option_and_then (λ c. cond t (Some (Lp c m)) None) o) Range
-loop_ranges None t m = refl
-loop_ranges (Some c) true m = refl
-loop_ranges (Some c) false m = refl
+loop_ranges : (g : Counter → ℕ → Insn) (o : Option Counter) (t : Bool) (m : ℕ) → (ok_or o Range >>= λ c. (cond t (Ok m) (Err Range) >>= λ k. Ok (g c k))) ≡ ok_or (option_and_then (λ c. cond t (Some (g c m)) None) o) Range
+loop_ranges g None t m = refl
+loop_ranges g (Some c) true m = refl
+loop_ranges g (Some c) false m = refl
 
-loop_end_ranges : (o : Option Counter) (t : Bool) (m : ℕ) → (ok_or o Range >>= λ c. (cond t (Ok m) (Err Range) >>= λ k. Ok (LpEnd c k))) ≡ ok_or (option_and_then (λ c. cond t (Some (LpEnd c m)) None) o) Range
-loop_end_ranges None t m = refl
-loop_end_ranges (Some c) true m = refl
-loop_end_ranges (Some c) false m = refl
-
-signal_range : (t : Bool) (e : ℕ) → (cond t (Ok e) (Err Range) >>= λ k. Ok (Sev k)) ≡ ok_or (cond t (Some (Sev e)) None) Range
-signal_range true e = refl
-signal_range false e = refl
-
-wait_range : (t : Bool) (e : ℕ) (v : Bool) → (cond t (Ok e) (Err Range) >>= λ k. Ok (Wfe k v)) ≡ ok_or (cond t (Some (Wfe e v)) None) Range
-wait_range true e v = refl
-wait_range false e v = refl
+event_range : (g : ℕ → Insn) (t : Bool) (e : ℕ) → (cond t (Ok e) (Err Range) >>= λ k. Ok (g k)) ≡ ok_or (cond t (Some (g e)) None) Range
+event_range g true e = refl
+event_range g false e = refl
 
 loop_numbers : (c m : ℕ) → (counter_at (capped c) >>= λ k. (times_at (capped m) >>= λ t. Ok (Lp k t))) ≡ ok_or (insn_of (dmalp c m)) Range
-loop_numbers c m = rw (counter_capped c, times_capped m) (loop_ranges (counter_of c) (leb 1 m && leb m 256) m)
+loop_numbers c m = rw (counter_capped c, times_capped m) (loop_ranges (λ k l. Lp k l) (counter_of c) (leb 1 m && leb m 256) m)
 
 loop_end_numbers : (c m : ℕ) → (counter_at (capped c) >>= λ k. (back_at (capped m) >>= λ t. Ok (LpEnd k t))) ≡ ok_or (insn_of (dmalpend c m)) Range
-loop_end_numbers c m = rw (counter_capped c, back_capped m) (loop_end_ranges (counter_of c) (leb m 255) m)
+loop_end_numbers c m = rw (counter_capped c, back_capped m) (loop_ranges (λ k l. LpEnd k l) (counter_of c) (leb m 255) m)
 
 signal_number : (e : ℕ) → (event_at (capped e) >>= λ k. Ok (Sev k)) ≡ ok_or (insn_of (dmasev e)) Range
-signal_number e = rw (event_capped e) (signal_range (leb e 31) e)
+signal_number e = rw (event_capped e) (event_range (λ k. Sev k) (leb e 31) e)
 
 wait_number : (e : ℕ) (v : Bool) → (event_at (capped e) >>= λ k. Ok (Wfe k v)) ≡ ok_or (insn_of (dmawfe e v)) Range
-wait_number e v = rw (event_capped e) (wait_range (leb e 31) e v)
+wait_number e v = rw (event_capped e) (event_range (λ k. Wfe k v) (leb e 31) e)
 
 register_of_word : (r : Reg) → register_of (register_word r) ≡ Some r
 register_of_word Sar = refl
@@ -127,82 +118,60 @@ bare_reported : (name : List ℕ) (i : Insn) (words : List (List ℕ)) → list_
 bare_reported name i [] known h = h
 bare_reported name i (a ∷ rest) known h = known
 
-loop_reported_by : (a b : List ℕ) (x y : Option ℕ) → number_of a ≡ x → number_of b ≡ y → IsReported (codes "DMALP" ∷ a ∷ b ∷ []) (loop_line (a ∷ b ∷ []))
-loop_reported_by a b None y p q = rw p refl
-loop_reported_by a b (Some k) None p q = rw (p, q) refl
-loop_reported_by a b (Some k) (Some l) p q =
-    let f = number_of_reads a k p in
-    let g = number_of_reads b l q in
-    reported_written (codes "DMALP" ∷ a ∷ b ∷ []) (dmalp f.number g.number) _ (record { first = a; second = b; words_are = refl; first_number = f.is_decimal; second_number = g.is_decimal }) (loop_read a b f.number g.number f.is_decimal g.is_decimal)
+-- what two numbers behind a name are read as
+module _ (name : List ℕ) (f : ℕ × ℕ → Result Insn AsmCause) (s : ℕ → ℕ → Statement) (known : list_any (λ x. bytes_eq name x) names ≡ true)
+    (written : (ws : List (List ℕ)) (m n : ℕ) → HasTwoNumbers ws name m n → IsWritten ws (s m n))
+    (read : (a b : List ℕ) (m n : ℕ) → IsDecimal a m → IsDecimal b n → (two_numbers (a ∷ b ∷ []) >>= f) ≡ ok_or (insn_of (s m n)) Range) where
+  two_reported_by : (a b : List ℕ) (x y : Option ℕ) → number_of a ≡ x → number_of b ≡ y → IsReported (name ∷ a ∷ b ∷ []) (two_numbers (a ∷ b ∷ []) >>= f)
+  two_reported_by a b None y p q = rw p known
+  two_reported_by a b (Some k) None p q = rw (p, q) known
+  two_reported_by a b (Some k) (Some l) p q =
+      let m = number_of_reads a k p in
+      let n = number_of_reads b l q in
+      let words : HasTwoNumbers (name ∷ a ∷ b ∷ []) name m.number n.number = record { first = a; second = b; words_are = refl; first_number = m.is_decimal; second_number = n.is_decimal } in
+      reported_written (name ∷ a ∷ b ∷ []) (s m.number n.number) _ (written _ m.number n.number words) (read a b m.number n.number m.is_decimal n.is_decimal)
 
-loop_reported : (words : List (List ℕ)) → IsReported (codes "DMALP" ∷ words) (loop_line words)
-loop_reported [] = refl
-loop_reported (a ∷ []) = refl
-loop_reported (a ∷ b ∷ []) = loop_reported_by a b (number_of a) (number_of b) refl refl
-loop_reported (a ∷ b ∷ c ∷ rest) = refl
+  two_reported : (words : List (List ℕ)) → IsReported (name ∷ words) (two_numbers words >>= f)
+  two_reported [] = known
+  two_reported (a ∷ []) = known
+  two_reported (a ∷ b ∷ []) = two_reported_by a b (number_of a) (number_of b) refl refl
+  two_reported (a ∷ b ∷ c ∷ rest) = known
 
-loop_end_reported_by : (a b : List ℕ) (x y : Option ℕ) → number_of a ≡ x → number_of b ≡ y → IsReported (codes "DMALPEND" ∷ a ∷ b ∷ []) (loop_end_line (a ∷ b ∷ []))
-loop_end_reported_by a b None y p q = rw p refl
-loop_end_reported_by a b (Some k) None p q = rw (p, q) refl
-loop_end_reported_by a b (Some k) (Some l) p q =
-    let f = number_of_reads a k p in
-    let g = number_of_reads b l q in
-    reported_written (codes "DMALPEND" ∷ a ∷ b ∷ []) (dmalpend f.number g.number) _ (record { first = a; second = b; words_are = refl; first_number = f.is_decimal; second_number = g.is_decimal }) (loop_end_read a b f.number g.number f.is_decimal g.is_decimal)
-
-loop_end_reported : (words : List (List ℕ)) → IsReported (codes "DMALPEND" ∷ words) (loop_end_line words)
-loop_end_reported [] = refl
-loop_end_reported (a ∷ []) = refl
-loop_end_reported (a ∷ b ∷ []) = loop_end_reported_by a b (number_of a) (number_of b) refl refl
-loop_end_reported (a ∷ b ∷ c ∷ rest) = refl
-
-signal_reported_by : (a : List ℕ) (x : Option ℕ) → number_of a ≡ x → IsReported (codes "DMASEV" ∷ a ∷ []) (signal_line (a ∷ []))
-signal_reported_by a None p = rw p refl
-signal_reported_by a (Some k) p =
-    let f = number_of_reads a k p in
-    reported_written (codes "DMASEV" ∷ a ∷ []) (dmasev f.number) _ (record { word = a; words_are = refl; number = f.is_decimal }) (signal_read a f.number f.is_decimal)
+-- and one number
+number_reported : (words : List (List ℕ)) (a : List ℕ) (s : ℕ → Statement) (f : ℕ → Result Insn AsmCause) (x : Option ℕ) → number_of a ≡ x → list_any (λ name. bytes_eq (first_of words) name) names ≡ true
+    → ((n : ℕ) → IsDecimal a n → IsWritten words (s n)) → ((n : ℕ) → IsDecimal a n → (number_at a >>= f) ≡ ok_or (insn_of (s n)) Range) → IsReported words (number_at a >>= f)
+number_reported words a s f None p known written read = rw p known
+number_reported words a s f (Some k) p known written read =
+    let n = number_of_reads a k p in
+    reported_written words (s n.number) _ (written n.number n.is_decimal) (read n.number n.is_decimal)
 
 signal_reported : (words : List (List ℕ)) → IsReported (codes "DMASEV" ∷ words) (signal_line words)
 signal_reported [] = refl
-signal_reported (a ∷ []) = signal_reported_by a (number_of a) refl
+signal_reported (a ∷ []) =
+    number_reported (codes "DMASEV" ∷ a ∷ []) a (λ e. dmasev e) (λ k. event_at k >>= λ e. Ok (Sev e)) (number_of a) refl refl (λ n h. record { word = a; words_are = refl; number = h }) (signal_read a)
 signal_reported (a ∷ b ∷ rest) = refl
-
-wait_reported_by : (a : List ℕ) (x : Option ℕ) → number_of a ≡ x → IsReported (codes "DMAWFE" ∷ a ∷ []) (wait_line (a ∷ []))
-wait_reported_by a None p = rw p refl
-wait_reported_by a (Some k) p =
-    let f = number_of_reads a k p in
-    reported_written (codes "DMAWFE" ∷ a ∷ []) (dmawfe f.number false) _ (record { word = a; words_are = refl; number = f.is_decimal }) (wait_read a f.number f.is_decimal)
-
-wait_invalid_reported : (a : List ℕ) (x : Option ℕ) → number_of a ≡ x → IsReported (codes "DMAWFE" ∷ a ∷ codes "invalid" ∷ []) (wait_line (a ∷ codes "invalid" ∷ []))
-wait_invalid_reported a None p = rw p refl
-wait_invalid_reported a (Some k) p =
-    let f = number_of_reads a k p in
-    reported_written (codes "DMAWFE" ∷ a ∷ codes "invalid" ∷ []) (dmawfe f.number true) _ (record { word = a; words_are = refl; number = f.is_decimal }) (wait_invalid_read a f.number f.is_decimal)
 
 wait_two_reported : (a b : List ℕ) (t : Bool) → bytes_eq b (codes "invalid") ≡ t → IsReported (codes "DMAWFE" ∷ a ∷ b ∷ []) (wait_line (a ∷ b ∷ []))
 wait_two_reported a b true e =
     let same : b ≡ codes "invalid" = same_text b (codes "invalid") (sym e) in
-    subst (λ (w : List ℕ). IsReported (codes "DMAWFE" ∷ a ∷ w ∷ []) (wait_line (a ∷ w ∷ []))) (sym same) (wait_invalid_reported a (number_of a) refl)
+    subst (λ (w : List ℕ). IsReported (codes "DMAWFE" ∷ a ∷ w ∷ []) (wait_line (a ∷ w ∷ []))) (sym same)
+    (number_reported (codes "DMAWFE" ∷ a ∷ codes "invalid" ∷ []) a (λ e. dmawfe e true) (λ k. event_at k >>= λ e. Ok (Wfe e true)) (number_of a) refl refl (λ n h. record { word = a; words_are = refl; number = h }) (wait_invalid_read a))
 wait_two_reported a b false e = rw e refl
 
 wait_reported : (words : List (List ℕ)) → IsReported (codes "DMAWFE" ∷ words) (wait_line words)
 wait_reported [] = refl
-wait_reported (a ∷ []) = wait_reported_by a (number_of a) refl
+wait_reported (a ∷ []) =
+    number_reported (codes "DMAWFE" ∷ a ∷ []) a (λ e. dmawfe e false) (λ k. event_at k >>= λ e. Ok (Wfe e false)) (number_of a) refl refl (λ n h. record { word = a; words_are = refl; number = h }) (wait_read a)
 wait_reported (a ∷ b ∷ []) = wait_two_reported a b (bytes_eq b (codes "invalid")) refl
 wait_reported (a ∷ b ∷ c ∷ rest) = refl
-
-register_same : (a b : Reg) → Some a ≡ Some b → a ≡ b
-register_same a b e = cc
-
-no_register : (r : Reg) → None ≡ Some r → ⊥
-no_register r e = cc
 
 -- a word that is read as a register is the register's
 register_is : (word : List ℕ) (r : Reg) (x y z : Bool) → bytes_eq word (codes "SAR") ≡ x → bytes_eq word (codes "CCR") ≡ y → bytes_eq word (codes "DAR") ≡ z
     → cond x (Some Sar) (cond y (Some Ccr) (cond z (Some Dar) None)) ≡ Some r → word ≡ register_word r
-register_is word r true y z p q s e = same_text word (codes "SAR") (sym p) ∙ ap register_word (register_same Sar r e)
-register_is word r false true z p q s e = same_text word (codes "CCR") (sym q) ∙ ap register_word (register_same Ccr r e)
-register_is word r false false true p q s e = same_text word (codes "DAR") (sym s) ∙ ap register_word (register_same Dar r e)
-register_is word r false false false p q s e = absurd (no_register r e)
+register_is word r true y z p q s e = let same : Sar ≡ r = cc in same_text word (codes "SAR") (sym p) ∙ ap register_word same
+register_is word r false true z p q s e = let same : Ccr ≡ r = cc in same_text word (codes "CCR") (sym q) ∙ ap register_word same
+register_is word r false false true p q s e = let same : Dar ≡ r = cc in same_text word (codes "DAR") (sym s) ∙ ap register_word same
+register_is word r false false false p q s e = absurd (cc)
 
 set_reported_by : (a b : List ℕ) (x : Option Reg) (y : Option ℕ) → register_of a ≡ x → value_of b ≡ y → IsReported (codes "DMAMOV" ∷ a ∷ b ∷ []) (set_line (a ∷ b ∷ []))
 set_reported_by a b None y p q = rw p refl
@@ -236,8 +205,8 @@ line_in_reported (word ∷ words) =
     name_step word words (codes "DMARMB") _ _ _ refl (bare_reported (codes "DMARMB") Rmb words refl (dmarmb, refl, refl)) (λ n3.
     name_step word words (codes "DMAWMB") _ _ _ refl (bare_reported (codes "DMAWMB") Wmb words refl (dmawmb, refl, refl)) (λ n4.
     name_step word words (codes "DMANOP") _ _ _ refl (bare_reported (codes "DMANOP") Nop words refl (dmanop, refl, refl)) (λ n5.
-    name_step word words (codes "DMALP") _ _ _ refl (loop_reported words) (λ n6.
-    name_step word words (codes "DMALPEND") _ _ _ refl (loop_end_reported words) (λ n7.
+    name_step word words (codes "DMALP") _ _ _ refl (two_reported (codes "DMALP") (λ n. counter_at n.0 >>= λ c. (times_at n.1 >>= λ t. Ok (Lp c t))) (λ m n. dmalp m n) refl (λ ws m n h. h) loop_read words) (λ n6.
+    name_step word words (codes "DMALPEND") _ _ _ refl (two_reported (codes "DMALPEND") (λ n. counter_at n.0 >>= λ c. (back_at n.1 >>= λ b. Ok (LpEnd c b))) (λ m n. dmalpend m n) refl (λ ws m n h. h) loop_end_read words) (λ n7.
     name_step word words (codes "DMASEV") _ _ _ refl (signal_reported words) (λ n8.
     name_step word words (codes "DMAWFE") _ _ _ refl (wait_reported words) (λ n9.
     name_step word words (codes "DMAMOV") _ _ _ refl (set_reported words) (λ n10.

@@ -1,6 +1,6 @@
 -- The numbers that words write.
 use Rattle.std.proofs.Common.{◌≡◌, ℕ, ◌+◌, ◌-◌, ◌*◌, ◌/◌, ◌%◌, ◌^◌, ◌<◌, ◌≤◌, Bool, true, false, ◌&&◌, List, [], ◌∷◌, length, get_or, refl, sym, ap, ◌∙◌, Option, Some, None, cond, eqb, leb, arith, inl, inr}
-use Rattle.std.proofs.lemmas.Bool.{eqb-true, eqb-false, ne_eqb, leb-true, le-leb, lt-leb, le-ltb, lt-ltb, false≢true, cases_lt}
+use Rattle.std.proofs.lemmas.Bool.{eqb-true, eqb-false, ne_eqb, leb-true, le-leb, lt-leb, le-ltb, lt-ltb, cases_lt, and_parts}
 use Rattle.std.specs.Option.{option_and_then}
 use Rattle.std.specs.Str.{all_ascii_digits}
 use Rattle.std.specs.Char.{is_ascii_digit, digit_value}
@@ -9,18 +9,10 @@ use Rattle.std.specs.Fmt.{digit_glyph}
 use Rattle.dma_insn.specs.AssemblyText.{IsDecimal, value_word}
 use Rattle.dma_insn.specs.LineReading.{capped, digits_from, number_of, hex_digit_of, hex_from, value_of}
 
-none_some : (k : ℕ) → None ≡ Some k → ⊥
-none_some k e = cc
-
--- both of two tests
-both : (x y : Bool) → (x && y) ≡ true → (x ≡ true) × (y ≡ true)
-both true y e = (refl, e)
-both false y e = absurd (false≢true e)
-
 -- a digit's value
 digit_value_is : (c : ℕ) → is_ascii_digit c ≡ true → digit_value c ≡ c - 48
 digit_value_is c h =
-    let t = both (leb 48 c) (leb c 57) h in
+    let t = and_parts (leb 48 c) (leb c 57) h in
     let low : 48 ≤ c = leb-true 48 c t.0 in
     let high : c ≤ 57 = leb-true c 57 t.1 in
     rw (le-ltb c 48 (omega arith), lt-ltb c 58 (omega arith)) refl
@@ -29,7 +21,7 @@ digit_value_is c h =
 digits_read : (v : ℕ) (cs : List ℕ) → all_ascii_digits cs ≡ true → digits_from (capped v) cs ≡ Some (capped (digits_value_after 10 v cs))
 digits_read v [] h = refl
 digits_read v (c ∷ cs) h =
-    let t = both (is_ascii_digit c) (all_ascii_digits cs) h in
+    let t = and_parts (is_ascii_digit c) (all_ascii_digits cs) h in
     let value = digit_value_is c t.0 in
     let same : capped (capped v * 10 + (c - 48)) ≡ capped (v * 10 + digit_value c) = rw value (omega arith) in
     rw (t.0, same) (digits_read (v * 10 + digit_value c) cs t.1)
@@ -37,7 +29,7 @@ digits_read v (c ∷ cs) h =
 -- what is read is digits
 digits_only_by : (b : Bool) (v k c : ℕ) (cs : List ℕ) → ((w : ℕ) → digits_from w cs ≡ Some k → all_ascii_digits cs ≡ true) → option_and_then (λ d. digits_from (capped (v * 10 + d)) cs) (cond b (Some (c - 48)) None) ≡ Some k → (b && all_ascii_digits cs) ≡ true
 digits_only_by true v k c cs rest e = rest (capped (v * 10 + (c - 48))) e
-digits_only_by false v k c cs rest e = absurd (none_some k e)
+digits_only_by false v k c cs rest e = absurd (cc)
 
 digits_only : (v k : ℕ) (cs : List ℕ) → digits_from v cs ≡ Some k → all_ascii_digits cs ≡ true
 digits_only v k [] e = refl
@@ -62,11 +54,11 @@ reads word k some no_zeros e =
     }
 
 reads_long : (c d : ℕ) (rest : List ℕ) (k : ℕ) (b : Bool) → eqb c 48 ≡ b → cond b None (digits_from 0 (c ∷ d ∷ rest)) ≡ Some k → ReadsNumber (c ∷ d ∷ rest) k
-reads_long c d rest k true is e = absurd (none_some k e)
+reads_long c d rest k true is e = absurd (cc)
 reads_long c d rest k false is e = reads (c ∷ d ∷ rest) k (omega arith) (λ z. absurd (eqb-false c 48 is z)) e
 
 pub number_of_reads : (word : List ℕ) (k : ℕ) → number_of word ≡ Some k → ReadsNumber word k
-number_of_reads [] k e = absurd (none_some k e)
+number_of_reads [] k e = absurd (cc)
 number_of_reads (c ∷ []) k e = reads (c ∷ []) k (omega arith) (λ z. refl) e
 number_of_reads (c ∷ d ∷ rest) k e = reads_long c d rest k (eqb c 48) refl e
 
@@ -79,54 +71,36 @@ number_of_decimal (c ∷ d ∷ rest) n h =
     rw (h.value_is, long) (digits_read 0 (c ∷ d ∷ rest) h.digits)
 
 -- A hexadecimal digit.
-hex_low : (d : ℕ) → d < 10 → hex_digit_of (digit_glyph true d) ≡ Some d
-hex_low d low =
-    let same : 48 + d - 48 ≡ d = omega arith in
-    rw (lt-ltb d 10 low, le-leb 48 (48 + d) (omega arith), le-leb (48 + d) 57 (omega arith), same) refl
-
-hex_high : (d : ℕ) → 10 ≤ d → d < 16 → hex_digit_of (digit_glyph true d) ≡ Some d
-hex_high d high small =
-    let same : 55 + d - 55 ≡ d = omega arith in
-    rw (le-ltb d 10 high, le-leb 48 (55 + d) (omega arith), lt-leb (55 + d) 57 (omega arith), le-leb 65 (55 + d) (omega arith), le-leb (55 + d) 70 (omega arith), same) refl
-
 hex_digit_glyph : (d : ℕ) → d < 16 → hex_digit_of (digit_glyph true d) ≡ Some d
-hex_digit_glyph d small =
-    elim (cases_lt d 10) [
-      | inl low ↦ hex_low d low
-      | inr high ↦ hex_high d high small
-    ]
+hex_digit_glyph d small = elim (cases_lt d 10) [
+  | inl low ↦
+      let same : 48 + d - 48 ≡ d = omega arith in
+      rw (lt-ltb d 10 low, le-leb 48 (48 + d) (omega arith), le-leb (48 + d) 57 (omega arith), same) refl
+  | inr high ↦
+      let same : 55 + d - 55 ≡ d = omega arith in
+      rw (le-ltb d 10 high, le-leb 48 (55 + d) (omega arith), lt-leb (55 + d) 57 (omega arith), le-leb 65 (55 + d) (omega arith), le-leb (55 + d) 70 (omega arith), same) refl
+]
 
 -- A character that is a hexadecimal digit is the glyph of its value.
 pub record IsHexDigit (c d : ℕ) : Type 0 where
   pub small : d < 16
   pub glyph : c ≡ digit_glyph true d
 
-hex_by : (c d : ℕ) (s t u w : Bool) → leb 48 c ≡ s → leb c 57 ≡ t → leb 65 c ≡ u → leb c 70 ≡ w → cond (s && t) (Some (c - 48)) (cond (u && w) (Some (c - 55)) None) ≡ Some d → IsHexDigit c d
-hex_by c d true true u w a b x y e =
+hex_by : (c d : ℕ) (s t : Bool) → (leb 48 c && leb c 57) ≡ s → (leb 65 c && leb c 70) ≡ t → cond s (Some (c - 48)) (cond t (Some (c - 55)) None) ≡ Some d → IsHexDigit c d
+hex_by c d true t a b e =
     let value : c - 48 ≡ d = some_same (c - 48) d e in
-    let low : 48 ≤ c = leb-true 48 c a in
-    let high : c ≤ 57 = leb-true c 57 b in
-    let small : d < 10 = omega arith in
-    record { small = omega arith; glyph = rw (lt-ltb d 10 small) (omega arith) }
-hex_by c d true false true true a b x y e =
+    let parts = and_parts (leb 48 c) (leb c 57) a in
+    let small : d < 10 = omega (arith, leb-true 48 c parts.0, leb-true c 57 parts.1) in
+    record { small = omega arith; glyph = rw (lt-ltb d 10 small) (omega (arith, leb-true 48 c parts.0)) }
+hex_by c d false true a b e =
     let value : c - 55 ≡ d = some_same (c - 55) d e in
-    let low : 65 ≤ c = leb-true 65 c x in
-    let high : c ≤ 70 = leb-true c 70 y in
-    let big : 10 ≤ d = omega arith in
-    record { small = omega arith; glyph = rw (le-ltb d 10 big) (omega arith) }
-hex_by c d true false true false a b x y e = absurd (none_some d e)
-hex_by c d true false false w a b x y e = absurd (none_some d e)
-hex_by c d false t true true a b x y e =
-    let value : c - 55 ≡ d = some_same (c - 55) d e in
-    let low : 65 ≤ c = leb-true 65 c x in
-    let high : c ≤ 70 = leb-true c 70 y in
-    let big : 10 ≤ d = omega arith in
-    record { small = omega arith; glyph = rw (le-ltb d 10 big) (omega arith) }
-hex_by c d false t true false a b x y e = absurd (none_some d e)
-hex_by c d false t false w a b x y e = absurd (none_some d e)
+    let parts = and_parts (leb 65 c) (leb c 70) b in
+    let big : 10 ≤ d = omega (arith, leb-true 65 c parts.0) in
+    record { small = omega (arith, leb-true c 70 parts.1); glyph = rw (le-ltb d 10 big) (omega (arith, leb-true 65 c parts.0)) }
+hex_by c d false false a b e = absurd (cc)
 
 hex_digit_is : (c d : ℕ) → hex_digit_of c ≡ Some d → IsHexDigit c d
-hex_digit_is c d e = hex_by c d (leb 48 c) (leb c 57) (leb 65 c) (leb c 70) refl refl refl refl e
+hex_digit_is c d e = hex_by c d (leb 48 c && leb c 57) (leb 65 c && leb c 70) refl refl e
 
 -- one digit of several
 pub record HexStep (value c : ℕ) (rest : List ℕ) (v : ℕ) : Type 0 where
@@ -135,7 +109,7 @@ pub record HexStep (value c : ℕ) (rest : List ℕ) (v : ℕ) : Type 0 where
   pub more : hex_from (value * 16 + digit) rest ≡ Some v
 
 hex_step_by : (value c : ℕ) (rest : List ℕ) (v : ℕ) (o : Option ℕ) → hex_digit_of c ≡ o → option_and_then (λ d. hex_from (value * 16 + d) rest) o ≡ Some v → HexStep value c rest v
-hex_step_by value c rest v None is e = absurd (none_some v e)
+hex_step_by value c rest v None is e = absurd (cc)
 hex_step_by value c rest v (Some d) is e = record { digit = d; is = hex_digit_is c d is; more = e }
 
 hex_step : (value c : ℕ) (rest : List ℕ) (v : ℕ) → hex_from value (c ∷ rest) ≡ Some v → HexStep value c rest v
@@ -195,13 +169,13 @@ eight_of (a ∷ b ∷ c ∷ d ∷ g ∷ h ∷ i ∷ j ∷ k ∷ rest) v n e = ab
 value_of_by : (x y z : Bool) (a b : ℕ) (digits : List ℕ) (v : ℕ) → eqb a 48 ≡ x → eqb b 120 ≡ y → eqb (length digits) 8 ≡ z → cond (x && (y && z)) (hex_from 0 digits) None ≡ Some v → IsValueWord (a ∷ b ∷ digits) v
 value_of_by true true true a b digits v x y z e =
     rw (eqb-true a 48 x, eqb-true b 120 y) (eight_of digits v (eqb-true (length digits) 8 z) e)
-value_of_by true true false a b digits v x y z e = absurd (none_some v e)
-value_of_by true false z a b digits v x y zz e = absurd (none_some v e)
-value_of_by false y z a b digits v x yy zz e = absurd (none_some v e)
+value_of_by true true false a b digits v x y z e = absurd (cc)
+value_of_by true false z a b digits v x y zz e = absurd (cc)
+value_of_by false y z a b digits v x yy zz e = absurd (cc)
 
 pub value_of_reads : (word : List ℕ) (v : ℕ) → value_of word ≡ Some v → IsValueWord word v
-value_of_reads [] v e = absurd (none_some v e)
-value_of_reads (a ∷ []) v e = absurd (none_some v e)
+value_of_reads [] v e = absurd (cc)
+value_of_reads (a ∷ []) v e = absurd (cc)
 value_of_reads (a ∷ b ∷ digits) v e = value_of_by (eqb a 48) (eqb b 120) (eqb (length digits) 8) a b digits v refl refl refl e
 
 -- The word of a value is read as it.

@@ -1,9 +1,9 @@
 -- A program has only one text in which no line is skipped and each is ended.
-use Rattle.std.proofs.Common.{◌≡◌, ℕ, ◌^◌, ◌<◌, ◌||◌, Bool, true, false, List, [], ◌∷◌, ◌++◌, map, length, refl, sym, ap, ◌∙◌, subst, Some, None, cond, eqb, arith}
+use Rattle.std.proofs.Common.{◌≡◌, ℕ, ◌^◌, ◌<◌, Bool, true, false, List, [], ◌∷◌, ◌++◌, map, refl, sym, ap, ◌∙◌, subst, Some, None, cond, eqb, arith, drop}
 use Rattle.std.specs.Prelude.{codes, decimal, flat_map, MatchBool}
 use Rattle.std.specs.List.{list_any}
 use Rattle.std.specs.Option.{option_and_then}
-use Rattle.std.proofs.lemmas.Bool.{eqb-true, false≢true}
+use Rattle.std.proofs.lemmas.Bool.{eqb-true, false≢true, or_parts}
 use Rattle.std.proofs.lemmas.Fmt.{decimal-digits_value}
 use Rattle.dma_insn.specs.declared.insn.Counter.{Counter}
 use Rattle.dma_insn.specs.declared.insn.Counter.TheVariants.{Lc0, Lc1}
@@ -14,46 +14,25 @@ use Rattle.dma_insn.specs.AssemblyText.{onto_first, text_lines, words_of, is_ski
 use Rattle.dma_insn.specs.Disassembly.{AllInRange, counter_number, insn_text, text_of}
 use Rattle.dma_insn.proofs.Texts.{own, insn_text_writes, lines_ended}
 
--- the line of some words, with a space between two
-abbrev unwords : List (List ℕ) → List ℕ
-unwords [] = []
-unwords (w ∷ []) = w
-unwords (w ∷ v ∷ ws) = w ++ 32 ∷ unwords (v ∷ ws)
+-- words with a space before each
+abbrev spaced : List (List ℕ) → List ℕ
+spaced ws = flat_map (λ w. 32 ∷ w) ws
 
-unwords_onto : (b : ℕ) (ws : List (List ℕ)) → unwords (onto_first b ws) ≡ b ∷ unwords ws
-unwords_onto b [] = refl
-unwords_onto b (w ∷ []) = refl
-unwords_onto b (w ∷ v ∷ ws) = refl
+spaced_onto : (b : ℕ) (ws : List (List ℕ)) (rest : List ℕ) → spaced ws ≡ 32 ∷ rest → spaced (onto_first b ws) ≡ 32 ∷ b ∷ rest
+spaced_onto b [] rest e = cc
+spaced_onto b (w ∷ ws) rest e = let more : w ++ spaced ws ≡ rest = cc in ap (λ (l : List ℕ). 32 ∷ b ∷ l) more
 
-unwords_space : (ws : List (List ℕ)) → 0 < length ws → unwords ([] ∷ ws) ≡ 32 ∷ unwords ws
-unwords_space [] some = absurd (omega arith)
-unwords_space (w ∷ ws) some = refl
-
-onto_some : (b : ℕ) (ws : List (List ℕ)) → 0 < length (onto_first b ws)
-onto_some b [] = omega arith
-onto_some b (w ∷ ws) = omega arith
-
-words_some_by : (b : ℕ) (rest : List ℕ) (t : Bool) → 0 < length (cond t ([] ∷ words_of rest) (onto_first b (words_of rest)))
-words_some_by b rest true = omega arith
-words_some_by b rest false = onto_some b (words_of rest)
-
-words_some : (line : List ℕ) → 0 < length (words_of line)
-words_some [] = omega arith
-words_some (b ∷ rest) = words_some_by b rest (eqb b 32)
-
-unwords_by : (b : ℕ) (rest : List ℕ) (t : Bool) → eqb b 32 ≡ t → unwords (words_of rest) ≡ rest → unwords (cond t ([] ∷ words_of rest) (onto_first b (words_of rest))) ≡ b ∷ rest
-unwords_by b rest true e again =
-    let space : b ≡ 32 = eqb-true b 32 e in
-    unwords_space (words_of rest) (words_some rest) ∙ ap (λ (l : List ℕ). 32 ∷ l) again ∙ ap (λ (k : ℕ). k ∷ rest) (sym space)
-unwords_by b rest false e again = unwords_onto b (words_of rest) ∙ ap (λ (l : List ℕ). b ∷ l) again
+spaced_by : (b : ℕ) (rest : List ℕ) (t : Bool) → eqb b 32 ≡ t → spaced (words_of rest) ≡ 32 ∷ rest → spaced (cond t ([] ∷ words_of rest) (onto_first b (words_of rest))) ≡ 32 ∷ b ∷ rest
+spaced_by b rest true e again = ap (λ (l : List ℕ). 32 ∷ l) again ∙ ap (λ (k : ℕ). 32 ∷ k ∷ rest) (sym (eqb-true b 32 e))
+spaced_by b rest false e again = spaced_onto b (words_of rest) rest again
 
 -- a line is its words
-unwords_words : (line : List ℕ) → unwords (words_of line) ≡ line
-unwords_words [] = refl
-unwords_words (b ∷ rest) = unwords_by b rest (eqb b 32) refl (unwords_words rest)
+spaced_words : (line : List ℕ) → spaced (words_of line) ≡ 32 ∷ line
+spaced_words [] = refl
+spaced_words (b ∷ rest) = spaced_by b rest (eqb b 32) refl (spaced_words rest)
 
 same_line : (a b : List ℕ) → words_of a ≡ words_of b → a ≡ b
-same_line a b e = sym (unwords_words a) ∙ ap unwords e ∙ unwords_words b
+same_line a b e = ap (drop 1) (sym (spaced_words a) ∙ ap spaced e ∙ spaced_words b)
 
 -- a number has one word
 word_is : (word : List ℕ) (n : ℕ) → n < 2 ^ 64 → IsDecimal word n → word ≡ decimal n
@@ -86,31 +65,25 @@ statement_of (Sev e) = dmasev e
 statement_of (Wfe e v) = dmawfe e v
 statement_of (Mov r v) = dmamov r v
 
-some_insn : (i j : Insn) → Some i ≡ Some j → i ≡ j
-some_insn i j e = cc
-
-none_insn : (i : Insn) → None ≡ Some i → ⊥
-none_insn i e = cc
-
 -- one test of a range
 in_range : (t : Bool) (j i : Insn) → cond t (Some j) None ≡ Some i → j ≡ i
-in_range true j i e = some_insn j i e
-in_range false j i e = absurd (none_insn i e)
+in_range true j i e = cc
+in_range false j i e = cc
 
 -- a counter, and the instruction that has it
 with_counter : (c : ℕ) (x y t : Bool) (f : Counter → Insn) (i : Insn) → eqb c 0 ≡ x → eqb c 1 ≡ y
     → option_and_then (λ k. cond t (Some (f k)) None) (cond x (Some Lc0) (cond y (Some Lc1) None)) ≡ Some i → (k : Counter) × (c ≡ counter_number k) × (f k ≡ i)
 with_counter c true y t f i p q e = (Lc0, eqb-true c 0 p, in_range t (f Lc0) i e)
 with_counter c false true t f i p q e = (Lc1, eqb-true c 1 q, in_range t (f Lc1) i e)
-with_counter c false false t f i p q e = absurd (none_insn i e)
+with_counter c false false t f i p q e = absurd (cc)
 
 statement_is : (s : Statement) (i : Insn) → insn_of s ≡ Some i → s ≡ statement_of i
-statement_is dmaend i e = ap statement_of (some_insn End i e)
-statement_is dmald i e = ap statement_of (some_insn Ld i e)
-statement_is dmast i e = ap statement_of (some_insn St i e)
-statement_is dmarmb i e = ap statement_of (some_insn Rmb i e)
-statement_is dmawmb i e = ap statement_of (some_insn Wmb i e)
-statement_is dmanop i e = ap statement_of (some_insn Nop i e)
+statement_is dmaend i e = ap statement_of (in_range true End i e)
+statement_is dmald i e = ap statement_of (in_range true Ld i e)
+statement_is dmast i e = ap statement_of (in_range true St i e)
+statement_is dmarmb i e = ap statement_of (in_range true Rmb i e)
+statement_is dmawmb i e = ap statement_of (in_range true Wmb i e)
+statement_is dmanop i e = ap statement_of (in_range true Nop i e)
 statement_is (dmalp c n) i e =
     let h = with_counter c (eqb c 0) (eqb c 1) _ (λ k. Lp k n) i refl refl e in
     ap (λ (m : ℕ). dmalp m n) h.1 ∙ ap statement_of h.2
@@ -119,7 +92,7 @@ statement_is (dmalpend c b) i e =
     ap (λ (m : ℕ). dmalpend m b) h.1 ∙ ap statement_of h.2
 statement_is (dmasev n) i e = ap statement_of (in_range _ (Sev n) i e)
 statement_is (dmawfe n v) i e = ap statement_of (in_range _ (Wfe n v) i e)
-statement_is (dmamov r v) i e = ap statement_of (some_insn (Mov r v) i e)
+statement_is (dmamov r v) i e = ap statement_of (in_range true (Mov r v) i e)
 
 counter_small : (c : Counter) → counter_number c < 2 ^ 64
 counter_small Lc0 = omega arith
@@ -146,10 +119,6 @@ written_of line i w = subst (IsWritten (words_of line)) (statement_is w.statemen
 line_is : (line : List ℕ) (i : Insn) → HasRanges i → Writes line i → line ≡ insn_text i
 line_is line i r w = same_line line (insn_text i) (same_words i (words_of line) (words_of (insn_text i)) r (written_of line i w) (written_of (insn_text i) i (insn_text_writes i r)))
 
-neither : (x y : Bool) → (x || y) ≡ false → (x ≡ false) × (y ≡ false)
-neither true y e = absurd (false≢true (sym e))
-neither false y e = (refl, e)
-
 lines_by : (line : List ℕ) (lines : List (List ℕ)) (is : List Insn) (t : Bool) → t ≡ false → MatchBool t (WriteAll lines is) (WritesFirst line is (λ rest. WriteAll lines rest)) → AllInRange is
     → ((js : List Insn) → WriteAll lines js → AllInRange js → lines ≡ map insn_text js) → line ∷ lines ≡ map insn_text is
 lines_by line lines is true e h r more = absurd (false≢true (sym e))
@@ -161,7 +130,7 @@ lines_by line lines is false e h r more =
 lines_are : (lines : List (List ℕ)) (is : List Insn) → WriteAll lines is → AllInRange is → list_any is_skipped lines ≡ false → lines ≡ map insn_text is
 lines_are [] is h r none = ap (map insn_text) (sym h)
 lines_are (line ∷ lines) is h r none =
-    let parts = neither (is_skipped line) (list_any is_skipped lines) none in
+    let parts = or_parts (is_skipped line) (list_any is_skipped lines) none in
     lines_by line lines is (is_skipped line) parts.0 h r (λ js written ranges. lines_are lines js written ranges parts.1)
 
 pub one_way : (text : List ℕ) (is : List Insn) → AllInRange is → ProgramText text is → list_any is_skipped (text_lines text) ≡ false → text ≡ flat_map (λ line. line ++ 10 ∷ []) (text_lines text) → text ≡ text_of is

@@ -15,15 +15,9 @@ use Rattle.dma_insn.specs.AssemblyText.{text_lines, words_of, is_skipped, Statem
 use Rattle.dma_insn.specs.LineReading.{◌>>=◌, at_line, with_insn, line_in, after_line, after_lines, assembled, ReadingReports, ResultIsOrNoMemory}
 use Rattle.dma_insn.proofs.LineLaws.{IsReported, line_in_reported, line_in_written}
 
-insn_err : (i : Insn) (cause : AsmCause) (r : Result Insn AsmCause) → r ≡ Ok i → r ≡ Err cause → ⊥
-insn_err i cause r p q = cc
-
-range_operand : (r : Result Insn AsmCause) → r ≡ Err Range → r ≡ Err Operand → ⊥
-range_operand r p q = cc
-
 not_operand : (o : Option Insn) → ok_or o Range ≡ Err Operand → ⊥
-not_operand None e = range_operand (Err Range) refl e
-not_operand (Some i) e = insn_err i Operand (Ok i) refl e
+not_operand None e = cc
+not_operand (Some i) e = cc
 
 -- What the result of reading a line's words says about the line.
 cause_reported : (line : List ℕ) (cause : AsmCause) → line_in (words_of line) ≡ Err cause → IsReported (words_of line) (Err cause) → IsCause line cause
@@ -79,32 +73,23 @@ FaultOf n program lines NoMemory = ⊥
 abbrev pub Outcome : ℕ → List ℕ → List (List ℕ) → Result (List ℕ) AsmFault → Type 0
 Outcome n program lines r = MatchResult r (λ bytes. Whole program lines bytes) (λ fault. FaultOf n program lines fault)
 
--- a skipped line in front
-write_skipped : (line : List ℕ) (lines : List (List ℕ)) (is : List Insn) → is_skipped line ≡ true → WriteAll lines is → WriteAll (line ∷ lines) is
-write_skipped line lines is e h = rw e h
-
 -- a line in front that writes an instruction
 pub write_more : (line : List ℕ) (lines : List (List ℕ)) (i : Insn) (is : List Insn) → Writes line i → WriteAll lines is → WriteAll (line ∷ lines) (i ∷ is)
 write_more line lines i is w h = rw w.taken (record { first = i; rest = is; are = refl; writes = w; more = h })
 
-place_skipped : (n m : ℕ) (program : List ℕ) (line at : List ℕ) (lines : List (List ℕ)) (insns : List Insn) → is_skipped line ≡ true → Place (n + 1) program lines at m insns → Place n program (line ∷ lines) at m insns
-place_skipped n m program line at lines insns e p = record {
-  before = line ∷ p.before;
-  after = p.after;
-  lines_are = ap (λ (l : List (List ℕ)). line ∷ l) p.lines_are;
-  number = let number = p.number in omega arith;
-  writes = write_skipped line p.before insns e p.writes;
-  fits = p.fits;
-}
+-- What a line in front of others adds: instructions in front of theirs, and bytes behind a program.
+record Adds (program next line : List ℕ) (front : List Insn) : Type 0 where
+  writes : (lines : List (List ℕ)) (is : List Insn) → WriteAll lines is → WriteAll (line ∷ lines) (front ++ is)
+  joins : (is : List Insn) → next ++ joined is ≡ program ++ joined (front ++ is)
 
-place_more : (n m : ℕ) (program : List ℕ) (line at : List ℕ) (lines : List (List ℕ)) (i : Insn) (insns : List Insn) → Writes line i → Place (n + 1) (program ++ spelling i) lines at m insns → Place n program (line ∷ lines) at m (i ∷ insns)
-place_more n m program line at lines i insns w p = record {
+place_behind : (n m : ℕ) (program next line at : List ℕ) (lines : List (List ℕ)) (front insns : List Insn) → Adds program next line front → Place (n + 1) next lines at m insns → Place n program (line ∷ lines) at m (front ++ insns)
+place_behind n m program next line at lines front insns adds p = record {
   before = line ∷ p.before;
   after = p.after;
   lines_are = ap (λ (l : List (List ℕ)). line ∷ l) p.lines_are;
   number = let number = p.number in omega arith;
-  writes = write_more line p.before i insns w p.writes;
-  fits = subst (λ (l : List ℕ). length l ≤ most_program_bytes) (append_assoc program (spelling i) (joined insns)) p.fits;
+  writes = adds.writes p.before insns p.writes;
+  fits = subst (λ (l : List ℕ). length l ≤ most_program_bytes) (adds.joins insns) p.fits;
 }
 
 place_here : (n : ℕ) (program line : List ℕ) (lines : List (List ℕ)) → length program ≤ most_program_bytes → Place n program (line ∷ lines) line (n + 1) []
@@ -117,30 +102,21 @@ place_here n program line lines small = record {
   fits = let same = length-append program [] in omega arith;
 }
 
-outcome_skipped : (n : ℕ) (program line : List ℕ) (lines : List (List ℕ)) (r : Result (List ℕ) AsmFault) → is_skipped line ≡ true → Outcome (n + 1) program lines r → Outcome n program (line ∷ lines) r
-outcome_skipped n program line lines (Ok bytes) e h =
-    record { insns = h.insns; writes = write_skipped line lines h.insns e h.writes; bytes_are = h.bytes_are; fits = h.fits }
-outcome_skipped n program line lines (Err (Line m cause)) e h =
-    record { line = h.line; insns = h.insns; place = place_skipped n m program line h.line lines h.insns e h.place; cause_is = h.cause_is }
-outcome_skipped n program line lines (Err (ProgramTooLong m)) e h =
-    record { line = h.line; insns = h.insns; insn = h.insn; place = place_skipped n m program line h.line lines h.insns e h.place; writes = h.writes; long = h.long }
-outcome_skipped n program line lines (Err NoMemory) e h = h
-
-outcome_more : (n : ℕ) (program line : List ℕ) (lines : List (List ℕ)) (i : Insn) (r : Result (List ℕ) AsmFault) → Writes line i → Outcome (n + 1) (program ++ spelling i) lines r → Outcome n program (line ∷ lines) r
-outcome_more n program line lines i (Ok bytes) w h =
-    record { insns = i ∷ h.insns; writes = write_more line lines i h.insns w h.writes; bytes_are = h.bytes_are ∙ append_assoc program (spelling i) (joined h.insns); fits = h.fits }
-outcome_more n program line lines i (Err (Line m cause)) w h =
-    record { line = h.line; insns = i ∷ h.insns; place = place_more n m program line h.line lines i h.insns w h.place; cause_is = h.cause_is }
-outcome_more n program line lines i (Err (ProgramTooLong m)) w h =
+outcome_behind : (n : ℕ) (program next line : List ℕ) (lines : List (List ℕ)) (front : List Insn) (r : Result (List ℕ) AsmFault) → Adds program next line front → Outcome (n + 1) next lines r → Outcome n program (line ∷ lines) r
+outcome_behind n program next line lines front (Ok bytes) adds h =
+    record { insns = front ++ h.insns; writes = adds.writes lines h.insns h.writes; bytes_are = h.bytes_are ∙ adds.joins h.insns; fits = h.fits }
+outcome_behind n program next line lines front (Err (Line m cause)) adds h =
+    record { line = h.line; insns = front ++ h.insns; place = place_behind n m program next line h.line lines front h.insns adds h.place; cause_is = h.cause_is }
+outcome_behind n program next line lines front (Err (ProgramTooLong m)) adds h =
     record {
       line = h.line;
-      insns = i ∷ h.insns;
+      insns = front ++ h.insns;
       insn = h.insn;
-      place = place_more n m program line h.line lines i h.insns w h.place;
+      place = place_behind n m program next line h.line lines front h.insns adds h.place;
       writes = h.writes;
-      long = subst (λ (l : List ℕ). most_program_bytes < length l + length (spelling h.insn)) (append_assoc program (spelling i) (joined h.insns)) h.long;
+      long = subst (λ (l : List ℕ). most_program_bytes < length l + length (spelling h.insn)) (adds.joins h.insns) h.long;
     }
-outcome_more n program line lines i (Err NoMemory) w h = h
+outcome_behind n program next line lines front (Err NoMemory) adds h = h
 
 -- a line that is not skipped, by what its words are read as, and whether there is room
 outcome_room : (n : ℕ) (program line : List ℕ) (lines : List (List ℕ)) (i : Insn) (b : Bool) → leb (length program + length (spelling i)) 8192 ≡ b → length program ≤ most_program_bytes → Writes line i
@@ -149,7 +125,8 @@ outcome_room : (n : ℕ) (program line : List ℕ) (lines : List (List ℕ)) (i 
 outcome_room n program line lines i true e small w more =
     let room : length program + length (spelling i) ≤ 8192 = leb-true _ 8192 e in
     let same = length-append program (spelling i) in
-    outcome_more n program line lines i _ w (more (program ++ spelling i) (omega arith))
+    outcome_behind n program (program ++ spelling i) line lines (i ∷ []) _
+    (record { writes = λ ls is h. write_more line ls i is w h; joins = λ is. append_assoc program (spelling i) (joined is) }) (more (program ++ spelling i) (omega arith))
 outcome_room n program line lines i false e small w more =
     let none : 8192 < length program + length (spelling i) = leb-false _ 8192 e in
     let same = length-append program [] in
@@ -166,7 +143,8 @@ outcome_line n program line lines (Ok i) e small taken more =
 outcome_by : (n : ℕ) (program line : List ℕ) (lines : List (List ℕ)) (b : Bool) → is_skipped line ≡ b → length program ≤ most_program_bytes
     → ((next : List ℕ) → length next ≤ most_program_bytes → Outcome (n + 1) next lines (after_lines (n + 1) next lines))
     → Outcome n program (line ∷ lines) (cond b (Ok program) (at_line (n + 1) (line_in (words_of line)) >>= with_insn (n + 1) program) >>= λ next. after_lines (n + 1) next lines)
-outcome_by n program line lines true e small more = outcome_skipped n program line lines _ e (more program small)
+outcome_by n program line lines true e small more =
+    outcome_behind n program program line lines [] _ (record { writes = λ ls is h. rw e h; joins = λ is. refl }) (more program small)
 outcome_by n program line lines false e small more = outcome_line n program line lines (line_in (words_of line)) refl small e more
 
 outcome : (lines : List (List ℕ)) (n : ℕ) (program : List ℕ) → length program ≤ most_program_bytes → Outcome n program lines (after_lines n program lines)
@@ -253,12 +231,9 @@ assembled_err : (text : List ℕ) (fault : AsmFault) → assembled text ≡ Err 
 assembled_err text fault e =
     first_fault text fault (subst (Outcome 0 [] (text_lines text)) e (outcome (text_lines text) 0 [] (omega arith)))
 
-not_ok : (fault : AsmFault) → IsOk {T = List ℕ} (Err fault) → ⊥
-not_ok fault h = false≢true h
-
 some_bytes : (text : List ℕ) (r : Result (List ℕ) AsmFault) → assembled text ≡ r → IsOk r → IsFirstFault text NoMemory
 some_bytes text (Ok bytes) e ok = (bytes, assembled_ok text bytes e)
-some_bytes text (Err fault) e ok = absurd (not_ok fault ok)
+some_bytes text (Err fault) e ok = absurd (false≢true ok)
 
 -- The clauses of `assemble`, by what reading the text gives.
 pub if_program : {X : Type 0} (view : X → List ℕ) (text : List ℕ) (r : Result X AsmFault) → ResultIsOrNoMemory view r (assembled text) → IfOk r (λ x. Assembles text (view x))
@@ -276,11 +251,8 @@ if_fault view text (Err fault) h = fault_by text fault h
 ok_same : (r : Result (List ℕ) AsmFault) (a b : List ℕ) → r ≡ Ok a → r ≡ Ok b → a ≡ b
 ok_same r a b p q = cc
 
-ok_err : (r : Result (List ℕ) AsmFault) (a : List ℕ) (fault : AsmFault) → r ≡ Ok a → r ≡ Err fault → ⊥
-ok_err r a fault p q = cc
-
 only_by : (text bytes : List ℕ) (fault : AsmFault) → assembled text ≡ Ok bytes → ((assembled text ≡ Err fault) ⊎ ((fault ≡ NoMemory) × IsOk (assembled text))) → fault ≡ NoMemory
-only_by text bytes fault e (inl f) = absurd (ok_err (assembled text) bytes fault e f)
+only_by text bytes fault e (inl f) = absurd (let bad : Ok bytes ≡ Err fault = sym e ∙ f in cc)
 only_by text bytes fault e (inr h) = h.0
 
 pub if_only : {X : Type 0} (view : X → List ℕ) (text : List ℕ) (r : Result X AsmFault) → ResultIsOrNoMemory view r (assembled text) → (bytes : List ℕ) → Assembles text bytes → MatchResult r (λ x. view x ≡ bytes) (λ fault. fault ≡ NoMemory)

@@ -1,7 +1,7 @@
 -- The text that instructions are written as is the text of these instructions.
 use Rattle.std.proofs.Common.{◌≡◌, ℕ, ◌+◌, ◌/◌, ◌%◌, ◌^◌, ◌<◌, ◌≤◌, Bool, true, false, List, [], ◌∷◌, ◌++◌, map, length, get_or, refl, sym, ap, ◌∙◌, subst, Some, ltb, arith, append_assoc, append-nil, inl, inr}
 use Rattle.std.specs.Prelude.{codes, decimal, flat_map}
-use Rattle.std.specs.List.{list_all, list_any, concat}
+use Rattle.std.specs.List.{list_all, list_any}
 use Rattle.std.specs.Str.{all_ascii_digits}
 use Rattle.std.specs.Str.Parse.{digits_value}
 use Rattle.std.specs.Fmt.{digit_glyph}
@@ -9,13 +9,12 @@ use Rattle.std.proofs.lemmas.Bool.{and_parts, and_from, ltb-true, lt-ltb, le-ltb
 use Rattle.std.proofs.lemmas.Str.Parse.{IsNumeralModel, numerals_by_value, tells_all_ascii_digits}
 use Rattle.std.proofs.lemmas.Fmt.{decimal_by_steps, decimal_nonempty, first_decimal, decimal_digit, digits_decimal, digits_value-decimal}
 use Rattle.dma_insn.specs.declared.insn.Reg.TheVariants.{Sar, Ccr, Dar}
-use Rattle.dma_insn.specs.declared.insn.Counter.{Counter}
 use Rattle.dma_insn.specs.declared.insn.Counter.TheVariants.{Lc0, Lc1}
 use Rattle.dma_insn.specs.declared.insn.Insn.{Insn}
 use Rattle.dma_insn.specs.declared.insn.Insn.TheVariants.{Mov, Ld, St, Rmb, Wmb, Nop, End, Lp, LpEnd, Sev, Wfe}
 use Rattle.dma_insn.specs.Spelling.{HasRanges}
 use Rattle.dma_text.specs.Digits.{hex_digits}
-use Rattle.dma_insn.specs.AssemblyText.{onto_first, text_lines, words_of, is_skipped, IsDecimal, value_word, Statement, dmaend, dmald, dmast, dmarmb, dmawmb, dmanop, dmalp, dmalpend, dmasev, dmawfe, dmamov, IsWritten, insn_of, Writes, WriteAll, ProgramText, joined, most_program_bytes, Assembles}
+use Rattle.dma_insn.specs.AssemblyText.{onto_first, text_lines, words_of, is_skipped, IsDecimal, value_word, Statement, dmaend, dmald, dmast, dmarmb, dmawmb, dmanop, dmalp, dmalpend, dmasev, dmawfe, dmamov, IsWritten, insn_of, Writes, WriteAll, ProgramText, joined, most_program_bytes, Assembles, HasTwoNumbers}
 use Rattle.dma_insn.specs.Disassembly.{AllInRange, insn_text, text_of, Disassembles, DisassemblyAssembles}
 use Rattle.dma_insn.proofs.ProgramLaws.{write_more, assembles_once}
 
@@ -143,37 +142,12 @@ insn_text_above (Mov Sar v) h = value_above v
 insn_text_above (Mov Ccr v) h = value_above v
 insn_text_above (Mov Dar v) h = value_above v
 
-loop_writes : (m n : ℕ) (c : Counter) → m < 2 ^ 64 → (1 ≤ n) × (n ≤ 256) → insn_of (dmalp m n) ≡ Some (Lp c n) → Writes (concat (codes "DMALP " ∷ decimal m ∷ codes " " ∷ decimal n ∷ [])) (Lp c n)
-loop_writes m n c hm h e =
-    let hn : n < 2 ^ 64 = omega (arith, h.1) in
-    record {
-      taken = refl;
-      statement = dmalp m n;
-      words_are = record {
-        first = decimal m;
-        second = decimal n;
-        words_are = ap (λ (ws : List (List ℕ)). codes "DMALP" ∷ ws) (two_words_are m n hm hn);
-        first_number = decimal_is m hm;
-        second_number = decimal_is n hn;
-      };
-      insn_is = e;
-    }
+two_numbers_are : (ws : List (List ℕ)) (name : List ℕ) (m n : ℕ) → m < 2 ^ 64 → n < 2 ^ 64 → ws ≡ name ∷ decimal m ∷ decimal n ∷ [] → HasTwoNumbers ws name m n
+two_numbers_are ws name m n hm hn e =
+    record { first = decimal m; second = decimal n; words_are = e; first_number = decimal_is m hm; second_number = decimal_is n hn }
 
-loop_end_writes : (m b : ℕ) (c : Counter) → m < 2 ^ 64 → b < 256 → insn_of (dmalpend m b) ≡ Some (LpEnd c b) → Writes (concat (codes "DMALPEND " ∷ decimal m ∷ codes " " ∷ decimal b ∷ [])) (LpEnd c b)
-loop_end_writes m b c hm h e =
-    let hb : b < 2 ^ 64 = omega arith in
-    record {
-      taken = refl;
-      statement = dmalpend m b;
-      words_are = record {
-        first = decimal m;
-        second = decimal b;
-        words_are = ap (λ (ws : List (List ℕ)). codes "DMALPEND" ∷ ws) (two_words_are m b hm hb);
-        first_number = decimal_is m hm;
-        second_number = decimal_is b hb;
-      };
-      insn_is = e;
-    }
+loop_words : (name : List ℕ) (m n : ℕ) → m < 2 ^ 64 → n < 2 ^ 64 → HasTwoNumbers (name ∷ words_of (decimal m ++ 32 ∷ (decimal n ++ []))) name m n
+loop_words name m n hm hn = two_numbers_are _ name m n hm hn (ap (λ (ws : List (List ℕ)). name ∷ ws) (two_words_are m n hm hn))
 
 bare_writes : (i : Insn) (s : Statement) → is_skipped (insn_text i) ≡ false → IsWritten (words_of (insn_text i)) s → insn_of s ≡ Some i → Writes (insn_text i) i
 bare_writes i s taken words e = record { taken = taken; statement = s; words_are = words; insn_is = e }
@@ -186,10 +160,10 @@ insn_text_writes St h = bare_writes St dmast refl refl refl
 insn_text_writes Rmb h = bare_writes Rmb dmarmb refl refl refl
 insn_text_writes Wmb h = bare_writes Wmb dmawmb refl refl refl
 insn_text_writes Nop h = bare_writes Nop dmanop refl refl refl
-insn_text_writes (Lp Lc0 n) h = loop_writes 0 n Lc0 (omega arith) h (rw (le-leb 1 n h.0, le-leb n 256 h.1) refl)
-insn_text_writes (Lp Lc1 n) h = loop_writes 1 n Lc1 (omega arith) h (rw (le-leb 1 n h.0, le-leb n 256 h.1) refl)
-insn_text_writes (LpEnd Lc0 b) h = loop_end_writes 0 b Lc0 (omega arith) h (rw (le-leb b 255 (omega arith)) refl)
-insn_text_writes (LpEnd Lc1 b) h = loop_end_writes 1 b Lc1 (omega arith) h (rw (le-leb b 255 (omega arith)) refl)
+insn_text_writes (Lp Lc0 n) h = bare_writes (Lp Lc0 n) (dmalp 0 n) refl (loop_words (codes "DMALP") 0 n (omega arith) (omega (arith, h.1))) (rw (le-leb 1 n h.0, le-leb n 256 h.1) refl)
+insn_text_writes (Lp Lc1 n) h = bare_writes (Lp Lc1 n) (dmalp 1 n) refl (loop_words (codes "DMALP") 1 n (omega arith) (omega (arith, h.1))) (rw (le-leb 1 n h.0, le-leb n 256 h.1) refl)
+insn_text_writes (LpEnd Lc0 b) h = bare_writes (LpEnd Lc0 b) (dmalpend 0 b) refl (loop_words (codes "DMALPEND") 0 b (omega arith) (omega arith)) (rw (le-leb b 255 (omega arith)) refl)
+insn_text_writes (LpEnd Lc1 b) h = bare_writes (LpEnd Lc1 b) (dmalpend 1 b) refl (loop_words (codes "DMALPEND") 1 b (omega arith) (omega arith)) (rw (le-leb b 255 (omega arith)) refl)
 insn_text_writes (Sev e) h =
     let he : e < 2 ^ 64 = omega arith in
     bare_writes (Sev e) (dmasev e) refl (record { word = decimal e; words_are = ap (λ (ws : List (List ℕ)). codes "DMASEV" ∷ ws) (one_word_is e he); number = decimal_is e he }) (rw (le-leb e 31 (omega arith)) refl)

@@ -1,9 +1,9 @@
 -- Chunks that are made and whose lists have no bytes yet.
-use Rattle.std.proofs.Common.{◌≡◌, ℕ, ◌+◌, ◌-◌, ◌<◌, ◌≤◌, List, [], ◌∷◌, ◌++◌, length, get_or, replicate, drop, take, Bool, true, false, Option, Some, None, refl, ap, sym, ◌∙◌, arith, inl, inr}
+use Rattle.std.proofs.Common.{◌≡◌, ℕ, ◌+◌, ◌-◌, ◌<◌, ◌≤◌, List, [], ◌∷◌, ◌++◌, length, get_or, replicate, drop, take, true, false, Option, Some, None, refl, ap, sym, ◌∙◌, arith, inl, inr}
 use Rattle.std.specs.Prelude.{unwrap_or, nat_eq}
 use Rattle.std.specs.Map.{lookup}
 use Rattle.std.proofs.Math.Seq.{take-length}
-use Rattle.std.proofs.lemmas.Bool.{cases_lt, cases_eq, eq-eqb, ne_eqb, lt-ltb}
+use Rattle.std.proofs.lemmas.Bool.{cases_lt, cases_eq, eq-eqb, ne_eqb, lt-ltb, cases_Bool}
 use Rattle.std.proofs.lemmas.List.{ext_get_or, length-replicate, append-nil, length-drop, length-take, nil_from_length}
 use Rattle.dma_mem.specs.Image.{put, bytes_at}
 use Rattle.dma_mem.specs.inner.Blocks.{filled}
@@ -45,24 +45,19 @@ filled_blank start len =
 pub shown_blank : (capacity : ℕ) (items : List ℕ) → is_blank capacity items ≡ true → bytes_shown capacity items ≡ blank
 shown_blank capacity items e = rw e refl
 
--- Any other list shows its items.
-pub shown_as_is : (capacity : ℕ) (items : List ℕ) → is_blank capacity items ≡ false → bytes_shown capacity items ≡ items
-shown_as_is capacity items e = rw e refl
-
 -- A list with items shows them.
 pub shown_items : (capacity : ℕ) (items : List ℕ) → 0 < length items → bytes_shown capacity items ≡ items
 shown_items capacity items some = rw (ne_eqb (length items) 0 (λ e. omega arith)) refl
 
-length_shown_by : (b : Bool) (capacity : ℕ) (items : List ℕ) → is_blank capacity items ≡ b → (0 < length items → 16384 ≤ length items) → length items ≤ 16384 → 0 < length (bytes_shown capacity items) → length (bytes_shown capacity items) ≡ 16384
-length_shown_by true capacity items e whole most some = ap length (shown_blank capacity items e) ∙ length_blank
-length_shown_by false capacity items e whole most some =
-    let same : length (bytes_shown capacity items) ≡ length items = ap length (shown_as_is capacity items e) in
-    let here : 0 < length items = omega (arith, some, same) in
-    omega (arith, whole here, same)
-
 -- A chunk that shows a byte shows 16,384.
 pub length_shown : (capacity : ℕ) (items : List ℕ) → (0 < length items → 16384 ≤ length items) → length items ≤ 16384 → 0 < length (bytes_shown capacity items) → length (bytes_shown capacity items) ≡ 16384
-length_shown capacity items = length_shown_by (is_blank capacity items) capacity items refl
+length_shown capacity items whole most some = elim (cases_Bool (is_blank capacity items)) [
+  | inl e ↦ ap length (shown_blank capacity items e) ∙ length_blank
+  | inr e ↦
+      let same : length (bytes_shown capacity items) ≡ length items = rw e refl in
+      let here : 0 < length items = omega (arith, some, same) in
+      omega (arith, whole here, same)
+]
 
 -- A chunk with memory shows 16,384 bytes.
 pub length_with_memory : (capacity : ℕ) (items : List ℕ) → (0 < length items → 16384 ≤ length items) → length items ≤ 16384 → 0 < capacity → length (bytes_shown capacity items) ≡ 16384

@@ -1,5 +1,5 @@
 -- The images that chunks show.
-use Rattle.std.proofs.Common.{◌≡◌, ◌≢◌, ℕ, ◌+◌, ◌-◌, ◌*◌, ◌/◌, ◌%◌, ◌<◌, ◌≤◌, List, [], ◌++◌, length, get_or, take, drop, replicate, Some, None, ap, refl, sym, ◌∙◌, arith, inl, inr}
+use Rattle.std.proofs.Common.{◌≡◌, ◌≢◌, ℕ, ◌+◌, ◌-◌, ◌*◌, ◌/◌, ◌%◌, ◌<◌, ◌≤◌, List, [], ◌++◌, length, get_or, take, drop, replicate, ap, refl, sym, ◌∙◌, arith, inl, inr, ◌⊎◌}
 use Rattle.std.specs.Prelude.{unwrap_or, nat_eq}
 use Rattle.std.specs.Map.{lookup}
 use Rattle.std.proofs.lemmas.Bool.{cases_lt, cases_eq}
@@ -7,8 +7,10 @@ use Rattle.std.proofs.lemmas.List.{length-replicate, get_or-replicate, ext_get_o
 use Rattle.std.proofs.lemmas.List.FromFn.{length-map-range_with_len, get_or-map-range_with_len}
 use Rattle.dma_mem.specs.Image.{put, bytes_at}
 use Rattle.dma_mem.specs.inner.ChunkTable.{AreBytesFrom, PutsInChunk, chunk_at, image_of}
-use Rattle.dma_mem.proofs.ImagePut.{length_put, get_or_put, put_put, put_same, lookup_append}
-use Rattle.dma_mem.proofs.BytesPut.{lookup_bytes_before, lookup_bytes_past, lookup_bytes_at}
+use Rattle.dma_mem.proofs.ImagePut.{length_put, get_or_put}
+use Rattle.dma_mem.proofs.BytesPut.{lookup_bytes_before, lookup_bytes_past, lookup_bytes_at, put_parts}
+use Rattle.std.proofs.Math.Seq.{take-add}
+use Rattle.dma_mem.proofs.BlockCopies.{byte_outside}
 
 -- ---- the image
 
@@ -68,52 +70,19 @@ image_of_laid size chunks new p offset bs others laid fits =
           ∙ ap (unwrap_or (lookup (nat_eq a) es)) before
           ∙ sym wanted
       | inr n ↦
-          let none : lookup (nat_eq a) es ≡ None = elim (cases_lt a (16384 * p)) [
-            | inl low ↦ lookup_bytes_before (16384 * p + offset) bs a (omega arith)
-            | inr high ↦ lookup_bytes_past (16384 * p + offset) bs a (omega arith)
-          ] in
+          let out : (a < 16384 * p + offset) ⊎ (16384 * p + offset + length bs ≤ a) = elim (cases_lt a (16384 * p)) [ inl low ↦ inl (omega arith) | inr high ↦ inr (omega arith) ] in
           shown
           ∙ ap (λ x. get_or x k 0) (others (a / 16384) n)
           ∙ sym (get_or_image_of size chunks a m)
-          ∙ sym (ap (λ o. unwrap_or o (get_or image a 0)) none)
-          ∙ sym wanted
+          ∙ sym (byte_outside image (16384 * p + offset) bs a within out)
     ])
 
 pub bytes_in_turn : (image : List ℕ) (a d n : ℕ) (bs : List ℕ) → d + n ≤ length bs → put (put image (bytes_at a (take d bs))) (bytes_at (a + d) (take n (drop d bs))) ≡ put image (bytes_at a (take (d + n) bs))
 bytes_in_turn image a d n bs h =
-    let first = bytes_at a (take d bs) in
-    let second = bytes_at (a + d) (take n (drop d bs)) in
-    let len1 : length (take d bs) ≡ d = omega (arith, length-take d bs) in
-    let len2 : length (take n (drop d bs)) ≡ n = omega (arith, length-take n (drop d bs), length-drop d bs) in
-    let len : length (take (d + n) bs) ≡ d + n = omega (arith, length-take (d + n) bs) in
-    put_put image first second
-    ∙ put_same image (second ++ first) (bytes_at a (take (d + n) bs)) (λ x.
-    let join = lookup_append (nat_eq x) second first in
-    elim (cases_lt x a) [
-      | inl low ↦
-          let s = lookup_bytes_before (a + d) (take n (drop d bs)) x (omega arith) in
-          let f = lookup_bytes_before a (take d bs) x low in
-          join ∙ rw (s, f) (sym (lookup_bytes_before a (take (d + n) bs) x low))
-      | inr high ↦ elim (cases_lt x (a + d)) [
-        | inl in_first ↦
-            let s = lookup_bytes_before (a + d) (take n (drop d bs)) x in_first in
-            let f = lookup_bytes_at a (take d bs) (x - a) x (omega arith) (omega arith) in
-            let same : get_or (take d bs) (x - a) 0 ≡ get_or (take (d + n) bs) (x - a) 0 = get_or-take d bs (x - a) 0 (omega arith) ∙ sym (get_or-take (d + n) bs (x - a) 0 (omega arith)) in
-            join ∙ rw (s, f) (ap Some same ∙ sym (lookup_bytes_at a (take (d + n) bs) (x - a) x (omega arith) (omega arith)))
-        | inr past_first ↦ elim (cases_lt x (a + d + n)) [
-          | inl in_second ↦
-              let s = lookup_bytes_at (a + d) (take n (drop d bs)) (x - (a + d)) x (omega arith) (omega arith) in
-              let back : d + (x - (a + d)) ≡ x - a = omega arith in
-              let same : get_or (take n (drop d bs)) (x - (a + d)) 0 ≡ get_or (take (d + n) bs) (x - a) 0 =
-              get_or-take n (drop d bs) (x - (a + d)) 0 (omega arith) ∙ get_or-drop d bs (x - (a + d)) 0 ∙ ap (λ i. get_or bs i 0) back ∙ sym (get_or-take (d + n) bs (x - a) 0 (omega arith)) in
-              join ∙ rw s (ap Some same ∙ sym (lookup_bytes_at a (take (d + n) bs) (x - a) x (omega arith) (omega arith)))
-          | inr past ↦
-              let s = lookup_bytes_past (a + d) (take n (drop d bs)) x (omega arith) in
-              let f = lookup_bytes_past a (take d bs) x (omega arith) in
-              join ∙ rw (s, f) (sym (lookup_bytes_past a (take (d + n) bs) x (omega arith)))
-        ]
-      ]
-    ])
+    let long : length (take d bs) ≡ d = omega (arith, length-take d bs) in
+    ap (λ k. put (put image (bytes_at a (take d bs))) (bytes_at (a + k) (take n (drop d bs)))) (sym long)
+    ∙ put_parts image a (take d bs) (take n (drop d bs))
+    ∙ ap (λ xs. put image (bytes_at a xs)) (sym (take-add d n bs))
 
 -- the bytes of the chunks from an address on are those of the image
 pub read_found : (size : ℕ) (chunks : List (List ℕ)) (addr n : ℕ) (buf : List ℕ) → length buf ≡ n → addr + n ≤ size → ((k : ℕ) → k < length buf → get_or buf k 0 ≡ get_or (chunk_at chunks ((addr + k) / 16384)) ((addr + k) % 16384) 0) → buf ≡ take n (drop addr (image_of size chunks))

@@ -48,10 +48,6 @@ chunk_at_flat_other groups g p group n =
 pub length_flat_set : (groups : List (List (List ℕ))) (g : ℕ) (group : List (List ℕ)) → length (flat (set groups g group)) ≡ length (flat groups)
 length_flat_set groups g group = length_flat (set groups g group) ∙ ap (λ n. 256 * n) (length-set groups g group) ∙ sym (length_flat groups)
 
--- chunks are known by their number and each of them
-pub same_chunks : (chunks others : List (List ℕ)) → length chunks ≡ length others → ((p : ℕ) → chunk_at chunks p ≡ chunk_at others p) → chunks ≡ others
-same_chunks chunks others e h = ext_get_or [] chunks others e (λ p l. h p)
-
 -- a chunk that has bytes is in the list
 pub within_chunks : (chunks : List (List ℕ)) (p : ℕ) → 0 < length (chunk_at chunks p) → p < length chunks
 within_chunks chunks p h = elim (cases_lt p (length chunks)) [
@@ -72,13 +68,10 @@ chunk_missing groups chunks n v h =
 pub group_within : (groups : List (List (List ℕ))) (chunks : List (List ℕ)) (n : ℕ) → flat groups ≡ chunks → n < length chunks → n / 256 < length groups
 group_within groups chunks n v h = omega (arith, length_flat groups, ap length v)
 
-pub same_place : (n p : ℕ) → n / 256 ≡ p / 256 → n % 256 ≡ p % 256 → n ≡ p
-same_place n p e f = omega arith
-
 -- a group that is put back as it was
 pub put_back : (groups : List (List (List ℕ))) (chunks : List (List ℕ)) (n : ℕ) (group new : List (List ℕ)) → flat groups ≡ chunks → group ≡ get_or groups (n / 256) group → n / 256 < length groups → ((p : ℕ) → chunk_at new p ≡ chunk_at group p) → flat (set groups (n / 256) new) ≡ chunks
 put_back groups chunks n group new v is h e =
-    same_chunks _ _ (length_flat_set groups (n / 256) new ∙ ap length v) (λ p.
+    ext_get_or [] _ _ (length_flat_set groups (n / 256) new ∙ ap length v) (λ p l.
     elim (cases_eq (p / 256) (n / 256)) [
       | inl same ↦ chunk_at_flat_same groups (n / 256) p new h same ∙ e (p % 256) ∙ chunk_found groups chunks n p group v is h same
       | inr other ↦ chunk_at_flat_other groups (n / 256) p new other ∙ ap (λ x. chunk_at x p) v
@@ -88,7 +81,7 @@ put_back groups chunks n group new v is h e =
 pub others_kept : (groups : List (List (List ℕ))) (chunks : List (List ℕ)) (n : ℕ) (group new : List (List ℕ)) → flat groups ≡ chunks → group ≡ get_or groups (n / 256) group → n / 256 < length groups → ((p : ℕ) → p ≢ n % 256 → chunk_at new p ≡ chunk_at group p) → (p : ℕ) → p ≢ n → chunk_at (flat (set groups (n / 256) new)) p ≡ chunk_at chunks p
 others_kept groups chunks n group new v is h e p other =
     elim (cases_eq (p / 256) (n / 256)) [
-      | inl same ↦ chunk_at_flat_same groups (n / 256) p new h same ∙ e (p % 256) (λ q. other (same_place p n same q)) ∙ chunk_found groups chunks n p group v is h same
+      | inl same ↦ chunk_at_flat_same groups (n / 256) p new h same ∙ e (p % 256) (λ q. other (omega arith)) ∙ chunk_found groups chunks n p group v is h same
       | inr o ↦ chunk_at_flat_other groups (n / 256) p new o ∙ ap (λ x. chunk_at x p) v
     ]
 

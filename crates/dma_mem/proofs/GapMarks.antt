@@ -1,22 +1,20 @@
 -- A burst fails at a memory's gaps as it does at marks.
 use Rattle.std.proofs.Common.{◌≡◌, ℕ, List, [], ◌∷◌, ◌++◌, Bool, true, false, ◌||◌, refl, ap, sym, ◌∙◌}
 use Rattle.std.specs.List.{list_any, range_with_len}
-use Rattle.std.proofs.lemmas.Bool.{false_from_ne_true, false≢true}
+use Rattle.std.proofs.lemmas.Bool.{false_from_ne_true, false≢true, or_parts, or_from}
 use Rattle.std.proofs.lemmas.List.Folds.{Any-from_list_any, list_any-append}
 use Rattle.dma_mem.specs.declared.segment.Segment.{Segment}
 use Rattle.dma_mem.specs.declared.marks.MarkKind.{MarkKind}
 use Rattle.dma_mem.specs.declared.marks.MarkKind.TheVariants.{Reading, Writing}
 use Rattle.dma_mem.specs.Marking.{MarkList, is_marked, lies_in, NoneMarked}
 use Rattle.dma_mem.specs.Lent.{Loan, Avoids, barred_of, lies_in_any, marks_at, stores_at, with_gaps}
-use Rattle.dma_mem.proofs.MarkHits.{list_any_or, list_any_same, or_assoc}
 use Rattle.dma_mem.proofs.SharedPlaces.{range_in}
+use Rattle.std.proofs.Math.Bool.{or_assoc}
 
-or_parts : (b c : Bool) → (b || c) ≡ false → (b ≡ false) × (c ≡ false)
-or_parts true c e = absurd (cc)
-or_parts false c e = (refl, e)
-
-or_none : (b c : Bool) → b ≡ false → c ≡ false → (b || c) ≡ false
-or_none b c e f = rw (e, f) refl
+or_exchange : (a b c d : Bool) → ((a || b) || (c || d)) ≡ ((a || c) || (b || d))
+or_exchange true b c d = refl
+or_exchange false true c d = elim c as (λ c. true ≡ (c || true)) [ true ↦ refl | false ↦ refl ]
+or_exchange false false c d = refl
 
 -- ---- one address
 
@@ -54,9 +52,11 @@ barred_gaps Writing loan addr len clear = λ a low high.
 
 -- one of some addresses is marked where one lies in a gap or one in a mark
 pub any_marked_gaps : (kind : MarkKind) (loan : Loan) (marks : MarkList) (xs : List ℕ) → list_any (is_marked kind (with_gaps loan marks)) xs ≡ (list_any (lies_in_any (barred_of kind loan)) xs || list_any (is_marked kind marks) xs)
-any_marked_gaps kind loan marks xs =
-    list_any_same (is_marked kind (with_gaps loan marks)) (λ a. lies_in_any (barred_of kind loan) a || is_marked kind marks a) (is_marked_gaps kind loan marks) xs
-    ∙ list_any_or (lies_in_any (barred_of kind loan)) (is_marked kind marks) xs
+any_marked_gaps kind loan marks [] = refl
+any_marked_gaps kind loan marks (x ∷ xs) =
+    ap (λ b. b || list_any (is_marked kind (with_gaps loan marks)) xs) (is_marked_gaps kind loan marks x)
+    ∙ ap (λ b. (lies_in_any (barred_of kind loan) x || is_marked kind marks x) || b) (any_marked_gaps kind loan marks xs)
+    ∙ or_exchange (lies_in_any (barred_of kind loan) x) (is_marked kind marks x) _ _
 
 -- an unmarked range avoids the gaps
 pub unmarked_avoids : (kind : MarkKind) (loan : Loan) (marks : MarkList) (addr len : ℕ) → NoneMarked kind (with_gaps loan marks) addr len → Avoids loan.gaps addr len
@@ -66,7 +66,7 @@ unmarked_avoids kind loan marks addr len none = barred_gaps kind loan addr len (
 -- a range that avoids the segments at which bursts of a kind fail and has no mark is unmarked
 pub avoids_unmarked : (kind : MarkKind) (loan : Loan) (marks : MarkList) (addr len : ℕ) → Avoids (barred_of kind loan) addr len → NoneMarked kind marks addr len → NoneMarked kind (with_gaps loan marks) addr len
 avoids_unmarked kind loan marks addr len clear none = λ a low high.
-    is_marked_gaps kind loan marks a ∙ or_none (lies_in_any (barred_of kind loan) a) (is_marked kind marks a) (clear a low high) (none a low high)
+    is_marked_gaps kind loan marks a ∙ or_from (lies_in_any (barred_of kind loan) a) (is_marked kind marks a) (clear a low high) (none a low high)
 
 -- a range that avoids the gaps meets none
 pub avoids_none : (gaps : List Segment) (addr len : ℕ) → Avoids gaps addr len → list_any (lies_in_any gaps) (range_with_len addr len) ≡ false

@@ -4,11 +4,11 @@ use Rattle.std.specs.Prelude.{slice_index}
 use Rattle.std.specs.List.{Contains, range_with_len}
 use Rattle.std.specs.Map.{keys_of, values_of}
 use Rattle.std.proofs.lemmas.List.{map-append, append-nil, get_or-take, get_or-drop, length-take, length-drop, ext_get_or}
-use Rattle.std.proofs.lemmas.List.FromFn.{length-range_with_len, get_or-range_with_len}
 use Rattle.std.proofs.lemmas.Map.Made.{keys_of-map_values}
 use Rattle.dma_mem.specs.Image.{put, after_moves, carried}
 use Rattle.dma_mem.specs.Places.{Apart}
 use Rattle.dma_mem.proofs.ImagePut.{put_put, put_exchange, carried_put, get_or_put_other, length_put}
+use Rattle.dma_mem.proofs.SharedPlaces.{in_range}
 
 -- ---- lists that are apart
 
@@ -67,14 +67,11 @@ pub length_after_moves : (image : List ℕ) (ms : List (ℕ × ℕ)) → length 
 unfolding after_moves
 length_after_moves image ms = length_put image (carried image ms)
 
-in_range : (addr n k : ℕ) → k < n → Contains (range_with_len addr n) (addr + k)
-in_range addr n k h = (k, omega (arith, length-range_with_len addr n), get_or-range_with_len addr n k (addr + k) h)
-
 -- so the bytes from an address on are the image's, where no move writes them
 pub bytes_after_moves : (image : List ℕ) (ms : List (ℕ × ℕ)) (addr n : ℕ) → Apart (range_with_len addr n) (keys_of ms) → take n (drop addr (after_moves image ms)) ≡ take n (drop addr image)
 bytes_after_moves image ms addr n h =
     ext_get_or 0 _ _ (simp (length-take, length-drop, length_after_moves)) (λ k l.
     let m : k < n = omega (arith, length-take n (drop addr (after_moves image ms))) in
     get_or-take n (drop addr (after_moves image ms)) k 0 m ∙ get_or-drop addr (after_moves image ms) k 0
-    ∙ get_or_after_moves_other image ms (addr + k) (h (addr + k) (in_range addr n k m))
+    ∙ get_or_after_moves_other image ms (addr + k) (h (addr + k) (in_range addr n (addr + k) (omega arith) (omega arith)))
     ∙ sym (get_or-take n (drop addr image) k 0 m ∙ get_or-drop addr image k 0))

@@ -22,19 +22,18 @@ lookup_append test (x ∷ xs) ys =
       | false ↦ lookup_append test xs ys
     ]
 
--- nothing is found where the address is no key
-pub lookup_none : {X : Type 0} (es : List (ℕ × X)) (a : ℕ) → ¬ Contains (keys_of es) a → lookup (nat_eq a) es ≡ None
-lookup_none {X} es a h =
-    let seen = Contains-keys_from_lookup eqb-true a es in
-    let by : (o : Option X) → (IsSome o → Contains (keys_of es) a) → o ≡ None = λ o. elim o as (λ o. (IsSome o → Contains (keys_of es) a) → o ≡ None) [ None ↦ λ _. refl | Some x ↦ λ f. absurd (h (f refl)) ] in
-    by (lookup (nat_eq a) es) seen
+-- nothing is found at an address, or it is a key
+lookup_cases : {X : Type 0} (es : List (ℕ × X)) (a : ℕ) → (lookup (nat_eq a) es ≡ None) ⊎ Contains (keys_of es) a
+lookup_cases {X} es a =
+    let by : (o : Option X) → (IsSome o → Contains (keys_of es) a) → (o ≡ None) ⊎ Contains (keys_of es) a = λ o. elim o as (λ o. (IsSome o → Contains (keys_of es) a) → (o ≡ None) ⊎ Contains (keys_of es) a) [ None ↦ λ _. inl refl | Some x ↦ λ f. inr (f refl) ] in
+    by (lookup (nat_eq a) es) (Contains-keys_from_lookup eqb-true a es)
+
+lookup_none : {X : Type 0} (es : List (ℕ × X)) (a : ℕ) → ¬ Contains (keys_of es) a → lookup (nat_eq a) es ≡ None
+lookup_none es a h = elim (lookup_cases es a) [ inl none ↦ none | inr key ↦ absurd (h key) ]
 
 -- an address is found in at most one of two lists whose keys are apart
-pub lookup_apart : {X : Type 0} (xs ys : List (ℕ × X)) (a : ℕ) → Apart (keys_of xs) (keys_of ys) → (lookup (nat_eq a) xs ≡ None) ⊎ (lookup (nat_eq a) ys ≡ None)
-lookup_apart {X} xs ys a h =
-    let seen = Contains-keys_from_lookup eqb-true a xs in
-    let by : (o : Option X) → (IsSome o → Contains (keys_of xs) a) → (o ≡ None) ⊎ (lookup (nat_eq a) ys ≡ None) = λ o. elim o as (λ o. (IsSome o → Contains (keys_of xs) a) → (o ≡ None) ⊎ (lookup (nat_eq a) ys ≡ None)) [ None ↦ λ _. inl refl | Some x ↦ λ f. inr (lookup_none ys a (h a (f refl))) ] in
-    by (lookup (nat_eq a) xs) seen
+lookup_apart : {X : Type 0} (xs ys : List (ℕ × X)) (a : ℕ) → Apart (keys_of xs) (keys_of ys) → (lookup (nat_eq a) xs ≡ None) ⊎ (lookup (nat_eq a) ys ≡ None)
+lookup_apart xs ys a h = elim (lookup_cases xs a) [ inl none ↦ inl none | inr key ↦ inr (lookup_none ys a (h a key)) ]
 
 -- ---- what is put
 

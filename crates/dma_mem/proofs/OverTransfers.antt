@@ -66,34 +66,29 @@ moves_writes t k a h = Contains_take k (destinations t) a (keys_in k (destinatio
 pub moves_reads : (t : Descriptor) (k a : ℕ) → Contains (values_of (moves t k)) a → Contains (sources t) a
 moves_reads t k a h = Contains_take k (sources t) a (values_in k (destinations t) (sources t) a h)
 
--- what running transfers write and read
-abbrev WritesIn : (ℕ → Type 0) → Descriptor × ℕ → Type 0
-WritesIn P r = (a : ℕ) → Contains (destinations r.0) a → P a
+-- what holds of each address that running transfers write, or read, holds of each that their moves do
+abbrev EachOf : (Descriptor → List ℕ) → (ℕ → Type 0) → Descriptor × ℕ → Type 0
+EachOf of P r = (a : ℕ) → Contains (of r.0) a → P a
 
-abbrev ReadsIn : (ℕ → Type 0) → Descriptor × ℕ → Type 0
-ReadsIn P r = (a : ℕ) → Contains (sources r.0) a → P a
-
-running_writes : (running : List (Descriptor × ℕ)) (P : ℕ → Type 0) → All (WritesIn P) running → (a : ℕ) → Contains (keys_of (moves_of running)) a → P a
-running_writes [] P all a h = absurd (omega (arith, h.1))
-running_writes (r ∷ rs) P all a h =
-    elim (Contains-append_cases (keys_of (moves r.0 r.1)) (keys_of (moves_of rs)) a (rw map-append at h)) [
-      | inl i ↦ All-head (WritesIn P) r rs all a (moves_writes r.0 r.1 a i)
-      | inr i ↦ running_writes rs P (All-tail (WritesIn P) r rs all) a i
+running_in : (part : ℕ × ℕ → ℕ) (of : Descriptor → List ℕ) → ((t : Descriptor) (k a : ℕ) → Contains (map part (moves t k)) a → Contains (of t) a) → (running : List (Descriptor × ℕ)) (P : ℕ → Type 0) → All (EachOf of P) running → (a : ℕ) → Contains (map part (moves_of running)) a → P a
+running_in part of own [] P all a h = absurd (omega (arith, h.1))
+running_in part of own (r ∷ rs) P all a h =
+    elim (Contains-append_cases (map part (moves r.0 r.1)) (map part (moves_of rs)) a (rw map-append at h)) [
+      | inl i ↦ All-head (EachOf of P) r rs all a (own r.0 r.1 a i)
+      | inr i ↦ running_in part of own rs P (All-tail (EachOf of P) r rs all) a i
     ]
 
-running_reads : (running : List (Descriptor × ℕ)) (P : ℕ → Type 0) → All (ReadsIn P) running → (a : ℕ) → Contains (values_of (moves_of running)) a → P a
-running_reads [] P all a h = absurd (omega (arith, h.1))
-running_reads (r ∷ rs) P all a h =
-    elim (Contains-append_cases (values_of (moves r.0 r.1)) (values_of (moves_of rs)) a (rw map-append at h)) [
-      | inl i ↦ All-head (ReadsIn P) r rs all a (moves_reads r.0 r.1 a i)
-      | inr i ↦ running_reads rs P (All-tail (ReadsIn P) r rs all) a i
-    ]
+running_writes : (running : List (Descriptor × ℕ)) (P : ℕ → Type 0) → All (EachOf destinations P) running → (a : ℕ) → Contains (keys_of (moves_of running)) a → P a
+running_writes = running_in (λ m. m.0) destinations moves_writes
+
+running_reads : (running : List (Descriptor × ℕ)) (P : ℕ → Type 0) → All (EachOf sources P) running → (a : ℕ) → Contains (values_of (moves_of running)) a → P a
+running_reads = running_in (λ m. m.1) sources moves_reads
 
 -- what a transfer writes is apart from what transfers that it is free of write and read
 running_apart : (t : Descriptor) (running : List (Descriptor × ℕ)) → All (λ r. IsFree t r.0) running → Apart (destinations t) (keys_of (moves_of running))
 running_apart t running all =
     let P : ℕ → Type 0 = λ a. ¬ Contains (destinations t) a in
-    let each : All (WritesIn P) running = All-weaker (λ r. IsFree t r.0) (WritesIn P) (λ r f a i j. f.writes_none a j i) running all in
+    let each : All (EachOf destinations P) running = All-weaker (λ r. IsFree t r.0) (EachOf destinations P) (λ r f a i j. f.writes_none a j i) running all in
     λ a i j. running_writes running P each a j i
 
 pub free_writes : (t : Descriptor) (k : ℕ) (running : List (Descriptor × ℕ)) → All (λ r. IsFree t r.0) running → Apart (keys_of (moves t k)) (keys_of (moves_of running))
@@ -102,7 +97,7 @@ free_writes t k running all = λ a i j. running_apart t running all a (moves_wri
 pub free_reads : (t : Descriptor) (k : ℕ) (running : List (Descriptor × ℕ)) → All (λ r. IsFree t r.0) running → Apart (values_of (moves_of running)) (keys_of (moves t k))
 free_reads t k running all =
     let P : ℕ → Type 0 = λ a. ¬ Contains (destinations t) a in
-    let each : All (ReadsIn P) running = All-weaker (λ r. IsFree t r.0) (ReadsIn P) (λ r f a i j. f.writes_no_source a j i) running all in
+    let each : All (EachOf sources P) running = All-weaker (λ r. IsFree t r.0) (EachOf sources P) (λ r f a i j. f.writes_no_source a j i) running all in
     λ a i j. running_reads running P each a i (moves_writes t k a j)
 
 -- ---- the laws
@@ -161,8 +156,8 @@ over_written image running addr bytes all =
     let P : ℕ → Type 0 = λ a. ¬ Contains range a in
     let keys : keys_of (bytes_at addr bytes) ≡ range = keys_of-zip range bytes (sym (length-range_with_len addr (length bytes))) in
     let free = λ (r : Descriptor × ℕ). ¬ Touches r.0 (range_with_len addr (length bytes)) in
-    let writes : All (WritesIn P) running = All-weaker free (WritesIn P) (λ r f a i j. f (a, j, inl i)) running all in
-    let reads : All (ReadsIn P) running = All-weaker free (ReadsIn P) (λ r f a i j. f (a, j, inr i)) running all in
+    let writes : All (EachOf destinations P) running = All-weaker free (EachOf destinations P) (λ r f a i j. f (a, j, inl i)) running all in
+    let reads : All (EachOf sources P) running = All-weaker free (EachOf sources P) (λ r f a i j. f (a, j, inr i)) running all in
     let reads' : Apart (values_of (moves_of running)) (keys_of (bytes_at addr bytes)) = rw keys (running_reads running P reads) in
     let writes' : Apart (keys_of (moves_of running)) (keys_of (bytes_at addr bytes)) = rw keys (running_writes running P writes) in
     after_moves_put image (bytes_at addr bytes) (moves_of running) reads' writes'
@@ -171,7 +166,7 @@ over_written image running addr bytes all =
 pub over_read : (image : List ℕ) (running : List (Descriptor × ℕ)) (addr n : ℕ) → All (λ r. ¬ Writes r.0 (range_with_len addr n)) running → take n (drop addr (over image running)) ≡ take n (drop addr image)
 over_read image running addr n all =
     let P : ℕ → Type 0 = λ a. ¬ Contains (range_with_len addr n) a in
-    let writes : All (WritesIn P) running = All-weaker (λ r. ¬ Writes r.0 (range_with_len addr n)) (WritesIn P) (λ r f a i j. f (a, j, i)) running all in
+    let writes : All (EachOf destinations P) running = All-weaker (λ r. ¬ Writes r.0 (range_with_len addr n)) (EachOf destinations P) (λ r f a i j. f (a, j, i)) running all in
     bytes_after_moves image (moves_of running) addr n (λ a i j. running_writes running P writes a j i)
 
 -- ---- a store, as the memory sees it

@@ -1,10 +1,10 @@
 -- What contracts see of a memory: the image of its chunks, and a flag for each page.
-use Rattle.std.proofs.Common.{◌≡◌, ℕ, ◌+◌, ◌*◌, ◌/◌, ◌%◌, ◌<◌, ◌≤◌, ◌⊎◌, List, [], ◌∷◌, length, get_or, take, drop, max, Bool, true, false, nat_lt, refl, ap, sym, ◌∙◌, subst, arith, inl, inr}
+use Rattle.std.proofs.Common.{◌≡◌, ℕ, ◌+◌, ◌*◌, ◌/◌, ◌%◌, ◌<◌, ◌≤◌, ◌⊎◌, List, [], length, get_or, take, drop, max, Bool, true, false, nat_lt, refl, ap, sym, ◌∙◌, subst, arith, inl, inr}
 use Rattle.std.specs.Prelude.{nat_le}
-use Rattle.std.specs.List.{range_with_len, Contains, list_all}
+use Rattle.std.specs.List.{range_with_len, list_all}
 use Rattle.std.proofs.lemmas.Bool.{cases_lt, lt-ltb, ltb-true, and_parts, leb-true, false_from_ne_true}
 use Rattle.std.proofs.lemmas.List.Folds.{list_all_at}
-use Rattle.std.proofs.lemmas.List.Elements.{Contains-append_right}
+use Rattle.std.proofs.lemmas.List.Elements.{Contains-get_or}
 use Rattle.std.proofs.lemmas.List.{ext_get_or, get_or_past}
 use Rattle.dma_mem.specs.Image.{put}
 use Rattle.dma_mem.specs.Pages.{Paged, Keeps, AllMade, MakesNoOther, has_page, is_made}
@@ -12,6 +12,7 @@ use Rattle.dma_mem.specs.inner.ChunkTable.{chunk_at, image_of, paged, HasChunks}
 use Rattle.dma_mem.proofs.SharedPlaces.{range_in, in_range}
 use Rattle.dma_mem.proofs.ImagePut.{length_put, get_or_put}
 use Rattle.dma_mem.proofs.ChunkImages.{length_image_of, image_of_same, read_found}
+use Rattle.std.proofs.lemmas.List.Sums.{list_all-from_AllPass}
 
 pub put_none : (image : List ℕ) → put image [] ≡ image
 put_none image = ext_get_or 0 _ _ (length_put image []) (λ a l. get_or_put image [] a (omega (arith, length_put image [])))
@@ -37,18 +38,15 @@ is_made_missing m a h = false_from_ne_true _ (λ e. let yes = (is_made_parts m a
 
 -- ---- whether all of a segment is made
 
-list_all_of : (p : ℕ → Bool) (xs : List ℕ) → ((a : ℕ) → Contains xs a → p a ≡ true) → list_all p xs ≡ true
-list_all_of p [] h = refl
-list_all_of p (x ∷ xs) h = rw (h x (0, omega arith, refl), list_all_of p xs (λ a i. h a (Contains-append_right (x ∷ []) xs a i))) refl
-
-list_all_not : (p : ℕ → Bool) (xs : List ℕ) (a : ℕ) → Contains xs a → p a ≡ false → list_all p xs ≡ false
-list_all_not p xs a i h = list_all_at p xs i.0 a i.1 (ap p i.2 ∙ h)
-
 pub segment_made : (m : Paged) (addr len : ℕ) → ((a : ℕ) → addr ≤ a → a < addr + len → is_made m a ≡ true) → list_all (is_made m) (range_with_len addr len) ≡ true
-segment_made m addr len h = list_all_of (is_made m) (range_with_len addr len) (λ a i. h a (range_in addr len a i).0 (range_in addr len a i).1)
+segment_made m addr len h = list_all-from_AllPass (is_made m) (range_with_len addr len) (λ k d l.
+    let here = range_in addr len _ (Contains-get_or (range_with_len addr len) k d l) in
+    h _ here.0 here.1)
 
 pub segment_not_made : (m : Paged) (addr len a : ℕ) → addr ≤ a → a < addr + len → is_made m a ≡ false → list_all (is_made m) (range_with_len addr len) ≡ false
-segment_not_made m addr len a low high h = list_all_not (is_made m) (range_with_len addr len) a (in_range addr len a low high) h
+segment_not_made m addr len a low high h =
+    let i = in_range addr len a low high in
+    list_all_at (is_made m) (range_with_len addr len) i.0 a i.1 (ap (is_made m) i.2 ∙ h)
 
 -- the test of a segment by the flags of its pages, which end with page `end`
 pub made_tested : (flags : List Bool) (m : Paged) (addr len end : ℕ) (r : Bool) → flags ≡ m.made → addr + len ≤ length m.image → addr + len ≤ 4096 * end → 4096 * end < addr + len + 4096 → 0 < len → (r ≡ true → (p : ℕ) → addr / 4096 ≤ p → p < end → get_or flags p false ≡ true) → (r ≡ false → (p : ℕ) × (addr / 4096 ≤ p) × (p < end) × (get_or flags p false ≡ false)) → r ≡ list_all (is_made m) (range_with_len addr len)
@@ -83,9 +81,6 @@ chunk_of_flag flags chunks a has flag =
 pub HasChunks_kept : (flags : List Bool) (old new : List (List ℕ)) → HasChunks flags old → ((p : ℕ) → 0 < length (chunk_at old p) → 0 < length (chunk_at new p)) → HasChunks flags new
 HasChunks_kept flags old new has kept = λ p flag. kept (4096 * p / 16384) (has p flag)
 
-pub HasChunks_same : (flags : List Bool) (old new : List (List ℕ)) → HasChunks flags old → ((p : ℕ) → length (chunk_at new p) ≡ length (chunk_at old p)) → HasChunks flags new
-HasChunks_same flags old new has same = HasChunks_kept flags old new has (λ p some. omega (arith, some, same p))
-
 -- the pages from `first` on to `end` were made, and no other
 pub record Flagged (old new : List Bool) (first end : ℕ) : Type 0 where
   pub inside : (p : ℕ) → first ≤ p → p < end → get_or new p false ≡ true
@@ -99,12 +94,6 @@ cases_within p first end = elim (cases_lt p first) [
     | inl within ↦ inl (high, within)
     | inr past ↦ inr (inr past)
   ]
-]
-
-pub HasChunks_flagged : (old new : List Bool) (chunks : List (List ℕ)) (first end : ℕ) → Flagged old new first end → HasChunks old chunks → ((p : ℕ) → first ≤ p → p < end → 0 < length (chunk_at chunks (4096 * p / 16384))) → HasChunks new chunks
-HasChunks_flagged old new chunks first end f has made = λ p flag. elim (cases_within p first end) [
-  | inl within ↦ made p within.0 within.1
-  | inr out ↦ has p (sym (f.outside p out) ∙ flag)
 ]
 
 pub Keeps_same : (old new : Paged) → length new.image ≡ length old.image → ((p : ℕ) → has_page new p ≡ has_page old p) → Keeps old new

@@ -2,7 +2,7 @@
 use Rattle.std.proofs.Common.{◌≡◌, ℕ, ◌+◌, ◌-◌, ◌<◌, ◌≤◌, List, [], ◌∷◌, ◌++◌, length, get_or, take, drop, set, replicate, true, false, ◌&&◌, refl, ap, sym, ◌∙◌, arith, inl, inr, zero, suc, append_assoc}
 use Rattle.std.specs.Prelude.{nat_le, ◌==◌, if◌then◌else◌}
 use Rattle.std.proofs.Math.Seq.{take-append-add, drop-append-add, map-set_same}
-use Rattle.std.proofs.lemmas.List.{length-append, length-replicate, length-map, take-append-le, drop-append-le, map-set, set-get_or, length-drop, length-take-le}
+use Rattle.std.proofs.lemmas.List.{length-append, length-replicate, length-map, take-append-le, drop-append-le, map-set, set-get_or, length-drop, length-take-le, get_or-take, get_or-drop, nil_from_length}
 use Rattle.dma_mem.specs.declared.regions.Region.{Region}
 use Rattle.dma_mem.specs.declared.segment.Segment.{Segment}
 use Rattle.std.proofs.lemmas.Bool.{cases_lt}
@@ -10,11 +10,11 @@ use Rattle.dma_mem.specs.Lent.{lies_in_any}
 use Rattle.dma_mem.specs.Image.{put, bytes_at}
 use Rattle.dma_mem.specs.Pages.{all_made}
 use Rattle.dma_mem.specs.Regions.{Piece, end_of, piece_of, pieces_of, rises_from, in_order, bytes_above, image_of, gaps_above, gaps_of, has}
-use Rattle.dma_mem.specs.inner.Rewritten.{nowhere, piece_at, Holds, Writable, Rewritten}
+use Rattle.dma_mem.specs.inner.Rewritten.{nowhere, piece_at, Holds, Writable, Rewritten, rest_from}
 use Rattle.dma_mem.proofs.ImagePut.{length_put}
 use Rattle.dma_mem.proofs.BytesPut.{put_bytes_at, put_parts}
 use Rattle.dma_mem.proofs.PageImages.{put_none}
-use Rattle.dma_mem.proofs.Pieces.{first, no_region, piece_at_of, found, length_bytes_above, image_of_most}
+use Rattle.dma_mem.proofs.Pieces.{first, no_region, piece_at_of, found, length_bytes_above, image_of_most, has_parts, rest_is, zero_shown}
 
 -- the piece at an index with other bytes
 abbrev pub with_bytes : List Piece → ℕ → List ℕ → Piece
@@ -51,10 +51,7 @@ context at (p ∷ ps) (suc i) h l =
       left = pad ++ (p.bytes ++ c.left);
       right = c.right;
       long = omega (arith, length-append pad (p.bytes ++ c.left), length-append p.bytes c.left, before);
-      is = λ bs e.
-          ap (λ (xs : List ℕ). pad ++ (p.bytes ++ xs)) (c.is bs e)
-          ∙ ap (λ (xs : List ℕ). pad ++ xs) (sym (append_assoc p.bytes c.left (bs ++ c.right)))
-          ∙ sym (append_assoc pad (p.bytes ++ c.left) (bs ++ c.right));
+      is = λ bs e. ap (λ (xs : List ℕ). pad ++ (p.bytes ++ xs)) (c.is bs e) ∙ sym (simp append_assoc);
     }
 
 -- the order and the gaps are those of the addresses and lengths
@@ -79,9 +76,7 @@ put_middle left old right start bs h =
     let same : length left + start + length bs ≡ length left + n = omega arith in
     let back : drop (length left + start + length bs) (left ++ (old ++ right)) ≡ drop n old ++ right = ap (λ (k : ℕ). drop k (left ++ (old ++ right))) same ∙ drop-append-add left (old ++ right) n ∙ drop-append-le n old right h in
     ap (λ (xs : List ℕ). left ++ (xs ++ right)) (put_bytes_at old start bs h)
-    ∙ ap (λ (xs : List ℕ). left ++ xs) (append_assoc (take start old) (bs ++ drop n old) right ∙ ap (λ (xs : List ℕ). take start old ++ xs) (append_assoc bs (drop n old) right))
-    ∙ sym (append_assoc left (take start old) (bs ++ (drop n old ++ right)))
-    ∙ sym (put_bytes_at (left ++ (old ++ right)) (length left + start) bs (omega (arith, long)) ∙ ap (λ (xs : List ℕ). xs ++ (bs ++ drop (length left + start + length bs) (left ++ (old ++ right)))) front ∙ ap (λ (xs : List ℕ). (left ++ take start old) ++ (bs ++ xs)) back)
+    ∙ simp append_assoc (sym (put_bytes_at (left ++ (old ++ right)) (length left + start) bs (omega (arith, long)) ∙ rw (front, back) (simp append_assoc)))
 
 -- the image around a piece
 around : (ps : List Piece) (i : ℕ) (h : in_order ps ≡ true) (l : i < length ps) → image_of ps ≡ (context 0 ps i h l).left ++ ((piece_at ps i).bytes ++ (context 0 ps i h l).right)
@@ -119,6 +114,31 @@ piece_shown ps i a n h l holds =
     ∙ ap (λ (m : ℕ). take n (drop m (c.left ++ (p.bytes ++ c.right)))) place
     ∙ ap (take n) (drop-append-add c.left (p.bytes ++ c.right) k ∙ drop-append-le k p.bytes c.right (omega (arith, holds.first, holds.last)))
     ∙ take-append-le n (drop k p.bytes) c.right some)
+
+-- what a piece has from an address on, the image has
+pub rest_shown : (ps : List Piece) (a n : ℕ) → in_order ps ≡ true → n ≤ length (rest_from ps a) → take n (rest_from ps a) ≡ take n (drop a (image_of ps))
+rest_shown ps a n h some = elim (rest_is ps a) [
+  | inl none ↦ let zero_n : n ≡ 0 = omega (arith, some, ap length none) in rw zero_n refl
+  | inr w ↦
+      let p = piece_at ps w.0 in
+      let parts = has_parts a p w.2 in
+      let holds : Holds ps w.0 a n = record { first = parts.0; last = omega (arith, parts.0, parts.1, some, ap length w.3, length-drop (a - p.addr) p.bytes) } in
+      ap (take n) w.3 ∙ piece_shown ps w.0 a n h w.1 holds
+]
+
+-- the byte at an address
+pub byte_shown : (ps : List Piece) (a : ℕ) → in_order ps ≡ true → get_or (image_of ps) a 0 ≡ get_or (rest_from ps a) 0 0
+byte_shown ps a h = elim (cases_lt 0 (length (rest_from ps a))) [
+  | inl some ↦
+      let e : a + 0 ≡ a = omega arith in
+      ap (λ (k : ℕ). get_or (image_of ps) k 0) (sym e)
+      ∙ sym (get_or-take 1 (drop a (image_of ps)) 0 0 (omega arith) ∙ get_or-drop a (image_of ps) 0 0)
+      ∙ ap (λ (xs : List ℕ). get_or xs 0 0) (sym (rest_shown ps a 1 h (omega arith)))
+      ∙ get_or-take 1 (rest_from ps a) 0 0 (omega arith)
+  | inr none ↦
+      let empty = nil_from_length (rest_from ps a) (omega arith) in
+      zero_shown 0 ps a a h (omega arith) empty ∙ sym (ap (λ (xs : List ℕ). get_or xs 0 0) empty)
+]
 
 -- ---- regions
 

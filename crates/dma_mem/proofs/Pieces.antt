@@ -1,9 +1,9 @@
 -- The pieces of a memory: their order, the image and the gaps that they make, and the piece that has an address.
-use Rattle.std.proofs.Common.{◌≡◌, ℕ, ◌+◌, ◌-◌, ◌<◌, ◌≤◌, List, [], ◌∷◌, ◌++◌, length, get_or, take, drop, replicate, true, false, ◌&&◌, nat_lt, refl, ap, sym, ◌∙◌, arith, inl, inr, ◌⊎◌, zero, suc}
+use Rattle.std.proofs.Common.{◌≡◌, ℕ, ◌+◌, ◌-◌, ◌<◌, ◌≤◌, List, [], ◌∷◌, ◌++◌, length, get_or, drop, replicate, true, false, ◌&&◌, nat_lt, refl, ap, sym, ◌∙◌, arith, inl, inr, ◌⊎◌, zero, suc}
 use Rattle.std.specs.Prelude.{nat_le}
 use Rattle.std.proofs.Math.ListN.{get_or-map as get_or-map_all}
-use Rattle.std.proofs.lemmas.Bool.{leb-true, le-leb, ltb-true, lt-ltb, and_parts, cases_lt, false_from_ne_true}
-use Rattle.std.proofs.lemmas.List.{ext_get_or, get_or-map, drop_more, length-append, length-replicate, length-drop, length-take-le, get_or_append_left, get_or-append_right, get_or-replicate, get_or-drop, get_or-take}
+use Rattle.std.proofs.lemmas.Bool.{leb-true, le-leb, ltb-true, lt-ltb, and_parts, cases_lt, false_from_ne_true, cases_Bool}
+use Rattle.std.proofs.lemmas.List.{get_or-map, drop_more, length-append, length-replicate, length-drop, get_or_append_left, get_or-append_right, get_or-replicate}
 use Rattle.dma_mem.specs.declared.regions.Region.{Region}
 use Rattle.dma_mem.specs.Lent.{lies_in_any}
 use Rattle.dma_mem.specs.Marking.{lies_in}
@@ -119,10 +119,6 @@ past_first_gap at p ps a out after =
     let parts = and_parts (nat_le at a) (nat_lt a (at + (p.addr - at))) e in
     elim out [ inl below ↦ omega (arith, below, leb-true at a parts.0) | inr above ↦ omega (arith, above, after, ltb-true a (at + (p.addr - at)) parts.1) ])) refl
 
-pub gaps_at : (ps : List Piece) (p : Piece) (i at a : ℕ) → i < length ps → piece_at ps i ≡ p → lies_in_any (gaps_above at (drop i ps)) a ≡ lies_in_any (gaps_above at (p ∷ drop (i + 1) ps)) a
-gaps_at ps p i at a h is =
-    ap (λ (qs : List Piece). lies_in_any (gaps_above at qs) a) (drop_at ps i h) ∙ ap (λ (q : Piece). lies_in_any (gaps_above at (q ∷ drop (i + 1) ps)) a) is
-
 -- ---- the piece that has an address
 
 pub has_from : (a : ℕ) (p : Piece) → p.addr ≤ a → a < end_of p → has a p ≡ true
@@ -165,80 +161,35 @@ rest_none (p ∷ ps) a none =
     let no : has a p ≡ false = none 0 (omega arith) in
     rw no (rest_none ps a (λ k l. none (suc k) (omega arith)))
 
-rest_below : (at : ℕ) (ps : List Piece) (a : ℕ) → rises_from at ps ≡ true → a < at → rest_from ps a ≡ []
-rest_below at [] a h low = refl
-rest_below at (p ∷ ps) a h low =
-    let f = first at p ps h in
-    let after = f.after in
-    let no : has a p ≡ false = has_not a p (inl (omega arith)) in
-    rw no (rest_below (end_of p) ps a f.rest (omega arith))
+-- there are none, or a piece has the address
+pub rest_is : (ps : List Piece) (a : ℕ) → (rest_from ps a ≡ []) ⊎ ((i : ℕ) × (i < length ps) × (has a (piece_at ps i) ≡ true) × (rest_from ps a ≡ drop (a - (piece_at ps i).addr) (piece_at ps i).bytes))
+rest_is [] a = inl refl
+rest_is (p ∷ ps) a = elim (cases_Bool (has a p)) [
+  | inl here ↦ inr (0, omega arith, here, rw here refl)
+  | inr off ↦ elim (rest_is ps a) [ inl none ↦ inl (rw off none) | inr w ↦ inr (suc w.0, omega (arith, w.1), w.2, rw off w.3) ]
+]
 
--- The image has these bytes from there on, and 0 where there are none.
-pub shown : (at : ℕ) (ps : List Piece) (k j : ℕ) → rises_from at ps ≡ true → (j ≡ 0) ⊎ (j < length (rest_from ps (at + k))) → get_or (bytes_above at ps) (k + j) 0 ≡ get_or (rest_from ps (at + k)) j 0
-shown at [] k j h w = refl
-shown at (p ∷ ps) k j h w =
+-- the image has 0 where there are none
+pub zero_shown : (at : ℕ) (ps : List Piece) (k x : ℕ) → rises_from at ps ≡ true → at + k ≡ x → rest_from ps x ≡ [] → get_or (bytes_above at ps) k 0 ≡ 0
+zero_shown at [] k x h is none = refl
+zero_shown at (p ∷ ps) k x h is none =
     let f = first at p ps h in
     let after = f.after in
     let n = p.addr - at in
     let pad : List ℕ = replicate n 0 in
     let later = bytes_above (end_of p) ps in
     let long : length pad ≡ n = length-replicate n 0 in
-    let P : List ℕ → Type 0 = λ rest. get_or (pad ++ (p.bytes ++ later)) (k + j) 0 ≡ get_or rest j 0 in
     elim (cases_lt k n) [
-      | inl below ↦
-          let no : has (at + k) p ≡ false = has_not (at + k) p (inl (omega arith)) in
-          let none : rest_from (p ∷ ps) (at + k) ≡ [] = rw no (rest_below (end_of p) ps (at + k) f.rest (omega arith)) in
-          let zero_j : j ≡ 0 = elim w [ inl z ↦ z | inr l ↦ absurd (omega (arith, l, ap length none)) ] in
-          get_or_append_left pad (p.bytes ++ later) 0 (k + j) (omega arith)
-          ∙ get_or-replicate n (k + j) 0 0 (omega arith)
-          ∙ sym (ap (λ (xs : List ℕ). get_or xs j 0) none)
-      | inr begun ↦
-          let skip : get_or (pad ++ (p.bytes ++ later)) (k + j) 0 ≡ get_or (p.bytes ++ later) (k + j - n) 0 = get_or-append_right pad (p.bytes ++ later) n (k + j) 0 long (omega arith) in
-          elim (cases_lt (at + k) (end_of p)) [
-            | inl inside ↦
-                let yes : has (at + k) p ≡ true = has_from (at + k) p (omega arith) inside in
-                let here : rest_from (p ∷ ps) (at + k) ≡ drop (at + k - p.addr) p.bytes = rw yes refl in
-                let fits : k + j - n < length p.bytes = elim w [ inl z ↦ omega arith | inr l ↦ omega (arith, l, ap length here, length-drop (at + k - p.addr) p.bytes) ] in
-                let same : k + j - n ≡ (at + k - p.addr) + j = omega arith in
-                skip
-                ∙ get_or_append_left p.bytes later 0 (k + j - n) fits
-                ∙ ap (λ (i : ℕ). get_or p.bytes i 0) same
-                ∙ sym (get_or-drop (at + k - p.addr) p.bytes j 0)
-                ∙ sym (ap (λ (xs : List ℕ). get_or xs j 0) here)
-            | inr past ↦
-                let no : has (at + k) p ≡ false = has_not (at + k) p (inr past) in
-                let here : rest_from (p ∷ ps) (at + k) ≡ rest_from ps (at + k) = rw no refl in
-                let m = at + k - end_of p in
-                let back : end_of p + m ≡ at + k = omega arith in
-                let along : rest_from ps (end_of p + m) ≡ rest_from (p ∷ ps) (at + k) = ap (rest_from ps) back ∙ sym here in
-                let w' : (j ≡ 0) ⊎ (j < length (rest_from ps (end_of p + m))) = elim w [ inl z ↦ inl z | inr l ↦ inr (omega (arith, l, ap length along)) ] in
-                let same : k + j - n - length p.bytes ≡ m + j = omega arith in
-                skip
-                ∙ get_or-append_right p.bytes later (length p.bytes) (k + j - n) 0 refl (omega arith)
-                ∙ ap (λ (i : ℕ). get_or later i 0) same
-                ∙ shown (end_of p) ps m j f.rest w'
-                ∙ ap (λ (xs : List ℕ). get_or xs j 0) along
-          ]
+      | inl below ↦ get_or_append_left pad (p.bytes ++ later) 0 k (omega arith) ∙ get_or-replicate n k 0 0 below
+      | inr begun ↦ elim (cases_lt x (end_of p)) [
+        | inl inside ↦
+            let here : rest_from (p ∷ ps) x ≡ drop (x - p.addr) p.bytes = rw (has_from x p (omega arith) inside) refl in
+            absurd (omega (arith, ap length here, ap length none, length-drop (x - p.addr) p.bytes))
+        | inr past ↦
+            let no = has_not x p (inr past) in
+            let on : rest_from ps x ≡ [] = rw no at none in
+            get_or-append_right pad (p.bytes ++ later) n k 0 long begun
+            ∙ get_or-append_right p.bytes later (length p.bytes) (k - n) 0 refl (omega arith)
+            ∙ zero_shown (end_of p) ps (k - n - length p.bytes) x f.rest (omega arith) on
+      ]
     ]
-
--- the byte at an address
-pub byte_shown : (ps : List Piece) (a : ℕ) → in_order ps ≡ true → get_or (image_of ps) a 0 ≡ get_or (rest_from ps a) 0 0
-byte_shown ps a h =
-    let e : a + 0 ≡ a = omega arith in
-    let f : 0 + a ≡ a = omega arith in
-    ap (λ (k : ℕ). get_or (image_of ps) k 0) (sym e) ∙ shown 0 ps a 0 h (inl refl) ∙ ap (λ (k : ℕ). get_or (rest_from ps k) 0 0) f
-
--- what a piece has from an address on, the image has
-pub rest_shown : (ps : List Piece) (a n : ℕ) → in_order ps ≡ true → n ≤ length (rest_from ps a) → a + n ≤ length (image_of ps) → take n (rest_from ps a) ≡ take n (drop a (image_of ps))
-rest_shown ps a n h some within =
-    let image = image_of ps in
-    let f : 0 + a ≡ a = omega arith in
-    let one : length (take n (rest_from ps a)) ≡ n = length-take-le n (rest_from ps a) some in
-    let two : length (take n (drop a image)) ≡ n = length-take-le n (drop a image) (omega (arith, length-drop a image)) in
-    ext_get_or 0 _ _ (one ∙ sym two) (λ j l.
-    let less : j < n = omega arith in
-    let w : (j ≡ 0) ⊎ (j < length (rest_from ps (0 + a))) = inr (omega (arith, ap (λ (k : ℕ). length (rest_from ps k)) f)) in
-    get_or-take n (rest_from ps a) j 0 less
-    ∙ sym (ap (λ (k : ℕ). get_or (rest_from ps k) j 0) f)
-    ∙ sym (shown 0 ps a j h w)
-    ∙ sym (get_or-take n (drop a image) j 0 less ∙ get_or-drop a image j 0))

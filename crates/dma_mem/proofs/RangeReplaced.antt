@@ -1,107 +1,39 @@
 -- Ordered ranges of which some are replaced by one range.
-use Rattle.std.proofs.Common.{◌≡◌, ℕ, ◌+◌, ◌-◌, ◌<◌, ◌≤◌, ◌⊎◌, List, ◌∷◌, ◌++◌, length, get_or, take, drop, refl, ap, sym, ◌∙◌, subst, arith, inl, inr, length-append, length-take, length-drop, suc, Result, Ok, Err}
+use Rattle.std.proofs.Common.{◌≡◌, ℕ, ◌+◌, ◌-◌, ◌<◌, ◌≤◌, List, ◌∷◌, ◌++◌, length, get_or, take, drop, ap, sym, ◌∙◌, subst, arith, inl, inr, length-take, length-drop, Result, Ok, Err, All}
 use Rattle.std.specs.Prelude.{OnOk, OnErr}
 use Rattle.std.specs.List.{Contains}
 use Rattle.std.specs.List.Sorted.{IsNonDecreasingBy}
 use Rattle.std.proofs.lemmas.Bool.{cases_lt}
-use Rattle.std.proofs.lemmas.List.Sorted.{IsNonDecreasingBy-from_default}
-use Rattle.std.proofs.lemmas.List.{get_or_append_left, get_or-append_right, get_or-take, get_or-drop}
+use Rattle.std.proofs.lemmas.List.Sorted.{IsNonDecreasingBy-from_all_adjacent, IsNonDecreasingBy-take, IsNonDecreasingBy-drop}
+use Rattle.std.proofs.lemmas.List.{get_or-take, get_or-drop, take-append-drop}
 use Rattle.dma_mem.specs.declared.segment.Segment.{Segment}
 use Rattle.dma_mem.specs.Places.{places}
 use Rattle.dma_mem.specs.inner.RangesInOrder.{IsOrdered, AddsAddresses}
 use Rattle.dma_mem.proofs.SharedPlaces.{in_range, range_in}
-use Rattle.dma_mem.proofs.RangeSets.{Lies, in_places, places_in, nowhere, BeginBelow, EndBy}
+use Rattle.dma_mem.proofs.RangeSets.{Lies, in_places, places_in, nowhere, BeginBelow, EndBy, place_here, place_later, places_cons}
+use Rattle.std.proofs.lemmas.List.Elements.{All-append, All-cons, All-contains, All-drop, All-take, Contains-append_cases, Contains-append_left, Contains-append_right}
+use Rattle.std.proofs.lemmas.List.Kept.{AllPairs-cons}
+use Rattle.std.proofs.lemmas.Grind.{flat_map-append}
+use Rattle.dma_mem.proofs.TransferRules.{AllPairs_append}
 
 -- the ranges with s in the place of those from `first` up to `past`
 abbrev pub placed : List Segment → ℕ → ℕ → Segment → List Segment
 placed rs first past s = take first rs ++ s ∷ drop past rs
 
-length_placed : (rs : List Segment) (first past : ℕ) (s : Segment) → first ≤ past → past ≤ length rs → length (placed rs first past s) ≡ first + 1 + (length rs - past)
-length_placed rs first past s h l = omega (arith, length-append (take first rs) (s ∷ drop past rs), length-take first rs, length-drop past rs)
-
-at_front : (rs : List Segment) (first past : ℕ) (s : Segment) (k : ℕ) (d : Segment) → first ≤ length rs → k < first → get_or (placed rs first past s) k d ≡ get_or rs k d
-at_front rs first past s k d l h = get_or_append_left (take first rs) (s ∷ drop past rs) d k (omega (arith, length-take first rs)) ∙ get_or-take first rs k d h
-
-at_middle : (rs : List Segment) (first past : ℕ) (s : Segment) (d : Segment) → first ≤ length rs → get_or (placed rs first past s) first d ≡ s
-at_middle rs first past s d l =
-    let n : first - length (take first rs) ≡ 0 = omega (arith, length-take first rs) in
-    get_or-append_right (take first rs) (s ∷ drop past rs) (length (take first rs)) first d refl (omega (arith, length-take first rs))
-    ∙ ap (λ i. get_or (s ∷ drop past rs) i d) n
-
-at_back : (rs : List Segment) (first past : ℕ) (s : Segment) (k : ℕ) (d : Segment) → first ≤ length rs → get_or (placed rs first past s) (first + 1 + k) d ≡ get_or rs (past + k) d
-at_back rs first past s k d l =
-    let n : first + 1 + k - length (take first rs) ≡ suc k = omega (arith, length-take first rs) in
-    get_or-append_right (take first rs) (s ∷ drop past rs) (length (take first rs)) (first + 1 + k) d refl (omega (arith, length-take first rs))
-    ∙ ap (λ i. get_or (s ∷ drop past rs) i d) n
-    ∙ get_or-drop past rs k d
-
--- what is at a place of them: a range from before, s, or a range from behind
-record Before (rs : List Segment) (first past : ℕ) (s : Segment) (k : ℕ) (d : Segment) : Type 0 where
-  low : k < first
-  is : get_or (placed rs first past s) k d ≡ get_or rs k d
-
-record Here (rs : List Segment) (first past : ℕ) (s : Segment) (k : ℕ) (d : Segment) : Type 0 where
-  at : k ≡ first
-  is : get_or (placed rs first past s) k d ≡ s
-
-record Behind (rs : List Segment) (first past : ℕ) (s : Segment) (k : ℕ) (d : Segment) : Type 0 where
-  from : ℕ
-  high : past ≤ from
-  within : from < length rs
-  at : k + past ≡ from + first + 1
-  is : get_or (placed rs first past s) k d ≡ get_or rs from d
-
-place_of : (rs : List Segment) (first past : ℕ) (s : Segment) (k : ℕ) (d : Segment) → first ≤ past → past ≤ length rs → k < length (placed rs first past s) → Before rs first past s k d ⊎ (Here rs first past s k d ⊎ Behind rs first past s k d)
-place_of rs first past s k d h l m = elim (cases_lt k first) [
-  | inl low ↦ inl (record { low = low; is = at_front rs first past s k d (omega arith) low })
-  | inr more ↦ inr (elim (cases_lt first k) [
-    | inr same_ ↦
-        let is : k ≡ first = omega arith in
-        inl (record { at = is; is = ap (λ i. get_or (placed rs first past s) i d) is ∙ at_middle rs first past s d (omega arith) })
-    | inl high ↦
-        let i = k - first - 1 in
-        let is : k ≡ first + 1 + i = omega arith in
-        inr (record {
-          from = past + i;
-          high = omega arith;
-          within = omega (arith, length_placed rs first past s h l);
-          at = omega arith;
-          is = ap (λ j. get_or (placed rs first past s) j d) is ∙ at_back rs first past s i d (omega arith);
-        })
-  ])
-]
+-- the addresses of ranges, in two parts
+places_parts : (n : ℕ) (rs : List Segment) → places rs ≡ places (take n rs) ++ places (drop n rs)
+places_parts n rs = ap places (sym (take-append-drop n rs)) ∙ flat_map-append _ (take n rs) (drop n rs)
 
 -- a measure that doesn't fall over the ranges, at most that of s before it and at least that of s behind it
-pub rises_placed : (n : Segment → ℕ) (rs : List Segment) (first past : ℕ) (s : Segment) → first ≤ past → past ≤ length rs → IsNonDecreasingBy n rs → ((k : ℕ) → k < first → n (get_or rs k nowhere) ≤ n s) → ((k : ℕ) → past ≤ k → k < length rs → n s ≤ n (get_or rs k nowhere)) → IsNonDecreasingBy n (placed rs first past s)
-rises_placed n rs first past s h l up before behind =
-    IsNonDecreasingBy-from_default n (placed rs first past s) nowhere (λ i j m p.
-    let at_i = place_of rs first past s i nowhere h l (omega arith) in
-    let at_j = place_of rs first past s j nowhere h l p in
-    elim at_i [
-      | inl a ↦ elim at_j [
-        | inl b ↦ omega (arith, ap n a.is, ap n b.is, up i j nowhere m (omega (arith, b.low)))
-        | inr b ↦ elim b [
-          | inl c ↦ omega (arith, ap n a.is, ap n c.is, before i a.low)
-          | inr c ↦ omega (arith, ap n a.is, ap n c.is, up i c.from nowhere (omega (arith, a.low, c.high)) c.within)
-        ]
-      ]
-      | inr a ↦ elim a [
-        | inl e ↦ elim at_j [
-          | inl b ↦ absurd (omega (arith, e.at, b.low))
-          | inr b ↦ elim b [
-            | inl c ↦ omega (arith, ap n e.is, ap n c.is)
-            | inr c ↦ omega (arith, ap n e.is, ap n c.is, behind c.from c.high c.within)
-          ]
-        ]
-        | inr e ↦ elim at_j [
-          | inl b ↦ absurd (omega (arith, e.at, e.high, b.low))
-          | inr b ↦ elim b [
-            | inl c ↦ absurd (omega (arith, e.at, e.high, c.at))
-            | inr c ↦ omega (arith, ap n e.is, ap n c.is, up e.from c.from nowhere (omega (arith, e.at, c.at)) c.within)
-          ]
-        ]
-      ]
-    ])
+rises_placed : (n : Segment → ℕ) (rs : List Segment) (first past : ℕ) (s : Segment) → IsNonDecreasingBy n rs → ((k : ℕ) (d : Segment) → k < first → k < length rs → n (get_or rs k d) ≤ n s) → ((k : ℕ) (d : Segment) → past ≤ k → k < length rs → n s ≤ n (get_or rs k d)) → IsNonDecreasingBy n (placed rs first past s)
+rises_placed n rs first past s up before behind =
+    let left : All (λ t. n t ≤ n s) (take first rs) = λ k d l. rw (get_or-take first rs k d (omega (arith, length-take first rs))) (before k d (omega (arith, length-take first rs)) (omega (arith, length-take first rs))) in
+    let right : All (λ t. n s ≤ n t) (drop past rs) = λ k d l. rw get_or-drop (behind (past + k) d (omega arith) (omega (arith, length-drop past rs))) in
+    let pairs = AllPairs_append (λ x y. n x ≤ n y) (take first rs) (s ∷ drop past rs)
+    (λ i j d l m. IsNonDecreasingBy-take n first rs up i j d (omega arith) m)
+    (AllPairs-cons (λ x y. n x ≤ n y) s (drop past rs) right (λ i j d l m. IsNonDecreasingBy-drop n past rs up i j d (omega arith) m))
+    (λ x y i j. omega (arith, All-contains (λ t. n t ≤ n s) (take first rs) x left i, All-contains (λ t. n s ≤ n t) (s ∷ drop past rs) y (All-cons (λ t. n s ≤ n t) s (drop past rs) (omega arith) right) j)) in
+    IsNonDecreasingBy-from_all_adjacent n (placed rs first past s) (λ k d l. pairs k (k + 1) d (omega arith) l)
 
 -- those that lie in s are the ranges from `first` up to `past`
 pub record Found (rs : List Segment) (first past : ℕ) (s : Segment) : Type 0 where
@@ -110,56 +42,45 @@ pub record Found (rs : List Segment) (first past : ℕ) (s : Segment) : Type 0 w
   pub begins : BeginBelow s.addr rs first
   pub ends : EndBy (s.addr + s.len) rs past
 
-pub ordered_placed : (rs : List Segment) (first past : ℕ) (s : Segment) → IsOrdered rs → 0 < s.len → first ≤ past → Found rs first past s → IsOrdered (placed rs first past s)
+ordered_placed : (rs : List Segment) (first past : ℕ) (s : Segment) → IsOrdered rs → 0 < s.len → first ≤ past → Found rs first past s → IsOrdered (placed rs first past s)
 ordered_placed rs first past s o some order f = record {
-  filled = λ k d l. elim (place_of rs first past s k d order f.bound l) [
-    | inl a ↦ subst (λ (t : Segment). 0 < t.len) (sym a.is) (o.filled k d (omega (arith, a.low, order, f.bound)))
-    | inr a ↦ elim a [
-      | inl b ↦ subst (λ (t : Segment). 0 < t.len) (sym b.is) some
-      | inr b ↦ subst (λ (t : Segment). 0 < t.len) (sym b.is) (o.filled b.from d b.within)
-    ]
-  ];
-  starts = rises_placed (λ (t : Segment). t.addr) rs first past s order f.bound o.starts
-      (λ k l. omega (arith, f.begins.0 k nowhere (omega arith) l))
-      (λ k l m. omega (arith, f.begins.1 k nowhere (omega (arith, order)) m));
-  ends = rises_placed (λ (t : Segment). t.addr + t.len) rs first past s order f.bound o.ends
-      (λ k l. omega (arith, f.ends.0 k nowhere (omega arith) (omega (arith, order))))
-      (λ k l m. omega (arith, f.ends.1 k nowhere l m));
+  filled =
+      let some_in : Segment → Type 0 = λ t. 0 < t.len in
+      All-append some_in (take first rs) (s ∷ drop past rs) (All-take some_in first rs o.filled) (All-cons some_in s (drop past rs) some (All-drop some_in past rs o.filled));
+  starts = rises_placed (λ (t : Segment). t.addr) rs first past s o.starts
+      (λ k d l m. omega (arith, f.begins.0 k d (omega arith) l))
+      (λ k d l m. omega (arith, f.begins.1 k d (omega (arith, order)) m));
+  ends = rises_placed (λ (t : Segment). t.addr + t.len) rs first past s o.ends
+      (λ k d l m. omega (arith, f.ends.0 k d (omega arith) (omega (arith, order))))
+      (λ k d l m. omega (arith, f.ends.1 k d l m));
 }
 
-pub adds_placed : (rs : List Segment) (first past : ℕ) (s : Segment) → first ≤ past → Found rs first past s → AddsAddresses rs (placed rs first past s) s
-adds_placed rs first past s order f =
-    let all = placed rs first past s in
-    let long = length_placed rs first past s order f.bound in
-    let front = f.front in
-    λ a. (
-      λ i.
-          let w = places_in all nowhere a i in
-          elim (place_of rs first past s w.k nowhere order f.bound w.within) [
-            | inl b ↦ inl (in_places rs w.k nowhere a (omega (arith, b.low, front)) (subst (λ (t : Segment). Lies t a) b.is w.lies))
-            | inr b ↦ elim b [
-              | inl e ↦ let lies : Lies s a = subst (λ (t : Segment). Lies t a) e.is w.lies in inr (in_range s.addr s.len a lies.0 lies.1)
-              | inr e ↦ inl (in_places rs e.from nowhere a e.within (subst (λ (t : Segment). Lies t a) e.is w.lies))
+adds_placed : (rs : List Segment) (first past : ℕ) (s : Segment) → first ≤ past → Found rs first past s → AddsAddresses rs (placed rs first past s) s
+adds_placed rs first past s order f = λ a.
+    let all : places (placed rs first past s) ≡ places (take first rs) ++ places (s ∷ drop past rs) = flat_map-append _ (take first rs) (s ∷ drop past rs) in
+    let from = λ (i : Contains (places (take first rs) ++ places (s ∷ drop past rs)) a). subst (λ xs. Contains xs a) (sym all) i in
+    let here = λ (lies : Lies s a). from (Contains-append_right _ _ a (place_here s (drop past rs) a lies)) in (
+      λ i. elim (Contains-append_cases _ _ a (subst (λ xs. Contains xs a) all i)) [
+        | inl before ↦ inl (subst (λ xs. Contains xs a) (sym (places_parts first rs)) (Contains-append_left _ _ a before))
+        | inr more ↦ elim (places_cons s (drop past rs) a more) [
+          | inl lies ↦ inr (in_range s.addr s.len a lies.0 lies.1)
+          | inr behind ↦ inl (subst (λ xs. Contains xs a) (sym (places_parts past rs)) (Contains-append_right _ _ a behind))
+        ]
+      ],
+      λ i. elim i [
+        | inr in_s ↦ here (range_in s.addr s.len a in_s)
+        | inl old ↦
+            let w = places_in rs nowhere a old in
+            elim (cases_lt w.k first) [
+              | inl low ↦ from (Contains-append_left _ _ a (in_places (take first rs) w.k nowhere a (omega (arith, w.within, length-take first rs)) (rw (get_or-take first rs w.k nowhere low) w.lies)))
+              | inr more ↦ elim (cases_lt w.k past) [
+                | inl inner ↦ here (omega (arith, f.begins.1 w.k nowhere more w.within, w.lies.0), omega (arith, f.ends.0 w.k nowhere (omega arith) inner, w.lies.1))
+                | inr high ↦
+                    let is : past + (w.k - past) ≡ w.k = omega arith in
+                    from (Contains-append_right _ _ a (place_later s (drop past rs) a (in_places (drop past rs) (w.k - past) nowhere a (omega (arith, w.within, length-drop past rs)) (rw (get_or-drop, is) w.lies))))
+              ]
             ]
-          ],
-      λ i.
-          let here : Lies s a → Contains (places all) a = λ lies. in_places all first nowhere a (omega (arith, long)) (subst (λ (t : Segment). Lies t a) (sym (at_middle rs first past s nowhere front)) lies) in
-          elim i [
-            | inr in_s ↦ here (range_in s.addr s.len a in_s)
-            | inl old ↦
-                let w = places_in rs nowhere a old in
-                elim (cases_lt w.k first) [
-                  | inl low ↦ in_places all w.k nowhere a (omega (arith, long)) (subst (λ (t : Segment). Lies t a) (sym (at_front rs first past s w.k nowhere front low)) w.lies)
-                  | inr more ↦ elim (cases_lt w.k past) [
-                    | inl inner ↦ here (omega (arith, f.begins.1 w.k nowhere more w.within, w.lies.0), omega (arith, f.ends.0 w.k nowhere (omega arith) inner, w.lies.1))
-                    | inr high ↦
-                        let j = w.k - past in
-                        let is : past + j ≡ w.k = omega arith in
-                        let back : get_or rs w.k nowhere ≡ get_or all (first + 1 + j) nowhere = ap (λ n. get_or rs n nowhere) (sym is) ∙ sym (at_back rs first past s j nowhere front) in
-                        in_places all (first + 1 + j) nowhere a (omega (arith, long, w.within)) (subst (λ (t : Segment). Lies t a) back w.lies)
-                  ]
-                ]
-          ],
+      ],
     )
 
 -- s lies in one of the ranges, or is empty: there is nothing to add

@@ -1,19 +1,20 @@
 -- Ranges in order, and the addresses of segments.
 use Rattle.std.proofs.Common.{◌≡◌, ℕ, ◌+◌, ◌-◌, ◌<◌, ◌≤◌, ◌⊎◌, List, [], ◌∷◌, length, get_or, max, Bool, true, false, ◌||◌, refl, ap, sym, ◌∙◌, subst, arith, inl, inr, zero, suc, All}
-use Rattle.std.specs.Prelude.{MatchBool, ◌↔◌, not}
-use Rattle.std.specs.List.{Contains, list_any}
+use Rattle.std.specs.Prelude.{MatchBool, not}
+use Rattle.std.specs.List.{Contains}
 use Rattle.std.specs.List.Sorted.{IsPermutation, IsNonDecreasingBy, IsPartitionPoint}
 use Rattle.std.specs.List.Retain.{DedupsFrom, IsDeduped}
 use Rattle.std.proofs.lemmas.Bool.{leb-true, leb-false, cases_lt}
 use Rattle.std.proofs.lemmas.List.Elements.{All-head, All-tail, All-cons, All-weaker, Contains-append_left, Contains-append_right, Contains-append_cases, Contains-get_or}
 use Rattle.std.proofs.lemmas.List.Kept.{AllPairs-cons}
-use Rattle.std.proofs.lemmas.List.Sorted.{Contains-permutation, IsPermutation-sym}
+use Rattle.std.proofs.lemmas.List.Sorted.{Contains-permutation, IsPermutation-sym, IsNonDecreasingBy-from_all_adjacent}
 use Rattle.dma_mem.specs.declared.segment.Segment.{Segment}
 use Rattle.dma_mem.specs.Places.{Descriptor, places, share, range_of, sources, destinations, writes, touches, is_free_of}
 use Rattle.dma_mem.specs.Rules.{IsTransfer}
 use Rattle.dma_mem.specs.Ranges.{IsCoalesced, HasSources, SameAddresses}
 use Rattle.dma_mem.specs.inner.RangesInOrder.{IsOrdered, IsClearOf, Joins}
-use Rattle.dma_mem.proofs.SharedPlaces.{share_true, share_none, shared_by, in_range, range_in, share_append_left}
+use Rattle.dma_mem.proofs.SharedPlaces.{share_true, share_none, shared_by, in_range, range_in, same_bool}
+pub use Rattle.dma_mem.proofs.SharedPlaces.{share_right}
 use Rattle.dma_mem.proofs.TransferRules.{same_sources}
 
 -- ---- the addresses of a list
@@ -187,14 +188,6 @@ module _ {S : Type 0} (R : S → Segment → Segment → Bool → S → Segment 
 
 -- ---- the search
 
-pub same_tests : (b c : Bool) → (b ≡ true → c ≡ true) → (c ≡ true → b ≡ true) → b ≡ c
-same_tests true c f g = sym (f refl)
-same_tests false true f g = g refl
-same_tests false false f g = refl
-
-same_index : (i j : ℕ) → i ≤ j → j ≤ i → i ≡ j
-same_index i j l m = omega arith
-
 -- how many of the ranges begin below an address, which are the first ones, and how many end at an address or below it
 abbrev pub BeginBelow : ℕ → List Segment → ℕ → Type 0
 BeginBelow addr rs first = IsPartitionPoint (λ (r : Segment). r.addr < addr) (λ r. addr ≤ r.addr) rs first
@@ -209,7 +202,7 @@ meets_first rs first s o p within =
     let r = get_or rs first nowhere in
     let filled : 0 < r.len = o.filled first nowhere within in
     let after : s.addr < r.addr + r.len = p.1 first nowhere (omega arith) within in
-    same_tests _ _
+    same_bool _ _
     (λ h. let w = shared_by _ _ h in share_true _ _ w.0 w.1 (in_places rs first nowhere w.0 within (range_in r.addr r.len w.0 w.2)))
     (λ h.
     let w = shared_by _ _ h in
@@ -278,8 +271,8 @@ none_at_all rs s none = share_none _ _ (λ a i j. let at = places_in rs nowhere 
 pub ordered_from : (rs : List Segment) → IsCoalesced rs → IsOrdered rs
 ordered_from rs h = record {
   filled = h.filled;
-  starts = λ i j d l m. elim (cases_lt i j) [ inl low ↦ omega (arith, h.apart i j d low m) | inr same_ ↦ omega (arith, ap (λ k. (get_or rs k d).addr) (same_index i j l same_)) ];
-  ends = λ i j d l m. elim (cases_lt i j) [ inl low ↦ omega (arith, h.apart i j d low m) | inr same_ ↦ omega (arith, ap (λ k. (get_or rs k d).addr + (get_or rs k d).len) (same_index i j l same_)) ];
+  starts = IsNonDecreasingBy-from_all_adjacent (λ (s : Segment). s.addr) rs (λ k d l. omega (arith, h.apart k (k + 1) d (omega arith) l));
+  ends = IsNonDecreasingBy-from_all_adjacent (λ (s : Segment). s.addr + s.len) rs (λ k d l. omega (arith, h.apart k (k + 1) d (omega arith) l));
 }
 
 -- ---- one list for each set of addresses
@@ -346,16 +339,7 @@ coalesced_same (x ∷ xs) (y ∷ ys) h k same =
     let rest = coalesced_same xs ys (coalesced_rest x xs h) (coalesced_rest y ys k) (same_rest x xs ys h k' same') in
     ap (λ (s : Segment). s ∷ xs) (sym one) ∙ ap (λ l. y ∷ l) rest
 
--- a list has an address of the set where one of its segments has
-pub share_each : (list : List Segment) (ys : List ℕ) → list_any (λ s. share (range_of s) ys) list ≡ share (places list) ys
-share_each [] ys = sym (share_none [] ys (λ a i j. omega (arith, i.1)))
-share_each (s ∷ rest) ys = ap (λ b. share (range_of s) ys || b) (share_each rest ys) ∙ sym (share_append_left (range_of s) (places rest) ys)
-
 -- ---- sets of addresses in place of the lists that they were made of
-
-pub share_right : (xs ys zs : List ℕ) → ((a : ℕ) → Contains ys a ↔ Contains zs a) → share xs ys ≡ share xs zs
-share_right xs ys zs h =
-    same_tests _ _ (λ e. let w = shared_by xs ys e in share_true xs zs w.0 w.1 ((h w.0).0 w.2)) (λ e. let w = shared_by xs zs e in share_true xs ys w.0 w.1 ((h w.0).1 w.2))
 
 -- ranges of a source list are ranges of the sources
 pub sources_from : (src : List Segment) (t : Descriptor) → IsTransfer t → SameAddresses src t.src → HasSources src t

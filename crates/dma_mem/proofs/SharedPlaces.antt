@@ -12,6 +12,7 @@ use Rattle.std.proofs.lemmas.List.Sums.{AllPass-from_list_all}
 use Rattle.dma_mem.specs.declared.segment.Segment.{Segment}
 use Rattle.dma_mem.specs.Places.{Apart, Descriptor, all_below, share, is_free_of, touches, writes, places, sources, destinations}
 use Rattle.dma_mem.specs.Meeting.{IsFree}
+use Rattle.std.proofs.lemmas.Bool.Decides.{same_from_decides}
 
 pub share_false : (xs ys : List ℕ) → share xs ys ≡ false → Apart xs ys
 unfolding share
@@ -67,6 +68,19 @@ shared_by xs ys h =
     let w = Any-from_list_any (λ a. list_any (nat_eq a) ys) xs h in
     (w.1, (w.0, w.2, w.3), Contains-from_any eqb-true w.1 ys w.4)
 
+pub same_bool : (a b : Bool) → (a ≡ true → b ≡ true) → (b ≡ true → a ≡ true) → a ≡ b
+same_bool a b f g = same_from_decides a b (f, g) (λ e. e, λ e. e)
+
+pub share_sym : (xs ys : List ℕ) → share xs ys ≡ share ys xs
+share_sym xs ys =
+    same_bool (share xs ys) (share ys xs)
+    (λ h. let w = shared_by xs ys h in share_true ys xs w.0 w.2 w.1)
+    (λ h. let w = shared_by ys xs h in share_true xs ys w.0 w.2 w.1)
+
+pub share_right : (xs ys zs : List ℕ) → ((a : ℕ) → Contains ys a ↔ Contains zs a) → share xs ys ≡ share xs zs
+share_right xs ys zs h =
+    same_bool _ _ (λ e. let w = shared_by xs ys e in share_true xs zs w.0 w.1 ((h w.0).0 w.2)) (λ e. let w = shared_by xs zs e in share_true xs ys w.0 w.1 ((h w.0).1 w.2))
+
 -- two ranges of addresses
 pub in_range : (a n x : ℕ) → a ≤ x → x < a + n → Contains (range_with_len a n) x
 in_range a n x low high =
@@ -99,23 +113,12 @@ ranges_tested a m b n x y p q h d e = elim (cases_lt x y) [
 pub share_iff : (xs ys : List ℕ) (r : Bool) → r ≡ share xs ys → IsTrue r ↔ ((a : ℕ) × Contains xs a × Contains ys a)
 share_iff xs ys r e = (λ h. shared_by xs ys (sym e ∙ h), λ (a, i, j). e ∙ share_true xs ys a i j)
 
-or_exchange : (a b c d : Bool) → ((a || b) || (c || d)) ≡ ((a || c) || (b || d))
-or_exchange true b c d = refl
-or_exchange false true c d = elim c as (λ c. true ≡ (c || true)) [ true ↦ refl | false ↦ refl ]
-or_exchange false false c d = refl
-
-pub share_append_right : (xs ys zs : List ℕ) → share xs (ys ++ zs) ≡ (share xs ys || share xs zs)
-unfolding share
-share_append_right [] ys zs = refl
-share_append_right (x ∷ xs) ys zs =
-    let e = share_append_right xs ys zs in
-    ap (λ b. b || share xs (ys ++ zs)) (list_any-append (nat_eq x) ys zs)
-    ∙ ap (λ b. (list_any (nat_eq x) ys || list_any (nat_eq x) zs) || b) e
-    ∙ or_exchange (list_any (nat_eq x) ys) (list_any (nat_eq x) zs) (share xs ys) (share xs zs)
-
 pub share_append_left : (xs ys zs : List ℕ) → share (xs ++ ys) zs ≡ (share xs zs || share ys zs)
 unfolding share
 share_append_left xs ys zs = list_any-append (λ a. list_any (nat_eq a) zs) xs ys
+
+share_append_right : (xs ys zs : List ℕ) → share xs (ys ++ zs) ≡ (share xs ys || share xs zs)
+share_append_right xs ys zs = share_sym xs (ys ++ zs) ∙ share_append_left ys zs xs ∙ rw (share_sym ys xs, share_sym zs xs) refl
 
 -- a list is met where one of its segments is
 pub share_places : (xs : List ℕ) (list : List Segment) → list_any (λ s. share xs (range_with_len s.addr s.len)) list ≡ share xs (places list)
@@ -123,6 +126,12 @@ share_places xs [] = sym (share_none xs [] (λ a i j. omega (arith, j.1)))
 share_places xs (s ∷ rest) =
     ap (λ b. share xs (range_with_len s.addr s.len) || b) (share_places xs rest)
     ∙ sym (share_append_right xs (range_with_len s.addr s.len) (places rest))
+
+-- a list has an address of the set where one of its segments has
+pub share_each : (list : List Segment) (ys : List ℕ) → list_any (λ s. share (range_with_len s.addr s.len) ys) list ≡ share (places list) ys
+share_each [] ys = sym (share_none [] ys (λ a i j. omega (arith, i.1)))
+share_each (s ∷ rest) ys =
+    ap (λ b. share (range_with_len s.addr s.len) ys || b) (share_each rest ys) ∙ sym (share_append_left (range_with_len s.addr s.len) (places rest) ys)
 
 -- each segment of a list that lies below a size ends there at most
 pub ends_below : (list : List Segment) (size i : ℕ) (d : Segment) → all_below list size ≡ true → i < length list → (get_or list i d).addr + (get_or list i d).len ≤ size

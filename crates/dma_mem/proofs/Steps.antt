@@ -77,18 +77,6 @@ pub taken_none : (goes_on : ℕ → Bool) (most : ℕ) → (most ≡ 0) ⊎ (goe
 taken_none goes_on most none =
     taken_is goes_on most 0 (omega arith) (λ k less. absurd (omega arith)) (elim none [ inl e ↦ inl (sym e) | inr stop ↦ inr stop ])
 
--- functions that are equal below `most` give the same number
-pub taken_same : (f g : ℕ → Bool) (most : ℕ) → ((k : ℕ) → k < most → f k ≡ g k) → taken_in f most ≡ taken_in g most
-taken_same f g most same =
-    let few = taken_few g most in
-    taken_is f most (taken_in g most) few (λ k less. same k (omega arith) ∙ taken_on g most k less) (elim (cases_eq (taken_in g most) most) [
-      | inl all ↦ inl all
-      | inr some ↦ elim (taken_stops g most) [
-        | inl all ↦ inl all
-        | inr stop ↦ inr (same (taken_in g most) (omega arith) ∙ stop)
-      ]
-    ])
-
 -- after the first k of the steps that are taken, as many more are taken as the steps after them say
 pub taken_rest : (goes_on : ℕ → Bool) (most k : ℕ) → k ≤ taken_in goes_on most → taken_in goes_on most ≡ k + taken_in (λ j. goes_on (k + j)) (most - k)
 taken_rest goes_on most k within =
@@ -101,25 +89,3 @@ taken_rest goes_on most k within =
           inr (ap goes_on here ∙ stop)
     ]) in
     omega arith
-
--- of more steps as many are taken or more
-pub taken_more : (goes_on : ℕ → Bool) (m n : ℕ) → m ≤ n → taken_in goes_on m ≤ taken_in goes_on n
-taken_more goes_on m n within =
-    let few = taken_few goes_on m in
-    elim (taken_stops goes_on n) [
-      | inl all ↦ omega arith
-      | inr stop ↦ elim (cases_lt (taken_in goes_on n) (taken_in goes_on m)) [
-        | inl less ↦ absurd (true≢false (sym (taken_on goes_on m (taken_in goes_on n) less) ∙ stop))
-        | inr past ↦ past
-      ]
-    ]
-
--- Of more steps, those that are taken of the first m are taken, and those after them. After a stop there are none.
-pub taken_splits : (goes_on : ℕ → Bool) (m n : ℕ) → taken_in goes_on (m + n) ≡ taken_in goes_on m + taken_in (λ j. goes_on (taken_in goes_on m + j)) (m + n - taken_in goes_on m)
-taken_splits goes_on m n = taken_rest goes_on (m + n) (taken_in goes_on m) (taken_more goes_on m (m + n) (omega arith))
-
--- a stop stays a stop
-pub taken_stays : (goes_on : ℕ → Bool) (m n : ℕ) → m ≤ n → goes_on (taken_in goes_on m) ≡ false → taken_in goes_on n ≡ taken_in goes_on m
-taken_stays goes_on m n within stop =
-    let few = taken_few goes_on m in
-    taken_is goes_on n (taken_in goes_on m) (omega arith) (taken_on goes_on m) (inr stop)

@@ -4,8 +4,8 @@ use Rattle.std.specs.Prelude.{◌==◌, ◌↔◌, All, AllPairs, not, if◌then
 use Rattle.std.specs.Bool.{then_some}
 use Rattle.std.specs.List.{Contains, list_any, range_with_len, flat_map, slice_get}
 use Rattle.std.proofs.lemmas.Bool.{true≢false, or_parts, not-false, ltb-false, false_from_ne_true, eqb-true, cases_lt, lt-ltb, le-ltb}
-use Rattle.std.proofs.lemmas.List.{length-append, get_or_append_left, get_or-append_right}
-use Rattle.std.proofs.lemmas.List.Elements.{All-weaker, All-head, Contains-get_or, Contains-append_cases, Contains-append_left}
+use Rattle.std.proofs.lemmas.List.{length-append}
+use Rattle.std.proofs.lemmas.List.Elements.{All-weaker, All-head, Contains-get_or, Contains-append_cases, Contains-append_left, All-append, Contains-append_right}
 use Rattle.std.proofs.lemmas.List.Sums.{sum_by-cons}
 use Rattle.std.proofs.lemmas.Bool.Decides.{nat_tests}
 use Rattle.std.proofs.lemmas.List.FromFn.{length-range_with_len, get_or-range_with_len}
@@ -17,8 +17,8 @@ use Rattle.dma_mem.specs.Places.{Apart, Descriptor, filling, places, sources, de
 use Rattle.dma_mem.specs.Meeting.{meets}
 use Rattle.dma_mem.specs.Rules.{IsTransfer, IsSegmentList, HasOneByte}
 use Rattle.dma_mem.specs.Refusals.{refusal_of, cause, total, some_meet, meets_any, is_bad_event, is_empty_list, has_too_many, has_empty_segment, has_wrapping_segment}
-use Rattle.dma_mem.proofs.SharedPlaces.{share_false, share_true, shared_by, share_places, share_none, share_append_left}
-use Rattle.dma_mem.proofs.MarkHits.{same_bool, share_sym}
+use Rattle.dma_mem.proofs.SharedPlaces.{share_false, share_places, share_sym, share_right, share_each}
+use Rattle.std.proofs.lemmas.List.Kept.{AllPairs-cons}
 
 -- ---- lists of segments
 
@@ -33,27 +33,14 @@ length_places (s ∷ rest) =
 
 -- segments of two lists meet where a place is in both
 pub meets_any_places : (list others : List Segment) → meets_any list others ≡ share (places list) (places others)
-meets_any_places [] others = sym (share_none [] (places others) (λ a i j. omega (arith, i.1)))
-meets_any_places (s ∷ rest) others =
-    ap (λ b. b || meets_any rest others) (share_places (range_with_len s.addr s.len) others)
-    ∙ ap (λ b. share (range_with_len s.addr s.len) (places others) || b) (meets_any_places rest others)
-    ∙ sym (share_append_left (range_with_len s.addr s.len) (places rest) (places others))
+meets_any_places list others = simp share_places (share_each list (places others))
 
-AllPairs_append : (R : ℕ → ℕ → Type 0) (xs ys : List ℕ) → AllPairs R xs → AllPairs R ys → ((x y : ℕ) → Contains xs x → Contains ys y → R x y) → AllPairs R (xs ++ ys)
-AllPairs_append R xs ys p q cross = λ i j d l m.
-    let both = length-append xs ys in
-    let n = length xs in
-    elim (cases_lt j n) [
-      | inl j_left ↦
-          let i_left : i < n = omega arith in
-          rw (get_or_append_left xs ys d i i_left, get_or_append_left xs ys d j j_left) (p i j d l j_left)
-      | inr j_right ↦
-          let j_in : j - n < length ys = omega arith in
-          elim (cases_lt i n) [
-            | inl i_left ↦ rw (get_or_append_left xs ys d i i_left, get_or-append_right xs ys n j d refl j_right) (cross _ _ (Contains-get_or xs i d i_left) (Contains-get_or ys (j - n) d j_in))
-            | inr i_right ↦ rw (get_or-append_right xs ys n i d refl i_right, get_or-append_right xs ys n j d refl j_right) (q (i - n) (j - n) d (omega arith) j_in)
-          ]
-    ]
+pub AllPairs_append : {X : Type 0} (R : X → X → Type 0) (xs ys : List X) → AllPairs R xs → AllPairs R ys → ((x y : X) → Contains xs x → Contains ys y → R x y) → AllPairs R (xs ++ ys)
+AllPairs_append R [] ys p q cross = q
+AllPairs_append R (x ∷ xs) ys p q cross =
+    AllPairs-cons R x (xs ++ ys)
+    (All-append (R x) xs ys (λ k d l. p 0 (suc k) d (omega arith) (omega arith)) (λ k d l. cross x (get_or ys k d) (0, omega arith, refl) (Contains-get_or ys k d l)))
+    (AllPairs_append R xs ys (λ i j d l m. p (suc i) (suc j) d (omega arith) (omega arith)) q (λ y z i j. cross y z (Contains-append_right (x ∷ []) xs y i) j))
 
 once_range : (a n : ℕ) → AllPairs (λ x y. x ≢ y) (range_with_len a n)
 once_range a n = λ i j d l m e.
@@ -174,15 +161,6 @@ size_of_some t h = places_some t.dst h.destination_list
 
 -- ---- a fill's one place and its sources
 
-share_again_law : (fill : Bool) (zs xs ds : List ℕ) → 1 ≤ length ds → share zs (if fill then flat_map (λ (d : ℕ). xs) ds else xs) ≡ share zs xs
-share_again_law false zs xs ds some = refl
-share_again_law true zs xs [] some = absurd (omega arith)
-share_again_law true zs xs (d ∷ ds) some =
-    let again = flat_map (λ (e : ℕ). xs) (d ∷ ds) in
-    same_bool (share zs again) (share zs xs)
-    (λ h. let w = shared_by zs again h in share_true zs xs w.0 w.1 (source_again xs (d ∷ ds) w.0 w.2))
-    (λ h. let w = shared_by zs xs h in share_true zs again w.0 w.1 (Contains-append_left xs (flat_map (λ (e : ℕ). xs) ds) w.0 w.2))
-
 same_again : (fill : Bool) (xs ds : List ℕ) → 1 ≤ length ds → (a : ℕ) → Contains xs a ↔ Contains (if fill then flat_map (λ (d : ℕ). xs) ds else xs) a
 same_again false xs ds some a = (λ i. i, λ i. i)
 same_again true xs [] some a = absurd (omega arith)
@@ -195,7 +173,7 @@ same_sources t h a = same_again t.fill (places t.src) (destinations t) (size_of_
 
 -- what meets a source list meets the sources
 pub share_sources : (zs : List ℕ) (t : Descriptor) → IsTransfer t → share zs (sources t) ≡ share zs (places t.src)
-share_sources zs t h = share_again_law t.fill zs (places t.src) (destinations t) (size_of_some t h)
+share_sources zs t h = share_right zs (sources t) (places t.src) (λ a. ((same_sources t h a).1, (same_sources t h a).0))
 
 pub sources_share : (t : Descriptor) (zs : List ℕ) → IsTransfer t → share (sources t) zs ≡ share (places t.src) zs
 sources_share t zs h = share_sym (sources t) zs ∙ share_sources zs t h ∙ share_sym zs (places t.src)

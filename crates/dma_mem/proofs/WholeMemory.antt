@@ -1,12 +1,12 @@
 -- A memory in which each page is made: each address below its size is ready.
-use Rattle.std.proofs.Common.{◌≡◌, ℕ, ◌+◌, ◌/◌, ◌<◌, ◌≤◌, List, length, get_or, max, Bool, true, false, nat_lt, refl, sym, arith}
-use Rattle.std.specs.Prelude.{nat_le}
+use Rattle.std.proofs.Common.{◌≡◌, ℕ, ◌+◌, ◌/◌, ◌<◌, ◌≤◌, List, length, get_or, true, false, refl, arith, sym, ◌∙◌, inl, inr}
 use Rattle.std.specs.List.{range_with_len, list_all}
-use Rattle.std.proofs.lemmas.Bool.{lt-ltb, leb-true, leb-false, ltb-true, and_parts, false_from_ne_true}
+use Rattle.std.proofs.lemmas.Bool.{lt-ltb, cases_lt, le-leb}
 use Rattle.std.proofs.lemmas.List.{get_or-replicate}
 use Rattle.dma_mem.specs.Pages.{AllMade, has_page, is_made, whole, all_made}
 use Rattle.dma_mem.proofs.SharedPlaces.{range_in}
-use Rattle.dma_mem.proofs.PageImages.{segment_made, segment_not_made}
+use Rattle.std.specs.Prelude.{nat_le}
+use Rattle.dma_mem.proofs.PageImages.{segment_made, not_made_tested}
 
 page_of : (size a : ℕ) → a < size → get_or (all_made size) (a / 4096) false ≡ true
 unfolding all_made
@@ -22,19 +22,12 @@ whole_all image addr len h = λ a i.
     let within = range_in addr len a i in
     whole_made image a (omega arith)
 
--- no address at or above the size is
-pub whole_past : (image : List ℕ) (a : ℕ) → length image ≤ a → is_made (whole image) a ≡ false
-whole_past image a h =
-    false_from_ne_true _ (λ e. let parts = and_parts (nat_lt a (length image)) (has_page (whole image) (a / 4096)) e in omega (arith, ltb-true a (length image) parts.0))
-
 -- whether a segment that has bytes is ready, tested by its end
 pub whole_tested : (image : List ℕ) (addr len : ℕ) → 0 < len → nat_le (addr + len) (length image) ≡ list_all (is_made (whole image)) (range_with_len addr len)
-whole_tested image addr len some =
-    tested (nat_le (addr + len) (length image)) refl
-  where
-    tested : (b : Bool) → nat_le (addr + len) (length image) ≡ b → b ≡ list_all (is_made (whole image)) (range_with_len addr len)
-    tested true e = let h = leb-true (addr + len) (length image) e in sym (segment_made (whole image) addr len (λ a low high. whole_made image a (omega arith)))
-    tested false e = let above = leb-false (addr + len) (length image) e in sym (segment_not_made (whole image) addr len (max addr (length image)) (omega arith) (omega arith) (whole_past image (max addr (length image)) (omega arith)))
+whole_tested image addr len some = elim (cases_lt (length image) (addr + len)) [
+  | inl past ↦ not_made_tested (whole image) addr len (length image) refl some past
+  | inr within ↦ le-leb (addr + len) (length image) within ∙ sym (segment_made (whole image) addr len (λ a low high. whole_made image a (omega arith)))
+]
 
 -- its page is made
 pub whole_page : (image : List ℕ) (a : ℕ) → a < length image → has_page (whole image) (a / 4096) ≡ true

@@ -1,7 +1,6 @@
-use Rattle.std.proofs.Common.{◌≡◌, ◌∙◌, arith, sym}
+use Rattle.std.proofs.Common.{◌≡◌, ◌∙◌, arith, sym, true}
 use Rattle.std.specs.Prelude.{vec_capacity, vec_len}
 use Rattle.dma_mem.specs.inner.ChunkTable.{is_blank}
-use Rattle.std.proofs.Common.{true}
 use Rattle.dma_mem.proofs.BlankChunks.{blank_is, blank_none, shown_blank, zeros_fill}
 use Rattle.dma_mem.proofs.table.add_zeros.Goals as goal
 

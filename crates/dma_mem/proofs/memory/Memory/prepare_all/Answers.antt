@@ -4,7 +4,8 @@ use Rattle.std.proofs.lemmas.Bool.{le-ltb}
 use Rattle.dma_mem.specs.declared.segment.Segment.{Segment}
 use Rattle.dma_mem.specs.Pages.{AllMade}
 use Rattle.dma_mem.specs.Places.{places, all_below}
-use Rattle.dma_mem.proofs.PrepareAll.{in_places, below_at, below_more, made_more, keeps_made, Keeps_trans, Keeps_refl}
+use Rattle.dma_mem.proofs.PrepareAll.{in_places, below_more, made_more, keeps_made, Keeps_trans, Keeps_refl}
+use Rattle.dma_mem.proofs.SharedPlaces.{ends_below}
 use Rattle.dma_mem.proofs.memory.Memory.prepare_all.Goals as goal
 
 pub loop-s-init : goal.loop-s-init
@@ -28,7 +29,7 @@ pub returns-in-Err-clause-err : goal.returns-in-Err-clause-err
 returns-in-Err-clause-err c = λ below.
     let d : Segment = record { addr = 0; len = 0 } in
     let s = get_or c.args.list.now c.loop-s.s-index d in
-    let fits = below_at c.args.list.now c.loop-s.s-index d (length c.args.self.now.image) below c.loop-s-test.true in
+    let fits = ends_below c.args.list.now (length c.args.self.now.image) c.loop-s.s-index d below c.loop-s-test.true in
     rw (le-ltb (length c.loop-s.self.image) (s.addr + s.len) (omega (arith, fits, ap length c.loop-s.invariant.image))) at c.in-Err.ensures.err
 
 pub returns-in-Err-clause-short : goal.returns-in-Err-clause-short
@@ -36,7 +37,7 @@ returns-in-Err-clause-short c = λ below all.
     let d : Segment = record { addr = 0; len = 0 } in
     let list = c.args.list.now in
     let i = c.loop-s.s-index in
-    let fits = below_at list i d (length c.args.self.now.image) below c.loop-s-test.true in
+    let fits = ends_below list (length c.args.self.now.image) i d below c.loop-s-test.true in
     c.in-Err.ensures.short (omega (arith, fits, ap length c.loop-s.invariant.image)) (λ a here. all a (in_places list i d a c.loop-s-test.true here))
 
 pub returns-clause-ok : goal.returns-clause-ok

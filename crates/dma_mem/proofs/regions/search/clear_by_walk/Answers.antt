@@ -36,7 +36,7 @@ loop-index-preserved c =
     let w = walk_item c.args.kind rs i r c.args.segment.addr c.loop-index.end (omega arith) c.index-regions-index.is c.loop-index.invariant in
     let is : (c.max-first.result ≡ c.args.segment.addr) ⊎ (c.max-first.result ≡ c.loop-index.end) = elim (cases_lt c.loop-index.end c.args.segment.addr) [ inl x ↦ inl (omega (arith, x, c.max-first.ensures, c.from-start.ensures)) | inr x ↦ inr (omega (arith, x, c.max-first.ensures, c.from-start.ensures)) ] in
     subst (λ (e : ℕ). Walk c.args.kind rs (drop (i + 1) rs) c.args.segment.addr e) (sym c.end-end.ensures)
-    (walk_on c.args.kind rs r (drop (i + 1) rs) c.args.segment.addr c.loop-index.end c.max-first.result w (omega (arith, c.max-first.ensures, c.from-start.ensures)) is (sym c.fails_at.ensures ∙ c.if-fails_at.false))
+    (walk_on c.args.kind rs r (drop (i + 1) rs) c.args.segment.addr c.loop-index.end c.max-first.result w is (sym c.fails_at.ensures ∙ c.if-fails_at.false))
 
 pub returns-clause-none : goal.returns-clause-none
 returns-clause-none c = λ a low high.
