@@ -1,6 +1,7 @@
 -- A burst by the fields of one end of a control word.
 use Rattle.std.proofs.Common.{◌≡◌, ℕ, ◌+◌, ◌^◌, Option, Some, None, refl, ap, ◌∙◌}
 use Rattle.std.specs.Option.{option_map}
+use Rattle.std.proofs.lemmas.Option.{same_Some}
 use Rattle.dma_insn.specs.declared.control.BeatSize.{BeatSize}
 use Rattle.dma_insn.specs.declared.control.BeatSize.TheVariants.{One}
 use Rattle.dma_insn.specs.declared.control.BurstEnd.{BurstEnd}
@@ -24,14 +25,11 @@ burst_of bus addr e = record {
   skip = skip_of bus e.increments addr (beat_bytes e.size);
 }
 
-some_same : (a b : BurstEnd) → Some a ≡ Some b → a ≡ b
-some_same a b e = cc
-
 of_size : (bus : Bus) (k addr w : ℕ) (o : Option BeatSize) (e : BurstEnd) → size_of (field (k + 1) 3 w) ≡ o → option_map (end_with k w) o ≡ Some e → burst_of bus addr e ≡ burst_at bus k addr w
 unfolding burst_at
 of_size bus k addr w None e is h = absurd (cc)
 of_size bus k addr w (Some s) e is h =
-    let same : end_with k w s ≡ e = some_same (end_with k w s) e h in
+    let same : end_with k w s ≡ e = same_Some (end_with k w s) e h in
     let size : beat_bytes s ≡ 2 ^ field (k + 1) 3 w = beat_bytes_power s ∙ ap (λ (n : ℕ). 2 ^ n) (size_code_size_of (field (k + 1) 3 w) s is) in
     rw (← same, size) refl
 

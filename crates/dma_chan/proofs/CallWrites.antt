@@ -24,7 +24,7 @@ use Rattle.dma_chan.specs.Stepping.{Machine, answer_at, after_step, after_steps,
 use Rattle.dma_chan.specs.CallWrites.{CallWritesNoOther, LoadExecutes, CallStaysIn}
 use Rattle.dma_chan.proofs.ActCases.{act_cases}
 use Rattle.dma_chan.proofs.GoingOn.{Can, can_next, few_at}
-use Rattle.dma_chan.proofs.Longer.{next_longer}
+use Rattle.dma_chan.proofs.NextFits.{next_longer}
 use Rattle.dma_chan.proofs.ShapeLaws.{is_store}
 use Rattle.dma_chan.proofs.StepsTaken.{steps_move}
 use Rattle.dma_chan.proofs.SteppedOver.{kept_outside, was_moved, went_before, writes_each}

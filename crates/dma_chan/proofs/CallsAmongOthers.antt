@@ -23,7 +23,7 @@ use Rattle.dma_chan.specs.Stepping.{Machine, answer_at, after_step, after_steps,
 use Rattle.dma_chan.proofs.StepsTaken.{steps_move, steps_stop}
 use Rattle.dma_chan.proofs.SteppedOver.{is_still, was_moved, went_before}
 use Rattle.dma_chan.specs.Others.{Misses, Touches, CalledAmongOthers, CallsCopyAmongOthers}
-use Rattle.dma_chan.proofs.AmongOthers.{Among, After, Fits, after_next, at_start, kept, touched_below}
+use Rattle.dma_chan.proofs.AmongOthers.{After, Among, Fits, IsDone, after_next, at_start, kept, touched_below}
 use Rattle.dma_chan.proofs.CallWrites.{Nexts, Goes, Ends, ahead_at, does_next, nexts, traced_next}
 
 -- if no mark lies at any of these places, none lies at some of them
@@ -40,12 +40,6 @@ none_met kind marks places k n none =
 -- the program is not finished: k instructions were executed
 abbrev pub Runs : Bus → List ℕ → Descriptor → ℕ → List ℕ → Machine → Type 0
 Runs bus program t n first u = (k : ℕ) × Among bus program t n first k u.image u.channel
-
--- the program has ended, and all bytes are copied
-pub record IsDone (t : Descriptor) (first : List ℕ) (u : Machine) : Type 0 where
-  pub dropped : u.channel.program ≡ None
-  pub stored : u.channel.stored ≡ size_of t
-  pub all : (a : ℕ) → Touches t a → get_or u.image a 0 ≡ get_or (laid first t (size_of t)) a 0
 
 -- the state after a step, by its answer
 abbrev pub Leads : Bus → List ℕ → Descriptor → ℕ → List ℕ → Option ChanTurn → Machine → Type 0
@@ -95,13 +89,10 @@ module _ (bus : Bus) (program : List ℕ) (t : Descriptor) (n : ℕ) (marks : Ma
   pub moved_on : (k : ℕ) (u : Machine) → Among bus program t n first k u.image u.channel → answer_at marks u ≡ Moved → Among bus program t n first (suc k) (after_step marks u).image (after_step marks u).channel
   moved_on k u w moved = after k u Moved moved w
 
-  still : (k : ℕ) (u : Machine) → Among bus program t n first k u.image u.channel → ChangesNothing (answer_at marks u) → Runs bus program t n first (after_step marks u)
-  still k u w nothing = (k, subst (λ (v : Machine). Among bus program t n first k v.image v.channel) (sym (is_still marks u nothing)) w)
-
   one : (k : ℕ) (u : Machine) (turn : ChanTurn) → Among bus program t n first k u.image u.channel → answer_at marks u ≡ turn → Leads bus program t n first (Some turn) (after_step marks u)
   one k u Moved w e = (suc k, moved_on k u w e)
-  one k u Ended w e = let over = after k u Ended e w in record { dropped = over.dropped; stored = over.stored; all = over.all }
-  one k u turn w e = still k u w (subst ChangesNothing (sym e) tt)
+  one k u Ended w e = after k u Ended e w
+  one k u turn w e = (k, subst (λ (v : Machine). Among bus program t n first k v.image v.channel) (sym (is_still marks u (subst ChangesNothing (sym e) tt))) w)
 
   -- after steps of which each moved
   pub many : (j : ℕ) (s : Machine) → Runs bus program t n first s → ((k : ℕ) → k < suc j → goes_on_after marks s k ≡ true) → Runs bus program t n first (after_steps marks s j)

@@ -6,7 +6,7 @@ use Rattle.std.proofs.lemmas.List.{length-take-le, take_all}
 use Rattle.std.proofs.Math.Seq.{take-add}
 use Rattle.dma_insn.specs.declared.insn.Reg.TheVariants.{Sar, Dar, Ccr}
 use Rattle.dma_insn.specs.declared.insn.Insn.{Insn}
-use Rattle.dma_insn.specs.declared.insn.Insn.TheVariants.{Mov, Ld, St, Rmb, Wmb, Nop, End, Lp, LpEnd, Sev, Wfe}
+use Rattle.dma_insn.specs.declared.insn.Insn.TheVariants.{Mov, Ld, St, End, LpEnd, Sev, Wfe}
 use Rattle.dma_mem.specs.Places.{Descriptor, sources, destinations, size_of}
 use Rattle.dma_mem.specs.Rules.{IsTransfer}
 use Rattle.dma_chan.specs.declared.bus.Bus.{Bus}
@@ -48,9 +48,6 @@ module _ (bus : Bus) (src dst : List ℕ) (p : Progress) (x : Trace) (w : Traces
   all_stores = ap length w.stores ∙ length-take-le p.stored dst w.in_dst
 
   -- an instruction that moves no byte
-  quiet : (r : Registers) → Traces src dst (record p { registers = r }) (record { registers = r; loads = x.loads; stores = x.stores })
-  quiet r = record { registers = refl; loads = w.loads; stores = w.stores; in_src = w.in_src; in_dst = w.in_dst }
-
   same_insn : (i : Insn) → Traces src dst (record p { registers = moved i p.registers }) (record { registers = moved i x.registers; loads = x.loads; stores = x.stores })
   same_insn i = record { registers = ap (moved i) w.registers; loads = w.loads; stores = w.stores; in_src = w.in_src; in_dst = w.in_dst }
 
@@ -90,15 +87,7 @@ module _ (bus : Bus) (src dst : List ℕ) (p : Progress) (x : Trace) (w : Traces
   advances : (i : Insn) → CarriesOne bus src dst i p → Traces src dst (advanced i p) (after_insn i x)
   advances Ld c = load c
   advances St c = store c
-  advances (Mov r v) c = same_insn (Mov r v)
-  advances (Lp k n) c = same_insn (Lp k n)
-  advances (LpEnd k b) c = same_insn (LpEnd k b)
-  advances Rmb c = same_insn Rmb
-  advances Wmb c = same_insn Wmb
-  advances Nop c = same_insn Nop
-  advances End c = same_insn End
-  advances (Sev e) c = same_insn (Sev e)
-  advances (Wfe e v) c = same_insn (Wfe e v)
+  advances i c = same_insn i
 
 -- an instruction that is carried is part of a copy, unless it is DMAEND
 module _ (bus : Bus) (src dst : List ℕ) (p : Progress) (loads stores : List ℕ) (full : length loads - length stores ≡ p.held) (on : p.registers.bus ≡ bus) where
@@ -145,11 +134,8 @@ module _ (bus : Bus) (t : Descriptor) (h : IsTransfer t) where
       ∙ ap (λ (xs : List ℕ). next_of xs (moved_by (take k (members_on bus t)) (start_on bus)).pc) bytes_are
       ∙ (fetches_on bus t k h l).next
 
-  begins : TracesAt 0
-  begins = subst (λ (p : Progress). Traces (sources t) (destinations t) p (untraced bus)) (sym (begin_on bus t)) (record { registers = refl; loads = refl; stores = refl; in_src = omega arith; in_dst = omega arith })
-
   pub along : (k : ℕ) → k < cost_on bus t → TracesAt k
-  along zero l = begins
+  along zero l = subst (λ (p : Progress). Traces (sources t) (destinations t) p (untraced bus)) (sym (begin_on bus t)) (record { registers = refl; loads = refl; stores = refl; in_src = omega arith; in_dst = omega arith })
   along (suc k) l =
       let less : k < cost_on bus t = omega arith in
       let w = along k less in

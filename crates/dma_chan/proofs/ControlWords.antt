@@ -1,9 +1,9 @@
 -- The control words of a compiled program.
-use Rattle.std.proofs.Common.{◌≡◌, ℕ, ◌+◌, ◌-◌, ◌*◌, ◌/◌, ◌%◌, ◌^◌, ◌≤◌, ◌<◌, Bool, true, false, cond, zero, suc, refl, sym, ap, ◌∙◌, arith, Some, List, [], ◌∷◌, inl, inr}
-use Rattle.std.specs.Prelude.{◌==◌, ◌&&◌, nat_le, not, replicate}
-use Rattle.std.specs.List.{flat_map, range_with_len}
+use Rattle.std.proofs.Common.{◌≡◌, ℕ, ◌+◌, ◌-◌, ◌*◌, ◌/◌, ◌%◌, ◌^◌, ◌≤◌, ◌<◌, Bool, true, false, cond, zero, suc, refl, subst, sym, ap, ◌∙◌, arith, Some, inl, inr}
+use Rattle.std.specs.Prelude.{◌==◌, nat_le, not, replicate}
+use Rattle.std.specs.List.{range_with_len}
 use Rattle.std.proofs.lemmas.Nat.{mod_below, pow_below, pow_pos}
-use Rattle.std.proofs.lemmas.Bool.{cases_lt, eqb-true, le-leb, leb-true}
+use Rattle.std.proofs.lemmas.Bool.{and_parts, cases_lt, cond_both, eqb-true, le-leb, leb-true}
 use Rattle.std.proofs.Math.Nat.{add-mod-mod, mod-one, mul-mod_left, zero-mod}
 use Rattle.dma_insn.specs.declared.control.BeatSize.{BeatSize}
 use Rattle.dma_insn.specs.declared.control.BeatSize.TheVariants.{One, Two, Four, Eight, Sixteen}
@@ -18,6 +18,7 @@ use Rattle.dma_chan.specs.declared.bursts.Burst.{Burst}
 use Rattle.dma_chan.specs.Bursts.{IsAligned, burst_at, burst_len, skip_of, span_of, touched, advance}
 use Rattle.dma_chan.specs.Traffic.{len_by}
 use Rattle.dma_chan.specs.inner.Spans.{MovesSome}
+use Rattle.dma_chan.proofs.BurstRounds.{one_again}
 use Rattle.dma_chan.proofs.CutPlaces.{run_of, way}
 
 -- ---- bursts by their control word alone
@@ -53,17 +54,12 @@ aligned_whole bus k a w aligned = by bus (field k 1 w == 1) aligned
     by (Chip width) true h = h refl
     by (Chip width) false h = refl
 
--- whether a burst is at such an address doesn't depend on the bus
-pub aligned_on : (bus other : Bus) (k a w : ℕ) → IsAligned (burst_at bus k a w) → IsAligned (burst_at other k a w)
-unfolding burst_at
-aligned_on bus other k a w aligned = aligned
-
--- there a burst is the same on each bus
+-- at such an address a burst is the same on each bus
 pub same_burst : (bus other : Bus) (k a w : ℕ) → IsAligned (burst_at bus k a w) → burst_at bus k a w ≡ burst_at other k a w
 unfolding burst_at
 same_burst bus other k a w aligned =
     let here : (burst_at bus k a w).skip ≡ 0 = aligned_whole bus k a w aligned in
-    let there : (burst_at other k a w).skip ≡ 0 = aligned_whole other k a w (aligned_on bus other k a w aligned) in
+    let there : (burst_at other k a w).skip ≡ 0 = aligned_whole other k a w aligned in
     ap (λ (n : ℕ). record { addr = a; increments = field k 1 w == 1; size = 2 ^ field (k + 1) 3 w; beats = field (k + 4) 4 w + 1; skip = n }) (here ∙ sym there)
 
 -- and has as many bytes as on the ideal bus anywhere
@@ -100,22 +96,14 @@ abbrev pub span : Bool → ℕ → ℕ
 span true n = 1
 span false n = n
 
-span_up : (b : Burst) (n : ℕ) → b.increments ≡ true → burst_len b ≡ n → span_of b ≡ n
-span_up b n e len = rw e len
-
-span_fixed : (b : Burst) (n : ℕ) → b.increments ≡ false → b.size ≡ n → span_of b ≡ n
-span_fixed b n e size = rw e size
-
-advance_fixed : (b : Burst) → b.increments ≡ false → advance b ≡ 0
-advance_fixed b e = rw e refl
-
-one_again : (k a : ℕ) → flat_map (λ xs. xs) (replicate k (a ∷ [])) ≡ replicate k a
-one_again zero a = refl
-one_again (suc k) a = ap (λ (xs : List ℕ). a ∷ xs) (one_again k a)
-
 -- the address of a burst that doesn't rise, again for each beat of one byte
-touched_fixed : (b : Burst) (a n : ℕ) → b.increments ≡ false → b.size ≡ 1 → b.beats ≡ n → b.addr ≡ a → touched b ≡ replicate n a
-touched_fixed b a n e size beats addr = rw (e, size, beats, addr) (one_again n a)
+pub touched_fixed : (b : Burst) (a n : ℕ) → b.increments ≡ false → b.size ≡ 1 → b.beats ≡ n → b.addr ≡ a → touched b ≡ replicate n a
+touched_fixed b a n e size beats addr = rw (e, size, beats, addr) (sym (one_again n a))
+
+-- the addresses of such a burst, or of one that stays at its address in beats of one byte
+run_there : (fill : Bool) (b : Burst) (n : ℕ) → b.increments ≡ not fill → burst_len b ≡ n → (fill ≡ true → (b.size ≡ 1) × (b.beats ≡ n)) → (touched b ≡ run_of fill b.addr n) × (advance b ≡ way fill n) × (span_of b ≡ span fill n)
+run_there false b n up len one = (touched_up b up ∙ ap (range_with_len b.addr) len, rw up len, rw up len)
+run_there true b n still len one = let w = one refl in (touched_fixed b b.addr n still w.0 w.1 refl, rw still refl, rw still w.0)
 
 -- bursts of n bytes at both ends, in beats of b bytes, with both increments, and of a fill with that of the destination
 -- alone; from multiples of b on, they are the same on each bus
@@ -161,121 +149,49 @@ accepted_by w c a b valid (Chip width) h =
     ]) in
     rw (a, b, low) valid
 
-record Rises (b w n : ℕ) : Type 0 where
-  reads : (a : ℕ) → burst_len (burst_at Ideal 0 a w) ≡ n
-  writes : (a : ℕ) → burst_len (burst_at Ideal 14 a w) ≡ n
-  source_up : (a : ℕ) → (burst_at Ideal 0 a w).increments ≡ true
-  source_size : (a : ℕ) → (burst_at Ideal 0 a w).size ≡ b
-  destination_up : (bus : Bus) (a : ℕ) → (burst_at bus 14 a w).increments ≡ true
-  destination_size : (a : ℕ) → (burst_at Ideal 14 a w).size ≡ b
-  whole : n % b ≡ 0
-  accepted : (bus : Bus) → b ≤ widest_beat bus → accepts bus w ≡ true
-
-rises_moves : (b w n : ℕ) → Rises b w n → Moves false b w n
-rises_moves b w n r =
-    let fits = aligned_by 0 w b r.source_size in
-    record {
-      reads = sym (len_anywhere 0 0 w) ∙ r.reads 0;
-      writes = sym (len_anywhere 14 0 w) ∙ r.writes 0;
-      source = λ bus a at. ap touched (same_burst bus Ideal 0 a w (fits bus a at)) ∙ touched_from Ideal 0 a w n (r.source_up a) (r.reads a);
-      source_way = λ bus a at. ap advance (same_burst bus Ideal 0 a w (fits bus a at)) ∙ advance_up (burst_at Ideal 0 a w) n (r.source_up a) (r.reads a);
-      source_span = λ bus a at. ap span_of (same_burst bus Ideal 0 a w (fits bus a at)) ∙ span_up (burst_at Ideal 0 a w) n (r.source_up a) (r.reads a);
-      source_fits = fits;
-      destination_span = λ bus a at. ap span_of (same_burst bus Ideal 14 a w (aligned_by 14 w b r.destination_size bus a at)) ∙ span_up (burst_at Ideal 14 a w) n (r.destination_up Ideal a) (r.writes a);
-      destination_up = r.destination_up;
-      destination_fits = aligned_by 14 w b r.destination_size;
-      whole = r.whole;
-      accepted = r.accepted;
-    }
-
--- the same without source increment, of beats of one byte
-record Stays (w n : ℕ) : Type 0 where
-  reads : (a : ℕ) → burst_len (burst_at Ideal 0 a w) ≡ n
-  writes : (a : ℕ) → burst_len (burst_at Ideal 14 a w) ≡ n
-  fixed : (bus : Bus) (a : ℕ) → (burst_at bus 0 a w).increments ≡ false
-  size : (bus : Bus) (a : ℕ) → (burst_at bus 0 a w).size ≡ 1
-  beats : (bus : Bus) (a : ℕ) → (burst_at bus 0 a w).beats ≡ n
-  destination_up : (bus : Bus) (a : ℕ) → (burst_at bus 14 a w).increments ≡ true
-  destination_size : (a : ℕ) → (burst_at Ideal 14 a w).size ≡ 1
-  accepted : (bus : Bus) → 1 ≤ widest_beat bus → accepts bus w ≡ true
-
-stays_moves : (w n : ℕ) → Stays w n → Moves true 1 w n
-stays_moves w n r = record {
-  reads = sym (len_anywhere 0 0 w) ∙ r.reads 0;
-  writes = sym (len_anywhere 14 0 w) ∙ r.writes 0;
-  source = λ bus a at. touched_fixed (burst_at bus 0 a w) a n (r.fixed bus a) (r.size bus a) (r.beats bus a) (addr_there bus 0 a w);
-  source_way = λ bus a at. advance_fixed (burst_at bus 0 a w) (r.fixed bus a);
-  source_span = λ bus a at. span_fixed (burst_at bus 0 a w) 1 (r.fixed bus a) (r.size bus a);
-  source_fits = λ bus a at. aligned_by 0 w 1 (r.size Ideal) bus a at;
-  destination_span = λ bus a at. ap span_of (same_burst bus Ideal 14 a w (aligned_by 14 w 1 r.destination_size bus a at)) ∙ span_up (burst_at Ideal 14 a w) n (r.destination_up Ideal a) (r.writes a);
-  destination_up = r.destination_up;
-  destination_fits = aligned_by 14 w 1 r.destination_size;
-  whole = omega arith;
-  accepted = r.accepted;
-}
-
--- the fields of a word with size code c and length code l
-word_moves : (w c l b n : ℕ) → w ≡ 1 + 2 * c + 16 * l + 2 ^ 14 + 2 ^ 15 * c + 2 ^ 18 * l → c ≤ 4 → l ≤ 15 → 2 ^ c ≡ b → (l + 1) * b ≡ n → Rises b w n
+-- the fields of a word with source increment i, size code c and length code l
+word_moves : (fill : Bool) (w i c l b n : ℕ) → w ≡ i + 2 * c + 16 * l + 2 ^ 14 + 2 ^ 15 * c + 2 ^ 18 * l → i < 2 → (i == 1) ≡ not fill → (fill ≡ true → c ≡ 0) → c ≤ 4 → l ≤ 15 → 2 ^ c ≡ b → (l + 1) * b ≡ n → Moves fill b w n
 unfolding burst_at
-word_moves w c l beat n e hc hl p h =
+word_moves fill w i c l beat n e low rising one hc hl p h =
     let a : w / 16 % 16 ≡ l = omega arith in
     let b : w / 2 % 8 ≡ c = omega arith in
     let d : w / 262144 % 16 ≡ l = omega arith in
     let f : w / 32768 % 8 ≡ c = omega arith in
-    let g : w % 2 ≡ 1 = omega arith in
-    let i : w / 16384 % 2 ≡ 1 = omega arith in
-    let o : w / 1 ≡ w = omega arith in
+    let g : w / 1 % 2 ≡ i = omega arith in
+    let j : w / 16384 % 2 ≡ 1 = omega arith in
     let m : (l + 1) * beat - 0 ≡ n = omega (arith, h) in
+    let single : (x : ℕ) → fill ≡ true → ((burst_at Ideal 0 x w).size ≡ 1) × ((burst_at Ideal 0 x w).beats ≡ n) = λ x z. let k : n ≡ l + 1 = sym h ∙ ap (λ (x : ℕ). (l + 1) * x) (sym p ∙ ap (λ (x : ℕ). 2 ^ x) (one z)) ∙ omega arith in (rw (b, one z) refl, rw a (sym k)) in
+    let from = aligned_by 0 w beat (λ x. rw b p) in
+    let to = aligned_by 14 w beat (λ x. rw f p) in
+    let source = λ (bus : Bus) (x : ℕ) (at : x % beat ≡ 0). subst (λ (y : Burst). (touched y ≡ run_of fill x n) × (advance y ≡ way fill n) × (span_of y ≡ span fill n)) (sym (same_burst bus Ideal 0 x w (from bus x at)))
+    (run_there fill (burst_at Ideal 0 x w) n (rw g rising) (rw (a, b, p) m) (single x)) in
     record {
-      reads = λ x. rw (a, b, p) m;
-      writes = λ x. rw (d, f, p) m;
-      source_up = λ x. rw (o, g) refl;
-      source_size = λ x. rw b p;
-      destination_up = λ bus x. rw i refl;
-      destination_size = λ x. rw f p;
+      reads = rw (a, b, p) m;
+      writes = rw (d, f, p) m;
+      source = λ bus x at. (source bus x at).0;
+      source_way = λ bus x at. (source bus x at).1;
+      source_span = λ bus x at. (source bus x at).2;
+      source_fits = from;
+      destination_span = λ bus x at. ap span_of (same_burst bus Ideal 14 x w (to bus x at)) ∙ (run_there false (burst_at Ideal 14 x w) n (rw j refl) (rw (d, f, p) m) (λ z. absurd (cc))).2;
+      destination_up = λ bus x. rw j refl;
+      destination_fits = to;
       whole = ap (λ (k : ℕ). k % beat) (sym h) ∙ mul-mod_left (l + 1) beat;
-      accepted = λ bus low. accepted_by w c b f (valid_word w c b f (omega arith) (omega arith) hc) bus (rw p low);
-    }
-
-word_stays : (w l n : ℕ) → w ≡ 16 * l + 2 ^ 14 + 2 ^ 18 * l → l ≤ 15 → l + 1 ≡ n → Stays w n
-unfolding burst_at
-word_stays w l n e hl h =
-    let a : w / 16 % 16 ≡ l = omega arith in
-    let b : w / 2 % 8 ≡ 0 = omega arith in
-    let d : w / 262144 % 16 ≡ l = omega arith in
-    let f : w / 32768 % 8 ≡ 0 = omega arith in
-    let g : w % 2 ≡ 0 = omega arith in
-    let i : w / 16384 % 2 ≡ 1 = omega arith in
-    let o : w / 1 ≡ w = omega arith in
-    let m : (l + 1) * 1 - 0 ≡ n = omega arith in
-    record {
-      reads = λ x. rw (a, b) m;
-      writes = λ x. rw (d, f) m;
-      fixed = λ bus x. rw (o, g) refl;
-      size = λ bus x. rw b refl;
-      beats = λ bus x. rw a h;
-      destination_up = λ bus x. rw i refl;
-      destination_size = λ x. rw f refl;
-      accepted = accepted_by w 0 b f (valid_word w 0 b f (omega arith) (omega arith) (omega arith));
+      accepted = λ bus wide. accepted_by w c b f (valid_word w c b f (omega arith) (omega arith) hc) bus (rw p wide);
     }
 
 beat : (b c : ℕ) → size_code b ≡ c → c ≤ 4 → 2 ^ c ≡ b → 1 ≤ b → b ≤ 16 → IsBeat false b
 beat b c e hc p low high = record {
   low = low;
   high = high;
-  moves = λ k l h. let n : k - 1 + 1 ≡ k = omega arith in rises_moves b _ _ (word_moves (control_word false b k) c (k - 1) b (k * b) (rw e refl) hc (omega arith) p (rw n refl));
+  moves = λ k l h. let n : k - 1 + 1 ≡ k = omega arith in word_moves false (control_word false b k) 1 c (k - 1) b (k * b) (rw e refl) (omega arith) refl (λ z. absurd (cc)) hc (omega arith) p (rw n refl);
   in_range = λ k h. omega (arith, e);
 }
-
-pick : (t : Bool) (x y : ℕ) → IsBeat false x → IsBeat false y → IsBeat false (cond t x y)
-pick true x y f g = f
-pick false x y f g = g
 
 filling_beat : IsBeat true 1
 filling_beat = record {
   low = omega arith;
   high = omega arith;
-  moves = λ k l h. stays_moves _ _ (word_stays (control_word true 1 k) (k - 1) (k * 1) (omega arith) (omega arith) (omega arith));
+  moves = λ k l h. word_moves true (control_word true 1 k) 0 0 (k - 1) 1 (k * 1) (omega arith) (omega arith) refl (λ z. refl) (omega arith) (omega arith) refl (omega arith);
   in_range = λ k h. omega arith;
 }
 
@@ -287,10 +203,10 @@ pub beat_right : (bus : Bus) (p : Piece) → IsBeat p.fill (beat_of bus p)
 unfolding beat_of
 beat_right bus p =
     by_fill p.fill _ (
-    pick _ 16 _ (beat 16 4 refl (omega arith) refl (omega arith) (omega arith)) (
-    pick _ 8 _ (beat 8 3 refl (omega arith) refl (omega arith) (omega arith)) (
-    pick _ 4 _ (beat 4 2 refl (omega arith) refl (omega arith) (omega arith)) (
-    pick _ 2 1 (beat 2 1 refl (omega arith) refl (omega arith) (omega arith)) (beat 1 0 refl (omega arith) refl (omega arith) (omega arith))))))
+    cond_both (fits bus 16 p) 16 _ (IsBeat false) (λ _. beat 16 4 refl (omega arith) refl (omega arith) (omega arith)) (λ _.
+    cond_both (fits bus 8 p) 8 _ (IsBeat false) (λ _. beat 8 3 refl (omega arith) refl (omega arith) (omega arith)) (λ _.
+    cond_both (fits bus 4 p) 4 _ (IsBeat false) (λ _. beat 4 2 refl (omega arith) refl (omega arith) (omega arith)) (λ _.
+    cond_both (fits bus 2 p) 2 1 (IsBeat false) (λ _. beat 2 1 refl (omega arith) refl (omega arith) (omega arith)) (λ _. beat 1 0 refl (omega arith) refl (omega arith) (omega arith))))))
 
 -- multiples of c add up to one
 pub mod_sum : (a x c : ℕ) → a % c ≡ 0 → x % c ≡ 0 → (a + x) % c ≡ 0
@@ -309,17 +225,11 @@ pub record Divides (bus : Bus) (p : Piece) (b : ℕ) : Type 0 where
   pub dst : p.dst % b ≡ 0
 
 fits_divides : (bus : Bus) (b : ℕ) (p : Piece) → fits bus b p ≡ true → Divides bus p b
-fits_divides bus b p e = by (nat_le b (widest_beat bus)) (p.src % b == 0) (p.dst % b == 0) (nat_le b p.len) refl refl refl e
-  where
-    by : (w x y z : Bool) → nat_le b (widest_beat bus) ≡ w → (p.src % b == 0) ≡ x → (p.dst % b == 0) ≡ y → (w && x && y && z) ≡ true → Divides bus p b
-    by true true true z n s d t = record { narrow = leb-true b (widest_beat bus) n; src = eqb-true (p.src % b) 0 s; dst = eqb-true (p.dst % b) 0 d }
-    by true true false z n s d t = absurd (cc)
-    by true false y z n s d t = absurd (cc)
-    by false x y z n s d t = absurd (cc)
-
-choose : (bus : Bus) (p : Piece) (t : Bool) (x y : ℕ) → (t ≡ true → Divides bus p x) → Divides bus p y → Divides bus p (cond t x y)
-choose bus p true x y f g = f refl
-choose bus p false x y f g = g
+fits_divides bus b p e =
+    let long = and_parts _ (nat_le b p.len) e in
+    let dst = and_parts _ (p.dst % b == 0) long.0 in
+    let src = and_parts (nat_le b (widest_beat bus)) _ dst.0 in
+    record { narrow = leb-true b (widest_beat bus) src.0; src = eqb-true (p.src % b) 0 src.1; dst = eqb-true (p.dst % b) 0 dst.1 }
 
 pub some_beat : (bus : Bus) → 1 ≤ widest_beat bus
 some_beat Ideal = omega arith
@@ -331,11 +241,11 @@ ones bus p = record { narrow = some_beat bus; src = mod-one p.src; dst = mod-one
 pub beat_divides : (bus : Bus) (p : Piece) → Divides bus p (beat_of bus p)
 unfolding beat_of
 beat_divides bus p =
-    choose bus p p.fill 1 _ (λ e. ones bus p)
-    (choose bus p (fits bus 16 p) 16 _ (fits_divides bus 16 p)
-    (choose bus p (fits bus 8 p) 8 _ (fits_divides bus 8 p)
-    (choose bus p (fits bus 4 p) 4 _ (fits_divides bus 4 p)
-    (choose bus p (fits bus 2 p) 2 1 (fits_divides bus 2 p) (ones bus p)))))
+    cond_both p.fill 1 _ (Divides bus p) (λ _. ones bus p) (λ _.
+    cond_both (fits bus 16 p) 16 _ (Divides bus p) (fits_divides bus 16 p) (λ _.
+    cond_both (fits bus 8 p) 8 _ (Divides bus p) (fits_divides bus 8 p) (λ _.
+    cond_both (fits bus 4 p) 4 _ (Divides bus p) (fits_divides bus 4 p) (λ _.
+    cond_both (fits bus 2 p) 2 1 (Divides bus p) (fits_divides bus 2 p) (λ _. ones bus p)))))
 
 pub one_beat : (fill : Bool) → IsBeat fill 1
 one_beat true = filling_beat

@@ -1,16 +1,18 @@
 -- Two lists of segments, cut into pieces. The pieces have the places of both lists, in order, and there are fewer
 -- pieces than segments.
-use Rattle.std.proofs.Common.{◌≡◌, ℕ, zero, suc, ◌+◌, ◌-◌, ◌^◌, ◌≤◌, ◌<◌, Bool, true, false, ltb, List, [], ◌∷◌, ◌++◌, length, refl, sym, ap, ◌∙◌, arith, append_assoc, append-nil, length-append}
-use Rattle.std.specs.List.{AllByRecursion, range_with_len}
+use Rattle.std.proofs.Common.{◌≡◌, ℕ, zero, suc, ◌+◌, ◌-◌, ◌^◌, ◌≤◌, ◌<◌, Bool, true, false, ltb, List, [], ◌∷◌, ◌++◌, length, refl, sym, ap, ◌∙◌, arith, append_assoc, append-nil, length-append, None}
+use Rattle.std.specs.List.{AllByRecursion, flat_map, range_with_len}
 use Rattle.std.proofs.lemmas.Bool.{cond_both, ltb-true, ltb-false}
-use Rattle.std.specs.Prelude.{replicate}
+use Rattle.std.specs.Prelude.{replicate, slice_get}
 use Rattle.std.proofs.lemmas.List.{length-replicate, replicate-append-replicate}
+use Rattle.std.proofs.lemmas.Grind.{flat_map-append}
 use Rattle.std.proofs.lemmas.List.FromFn.{length-range_with_len}
 use Rattle.dma_mem.specs.declared.segment.Segment.{Segment}
 use Rattle.dma_mem.specs.Places.{places}
 use Rattle.dma_chan.specs.declared.pieces.Piece.{Piece}
 use Rattle.dma_chan.specs.Compiled.{cut_one, pieces}
 use Rattle.dma_chan.specs.inner.Compiling.{byte_count, IsRange}
+use Rattle.dma_chan.specs.inner.Cutting.{pieces_left}
 
 pub range_add : (a m n : ℕ) → range_with_len a (m + n) ≡ range_with_len a m ++ range_with_len (a + m) n
 range_add a zero n = let e : zero + n ≡ n = omega arith in let f : a + 0 ≡ a = omega arith in rw (e, f) refl
@@ -47,12 +49,10 @@ run_add true a m n = let e : a + 0 ≡ a = omega arith in rw e (sym (replicate-a
 
 -- the addresses that pieces read, and those that they write
 abbrev pub read_by : List Piece → List ℕ
-read_by [] = []
-read_by (p ∷ ps) = run_of p.fill p.src p.len ++ read_by ps
+read_by ps = flat_map (λ (p : Piece). run_of p.fill p.src p.len) ps
 
 abbrev pub written_by : List Piece → List ℕ
-written_by [] = []
-written_by (p ∷ ps) = range_with_len p.dst p.len ++ written_by ps
+written_by ps = flat_map (λ (p : Piece). range_with_len p.dst p.len) ps
 
 pub record IsPiece (p : Piece) : Type 0 where
   pub some : 0 < p.len
@@ -61,19 +61,10 @@ pub record IsPiece (p : Piece) : Type 0 where
   pub reads : p.src + way p.fill p.len ≤ 2 ^ 32
   pub dst : p.dst + p.len ≤ 2 ^ 32
 
-read_by_append : (a b : List Piece) → read_by (a ++ b) ≡ read_by a ++ read_by b
-read_by_append [] b = refl
-read_by_append (p ∷ a) b =
-    ap (λ (xs : List ℕ). run_of p.fill p.src p.len ++ xs) (read_by_append a b) ∙ sym (append_assoc (run_of p.fill p.src p.len) (read_by a) (read_by b))
-
-written_by_append : (a b : List Piece) → written_by (a ++ b) ≡ written_by a ++ written_by b
-written_by_append [] b = refl
-written_by_append (p ∷ a) b =
-    ap (λ (xs : List ℕ). range_with_len p.dst p.len ++ xs) (written_by_append a b) ∙ sym (append_assoc (range_with_len p.dst p.len) (written_by a) (written_by b))
-
-all_append : (a b : List Piece) → AllByRecursion IsPiece a → AllByRecursion IsPiece b → AllByRecursion IsPiece (a ++ b)
-all_append [] b f g = g
-all_append (p ∷ a) b f g = (f.0, all_append a b f.1 g)
+-- what holds of all elements of two lists holds of both appended
+pub all_append : {X : Type 0} (P : X → Type 0) (a b : List X) → AllByRecursion P a → AllByRecursion P b → AllByRecursion P (a ++ b)
+all_append P [] b f g = g
+all_append P (x ∷ a) b f g = (f.0, all_append P a b f.1 g)
 
 -- the pieces of one source segment
 record Cut (a n : ℕ) (ds : List Segment) (r : List Piece × List Segment) : Type 0 where
@@ -157,9 +148,27 @@ pieces_right (s ∷ ss) ds all rest same below =
     let all_of : length (a ++ b) ≡ length a + length b = length-append a b in
     let fewer : length (a ++ b) + 1 ≤ length (s ∷ ss) + length ds = fewer_than ss a b (cut_one s.addr s.len ds).1 (length ds) all_of cut.few (λ (z : ss ≡ []). cut.last (ap byte_count (nothing_left _ cut.rest (none_left s.len ss _ (byte_count ds) z same cut.totals)))) r.few r.fewer in
     record {
-      sources = read_by_append a b ∙ ap (λ (xs : List ℕ). xs ++ read_by b) cut.sources ∙ ap (λ (xs : List ℕ). range_with_len s.addr s.len ++ xs) r.sources;
-      destinations = written_by_append a b ∙ ap (λ (xs : List ℕ). written_by a ++ xs) r.destinations ∙ cut.destinations;
-      fit = all_append a b cut.fit r.fit;
+      sources = flat_map-append (λ (p : Piece). run_of p.fill p.src p.len) a b ∙ ap (λ (xs : List ℕ). xs ++ read_by b) cut.sources ∙ ap (λ (xs : List ℕ). range_with_len s.addr s.len ++ xs) r.sources;
+      destinations = flat_map-append (λ (p : Piece). range_with_len p.dst p.len) a b ∙ ap (λ (xs : List ℕ). written_by a ++ xs) r.destinations ∙ cut.destinations;
+      fit = all_append IsPiece a b cut.fit r.fit;
       few = omega arith;
       fewer = λ z. fewer;
     }
+
+-- ---- what is left of two lists, where nothing is left of one
+
+-- no piece is left
+pieces_none : (ss : List Segment) → pieces ss [] ≡ []
+pieces_none [] = refl
+pieces_none (s ∷ ss) = pieces_none ss
+
+pub none_to_read : (fill : Bool) (ss ds : List Segment) → slice_get ss 0 ≡ None → pieces_left fill ss ds ≡ []
+none_to_read true [] ds h = refl
+none_to_read false [] ds h = refl
+none_to_read fill (s ∷ ss) ds h = absurd cc
+
+pub none_to_write : (fill : Bool) (ss ds : List Segment) → slice_get ds 0 ≡ None → pieces_left fill ss ds ≡ []
+none_to_write true [] [] h = refl
+none_to_write true (s ∷ ss) [] h = refl
+none_to_write false ss [] h = pieces_none ss
+none_to_write fill ss (d ∷ ds) h = absurd cc

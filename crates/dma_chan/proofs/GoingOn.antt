@@ -2,6 +2,7 @@
 use Rattle.std.proofs.Common.{◌≡◌, ◌≢◌, ℕ, zero, suc, ◌+◌, ◌≤◌, ◌<◌, Bool, true, false, cond, ◌&&◌, ◌||◌, ◌%◌, ◌^◌, eq-eqb, List, length, Option, Some, None, Result, Ok, Err, refl, sym, ap, ◌∙◌, arith, inl, inr, length-append}
 use Rattle.std.specs.Prelude.{◌==◌, if◌then◌else◌, nat_lt, not}
 use Rattle.std.proofs.lemmas.Bool.{le-ltb, lt-ltb, ltb-false, cases_lt, true≢false}
+use Rattle.std.proofs.lemmas.Bool.Decides.{nat_tests}
 use Rattle.std.proofs.lemmas.List.FromFn.{length-range_with_len}
 use Rattle.dma_insn.specs.declared.insn.Insn.{Insn}
 use Rattle.dma_insn.specs.declared.insn.Insn.TheVariants.{Mov, Ld, St, End, LpEnd}
@@ -35,10 +36,7 @@ passed b c o e f = ap (λ (x : Bool). cond x (Some c) o) e ∙ f
 
 -- a jump back that is executed stays in the program
 pub no_jump : (n pc back : ℕ) → (nat_lt 0 n && nat_lt pc back) ≡ false → 0 < n → back ≤ pc
-no_jump n pc back e some = elim (cases_lt pc back) [
-  | inl low ↦ absurd (true≢false (let f : (nat_lt 0 n && nat_lt pc back) ≡ true = rw (lt-ltb 0 n some, lt-ltb pc back low) refl in sym f ∙ e))
-  | inr le ↦ le
-]
+no_jump n pc back e some = grind (arith, nat_tests)
 
 -- DMAMOV while the buffer is empty
 pub mov_empty : (i : Insn) (x : Trace) → held x ≡ 0 → stop_of_mov i x ≡ None
@@ -50,14 +48,7 @@ mov_empty i x e =
 -- a DMAMOV that doesn't change the next store
 pub drops_same : (bus : Bus) (b : Burst) → drops bus b b ≡ false
 drops_same Ideal b = refl
-drops_same (Chip width) b =
-    let lane = b.addr % 2 ^ bus_code width in
-    ap (λ (x : Bool). x || (if b.increments then not b.increments else (b.increments || not (b.size == b.size)))) (ap not (eq-eqb lane lane refl))
-    ∙ by b.increments (not (b.size == b.size)) (ap not (eq-eqb b.size b.size refl))
-  where
-    by : (i m : Bool) → m ≡ false → (if i then not i else (i || m)) ≡ false
-    by true m e = refl
-    by false m e = e
+drops_same (Chip width) b = grind (arith, nat_tests)
 
 -- a burst that ends at or below the last address
 pub ends_low : (b : Burst) → b.addr + span_of b ≤ end_of_addresses → passes b ≡ false

@@ -1,8 +1,10 @@
 -- The code of pieces, one after the other: its bytes and its cost.
-use Rattle.std.proofs.Common.{◌≡◌, ℕ, zero, suc, ◌+◌, ◌*◌, ◌/◌, ◌%◌, ◌^◌, ◌<◌, ◌≤◌, List, [], ◌∷◌, ◌++◌, length, refl, sym, ap, ◌∙◌, arith, drop, get_or, map, drop-cons, add-one, append_assoc, append-nil, length-append, Option, Some, None, Bool, true, false, subst}
+use Rattle.std.proofs.Common.{◌≡◌, ℕ, zero, suc, ◌+◌, ◌*◌, ◌/◌, ◌%◌, ◌^◌, ◌<◌, ◌≤◌, List, [], ◌∷◌, ◌++◌, length, refl, sym, ap, ◌∙◌, arith, drop, get_or, map, append_assoc, append-nil, length-append, Option, Some, None, Bool, true, false, subst}
 use Rattle.std.specs.Prelude.{replicate, if◌then◌else◌}
 use Rattle.std.specs.List.{AllByRecursion, All, range_with_len, flat_map}
+use Rattle.std.proofs.lemmas.List.{drop_more, length-map}
 use Rattle.std.proofs.lemmas.List.Elements.{All-from_recursion, All-head, All-tail}
+use Rattle.std.proofs.lemmas.List.Folds.{flat_map-map}
 use Rattle.std.proofs.lemmas.List.FromFn.{length-range_with_len}
 use Rattle.dma_mem.specs.declared.segment.Segment.{Segment}
 use Rattle.dma_mem.specs.Places.{Descriptor, places, sources, destinations}
@@ -11,15 +13,14 @@ use Rattle.dma_chan.specs.declared.bus.Bus.{Bus}
 use Rattle.dma_chan.specs.declared.pieces.Piece.{Piece}
 use Rattle.dma_chan.specs.Compiled.{pieces, fill_piece, fill_pieces, pieces_of, piece_tree, beat_of, parts, where_some, under, control_word, bursts, body, wait_tree, signal_tree, tree_on}
 use Rattle.dma_chan.specs.inner.Compiling.{byte_count, IsRange}
-use Rattle.dma_chan.specs.Tree.{Tree, bytes_of, in_order}
+use Rattle.dma_chan.specs.Tree.{Tree, bytes_of, in_order, Nothing}
 use Rattle.dma_chan.proofs.CutPlaces.{IsPiece, pieces_right, read_by, written_by}
 
 -- what is left to spell, after one more piece
 pub rest_more : (bus : Bus) (ps : List Piece) (i : ℕ) (d : Piece) (old now new : List ℕ) → i < length ps → new ≡ now ++ bytes_of (piece_tree bus (get_or ps i d)) → now ++ bytes_of (in_order (map (piece_tree bus) (drop i ps))) ≡ old → new ++ bytes_of (in_order (map (piece_tree bus) (drop (i + 1) ps))) ≡ old
 rest_more bus ps i d old now new h e inv =
-    let cut : drop i ps ≡ get_or ps i d ∷ drop (i + 1) ps = drop-cons ps i d h ∙ rw add-one refl in
     let rest = bytes_of (in_order (map (piece_tree bus) (drop (i + 1) ps))) in
-    ap (λ (xs : List ℕ). xs ++ rest) e ∙ append_assoc now (bytes_of (piece_tree bus (get_or ps i d))) rest ∙ ap (λ (xs : List Piece). now ++ bytes_of (in_order (map (piece_tree bus) xs))) (sym cut) ∙ inv
+    ap (λ (xs : List ℕ). xs ++ rest) e ∙ append_assoc now (bytes_of (piece_tree bus (get_or ps i d))) rest ∙ ap (λ (xs : List Piece). now ++ bytes_of (in_order (map (piece_tree bus) xs))) (sym (drop_more ps i d h)) ∙ inv
 
 -- ---- what holds of a transfer's lists
 
@@ -39,9 +40,6 @@ same_count_by : (fill : Bool) (src dst : List Segment) → fill ≡ false → le
 same_count_by false src dst e h = sym (byte_count_places src) ∙ h ∙ byte_count_places dst
 same_count_by true src dst e h = absurd (cc)
 
-pub same_count : (t : Descriptor) → IsTransfer t → t.fill ≡ false → byte_count t.src ≡ byte_count t.dst
-same_count t h e = same_count_by t.fill t.src t.dst e h.same_length
-
 -- what holds of a transfer's pieces
 pub record IsCut (src dst : List ℕ) (ps : List Piece) : Type 0 where
   pub sources : read_by ps ≡ src
@@ -57,14 +55,6 @@ again_places a s (suc n) rest = ap (λ (xs : List ℕ). a ∷ xs) (again_places 
 fill_reads : (a : ℕ) (ds : List Segment) → read_by (map (fill_piece a) ds) ≡ flat_map (λ (d : ℕ). a ∷ []) (places ds)
 fill_reads a [] = refl
 fill_reads a (d ∷ ds) = ap (λ (xs : List ℕ). replicate d.len a ++ xs) (fill_reads a ds) ∙ sym (again_places a d.addr d.len (places ds))
-
-fill_writes : (a : ℕ) (ds : List Segment) → written_by (map (fill_piece a) ds) ≡ places ds
-fill_writes a [] = refl
-fill_writes a (d ∷ ds) = ap (λ (xs : List ℕ). range_with_len d.addr d.len ++ xs) (fill_writes a ds)
-
-length_fill : (a : ℕ) (ds : List Segment) → length (map (fill_piece a) ds) ≡ length ds
-length_fill a [] = refl
-length_fill a (d ∷ ds) = ap suc (length_fill a ds)
 
 fill_fits : (a : ℕ) (ds : List Segment) → a < 2 ^ 32 → byte_count ds ≤ 2 ^ 20 → AllByRecursion IsRange ds → AllByRecursion IsPiece (map (fill_piece a) ds)
 fill_fits a [] low few all = tt
@@ -83,11 +73,11 @@ cut_by true src dst one ss ds same low =
     let a = w.0 in
     let range : AllByRecursion IsRange (record { addr = a; len = 1 } ∷ []) = subst (λ (list : List Segment). AllByRecursion IsRange list) w.1 (are_ranges src ss) in
     rw (← fill_pieces_one a src dst w.1) (
-    rw w.1 (record { sources = fill_reads a dst; destinations = fill_writes a dst; fit = fill_fits a dst (omega (arith, range.0.1)) low (are_ranges dst ds); few = omega (arith, ds.few, length_fill a dst) }))
+    rw w.1 (record { sources = fill_reads a dst; destinations = flat_map-map (λ (p : Piece). range_with_len p.dst p.len) (fill_piece a) dst; fit = fill_fits a dst (omega (arith, range.0.1)) low (are_ranges dst ds); few = omega (arith, ds.few, length-map dst (fill_piece a)) }))
 
 pub cut_well : (t : Descriptor) → IsTransfer t → IsCut (sources t) (destinations t) (pieces_of t)
 cut_well t h =
-    cut_by t.fill t.src t.dst h.one_byte h.source_list h.destination_list (same_count t h) (omega (arith, h.short, byte_count_places t.dst))
+    cut_by t.fill t.src t.dst h.one_byte h.source_list h.destination_list (λ e. same_count_by t.fill t.src t.dst e h.same_length) (omega (arith, h.short, byte_count_places t.dst))
 
 pub all_small : (ps : List Piece) → AllByRecursion IsPiece ps → AllByRecursion (λ p. p.len ≤ 2 ^ 20) ps
 all_small [] h = tt
@@ -119,14 +109,11 @@ four_bytes a b c i j k f g h = omega (arith, length-append a (b ++ (c ++ (0 ∷ 
 bursts_bytes : (q : ℕ) → length (bytes_of (bursts q)) ≤ 20
 bursts_bytes q = two_bytes _ _ 12 8 (some_bytes (q / 256) 12 _ (omega arith)) (some_bytes (q % 256) 8 _ (omega arith))
 
-under_bytes : (w k : ℕ) (t : Tree) → length (bytes_of t) ≤ k → length (bytes_of (under w t)) ≤ 6 + k
-under_bytes w k t h = omega arith
-
 parts_bytes : (fill : Bool) (b n : ℕ) → length (bytes_of (parts fill b n)) ≤ 46
 unfolding parts
 parts_bytes fill b n =
     three_bytes _ _ _ 26 10 10
-    (some_bytes (n / (16 * b)) 26 (under (control_word fill b 16) (bursts (n / (16 * b)))) (under_bytes (control_word fill b 16) 20 (bursts (n / (16 * b))) (bursts_bytes (n / (16 * b)))))
+    (some_bytes (n / (16 * b)) 26 (under (control_word fill b 16) (bursts (n / (16 * b)))) (omega (arith, bursts_bytes (n / (16 * b)))))
     (some_bytes (n % (16 * b) / b) 10 (under (control_word fill b (n % (16 * b) / b)) body) (omega arith))
     (some_bytes (n % (16 * b) % b) 10 (under (control_word fill 1 (n % (16 * b) % b)) body) (omega arith))
 
@@ -150,3 +137,17 @@ pub compiled_bytes : (bus : Bus) (t : Descriptor) → IsTransfer t → length (b
 compiled_bytes bus t h =
     let all = four_bytes (bytes_of (wait_tree t.wait)) (bytes_of (in_order (map (piece_tree bus) (pieces_of t)))) (bytes_of (signal_tree t.signal)) 2 (58 * length (pieces_of t)) 2 (wait_bytes t.wait) (pieces_bytes bus (pieces_of t)) (signal_bytes t.signal) in
     omega (arith, all, pieces_few t h)
+
+-- ---- a part that is present if its number isn't 0
+
+pub where_some_there : (n : ℕ) (t : Tree) → 0 < n → where_some n t ≡ t
+where_some_there zero t h = absurd (omega arith)
+where_some_there (suc n) t h = refl
+
+pub where_some_none : (n : ℕ) (t : Tree) → n ≡ 0 → where_some n t ≡ Nothing
+where_some_none zero t h = refl
+where_some_none (suc n) t h = absurd (omega arith)
+
+-- three lists appended, one after the other
+pub appended : (old a b c one two new : List ℕ) → one ≡ old ++ a → two ≡ one ++ b → new ≡ two ++ c → new ≡ old ++ (a ++ (b ++ c))
+appended old a b c one two new e f g = g ∙ ap (λ (xs : List ℕ). xs ++ c) (f ∙ ap (λ (xs : List ℕ). xs ++ b) e ∙ append_assoc old a b) ∙ append_assoc old (a ++ b) c ∙ ap (λ (xs : List ℕ). old ++ xs) (append_assoc a b c)

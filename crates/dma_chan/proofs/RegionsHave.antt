@@ -1,6 +1,7 @@
 -- An address that lies in a region lies in no gap, and below the size of the regions' memory.
 use Rattle.std.proofs.Common.{◌≡◌, ℕ, ◌≤◌, ◌||◌, List, [], ◌∷◌, ◌++◌, Bool, true, false, refl, ◌∙◌, arith, inl, inr}
 use Rattle.std.specs.List.{list_any}
+use Rattle.std.proofs.lemmas.Bool.{or_from}
 use Rattle.dma_mem.specs.declared.marks.MarkKind.TheVariants.{Reading, Writing}
 use Rattle.dma_mem.specs.Lent.{lies_in_any, stores_at}
 use Rattle.dma_mem.specs.Regions.{Piece, end_of, has, rises_from, gaps_above, gaps_of, pieces_of, read_only_of}
@@ -31,9 +32,6 @@ in_no_gap at (p ∷ ps) a h lies = let f = first at p ps h in by (has a p) refl 
         let begun : p.addr ≤ a = omega (arith, low (end_of p) ps a f.rest lies) in
         past_first_gap at p ps a (inr begun) f.after ∙ later lies
 
-in_neither : (b c : Bool) → b ≡ false → c ≡ false → (b || c) ≡ false
-in_neither b c e f = rw (e, f) refl
-
 pub gaps_miss : GapsMiss
 gaps_miss regions marks t order have misses =
     let pieces = pieces_of regions in
@@ -42,9 +40,9 @@ gaps_miss regions marks t order have misses =
     record {
       reads = λ a i.
           is_marked_at Reading (gaps_of pieces) others a
-          ∙ in_neither _ _ (in_no_gap 0 pieces a order (have.touched a (inl i))) (loads_in read_only marks a ∙ misses.reads a i);
+          ∙ or_from _ _ (in_no_gap 0 pieces a order (have.touched a (inl i))) (loads_in read_only marks a ∙ misses.reads a i);
       writes = λ a i.
           is_marked_at Writing (gaps_of pieces) others a
-          ∙ in_neither _ _ (in_no_gap 0 pieces a order (have.touched a (inr i)))
-          (stores_in read_only marks a ∙ in_neither _ _ (have.writable a i) (misses.writes a i));
+          ∙ or_from _ _ (in_no_gap 0 pieces a order (have.touched a (inr i)))
+          (stores_in read_only marks a ∙ or_from _ _ (have.writable a i) (misses.writes a i));
     }

@@ -107,6 +107,8 @@ saved_rest c = simp append_assoc
 
 -- These bytes have the parts of this channel.
 pub record HasParts (c : ChannelValue) (save : List ℕ) : Type 0 where
+  pub ranges : HasHeadRanges (head_of c)
+  pub rest : save ≡ head_bytes (head_of c) ++ rest_of c
   pub fits : FitsIn (length save) (head_of c)
   pub channel : channel_in save (head_of c) ≡ c
   pub again : sealed (head_bytes (head_of c) ++ (buffer_in save (head_of c) ++ []) ++ program_in save (head_of c)) ≡ save
@@ -124,6 +126,8 @@ saved_parts c save v e =
     let program : program_in save (head_of c) ≡ code_of c = rw (apart, drop_at (head ++ c.buffer) (code_of c ++ check) (48 + length c.buffer) len) (take_at (code_of c) check (length (code_of c)) refl) in
     let total : length save ≡ 48 + length c.buffer + length (code_of c) + 4 = rw apart (omega (arith, len, length-append (head ++ c.buffer) (code_of c ++ check), length-append (code_of c) check)) in
     record {
+      ranges = head_ranges c v;
+      rest = whole;
       fits = record {
         buffer = v.buffer_limit;
         program = code_fits c.registers.pc c.program v.program;
@@ -134,6 +138,10 @@ saved_parts c save v e =
       channel = rw (program, buffer, program_again c.program) refl;
       again = rw (buffer, program, append-nil) (sym e);
     }
+
+-- so does the save of the same channel on any bus
+pub saved_parts_on : (bus : Bus) (c : ChannelValue) (save : List ℕ) → IsChannelValue c → save ≡ saved c → HasParts (on_bus bus c) save
+saved_parts_on bus c save v e = saved_parts (on_bus bus c) save (value_on bus c v) (e ∙ sym (saved_on bus c))
 
 -- ---- what every channel satisfies
 

@@ -53,15 +53,11 @@ module _ (bus : Bus) (program : List ℕ) (t : Descriptor) (n : ℕ) (first : Li
   pub leads : (c : Call) → Runs bus program t n first c.found → DoesCall c → Leads bus program t n first c.last c.left
   leads c r does = call bus program t n c.marks first h low c.found c.left c.most c.taken c.last r does.steps
 
-  -- a channel that runs the program executes it
-  runs_in : (s : Machine) → Runs bus program t n first s → Executes bus program n s.channel
-  runs_in s r = (r.0, is_in bus program t n first r.0 s.image s.channel r.1)
-
   pub has_copied : (c : Call) → Runs bus program t n first c.found → DoesCall c → HasCopied bus program t n (bytes_in first) (bytes_in c.left.image) c
   has_copied c r does = record {
     bytes = has_first c.last c.left (leads c r does);
     writes = λ a i.
-        let stays = call_stays_in bus program t n c.marks c.found c.most c.taken c.last c.left h (runs_in c.found r) does.steps in
+        let stays = call_stays_in bus program t n c.marks c.found c.most c.taken c.last c.left h (r.0, is_in bus program t n first r.0 c.found.image c.found.channel r.1) does.steps in
         stays.writes a (subst (λ (w : Segment). LiesIn w a) does.written i);
     signals = λ e reported. signalled bus program t n c.marks first h low c.found c.left c.most c.taken c.last e r does.steps (sym does.signal ∙ reported);
     ends = λ over. (subst (λ (o : Option ChanTurn). Leads bus program t n first o c.left) over (leads c r does)).stored;

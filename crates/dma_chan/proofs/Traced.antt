@@ -1,10 +1,10 @@
 -- A run without memory, and one instruction of the machine beside it.
-use Rattle.std.proofs.Common.{◌≡◌, ℕ, zero, suc, ◌+◌, ◌-◌, ◌≤◌, ◌<◌, Bool, true, false, ltb, ◌&&◌, List, [], ◌∷◌, ◌++◌, length, get_or, take, drop, refl, sym, ap, ◌∙◌, subst, arith, append_assoc, append-nil, length-append, inl, inr, Result, Ok, Err}
-use Rattle.std.specs.Prelude.{not, nat_eq, nat_lt, slice_index, slice_index_or, slice_set, unwrap_or}
+use Rattle.std.proofs.Common.{◌≡◌, ℕ, zero, suc, ◌+◌, ◌-◌, ◌≤◌, ◌<◌, Bool, true, false, ltb, List, [], ◌∷◌, ◌++◌, length, get_or, take, drop, refl, sym, ap, ◌∙◌, subst, arith, append_assoc, append-nil, length-append, inl, inr, Result, Ok, Err}
+use Rattle.std.specs.Prelude.{nat_eq, slice_index, slice_index_or, slice_set, unwrap_or}
 use Rattle.std.specs.List.{Contains, range_with_len, zip}
 use Rattle.std.specs.Map.{keys_of, lookup}
-use Rattle.std.proofs.lemmas.Bool.{and_from, cond_both, le-ltb, lt-ltb, cases_lt, not_from_false, true≢false}
-use Rattle.std.proofs.lemmas.List.{map-append, drop-append-le, take_at, drop_at, drop-drop, length-drop, length-take-le, take-map, drop-map, take-append-le}
+use Rattle.std.proofs.lemmas.Bool.{cond_both, le-ltb, cases_lt, true≢false}
+use Rattle.std.proofs.lemmas.List.{map-append, drop-append-le, take_at, drop_at, drop-drop, length-drop, length-map, length-take-le, take-map, drop-map, take-append-le}
 use Rattle.std.proofs.lemmas.List.Elements.{Contains-append_left, Contains-append_right}
 use Rattle.std.proofs.Math.Seq.{take-add}
 use Rattle.dma_insn.specs.declared.insn.Reg.TheVariants.{Ccr}
@@ -12,8 +12,7 @@ use Rattle.dma_insn.specs.declared.insn.Insn.{Insn}
 use Rattle.dma_insn.specs.declared.insn.Insn.TheVariants.{Mov, Ld, St, End, LpEnd, Sev, Wfe}
 use Rattle.dma_mem.specs.Image.{put, after_moves, carried, laid}
 use Rattle.dma_mem.specs.Places.{Descriptor, Apart, sources, destinations, moves}
-use Rattle.dma_mem.specs.Marking.{MarkList, is_marked}
-use Rattle.dma_mem.specs.declared.marks.MarkKind.{MarkKind}
+use Rattle.dma_mem.specs.Marking.{MarkList}
 use Rattle.dma_mem.specs.declared.marks.MarkKind.TheVariants.{Reading, Writing}
 use Rattle.dma_mem.proofs.ImageOver.{after_moves_more, get_or_after_moves_other, length_after_moves}
 use Rattle.dma_mem.proofs.ImagePut.{get_or_put, length_put}
@@ -27,10 +26,11 @@ use Rattle.dma_chan.specs.Bursts.{burst_len, reaches, touched, writes_of}
 use Rattle.dma_chan.specs.Exec.{source_of, destination_of, counter_of, State, state, act, read_at, moved}
 use Rattle.dma_chan.specs.Others.{Misses, Touches}
 use Rattle.dma_chan.specs.Explains.{Trace, after_insn, after_fetch, next_in, traced, IsCopy}
+use Rattle.dma_chan.proofs.BurstReach.{reaches_all}
 use Rattle.dma_chan.proofs.BurstsInTurn.{left_up}
 use Rattle.dma_chan.proofs.ControlWords.{touched_up}
 use Rattle.dma_chan.proofs.GoingOn.{Can, length_up}
-use Rattle.dma_chan.proofs.MemberActs.{cannot_jump, length_read_at}
+use Rattle.dma_chan.proofs.MemberActs.{cannot_jump}
 
 -- ---- the lists grow
 
@@ -113,17 +113,6 @@ source_kept first t k a copy i = get_or_after_moves_other first (moves t k) a (�
 pub length_laid : (first : List ℕ) (t : Descriptor) (k : ℕ) → length (laid first t k) ≡ length first
 length_laid first t k = length_after_moves first (moves t k)
 
--- ---- where a burst isn't stopped
-
-pub reaches_all : (kind : MarkKind) (marks : MarkList) (size : ℕ) (places : List ℕ) → ((a : ℕ) → Contains places a → a < size) → ((a : ℕ) → Contains places a → is_marked kind marks a ≡ false) → reaches kind marks size places ≡ true
-unfolding reaches
-reaches_all kind marks size [] low none = refl
-reaches_all kind marks size (a ∷ places) low none =
-    let here : Contains (a ∷ places) a = (0, omega arith, refl) in
-    let rest = λ (b : ℕ) (i : Contains places b). Contains-append_right (a ∷ []) places b i in
-    let one : (nat_lt a size && not (is_marked kind marks a)) ≡ true = and_from _ _ (lt-ltb a size (low a here)) (not_from_false _ (none a here)) in
-    and_from _ _ one (reaches_all kind marks size places (λ b i. low b (rest b i)) (λ b i. none b (rest b i)))
-
 -- ---- the machine beside the run without memory
 
 -- Registers, buffer and memory after a run, if the memory was `first` before it: the buffer has the bytes that were at
@@ -154,7 +143,7 @@ module _ (t : Descriptor) (first : List ℕ) (marks : MarkList) (copy : IsCopy t
   here = state x.registers buffer image flags
 
   held : length buffer ≡ length x.loads - length x.stores
-  held = ap length m.buffer_is ∙ length-drop (length x.stores) (read_at first x.loads) ∙ ap (λ (n : ℕ). n - length x.stores) (length_read_at first x.loads)
+  held = ap length m.buffer_is ∙ length-drop (length x.stores) (read_at first x.loads) ∙ ap (λ (n : ℕ). n - length x.stores) (length-map x.loads (slice_index first))
 
   -- an instruction that moves no byte
   quiet : (i : Insn) (r : Registers) (new : List Bool) → Answers t first marks i (record { registers = r; loads = x.loads; stores = x.stores }) (Moved, state r buffer image new)
@@ -173,7 +162,7 @@ module _ (t : Descriptor) (first : List ℕ) (marks : MarkList) (copy : IsCopy t
         buffer_is =
             ap (λ (xs : List ℕ). xs ++ read_at image new) m.buffer_is
             ∙ ap (λ (xs : List ℕ). drop (length x.stores) (read_at first x.loads) ++ xs) bytes
-            ∙ sym (drop-append-le (length x.stores) (read_at first x.loads) (read_at first new) (omega (arith, m.few, length_read_at first x.loads)))
+            ∙ sym (drop-append-le (length x.stores) (read_at first x.loads) (read_at first new) (omega (arith, m.few, length-map x.loads (slice_index first))))
             ∙ ap (drop (length x.stores)) (sym (map-append (λ (a : ℕ). slice_index first a) x.loads new));
         few = omega (arith, m.few, length-append x.loads new);
         same = m.same;

@@ -1,9 +1,9 @@
 -- The instructions of a run without memory, as its tracer keeps them.
-use Rattle.std.proofs.Common.{◌≡◌, ◌≢◌, ℕ, zero, suc, ◌+◌, ◌-◌, ◌*◌, ◌≤◌, Bool, true, false, cond, ◌&&◌, List, [], ◌∷◌, ◌++◌, length, Option, Some, None, Result, Ok, Err, refl, sym, ap, ◌∙◌, subst, arith, append-nil, length-append, inl, inr, IfErr, OnOk, All}
-use Rattle.std.specs.Prelude.{is_err, nat_lt, replicate}
+use Rattle.std.proofs.Common.{◌≡◌, ◌≢◌, ℕ, zero, suc, ◌+◌, ◌-◌, ◌*◌, ◌≤◌, Bool, true, false, cond, ◌&&◌, List, [], ◌∷◌, ◌++◌, length, Some, None, Result, Ok, Err, refl, sym, ap, ◌∙◌, subst, arith, append-nil, length-append, inl, inr, IfErr, OnOk, All}
+use Rattle.std.specs.Prelude.{is_err, nat_lt, not, replicate}
 use Rattle.std.specs.List.{flat_map, range_with_len}
 use Rattle.std.proofs.lemmas.List.FromFn.{length-range_with_len}
-use Rattle.std.proofs.lemmas.Bool.{cases_Bool, le-ltb}
+use Rattle.std.proofs.lemmas.Bool.{cases_Bool, le-ltb, not-false, not-true}
 use Rattle.dma_insn.specs.declared.insn.Counter.{Counter}
 use Rattle.dma_insn.specs.declared.insn.Reg.{Reg}
 use Rattle.dma_insn.specs.declared.insn.Reg.TheVariants.{Sar, Dar, Ccr}
@@ -33,7 +33,7 @@ use Rattle.dma_chan.proofs.BurstReach.{touched_rounds}
 use Rattle.dma_chan.proofs.CallWrites.{act_leads}
 use Rattle.dma_chan.proofs.ControlWords.{advance_up}
 use Rattle.dma_chan.proofs.GoingOn.{drops_same, length_up, passed}
-use Rattle.dma_chan.proofs.RunLists.{one_read, rounds_read}
+use Rattle.dma_chan.proofs.LowestPlaces.{one_read, rounds_read}
 
 -- ---- instructions that change only registers
 
@@ -103,6 +103,11 @@ module _ (b : Bool) (kind : FaultKind) (turn : ChanTurn) (s t : State) (is : tur
         let one : kind ≡ f.0 = cc in
         (fails, f.2 ∙ ap (λ (k : FaultKind). Fails k) (sym one))
   ]
+
+-- the same test the other way round
+turn_not : (b : Bool) (x y : ChanTurn × State) → turn_if (not b) y x ≡ turn_if b x y
+turn_not true x y = refl
+turn_not false x y = refl
 
 -- the answer of an instruction that sets registers
 turn_of : (i : Insn) (r after : Registers) (turn : ChanTurn) → SetsRegisters i r turn after → (act [] i (state r [] [] [])).0 ≡ turn
@@ -183,28 +188,18 @@ module _ {X : Type 0} (done : Result X Cause) (x : Tracer) (after : Registers) (
     abbrev before : Bool
     before = nat_lt 0 (counter_of c x.registers) && nat_lt x.registers.pc back
 
-    is : turn_if before (Fault InstrFetchErr, state x.registers [] [] []) (Moved, record (state x.registers [] [] []) { registers = moved (LpEnd c back) x.registers }) ≡ turn
-    is = turn_of (LpEnd c back) x.registers after turn sets
+    is : turn_if (not before) (Moved, record (state x.registers [] [] []) { registers = moved (LpEnd c back) x.registers }) (Fault InstrFetchErr, state x.registers [] [] []) ≡ turn
+    is = turn_not before _ _ ∙ turn_of (LpEnd c back) x.registers after turn sets
 
     loop_moves : NoFault turn → (turn ≡ Moved) × (stop_of_insn (LpEnd c back) (trace_of x) ≡ None)
-    loop_moves none = elim (cases_Bool before) [
-      | inl holds ↦ absurd (none InstrFetchErr (sym is ∙ ap (λ (b : Bool). turn_if b (Fault InstrFetchErr, state x.registers [] [] []) (Moved, record (state x.registers [] [] []) { registers = moved (LpEnd c back) x.registers })) holds))
-      | inr fails ↦ (
-        sym is ∙ ap (λ (b : Bool). turn_if b (Fault InstrFetchErr, state x.registers [] [] []) (Moved, record (state x.registers [] [] []) { registers = moved (LpEnd c back) x.registers })) fails,
-        passed before (Fails InstrFetchErr) None fails refl,
-      )
-    ]
+    loop_moves none =
+        let w = moves_if (not before) InstrFetchErr turn _ _ is none in
+        (w.1, passed before (Fails InstrFetchErr) None (not-true before w.0) refl)
 
     loop_fails : (cause : Cause) → FaultIs turn cause → stop_of_insn (LpEnd c back) (trace_of x) ≡ Some cause
-    loop_fails cause f = elim (cases_Bool before) [
-      | inl holds ↦
-          let same : Fault InstrFetchErr ≡ Fault f.0 = sym (ap (λ (b : Bool). turn_if b (Fault InstrFetchErr, state x.registers [] [] []) (Moved, record (state x.registers [] [] []) { registers = moved (LpEnd c back) x.registers })) holds) ∙ is ∙ f.1 in
-          let one : InstrFetchErr ≡ f.0 = cc in
-          ap (λ (b : Bool). cond b (Some (Fails InstrFetchErr)) None) holds ∙ ap (λ (k : FaultKind). Some (Fails k)) one ∙ ap (λ (k : Cause). Some k) (sym f.2)
-      | inr fails ↦
-          let bad : Moved ≡ Fault f.0 = sym (ap (λ (b : Bool). turn_if b (Fault InstrFetchErr, state x.registers [] [] []) (Moved, record (state x.registers [] [] []) { registers = moved (LpEnd c back) x.registers })) fails) ∙ is ∙ f.1 in
-          absurd (cc)
-    ]
+    loop_fails cause f =
+        let w = fails_if (not before) InstrFetchErr turn _ _ is cause f in
+        ap (λ (b : Bool). cond b (Some (Fails InstrFetchErr)) None) (not-false before w.0) ∙ ap (λ (k : Cause). Some k) (sym w.1)
 
     pub loop_advances : OnOk done (NoFault turn) → OnOk done (Advances (LpEnd c back) x (record x { registers = after }))
     loop_advances none = answered (LpEnd c back) tt sets loop_moves none
@@ -279,24 +274,9 @@ length_touched b some = elim (cases_Bool b.increments) [
 abbrev parts : Registers → List ℕ → List ℕ → Trace
 parts r loads stores = record { registers = r; loads = loads; stores = stores }
 
--- why a burst of a load, or of a store, stops
-abbrev stop_of_load : Burst → Trace → Option Cause
-stop_of_load b z =
-    cond (nat_lt buffer_size (held z + burst_len b)) (Some (Fails MfifoErr)) (cond (passes b) (Some LoadsPast) None)
-
-abbrev stop_of_store : Burst → Trace → Option Cause
-stop_of_store b z =
-    cond (nat_lt (held z) (burst_len b)) (Some (Fails StDataUnavailable)) (cond (passes b) (Some StoresPast) (cond b.increments None (Some StoresFixed)))
-
 module _ (x : Tracer) (b : Burst) (h : IsTracer x) where
   abbrev z : Trace
   z = trace_of x
-
-  full : (n : ℕ) → n ≡ x.held + burst_len b → n ≤ 256 → nat_lt buffer_size (held z + burst_len b) ≡ false
-  full n is le = le-ltb buffer_size (held z + burst_len b) (omega (arith, is, le, h.held))
-
-  enough : burst_len b ≤ x.held → nat_lt (held z) (burst_len b) ≡ false
-  enough has = le-ltb (held z) (burst_len b) (omega (arith, has, h.held))
 
   pub load_advances : (y : Tracer) → b ≡ source_of x.registers → y.registers ≡ moved Ld x.registers → y.held ≡ x.held + burst_len b → y.held ≤ 256 → passes b ≡ false → places (unrolled y.src.items) ≡ places (unrolled x.src.items) ++ touched b → length (touched b) ≡ burst_len b → All IsRead y.src.items → y.dst ≡ x.dst → y.stored ≡ x.stored → y.events ≡ x.events → Advances Ld x y
   load_advances y is registers more room low src long items dst stored events =
@@ -311,7 +291,7 @@ module _ (x : Tracer) (b : Burst) (h : IsTracer x) where
           src = items;
           dst = subst (λ v. All IsRun v.items) (sym dst) h.dst;
         };
-        goes = ap (λ (c : Burst). stop_of_load c z) (sym is) ∙ passed (nat_lt buffer_size (held z + burst_len b)) (Fails MfifoErr) _ (full y.held more room) (passed (passes b) LoadsPast None low refl);
+        goes = rw (← is) (passed (nat_lt buffer_size (held z + burst_len b)) (Fails MfifoErr) _ (le-ltb buffer_size (held z + burst_len b) (omega (arith, more, room, h.held))) (passed (passes b) LoadsPast None low refl));
         trace = ap (λ (r : Registers). parts r (places (unrolled y.src.items)) (places y.dst.items)) registers
             ∙ ap (λ (xs : List ℕ). parts (moved Ld x.registers) xs (places y.dst.items)) (src ∙ ap (λ (c : Burst). places (unrolled x.src.items) ++ touched c) is)
             ∙ ap (λ v. parts (moved Ld x.registers) (places (unrolled x.src.items) ++ touched (source_of x.registers)) (places v.items)) dst;
@@ -331,7 +311,7 @@ module _ (x : Tracer) (b : Burst) (h : IsTracer x) where
           src = subst (λ v. All IsRead v.items) (sym src) h.src;
           dst = runs;
         };
-        goes = ap (λ (c : Burst). stop_of_store c z) (sym is) ∙ passed (nat_lt (held z) (burst_len b)) (Fails StDataUnavailable) _ (enough has) (passed (passes b) StoresPast _ low (ap (λ (i : Bool). cond i None (Some StoresFixed)) up));
+        goes = rw (← is) (passed (nat_lt (held z) (burst_len b)) (Fails StDataUnavailable) _ (le-ltb (held z) (burst_len b) (omega (arith, has, h.held))) (passed (passes b) StoresPast _ low (ap (λ (i : Bool). cond i None (Some StoresFixed)) up)));
         trace = ap (λ (r : Registers). parts r (places (unrolled y.src.items)) (places y.dst.items)) registers
             ∙ ap (λ (xs : List ℕ). parts (moved St x.registers) (places (unrolled y.src.items)) xs) (dst ∙ ap (λ (c : Burst). places x.dst.items ++ touched c) is)
             ∙ ap (λ v. parts (moved St x.registers) (places (unrolled v.items)) (places x.dst.items ++ touched (destination_of x.registers))) src;

@@ -56,20 +56,13 @@ some_counted : (n k : ℕ) (t : Tree) → counted t ≤ k → counted (where_som
 some_counted zero k t h = omega arith
 some_counted (suc n) k t h = h
 
-sum_two : (a b i j : ℕ) → a ≤ i → b ≤ j → a + (b + 0) ≤ i + j
-sum_two a b i j f g = omega arith
-
-sum_three : (a b c i j k : ℕ) → a ≤ i → b ≤ j → c ≤ k → a + (b + (c + 0)) ≤ i + j + k
-sum_three a b c i j k f g h = omega arith
-
 bursts_counted : (q : ℕ) → counted (bursts q) ≤ 2 + 6 * q
 bursts_counted q =
     let nested = Repeat Lc0 (q / 256) (Repeat Lc1 256 body) in
     let rest = Repeat Lc1 (q % 256) body in
     let many : counted nested ≤ 1 + 1282 * (q / 256) = omega arith in
     let few : counted rest ≤ 1 + 5 * (q % 256) = omega arith in
-    let both = sum_two (counted (where_some (q / 256) nested)) (counted (where_some (q % 256) rest)) (1 + 1282 * (q / 256)) (1 + 5 * (q % 256)) (some_counted (q / 256) (1 + 1282 * (q / 256)) nested many) (some_counted (q % 256) (1 + 5 * (q % 256)) rest few) in
-    omega (arith, both)
+    omega (arith, some_counted (q / 256) (1 + 1282 * (q / 256)) nested many, some_counted (q % 256) (1 + 5 * (q % 256)) rest few)
 
 -- q bursts of 16 beats, each of at least one byte
 bursts_below : (q b : ℕ) → 1 ≤ b → 16 * q ≤ q * (16 * b)
@@ -88,9 +81,8 @@ parts_counted fill b n low =
     let one : counted x ≤ 3 + 6 * q = let all = bursts_counted q in omega (arith, all) in
     let two : counted y ≤ 5 = omega arith in
     let three : counted z ≤ 5 = omega arith in
-    let all = sum_three (counted (where_some q x)) (counted (where_some m y)) (counted (where_some l z)) (3 + 6 * q) 5 5 (some_counted q (3 + 6 * q) x one) (some_counted m 5 y two) (some_counted l 5 z three) in
     let whole : 16 * q ≤ n = omega (arith, bursts_below q b low, div-mul-le_self n (16 * b)) in
-    omega (arith, all, whole)
+    omega (arith, some_counted q (3 + 6 * q) x one, some_counted m 5 y two, some_counted l 5 z three, whole)
 
 piece_counted : (bus : Bus) (p : Piece) → 16 * counted (piece_tree bus p) ≤ 240 + 6 * p.len
 piece_counted bus p = let all = parts_counted p.fill (beat_of bus p) p.len (beat_right bus p).low in omega (arith, all)

@@ -170,6 +170,7 @@ fn may_touch<M: Ram>(kind: MarkKind, marks: &Marks, memory: &M, burst: Burst) ->
 }
 
 // Appends a byte to the buffer `count` times, as one run.
+#[tactic(auto, using(crate::proofs::BurstRounds::run_put))]
 fn put_run(buffer: &mut HeapCircularBuffer<u8>, byte: u8, count: u32)
     requires few { count ≤ 16 }
     requires room { length buffer.old.items + count ≤ buffer.old.capacity }
@@ -180,6 +181,7 @@ fn put_run(buffer: &mut HeapCircularBuffer<u8>, byte: u8, count: u32)
 }
 
 // Appends the bytes to the buffer `rounds` times. A single byte, as in the source of a fill, is appended as one run.
+#[tactic(auto, using(crate::proofs::BurstRounds::one_run, crate::proofs::BurstRounds::round_put))]
 fn put_rounds(buffer: &mut HeapCircularBuffer<u8>, bytes: &[u8], rounds: u32)
     requires few { rounds ≤ 16 }
     requires room { length buffer.old.items + rounds * length bytes.now ≤ buffer.old.capacity }
@@ -282,6 +284,7 @@ fn first_of<'a>(front: &'a [u8], back: &'a [u8], count: usize) -> (&'a [u8], &'a
 }
 
 // Returns what follows the first `count` bytes of two slices, as two slices.
+#[tactic(auto, using(crate::proofs::BurstRounds::drop_parts))]
 fn past<'a>(front: &'a [u8], back: &'a [u8], count: usize) -> (&'a [u8], &'a [u8])
     requires { count ≤ length (front.now ++ back.now) }
     ensures bytes { result.0.now ++ result.1.now ≡ drop count (front.now ++ back.now) }

@@ -62,7 +62,7 @@ pub fn compile(alloc: Global, transfer: &Transfer) -> Result<Program, NoMemory>
 /// and a source address that doesn't rise.
 ///
 /// It takes time in proportion to the number of pieces. The error is `NoMemory` if an allocation fails.
-#[tactic(auto, unfolding(crate::specs::Compiled::compiled_on))]
+#[tactic(auto, unfolding(crate::specs::Compiled::compiled_on), using(crate::proofs::PieceCode::compiled_bytes))]
 pub fn compile_on(alloc: Global, bus: Bus, transfer: &Transfer) -> Result<Program, NoMemory>
     ensures program { IfOk result (λ program. program ≡ compiled_on bus transfer.now) }
     ensures limit { IfOk result (λ program. length program.bytes ≤ most_compiled) }
@@ -74,6 +74,7 @@ pub fn compile_on(alloc: Global, bus: Bus, transfer: &Transfer) -> Result<Progra
 }
 
 // Returns the bytes of a transfer's code for a bus, from its pieces. Room for all bytes is allocated first.
+#[tactic(auto, using(crate::proofs::PieceCode::pieces_small, crate::proofs::PieceCode::pieces_few))]
 fn code_of(
     alloc: Global,
     bus: Bus,
@@ -172,7 +173,7 @@ fn push_parts(code: &mut Vec<u8>, beat: Beat, len: u32) -> Result<(), AllocError
 }
 
 // Appends `count` bursts of 16 beats under their control word, or nothing if `count` is 0.
-#[tactic(auto, using(crate::proofs::TreeParts::where_some_there, crate::proofs::TreeParts::where_some_none))]
+#[tactic(auto, using(crate::proofs::PieceCode::where_some_there, crate::proofs::PieceCode::where_some_none))]
 fn push_whole_bursts(code: &mut Vec<u8>, beat: Beat, count: u32) -> Result<(), AllocError>
     requires { count ≤ 65536 }
     ensures ok { OnOk result (Appends code.old.items code.new.items
@@ -195,7 +196,7 @@ fn push_bursts(code: &mut Vec<u8>, count: u32) -> Result<(), AllocError>
 }
 
 // Appends `turns` rounds of 256 bursts as nested loops, or nothing if `turns` is 0.
-#[tactic(auto, using(crate::proofs::TreeParts::where_some_there, crate::proofs::TreeParts::where_some_none))]
+#[tactic(auto, using(crate::proofs::PieceCode::where_some_there, crate::proofs::PieceCode::where_some_none))]
 fn push_nested_loop(code: &mut Vec<u8>, turns: u16) -> Result<(), AllocError>
     requires { turns ≤ 256 }
     ensures ok { OnOk result (Appends code.old.items code.new.items
@@ -212,7 +213,7 @@ fn push_nested_loop(code: &mut Vec<u8>, turns: u16) -> Result<(), AllocError>
 }
 
 // Appends a loop of `rest` bursts, or nothing if `rest` is 0.
-#[tactic(auto, using(crate::proofs::TreeParts::where_some_there, crate::proofs::TreeParts::where_some_none))]
+#[tactic(auto, using(crate::proofs::PieceCode::where_some_there, crate::proofs::PieceCode::where_some_none))]
 fn push_rest(code: &mut Vec<u8>, rest: u16) -> Result<(), AllocError>
     requires { rest ≤ 256 }
     ensures ok { OnOk result (Appends code.old.items code.new.items
@@ -239,7 +240,7 @@ fn push_loop(code: &mut Vec<u8>, turns: u16) -> Result<(), AllocError>
 }
 
 // Appends one burst of this number of beats under its control word, or nothing if the number is 0.
-#[tactic(auto, using(crate::proofs::TreeParts::where_some_there, crate::proofs::TreeParts::where_some_none))]
+#[tactic(auto, using(crate::proofs::PieceCode::where_some_there, crate::proofs::PieceCode::where_some_none))]
 fn push_burst(code: &mut Vec<u8>, beat: Beat, beats: u32) -> Result<(), AllocError>
     requires { beats ≤ 16 }
     ensures ok { OnOk result (Appends code.old.items code.new.items

@@ -132,7 +132,7 @@ fn jump_fault(counter: Counter, back: u8, registers: &Registers) -> Option<Fault
 }
 
 // Executes DMALPEND.
-#[tactic(auto, using(crate::proofs::LoopEnds::looped_again))]
+#[tactic(auto, using(crate::proofs::TreeWalk::looped_again))]
 pub(crate) fn end_loop(counter: Counter, back: u8, registers: &mut Registers) -> ChanTurn
     requires pc { registers.old.pc + 2 ≤ most_program_bytes }
     ensures exact { SetsRegisters (LpEnd counter back) registers.old result registers.new }

@@ -57,9 +57,9 @@ pub struct BurstCounts {
     pub stores: u32,
     /// How many pairs of a DMALD and a DMAST are in turns of loops that a channel runs as blocks, many turns at once.
     ///
-    /// The body of such a loop is pairs of a DMALD and a DMAST, with any number of DMARMB, DMAWMB and DMANOP between and
-    /// around them. Loads move as many bytes as stores, destinations rise, sources rise too or are one byte, and the
-    /// buffer is empty between turns. Each executed DMALPEND counts the pairs of one turn.
+    /// The body of such a loop is pairs of a DMALD and a DMAST, with any number of DMARMB, DMAWMB and DMANOP between
+    /// and around them. Loads move as many bytes as stores, destinations rise, sources rise too or are one byte, and
+    /// the buffer is empty between turns. Each executed DMALPEND counts the pairs of one turn.
     pub in_blocks: u64,
 }
 
@@ -109,7 +109,8 @@ pub enum Cause {
     NoMemory,
 }
 
-/// Why no copy explains a program, and where. For `TooLong` and `NoMemory` all but the cause means nothing.
+/// Tells why no copy explains a program, and at which instruction. If the cause is `TooLong` or `NoMemory`, the other
+/// fields say nothing.
 #[derive(Clone, Copy, PartialEq, Eq, Debug)]
 pub struct Unexplained {
     pub cause: Cause,

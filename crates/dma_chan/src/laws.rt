@@ -24,6 +24,7 @@ pub fn runs_in_step()
 
 /// If all destinations of a transfer lie on made pages, each instruction of its program is ready: the pages that it
 /// writes are made.
+#[tactic(auto, using(crate::proofs::ReadyLaws::ready_is))]
 pub fn is_ready_on_pages()
     ensures { ReadyIs }
 {}
@@ -35,6 +36,7 @@ pub fn stores_in_turn()
 {}
 
 /// The limit on the number of instructions that a transfer costs.
+#[tactic(auto, using(crate::proofs::TreeCosts::cost_is, crate::proofs::TreeCosts::cost_below))]
 pub fn costs_little()
     ensures ideal { CostIs }
     ensures on_bus { CostOnBus }
@@ -68,6 +70,7 @@ pub fn addresses_align()
 
 /// All copies that explain a program have the same places in the same order. So what `explain::explain` returns is the
 /// only explanation, up to how its ranges are cut into segments.
+#[tactic(auto, using(crate::proofs::Explaining::explained_once))]
 pub fn is_explained_once()
     ensures { ExplainedOnce }
 {}
@@ -102,6 +105,7 @@ pub fn writes_no_other()
 {}
 
 /// Each address in the range that a call over lent memory reports as written was written by one of its steps.
+#[tactic(auto, using(crate::proofs::SteppedOver::writes_each))]
 pub fn writes_each()
     ensures { WritesEach }
 {}

@@ -116,7 +116,7 @@ impl<'a> Pieces<'a> {
     }
 
     /// Takes the next piece, if any.
-    #[tactic(auto, using(crate::proofs::CutSteps::none_to_read, crate::proofs::CutSteps::none_to_write))]
+    #[tactic(auto, using(crate::proofs::CutPlaces::none_to_read, crate::proofs::CutPlaces::none_to_write))]
     pub(crate) fn next(&mut self) -> Option<Piece>
         ensures { MatchOption result (self.old ≡ []) (λ piece. self.old ≡ piece ∷ self.new) }
     {

@@ -1,5 +1,5 @@
 use Rattle.std.proofs.Common.{arith}
-use Rattle.dma_chan.proofs.TwoSlices.{span_within}
+use Rattle.dma_chan.proofs.BurstRounds.{span_within}
 use Rattle.dma_chan.proofs.ReadyLaws.{span_made}
 use Rattle.dma_chan.proofs.bursts.store_span.Goals as goal
 

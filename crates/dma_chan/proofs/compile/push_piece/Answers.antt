@@ -1,5 +1,5 @@
 use Rattle.std.proofs.Math.Bool.{not-not}
-use Rattle.dma_chan.proofs.TreeParts.{appended}
+use Rattle.dma_chan.proofs.PieceCode.{appended}
 use Rattle.dma_chan.proofs.compile.push_piece.Goals as goal
 
 pub returns : goal.returns

@@ -1,5 +1,5 @@
 use Rattle.dma_insn.specs.declared.insn.Insn.TheVariants.{LpEnd}
-use Rattle.dma_chan.proofs.WaitsAndFaults.{faulted}
+use Rattle.dma_chan.proofs.ActCases.{faulted}
 use Rattle.dma_chan.proofs.exec.end_loop.Goals as goal
 
 pub returns-in-Some-clause-exact : goal.returns-in-Some-clause-exact

@@ -1,4 +1,4 @@
-use Rattle.dma_chan.proofs.ExplainedAlone.{explained_copies_alone}
+use Rattle.dma_chan.proofs.AmongOthers.{explained_copies_alone}
 use Rattle.dma_chan.proofs.laws.explained_copies_alone.Goals as goal
 
 pub returns : goal.returns

@@ -3,8 +3,7 @@ use Rattle.dma_chan.specs.declared.run.RunEnd.TheVariants as ends
 use Rattle.dma_chan.specs.Exec.{State}
 use Rattle.dma_chan.specs.Channel.{state_of}
 use Rattle.dma_chan.specs.Run.{opening}
-use Rattle.dma_chan.proofs.RunAlone.{HasRun, run_on, stops_unread}
-use Rattle.dma_chan.proofs.RunPages.{made_at_end, made_at_refusal, made_on}
+use Rattle.dma_chan.proofs.RunAlone.{HasRun, made_at_end, made_at_refusal, made_on, run_on, stops_unread}
 use Rattle.dma_mem.specs.Lent.{with_gaps}
 use Rattle.dma_chan.proofs.run.run_on.Goals as goal
 

@@ -3,8 +3,7 @@ use Rattle.std.specs.Prelude.{IfSome}
 use Rattle.dma_mem.specs.Pages.{has_page}
 use Rattle.dma_mem.specs.Lent.{with_gaps}
 use Rattle.dma_chan.specs.Run.{opening}
-use Rattle.dma_chan.proofs.RunAlone.{HasRun}
-use Rattle.dma_chan.proofs.RunPages.{MadeFor}
+use Rattle.dma_chan.proofs.RunAlone.{HasRun, MadeFor}
 use Rattle.dma_chan.proofs.run.run_on.Given as goal
 
 abbrev pub invariant-loop-turn : goal.invariant-loop-turn

@@ -1,5 +1,5 @@
 use Rattle.std.proofs.Common.{rules, ◌≡◌, ◌+◌, ◌++◌, ap, sym, ◌∙◌}
-use Rattle.dma_chan.proofs.RunLists.{one_read, read_again, reads, two_reads}
+use Rattle.dma_chan.proofs.LowestPlaces.{one_read, read_again, reads, two_reads}
 use Rattle.dma_chan.proofs.explain.Repeated.joined.Goals as goal
 
 pub returns-then-self-next-2-clause-same : goal.returns-then-self-next-2-clause-same

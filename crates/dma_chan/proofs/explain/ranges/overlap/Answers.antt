@@ -6,8 +6,7 @@ use Rattle.dma_mem.specs.Refusals.{some_meet}
 use Rattle.dma_mem.specs.inner.RangesInOrder.{IsOrdered}
 use Rattle.dma_mem.proofs.NeighboursMeet.{ordered_apart}
 use Rattle.dma_chan.specs.Explains.{IsLowest, IsShared, IsTwice, unrolled}
-use Rattle.dma_chan.proofs.LowestPlaces.{shared_permuted, twice_permuted}
-use Rattle.dma_chan.proofs.RunLists.{stores_source, stores_twice, stores_well}
+use Rattle.dma_chan.proofs.LowestPlaces.{shared_permuted, stores_source, stores_twice, stores_well, twice_permuted}
 use Rattle.dma_chan.proofs.explain.ranges.overlap.Goals as goal
 use Rattle.dma_chan.proofs.explain.ranges.overlap.Goals.{After-deref}
 

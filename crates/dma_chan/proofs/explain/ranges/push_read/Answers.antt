@@ -3,7 +3,7 @@ use Rattle.std.specs.Prelude.{slice_set}
 use Rattle.dma_mem.specs.Places.{places}
 use Rattle.dma_chan.specs.declared.explain.Repeated.{Repeated}
 use Rattle.dma_chan.specs.Explains.{unrolled}
-use Rattle.dma_chan.proofs.RunLists.{last_grown, one_read, reads, two_reads, unrolled_reads}
+use Rattle.dma_chan.proofs.LowestPlaces.{last_grown, one_read, reads, two_reads, unrolled_reads}
 use Rattle.dma_chan.proofs.explain.ranges.push_read.Goals as goal
 
 pub returns-in-Some-clause-ok : goal.returns-in-Some-clause-ok

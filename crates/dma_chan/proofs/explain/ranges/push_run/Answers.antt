@@ -1,7 +1,7 @@
 use Rattle.std.proofs.Common.{◌≡◌, ◌+◌, ◌-◌, ◌++◌, length, ap, ◌∙◌, arith}
 use Rattle.dma_mem.specs.declared.segment.Segment.{Segment}
 use Rattle.dma_mem.specs.Places.{range_of}
-use Rattle.dma_chan.proofs.RunLists.{last_grown}
+use Rattle.dma_chan.proofs.LowestPlaces.{last_grown}
 use Rattle.dma_chan.proofs.explain.ranges.push_run.Goals as goal
 
 pub returns-in-Some-clause-ok : goal.returns-in-Some-clause-ok

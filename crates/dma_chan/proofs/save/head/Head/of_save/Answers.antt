@@ -2,34 +2,28 @@ use Rattle.std.proofs.Common.{◌≡◌, [], ◌++◌, true, sym, refl, ◌∙�
 use Rattle.std.proofs.lemmas.Slice.Eq.{slice_eq-Decides}
 use Rattle.std.proofs.lemmas.Bool.Decides.{Decides-eqb}
 use Rattle.dma_chan.specs.Channel.{on_bus}
-use Rattle.dma_chan.specs.Saved.{head_of, head_bytes, saved, sealed}
+use Rattle.dma_chan.specs.Saved.{head_of, head_bytes, sealed}
 use Rattle.dma_chan.specs.inner.Saves.{buffer_in, program_in}
-use Rattle.dma_chan.proofs.SavedParts.{parts_make_channel, saved_on, saved_parts, saved_rest, value_on, head_ranges, rest_of, sealed_is_saved}
+use Rattle.dma_chan.proofs.SavedParts.{parts_make_channel, rest_of, saved_parts_on, sealed_is_saved}
 use Rattle.dma_chan.proofs.save.head.Head.of_save.Goals as goal
 
 pub returns-then-save-lt-HEAD_LEN-clause-only : goal.returns-then-save-lt-HEAD_LEN-clause-only
 returns-then-save-lt-HEAD_LEN-clause-only c b w f =
-    let d = on_bus c.args.bus b in
-    let v = value_on c.args.bus b w in
-    let e : c.args.save.now ≡ saved d = f ∙ sym (saved_on c.args.bus b) in
-    let parts = saved_parts d c.args.save.now v e in
+    let parts = saved_parts_on c.args.bus b c.args.save.now w f in
     absurd (omega (arith, parts.fits.total))
 
 pub returns-in_default-clause-only : goal.returns-in_default-clause-only
 returns-in_default-clause-only c b w f =
     let d = on_bus c.args.bus b in
-    let v = value_on c.args.bus b w in
-    let e : c.args.save.now ≡ saved d = f ∙ sym (saved_on c.args.bus b) in
-    let found = c.in_default.ensures.read (head_of d) (rest_of d) refl (head_ranges d v) (e ∙ saved_rest d) in
+    let parts = saved_parts_on c.args.bus b c.args.save.now w f in
+    let found = c.in_default.ensures.read (head_of d) (rest_of d) refl parts.ranges parts.rest in
     cc found
 
 pub returns-then-not-fits-clause-only : goal.returns-then-not-fits-clause-only
 returns-then-not-fits-clause-only c b w f =
     let d = on_bus c.args.bus b in
-    let v = value_on c.args.bus b w in
-    let e : c.args.save.now ≡ saved d = f ∙ sym (saved_on c.args.bus b) in
-    let parts = saved_parts d c.args.save.now v e in
-    let found = c.in-Some.ensures.read (head_of d) (rest_of d) refl (head_ranges d v) (e ∙ saved_rest d) in
+    let parts = saved_parts_on c.args.bus b c.args.save.now w f in
+    let found = c.in-Some.ensures.read (head_of d) (rest_of d) refl parts.ranges parts.rest in
     let head : c.in-Some.head ≡ head_of d = cc found in
     let fits : c.fits.result ≡ true = c.fits.ensures.1 (rw head parts.fits) in
     cc (fits, c.if-not-fits.true)
@@ -53,21 +47,17 @@ returns-then-eq-clause-channel c =
 pub returns-then-eq-clause-only : goal.returns-then-eq-clause-only
 returns-then-eq-clause-only c b w f =
     let d = on_bus c.args.bus b in
-    let v = value_on c.args.bus b w in
-    let e : c.args.save.now ≡ saved d = f ∙ sym (saved_on c.args.bus b) in
-    let parts = saved_parts d c.args.save.now v e in
-    let found = c.in-Some.ensures.read (head_of d) (rest_of d) refl (head_ranges d v) (e ∙ saved_rest d) in
+    let parts = saved_parts_on c.args.bus b c.args.save.now w f in
+    let found = c.in-Some.ensures.read (head_of d) (rest_of d) refl parts.ranges parts.rest in
     let head : c.in-Some.head ≡ head_of d = cc found in
     rw head parts.channel
 
 pub returns-else-eq-clause-only : goal.returns-else-eq-clause-only
 returns-else-eq-clause-only c b w f =
     let d = on_bus c.args.bus b in
-    let v = value_on c.args.bus b w in
-    let e : c.args.save.now ≡ saved d = f ∙ sym (saved_on c.args.bus b) in
     let save = c.args.save.now in
-    let parts = saved_parts d save v e in
-    let found = c.in-Some.ensures.read (head_of d) (rest_of d) refl (head_ranges d v) (e ∙ saved_rest d) in
+    let parts = saved_parts_on c.args.bus b save w f in
+    let found = c.in-Some.ensures.read (head_of d) (rest_of d) refl parts.ranges parts.rest in
     let head : c.in-Some.head ≡ head_of d = cc found in
     let same : c.as_slice.result.now ≡ save = rw (c.as_slice.ensures.value, c.write-again.ensures.bytes, c.buffer_of.ensures, c.program_of.ensures, head) parts.again in
     cc ((slice_eq-Decides Decides-eqb _ _ _ c.eq.ensures).1 same, c.if-eq.false)
