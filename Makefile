@@ -15,6 +15,7 @@ help:
 	@sed -n 's/^# \{0,1\}//p' Makefile | sed -n '1,8p'
 
 install uninstall:
+	$(if $(strip $(PREFIX)),,$(error PREFIX is empty: give a folder, or leave it out for /usr/local))
 	@PREFIX='$(ROOT)' DESTDIR='$(DESTDIR)' LIB='$(LIB)' CC='$(CC)' AR='$(AR)' AS_BUILT='$(AS_BUILT)' embed/install.sh $@
 
 doc:
