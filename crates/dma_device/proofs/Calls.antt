@@ -7,15 +7,15 @@ use Rattle.dma_mem.specs.Regions.{image_of, pieces_of}
 use Rattle.dma_mem.specs.declared.regions.Region.{Region}
 use Rattle.dma_mem.specs.declared.segment.Segment.{Segment}
 use Rattle.dma_chan.specs.Channel.{ChannelValue}
-use Rattle.dma_chan.specs.LentRegions.{with_gaps_of}
-use Rattle.dma_chan.specs.Stepping.{Machine, TakesSteps, after_steps, last_of, machine, signal_after, written_after}
+use Rattle.dma_chan.specs.LentRegions.{AreKept, with_gaps_of}
+use Rattle.dma_chan.specs.Stepping.{TakesSteps, machine, signal_after, written_after}
 use Rattle.dma_chan.specs.Written.{joined}
 use Rattle.dma_chan.specs.declared.lent.Taken.{Taken}
 use Rattle.dma_chan.specs.declared.turn.ChanTurn.{ChanTurn}
 use Rattle.dma_device.specs.CallSteps.{Executes, first_in, marks_in, second_in}
 use Rattle.dma_device.specs.Device.{DeviceValue, with_thread}
 use Rattle.dma_device.specs.Thread.{answered}
-use Rattle.dma_device.specs.Turns.{AreKept, Outcome, Setup, TakesTurn, begins, called, called_if, follows, idle, last_in, lines_differ, machine_in, machine_left, number_of, outcome_of, second_call, setup_of, stepped, steps_in, visible_events, with_flags}
+use Rattle.dma_device.specs.Turns.{Outcome, Setup, TakesTurn, begins, called, called_if, follows, idle, last_in, lines_differ, machine_in, machine_left, outcome_of, setup_of, stepped, steps_in, visible_events, with_flags}
 use Rattle.dma_device.specs.declared.device.turns.Called.{Called}
 use Rattle.dma_device.specs.declared.device.turns.Turn.{Turn}
 use Rattle.dma_device.specs.declared.thread.Thread.{Thread}
@@ -43,12 +43,25 @@ call_acts {n = n} {s = s} marks most x =
     ap (λ (b : Bool). if b then called marks n most (slice_get s.device.threads n) s else idle s) x.on
     ∙ ap (λ (o : Option Thread). called marks n most o s) x.found
 
+-- another thread of the same call is the same
+pub acts_alike : (P : Thread → Type 0) (n : ℕ) (made : Bool) (s : Setup) (x y : Executes made n s) → P x.thread → P y.thread
+acts_alike P n made s x y p =
+    let same : x.thread ≡ y.thread = let a = x.found in let b = y.found in cc in
+    subst P same p
+
 -- what its steps keep, a call keeps
 pub call_keeps : (P : DeviceValue → Type 0) (made : Bool) (marks : MarkList) (n most : ℕ) (s : Setup) → P s.device → ((x : Executes made n s) → P (stepped marks n most x.thread s).left.device) → P (called_if made marks n most s).left.device
 call_keeps P made marks n most s h steps = elim (call_is made marks n most s) [
   | inl rests ↦ subst (λ (o : Outcome). P o.left.device) (sym rests.is) h
   | inr acts ↦ subst (λ (o : Outcome). P o.left.device) (sym (call_acts marks most acts)) (steps acts)
 ]
+
+-- a call leaves the configuration and INTEN as they are
+pub if_config : (made : Bool) (marks : MarkList) (n most : ℕ) (s : Setup) → (called_if made marks n most s).left.device.config ≡ s.device.config
+if_config made marks n most s = call_keeps (λ (d : DeviceValue). d.config ≡ s.device.config) made marks n most s refl (λ _. refl)
+
+pub if_inten : (made : Bool) (marks : MarkList) (n most : ℕ) (s : Setup) → (called_if made marks n most s).left.device.inten ≡ s.device.inten
+if_inten made marks n most s = call_keeps (λ (d : DeviceValue). d.inten ≡ s.device.inten) made marks n most s refl (λ _. refl)
 
 -- what a call of a thread takes
 pub takes : (marks : MarkList) (most : ℕ) (t : Thread) (s : Setup) → TakesSteps marks (machine_in s t) most (steps_in marks most t s) (last_in marks most t s) (machine_left marks most t s)
@@ -57,46 +70,19 @@ takes marks most t s = record { count = refl; answer = refl; ends_at = refl }
 -- a call has the outcome that its steps have
 pub stepped_is : (marks : MarkList) (n most : ℕ) (t : Thread) (s : Setup) (channel : ChannelValue) (image : List ℕ) (flags taken : ℕ) (last : Option ChanTurn) (made : Called) → flags < 2 ^ 32 → TakesSteps marks (machine_in s t) most taken last (machine channel image (flags_of flags)) → made.signal ≡ signal_after marks (machine_in s t) taken → made.written ≡ written_after marks (machine_in s t) taken → let after = answered s.device.config.events (record t { channel = channel }) last made.signal in stepped marks n most t s ≡ record { left = record { device = with_thread n after (with_flags flags s.device); image = image }; called = made }
 stepped_is marks n most t s channel image flags taken last made few x signal written =
-    let from = machine_in s t in
-    let k = steps_in marks most t s in
-    let left : Machine → Option ChanTurn → Option ℕ → Segment → Outcome = (λ to l g w.
-    record {
-      left = record {
-        device = with_thread n (answered s.device.config.events (record t { channel = to.channel }) l g) (with_flags (number_of to.flags) s.device);
-        image = to.image;
-      };
-      called = record { written = w; signal = g };
-    }) in
-    let v = machine channel image (flags_of flags) in
-    let to : after_steps marks from k ≡ v = ap (after_steps marks from) (sym x.count) ∙ sym x.ends_at in
-    let ended : last_of marks from k ≡ last = ap (last_of marks from) (sym x.count) ∙ sym x.answer in
-    let set : signal_after marks from k ≡ made.signal = ap (signal_after marks from) (sym x.count) ∙ sym signal in
-    let range : written_after marks from k ≡ made.written = ap (written_after marks from) (sym x.count) ∙ sym written in
-    ap (λ (m : Machine). left m (last_of marks from k) (signal_after marks from k) (written_after marks from k)) to
-    ∙ ap (λ (o : Option ChanTurn). left v o (signal_after marks from k) (written_after marks from k)) ended
-    ∙ ap (λ (o : Option ℕ). left v last o (written_after marks from k)) set
-    ∙ ap (left v last made.signal) range
-    ∙ ap (λ (j : ℕ). let e : DeviceValue = with_thread n (answered s.device.config.events (record t { channel = channel }) last made.signal) (with_flags j s.device) in let o : Outcome = record { left = record { device = e; image = image }; called = made } in o) (number_is flags few)
+    simp (sym x.count, sym x.ends_at, sym x.answer, sym signal, sym written, number_is flags few)
 
 -- and so it has over regions
 pub called_is : (d e : DeviceValue) (regions left : List Region) (n most : ℕ) (t : Thread) (none : MarkList) (events after : List Bool) (channel : ChannelValue) (flags : ℕ) (taken : Taken) → slice_get d.threads n ≡ Some t → none ≡ [] → events ≡ flags_of (visible_events d) → flags_of flags ≡ after → flags < 2 ^ 32 → let from = machine t.channel (image_of (pieces_of regions)) events in TakesSteps (with_gaps_of regions none) from most taken.count taken.last (machine channel (image_of (pieces_of left)) after) → taken.signal ≡ signal_after (with_gaps_of regions none) from taken.count → taken.written ≡ written_after (with_gaps_of regions none) from taken.count → e ≡ with_thread n (answered d.config.events (record t { channel = channel }) taken.last taken.signal) (with_flags flags d) → called (with_gaps_of regions []) n most (slice_get d.threads n) (setup_of d regions) ≡ outcome_of e left (record { written = taken.written; signal = taken.signal })
 called_is d e regions left n most t none events after channel flags taken found unmarked seen bits few steps signal written device =
     let marks = with_gaps_of regions [] in
-    let image = image_of (pieces_of regions) in
     let s = setup_of d regions in
     let made : Called = record { written = taken.written; signal = taken.signal } in
-    let from : List Bool → Machine = machine t.channel image in
-    let steps : TakesSteps marks (machine_in s t) most taken.count taken.last (machine channel (image_of (pieces_of left)) (flags_of flags)) =
-    subst (λ (f : List Bool). TakesSteps marks (machine_in s t) most taken.count taken.last (machine channel (image_of (pieces_of left)) f)) (sym bits)
-    (subst (λ (f : List Bool). TakesSteps marks (from f) most taken.count taken.last (machine channel (image_of (pieces_of left)) after)) seen
-    (subst (λ (m : MarkList). TakesSteps (with_gaps_of regions m) (from events) most taken.count taken.last (machine channel (image_of (pieces_of left)) after)) unmarked steps)) in
-    let same : (f : List Bool) (m : MarkList) → f ≡ flags_of (visible_events d) → m ≡ [] → (signal_after (with_gaps_of regions m) (from f) taken.count ≡ signal_after marks (machine_in s t) taken.count) × (written_after (with_gaps_of regions m) (from f) taken.count ≡ written_after marks (machine_in s t) taken.count) = (λ f m is none. (
-      ap (λ (x : MarkList). signal_after (with_gaps_of regions x) (from f) taken.count) none ∙ ap (λ (x : List Bool). signal_after marks (from x) taken.count) is,
-      ap (λ (x : MarkList). written_after (with_gaps_of regions x) (from f) taken.count) none ∙ ap (λ (x : List Bool). written_after marks (from x) taken.count) is,
-    )) in
-    let both = same events none seen unmarked in
+    let now = simp (unmarked, seen, sym bits) at steps in
+    let sets = simp (unmarked, seen) at signal in
+    let writes = simp (unmarked, seen) at written in
     ap (λ (o : Option Thread). called marks n most o s) found
-    ∙ stepped_is marks n most t s channel (image_of (pieces_of left)) flags taken.count taken.last made few steps (signal ∙ both.0) (written ∙ both.1)
+    ∙ stepped_is marks n most t s channel (image_of (pieces_of left)) flags taken.count taken.last made few now sets writes
     ∙ ap (λ (f : DeviceValue). outcome_of f left made) (sym device)
 
 -- ---- a turn
@@ -104,19 +90,9 @@ called_is d e regions left n most t none events after channel flags taken found 
 -- a turn has the outcome of its two calls
 pub turn_is : (d m e : DeviceValue) (regions lent left : List Region) (n most : ℕ) (first second : Called) (range : Segment) (changed : Bool) → called_if (begins d n most) (with_gaps_of regions []) n most (setup_of d regions) ≡ outcome_of m lent first → AreKept lent regions → called_if (follows m n first) (with_gaps_of lent []) n 1 (setup_of m lent) ≡ outcome_of e left second → AreKept left lent → range ≡ joined first.written second.written → changed ≡ lines_differ d e → TakesTurn d regions n most e left (record { written = range; lines_changed = changed })
 turn_is d m e regions lent left n most first second range changed one kept two rest written lines =
-    let marks = with_gaps_of regions [] in
-    let report : Outcome → Outcome → Setup × Turn = (λ a b.
-    let turn : Turn = record {
-      written = joined a.called.written b.called.written;
-      lines_changed = lines_differ d b.left.device;
-    } in
-    (b.left, turn)) in
-    let later : second_call marks n (outcome_of m lent first) ≡ outcome_of e left second = ap (λ (ms : MarkList). called_if (follows m n first) ms n 1 (setup_of m lent)) (sym (marks_kept regions lent kept.places kept.read_only)) ∙ two in
+    let later = rw (marks_kept regions lent kept.places kept.read_only) at two in
     record {
-      is = ap (λ (a : Outcome). report a (second_call marks n a)) one
-          ∙ ap (report (outcome_of m lent first)) later
-          ∙ ap (λ (w : Segment). let t : Turn = record { written = w; lines_changed = lines_differ d e } in let p : Setup × Turn = (setup_of e left, t) in p) (sym written)
-          ∙ ap (λ (b : Bool). let t : Turn = record { written = range; lines_changed = b } in let p : Setup × Turn = (setup_of e left, t) in p) (sym lines);
+      is = simp (one, later, written, lines);
       kept = record { places = rest.places ∙ kept.places; read_only = rest.read_only ∙ kept.read_only; names = rest.names ∙ kept.names };
     }
 

@@ -1,5 +1,5 @@
 -- What the debug instruction, a DMAGO and a write of a register leave, case by case.
-use Rattle.std.proofs.Common.{◌≡◌, ◌≢◌, ℕ, ◌+◌, ◌%◌, ◌/◌, Bool, true, false, ◌&&◌, List, Option, Some, None, refl, bit_and, w32}
+use Rattle.std.proofs.Common.{◌≡◌, ◌≢◌, ℕ, ◌+◌, ◌/◌, Bool, true, false, ◌&&◌, List, Option, Some, None, refl, bit_and, w32, arith}
 use Rattle.std.specs.Prelude.{◌==◌, if◌then◌else◌, not, slice_get}
 use Rattle.std.specs.Int.{bit_not}
 use Rattle.std.proofs.lemmas.Bool.{cond_both, eqb-false, eqb-true}
@@ -8,7 +8,7 @@ use Rattle.dma_mem.specs.Regions.{Piece}
 use Rattle.dma_device.specs.Offsets as offset
 use Rattle.dma_device.specs.declared.device.Manager.{Manager}
 use Rattle.dma_device.specs.declared.thread.Thread.{Thread}
-use Rattle.dma_device.specs.Device.{DeviceValue, all_events, by_manager, by_thread, debugged, go, gone, is_event, manager_failed, program_at, signalled, with_thread, written}
+use Rattle.dma_device.specs.Device.{DeviceValue, all_events, by_manager, by_thread, debugged, go, is_event, manager_failed, program_at, signalled, with_thread, written}
 use Rattle.dma_device.specs.Thread.{dbg_instr, dmago_err, failed, is_faulting, is_stopped, killed, operand_invalid, started, undef_instr}
 
 module _ (P : DeviceValue → Type 0) where
@@ -24,17 +24,7 @@ module _ (P : DeviceValue → Type 0) where
     pub undefined : (opcode == 0x01) ≡ false → is_faulting t ≡ false → (opcode == 0x34) ≡ false → P (with_thread n (failed (undef_instr + dbg_instr) t) d)
 
   pub thread_cases : (n : ℕ) (t : Thread) (opcode byte : ℕ) (d : DeviceValue) → ThreadCases n t opcode byte d → P (by_thread n (Some t) opcode byte d)
-  thread_cases n t opcode byte d x =
-      let no_event : DeviceValue = with_thread n (failed (operand_invalid + dbg_instr) t) d in
-      let undefined : DeviceValue = with_thread n (failed (undef_instr + dbg_instr) t) d in
-      let signals : DeviceValue = if is_event d byte then signalled (byte / 8) d else no_event in
-      let acts : DeviceValue = if opcode == 0x34 then signals else undefined in
-      let calm : DeviceValue = if is_faulting t then d else acts in
-      branch (opcode == 0x01) (with_thread n (killed t) d) calm x.kill
-      (λ other. branch (is_faulting t) d acts (x.faulting other)
-      (λ fine. branch (opcode == 0x34) signals undefined
-      (λ sev. branch (is_event d byte) (signalled (byte / 8) d) no_event (x.sev other fine sev) (x.no_event other fine sev))
-      (x.undefined other fine)))
+  thread_cases n t opcode byte d x = grind arith
 
   -- after a DMAGO of a thread that is there
   pub record GoCases (ram : List Piece) (nonsecure : Bool) (n : ℕ) (t : Thread) (d : DeviceValue) : Type 0 where
@@ -43,10 +33,7 @@ module _ (P : DeviceValue → Type 0) where
     pub busy : (d.config.nonsecure && not nonsecure) ≡ false → is_stopped t ≡ false → P d
 
   pub go_cases : (ram : List Piece) (nonsecure : Bool) (n : ℕ) (t : Thread) (d : DeviceValue) → GoCases ram nonsecure n t d → P (go ram nonsecure n (Some t) d)
-  go_cases ram nonsecure n t d x =
-      let new : DeviceValue = with_thread n (started d.config.bus nonsecure d.dbginst1 (program_at ram d.dbginst1)) d in
-      branch (d.config.nonsecure && not nonsecure) (manager_failed dmago_err d) (gone ram nonsecure n t d) x.refused
-      (λ allowed. branch (is_stopped t) new d (x.starts allowed) (x.busy allowed))
+  go_cases ram nonsecure n t d x = grind arith
 
   -- after an instruction that the manager executes
   pub record ManagerCases (ram : List Piece) (opcode byte : ℕ) (d : DeviceValue) : Type 0 where
@@ -59,22 +46,7 @@ module _ (P : DeviceValue → Type 0) where
     pub undefined : (opcode == 0x01) ≡ false → d.manager.is_faulting ≡ false → (opcode == 0x34) ≡ false → (opcode == 0xA0) ≡ false → (opcode == 0xA2) ≡ false → P (manager_failed undef_instr d)
 
   pub manager_cases : (ram : List Piece) (opcode byte : ℕ) (d : DeviceValue) → ManagerCases ram opcode byte d → P (by_manager ram opcode byte d)
-  manager_cases ram opcode byte d x =
-      let stopped : DeviceValue = record d { manager = record (d.manager) { is_faulting = false } } in
-      let signals : DeviceValue = if is_event d byte then signalled (byte / 8) d else manager_failed operand_invalid d in
-      let secure : DeviceValue = go ram false byte (slice_get d.threads byte) d in
-      let other : DeviceValue = go ram true byte (slice_get d.threads byte) d in
-      let undefined : DeviceValue = manager_failed undef_instr d in
-      let last : DeviceValue = if opcode == 0xA2 then other else undefined in
-      let goes : DeviceValue = if opcode == 0xA0 then secure else last in
-      let acts : DeviceValue = if opcode == 0x34 then signals else goes in
-      let calm : DeviceValue = if d.manager.is_faulting then d else acts in
-      branch (opcode == 0x01) stopped calm x.kill
-      (λ no. branch (d.manager.is_faulting) d acts (x.faulting no)
-      (λ fine. branch (opcode == 0x34) signals goes
-      (λ sev. branch (is_event d byte) (signalled (byte / 8) d) (manager_failed operand_invalid d) (x.sev no fine sev) (x.no_event no fine sev))
-      (λ none. branch (opcode == 0xA0) secure last (x.secure no fine none)
-      (λ more. branch (opcode == 0xA2) other undefined (x.nonsecure no fine none more) (x.undefined no fine none more)))))
+  manager_cases ram opcode byte d x = grind arith
 
   -- after the debug instruction
   pub record DebugCases (ram : List Piece) (d : DeviceValue) : Type 0 where
@@ -132,18 +104,4 @@ module _ (P : DeviceValue → Type 0) where
     pub other : P d
 
   pub write_cases : (ram : List Piece) (at value : ℕ) (d : DeviceValue) → WriteCases ram at value d → P (written ram at value d)
-  write_cases ram at value d x =
-      let enabled : DeviceValue = record d { inten = bit_and value (all_events d) } in
-      let lowered : DeviceValue = record d { interrupts = bit_and d.interrupts (bit_not w32 (bit_and value d.inten)) } in
-      let executed : DeviceValue = if value % 4 == 0 then debugged ram d else d in
-      let first : DeviceValue = record d { dbginst0 = value } in
-      let second : DeviceValue = record d { dbginst1 = value } in
-      let last : DeviceValue = if at == offset.dbginst1 then second else d in
-      let rest : DeviceValue = if at == offset.dbginst0 then first else last in
-      let below : DeviceValue = if at == offset.dbgcmd then executed else rest in
-      let others : DeviceValue = if at == offset.intclr then lowered else below in
-      branch (at == offset.inten) enabled others (λ is. x.inten)
-      (λ no. branch (at == offset.intclr) lowered below x.intclr
-      (λ no. branch (at == offset.dbgcmd) executed rest (λ is. branch (value % 4 == 0) (debugged ram d) d (λ executes. x.dbgcmd is) (λ ignores. x.other))
-      (λ no. branch (at == offset.dbginst0) first last (λ is. x.dbginst0)
-      (λ no. branch (at == offset.dbginst1) second d (λ is. x.dbginst1) (λ none. x.other)))))
+  write_cases ram at value d x = grind arith

@@ -1,5 +1,5 @@
 -- What a program that a DMAGO starts copies.
-use Rattle.std.proofs.Common.{◌≡◌, ◌≢◌, ◌∙◌, ◌⊎◌, ℕ, suc, ◌<◌, ◌≤◌, true, false, List, [], get_or, length, Some, ap, refl, sym, subst, arith, inl, inr, true≢false}
+use Rattle.std.proofs.Common.{◌≡◌, ◌≢◌, ◌∙◌, ◌⊎◌, ℕ, suc, ◌<◌, ◌≤◌, true, false, List, get_or, length, Some, ap, refl, sym, subst, arith, inl, inr, true≢false, zero, Option, length-append}
 use Rattle.std.specs.Prelude.{nat_lt}
 use Rattle.std.proofs.lemmas.List.Elements.{Contains-get_or}
 use Rattle.std.proofs.lemmas.Bool.{and_parts, cases_eq}
@@ -9,10 +9,10 @@ use Rattle.dma_mem.specs.Marking.{MarkList}
 use Rattle.dma_mem.specs.Places.{Descriptor, destinations, size_of}
 use Rattle.dma_mem.specs.declared.regions.Region.{Region}
 use Rattle.dma_mem.proofs.OverTransfers.{Contains_take}
-use Rattle.dma_chan.specs.Explains.{IsSignal, IsWait, traced}
+use Rattle.dma_chan.specs.Explains.{IsSignal, IsWait, traced, Explains}
 use Rattle.dma_chan.specs.Others.{Misses, Touches}
-use Rattle.dma_chan.specs.Channel.{ChannelValue}
-use Rattle.dma_chan.proofs.CallsAmongOthers.{call_answers, call_fails, call_waits, signalled}
+use Rattle.dma_chan.specs.Channel.{ChannelValue, ahead_of}
+use Rattle.dma_chan.proofs.CallsAmongOthers.{call_answers, call_fails, call_waits, signalled, Leads, Runs, call, many, moved_on}
 use Rattle.dma_chan.proofs.LaidPlaces.{laid_by_fits}
 use Rattle.dma_chan.proofs.RegionsHave.{gaps_miss}
 use Rattle.dma_device.specs.CallSteps.{first_in, marks_in}
@@ -26,12 +26,72 @@ use Rattle.dma_device.specs.declared.config.Config.{Config}
 use Rattle.dma_device.specs.declared.device.turns.Called.{Called}
 use Rattle.dma_device.specs.declared.device.turns.Turn.{Turn}
 use Rattle.dma_device.specs.declared.thread.Thread.{Thread}
+use Rattle.dma_chan.specs.declared.bus.Bus.{Bus}
+use Rattle.dma_chan.specs.Exec.{ChangesNothing}
+use Rattle.dma_chan.specs.Stepping.{Machine, TakesSteps, after_step, after_steps, answer_at, goes_on_after}
+use Rattle.dma_chan.specs.declared.turn.ChanTurn.{ChanTurn}
+use Rattle.dma_chan.specs.declared.turn.ChanTurn.TheVariants.{Moved, Ended}
+use Rattle.dma_chan.proofs.AmongOthers.{Among, Fits}
+use Rattle.dma_chan.proofs.CallWrites.{inside}
+use Rattle.dma_chan.proofs.Traced.{grows_to}
+use Rattle.dma_chan.proofs.StepsTaken.{steps_move}
+use Rattle.dma_chan.proofs.SteppedOver.{is_still, was_moved, went_before}
 use Rattle.dma_device.proofs.Answered.{answer_fine}
-use Rattle.dma_device.proofs.CallKeeps.{if_config}
-use Rattle.dma_device.proofs.Driven.{After, Before, Call, Copying, Going, Has, Keeps, Leaves, after_steps_of, after_turn, along, at_answer, channel_after, copying, count_in, from, last_answer, new, one_of, result_of, sent_by, sets, steps_of, to, two_of}
+use Rattle.dma_device.proofs.Calls.{if_config}
+use Rattle.dma_device.proofs.Driven.{After, Before, Call, Copying, Going, Has, Steps, after_steps_of, after_turn, along, at_answer, channel_after, copying, count_in, from, last_answer, new, one_of, result_of, sent_by, sets, steps_of, to, two_of}
 use Rattle.dma_device.proofs.Starts.{reads_fine, reads_stopped, stopped_fine}
-use Rattle.dma_device.proofs.Stored.{call_grows}
-use Rattle.dma_device.proofs.TurnRaises.{turn_raises}
+use Rattle.dma_device.proofs.Interrupts.{turn_raises}
+
+-- ---- the bytes that a program has stored become no fewer
+
+is_end : (turn : ChanTurn) → (turn ≡ Ended) ⊎ (turn ≢ Ended)
+is_end Ended = inl refl
+is_end turn = inr (λ e. cc)
+
+module _ (bus : Bus) (program : List ℕ) (t : Descriptor) (count : ℕ) (marks : MarkList) (first : List ℕ) (h : Explains bus program t count) (low : Fits t (length first)) where
+  grows : (k : ℕ) → length (traced bus program k).stores ≤ length (traced bus program (suc k)).stores
+  grows k =
+      let g = grows_to bus program k (suc k) (omega arith) in
+      omega (arith, ap length g.stores, length-append (traced bus program k).stores g.more_stores)
+
+  -- not more than all
+  pub at_most : (v : Machine) → Runs bus program t count first v → v.channel.stored ≤ size_of t
+  at_most v r =
+      let g = inside bus program t count h r.0 r.1.within in
+      omega (arith, r.1.stored, ap length g.stores, length-append (traced bus program r.0).stores g.stores_rest)
+
+  moved_grows : (n : ℕ) (u : Machine) → Among bus program t count first n u.image u.channel → answer_at marks u ≡ Moved → u.channel.stored ≤ (after_step marks u).channel.stored
+  moved_grows n u w moved = let next = moved_on bus program t count marks first h low n u w moved in omega (arith, w.stored, next.stored, grows n)
+
+  many_grow : (j : ℕ) (s : Machine) → Runs bus program t count first s → ((k : ℕ) → k < suc j → goes_on_after marks s k ≡ true) → s.channel.stored ≤ (after_steps marks s j).channel.stored
+  many_grow zero s r moves = omega arith
+  many_grow (suc j) s r moves =
+      let u = after_steps marks s j in
+      let w = many bus program t count marks first h low j s r (λ k l. moves k (omega arith)) in
+      let moved = was_moved (ahead_of u.channel) (answer_at marks u) (went_before marks s (suc j) (moves (suc j) (omega arith))) in
+      omega (arith, many_grow j s r (λ k l. moves k (omega arith)), moved_grows w.0 u w.1 moved)
+
+  still_same : (u : Machine) → ChangesNothing (answer_at marks u) → u.channel.stored ≤ (after_step marks u).channel.stored
+  still_same u nothing = let same = ap (λ (m : Machine). m.channel.stored) (is_still marks u nothing) in omega arith
+
+  one_grows : (n : ℕ) (u : Machine) (turn : ChanTurn) → turn ≢ Ended → Among bus program t count first n u.image u.channel → answer_at marks u ≡ turn → u.channel.stored ≤ (after_step marks u).channel.stored
+  one_grows n u turn h1 h2 h3 = grind (arith, moved_grows, still_same)
+
+  -- after a call there are no fewer than before it
+  pub call_grows : (s v : Machine) (most taken : ℕ) (last : Option ChanTurn) → Runs bus program t count first s → TakesSteps marks s most taken last v → s.channel.stored ≤ v.channel.stored
+  call_grows s v most zero last r steps = let same = ap (λ (m : Machine). m.channel.stored) steps.ends_at in omega arith
+  call_grows s v most (suc p) last r steps =
+      let u = after_steps marks s p in
+      elim (is_end (answer_at marks u)) [
+        | inl over ↦
+            let is : last ≡ Some Ended = steps.answer ∙ ap Some over in
+            let all : v.channel.stored ≡ size_of t = (subst (λ (o : Option ChanTurn). Leads bus program t count first o v) is (call bus program t count marks first h low s v most (suc p) last r steps)).stored in
+            omega (arith, at_most s r)
+        | inr other ↦
+            let w = many bus program t count marks first h low p s r (steps_move steps) in
+            let same = ap (λ (m : Machine). m.channel.stored) steps.ends_at in
+            omega (arith, many_grow p s r (steps_move steps), one_grows w.0 u (answer_at marks u) other w.1 refl)
+      ]
 
 -- ---- how many bytes are stored
 
@@ -44,23 +104,18 @@ module _ (c : Copying) (n i least : ℕ) (sev : (stored : ℕ) → IsSignal c.bu
   abbrev Stores : Type 0 → Thread → Type 0
   Stores F th = F → least ≤ th.channel.stored
 
-  keeps_stores : (F : Type 0) (k : Call) → Keeps c n (Unit {0}) (Stores F) (Unit {0}) (Stores (F ⊎ (sent_by n k ≡ Some i))) k
-  keeps_stores F k = record {
-    over = λ none o. o;
-    going = λ off none th found g known why. elim why [ inl f ↦ known f | inr is ↦ absurd (none_sent (result_of n k).called i none is) ];
-  }
-
-  leaves_stores : (F : Type 0) (k : Call) → Leaves c n (Stores F) (Unit {0}) (Stores (F ⊎ (sent_by n k ≡ Some i))) k
-  leaves_stores F k = record {
-    over = λ th g known sent ended. tt;
-    going = λ made th found g known sent goes why.
-        let here = ap (λ (v : ChannelValue). v.stored) (channel_after k th) in
+  steps_stores : (F : Type 0) (k : Call) → Steps c n (Unit {0}) (Stores F) (Unit {0}) (Stores (F ⊎ (sent_by n k ≡ Some i))) k
+  steps_stores F k = record {
+    rests_over = λ none o. o;
+    rests = λ off none th found g known why. elim why [ inl f ↦ known f | inr is ↦ absurd (none_sent (result_of n k).called i none is) ];
+    ends = λ th g known sent ended. tt;
+    goes = λ made th found g known sent goes why.
         let grows = call_grows c.bus c.program c.t c.count k.marks c.first c.explains c.fits (from k th) (to k th) k.most (count_in k th) (last_answer k th) g.runs (steps_of k th) in
         let enough : least ≤ (to k th).channel.stored = elim why [
           | inl f ↦ omega (arith, known f, grows)
           | inr is ↦ sev (to k th).channel.stored (signalled c.bus c.program c.t c.count k.marks c.first c.explains c.fits (from k th) (to k th) k.most (count_in k th) (last_answer k th) i g.runs (steps_of k th) (sym sent ∙ is))
         ] in
-        omega (arith, here, enough);
+        omega (arith, ap (λ (v : ChannelValue). v.stored) (channel_after k th), enough);
   }
 
   turn_stores : (F : Type 0) (d : DeviceValue) (regions : List Region) (most : ℕ) (e : DeviceValue) (left : List Region) (turn : Turn) → TakesTurn d regions n most e left turn → Has c n (Unit {0}) (Stores F) (setup_of d regions) → Has c n (Unit {0}) (Stores ((F ⊎ (sent_by n (one_of d regions n most) ≡ Some i)) ⊎ (sent_by n (two_of d regions n most) ≡ Some i))) (setup_of e left)
@@ -68,8 +123,7 @@ module _ (c : Copying) (n i least : ℕ) (sev : (stored : ℕ) → IsSignal c.bu
       let one = one_of d regions n most in
       let two = two_of d regions n most in
       let first = F ⊎ (sent_by n one ≡ Some i) in
-      after_turn c n d regions most e left turn x (Unit {0}) (Stores F) (Unit {0}) (Stores first) (Unit {0}) (Stores (first ⊎ (sent_by n two ≡ Some i)))
-      (keeps_stores F one) (leaves_stores F one) (keeps_stores first two) (leaves_stores first two) g
+      after_turn c n d regions most e left turn x (Unit {0}) (Stores F) (Unit {0}) (Stores first) (Unit {0}) (Stores (first ⊎ (sent_by n two ≡ Some i))) (steps_stores F one) (steps_stores first two) g
 
 -- ---- what is copied
 
@@ -123,22 +177,14 @@ module _ (c : Copying) (n : ℕ) where
   abbrev Fine : Thread → Type 0
   Fine th = is_faulting th ≡ false
 
-  keeps_fine : (k : Call) → Keeps c n (Unit {0}) Fine (Unit {0}) Fine k
-  keeps_fine k = record { over = λ none o. o; going = λ off none th found g fine. fine }
-
-  leaves_fine : (k : Call) → (k.made ≡ true → 0 < k.most) → Fit k.before.device k.marks → Leaves c n Fine (Unit {0}) Fine k
-  leaves_fine k some fit = record {
-    over = λ th g fine sent ended. tt;
-    going = λ made th found g fine sent goes. call_fine k th (some made) fit g;
-  }
+  steps_fine : (k : Call) → (k.made ≡ true → 0 < k.most) → Fit k.before.device k.marks → Steps c n (Unit {0}) Fine (Unit {0}) Fine k
+  steps_fine k some fit = grind (arith, call_fine)
 
   turn_fine : (d : DeviceValue) (regions : List Region) (most : ℕ) (e : DeviceValue) (left : List Region) (turn : Turn) → TakesTurn d regions n most e left turn → Fit d (marks_in regions) → Has c n (Unit {0}) Fine (setup_of d regions) → Has c n (Unit {0}) Fine (setup_of e left)
   turn_fine d regions most e left turn x fit g =
-      let one = one_of d regions n most in
-      let two = two_of d regions n most in
       after_turn c n d regions most e left turn x (Unit {0}) Fine (Unit {0}) Fine (Unit {0}) Fine
-      (keeps_fine one) (leaves_fine one (λ made. ltb-true 0 most (and_parts (nat_lt 0 most) (runs_at d n) made).0) fit)
-      (keeps_fine two) (leaves_fine two (λ made. omega arith) (fit_kept d regions most fit)) g
+      (steps_fine (one_of d regions n most) (λ made. ltb-true 0 most (and_parts (nat_lt 0 most) (runs_at d n) made).0) fit)
+      (steps_fine (two_of d regions n most) (λ made. omega arith) (fit_kept d regions most fit)) g
 
 -- ---- along the turns
 
@@ -167,10 +213,9 @@ module _ (go : Go) (t : Descriptor) (count : ℕ) (run : GivenTurns) (h : RunsCo
               inl (inl (record { turn = raises.turn; early = early; raises = record { turn = raises.turn; early = omega arith; line = raises.line; low = raises.low; high = raises.high } }))
           | inl same ↦
               let line = subst (λ (k : ℕ). HasLine (run.before k) i) same raises.line in
-              let low = subst (λ (k : ℕ). ¬ IsHigh (irqs (run.before k)) i) same raises.low in
               let high = subst (λ (k : ℕ). IsHigh (irqs (run.after k)) i) same raises.high in
               elim ((turn_raises (run.before j) (run.after j) (run.lent j) (run.left j) go.channel (run.most j) i turn x line).0 high) [
-                | inl before ↦ absurd (low before)
+                | inl before ↦ absurd ((subst (λ (k : ℕ). ¬ IsHigh (irqs (run.before k)) i) same raises.low) before)
                 | inr new ↦ elim (new.1) [ inl is ↦ inl (inr is) | inr is ↦ inr is ]
               ]
         ]
@@ -196,8 +241,7 @@ module _ (go : Go) (t : Descriptor) (count : ℕ) (run : GivenTurns) (h : RunsCo
 
     first_copied : (k : ℕ) → k < run.count → HasRisen run i k → AreCopied t least (image_in (run.lent 0)) (image_in (run.left k))
     first_copied k less risen =
-        let g = stored_along k less in
-        elim g.stands [
+        elim (stored_along k less).stands [
           | inl over ↦ laid_copied c (image_in (run.left k)) least (size_of t) over.0.copied (λ p few within. within)
           | inr going ↦
               let r = going.0.runs in
@@ -216,10 +260,7 @@ module _ (go : Go) (t : Descriptor) (count : ℕ) (run : GivenTurns) (h : RunsCo
       ]
 
   pub fits_all : (k : ℕ) → IsFit go t count (run.before k) (run.lent k) → Fit c go.channel (run.before k) (marks_in (run.lent k))
-  fits_all k fit = record {
-    misses = gaps_miss (run.lent k) [] t fit.order fit.have (record { reads = λ a i. refl; writes = λ a i. refl });
-    knows = record { waits = fit.events.waits; signals = fit.events.signals };
-  }
+  fits_all k fit = grind (arith, gaps_miss)
 
   never_fails : ((k : ℕ) → k < run.count → IsFit go t count (run.before k) (run.lent k)) → (k : ℕ) → k < run.count → csr_status (run.after k) go.channel ≢ 15
   never_fails fit k less =

@@ -33,8 +33,7 @@ unfolding adler
 adler_low low high [] few = omega (arith, few)
 adler_low low high (b ∷ bs) few =
     let next = (low + b) % 65521 in
-    let rest = adler_low next ((high + next) % 65521) bs (omega arith) in
-    rest ∙ omega arith
+    (adler_low next ((high + next) % 65521) bs (omega arith)) ∙ omega arith
 
 adler_few : (low high : ℕ) (bs : List ℕ) → low < 65521 → high < 65521 → adler low high bs < 2 ^ 32
 unfolding adler
@@ -54,8 +53,7 @@ sum_few bs = adler_few 1 0 bs (omega arith) (omega arith)
 one_differs : (bs : List ℕ) (k v : ℕ) → k < length bs → get_or bs k 0 < 256 → v < 256 → get_or bs k 0 ≢ v → checksum (set bs k v) ≢ checksum bs
 one_differs bs k v within old new other same =
     let low : (1 + total (set bs k v)) % 65521 ≡ (1 + total bs) % 65521 = sym (sum_low (set bs k v)) ∙ ap (λ (n : ℕ). n % 65536) same ∙ sum_low bs in
-    let sums = total_set bs k v within in
-    omega (arith, low, sums, old, new, other)
+    omega (arith, low, total_set bs k v within, old, new, other)
 
 -- ---- a save
 
@@ -78,8 +76,7 @@ damage_is_refused d e save k v is bytes within few other version (inr old) =
 damage_is_refused d e save k v is bytes within few other version (inl own) =
     let n = length (parts_in 2 d) in
     let changed = set save k v in
-    let long = length-set save k v in
-    let count : length (parts_in 2 e) ≡ n = omega (arith, ap length is, own_length d, ap length own, own_length e, long) in
+    let count : length (parts_in 2 e) ≡ n = omega (arith, ap length is, own_length d, ap length own, own_length e, length-set save k v) in
     let one = front save d n is refl in
     let two = front changed e n own count in
     let sum_one = back save d n is refl in

@@ -26,7 +26,8 @@ use Rattle.dma_device.specs.declared.thread.Thread.{Thread}
 use Rattle.dma_device.proofs.Answered.{answer_busy, answer_channel, is_ended}
 use Rattle.dma_device.proofs.Calls.{call_acts, call_is, takes, turn_left}
 use Rattle.dma_device.proofs.InMemory.{program_is_read}
-use Rattle.dma_device.proofs.Starts.{dmago_starts, set_found}
+use Rattle.dma_device.proofs.Starts.{dmago_starts}
+use Rattle.dma_device.proofs.Found.{set_found}
 
 -- a program, the copy that explains it, and the memory at first
 pub record Copying : Type 0 where
@@ -122,21 +123,19 @@ module _ (c : Copying) where
       pub is : slice_get s.device.threads n ≡ Some thread
       pub stands : Stands O E s.image thread
 
-    -- what is known after a call that isn't made
-    pub record Keeps (O : Type 0) (E : Thread → Type 0) (P : Type 0) (F : Thread → Type 0) (k : Call) : Type 0 where
-      pub over : (result_of n k).called ≡ nothing → O → P
-      pub going : ¬ Executes k.made n k.before → (result_of n k).called ≡ nothing → (th : Thread) → slice_get k.before.device.threads n ≡ Some th → Going k.before.image th → E th → F th
-
-    -- what is known after a call that steps the thread
-    pub record Leaves (E : Thread → Type 0) (P : Type 0) (F : Thread → Type 0) (k : Call) : Type 0 where
-      pub over : (th : Thread) → Going k.before.image th → E th → sent_by n k ≡ sets k th → last_answer k th ≡ Some Ended → P
-      pub going : k.made ≡ true → (th : Thread) → slice_get k.before.device.threads n ≡ Some th → Going k.before.image th → E th → sent_by n k ≡ sets k th → last_answer k th ≢ Some Ended → F (after_steps_of k th)
+    -- what is known after a call: that isn't made, of a channel whose program has ended or goes on; and that steps the
+    -- thread, which ends or goes on
+    pub record Steps (O : Type 0) (E : Thread → Type 0) (P : Type 0) (F : Thread → Type 0) (k : Call) : Type 0 where
+      pub rests_over : (result_of n k).called ≡ nothing → O → P
+      pub rests : ¬ Executes k.made n k.before → (result_of n k).called ≡ nothing → (th : Thread) → slice_get k.before.device.threads n ≡ Some th → Going k.before.image th → E th → F th
+      pub ends : (th : Thread) → Going k.before.image th → E th → sent_by n k ≡ sets k th → last_answer k th ≡ Some Ended → P
+      pub goes : k.made ≡ true → (th : Thread) → slice_get k.before.device.threads n ≡ Some th → Going k.before.image th → E th → sent_by n k ≡ sets k th → last_answer k th ≢ Some Ended → F (after_steps_of k th)
 
     no_program : (d : DeviceValue) (th : Thread) → slice_get d.threads n ≡ Some th → th.channel.program ≡ None → runs_at d n ≡ false
     no_program d th is gone = ap runs_if is ∙ ap (λ (p : Option ProgramValue). is_some p && not (is_faulting th)) gone
 
-    stands_after : (E : Thread → Type 0) (P : Type 0) (F : Thread → Type 0) (k : Call) (th : Thread) → k.made ≡ true → slice_get k.before.device.threads n ≡ Some th → Going k.before.image th → E th → sent_by n k ≡ sets k th → Leaves E P F k → Stands P F (to k th).image (after_steps_of k th)
-    stands_after E P F k th made found g e sent leaves =
+    stands_after : (O : Type 0) (E : Thread → Type 0) (P : Type 0) (F : Thread → Type 0) (k : Call) (th : Thread) → k.made ≡ true → slice_get k.before.device.threads n ≡ Some th → Going k.before.image th → E th → sent_by n k ≡ sets k th → Steps O E P F k → Stands P F (to k th).image (after_steps_of k th)
+    stands_after O E P F k th made found g e sent steps =
         let is = channel_after k th in
         let events = k.before.device.config.events in
         let leads = call c.bus c.program c.t c.count k.marks c.first c.explains c.fits (from k th) (to k th) k.most (count_in k th) (last_answer k th) g.runs (steps_of k th) in
@@ -149,7 +148,7 @@ module _ (c : Copying) where
                   gone = ap (λ (v : ChannelValue). v.program) is ∙ done.dropped;
                   copied = done.all;
                 },
-                leaves.over th g e sent ended,
+                steps.ends th g e sent ended,
               )
           | inr goes ↦
               inr (
@@ -157,12 +156,12 @@ module _ (c : Copying) where
                   runs = subst (λ (v : ChannelValue). RunsOn (machine v (to k th).image [])) (sym is) (leads_runs (last_answer k th) (to k th) leads goes);
                   busy = answer_busy events (at_answer k th) (last_answer k th) (sets k th) goes;
                 },
-                leaves.going made th found g e sent goes,
+                steps.goes made th found g e sent goes,
               )
         ]
 
-    after_call : (O : Type 0) (E : Thread → Type 0) (P : Type 0) (F : Thread → Type 0) (k : Call) → (k.made ≡ true → runs_at k.before.device n ≡ true) → Keeps O E P F k → Leaves E P F k → Has O E k.before → Has P F (result_of n k).left
-    after_call O E P F k on keeps leaves g = elim (call_is k.made k.marks n k.most k.before) [
+    after_call : (O : Type 0) (E : Thread → Type 0) (P : Type 0) (F : Thread → Type 0) (k : Call) → (k.made ≡ true → runs_at k.before.device n ≡ true) → Steps O E P F k → Has O E k.before → Has P F (result_of n k).left
+    after_call O E P F k on steps g = elim (call_is k.made k.marks n k.most k.before) [
       | inl rests ↦
           let none = ap (λ (o : Outcome). o.called) rests.is in
           subst (λ (o : Outcome). Has P F o.left) (sym rests.is)
@@ -170,8 +169,8 @@ module _ (c : Copying) where
             thread = g.thread;
             is = g.is;
             stands = elim g.stands [
-              | inl over ↦ inl (over.0, keeps.over none over.1)
-              | inr going ↦ inr (going.0, keeps.going rests.off none g.thread g.is going.0 going.1)
+              | inl over ↦ inl (over.0, steps.rests_over none over.1)
+              | inr going ↦ inr (going.0, steps.rests rests.off none g.thread g.is going.0 going.1)
             ];
           })
       | inr acts ↦
@@ -184,7 +183,7 @@ module _ (c : Copying) where
             is = set_found k.before.device.threads n th (after_steps_of k th) acts.found;
             stands = elim (subst (Stands O E k.before.image) (sym same) g.stands) [
               | inl over ↦ absurd (true≢false (sym (on acts.on) ∙ no_program k.before.device th acts.found over.0.gone))
-              | inr going ↦ stands_after E P F k th acts.on acts.found going.0 going.1 (ap (λ (o : Outcome). o.called.signal) is) leaves
+              | inr going ↦ stands_after O E P F k th acts.on acts.found going.0 going.1 (ap (λ (o : Outcome). o.called.signal) is) steps
             ];
           })
     ]
@@ -196,13 +195,13 @@ module _ (c : Copying) where
       abbrev two : Call
       two = two_of d regions n most
 
-      pub after_turn : (O : Type 0) (E : Thread → Type 0) (P : Type 0) (F : Thread → Type 0) (R : Type 0) (G : Thread → Type 0) → Keeps O E P F one → Leaves E P F one → Keeps P F R G two → Leaves F R G two → Has O E (setup_of d regions) → Has R G (setup_of e left)
-      after_turn O E P F R G keeps_one leaves_one keeps_two leaves_two g =
+      pub after_turn : (O : Type 0) (E : Thread → Type 0) (P : Type 0) (F : Thread → Type 0) (R : Type 0) (G : Thread → Type 0) → Steps O E P F one → Steps P F R G two → Has O E (setup_of d regions) → Has R G (setup_of e left)
+      after_turn O E P F R G steps_one steps_two g =
           let first = first_in d regions n most in
           let m = first.left.device in
           subst (Has R G) (turn_left x)
-          (after_call P F R G two (λ is. (and_parts (may_follow m n first.called) (runs_at m n) is).1) keeps_two leaves_two
-          (after_call O E P F one (λ is. (and_parts (nat_lt 0 most) (runs_at d n) is).1) keeps_one leaves_one g))
+          (after_call P F R G two (λ is. (and_parts (may_follow m n first.called) (runs_at m n) is).1) steps_two
+          (after_call O E P F one (λ is. (and_parts (nat_lt 0 most) (runs_at d n) is).1) steps_one g))
 
 -- ---- along the turns
 

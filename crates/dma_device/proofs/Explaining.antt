@@ -1,6 +1,6 @@
 -- A channel's turns stay in the copy that explains its program.
-use Rattle.std.proofs.Common.{◌≡◌, ◌∙◌, ◌⊎◌, ℕ, suc, ◌+◌, ◌-◌, ◌%◌, ◌/◌, ◌^◌, ◌<◌, Bool, true, false, ◌&&◌, List, [], append-nil, Option, Some, None, ap, refl, sym, subst, arith, inl, inr, true≢false}
-use Rattle.std.specs.Prelude.{IsSomeAnd, is_some, nat_lt, not, replicate, slice_get}
+use Rattle.std.proofs.Common.{◌≡◌, ◌∙◌, ◌⊎◌, ℕ, suc, ◌+◌, ◌-◌, ◌%◌, ◌/◌, ◌^◌, ◌<◌, Bool, true, List, [], append-nil, Option, Some, None, ap, refl, sym, subst, arith, inl, inr}
+use Rattle.std.specs.Prelude.{IsSomeAnd, nat_lt, replicate, slice_get}
 use Rattle.std.proofs.lemmas.Bool.{and_parts, cases_eq}
 use Rattle.std.specs.List.{Contains}
 use Rattle.dma_insn.specs.ControlWord.{field}
@@ -11,7 +11,7 @@ use Rattle.dma_mem.specs.declared.regions.Region.{Region}
 use Rattle.dma_chan.specs.declared.bus.Bus.{Bus}
 use Rattle.dma_chan.specs.declared.bus.BusWidth.{BusWidth}
 use Rattle.dma_chan.specs.declared.explain.Explained.{Explained}
-use Rattle.dma_chan.specs.Channel.{ChannelValue, bytes_of_program, code_of}
+use Rattle.dma_chan.specs.Channel.{ChannelValue, code_of}
 use Rattle.dma_chan.specs.Explains.{Executes, Explains, Finds}
 use Rattle.dma_chan.specs.Programs.{ProgramValue}
 use Rattle.dma_chan.specs.Stepping.{after_steps}
@@ -22,8 +22,8 @@ use Rattle.dma_device.specs.Accesses.{Access, Answer, Does, Happen, Resets, Rest
 use Rattle.dma_device.specs.CallSteps.{Executes as Steps, first_in, marks_in}
 use Rattle.dma_device.specs.Device.{DeviceValue, is_interrupt, program_at, signalled, with_thread, written}
 use Rattle.dma_device.specs.Explaining.{CallReads, GivesNone, IsUnderway, OnlyDmagoGives, StaysIn, TurnsStayIn, bus_of, channel_if, channel_of, copy_of, program_if, program_of}
-use Rattle.dma_device.specs.Thread.{failed, is_faulting, killed, reset_thread, started}
-use Rattle.dma_device.specs.Turns.{Setup, TakesTurn, begins, called_if, follows, last_in, machine_in, machine_left, may_follow, runs_at, runs_if, setup_of, signal_in, steps_in, thread_left}
+use Rattle.dma_device.specs.Thread.{failed, killed, reset_thread, started}
+use Rattle.dma_device.specs.Turns.{Setup, TakesTurn, begins, called_if, follows, last_in, machine_in, machine_left, may_follow, runs_at, setup_of, signal_in, steps_in, thread_left}
 use Rattle.dma_device.specs.Writes.{CallWrote}
 use Rattle.dma_device.specs.declared.device.turns.Called.{Called}
 use Rattle.dma_device.specs.declared.device.turns.Turn.{Turn}
@@ -31,10 +31,9 @@ use Rattle.dma_device.specs.declared.thread.Thread.{Thread}
 use Rattle.dma_device.proofs.Answered.{answer_channel}
 use Rattle.dma_device.proofs.Calls.{call_keeps, takes, turn_device, turn_keeps}
 use Rattle.dma_device.proofs.Cases.{branch, debug_cases, write_cases}
-use Rattle.dma_device.proofs.Faults.{set_other}
 use Rattle.dma_device.proofs.History.{kept_along}
-use Rattle.dma_device.proofs.Starts.{set_found}
 use Rattle.dma_device.proofs.Writes.{turn_writes_each}
+use Rattle.dma_device.proofs.Found.{set_found, set_other}
 
 -- ---- a channel that executes a program that copies, or has ended it
 
@@ -52,12 +51,7 @@ module _ (bus : Bus) (program : List ℕ) (t : Descriptor) (count : ℕ) (h : Ex
 
   -- a channel that is called executes the program
   runs_copy : (d : DeviceValue) (th : Thread) → slice_get d.threads n ≡ Some th → runs_at d n ≡ true → HasCopy d → Executes bus program count th.channel
-  runs_copy d th is on g = elim (found_copy d th is g) [
-    | inl goes ↦ goes
-    | inr none ↦
-        let off : runs_at d n ≡ false = ap runs_if is ∙ ap (λ (p : Option ProgramValue). is_some p && not (is_faulting th)) none in
-        absurd (true≢false (sym on ∙ off))
-  ]
+  runs_copy d th is on g = grind (arith, found_copy)
 
   -- ---- a call
 
@@ -126,9 +120,7 @@ module _ (bus : Bus) (program : List ℕ) (t : Descriptor) (count : ℕ) (h : Ex
 
   -- a channel that an access gives no program
   given_none : (c o : Option ChannelValue) → (o ≡ c) ⊎ (program_if o ≡ None) → InCopy c → InCopy o
-  given_none c None how g = tt
-  given_none c (Some x) (inl same) g = subst InCopy (sym same) g
-  given_none c (Some x) (inr none) g = inr none
+  given_none c o h1 h2 = grind arith
 
   after_access : (a : Access) (d e : DeviceValue) (regions left : List Region) (answer : Answer) → Does a d regions answer e left → GivesNone a n d e → HasCopy d → HasCopy e
   after_access (Turns m most) d e regions left answer does none g =
@@ -159,17 +151,7 @@ record Starts (bus : Bus) (x : Explained) (o : Option ChannelValue) : Type 0 whe
   executes : Executes bus program count channel
 
 starts_with : (bus : Bus) (limit : ℕ) (x : Explained) (c : ChannelValue) (o : Option ProgramValue) → c.program ≡ o → IsSomeAnd o (λ p. Finds bus p.bytes limit x) → Executes bus (code_of c) (x.steps - 1) c → Starts bus x (Some c)
-starts_with bus limit x c None is f w = absurd f
-starts_with bus limit x c (Some p) is f w = record {
-  channel = c;
-  is = refl;
-  program = p.bytes;
-  count = f.before;
-  explains = f.explains;
-  executes =
-      let same : x.steps - 1 ≡ f.before = omega (arith, f.steps) in
-      subst (λ (count : ℕ). Executes bus p.bytes count c) same (subst (λ (program : List ℕ). Executes bus program (x.steps - 1) c) (ap bytes_of_program is) w);
-}
+starts_with bus limit x c o h1 h2 h3 = grind arith
 
 starts_at : (bus : Bus) (limit : ℕ) (x : Explained) (o : Option ChannelValue) → IsSomeAnd (program_if o) (λ p. Finds bus p.bytes limit x) → IsSomeAnd o (λ c. Executes bus (code_of c) (x.steps - 1) c) → Starts bus x o
 starts_at bus limit x None f w = absurd w
@@ -195,13 +177,7 @@ Gives n d e = ((channel_of e n ≡ channel_of d n) ⊎ (program_of e n ≡ None)
 
 -- a thread is replaced by one with the same channel, or without a program
 set_thread : (n m : ℕ) (d : DeviceValue) (t u : Thread) → slice_get d.threads m ≡ Some t → (u.channel ≡ t.channel) ⊎ (u.channel.program ≡ None) → Gives n d (with_thread m u d)
-set_thread n m d t u found how = elim (cases_eq n m) [
-  | inr other ↦ inl (inl (ap channel_if (set_other d.threads m n u other)))
-  | inl own ↦
-      let there : channel_of (with_thread m u d) n ≡ Some u.channel = ap (λ (j : ℕ). channel_of (with_thread m u d) j) own ∙ ap channel_if (set_found d.threads m t u found) in
-      let was : channel_of d n ≡ Some t.channel = ap (channel_of d) own ∙ ap channel_if found in
-      inl (elim how [ inl same ↦ inl (there ∙ ap Some same ∙ sym was) | inr none ↦ inr (ap program_if there ∙ none) ])
-]
+set_thread n m d t u found how = grind (arith, set_found, set_other)
 
 -- a thread is started
 start_thread : (n m : ℕ) (d : DeviceValue) (t : Thread) (nonsecure : Bool) (base : ℕ) (program : List ℕ) → slice_get d.threads m ≡ Some t → Gives n d (with_thread m (started d.config.bus nonsecure base program) d)

@@ -1,4 +1,4 @@
--- What steps make of the flags: only a DMASEV and a DMAWFE change one.
+-- What steps make of the flags: only a DMASEV and a DMAWFE change one; and a step that waits.
 use Rattle.std.proofs.Common.{◌≡◌, ◌≢◌, ◌∙◌, ◌⊎◌, ℕ, zero, suc, ◌<◌, ◌≤◌, Bool, true, false, List, ◌∷◌, length, get_or, set, Option, Some, None, Result, Ok, Err, ap, refl, sym, subst, arith, inl, inr, true≢false}
 use Rattle.std.specs.Prelude.{◌↔◌}
 use Rattle.std.proofs.lemmas.Bool.{cases_Bool, cases_eq}
@@ -12,28 +12,17 @@ use Rattle.dma_chan.specs.Stepping.{Machine, TakesSteps, after_steps, answer_at,
 use Rattle.dma_chan.specs.declared.turn.ChanTurn.{ChanTurn}
 use Rattle.dma_chan.specs.declared.turn.ChanTurn.TheVariants.{Moved, Waiting}
 use Rattle.dma_chan.specs.declared.turn.FaultKind.{FaultKind}
-use Rattle.dma_chan.proofs.ActCases.{act_cases}
+use Rattle.dma_chan.proofs.ActCases.{act_cases, fetched_cases}
 use Rattle.dma_chan.proofs.StepsTaken.{steps_move}
 use Rattle.dma_chan.proofs.SteppedOver.{went_before}
 
 -- what holds of flags, and still holds once a DMASEV set one or a DMAWFE cleared one
 act_flags : (P : List Bool → Type 0) (marks : MarkList) (i : Insn) (s : State) → P s.flags → ((e : ℕ) → i ≡ Sev e → P (set s.flags e true)) → ((e : ℕ) (v : Bool) → i ≡ Wfe e v → P (set s.flags e false)) → P (act marks i s).1.flags
-act_flags P marks i s h sets clears =
-    act_cases (λ (x : ChanTurn × State). P x.1.flags) marks i s (λ _. h) (λ _. record {
-      moves = h;
-      loads = h;
-      stores = λ _ _. h;
-      sets = sets;
-      takes = clears;
-      waits = λ _ _ _ _. h;
-      ends = h;
-    })
+act_flags P marks i s h sets clears = grind (arith, act_cases)
 
 -- steps keep the number of flags
 fetched_length : (marks : MarkList) (next : Result Insn FaultKind) (s : State) → length (exec_fetched marks next s).1.flags ≡ length s.flags
-fetched_length marks (Ok i) s =
-    act_flags (λ f. length f ≡ length s.flags) marks i s refl (λ e is. length-set s.flags e true) (λ e v is. length-set s.flags e false)
-fetched_length marks (Err kind) s = refl
+fetched_length marks next s = grind (arith, act_flags, length-set)
 
 pub steps_flags : (marks : MarkList) (s : Machine) (k : ℕ) → length (after_steps marks s k).flags ≡ length s.flags
 steps_flags marks s zero = refl
@@ -52,9 +41,7 @@ cleared (x ∷ xs) (suc e) (suc k) h = cleared xs e k h
 cleared xs e k h = h
 
 act_clear : (marks : MarkList) (i : Insn) (s : State) (k : ℕ) → IsClear k s.flags → signal_of (Ok i) ≢ Some k → IsClear k (act marks i s).1.flags
-act_clear marks i s k h other =
-    act_flags (IsClear k) marks i s h (λ e is. get_or-set_other s.flags e k true false (λ same. other (ap (λ (j : Insn). signal_of (Ok j)) is ∙ ap Some (sym same))) ∙ h)
-    (λ e v is. cleared s.flags e k h)
+act_clear marks i s k h other = grind (arith, act_flags, cleared, get_or-set_other)
 
 step_clear : (marks : MarkList) (next : Result Insn FaultKind) (s : State) (k : ℕ) → IsClear k s.flags → signal_of next ≢ Some k → IsClear k (exec_fetched marks next s).1.flags
 step_clear marks (Ok i) s k h other = act_clear marks i s k h other
@@ -70,9 +57,7 @@ step_sets marks (Ok i) s k is = insn_sets marks i s k is
 step_sets marks (Err kind) s k is = absurd (cc)
 
 quiet : (turn : ChanTurn) (signal : Option ℕ) (k : ℕ) → goes_on turn signal ≡ true → signal ≢ Some k
-quiet Moved (Some e) k h is = true≢false (sym h)
-quiet turn (Some e) k h is = true≢false (sym h)
-quiet turn None k h is = cc
+quiet turn signal k h is = grind arith
 
 is_signal : (signal : Option ℕ) (k : ℕ) → (signal ≡ Some k) ⊎ (signal ≢ Some k)
 is_signal None k = inr (λ is. cc)
@@ -92,14 +77,7 @@ set_false xs k = refl
 
 -- a set flag stays set, unless a DMAWFE takes it
 act_keeps : (marks : MarkList) (i : Insn) (s : State) (k : ℕ) → Is k s.flags → ((v : Bool) → i ≡ Wfe k v → (act marks i s).0 ≢ Moved) → Is k (act marks i s).1.flags
-act_keeps marks i s k h none = act_flags (Is k) marks i s h (λ e is. set_true s.flags e k h) (λ e v is. elim (cases_eq e k) [
-  | inl same ↦
-      let there : i ≡ Wfe k v = is ∙ ap (λ (j : ℕ). Wfe j v) same in
-      let set_flag : get_or s.flags k false ≡ true = h in
-      let moves : (act marks (Wfe k v) s).0 ≡ Moved = rw set_flag refl in
-      absurd (none v there (ap (λ (j : Insn). (act marks j s).0) there ∙ moves))
-  | inr other ↦ get_or-set_other s.flags e k false false (λ same. other (sym same)) ∙ h
-])
+act_keeps marks i s k h none = grind (arith, act_flags, get_or-set_other, set_true)
 
 step_keeps : (marks : MarkList) (next : Result Insn FaultKind) (s : State) (k : ℕ) → Is k s.flags → ((v : Bool) → next ≡ Ok (Wfe k v) → (exec_fetched marks next s).0 ≢ Moved) → Is k (exec_fetched marks next s).1.flags
 step_keeps marks (Ok i) s k h none = act_keeps marks i s k h (λ v is. none v (ap (λ (j : Insn). Ok j) is))
@@ -192,3 +170,15 @@ module _ (marks : MarkList) (s : Machine) (k : ℕ) where
               subst (Is k) (sym flags) (step_keeps marks next (state_in u) k before (λ v is moved. kept.1 p (omega arith) (v, is, moved)))
         ]),
       )
+
+-- ---- a step that waits
+
+-- a wait is a DMAWFE of an event whose flag is clear
+abbrev Waits : Result Insn FaultKind → List Bool → ChanTurn × State → Type 0
+Waits next flags x = (e : ℕ) → x.0 ≡ Waiting e → (v : Bool) × ((next ≡ Ok (Wfe e v)) × (get_or flags e false ≡ false))
+
+step_waits : (marks : MarkList) (next : Result Insn FaultKind) (s : State) → Waits next s.flags (exec_fetched marks next s)
+step_waits marks next s = grind (arith, fetched_cases)
+
+pub waits_at : (marks : MarkList) (u : Machine) (e : ℕ) → answer_at marks u ≡ Waiting e → (v : Bool) × ((ahead_of u.channel ≡ Ok (Wfe e v)) × (get_or u.flags e false ≡ false))
+waits_at marks u = step_waits marks (ahead_of u.channel) (state_of u.channel u.image u.flags)

@@ -1,15 +1,19 @@
 -- What holds before access number n, if each access makes it hold, or leaves it, or ends it.
 use Rattle.std.proofs.Common.{◌≡◌, ◌⊎◌, ℕ, zero, suc, ◌+◌, ◌<◌, ◌≤◌, subst, arith, inl, inr}
 use Rattle.std.specs.Prelude.{◌↔◌}
-use Rattle.std.proofs.lemmas.Bool.{cases_eq, cases_lt}
+use Rattle.std.proofs.lemmas.Bool.{cases_eq}
+use Rattle.dma_device.specs.Accesses.{IsExact, Since, Stays}
 
 -- it holds after a step exactly if the step makes it hold, or if it held before and the step doesn't end it
 abbrev pub Exact : (before after Up Down : Type 0) → Type 0
 Exact before after Up Down = after ↔ (Up ⊎ (before × ¬ Down))
 
 pub same_exact : (before after Up Down : Type 0) → (before → after) → (after → before) → ¬ Up → ¬ Down → Exact before after Up Down
-same_exact before after Up Down to back no_up no_down =
-    ((λ high. inr (back high, no_down)), (λ why. elim why [ inl up ↦ absurd (no_up up) | inr stays ↦ to stays.0 ]))
+same_exact before after Up Down to back no_up no_down = grind arith
+
+-- what only makes it hold
+pub up_exact : (before after P Up Down : Type 0) → (P → Up) → (Up → P) → ¬ Down → after ↔ (before ⊎ P) → Exact before after Up Down
+up_exact before after P Up Down to back no_down x = grind arith
 
 -- what holds at first, and each access keeps
 pub kept_along : (P : ℕ → Type 0) (count : ℕ) → P 0 → ((n : ℕ) → n < count → P n → P (n + 1)) → (n : ℕ) → n ≤ count → P n
@@ -19,36 +23,20 @@ kept_along P count first step (suc n) within =
     subst P e (step n (omega arith) (kept_along P count first step n (omega arith)))
 
 module _ (P Up Down : ℕ → Type 0) where
-  -- from number i up to, and without, number n nothing ends it
-  abbrev pub Stays : ℕ → ℕ → Type 0
-  Stays i n = (j : ℕ) → i ≤ j → j < n → ¬ Down j
+  abbrev Held : ℕ → Type 0
+  Held = IsExact P Up Down
 
-  pub record Since (n : ℕ) : Type 0 where
-    pub at : ℕ
-    pub below : at < n
-    pub up : Up at
-    pub stays : Stays (at + 1) n
-
-  abbrev pub Held : ℕ → Type 0
-  Held n = P n ↔ (Since n ⊎ (P 0 × Stays 0 n))
-
-  fewer : (i n : ℕ) → Stays i (n + 1) → Stays i n
+  fewer : (i n : ℕ) → Stays Down i (n + 1) → Stays Down i n
   fewer i n stays j from less = stays j from (omega arith)
 
-  more : (i n : ℕ) → Stays i n → ¬ Down n → Stays i (n + 1)
-  more i n stays calm j from less =
-      elim (cases_lt j n) [
-        | inl early ↦ stays j from early
-        | inr last ↦
-            let e : n ≡ j = omega arith in
-            subst (λ (m : ℕ). ¬ Down m) e calm
-      ]
+  more : (i n : ℕ) → Stays Down i n → ¬ Down n → Stays Down i (n + 1)
+  more i n stays calm j from less = grind arith
 
-  since_more : (n : ℕ) → Since n → ¬ Down n → Since (n + 1)
-  since_more n r calm = record { at = r.at; below = omega (arith, r.below); up = r.up; stays = more (r.at + 1) n r.stays calm }
+  since_more : (n : ℕ) → Since Up Down n → ¬ Down n → Since Up Down (n + 1)
+  since_more n r calm = record { at = r.at; below = omega (arith, r.below); makes = r.makes; stays = more (r.at + 1) n r.stays calm }
 
-  since_here : (n : ℕ) → Up n → Since (n + 1)
-  since_here n up = record { at = n; below = omega arith; up = up; stays = λ j from less. absurd (omega arith) }
+  since_here : (n : ℕ) → Up n → Since Up Down (n + 1)
+  since_here n up = record { at = n; below = omega arith; makes = up; stays = λ j from less. absurd (omega arith) }
 
   next_held : (n : ℕ) → Exact (P n) (P (n + 1)) (Up n) (Down n) → Held n → Held (n + 1)
   next_held n x held = (
@@ -61,17 +49,17 @@ module _ (P Up Down : ℕ → Type 0) where
     ]),
     (λ why. elim why [
       | inl r ↦ elim (cases_eq r.at n) [
-        | inl last ↦ x.1 (inl (subst Up last r.up))
+        | inl last ↦ x.1 (inl (subst Up last r.makes))
         | inr early ↦
             let below = r.below in
-            let before_n : Since n = record { at = r.at; below = omega arith; up = r.up; stays = fewer (r.at + 1) n r.stays } in
+            let before_n : Since Up Down n = record { at = r.at; below = omega arith; makes = r.makes; stays = fewer (r.at + 1) n r.stays } in
             x.1 (inr (held.1 (inl before_n), r.stays n (omega arith) (omega arith)))
       ]
       | inr first ↦ x.1 (inr (held.1 (inr (first.0, fewer 0 n first.1)), first.1 n (omega arith) (omega arith)))
     ]),
   )
 
-  held : (count : ℕ) → ((n : ℕ) → n < count → Exact (P n) (P (n + 1)) (Up n) (Down n)) → (n : ℕ) → n ≤ count → Held n
+  pub held : (count : ℕ) → ((n : ℕ) → n < count → Exact (P n) (P (n + 1)) (Up n) (Down n)) → (n : ℕ) → n ≤ count → Held n
   held count steps zero within = (
     (λ high. inr (high, λ j from less. absurd (omega arith))),
     (λ why. elim why [ inl r ↦ absurd (let below = r.below in omega arith) | inr first ↦ first.0 ]),
@@ -79,11 +67,3 @@ module _ (P Up Down : ℕ → Type 0) where
   held count steps (suc n) within =
       let e : n + 1 ≡ suc n = omega arith in
       subst Held e (next_held n (steps n (omega arith)) (held count steps n (omega arith)))
-
-  -- with another record in place of `Since`
-  pub held_as : (Other : Type 0) (n : ℕ) → (Since n → Other) → (Other → Since n) → (count : ℕ) → ((j : ℕ) → j < count → Exact (P j) (P (j + 1)) (Up j) (Down j)) → n ≤ count → P n ↔ (Other ⊎ (P 0 × Stays 0 n))
-  held_as Other n to back count steps within =
-      let x = held count steps n within in (
-        (λ high. elim (x.0 high) [ inl r ↦ inl (to r) | inr first ↦ inr first ]),
-        (λ why. elim why [ inl r ↦ x.1 (inl (back r)) | inr first ↦ x.1 (inr first) ]),
-      )

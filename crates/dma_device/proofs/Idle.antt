@@ -1,5 +1,5 @@
 -- Devices stay sound, and a turn of a sound device whose threads can't step does nothing.
-use Rattle.std.proofs.Common.{◌≡◌, ◌∙◌, ℕ, ◌+◌, ◌%◌, ◌/◌, ◌^◌, ◌<◌, ◌≤◌, Bool, true, List, ap, refl, sym, subst, arith, bit_and, bit_or, w32}
+use Rattle.std.proofs.Common.{◌≡◌, ◌∙◌, ℕ, ◌+◌, ◌%◌, ◌/◌, ◌<◌, ◌≤◌, Bool, true, List, ap, refl, sym, subst, arith, bit_and, w32}
 use Rattle.std.specs.Prelude.{◌==◌, nat_lt}
 use Rattle.std.specs.Int.{bit_not}
 use borrow.Author.Tests.{ltb-true}
@@ -13,7 +13,7 @@ use Rattle.dma_mem.specs.Regions.{Piece, pieces_of}
 use Rattle.dma_mem.specs.declared.regions.Region.{Region}
 use Rattle.dma_device.specs.declared.config.Config.{Config}
 use Rattle.dma_device.specs.Accesses.{Access, Answer, Does, Resets, Restores, Turned, Turns, Writes}
-use Rattle.dma_device.specs.Device.{DeviceValue, all_events, debugged, is_event, is_interrupt, program_at, reset_device, signalled, written}
+use Rattle.dma_device.specs.Device.{DeviceValue, all_events, debugged, is_event, program_at, reset_device, signalled, written}
 use Rattle.dma_device.specs.Idle.{IsSoundDevice, NothingHappens, StaySound}
 use Rattle.dma_device.specs.Snapshot.{IsDeviceValue}
 use Rattle.dma_device.specs.Thread.{IsSound, failed, killed, reset_thread, started}
@@ -27,13 +27,7 @@ use Rattle.dma_device.proofs.Waits.{turn_rests}
 -- ---- parts
 
 signalled_sound : (d : DeviceValue) (k : ℕ) → IsSoundDevice d → k < d.config.events → IsSoundDevice (signalled k d)
-signalled_sound d k h less =
-    let n = d.config.events in
-    let raised : DeviceValue = record d { interrupts = bit_or d.interrupts (2 ^ k) } in
-    let sent : DeviceValue = record d { events = bit_or d.events (2 ^ k) } in
-    branch IsSoundDevice (is_interrupt d k) raised sent
-    (λ on. same_threads d raised h refl refl h.known.events (or_lt n d.interrupts (2 ^ k) h.known.interrupts (pow-lt {i = k} {j = n} less)) h.known.inten)
-    (λ off. same_threads d sent h refl refl (or_lt n d.events (2 ^ k) h.known.events (pow-lt {i = k} {j = n} less)) h.known.interrupts h.known.inten)
+signalled_sound d k h less = grind (arith, branch, or_lt, pow-lt, same_threads)
 
 event_known : (d : DeviceValue) (byte : ℕ) → is_event d byte ≡ true → byte / 8 < d.config.events
 event_known d byte is = ltb-true (byte / 8) d.config.events (and_parts (byte % 8 == 0) (nat_lt (byte / 8) d.config.events) is).1
@@ -67,13 +61,7 @@ written_sound ram at value d h =
 -- ---- a turn
 
 flags_sound : (d : DeviceValue) (flags : ℕ) → IsSoundDevice d → IsSoundDevice (with_flags flags d)
-flags_sound d flags h =
-    let n = d.config.events in
-    let known = bit_and flags (all_events d) in
-    let few : known < 2 ^ n = and_known flags n in
-    same_threads d (with_flags flags d) h refl refl
-    (or_lt n (bit_and d.events d.inten) (bit_and known (bit_not w32 d.inten)) (and_fewer d.events d.inten n h.known.events) (and_fewer known (bit_not w32 d.inten) n few))
-    (or_lt n d.interrupts (bit_and known d.inten) h.known.interrupts (and_fewer known d.inten n few)) h.known.inten
+flags_sound d flags h = grind (arith, and_fewer, and_known, or_lt, same_threads)
 
 call_sound : (made : Bool) (marks : MarkList) (n most : ℕ) (s : Setup) → IsSoundDevice s.device → IsSoundDevice (called_if made marks n most s).left.device
 call_sound made marks n most s h = call_keeps IsSoundDevice made marks n most s h (λ x.
@@ -87,11 +75,7 @@ call_sound made marks n most s h = call_keeps IsSoundDevice made marks n most s 
 -- ---- accesses
 
 value_sound : (d : DeviceValue) → IsDeviceValue d → IsSoundDevice d
-value_sound d v = record {
-  few = few_events d.config v.config;
-  known = v.known;
-  threads = λ i t found. (v.threads i t found).sound;
-}
+value_sound d v = grind (arith, few_events)
 
 reset_sound : (g : Config) → g.events ≤ 32 → IsSoundDevice (reset_device g)
 reset_sound g few = record {

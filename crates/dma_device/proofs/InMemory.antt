@@ -1,5 +1,5 @@
 -- The bytes of regions in the memory that they lend, and the program that a DMAGO reads there.
-use Rattle.std.proofs.Common.{◌≡◌, ◌∙◌, ℕ, zero, suc, ◌+◌, ◌-◌, ◌<◌, ◌≤◌, Bool, true, false, ◌||◌, List, [], ◌∷◌, ◌++◌, drop, get_or, length, replicate, take, Some, ap, refl, sym, subst, arith, inl, inr, true≢false}
+use Rattle.std.proofs.Common.{◌≡◌, ◌∙◌, ℕ, zero, suc, ◌+◌, ◌-◌, ◌<◌, ◌≤◌, Bool, true, false, ◌||◌, List, [], ◌∷◌, ◌++◌, drop, get_or, length, take, Some, ap, refl, sym, subst, arith, inl, inr, true≢false}
 use Rattle.std.specs.Prelude.{slice_get}
 use Rattle.std.specs.List.{list_any}
 use Rattle.std.proofs.lemmas.Bool.{cases_Bool, cases_lt}
@@ -14,23 +14,13 @@ use Rattle.dma_device.specs.Dmago.{HasProgram, ImageHasBytes}
 
 -- the image from the first piece on, behind the gap before it
 after_gap : (at : ℕ) (p : Piece) (ps : List Piece) (k : ℕ) → rises_from at (p ∷ ps) ≡ true → p.addr ≤ k → get_or (bytes_above at (p ∷ ps)) (k - at) 0 ≡ get_or (p.bytes ++ bytes_above (end_of p) ps) (k - p.addr) 0
-after_gap at p ps k rises from =
-    let f = first at p ps rises in
-    let after = f.after in
-    let n = p.addr - at in
-    let same : (k - at) - n ≡ k - p.addr = omega arith in
-    get_or-append_right (replicate n 0) (p.bytes ++ bytes_above (end_of p) ps) n (k - at) 0 (length-replicate n 0) (omega arith)
-    ∙ ap (λ (i : ℕ). get_or (p.bytes ++ bytes_above (end_of p) ps) i 0) same
+after_gap at p ps k rises from = grind (arith, first, get_or-append_right, length-replicate)
 
 in_first : (at : ℕ) (p : Piece) (ps : List Piece) (k : ℕ) → rises_from at (p ∷ ps) ≡ true → p.addr ≤ k → k < end_of p → get_or (bytes_above at (p ∷ ps)) (k - at) 0 ≡ get_or p.bytes (k - p.addr) 0
 in_first at p ps k rises from to = after_gap at p ps k rises from ∙ get_or_append_left p.bytes (bytes_above (end_of p) ps) 0 (k - p.addr) (omega arith)
 
 in_later : (at : ℕ) (p : Piece) (ps : List Piece) (k : ℕ) → rises_from at (p ∷ ps) ≡ true → end_of p ≤ k → get_or (bytes_above at (p ∷ ps)) (k - at) 0 ≡ get_or (bytes_above (end_of p) ps) (k - end_of p) 0
-in_later at p ps k rises past =
-    let same : (k - p.addr) - length p.bytes ≡ k - end_of p = omega arith in
-    after_gap at p ps k rises (omega arith)
-    ∙ get_or-append_right p.bytes (bytes_above (end_of p) ps) (length p.bytes) (k - p.addr) 0 refl (omega arith)
-    ∙ ap (λ (i : ℕ). get_or (bytes_above (end_of p) ps) i 0) same
+in_later at p ps k rises past = grind (arith, after_gap, get_or-append_right)
 
 -- pieces that rise from an address begin there or later
 low_at : (at : ℕ) (rs : List Region) (i : ℕ) (r : Region) → rises_from at (pieces_of rs) ≡ true → slice_get rs i ≡ Some r → at ≤ r.addr
@@ -54,8 +44,7 @@ bytes_at at (q ∷ rs) zero k r rises is less =
     ∙ ap (λ (j : ℕ). get_or r.bytes.now j 0) back
 bytes_at at (q ∷ rs) (suc i) k r rises is less =
     let f = first at (piece_of q) (pieces_of rs) rises in
-    let from = low_at (end_of (piece_of q)) rs i r f.rest is in
-    in_later at (piece_of q) (pieces_of rs) (r.addr + k) rises (omega (arith, from))
+    in_later at (piece_of q) (pieces_of rs) (r.addr + k) rises (omega (arith, low_at (end_of (piece_of q)) rs i r f.rest is))
     ∙ bytes_at (end_of (piece_of q)) rs i k r f.rest is less
 
 pub image_has_bytes : ImageHasBytes
@@ -153,10 +142,9 @@ run_shown at (p ∷ ps) a k rises less =
       | inr other ↦
           let run = run_later p ps a other in
           let fits = subst (λ (xs : List ℕ). k < length xs) run less in
-          let past = low_run (end_of p) ps a f.rest (omega (arith, fits)) in
           ap (λ (xs : List ℕ). get_or xs k 0) run
           ∙ run_shown (end_of p) ps a k f.rest fits
-          ∙ sym (in_later at p ps (a + k) rises (omega (arith, past)))
+          ∙ sym (in_later at p ps (a + k) rises (omega (arith, low_run (end_of p) ps a f.rest (omega (arith, fits)))))
     ]
 
 -- a DMAGO reads a program that is there

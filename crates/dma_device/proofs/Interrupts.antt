@@ -1,22 +1,123 @@
--- Interrupts along accesses in a row.
-use Rattle.std.proofs.Common.{◌≡◌, ◌∙◌, ◌⊎◌, ℕ, true, ◌+◌, ◌<◌, ◌≤◌, List, ap, refl, sym, subst, arith, inl, inr}
-use Rattle.std.specs.Prelude.{◌↔◌}
-use Rattle.std.proofs.lemmas.Bool.{cases_eq}
-use Rattle.std.proofs.lemmas.Nat.Bits.{bit_at-zero}
-use Rattle.std.specs.Int.{bit_at}
-use Rattle.dma_mem.specs.Regions.{Piece, pieces_of}
+-- Interrupts: what a turn makes of the lines irq[31:0], and along accesses in a row.
+use Rattle.std.proofs.Common.{◌≡◌, ◌∙◌, ◌⊎◌, ℕ, true, ◌+◌, ◌<◌, ◌≤◌, List, ap, refl, sym, subst, arith, inl, inr, ◌-◌, ◌^◌, Bool, false, length, get_or, Option, Some, None, true≢false, w32}
+use Rattle.dma_chan.specs.Stepping.{Machine}
+use Rattle.std.specs.Prelude.{◌↔◌, min, max}
+use Rattle.std.proofs.lemmas.Bool.{cases_eq, ne_eqb}
+use Rattle.std.proofs.lemmas.Nat.Bits.{bit_at-zero, bit_at-lt, bit_at_and, bit_at_not, bit_at_ones, bit_at_or}
+use Rattle.std.specs.Int.{bit_at, bit_not}
+use Rattle.dma_mem.specs.Regions.{pieces_of}
 use Rattle.dma_mem.specs.declared.regions.Region.{Region}
-use Rattle.dma_device.specs.Offsets as offset
 use Rattle.dma_device.specs.Accesses.{Access, Answer, Does, Happen, Resets, Restores, Turns, Writes}
 use Rattle.dma_device.specs.Device.{DeviceValue, irqs, written}
-use Rattle.dma_device.specs.Turns.{TakesTurn}
+use Rattle.dma_device.specs.Turns.{TakesTurn, Outcome, Setup, begins, called_if, follows, last_in, machine_in, machine_left, number_of, setup_of, signal_in, stepped, steps_in, visible_events, with_flags}
 use Rattle.dma_device.specs.declared.config.Config.{Config}
 use Rattle.dma_device.specs.declared.device.turns.Turn.{Turn}
-use Rattle.dma_device.specs.Interrupts.{Clears, DebugSignals, HasLine, InterruptsAreExact, IsHigh, Raises, RaisedSince}
+use Rattle.dma_device.specs.Interrupts.{Clears, HasLine, InterruptsAreExact, IsHigh, Raises, TurnSignals}
+use Rattle.dma_insn.specs.ControlWord.{flag}
+use Rattle.dma_mem.specs.Flags.{flags_of}
+use Rattle.dma_mem.specs.Marking.{MarkList}
+use Rattle.dma_mem.proofs.FlagBits.{get_or_flags_of, length_flags_of}
+use Rattle.dma_device.specs.declared.thread.Thread.{Thread}
+use Rattle.dma_device.specs.CallSteps.{first_in, marks_in, second_in}
 use Rattle.dma_device.proofs.Sound.{few_events, fits_word}
-use Rattle.dma_device.proofs.TurnRaises.{turn_config, turn_inten, turn_raises}
-use Rattle.dma_device.proofs.WriteRaises.{dbgcmd_raises, has_kept, intclr_lowers, others_keep_lines}
+use Rattle.dma_device.proofs.WriteRaises.{dbgcmd_raises, has_kept, intclr_lowers, others_keep, write_has}
 use Rattle.dma_device.proofs.History as history
+use Rattle.dma_device.proofs.Calls.{call_acts, call_is, if_config, if_inten, takes, turn_device, turn_keeps}
+use Rattle.dma_device.proofs.FlagNumber.{flag_is, number_bit}
+use Rattle.dma_device.proofs.FlagSteps.{IsClear, flag_exact, steps_flags, Is, Passes}
+
+-- ---- a call
+
+-- the line, by the bits of the interrupts, of the flags and of INTEN
+line_after : (flags k : ℕ) (d : DeviceValue) → k < d.config.events → bit_at (irqs (with_flags flags d)) k ≡ max (bit_at d.interrupts k) (min (min (bit_at flags k) 1) (bit_at d.inten k))
+line_after flags k d event = simp (bit_at_or, bit_at_and, bit_at_ones)
+
+-- after a call that set the flag of `signal`, if any, line k is high exactly if it was high before or the call raised
+-- it
+abbrev CallRaises : DeviceValue → DeviceValue → Option ℕ → ℕ → Type 0
+CallRaises d e signal k = IsHigh (irqs e) k ↔ (IsHigh (irqs d) k ⊎ (IsHigh d.inten k × (signal ≡ Some k)))
+
+pub flag_bit : (flags k : ℕ) → k < 32 → get_or (flags_of flags) k false ≡ true → bit_at flags k ≡ 1
+flag_bit flags k below h = elim (cases_eq (bit_at flags k) 1) [ inl one ↦ one | inr other ↦ absurd (true≢false (sym h ∙ get_or_flags_of flags k below ∙ ne_eqb (bit_at flags k) 1 other)) ]
+
+-- the bit of an event that channels see
+pub seen_bit : (d : DeviceValue) (k : ℕ) → k < 32 → d.inten < 2 ^ 32 → bit_at (visible_events d) k ≡ min (bit_at d.events k) (1 - bit_at d.inten k)
+seen_bit d k below range = bit_at_and d.events (bit_not w32 d.inten) k ∙ ap (λ (m : ℕ). min (bit_at d.events k) m) (bit_at_not w32 d.inten k range below)
+
+-- a channel doesn't see an event that INTEN makes an interrupt
+pub hidden : (d : DeviceValue) (k : ℕ) → k < 32 → d.inten < 2 ^ 32 → IsHigh d.inten k → IsClear k (flags_of (visible_events d))
+hidden d k below range on = grind (arith, seen_bit d k below range, get_or_flags_of (visible_events d) k below)
+
+module _ (marks : MarkList) (most : ℕ) (t : Thread) (s : Setup) (k : ℕ) (has : HasLine s.device k) where
+  abbrev to : Machine
+  to = machine_left marks most t s
+
+  -- the flags after the call
+  abbrev pub flags_left : ℕ
+  flags_left = number_of to.flags
+
+  -- none of its steps takes event k
+  abbrev pub NonePass : Type 0
+  NonePass = (j : ℕ) → j < steps_in marks most t s → ¬ Passes marks (machine_in s t) k j
+
+  pub below : k < 32
+  below = omega (arith, has.events, has.event)
+
+  long : length to.flags ≡ 32
+  long = steps_flags marks (machine_in s t) (steps_in marks most t s) ∙ length_flags_of (visible_events s.device)
+
+  pub flag_left : bit_at flags_left k ≡ flag (get_or to.flags k false)
+  flag_left = number_bit to.flags k (let l = long in let b = below in omega (arith, l, b))
+
+  -- flag k is set after the call exactly if the call signals its event, or if it was set and no step took it
+  pub flag_sets : IsHigh flags_left k ↔ ((signal_in marks most t s ≡ Some k) ⊎ (Is k (flags_of (visible_events s.device)) × NonePass))
+  flag_sets =
+      let w = flag_exact marks (machine_in s t) k to most (steps_in marks most t s) (last_in marks most t s) (takes marks most t s) long below in
+      let is = flag_is (get_or to.flags k false) in
+      ((λ high. w.0 (is.0 (sym flag_left ∙ high))), (λ why. flag_left ∙ is.1 (w.1 why)))
+
+call_raises : (marks : MarkList) (n most : ℕ) (t : Thread) (s : Setup) (k : ℕ) → HasLine s.device k → let o = stepped marks n most t s in CallRaises s.device o.left.device o.called.signal k
+call_raises marks n most t s k has = grind (arith, flag_sets marks most t s k has, hidden s.device k (below marks most t s k has) has.inten, line_after (flags_left marks most t s k has) k s.device has.event, bit_at-lt)
+
+-- nothing was signalled, and the lines are the same
+pub same_raises : (d e : DeviceValue) (signal : Option ℕ) (k : ℕ) → irqs e ≡ irqs d → signal ≡ None → CallRaises d e signal k
+same_raises d e signal k lines none = grind arith
+
+if_raises : (made : Bool) (marks : MarkList) (n most : ℕ) (s : Setup) (k : ℕ) → HasLine s.device k → let o = called_if made marks n most s in CallRaises s.device o.left.device o.called.signal k
+if_raises made marks n most s k has =
+    let o = called_if made marks n most s in
+    elim (call_is made marks n most s) [
+      | inl rests ↦ same_raises s.device o.left.device o.called.signal k (ap (λ (w : Outcome). irqs w.left.device) rests.is) (ap (λ (w : Outcome). w.called.signal) rests.is)
+      | inr does ↦
+          subst (λ (w : Outcome). CallRaises s.device w.left.device w.called.signal k) (sym (call_acts marks most does)) (call_raises marks n most does.thread s k has)
+    ]
+
+-- ---- a turn
+
+both : (d m e : DeviceValue) (first second : Option ℕ) (k : ℕ) → m.inten ≡ d.inten → CallRaises d m first k → CallRaises m e second k → IsHigh (irqs e) k ↔ (IsHigh (irqs d) k ⊎ (IsHigh d.inten k × ((first ≡ Some k) ⊎ (second ≡ Some k))))
+both d m e first second k same one two = grind arith
+
+-- After a turn line k is high exactly if it was high before, or the turn executed a DMASEV of it while INTEN made it an
+-- interrupt.
+pub turn_raises : (d e : DeviceValue) (regions left : List Region) (n most k : ℕ) (turn : Turn) → TakesTurn d regions n most e left turn → HasLine d k → IsHigh (irqs e) k ↔ (IsHigh (irqs d) k ⊎ (IsHigh d.inten k × TurnSignals d regions n most k))
+turn_raises d e regions left n most k turn x has =
+    let marks = marks_in regions in
+    let s = setup_of d regions in
+    let first = first_in d regions n most in
+    let m = first.left.device in
+    let second = second_in d regions n most in
+    let same : m.inten ≡ d.inten = if_inten (begins d n most) marks n most s in
+    let config : m.config ≡ d.config = if_config (begins d n most) marks n most s in
+    both d m e first.called.signal second.called.signal k same (if_raises (begins d n most) marks n most s k has)
+    (subst (λ (v : DeviceValue). CallRaises m v second.called.signal k) (turn_device x)
+    (if_raises (follows m n first.called) marks n 1 first.left k (has_kept k d m config same has)))
+
+-- a turn leaves INTEN and the configuration as they are
+pub turn_inten : (d e : DeviceValue) (regions left : List Region) (n most : ℕ) (turn : Turn) → TakesTurn d regions n most e left turn → e.inten ≡ d.inten
+turn_inten d e regions left n most turn x = turn_keeps x (λ (v : DeviceValue). v.inten ≡ d.inten) (λ made marks m s h. if_inten made marks n m s ∙ h) refl
+
+pub turn_config : (d e : DeviceValue) (regions left : List Region) (n most : ℕ) (turn : Turn) → TakesTurn d regions n most e left turn → e.config ≡ d.config
+turn_config d e regions left n most turn x = turn_keeps x (λ (v : DeviceValue). v.config ≡ d.config) (λ made marks m s h. if_config made marks n m s ∙ h) refl
 
 -- ---- one access
 
@@ -28,58 +129,15 @@ pub same_exact : (k old new : ℕ) (Up Down : Type 0) → new ≡ old → ¬ Up 
 same_exact k old new Up Down same =
     history.same_exact (IsHigh old k) (IsHigh new k) Up Down (subst (λ (m : ℕ). IsHigh m k) (sym same)) (subst (λ (m : ℕ). IsHigh m k) same)
 
--- what only raises
-up_exact : (k : ℕ) (d e : DeviceValue) (P Up Down : Type 0) → (P → Up) → (Up → P) → ¬ Down → IsHigh (irqs e) k ↔ (IsHigh (irqs d) k ⊎ P) → Exact k (irqs d) (irqs e) Up Down
-up_exact k d e P Up Down to back no_down x = (
-  (λ high. elim (x.0 high) [ inl before ↦ inr (before, no_down) | inr here ↦ inl (to here) ]),
-  (λ why. elim why [ inl up ↦ x.1 (inr (back up)) | inr stays ↦ x.1 (inl stays.0) ]),
-)
-
--- what only clears
-down_exact : (k : ℕ) (d e : DeviceValue) (P Up Down : Type 0) → (P → Down) → (Down → P) → ¬ Up → IsHigh (irqs e) k ↔ (IsHigh (irqs d) k × ¬ P) → Exact k (irqs d) (irqs e) Up Down
-down_exact k d e P Up Down to back no_up x = (
-  (λ high. let w = x.0 high in inr (w.0, λ down. w.1 (back down))),
-  (λ why. elim why [ inl up ↦ absurd (no_up up) | inr stays ↦ x.1 (stays.0, λ p. stays.1 (to p)) ]),
-)
-
 write_exact : (k at value : ℕ) (d : DeviceValue) (regions : List Region) → HasLine d k → let e = written (pieces_of regions) at value d in Exact k (irqs d) (irqs e) (Raises k (Writes at value) d regions) (Clears k (Writes at value) d)
-write_exact k at value d regions has =
-    let ram = pieces_of regions in
-    let e = written ram at value d in
-    let Up = Raises k (Writes at value) d regions in
-    let Down = Clears k (Writes at value) d in
-    elim (cases_eq at offset.intclr) [
-      | inl intclr ↦
-          down_exact k d e (IsHigh value k × IsHigh d.inten k) Up Down (λ p. (intclr, p)) (λ down. down.1)
-          (λ up. (let other = up.1.0 in omega arith))
-          (subst (λ (j : ℕ). IsHigh (irqs (written ram j value d)) k ↔ (IsHigh (irqs d) k × ¬ (IsHigh value k × IsHigh d.inten k))) (sym intclr) (intclr_lowers d ram value k has))
-      | inr not_intclr ↦ elim (cases_eq at offset.dbgcmd) [
-        | inl dbgcmd ↦
-            let w = (dbgcmd_raises true d ram value k).lines in
-            up_exact k d e (IsHigh d.inten k × DebugSignals d value k) Up Down (λ p. (p.0, (dbgcmd, p.1))) (λ up. (up.0, up.1.1))
-            (λ down. not_intclr down.0)
-            (subst (λ (j : ℕ). IsHigh (irqs (written ram j value d)) k ↔ (IsHigh (irqs d) k ⊎ (IsHigh d.inten k × DebugSignals d value k))) (sym dbgcmd) w)
-        | inr not_dbgcmd ↦
-            same_exact k (irqs d) (irqs e) Up Down ((others_keep_lines d ram at value k has not_intclr not_dbgcmd).lines) (λ up. not_dbgcmd up.1.0) (λ down. not_intclr down.0)
-      ]
-    ]
+write_exact k at value d regions has = grind (arith, intclr_lowers d (pieces_of regions) value k has, dbgcmd_raises true d (pieces_of regions) value k, others_keep true d (pieces_of regions) at value)
 
 turn_exact : (k n most : ℕ) (d e : DeviceValue) (regions left : List Region) (turn : Turn) → HasLine d k → TakesTurn d regions n most e left turn → Exact k (irqs d) (irqs e) (Raises k (Turns n most) d regions) (Clears k (Turns n most) d)
-turn_exact k n most d e regions left turn has x =
-    let w = turn_raises d e regions left n most k turn x has in (
-      (λ high. elim (w.0 high) [ inl before ↦ inr (before, λ down. down) | inr here ↦ inl here ]),
-      (λ why. elim why [ inl up ↦ w.1 (inr up) | inr stays ↦ w.1 (inl stays.0) ]),
-    )
+turn_exact k n most d e regions left turn has x = history.up_exact _ _ _ _ ⊥ (λ up. up) (λ up. up) (λ down. down) (turn_raises d e regions left n most k turn x has)
 
 -- after a restore a bit is that of the restored device
 pub restored_bit : (k bits before after : ℕ) → after ≡ bits → IsHigh after k ↔ (IsHigh bits k ⊎ (IsHigh before k × ¬ ¬ IsHigh bits k))
-restored_bit k bits before after is = (
-  (λ high. inl (subst (λ (m : ℕ). IsHigh m k) is high)),
-  (λ why. subst (λ (m : ℕ). IsHigh m k) (sym is) (elim why [
-    | inl up ↦ up
-    | inr stays ↦ elim (cases_eq (bit_at bits k) 1) [ inl on ↦ on | inr off ↦ absurd (stays.1 off) ]
-  ])),
-)
+restored_bit k bits before after is = grind arith
 
 access_exact : (k : ℕ) (a : Access) (d e : DeviceValue) (regions left : List Region) (answer : Answer) → HasLine d k → Does a d regions answer e left → Exact k (irqs d) (irqs e) (Raises k a d regions) (Clears k a d)
 access_exact k (Writes at value) d e regions left answer has x =
@@ -93,20 +151,8 @@ access_exact k a d e regions left answer has x = same_exact k (irqs d) (irqs e) 
 
 -- ---- an access leaves a device its lines
 
-written_has : (k : ℕ) (ram : List Piece) (at value : ℕ) (d : DeviceValue) → HasLine d k → HasLine (written ram at value d) k
-written_has k ram at value d has =
-    elim (cases_eq at offset.intclr) [
-      | inl intclr ↦ subst (λ (j : ℕ). HasLine (written ram j value d) k) (sym intclr) (has_kept k d (written ram offset.intclr value d) refl refl has)
-      | inr not_intclr ↦ elim (cases_eq at offset.dbgcmd) [
-        | inl dbgcmd ↦
-            let w = dbgcmd_raises true d ram value k in
-            subst (λ (j : ℕ). HasLine (written ram j value d) k) (sym dbgcmd) (has_kept k d (written ram offset.dbgcmd value d) w.config w.inten has)
-        | inr not_dbgcmd ↦ (others_keep_lines d ram at value k has not_intclr not_dbgcmd).has
-      ]
-    ]
-
 pub access_has : (k : ℕ) (a : Access) (d e : DeviceValue) (regions left : List Region) (answer : Answer) → HasLine d k → Does a d regions answer e left → HasLine e k
-access_has k (Writes at value) d e regions left answer has x = subst (λ (v : DeviceValue). HasLine v k) (sym x.1) (written_has k (pieces_of regions) at value d has)
+access_has k (Writes at value) d e regions left answer has x = subst (λ (v : DeviceValue). HasLine v k) (sym x.1) (write_has k (pieces_of regions) at value d has)
 access_has k (Turns n most) d e regions left answer has x =
     has_kept k d e (turn_config d e regions left n most x.0 x.1.1) (turn_inten d e regions left n most x.0 x.1.1) has
 access_has k Resets d e regions left answer has x =
@@ -129,6 +175,5 @@ all_have access answer before lent left count k happen has =
 
 pub interrupts_are_exact : InterruptsAreExact
 interrupts_are_exact access answer before lent left count k n happen has within =
-    history.held_as (λ j. IsHigh (irqs (before j)) k) (λ j. Raises k (access j) (before j) (lent j)) (λ j. Clears k (access j) (before j))
-    (RaisedSince access before lent k n) n (λ r. record { at = r.at; below = r.below; raises = r.up; stays = r.stays }) (λ r. record { at = r.at; below = r.below; up = r.raises; stays = r.stays }) count
-    (λ j less. access_exact k (access j) (before j) (before (j + 1)) (lent j) (left j) (answer j) (all_have access answer before lent left count k happen has j (omega arith)) (happen j less)) within
+    history.held (λ j. IsHigh (irqs (before j)) k) (λ j. Raises k (access j) (before j) (lent j)) (λ j. Clears k (access j) (before j)) count
+    (λ j less. access_exact k (access j) (before j) (before (j + 1)) (lent j) (left j) (answer j) (all_have access answer before lent left count k happen has j (omega arith)) (happen j less)) n within

@@ -1,27 +1,20 @@
--- The bits of FSRC; the order of regions, by their places; rows computed from the definitions.
-pub mod Faulting
+-- The order of regions, by their places; rows computed from the definitions.
 pub mod InOrder
-pub mod SavedParts
 pub mod Starts
 pub mod FlagNumber
 pub mod FlagSteps
-pub mod CallKeeps
+pub mod Iff
 pub mod Calls
 pub mod Cases
 pub mod Writes
-pub mod WritesInRegions
-pub mod TurnRaises
 pub mod WriteRaises
 pub mod Interrupts
 pub mod Answered
-pub mod ControlFits
 pub mod Sound
 pub mod SavedDevices
 pub mod Damage
 pub mod Found
-pub mod Stored
 pub mod InMemory
-pub mod WaitSteps
 pub mod Driven
 pub mod Copies
 pub mod Runs

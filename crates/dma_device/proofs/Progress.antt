@@ -5,7 +5,8 @@ use Rattle.std.specs.Int.{bit_at}
 use Rattle.std.proofs.lemmas.Bool.{cases_eq, lt-ltb}
 use Rattle.std.proofs.lemmas.Nat.Bits.{bit_at-lt}
 use Rattle.dma_insn.specs.ControlWord.{flag}
-use Rattle.dma_insn.specs.declared.insn.Insn.TheVariants.{Sev, Wfe}
+use Rattle.dma_insn.specs.declared.insn.Insn.{Insn}
+use Rattle.dma_insn.specs.declared.insn.Insn.TheVariants.{End, Sev, Wfe}
 use Rattle.dma_mem.specs.Flags.{flags_of}
 use Rattle.dma_mem.specs.Marking.{MarkList}
 use Rattle.dma_mem.specs.Places.{Descriptor}
@@ -30,20 +31,24 @@ use Rattle.dma_device.specs.Device.{DeviceValue, csr, of_thread}
 use Rattle.dma_device.specs.Dmago.{Go, RunsCopy, GivenTurns, bus_of, csr_status}
 use Rattle.dma_device.specs.Interrupts.{HasLine, IsHigh}
 use Rattle.dma_device.specs.Progress.{CompiledGoesOn, CompiledHasEvents, CompiledSignals, DmagoFinishes, DmagoSignals, IsReady, IsCompiled, IsVisible, MayPass, WasHigh, compiled_count}
-use Rattle.dma_device.specs.Thread.{is_faulting, is_stopped, is_stopped_status, runs, status_bits}
-use Rattle.dma_device.specs.Turns.{TakesTurn, runs_at, runs_if, setup_of, visible_events}
+use Rattle.dma_device.specs.Thread.{is_faulting, is_stopped, is_stopped_status, status_bits}
+use Rattle.dma_device.specs.Turns.{TakesTurn, runs_at, setup_of, visible_events}
 use Rattle.dma_device.specs.declared.device.turns.Turn.{Turn}
 use Rattle.dma_device.specs.declared.thread.Status.{Status}
 use Rattle.dma_device.specs.declared.thread.Status.TheVariants.{Stopped}
 use Rattle.dma_device.specs.declared.thread.Thread.{Thread}
 use Rattle.dma_device.proofs.Copies.{Fit, call_fine, fit_kept, fits_all}
-use Rattle.dma_device.proofs.Driven.{After, Before, Call, Copying, Going, Has, Keeps, Leaves, after_turn, along, channel_after, copying, count_in, from, last_answer, one_of, sent_by, sets, steps_of, to, two_of}
+use Rattle.dma_device.proofs.Driven.{After, Before, Call, Copying, Going, Has, Steps, after_turn, along, channel_after, copying, count_in, from, last_answer, one_of, sent_by, sets, steps_of, to, two_of}
 use Rattle.dma_device.proofs.Events.{flag_of_bit}
-use Rattle.dma_device.proofs.WaitSteps.{before_end, waits_at}
+use Rattle.dma_device.proofs.FlagSteps.{waits_at}
 use Rattle.dma_device.proofs.Starts.{read_csr, reads_stopped}
-use Rattle.dma_device.proofs.TurnRaises.{seen_bit, turn_raises}
+use Rattle.dma_device.proofs.Interrupts.{seen_bit, turn_raises}
 
 -- ---- a call of a channel with a program that copies
+
+-- what a program executes before its DMAEND
+before_end : (bus : Bus) (program : List ℕ) (t : Descriptor) (n : ℕ) → Explains bus program t n → (k : ℕ) (i : Insn) → k ≤ n → i ≢ End → next_in program (traced bus program k) ≡ Ok i → k < n
+before_end bus program t n h k i within other next = grind arith
 
 module _ (bus : Bus) (program : List ℕ) (t : Descriptor) (count : ℕ) (marks : MarkList) (first : List ℕ) (h : Explains bus program t count) (low : Fits t (length first)) where
   step_count : (u : Machine) → answer_at marks u ≡ Moved → (after_step marks u).channel.taken ≡ u.channel.taken + 1
@@ -56,9 +61,7 @@ module _ (bus : Bus) (program : List ℕ) (t : Descriptor) (count : ℕ) (marks 
   many_count : (s : Machine) (j : ℕ) → ((k : ℕ) → k < suc j → goes_on_after marks s k ≡ true) → (after_steps marks s j).channel.taken ≡ s.channel.taken + j
   many_count s zero moves = omega arith
   many_count s (suc j) moves =
-      let before = many_count s j (λ k l. moves k (omega arith)) in
-      let last = step_count (after_steps marks s j) (went_moved s j (moves (suc j) (omega arith))) in
-      omega (arith, before, last)
+      omega (arith, many_count s j (λ k l. moves k (omega arith)), step_count (after_steps marks s j) (went_moved s j (moves (suc j) (omega arith))))
 
   -- a call that may take a step ends the program or counts one, if its first instruction doesn't wait, and no mark is
   -- met
@@ -89,10 +92,8 @@ module _ (bus : Bus) (program : List ℕ) (t : Descriptor) (count : ℕ) (marks 
 
       counted : (p : ℕ) → TakesSteps marks s most (suc p) last v → answer_at marks (after_steps marks s p) ≡ Moved → more ≤ v.channel.taken
       counted p x moved =
-          let before = many_count s p (steps_move x) in
-          let here = step_count (after_steps marks s p) moved in
           let end = ap (λ (m : Machine). m.channel.taken) x.ends_at in
-          omega (arith, before, here, end, few, bound awake)
+          omega (arith, many_count s p (steps_move x), step_count (after_steps marks s p) moved, end, few, bound awake)
 
       by : (p : ℕ) (turn : ChanTurn) → answer_at marks (after_steps marks s p) ≡ turn → TakesSteps marks s most (suc p) last v → (last ≡ Some Ended) ⊎ (more ≤ v.channel.taken)
       by p Moved e x = inr (counted p x e)
@@ -112,15 +113,13 @@ module _ (bus : Bus) (program : List ℕ) (t : Descriptor) (count : ℕ) (marks 
     before_sev s zero r early moves = early
     before_sev s (suc j) r early moves =
         let u = after_steps marks s j in
-        let here = before_sev s j r early (λ k l. moves k (omega arith)) in
         let w = many bus program t count marks first h low j s r (λ k l. moves k (omega arith)) in
-        let moved = went_moved s j (moves (suc j) (omega arith)) in
-        let counts = step_count u moved in
+        let counts = step_count u (went_moved s j (moves (suc j) (omega arith))) in
         elim (cases_eq u.channel.taken sev.step) [
           | inl place ↦
               let quiet = went_before marks s (suc j) (moves (suc j) (omega arith)) in
               absurd (true≢false (sym quiet ∙ ap (λ (o : Option ℕ). goes_on (answer_at marks u) o) (ap signal_of (is_sev u w place)) ∙ none (answer_at marks u)))
-          | inr other ↦ omega (arith, here, counts, other)
+          | inr other ↦ omega (arith, before_sev s j r early (λ k l. moves k (omega arith)), counts, other)
         ]
       where
         none : (a : ChanTurn) → goes_on a (Some i) ≡ false
@@ -132,8 +131,7 @@ module _ (bus : Bus) (program : List ℕ) (t : Descriptor) (count : ℕ) (marks 
     -- a call that begins before the DMASEV executes it as its last step, or is still before it
     call_signals : (s v : Machine) (most taken : ℕ) (last : Option ChanTurn) → Runs bus program t count first s → s.channel.taken ≤ sev.step → TakesSteps marks s most taken last v → (signal_after marks s taken ≡ Some i) ⊎ ((last ≢ Some Ended) × (v.channel.taken ≤ sev.step))
     call_signals s v most zero last r early x =
-        let end = ap (λ (m : Machine). m.channel.taken) x.ends_at in
-        inr ((λ bad. let none = sym x.answer ∙ bad in cc), omega (arith, end, early))
+        inr ((λ bad. let none = sym x.answer ∙ bad in cc), omega (arith, ap (λ (m : Machine). m.channel.taken) x.ends_at, early))
     call_signals s v most (suc p) last r early x = by (answer_at marks (after_steps marks s p)) refl
       where
         here : (after_steps marks s p).channel.taken ≤ sev.step
@@ -186,36 +184,28 @@ module _ (c : Copying) (n : ℕ) where
 
   -- a thread that goes on and isn't faulting runs
   going_runs : (d : DeviceValue) (image : List ℕ) (th : Thread) → slice_get d.threads n ≡ Some th → Going c image th → is_faulting th ≡ false → runs_at d n ≡ true
-  going_runs d image th is g fine =
-      let some = loaded c.program th.channel.program g.runs.1.begins in
-      let up : runs th ≡ true = rw (some, fine) refl in
-      ap runs_if is ∙ up
+  going_runs d image th is g fine = grind (arith, loaded)
 
-  keeps_reached : (least more : ℕ) (k : Call) → ((th : Thread) → slice_get k.before.device.threads n ≡ Some th → ¬ Executes k.made n k.before → runs_at k.before.device n ≡ true → more ≤ least) → Keeps c n (Unit {0}) (Reached least) (Unit {0}) (Reached more) k
-  keeps_reached least more k off = record {
-    over = λ none o. o;
-    going = λ not_made none th found g known.
+  steps_reached : (least more : ℕ) (k : Call) → ((th : Thread) → slice_get k.before.device.threads n ≡ Some th → ¬ Executes k.made n k.before → runs_at k.before.device n ≡ true → more ≤ least) → (k.made ≡ true → 0 < k.most) → Fit c n k.before.device k.marks → CanStep k.before.device least more → Steps c n (Unit {0}) (Reached least) (Unit {0}) (Reached more) k
+  steps_reached least more k off some fit can = record {
+    rests_over = λ none o. o;
+    rests = λ not_made none th found g known.
         let few = off th found not_made (going_runs k.before.device k.before.image th found g known.fine) in
         let enough = known.enough in
         record { fine = known.fine; enough = omega (arith, few, enough) };
-  }
-
-  leaves_reached : (least more : ℕ) (k : Call) → (k.made ≡ true → 0 < k.most) → Fit c n k.before.device k.marks → CanStep k.before.device least more → Leaves c n (Reached least) (Unit {0}) (Reached more) k
-  leaves_reached least more k some fit can = record {
-    over = λ th g known sent ended. tt;
-    going = λ made th found g known sent goes.
+    ends = λ th g known sent ended. tt;
+    goes = λ made th found g known sent goes.
         let count_is : th.channel.taken ≡ g.runs.0 = g.runs.1.taken in
         let long = known.enough in
         let sees : (more ≤ least) ⊎ ((more ≤ least + 1) × ((e : ℕ) → (w : IsWait c.bus c.program c.count e) → w.step ≡ g.runs.0 → get_or (from k th).flags e false ≡ true)) = elim can [
           | inl fewer ↦ inl fewer
           | inr w ↦ inr (w.0, λ e wait is. w.1 th e wait found (subst (λ (j : ℕ). IsIn c.bus c.program c.count j th.channel) (sym is) (is_in c.bus c.program c.t c.count c.first g.runs.0 k.before.image th.channel g.runs.1)) (omega (arith, count_is, long, is)))
         ] in
-        let is = ap (λ (v : ChannelValue). v.taken) (channel_after k th) in
         record {
           fine = call_fine c n k th (some made) fit g;
           enough = elim (progress c.bus c.program c.t c.count k.marks c.first c.explains c.fits (from k th) (to k th) k.most (count_in k th) (last_answer k th) least more (some made) fit.misses g.runs long sees (steps_of k th)) [
             | inl ended ↦ absurd (goes ended)
-            | inr many ↦ omega (arith, is, many)
+            | inr many ↦ omega (arith, ap (λ (v : ChannelValue). v.taken) (channel_after k th), many)
           ];
         };
   }
@@ -228,9 +218,8 @@ module _ (c : Copying) (n : ℕ) where
       let yes : one.made ≡ true = ap (λ (b : Bool). b && runs_at d n) (lt-ltb 0 most some) ∙ up in
       absurd (none (record { on = yes; thread = th; found = found }))) in
       after_turn c n d regions most e left turn x (Unit {0}) (Reached least) (Unit {0}) (Reached (least + 1)) (Unit {0}) (Reached (least + 1))
-      (keeps_reached least (least + 1) one off) (leaves_reached least (least + 1) one (λ made. some) fit (inr (omega arith, awake)))
-      (keeps_reached (least + 1) (least + 1) two (λ th found none up. omega arith))
-      (leaves_reached (least + 1) (least + 1) two (λ made. omega arith) (fit_kept c n d regions most fit) (inl (omega arith))) g
+      (steps_reached least (least + 1) one off (λ made. some) fit (inr (omega arith, awake)))
+      (steps_reached (least + 1) (least + 1) two (λ th found none up. omega arith) (λ made. omega arith) (fit_kept c n d regions most fit) (inl (omega arith))) g
 
 -- ---- that its line was high
 
@@ -239,19 +228,15 @@ module _ (c : Copying) (n i stored : ℕ) (sev : IsSignal c.bus c.program c.coun
   abbrev Signs : Type 0 → Thread → Type 0
   Signs S th = (th.channel.taken ≤ sev.step) ⊎ S
 
-  keeps_signs : (S : Type 0) (k : Call) → Keeps c n S (Signs S) (S ⊎ (sent_by n k ≡ Some i)) (Signs (S ⊎ (sent_by n k ≡ Some i))) k
-  keeps_signs S k = record {
-    over = λ none s. inl s;
-    going = λ off none th found g known. elim known [ inl early ↦ inl early | inr s ↦ inr (inl s) ];
-  }
-
-  leaves_signs : (S : Type 0) (k : Call) → Leaves c n (Signs S) (S ⊎ (sent_by n k ≡ Some i)) (Signs (S ⊎ (sent_by n k ≡ Some i))) k
-  leaves_signs S k = record {
-    over = λ th g known is ended. elim known [
+  steps_signs : (S : Type 0) (k : Call) → Steps c n S (Signs S) (S ⊎ (sent_by n k ≡ Some i)) (Signs (S ⊎ (sent_by n k ≡ Some i))) k
+  steps_signs S k = record {
+    rests_over = λ none s. inl s;
+    rests = λ off none th found g known. elim known [ inl early ↦ inl early | inr s ↦ inr (inl s) ];
+    ends = λ th g known is ended. elim known [
       | inr s ↦ inl s
       | inl early ↦ elim (sends th g early) [ inl sent ↦ inr (is ∙ sent) | inr later ↦ absurd (later.0 ended) ]
     ];
-    going = λ made th found g known is goes.
+    goes = λ made th found g known is goes.
         let same = ap (λ (v : ChannelValue). v.taken) (channel_after k th) in
         elim known [
           | inr s ↦ inr (inl s)
@@ -268,7 +253,7 @@ module _ (c : Copying) (n i stored : ℕ) (sev : IsSignal c.bus c.program c.coun
       let two = two_of d regions n most in
       let first = S ⊎ (sent_by n one ≡ Some i) in
       let both = first ⊎ (sent_by n two ≡ Some i) in
-      after_turn c n d regions most e left turn x S (Signs S) first (Signs first) both (Signs both) (keeps_signs S one) (leaves_signs S one) (keeps_signs first two) (leaves_signs first two) g
+      after_turn c n d regions most e left turn x S (Signs S) first (Signs first) both (Signs both) (steps_signs S one) (steps_signs first two) g
 
 -- ---- CSR
 
@@ -303,8 +288,7 @@ module _ (go : Go) (t : Descriptor) (count : ℕ) (run : GivenTurns) (h : RunsCo
         | inl over ↦ csr_stopped (run.after k) go.channel g.thread h.may_go.few g.is over.0.stopped
         | inr going ↦
             let taken_is : g.thread.channel.taken ≡ going.0.runs.0 = going.0.runs.1.taken in
-            let enough = going.1.enough in
-            absurd (omega (arith, long, taken_is, enough, going.0.runs.1.within))
+            absurd (omega (arith, long, taken_is, going.1.enough, going.0.runs.1.within))
       ]
 
   module _ (i stored : ℕ) (sev : IsSignal (bus_of go) go.program count i stored) (on : (k : ℕ) → k < run.count → HasLine (run.before k) i × IsHigh (run.before k).inten i) where
@@ -341,9 +325,8 @@ module _ (go : Go) (t : Descriptor) (count : ℕ) (run : GivenTurns) (h : RunsCo
         elim g.stands [
           | inl over ↦
               let w = over.1 in
-              let within = w.early in
               let early = w.high.early in
-              record { turn = w.high.turn; early = omega (arith, within, early); high = w.high.high }
+              record { turn = w.high.turn; early = omega (arith, w.early, early); high = w.high.high }
           | inr going ↦ absurd (true≢false (sym (reads_stopped (run.after k) go.channel g.thread h.may_go.few g.is stopped) ∙ going.0.busy))
         ]
 

@@ -1,6 +1,7 @@
--- Each thread has a status that goes with its program, after a call too, and events stay among those of the device.
-use Rattle.std.proofs.Common.{◌≡◌, ◌∙◌, ℕ, zero, suc, ◌+◌, ◌-◌, ◌*◌, ◌%◌, ◌^◌, ◌<◌, ◌≤◌, Bool, true, false, List, [], Option, Some, None, ap, get_or, inl, inr, length, refl, replicate, sym, subst, arith, bit_and}
-use Rattle.std.specs.Prelude.{is_some, nat_eq, nat_le, nat_lt, slice_set, if◌then◌else◌}
+-- What each thread satisfies after a call too: its status goes with its program, and the beats of its control word are no
+-- wider than its bus. And events stay among those of the device.
+use Rattle.std.proofs.Common.{◌≡◌, ◌∙◌, ℕ, zero, suc, ◌+◌, ◌-◌, ◌*◌, ◌%◌, ◌^◌, ◌<◌, ◌≤◌, Bool, true, false, List, Option, Some, None, ap, get_or, inl, inr, length, refl, replicate, sym, subst, arith, bit_and, Result}
+use Rattle.std.specs.Prelude.{is_some, nat_le, nat_lt, slice_set, if◌then◌else◌}
 use Rattle.std.proofs.Math.Nat.{mod-le}
 use Rattle.std.proofs.Math.Pow.{pow-lt, pow_mono}
 use Rattle.std.proofs.lemmas.Bool.{and_parts, cases_eq, cond_both, eq-eqb, leb-true, lt-ltb}
@@ -10,15 +11,13 @@ use Rattle.std.specs.List.{All}
 use Rattle.std.specs.Vec.{with_item, with_items}
 use Rattle.std.proofs.lemmas.Nat.{and_le_l, and_le_r, pow_pos}
 use Rattle.dma_mem.specs.Marking.{MarkList}
-use Rattle.dma_chan.specs.Channel.{ChannelValue, after_turn, ahead_of, bytes_of_program, last_count, state_of, step_of, stored_by}
-use Rattle.dma_chan.specs.Exec.{State, exec_fetched}
+use Rattle.dma_chan.specs.Channel.{ChannelValue, after_turn, ahead_of, last_count, state_of, step_of, stored_by}
+use Rattle.dma_chan.specs.Exec.{State, exec_fetched, moved as moved_registers}
 use Rattle.dma_chan.specs.declared.bus.BusWidth.{BusWidth}
-use Rattle.dma_chan.specs.Next.{fetched, next_of}
-use Rattle.dma_insn.specs.Decoding.{decoded}
 use Rattle.dma_chan.specs.Programs.{ProgramValue}
 use Rattle.dma_chan.specs.Stepping.{Machine, TakesSteps, after_step, after_steps, answer_at, goes_on_after}
 use Rattle.dma_chan.specs.declared.turn.ChanTurn.{ChanTurn}
-use Rattle.dma_chan.specs.declared.turn.ChanTurn.TheVariants.{Moved, Waiting, Ended, Fault}
+use Rattle.dma_chan.specs.declared.turn.ChanTurn.TheVariants.{Moved, Waiting, Fault}
 use Rattle.dma_chan.specs.declared.turn.FaultKind.TheVariants.{InstrFetchErr}
 use Rattle.dma_chan.proofs.StepsTaken.{steps_counted, steps_move}
 use Rattle.dma_chan.proofs.SteppedOver.{was_moved, went_before}
@@ -29,18 +28,63 @@ use Rattle.dma_device.specs.declared.device.Manager.{Manager}
 use Rattle.dma_device.specs.Device.{DeviceValue, with_thread}
 use Rattle.dma_device.specs.Idle.{IsSoundDevice}
 use Rattle.dma_device.specs.inner.Fields.{AreOn, IsDevice, device_value}
-use Rattle.dma_device.proofs.ControlFits.{reset_is_on}
-use Rattle.dma_device.proofs.WaitSteps.{waits_at}
-use Rattle.dma_device.specs.Thread.{IsOn, IsSound, answer, answered, failed, is_before_wait, moved, operand_invalid, reset_thread, waits_for}
-use Rattle.dma_device.specs.declared.thread.Status.TheVariants.{Executing, WaitingForEvent}
+use Rattle.dma_device.specs.Thread.{IsOn, IsSound, answer, answered, failed, is_before_wait, moved, operand_invalid, reset_thread}
+use Rattle.dma_device.specs.declared.thread.Status.TheVariants.{WaitingForEvent}
 use Rattle.dma_device.specs.declared.thread.Thread.{Thread}
+use Rattle.dma_insn.specs.declared.insn.Insn.{Insn}
+use Rattle.dma_chan.specs.declared.bus.Bus.{Bus}
+use Rattle.dma_chan.specs.declared.bus.Bus.TheVariants.{Chip}
+use Rattle.dma_chan.specs.declared.bus.BusWidth.TheVariants.{Bits32}
+use Rattle.dma_chan.specs.declared.exec.Registers.{Registers}
+use Rattle.dma_chan.specs.declared.turn.FaultKind.{FaultKind}
+use Rattle.dma_chan.specs.Bus.{fits}
+use Rattle.dma_chan.proofs.ActCases.{IsAccepted, fetched_cases}
+use Rattle.dma_chan.proofs.BusKept.{steps_bus}
+use Rattle.dma_chan.proofs.MembersByNumber.{ccr_looped}
+use Rattle.dma_device.proofs.FlagSteps.{waits_at}
+
+-- ---- at the start
+
+-- the control word is 0
+pub starts_fit : (bus : BusWidth) → fits (Chip bus) 0 ≡ true
+starts_fit Bits32 = refl
+starts_fit bus = refl
+
+pub reset_is_on : (bus : BusWidth) → IsOn bus (reset_thread bus)
+reset_is_on bus = record { width = refl; control = starts_fit bus }
+
+-- ---- after a step
+
+abbrev Keeps : State → ChanTurn × State → Type 0
+Keeps s x = fits s.registers.bus s.registers.ccr ≡ true → fits s.registers.bus x.1.registers.ccr ≡ true
+
+-- DMAMOV sets CCR to a word that is accepted.
+moved_fits : (i : Insn) (r : Registers) → IsAccepted i r → fits r.bus r.ccr ≡ true → fits r.bus (moved_registers i r).ccr ≡ true
+moved_fits i r h1 h2 = grind (arith, ccr_looped)
+
+fetched_fits : (marks : MarkList) (next : Result Insn FaultKind) (s : State) → Keeps s (exec_fetched marks next s)
+fetched_fits marks next s = grind (arith, fetched_cases, moved_fits)
+
+turn_fits : (bus : Bus) (turn : ChanTurn) (s : State) (n : ℕ) (c : ChannelValue) → fits bus s.registers.ccr ≡ true → fits bus c.registers.ccr ≡ true → fits bus (after_turn turn s n c).registers.ccr ≡ true
+turn_fits bus Moved s n c new old = new
+turn_fits bus turn s n c new old = old
+
+pub steps_fit : (bus : Bus) (marks : MarkList) (s : Machine) (n : ℕ) → s.channel.registers.bus ≡ bus → fits bus s.channel.registers.ccr ≡ true → fits bus (after_steps marks s n).channel.registers.ccr ≡ true
+steps_fit bus marks s zero on h = h
+steps_fit bus marks s (suc n) on h =
+    let u = after_steps marks s n in
+    let c = u.channel in
+    let x = step_of marks c u.image u.flags in
+    let old : fits bus c.registers.ccr ≡ true = steps_fit bus marks s n on h in
+    let here : c.registers.bus ≡ bus = steps_bus marks s n ∙ on in
+    let new : fits c.registers.bus x.1.registers.ccr ≡ true =
+    fetched_fits marks (ahead_of c) (state_of c u.image u.flags) (ap (λ (b : Bus). fits b c.registers.ccr) here ∙ old) in
+    turn_fits bus x.0 x.1 (stored_by (ahead_of c) c.registers) c (ap (λ (b : Bus). fits b x.1.registers.ccr) (sym here) ∙ new) old
 
 -- ---- a thread after a call
 
 moved_sound : (events : ℕ) (t : Thread) (signal : Option ℕ) → is_some t.channel.program ≡ true → IsSound events (moved events t signal)
-moved_sound events t None loaded = loaded
-moved_sound events t (Some e) loaded =
-    cond_both (nat_lt e events) (record t { status = Executing }) (failed operand_invalid (record t { pc = (t.pc + (2 ^ 32 - 2)) % 2 ^ 32 })) (IsSound events) (λ _. loaded) (λ _. refl)
+moved_sound events t signal h1 = grind (arith, cond_both)
 
 waits_sound : (events e : ℕ) (t : Thread) (b : Bool) → nat_lt e events ≡ b → is_some t.channel.program ≡ true → is_before_wait e t ≡ true → IsSound events (if b then record t { status = WaitingForEvent e } else failed operand_invalid t)
 waits_sound events e t true less loaded before = rw (loaded, less) before
@@ -48,10 +92,7 @@ waits_sound events e t false less loaded before = refl
 
 -- after a step of a channel that has a program
 by_turn : (events : ℕ) (t : Thread) (turn : ChanTurn) (signal : Option ℕ) (s : State) (n : ℕ) (c : ChannelValue) → is_some c.program ≡ true → t.channel ≡ after_turn turn s n c → ((e : ℕ) → turn ≡ Waiting e → is_before_wait e t ≡ true) → IsSound events (answer events t (Some turn) signal)
-by_turn events t Moved signal s n c loaded is before = moved_sound events t signal (ap (λ (x : ChannelValue). is_some x.program) is ∙ loaded)
-by_turn events t (Waiting e) signal s n c loaded is before = waits_sound events e t (nat_lt e events) refl (ap (λ (x : ChannelValue). is_some x.program) is ∙ loaded) (before e refl)
-by_turn events t Ended signal s n c loaded is before = rw is refl
-by_turn events t (Fault kind) signal s n c loaded is before = refl
+by_turn events t turn signal s n c h1 h2 e = grind (arith, moved_sound, waits_sound)
 
 moved_keeps : (turn : ChanTurn) (s : State) (n : ℕ) (c : ChannelValue) → turn ≡ Moved → (after_turn turn s n c).program ≡ c.program
 moved_keeps turn s n c is = rw is refl
@@ -70,22 +111,11 @@ program_kept marks s (suc j) moves =
 
 -- A channel without a program fails to fetch.
 unloaded_fails : (marks : MarkList) (s : Machine) → s.channel.program ≡ None → answer_at marks s ≡ Fault InstrFetchErr
-unloaded_fails marks s none =
-    let c = s.channel in
-    let from = state_of c s.image s.flags in
-    ap (λ (o : Option ProgramValue). (exec_fetched marks (next_of (bytes_of_program o) c.registers.pc) from).0) none
-    ∙ ap (λ (l : List ℕ). (exec_fetched marks (fetched (decoded l)) from).0) (drop_all c.registers.pc [] (omega arith))
+unloaded_fails marks s none = grind (arith, drop_all)
 
 -- a thread whose call's last step waits is before the DMAWFE
 waits_before : (marks : MarkList) (u : Machine) (t : Thread) (e : ℕ) → answer_at marks u ≡ Waiting e → t.channel ≡ (after_step marks u).channel → u.channel.taken < last_count → t.pc ≡ (t.base + t.channel.registers.pc) % 2 ^ 32 → is_before_wait e t ≡ true
-waits_before marks u t e waits is counts pc =
-    let c = u.channel in
-    let x = step_of marks c u.image u.flags in
-    let same : t.channel ≡ c = is ∙ ap (λ (a : ChanTurn). after_turn a x.1 (stored_by (ahead_of c) c.registers) c) waits in
-    let next : waits_for e (ahead_of t.channel) ≡ true = ap (λ (d : ChannelValue). waits_for e (ahead_of d)) same ∙ ap (waits_for e) (waits_at marks u e waits).1.0 ∙ eq-eqb e e refl in
-    let few : nat_lt t.channel.taken last_count ≡ true = ap (λ (d : ChannelValue). nat_lt d.taken last_count) same ∙ lt-ltb c.taken last_count counts in
-    let here : nat_eq t.pc ((t.base + t.channel.registers.pc) % 2 ^ 32) ≡ true = eq-eqb t.pc ((t.base + t.channel.registers.pc) % 2 ^ 32) pc in
-    rw (next, few, here) refl
+waits_before marks u t e waits is counts pc = grind (arith, eq-eqb, lt-ltb, waits_at)
 
 -- A thread is sound after a call of its channel, by whether that has a program.
 by_program : (marks : MarkList) (s v : Machine) (most taken events : ℕ) (last : Option ChanTurn) (t : Thread) (signal : Option ℕ) (o : Option ProgramValue) → s.channel.program ≡ o → TakesSteps marks s most taken last v → t.channel ≡ v.channel → IsSound events (answered events t last signal)
@@ -101,9 +131,8 @@ by_program marks s v most (suc j) events last t signal (Some p) program x is =
 by_program marks s v most (suc zero) events last t signal None program x is =
     subst (λ (l : Option ChanTurn). IsSound events (answered events t l signal)) (sym (x.answer ∙ ap (λ (a : ChanTurn). Some a) (unloaded_fails marks s program))) refl
 by_program marks s v most (suc (suc j)) events last t signal None program x is =
-    let moved = was_moved (ahead_of s.channel) (answer_at marks s) (went_before marks s 1 (steps_move x 1 (omega arith))) in
     let fails = unloaded_fails marks s program in
-    absurd (cc (moved, fails))
+    absurd (cc (was_moved (ahead_of s.channel) (answer_at marks s) (went_before marks s 1 (steps_move x 1 (omega arith))), fails))
 
 -- A thread is sound after a call of its channel.
 pub answered_sound : (marks : MarkList) (s v : Machine) (most taken events : ℕ) (last : Option ChanTurn) (t : Thread) (signal : Option ℕ) → TakesSteps marks s most taken last v → t.channel ≡ v.channel → IsSound events (answered events t last signal)
@@ -124,11 +153,7 @@ one_event k n less = omega (arith, mod-le (1 * 2 ^ k) 4294967296, pow-lt {i = k}
 
 -- A device has at most 32 events.
 pub few_events : (g : Config) → is_valid g ≡ true → g.events ≤ 32
-few_events g h =
-    let a = (and_parts (nat_le 1 g.channels) _ h).1 in
-    let b = (and_parts (nat_le g.channels 8) _ a).1 in
-    let c = (and_parts (nat_le 1 g.events) _ b).1 in
-    leb-true g.events 32 (and_parts (nat_le g.events 32) _ c).0
+few_events g h = grind (arith, leb-true)
 
 -- and at most 8 channels
 pub few_channels : (g : Config) → is_valid g ≡ true → g.channels ≤ 8
@@ -149,13 +174,7 @@ thread_sound d n t h sound = record {
 
 -- other events, manager and debug registers
 pub same_threads : (d e : DeviceValue) → IsSoundDevice d → e.config ≡ d.config → e.threads ≡ d.threads → e.events < 2 ^ d.config.events → e.interrupts < 2 ^ d.config.events → e.inten < 2 ^ d.config.events → IsSoundDevice e
-same_threads d e h config threads events interrupts inten =
-    let count : e.config.events ≡ d.config.events = ap (λ (g : Config). g.events) config in
-    record {
-      few = rw count h.few;
-      known = record { events = rw count events; interrupts = rw count interrupts; inten = rw count inten };
-      threads = subst (λ (m : ℕ). All (IsSound m) e.threads) (sym count) (subst (All (IsSound d.config.events)) (sym threads) h.threads);
-    }
+same_threads d e h config threads events interrupts inten = grind arith
 
 -- ---- a device's fields
 
@@ -199,22 +218,8 @@ with_new d n old new h is kept sound = record {
 
 -- all threads, the manager and the registers are replaced
 pub with_parts : (d : Inside) (ts : List Thread) (manager : Manager) (events interrupts inten dbginst0 dbginst1 : ℕ) → IsDevice d → length ts ≡ d.threads.len → length ts ≡ length d.threads.items → All (IsSound d.config.events) ts → AreOn d.config.bus ts → events < 2 ^ d.config.events → interrupts < 2 ^ d.config.events → inten < 2 ^ d.config.events → IsDevice (record d { threads = with_items d.threads ts; manager = manager; events = events; interrupts = interrupts; inten = inten; dbginst0 = dbginst0; dbginst1 = dbginst1 })
-with_parts d ts manager events interrupts inten dbginst0 dbginst1 h len count sound on a b c =
-    let is = with_items_is d.threads ts len in
-    record {
-      config = h.config;
-      count = ap length is ∙ count ∙ h.count;
-      sound = record { few = h.sound.few; known = record { events = a; interrupts = b; inten = c }; threads = subst (All (IsSound d.config.events)) (sym is) sound };
-      on = subst (AreOn d.config.bus) (sym is) on;
-      marks = h.marks;
-    }
+with_parts d ts manager events interrupts inten dbginst0 dbginst1 h len count sound on a b c = grind (arith, with_items_is)
 
 -- the events change
 pub with_events : (d : Inside) (events interrupts inten : ℕ) → IsDevice d → events < 2 ^ d.config.events → interrupts < 2 ^ d.config.events → inten < 2 ^ d.config.events → IsDevice (record d { events = events; interrupts = interrupts; inten = inten })
-with_events d events interrupts inten h a b c = record {
-  config = h.config;
-  count = h.count;
-  sound = same_threads (device_value d) (device_value (record d { events = events; interrupts = interrupts; inten = inten })) h.sound refl refl a b c;
-  on = h.on;
-  marks = h.marks;
-}
+with_events d events interrupts inten h a b c = grind (arith, same_threads)

@@ -1,18 +1,18 @@
 -- What a read of CSR returns, and the thread that a DMAGO starts.
-use Rattle.std.proofs.Common.{◌≡◌, ◌∙◌, ℕ, suc, ◌+◌, ◌*◌, ◌%◌, ◌^◌, ◌<◌, Bool, true, false, ◌&&◌, List, get_or, length, Option, Some, ap, refl, sym, arith, ◌≢◌, true≢false}
-use Rattle.std.specs.Prelude.{◌==◌, if◌then◌else◌, not, slice_get, slice_set}
-use Rattle.std.proofs.Math.ListN.{length-set}
-use Rattle.std.proofs.lemmas.List.{get_or-set_same}
-use Rattle.std.proofs.lemmas.Option.{slice_get-get_or, slice_get_within}
+use Rattle.std.proofs.Common.{◌≡◌, ◌∙◌, ℕ, suc, ◌+◌, ◌*◌, ◌%◌, ◌^◌, ◌<◌, Bool, true, false, List, get_or, Some, ap, refl, sym, arith, ◌≢◌, true≢false}
+use Rattle.std.specs.Prelude.{slice_get}
+use Rattle.std.proofs.lemmas.Option.{slice_get-get_or}
 use Rattle.dma_insn.specs.ControlWord.{field, flag}
 use Rattle.dma_mem.specs.Regions.{Piece}
 use Rattle.dma_device.specs.Offsets as offset
-use Rattle.dma_device.specs.Device.{DeviceValue, by_manager, by_thread, csr, go as executes_go, of_thread, read_at, program_at, with_thread}
+use Rattle.dma_device.specs.Device.{DeviceValue, by_manager, csr, go as executes_go, of_thread, read_at, program_at, with_thread}
 use Rattle.dma_device.specs.Dmago.{Go, MayGo, csr_status, started_by}
 use Rattle.dma_device.specs.Thread.{is_faulting, is_faulting_status, is_stopped, is_stopped_status, reset_thread, started, status_bits}
 use Rattle.dma_device.specs.declared.thread.Status.{Status}
 use Rattle.dma_device.specs.declared.thread.Status.TheVariants.{Stopped, Faulting}
 use Rattle.dma_device.specs.declared.thread.Thread.{Thread}
+use Rattle.dma_device.proofs.FlagNumber.{flag_few}
+use Rattle.dma_device.proofs.Found.{set_found}
 
 -- ---- CSR
 
@@ -26,9 +26,7 @@ stopped_by s b h = absurd (omega arith)
 
 -- a thread whose CSR reads as stopped is stopped
 pub reads_stopped : (d : DeviceValue) (n : ℕ) (th : Thread) → n < 8 → slice_get d.threads n ≡ Some th → csr_status d n ≡ 0 → is_stopped th ≡ true
-reads_stopped d n th few is h =
-    let read : csr th ≡ read_at d (offset.csr + 8 * n) = sym (read_csr d n few ∙ ap (of_thread csr) is) in
-    stopped_by th.status th.nonsecure (ap (λ (m : ℕ). m % 16) read ∙ h)
+reads_stopped d n th few is h = grind (arith, read_csr, stopped_by)
 
 fine_by : (s : Status) (b : Bool) → is_faulting_status s ≡ false → (status_bits s + flag b * 2 ^ 21) % 16 ≢ 15
 fine_by Faulting b h e = absurd (true≢false h)
@@ -36,9 +34,7 @@ fine_by s b h e = absurd (omega arith)
 
 -- the CSR of a thread that isn't faulting doesn't read so
 pub reads_fine : (d : DeviceValue) (n : ℕ) (th : Thread) → n < 8 → slice_get d.threads n ≡ Some th → is_faulting th ≡ false → csr_status d n ≢ 15
-reads_fine d n th few is fine e =
-    let read : csr th ≡ read_at d (offset.csr + 8 * n) = sym (read_csr d n few ∙ ap (of_thread csr) is) in
-    fine_by th.status th.nonsecure fine (ap (λ (m : ℕ). m % 16) read ∙ e)
+reads_fine d n th few is fine e = grind (arith, fine_by, read_csr)
 
 -- a stopped thread isn't faulting
 pub stopped_fine : (s : Status) → is_stopped_status s ≡ true → is_faulting_status s ≡ false
@@ -54,38 +50,14 @@ word nonsecure n = (0xA0 + 2 * flag nonsecure) * 2 ^ 16 + n * 2 ^ 24
 abbrev written_both : Bool → ℕ → ℕ → DeviceValue → DeviceValue
 written_both nonsecure n addr d = record d { dbginst0 = word nonsecure n; dbginst1 = addr }
 
-for_manager : (nonsecure : Bool) (n : ℕ) → field 0 1 (word nonsecure n) ≡ 0
-for_manager true n = omega arith
-for_manager false n = omega arith
-
-opcode_is : (nonsecure : Bool) (n : ℕ) → field 16 8 (word nonsecure n) ≡ 0xA0 + 2 * flag nonsecure
-opcode_is true n = omega arith
-opcode_is false n = omega arith
-
-channel_is : (nonsecure : Bool) (n : ℕ) → n < 8 → field 24 8 (word nonsecure n) ≡ n
-channel_is true n h = omega arith
-channel_is false n h = omega arith
-
-abbrev executed : List Piece → DeviceValue → ℕ → ℕ → ℕ → ℕ → DeviceValue
-executed ram d opcode byte n b = if b == 1 then by_thread n (slice_get d.threads n) opcode byte d else by_manager ram opcode byte d
-
 flag_clear : (b : Bool) → flag b ≡ 0 → b ≡ false
 flag_clear true h = absurd (omega arith)
 flag_clear false h = refl
-
-pub set_found : (ts : List Thread) (n : ℕ) (th new : Thread) → slice_get ts n ≡ Some th → slice_get (slice_set ts n new) n ≡ Some new
-set_found ts n th new is =
-    let within = slice_get_within ts n th is in
-    let fits : n < length (slice_set ts n new) = omega (arith, length-set {A = Thread}) in
-    slice_get-get_or (slice_set ts n new) n th fits ∙ ap Some (get_or-set_same ts n new th within)
 
 -- what the manager does
 by_opcode : (ram : List Piece) (nonsecure : Bool) (n : ℕ) (e : DeviceValue) → e.manager.is_faulting ≡ false → by_manager ram (0xA0 + 2 * flag nonsecure) n e ≡ executes_go ram nonsecure n (slice_get e.threads n) e
 by_opcode ram true n e calm = rw calm refl
 by_opcode ram false n e calm = rw calm refl
-
-go_starts : (ram : List Piece) (nonsecure : Bool) (n : ℕ) (th : Thread) (e : DeviceValue) → (e.config.nonsecure && not nonsecure) ≡ false → is_stopped th ≡ true → executes_go ram nonsecure n (Some th) e ≡ with_thread n (started e.config.bus nonsecure e.dbginst1 (program_at ram e.dbginst1)) e
-go_starts ram nonsecure n th e allowed stopped = rw (allowed, stopped) refl
 
 -- the thread after a driver's writes of a DMAGO
 pub dmago_starts : (go : Go) → MayGo go → slice_get (started_by go).threads go.channel ≡ Some (started go.device.config.bus go.nonsecure go.addr (program_at go.ram go.addr))
@@ -100,11 +72,9 @@ dmago_starts go may =
     let is = slice_get-get_or d.threads n (reset_thread d.config.bus) may.there in
     let stopped = reads_stopped d n th may.few is may.stopped in
     let new = started d.config.bus nonsecure go.addr (program_at ram go.addr) in
-    let all : started_by go ≡ with_thread n new e =
-    ap (λ (o : ℕ). executed ram e o (field 24 8 w) (field 8 3 w) (field 0 1 w)) (opcode_is nonsecure n)
-    ∙ ap (λ (b : ℕ). executed ram e (0xA0 + 2 * flag nonsecure) b (field 8 3 w) (field 0 1 w)) (channel_is nonsecure n may.few)
-    ∙ ap (executed ram e (0xA0 + 2 * flag nonsecure) n (field 8 3 w)) (for_manager nonsecure n)
-    ∙ by_opcode ram nonsecure n e (flag_clear d.manager.is_faulting may.manager)
-    ∙ ap (λ (o : Option Thread). executes_go ram nonsecure n o e) is
-    ∙ go_starts ram nonsecure n th e may.allowed stopped in
+    let one = flag_few nonsecure in
+    let opcode : field 16 8 w ≡ 0xA0 + 2 * flag nonsecure = omega arith in
+    let byte : field 24 8 w ≡ n = omega (arith, may.few) in
+    let by : field 0 1 w ≡ 0 = omega arith in
+    let all : started_by go ≡ with_thread n new e = simp (opcode, byte, by) (by_opcode ram nonsecure n e (flag_clear d.manager.is_faulting may.manager) ∙ simp (is, may.allowed, stopped)) in
     ap (λ (v : DeviceValue). slice_get v.threads n) all ∙ set_found d.threads n th new is

@@ -1,6 +1,6 @@
 -- A turn of a thread that can step changes the device.
 use Rattle.std.proofs.Common.{◌≡◌, ◌≢◌, ◌∙◌, ◌⊎◌, ℕ, zero, suc, ◌+◌, ◌%◌, ◌^◌, ◌<◌, ◌≤◌, Bool, true, false, ◌&&◌, List, get_or, Option, Some, None, Result, Ok, ap, refl, sym, subst, arith, inl, inr, true≢false}
-use Rattle.std.specs.Prelude.{is_some, nat_eq, nat_lt, not, slice_get}
+use Rattle.std.specs.Prelude.{nat_eq, nat_lt, slice_get}
 use Rattle.std.specs.Int.{bit_at}
 use Rattle.std.proofs.lemmas.Bool.{and_parts, lt-ltb}
 use borrow.Author.Tests.{ltb-true}
@@ -17,24 +17,22 @@ use Rattle.dma_chan.specs.declared.turn.ChanTurn.TheVariants.{Moved, Waiting, En
 use Rattle.dma_chan.specs.declared.turn.FaultKind.{FaultKind}
 use Rattle.dma_chan.proofs.StepsTaken.{steps_move}
 use Rattle.dma_chan.proofs.SteppedOver.{was_moved, went_before}
-use Rattle.dma_device.specs.declared.thread.Status.{Status}
 use Rattle.dma_device.specs.declared.thread.Status.TheVariants.{Faulting, WaitingForEvent}
 use Rattle.dma_device.specs.declared.thread.Thread.{Thread}
 use Rattle.dma_device.specs.CallSteps.{Executes, first_in, marks_in}
 use Rattle.dma_device.specs.Device.{DeviceValue}
 use Rattle.dma_device.specs.Idle.{TurnChanges}
-use Rattle.dma_device.specs.Thread.{answer, can_step, is_faulting, is_faulting_status, is_signalled, runs, waited}
+use Rattle.dma_device.specs.Thread.{answer, can_step, is_signalled, runs, waited}
 use Rattle.dma_device.specs.Turns.{Outcome, Setup, begins, called_if, follows, last_in, machine_in, machine_left, may_follow, raises, runs_at, runs_if, setup_of, signal_in, steps_in, thread_left, visible_events}
 use Rattle.dma_device.proofs.Answered.{answer_channel}
 use Rattle.dma_device.proofs.Calls.{call_acts, call_is, takes, turn_device}
-use Rattle.dma_device.proofs.Starts.{set_found}
-use Rattle.dma_device.proofs.WaitSteps.{waits_at}
+use Rattle.dma_device.proofs.FlagSteps.{waits_at}
+use Rattle.dma_device.proofs.Found.{set_found}
 
 -- ---- the count of instructions
 
 turn_counts : (turn : ChanTurn) (s : State) (n : ℕ) (c : ChannelValue) → c.taken ≤ (after_turn turn s n c).taken
-turn_counts Moved s n c = omega arith
-turn_counts turn s n c = omega arith
+turn_counts turn s n c = grind arith
 
 step_counts : (marks : MarkList) (s : Machine) → s.channel.taken ≤ (after_step marks s).channel.taken
 step_counts marks s = turn_counts (answer_at marks s) (step_of marks s.channel s.image s.flags).1 (stored_by (ahead_of s.channel) s.channel.registers) s.channel
@@ -46,10 +44,7 @@ never_falls marks s (suc j) = omega (arith, never_falls marks s j, step_counts m
 
 -- it rises in a step that moves or ends
 turn_rises : (turn : ChanTurn) (s : State) (n : ℕ) (c : ChannelValue) → (turn ≡ Moved) ⊎ (turn ≡ Ended) → c.taken < (after_turn turn s n c).taken
-turn_rises Moved s n c is = omega arith
-turn_rises Ended s n c is = omega arith
-turn_rises (Waiting e) s n c is = elim is [ inl a ↦ absurd (cc) | inr b ↦ absurd (cc) ]
-turn_rises (Fault kind) s n c is = elim is [ inl a ↦ absurd (cc) | inr b ↦ absurd (cc) ]
+turn_rises turn s n c is = grind arith
 
 step_rises : (marks : MarkList) (s : Machine) → (answer_at marks s ≡ Moved) ⊎ (answer_at marks s ≡ Ended) → s.channel.taken < (after_step marks s).channel.taken
 step_rises marks s is = turn_rises (answer_at marks s) (step_of marks s.channel s.image s.flags).1 (stored_by (ahead_of s.channel) s.channel.registers) s.channel is
@@ -67,9 +62,7 @@ silent marks next s other = refl
 -- ---- a call
 
 fine_status : (t : Thread) → runs t ≡ true → t.status ≢ Faulting
-fine_status t on is =
-    let off : not (is_faulting t) ≡ true = (and_parts (is_some t.channel.program) (not (is_faulting t)) on).1 in
-    true≢false (sym off ∙ ap (λ (s : Status). not (is_faulting_status s)) is)
+fine_status t on is = grind arith
 
 waited_is : (events : ℕ) (t : Thread) (e : ℕ) (b : Bool) → nat_lt e events ≡ b → ((waited events t e).status ≡ Faulting) ⊎ (((waited events t e).status ≡ WaitingForEvent e) × (e < events))
 waited_is events t e true less = inr (rw less refl, ltb-true e events less)
@@ -79,19 +72,14 @@ waited_is events t e false less = inl (rw less refl)
 abbrev Differs : Thread → Thread → Option ℕ → Type 0
 Differs t u signal = (t.channel.taken < u.channel.taken) ⊎ ((u.status ≢ t.status) × (signal ≡ None))
 
+abbrev taken : ChannelValue → ℕ
+taken c = c.taken
+
 -- the one step of a call
 by_turn : (events seen : ℕ) (t at : Thread) (s : Machine) (marks : MarkList) (turn : ChanTurn) → events ≤ 32 → can_step seen t ≡ true → s.channel ≡ t.channel → s.flags ≡ flags_of seen → at.channel ≡ (after_step marks s).channel → answer_at marks s ≡ turn → Differs t (answer events at (Some turn) (signal_of (ahead_of s.channel))) (signal_of (ahead_of s.channel))
 by_turn events seen t at s marks Moved few can same flags is answers =
-    let signal = signal_of (ahead_of s.channel) in
-    inl (let up = step_rises marks s (inl answers) in
-    let old = ap (λ (c : ChannelValue). c.taken) same in
-    let new = ap (λ (c : ChannelValue). c.taken) (answer_channel events at (Some Moved) signal ∙ is) in
-    omega (arith, up, old, new))
-by_turn events seen t at s marks Ended few can same flags is answers =
-    inl (let up = step_rises marks s (inr answers) in
-    let old = ap (λ (c : ChannelValue). c.taken) same in
-    let new = ap (λ (c : ChannelValue). c.taken) is in
-    omega (arith, up, old, new))
+    inl (omega (arith, step_rises marks s (inl answers), ap taken same, ap taken (answer_channel events at (Some Moved) (signal_of (ahead_of s.channel)) ∙ is)))
+by_turn events seen t at s marks Ended few can same flags is answers = inl (omega (arith, step_rises marks s (inr answers), ap taken same, ap taken is))
 by_turn events seen t at s marks (Fault kind) few can same flags is answers =
     let on = (and_parts (runs t) (is_signalled seen t.status) can).0 in
     inr ((λ e. fine_status t on (sym e)), silent marks (ahead_of s.channel) (state_of s.channel s.image s.flags) (λ moved. cc (moved, answers)))
@@ -112,24 +100,19 @@ by_turn events seen t at s marks (Waiting e) few can same flags is answers =
 
 by_steps : (events seen : ℕ) (t at : Thread) (s v : Machine) (marks : MarkList) (most taken : ℕ) (last : Option ChanTurn) (signal : Option ℕ) → events ≤ 32 → can_step seen t ≡ true → s.channel ≡ t.channel → s.flags ≡ flags_of seen → at.channel ≡ v.channel → signal ≡ signal_after marks s taken → TakesSteps marks s most taken last v → Differs t (answer events at last signal) signal
 by_steps events seen t at s v marks most zero last signal few can same flags is sets x =
-    let on = (and_parts (runs t) (is_signalled seen t.status) can).0 in
     subst (λ (l : Option ChanTurn). Differs t (answer events at l signal) signal) (sym x.answer)
-    (inr ((λ e. fine_status t on (sym e)), sets))
+    (inr ((λ e. fine_status t ((and_parts (runs t) (is_signalled seen t.status) can).0) (sym e)), sets))
 by_steps events seen t at s v marks most (suc zero) last signal few can same flags is sets x =
     subst (λ (l : Option ChanTurn). Differs t (answer events at l signal) signal) (sym x.answer)
     (subst (λ (o : Option ℕ). Differs t (answer events at (Some (answer_at marks s)) o) o) (sym sets)
     (by_turn events seen t at s marks (answer_at marks s) few can same flags (is ∙ ap (λ (m : Machine). m.channel) x.ends_at) refl))
 by_steps events seen t at s v marks most (suc (suc j)) last signal few can same flags is sets x =
-    let moved = was_moved (ahead_of s.channel) (answer_at marks s) (went_before marks s 1 (steps_move x 1 (omega arith))) in
-    let up = all_rise marks s (suc j) moved in
-    let old = ap (λ (c : ChannelValue). c.taken) same in
+    let up = all_rise marks s (suc j) (was_moved (ahead_of s.channel) (answer_at marks s) (went_before marks s 1 (steps_move x 1 (omega arith)))) in
     let new = ap (λ (c : ChannelValue). c.taken) (answer_channel events at last signal ∙ is ∙ ap (λ (m : Machine). m.channel) x.ends_at) in
-    inl (omega (arith, up, old, new))
+    inl (omega (arith, up, ap (λ (c : ChannelValue). c.taken) same, new))
 
 call_found : (marks : MarkList) (n most : ℕ) (s : Setup) (made : Bool) (x : Executes made n s) → slice_get (called_if made marks n most s).left.device.threads n ≡ Some (thread_left marks most x.thread s)
-call_found marks n most s made x =
-    ap (λ (o : Outcome). slice_get o.left.device.threads n) (call_acts marks most x)
-    ∙ set_found s.device.threads n x.thread (thread_left marks most x.thread s) x.found
+call_found marks n most s made x = grind (arith, call_acts, set_found)
 
 call_differs : (marks : MarkList) (most : ℕ) (t : Thread) (s : Setup) → s.device.config.events ≤ 32 → can_step (visible_events s.device) t ≡ true → Differs t (thread_left marks most t s) (signal_in marks most t s)
 call_differs marks most t s few can =
@@ -137,19 +120,12 @@ call_differs marks most t s few can =
     by_steps s.device.config.events (visible_events s.device) t (record t { channel = to.channel; pc = (t.base + to.channel.registers.pc) % 2 ^ 32 }) (machine_in s t) to marks most (steps_in marks most t s) (last_in marks most t s) (signal_in marks most t s) few can refl refl refl refl (takes marks most t s)
 
 call_keeps_count : (marks : MarkList) (most : ℕ) (t : Thread) (s : Setup) → t.channel.taken ≤ (thread_left marks most t s).channel.taken
-call_keeps_count marks most t s =
-    let to = machine_left marks most t s in
-    let at : Thread = record t { channel = to.channel; pc = (t.base + to.channel.registers.pc) % 2 ^ 32 } in
-    let new = ap (λ (c : ChannelValue). c.taken) (answer_channel s.device.config.events at (last_in marks most t s) (signal_in marks most t s)) in
-    omega (arith, never_falls marks (machine_in s t) (steps_in marks most t s), new)
+call_keeps_count marks most t s = grind (arith, answer_channel, never_falls)
 
 -- ---- a turn
 
-one_thread : (ts : List Thread) (n : ℕ) (a b : Thread) → slice_get ts n ≡ Some a → slice_get ts n ≡ Some b → a ≡ b
-one_thread ts n a b x y = cc
-
 same_in : (d e : DeviceValue) (n : ℕ) (t u : Thread) → e ≡ d → slice_get d.threads n ≡ Some t → slice_get e.threads n ≡ Some u → u ≡ t
-same_in d e n t u same found there = one_thread d.threads n u t (sym (ap (λ (v : DeviceValue). slice_get v.threads n) same) ∙ there) found
+same_in d e n t u same found there = cc (ap (λ (v : DeviceValue). slice_get v.threads n) same)
 
 pub turn_changes : TurnChanges
 turn_changes d e regions left n most turn t x h found can some same =
@@ -174,16 +150,13 @@ turn_changes d e regions left n most turn t x h found can some same =
           elim differs [
             | inl up ↦
                 let w = two.thread in
-                let mid = one_thread m.threads n w u two.found there in
+                let mid : w ≡ u = cc (two.found, there) in
                 let z = thread_left marks 1 w first.left in
                 let back = same_in d e n t z same found (ap (λ (v : DeviceValue). slice_get v.threads n) (sym (turn_device x)) ∙ call_found marks n 1 first.left (follows m n first.called) two) in
-                let more = call_keeps_count marks 1 w first.left in
-                let old = ap (λ (k : Thread). k.channel.taken) back in
                 let new = ap (λ (k : Thread). k.channel.taken) mid in
-                absurd (omega (arith, up, more, old, new))
+                absurd (omega (arith, up, call_keeps_count marks 1 w first.left, ap (λ (k : Thread). k.channel.taken) back, new))
             | inr other ↦
-                let goes = (and_parts (may_follow m n first.called) (runs_at m n) two.on).0 in
-                let raised = (and_parts (raises m first.called.signal) _ goes).0 in
+                let raised = (and_parts (raises m first.called.signal) _ ((and_parts (may_follow m n first.called) (runs_at m n) two.on).0)).0 in
                 let none : first.called.signal ≡ None = ap (λ (o : Outcome). o.called.signal) (call_acts marks most one) ∙ other.1 in
                 true≢false (sym raised ∙ ap (raises m) none)
           ]

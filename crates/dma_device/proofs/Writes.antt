@@ -1,23 +1,38 @@
--- What a turn writes.
-use Rattle.std.proofs.Common.{◌≡◌, ◌∙◌, ℕ, zero, suc, ◌≤◌, Bool, true, List, Option, Some, None, ap, refl, sym, subst, arith, inl, inr}
-use Rattle.std.specs.Prelude.{◌==◌, slice_get}
+-- What a turn writes: it lies in the regions, and in none that is read-only.
+use Rattle.std.proofs.Common.{◌≡◌, ◌∙◌, ℕ, zero, suc, ◌≤◌, Bool, true, List, Option, Some, ap, refl, sym, subst, arith, inl, inr, ◌+◌, ◌-◌, ◌<◌, false, ◌&&◌, ◌||◌, [], ◌∷◌, ◌++◌, length, get_or, Result, Ok, true≢false}
+use Rattle.std.specs.Prelude.{◌==◌, nat_lt, not}
 use Rattle.std.proofs.Math.Bool.{or-true}
-use Rattle.std.proofs.lemmas.Bool.{and_parts, cases_eq}
-use Rattle.dma_mem.specs.Marking.{MarkList}
+use Rattle.std.proofs.lemmas.Bool.{and_parts, cases_lt, le-leb, lt-ltb, not-true, or_parts}
+use Rattle.dma_mem.specs.Marking.{MarkList, is_marked, lies_in}
 use Rattle.dma_mem.specs.declared.segment.Segment.{Segment}
-use Rattle.dma_chan.specs.Stepping.{Machine, answer_at, written_after}
+use Rattle.dma_chan.specs.Stepping.{Machine, answer_at, written_after, Wrote, after_steps}
 use Rattle.dma_chan.specs.Written.{KeepsOutside, LiesIn, adjoins, also_written, joined, range_at, store_ahead}
 use Rattle.dma_chan.specs.declared.turn.ChanTurn.{ChanTurn}
 use Rattle.dma_chan.specs.declared.turn.ChanTurn.TheVariants.{Moved}
 use Rattle.dma_chan.proofs.CallWrites.{call_writes_no_other}
 use Rattle.dma_chan.proofs.StepsTaken.{steps_few, steps_move}
-use Rattle.dma_chan.proofs.SteppedOver.{writes_each}
+use Rattle.dma_chan.proofs.SteppedOver.{writes_each, steps_size}
 use Rattle.dma_chan.proofs.WrittenRanges.{in_joined, joined_first, joined_none, of_either}
 use Rattle.dma_device.specs.declared.thread.Thread.{Thread}
-use Rattle.dma_device.specs.Thread.{runs}
-use Rattle.dma_device.specs.Turns.{Outcome, Setup, begins, called_if, follows, is_beside, machine_in, may_follow, raises, runs_at, second_call, setup_of, steps_in}
+use Rattle.dma_device.specs.Turns.{Outcome, Setup, begins, called_if, follows, is_beside, machine_in, second_call, setup_of, steps_in}
 use Rattle.dma_device.specs.CallSteps.{first_in, marks_in, second_in}
-use Rattle.dma_device.specs.Writes.{CallWrote, TurnWritesEach}
+use Rattle.dma_device.specs.Writes.{CallWrote, TurnWritesEach, TurnWritesInRegions}
+use Rattle.std.specs.List.{Contains, list_all, list_any}
+use borrow.Author.Tests.{ltb-true}
+use Rattle.dma_insn.specs.declared.insn.Insn.{Insn}
+use Rattle.dma_insn.specs.declared.insn.Insn.TheVariants.{St}
+use Rattle.dma_mem.specs.Lent.{lies_in_any, stores_at}
+use Rattle.dma_mem.specs.Regions.{Piece, bytes_above, end_of, gaps_above, gaps_of, has, image_of, in_order, pieces_of, read_only_of, rises_from}
+use Rattle.dma_mem.specs.declared.marks.MarkKind.TheVariants.{Writing}
+use Rattle.dma_mem.specs.declared.regions.Region.{Region}
+use Rattle.dma_mem.proofs.GapMarks.{is_marked_at, stores_in}
+use Rattle.dma_mem.proofs.Pieces.{first}
+use Rattle.dma_chan.specs.declared.turn.FaultKind.{FaultKind}
+use Rattle.dma_chan.specs.Bursts.{reaches, touched}
+use Rattle.dma_chan.specs.Channel.{ahead_of, state_of}
+use Rattle.dma_chan.specs.Exec.{State, act, destination_of, exec_fetched}
+use Rattle.dma_chan.specs.NextWrites.{written_by}
+use Rattle.dma_chan.proofs.PlacesKept.{long_above}
 use Rattle.dma_device.proofs.Calls.{call_acts, call_is, takes, turn_image, turn_written}
 
 -- ---- a call
@@ -43,10 +58,7 @@ adjoins_none : (w r : Segment) → r.len ≡ 0 → adjoins w r ≡ true
 adjoins_none w r none = rw none (rw (or-true (w.len == 0)) refl)
 
 by_length : (w r : Segment) → adjoins w r ≡ true → adjoins w (joined (range_at 0 0) r) ≡ true
-by_length w r close = elim (cases_eq r.len 0) [
-  | inl none ↦ ap (adjoins w) (joined_none (range_at 0 0) r none) ∙ adjoins_none w (range_at 0 0) refl
-  | inr some ↦ ap (adjoins w) (joined_first (range_at 0 0) r refl some) ∙ close
-]
+by_length w r close = grind (arith, adjoins_none, joined_first, joined_none)
 
 by_answer : (w r : Segment) (turn : ChanTurn) → adjoins w r ≡ true → adjoins w (also_written turn r (range_at 0 0)) ≡ true
 by_answer w r Moved close = by_length w r close
@@ -58,24 +70,10 @@ by_count w marks s (suc zero) few close = by_answer w (store_ahead s.channel) (a
 by_count w marks s (suc (suc k)) few close = absurd (omega arith)
 
 beside_of : (w : Segment) (o : Option Thread) (t : Thread) → o ≡ Some t → is_beside w o ≡ true → adjoins w (store_ahead t.channel) ≡ true
-beside_of w None t found is = absurd (cc)
-beside_of w (Some u) t found is =
-    let same : u ≡ t = cc in
-    ap (λ (v : Thread). adjoins w (store_ahead v.channel)) (sym same) ∙ (and_parts (runs u) (adjoins w (store_ahead u.channel)) is).1
+beside_of w o t h1 h2 = grind arith
 
 pub second_beside : (marks : MarkList) (n : ℕ) (first : Outcome) → adjoins first.called.written (second_call marks n first).called.written ≡ true
-second_beside marks n first =
-    let d = first.left.device in
-    let w = first.called.written in
-    elim (call_is (follows d n first.called) marks n 1 first.left) [
-      | inl rests ↦ adjoins_none w (second_call marks n first).called.written (ap (λ (o : Outcome). o.called.written.len) rests.is)
-      | inr acts ↦
-          let may = (and_parts (may_follow d n first.called) (runs_at d n) acts.on).0 in
-          let beside = (and_parts (raises d first.called.signal) (is_beside w (slice_get d.threads n)) may).1 in
-          let close = beside_of w (slice_get d.threads n) acts.thread acts.found beside in
-          ap (λ (o : Outcome). adjoins w o.called.written) (call_acts marks 1 acts)
-          ∙ by_count w marks (machine_in first.left acts.thread) (steps_in marks 1 acts.thread first.left) (steps_few (takes marks 1 acts.thread first.left)) close
-    ]
+second_beside marks n first = grind (arith, adjoins_none, beside_of, by_count, call_acts, call_is, steps_few, takes)
 
 -- ---- a turn
 
@@ -105,3 +103,76 @@ turn_writes_each d regions n most e left turn x =
       read_only = x.kept.read_only;
       names = x.kept.names;
     }
+
+-- ---- a store that moved
+
+all_at : (f : ℕ → Bool) (xs : List ℕ) (i a : ℕ) → list_all f xs ≡ true → i < length xs → get_or xs i a ≡ a → f a ≡ true
+all_at f [] i a all l e = absurd (omega arith)
+all_at f (x ∷ xs) zero a all l e = subst (λ (y : ℕ). f y ≡ true) e (and_parts (f x) (list_all f xs) all).0
+all_at f (x ∷ xs) (suc i) a all l e = all_at f xs i a (and_parts (f x) (list_all f xs) all).1 (omega arith) e
+
+-- the test of one address
+abbrev fits : MarkList → ℕ → ℕ → Bool
+fits marks size a = nat_lt a size && not (is_marked Writing marks a)
+
+reached : (marks : MarkList) (size : ℕ) (xs : List ℕ) (a : ℕ) → reaches Writing marks size xs ≡ true → Contains xs a → fits marks size a ≡ true
+unfolding reaches
+reached marks size xs a all i = all_at (fits marks size) xs i.0 a all i.1 i.2
+
+store_reaches : (marks : MarkList) (s : State) → (act marks St s).0 ≡ Moved → reaches Writing marks (length s.image) (touched (destination_of s.registers)) ≡ true
+store_reaches marks s moved = grind arith
+
+step_reaches : (marks : MarkList) (next : Result Insn FaultKind) (s : State) (a : ℕ) → (exec_fetched marks next s).0 ≡ Moved → Contains (written_by next s.registers) a → fits marks (length s.image) a ≡ true
+step_reaches marks (Ok St) s a moved i = reached marks (length s.image) (touched (destination_of s.registers)) a (store_reaches marks s moved) i
+step_reaches marks next s a moved i = absurd (omega (arith, i.1))
+
+wrote_fits : (marks : MarkList) (s : Machine) (n a : ℕ) → Wrote marks s n a → fits marks (length s.image) a ≡ true
+wrote_fits marks s n a w =
+    let u = after_steps marks s w.0 in
+    ap (λ (k : ℕ). fits marks k a) (sym (steps_size marks s w.0)) ∙ step_reaches marks (ahead_of u.channel) (state_of u.channel u.image u.flags) a w.2 w.3
+
+-- ---- the regions
+
+-- below the end of the pieces, what lies in no gap lies in a piece
+in_piece : (at : ℕ) (ps : List Piece) (a : ℕ) → rises_from at ps ≡ true → at ≤ a → a < at + length (bytes_above at ps) → lies_in_any (gaps_above at ps) a ≡ false → list_any (has a) ps ≡ true
+in_piece at [] a order from below gaps = absurd (omega arith)
+in_piece at (p ∷ ps) a order from below gaps =
+    let f = first at p ps order in
+    let gap : Segment = record { addr = at; len = p.addr - at } in
+    let parts = or_parts (lies_in a gap) (lies_in_any (gaps_above (end_of p) ps) a) gaps in
+    elim (cases_lt a p.addr) [
+      | inl early ↦
+          let bad : lies_in a gap ≡ true = rw (le-leb at a from, lt-ltb a (at + (p.addr - at)) (omega (arith, early, f.after))) refl in
+          absurd (true≢false (sym bad ∙ parts.0))
+      | inr begun ↦ elim (cases_lt a (end_of p)) [
+        | inl within ↦
+            let here : has a p ≡ true = rw (le-leb p.addr a begun, lt-ltb a (end_of p) within) refl in
+            ap (λ (b : Bool). b || list_any (has a) ps) here
+        | inr past ↦
+            ap (λ (b : Bool). has a p || b) (in_piece (end_of p) ps a f.rest past (omega (arith, below, long_above at p ps, f.after, begun)) parts.1) ∙ or-true (has a p)
+      ]
+    ]
+
+-- an address of a region that isn't read-only
+abbrev IsWritable : List Region → ℕ → Type 0
+IsWritable regions a = (list_any (has a) (pieces_of regions) ≡ true) × (lies_in_any (read_only_of regions) a ≡ false)
+
+call_within : (regions : List Region) (n a : ℕ) (made : Bool) (most : ℕ) (s : Setup) → in_order (pieces_of regions) ≡ true → length s.image ≡ length (image_of (pieces_of regions)) → CallWrote (marks_in regions) n a made most s → IsWritable regions a
+call_within regions n a made most s order size w =
+    let marks = marks_in regions in
+    let test = wrote_fits marks (machine_in s w.0.thread) (steps_in marks most w.0.thread s) a w.1 in
+    let parts = and_parts (nat_lt a (length s.image)) (not (is_marked Writing marks a)) test in
+    let free : is_marked Writing marks a ≡ false = not-true (is_marked Writing marks a) parts.1 in
+    let others = stores_at (read_only_of regions) ++ [] in
+    let both = or_parts (lies_in_any (gaps_of (pieces_of regions)) a) (is_marked Writing others a) (sym (is_marked_at Writing (gaps_of (pieces_of regions)) others a) ∙ free) in
+    let writable = or_parts (lies_in_any (read_only_of regions) a) (is_marked Writing [] a) (sym (stores_in (read_only_of regions) [] a) ∙ both.1) in
+    (in_piece 0 (pieces_of regions) a order (omega arith) (omega (arith, size, ltb-true a (length s.image) parts.0)) both.0, writable.0)
+
+pub turn_writes_in_regions : TurnWritesInRegions
+turn_writes_in_regions d regions n most e left turn a order x i =
+    let s = setup_of d regions in
+    let first = first_in d regions n most in
+    elim ((turn_writes_each d regions n most e left turn x).each a i) [
+      | inl w ↦ call_within regions n a (begins d n most) most s order refl w
+      | inr w ↦ call_within regions n a (follows first.left.device n first.called) 1 first.left order (call_keeps (begins d n most) (marks_in regions) n most s).size w
+    ]

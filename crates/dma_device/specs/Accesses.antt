@@ -1,6 +1,6 @@
 -- Accesses in a row: what a guest's driver and its processor do to a device and to RAM, and the turns that a host gives
 -- to channels, in any order. The host also resets and restores the device.
-use Rattle.std.specs.Prelude.{◌≡◌, ℕ, ◌+◌, ◌<◌, List, map, slice_set}
+use Rattle.std.specs.Prelude.{◌≡◌, ◌⊎◌, ◌↔◌, ℕ, ◌+◌, ◌<◌, ◌≤◌, List, map, slice_set}
 use Rattle.dma_mem.specs.Regions.{image_of, pieces_of, read_only_of}
 use Rattle.dma_mem.specs.declared.regions.Region.{Region}
 use Rattle.dma_chan.specs.LentRegions.{segment_of}
@@ -53,3 +53,21 @@ Does (Restores saved) d regions answer e left =
 abbrev pub Happen : (ℕ → Access) → (ℕ → Answer) → (ℕ → DeviceValue) → (lent left : ℕ → List Region) → ℕ → Type 0
 Happen access answer before lent left count =
     (k : ℕ) → k < count → Does (access k) (before k) (lent k) (answer k) (before (k + 1)) (left k)
+
+-- ---- what accesses make hold, and end
+
+-- from access number i up to, and without, number n none ends it
+abbrev pub Stays : (ℕ → Type 0) → ℕ → ℕ → Type 0
+Stays Ends i n = (j : ℕ) → i ≤ j → j < n → ¬ Ends j
+
+-- one of the accesses below number n makes it hold, and none after it ends it
+pub record Since (Makes Ends : ℕ → Type 0) (n : ℕ) : Type 0 where
+  pub at : ℕ
+  pub below : at < n
+  pub makes : Makes at
+  pub stays : Stays Ends (at + 1) n
+
+-- It holds before access number n exactly if an access made it hold, and none after it ended it; or if it held at first,
+-- and no access ended it.
+abbrev pub IsExact : (Holds Makes Ends : ℕ → Type 0) → ℕ → Type 0
+IsExact Holds Makes Ends n = Holds n ↔ (Since Makes Ends n ⊎ (Holds 0 × Stays Ends 0 n))

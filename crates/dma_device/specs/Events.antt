@@ -1,5 +1,5 @@
 -- Events are neither lost nor invented: what sets them, and what takes them.
-use Rattle.std.specs.Prelude.{◌≡◌, ◌⊎◌, ◌↔◌, ℕ, ◌+◌, ◌<◌, ◌≤◌, Bool, true, List, Some, Ok, slice_get}
+use Rattle.std.specs.Prelude.{◌≡◌, ℕ, ◌<◌, ◌≤◌, Bool, true, List, Some, Ok, slice_get}
 use Rattle.dma_insn.specs.declared.insn.Insn.TheVariants.{Wfe}
 use Rattle.dma_mem.specs.Marking.{MarkList}
 use Rattle.dma_mem.specs.declared.regions.Region.{Region}
@@ -9,7 +9,7 @@ use Rattle.dma_chan.specs.declared.turn.ChanTurn.TheVariants.{Moved}
 use Rattle.dma_device.specs.declared.device.turns.Turn.{Turn}
 use Rattle.dma_device.specs.declared.thread.Status.TheVariants.{WaitingForEvent}
 use Rattle.dma_device.specs.declared.thread.Thread.{Thread}
-use Rattle.dma_device.specs.Accesses.{Access, Answer, Does, Happen, Resets, Restores, Turns}
+use Rattle.dma_device.specs.Accesses.{Access, Answer, Does, Happen, IsExact, Resets, Restores, Turns}
 use Rattle.dma_device.specs.CallSteps.{Executes, InTurn, marks_in}
 use Rattle.dma_device.specs.Device.{DeviceValue}
 use Rattle.dma_device.specs.Interrupts.{HasLine, IsHigh, Signals}
@@ -53,17 +53,6 @@ Ends k a d regions = Takes k a d regions
 
 -- ---- along the accesses
 
--- none of the accesses from number i up to, and without, number n ends event k
-abbrev pub NoneEnds : (ℕ → Access) → (ℕ → DeviceValue) → (ℕ → List Region) → ℕ → ℕ → ℕ → Type 0
-NoneEnds access before lent k i n = (j : ℕ) → i ≤ j → j < n → ¬ Ends k (access j) (before j) (lent j)
-
--- one of the accesses below number n sets event k, and none after it ends the event
-pub record SetSince (access : ℕ → Access) (before : ℕ → DeviceValue) (lent : ℕ → List Region) (k n : ℕ) : Type 0 where
-  pub at : ℕ
-  pub below : at < n
-  pub sets : Sets k (access at) (before at) (lent at)
-  pub stays : NoneEnds access before lent k (at + 1) n
-
 -- For every list of accesses, event k is set before access number n exactly if an access set it, and none after it
 -- ended it; or if it was set at first, as it is not after a reset, and no access ended it. (A turn that takes an event
 -- and then sets it leaves it set.) Each access may be lent other regions.
@@ -72,8 +61,8 @@ EventsAreExact =
     (access : ℕ → Access) (answer : ℕ → Answer) (before : ℕ → DeviceValue) (lent left : ℕ → List Region)
     (count k n : ℕ) →
     Happen access answer before lent left count → HasLine (before 0) k → n ≤ count →
-    IsSet (before n) k
-    ↔ (SetSince access before lent k n ⊎ (IsSet (before 0) k × NoneEnds access before lent k 0 n))
+    IsExact (λ j. IsSet (before j) k) (λ j. Sets k (access j) (before j) (lent j))
+    (λ j. Ends k (access j) (before j) (lent j)) n
 
 -- No wake-up is invented: an event that an access takes was set before it, and INTEN made it an event.
 abbrev pub TakenWasSet : Type 0

@@ -1,5 +1,5 @@
 -- What makes threads faulting, and with them the line irq_abort high.
-use Rattle.std.specs.Prelude.{◌≡◌, ◌≢◌, ◌⊎◌, ◌↔◌, ℕ, ◌+◌, ◌%◌, ◌<◌, ◌≤◌, Bool, true, false, not, ◌&&◌, ◌==◌, List, Option, Some, None, slice_get, if◌then◌else◌}
+use Rattle.std.specs.Prelude.{◌≡◌, ◌≢◌, ◌⊎◌, ◌↔◌, ℕ, ◌%◌, ◌≤◌, Bool, true, false, not, ◌&&◌, ◌==◌, List, Option, Some, None, slice_get, if◌then◌else◌}
 use Rattle.dma_insn.specs.ControlWord.{field}
 use Rattle.dma_mem.specs.Marking.{MarkList}
 use Rattle.dma_mem.specs.declared.regions.Region.{Region}
@@ -7,7 +7,7 @@ use Rattle.dma_chan.specs.declared.turn.ChanTurn.{ChanTurn}
 use Rattle.dma_chan.specs.declared.turn.ChanTurn.TheVariants.{Moved, Waiting, Ended, Fault}
 use Rattle.dma_device.specs.declared.config.Config.{Config}
 use Rattle.dma_device.specs.declared.thread.Thread.{Thread}
-use Rattle.dma_device.specs.Accesses.{Access, Answer, Does, Happen, Resets, Restores, Turns, Writes}
+use Rattle.dma_device.specs.Accesses.{Access, Answer, Does, Happen, IsExact, Resets, Restores, Turns, Writes}
 use Rattle.dma_device.specs.CallSteps.{Executes, InTurn, marks_in}
 use Rattle.dma_device.specs.Device.{DeviceValue, irq_abort, is_event, read_at, reset_device}
 use Rattle.dma_device.specs.Interrupts.{IsHigh, is_fine}
@@ -127,18 +127,6 @@ EndsAll a = ⊥
 
 -- ---- along the accesses
 
--- none of the accesses from number i up to, and without, number n ends its fault
-abbrev pub NoneEnds : (ℕ → Access) → (ℕ → DeviceValue) → Who → ℕ → ℕ → Type 0
-NoneEnds access before who i n = (j : ℕ) → i ≤ j → j < n → ¬ EndsFault who (access j) (before j)
-
--- one of the accesses below number n makes this thread fail, and none after it ends the fault
-pub record FailedSince (access : ℕ → Access) (before : ℕ → DeviceValue) (lent : ℕ → List Region) (who : Who)
-    (n : ℕ) : Type 0 where
-  pub at : ℕ
-  pub below : at < n
-  pub fails : Fails who (access at) (before at) (lent at)
-  pub stays : NoneEnds access before who (at + 1) n
-
 -- For every list of accesses, a thread is faulting before access number n exactly if an access made it fail, and none
 -- after it ended that; or if it was faulting at first, as none is after a reset, and no access ended that. Each access
 -- may be lent other regions.
@@ -146,8 +134,8 @@ abbrev pub FaultsAreExact : Type 0
 FaultsAreExact =
     (access : ℕ → Access) (answer : ℕ → Answer) (before : ℕ → DeviceValue) (lent left : ℕ → List Region)
     (count n : ℕ) (who : Who) → Happen access answer before lent left count → n ≤ count →
-    (faults_at who (before n) ≡ true)
-    ↔ (FailedSince access before lent who n ⊎ ((faults_at who (before 0) ≡ true) × NoneEnds access before who 0 n))
+    IsExact (λ j. faults_at who (before j) ≡ true) (λ j. Fails who (access j) (before j) (lent j))
+    (λ j. EndsFault who (access j) (before j)) n
 
 -- ---- the line
 

@@ -1,9 +1,9 @@
 -- Interrupts are neither lost nor invented: what raises and lowers the lines irq[31:0].
-use Rattle.std.specs.Prelude.{◌≡◌, ◌⊎◌, ◌↔◌, ℕ, ◌+◌, ◌*◌, ◌%◌, ◌^◌, ◌<◌, ◌≤◌, Bool, true, false, not, ◌==◌, List, Option, Some, None, slice_get, if◌then◌else◌}
+use Rattle.std.specs.Prelude.{◌≡◌, ◌⊎◌, ℕ, ◌*◌, ◌%◌, ◌^◌, ◌<◌, ◌≤◌, Bool, true, false, not, ◌==◌, List, Option, Some, None, slice_get, if◌then◌else◌}
 use Rattle.std.specs.Int.{bit_at}
 use Rattle.dma_insn.specs.ControlWord.{field}
 use Rattle.dma_mem.specs.declared.regions.Region.{Region}
-use Rattle.dma_device.specs.Accesses.{Access, Answer, Happen, Resets, Restores, Turns, Writes}
+use Rattle.dma_device.specs.Accesses.{Access, Answer, Happen, IsExact, Resets, Restores, Turns, Writes}
 use Rattle.dma_device.specs.Device.{DeviceValue, irqs}
 use Rattle.dma_device.specs.Offsets as offset
 use Rattle.dma_device.specs.Thread.{is_faulting}
@@ -70,17 +70,6 @@ Clears k a d = ⊥
 
 -- ---- along the accesses
 
--- none of the accesses from number i up to, and without, number n clears interrupt k
-abbrev pub StaysSet : (ℕ → Access) → (ℕ → DeviceValue) → ℕ → ℕ → ℕ → Type 0
-StaysSet access before k i n = (j : ℕ) → i ≤ j → j < n → ¬ Clears k (access j) (before j)
-
--- one of the accesses below number n raises interrupt k, and none after it clears the interrupt
-pub record RaisedSince (access : ℕ → Access) (before : ℕ → DeviceValue) (lent : ℕ → List Region) (k n : ℕ) : Type 0 where
-  pub at : ℕ
-  pub below : at < n
-  pub raises : Raises k (access at) (before at) (lent at)
-  pub stays : StaysSet access before k (at + 1) n
-
 -- The device has line k. It has at most 32 events, and INTEN has 32 bits.
 pub record HasLine (d : DeviceValue) (k : ℕ) : Type 0 where
   pub events : d.config.events ≤ 32
@@ -95,5 +84,5 @@ InterruptsAreExact =
     (access : ℕ → Access) (answer : ℕ → Answer) (before : ℕ → DeviceValue) (lent left : ℕ → List Region)
     (count k n : ℕ) →
     Happen access answer before lent left count → HasLine (before 0) k → n ≤ count →
-    IsHigh (irqs (before n)) k
-    ↔ (RaisedSince access before lent k n ⊎ (IsHigh (irqs (before 0)) k × StaysSet access before k 0 n))
+    IsExact (λ j. IsHigh (irqs (before j)) k) (λ j. Raises k (access j) (before j) (lent j))
+    (λ j. Clears k (access j) (before j)) n

@@ -1,14 +1,14 @@
 -- What a turn of a channel does.
-use Rattle.std.specs.Prelude.{◌≡◌, ℕ, ◌+◌, ◌*◌, Bool, false, not, ◌&&◌, ◌==◌, nat_lt, List, [], ◌∷◌, map, Option, Some, None, slice_get, bit_and, bit_or, if◌then◌else◌}
+use Rattle.std.specs.Prelude.{◌≡◌, ℕ, ◌+◌, ◌*◌, Bool, false, not, ◌&&◌, ◌==◌, nat_lt, List, [], ◌∷◌, Option, Some, None, slice_get, bit_and, bit_or, if◌then◌else◌}
 use Rattle.std.specs.Int.{w32, bit_not}
 use Rattle.dma_insn.specs.ControlWord.{flag}
 use Rattle.dma_mem.specs.Flags.{flags_of}
 use Rattle.dma_mem.specs.Marking.{MarkList}
-use Rattle.dma_mem.specs.Regions.{image_of, names_of, pieces_of, read_only_of}
+use Rattle.dma_mem.specs.Regions.{image_of, pieces_of}
 use Rattle.dma_mem.specs.Steps.{taken_in}
 use Rattle.dma_mem.specs.declared.regions.Region.{Region}
 use Rattle.dma_mem.specs.declared.segment.Segment.{Segment}
-use Rattle.dma_chan.specs.LentRegions.{segment_of, with_gaps_of}
+use Rattle.dma_chan.specs.LentRegions.{AreKept, with_gaps_of}
 use Rattle.dma_chan.specs.Stepping.{Machine, after_steps, last_of, machine, more_after, signal_after, written_after}
 use Rattle.dma_chan.specs.Written.{adjoins, joined, range_at, store_ahead}
 use Rattle.dma_chan.specs.declared.turn.ChanTurn.{ChanTurn}
@@ -179,12 +179,6 @@ setup_of d regions = record { device = d; image = image_of (pieces_of regions) }
 -- a device with what regions lend, and what a call did
 abbrev pub outcome_of : DeviceValue → List Region → Called → Outcome
 outcome_of d regions called = record { left = setup_of d regions; called = called }
-
--- Regions keep their places and names, and the same of them are read-only.
-pub record AreKept (left regions : List Region) : Type 0 where
-  pub places : map segment_of left ≡ map segment_of regions
-  pub read_only : read_only_of left ≡ read_only_of regions
-  pub names : names_of left ≡ names_of regions
 
 -- A turn over regions is `turned`. A burst fails at the gaps between the regions, a store also in a read-only region,
 -- and nowhere else.

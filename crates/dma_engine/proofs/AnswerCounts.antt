@@ -1,15 +1,15 @@
 -- What each answer adds to the ticks, to the step count and to the number of finished cookies.
-use Rattle.std.proofs.Common.{◌≡◌, ℕ, ◌+◌, ◌<◌, List, [], ◌∷◌, ◌++◌, length, map, drop, Option, Some, None, true, false, refl, ap, sym, ◌∙◌, subst, arith, append-nil, inl, inr}
+use Rattle.std.proofs.Common.{◌≡◌, ℕ, ◌+◌, ◌<◌, List, [], ◌∷◌, ◌++◌, length, map, Option, Some, None, true, false, refl, ap, sym, ◌∙◌, subst, arith, append-nil, inl, inr}
 use Rattle.std.specs.Prelude.{slice_set, Result, Ok, sum}
-use Rattle.std.proofs.lemmas.List.{map-set, set-get_or, length-append, length_push, length-drop}
+use Rattle.std.proofs.lemmas.List.{map-set, set-get_or, length_push}
 use Rattle.std.proofs.lemmas.List.Sums.{sum_by-set, sum-map}
 use Rattle.std.proofs.Math.ListN.{get_or-map}
 use Rattle.dma_mem.specs.Places.{Descriptor}
 use Rattle.dma_chan.specs.Traffic.{stored_after}
 use Rattle.dma_mem.specs.declared.call.Call.{Call}
-use Rattle.dma_mem.specs.declared.call.Call.TheVariants.{Write, Read, Submit, Issue, Pause, Resume, Terminate, Status, Result as ResultOf, Mark, Unmark, Raise}
+use Rattle.dma_mem.specs.declared.call.Call.TheVariants.{Write, Read, Issue, Pause, Resume, Status, Result as ResultOf, Mark, Unmark, Raise}
 use Rattle.dma_engine.specs.declared.call.Reply.{Reply}
-use Rattle.dma_engine.specs.declared.call.Reply.TheVariants.{Done, Cookie, Count}
+use Rattle.dma_engine.specs.declared.call.Reply.TheVariants.{Done}
 use Rattle.dma_engine.specs.declared.entry.Entry.{Entry}
 use Rattle.dma_engine.specs.declared.entry.Entry.TheVariants.{Wrote, ReadBack, Submitted as SubmittedEntry, Issued, Passed, Signalled, Finished as FinishedEntry, Terminated, Marked, Unmarked}
 use Rattle.dma_engine.specs.declared.entry.Signaller.TheVariants.{Channel, Host}
@@ -17,13 +17,12 @@ use Rattle.dma_engine.specs.declared.fault.EngineFault.{EngineFault}
 use Rattle.dma_engine.specs.declared.outcome.TransResult.{TransResult}
 use Rattle.dma_engine.specs.declared.turn.Turn.{Turn}
 use Rattle.dma_engine.specs.declared.turn.Turn.TheVariants.{Moved, Finished as FinishedTurn}
-use Rattle.dma_engine.specs.Object.{Object, ChannelState, after, channel, empty_channel, with_channel, with_flag, with_front_laid, with_outcome, with_all_aborted, finished, finished_all, unfinished, used, front_of, outcome_of, aborted}
+use Rattle.dma_engine.specs.Object.{Object, ChannelState, after, channel, empty_channel, with_channel, with_flag, with_front_laid, with_outcome, finished, finished_all, front_of, outcome_of}
 use Rattle.dma_engine.specs.Ticks.{Submitted, Finished, ticks_of}
 use Rattle.dma_engine.specs.View.{View, object_of, channels}
 use Rattle.dma_engine.specs.Turn.{Stepped, turn, ends, next_moved, finishes, with_entry}
-use Rattle.dma_engine.specs.Answer.{CallAnswers, answer, unless, write_fault, read_fault, submit_fault, channel_fault, mark_fault, raise_fault, with_pause, terminated, done_on}
+use Rattle.dma_engine.specs.Answer.{CallAnswers, answer, unless, write_fault, read_fault, channel_fault, mark_fault, raise_fault, with_pause}
 use Rattle.dma_engine.specs.Laws.{Adds, SameCounts, IsQuiet, QuietCallsKeepCounts, StepsAdd, EndsByTurn, ticks_in, steps_in, finishes_in}
-use Rattle.dma_engine.proofs.Boards.{length_aborted}
 use Rattle.dma_engine.proofs.Histories.{object_after_append}
 use Rattle.dma_engine.proofs.Turns.{answer_is, step_is_law, turn_cases}
 
@@ -38,10 +37,10 @@ ticks_append (e ∷ xs) ys = ticks_append xs ys
 
 -- ---- the number of finished cookies
 
-finished_with : (o : Object) (ch : ℕ) (c : ChannelState) → ch < length o.channels → finished_all (with_channel o ch c) + finished (channel o ch) ≡ finished_all o + finished c
+pub finished_with : (o : Object) (ch : ℕ) (c : ChannelState) → ch < length o.channels → finished_all (with_channel o ch c) + finished (channel o ch) ≡ finished_all o + finished c
 finished_with o ch c less = sum_by-set finished o.channels ch c empty_channel less
 
-finished_same : (o : Object) (ch : ℕ) (c : ChannelState) → finished c ≡ finished (channel o ch) → finished_all (with_channel o ch c) ≡ finished_all o
+pub finished_same : (o : Object) (ch : ℕ) (c : ChannelState) → finished c ≡ finished (channel o ch) → finished_all (with_channel o ch c) ≡ finished_all o
 finished_same o ch c e =
     sym (sum-map finished (slice_set o.channels ch c))
     ∙ ap sum (map-set finished o.channels ch c ∙ ap (slice_set (map finished o.channels) ch) (e ∙ sym (get_or-map finished o.channels ch empty_channel)) ∙ set-get_or (map finished o.channels) ch 0)
@@ -183,37 +182,3 @@ ends_as_reported v w ch r h = elim (step_is_law v w ch r h) [
   | inl none ↦ inl none.0
   | inr is ↦ inr (ap (λ (s : Stepped). ends s.0) (sym is))
 ]
-
--- ---- a submit and a terminate
-
--- if nothing refuses it, a submit that returns a cookie is one more tick
-pub submitted : (v w : View) (ch k : ℕ) (t : Descriptor) → submit_fault v ch t ≡ None → CallAnswers v (Submit ch t) (Cookie k) w → (ticks_of w.history ≡ ticks_of v.history ++ Submitted ch ∷ []) × (w.steps ≡ v.steps) × (finished_all (object_of w) ≡ finished_all (object_of v))
-submitted v w ch k t none h =
-    let e = SubmittedEntry ch t (used (channel (object_of v) ch) + 1) in
-    let given : answer v (Submit ch t) ≡ (Cookie (used (channel (object_of v) ch) + 1), with_entry v e) = rw none refl in
-    let is : w ≡ with_entry v e = ap (λ (x : Reply × View). x.1) (h ∙ given) in
-    let one : finished_all (object_of (with_entry v e)) ≡ finished_all (object_of v) = ap finished_all (object_one v e) ∙ finished_same (object_of v) ch _ refl in (
-      ap (λ (u : View). ticks_of u.history) is ∙ ticks_append v.history (e ∷ []),
-      ap (λ (u : View). u.steps) is,
-      ap (λ (u : View). finished_all (object_of u)) is ∙ one,
-    )
-
--- if the channel exists, a terminate that returns a count is one more tick
-pub closed : (v w : View) (ch n : ℕ) → channel_fault v ch ≡ None → ch < channels v → CallAnswers v (Terminate ch) (Count n) w → (n ≡ unfinished (channel (object_of v) ch)) × (ticks_of w.history ≡ ticks_of v.history ++ Finished ch n ∷ []) × (w.steps ≡ v.steps) × (finished_all (object_of w) ≡ finished_all (object_of v) + n)
-closed v w ch n none less h =
-    let o = object_of v in
-    let c = channel o ch in
-    let m = unfinished c in
-    let done = done_on v ch in
-    let e = Terminated ch done m in
-    let given : answer v (Terminate ch) ≡ (Count m, terminated v ch) = rw none refl in
-    let number : n ≡ m = let both : Count n ≡ Count m = ap (λ (x : Reply × View). x.0) (h ∙ given) in cc in
-    let is : w ≡ terminated v ch = ap (λ (x : Reply × View). x.1) (h ∙ given) in
-    let set = finished_with (with_front_laid o ch done) ch (with_all_aborted c done) less in
-    let more : finished (with_all_aborted c done) ≡ finished c + m = omega (arith, length-append c.outcomes (aborted done (drop (length c.outcomes) c.submitted)), length_aborted done (drop (length c.outcomes) c.submitted), length-drop (length c.outcomes) c.submitted) in
-    let all : finished_all (after o e) ≡ finished_all o + m = omega (arith, set, more) in (
-      number,
-      ap (λ (u : View). ticks_of u.history) is ∙ ticks_append v.history (e ∷ []) ∙ ap (λ k. ticks_of v.history ++ Finished ch k ∷ []) (sym number),
-      ap (λ (u : View). u.steps) is,
-      omega (arith, ap (λ (u : View). finished_all (object_of u)) is, ap finished_all (object_one v e), all, number),
-    )

@@ -1,6 +1,6 @@
 -- The counts of cookies: what bounds them, and that the ticks of a history add up to them.
-use Rattle.std.proofs.Common.{◌≡◌, ℕ, ◌+◌, ◌<◌, ◌≤◌, List, [], ◌∷◌, ◌++◌, length, drop, true, false, refl, ap, sym, ◌∙◌, arith, inl, inr, ◌⊎◌, suc}
-use Rattle.std.specs.Prelude.{slice_index_or, slice_set}
+use Rattle.std.proofs.Common.{◌≡◌, ℕ, ◌+◌, ◌≤◌, List, [], ◌∷◌, ◌++◌, length, drop, true, false, refl, ap, sym, ◌∙◌, arith, inl, inr, ◌⊎◌, suc}
+use Rattle.std.specs.Prelude.{slice_set}
 use Rattle.std.proofs.lemmas.Bool.{cases_eq, cases_lt}
 use Rattle.std.proofs.lemmas.List.{map-set, length-set, length-map, length-drop, length-append, length_push, get_or-set_same, get_or-set_other, get_or_past, set-get_or}
 use Rattle.std.proofs.Math.ListN.{get_or-map}
@@ -17,7 +17,7 @@ use Rattle.dma_engine.specs.declared.queue.Queue.{Queue}
 use Rattle.dma_engine.specs.Answer.{status_in}
 use Rattle.dma_engine.specs.View.{View, object_of}
 use Rattle.dma_engine.specs.inner.Holds.{Holds, Parts, view_of}
-use Rattle.dma_engine.proofs.Queues.{front_where, holds_at}
+use Rattle.dma_engine.proofs.Queues.{HoldsAt, front_where}
 
 -- ---- what bounds the counts
 
@@ -161,11 +161,9 @@ board_is o (e ∷ es) h a =
 -- ---- the readings
 
 -- what bounds a queue
-pub queue_small : (p : Parts) → Holds p → (ch : ℕ) (q : Queue) → ch < length p.queues → q ≡ slice_index_or p.queues ch q → (q.given ≤ last_cookie) × (q.forgotten + length q.outcomes.items ≤ q.given)
-queue_small p h ch q less read =
-    let v : View = view_of p in
-    let at = holds_at p h ch q less read in
-    let c = counted_object v.base p.history (counted_base p.base h.sound.opens) h.sound.legal ch in
+pub queue_small : {p : Parts} {ch : ℕ} {q : Queue} → HoldsAt p ch q → (q.given ≤ last_cookie) × (q.forgotten + length q.outcomes.items ≤ q.given)
+queue_small {p} {ch} at =
+    let c = counted_object p.base p.history (counted_base p.base at.holds.sound.opens) at.holds.sound.legal ch in
     (omega (arith, at.tied.given, c.give), omega (arith, at.tied.given, at.tied.forgotten, ap length at.tied.outcomes, c.finish))
 
 -- how far a cookie is, by the board that the ticks of the history add up to

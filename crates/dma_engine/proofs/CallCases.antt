@@ -1,11 +1,11 @@
 -- From the checks of a call to its answer.
-use Rattle.std.proofs.Common.{◌≡◌, ℕ, ◌+◌, ◌-◌, ◌<◌, ◌≤◌, List, [], ◌∷◌, ◌++◌, length, take, drop, Option, Some, None, Bool, true, false, refl, ap, sym, ◌∙◌, subst, arith, ◌||◌, not}
+use Rattle.std.proofs.Common.{◌≡◌, ℕ, ◌+◌, ◌-◌, ◌<◌, ◌≤◌, List, [], ◌∷◌, ◌++◌, length, take, drop, Option, Some, None, Bool, true, false, refl, ap, sym, ◌∙◌, arith, ◌||◌, not, length-take}
 use Rattle.std.specs.Prelude.{IsErrAnd, Result, nat_lt, nat_le, Ok, Err, if◌then◌else◌}
-use Rattle.std.proofs.lemmas.Bool.{lt-ltb, le-ltb, le-leb, lt-leb, leb-false, or_right, not-false}
-use Rattle.std.proofs.lemmas.List.{length_push}
+use Rattle.std.proofs.lemmas.Bool.{lt-ltb, le-ltb, le-leb, lt-leb, leb-false, or_right, not-false, ltb-false}
+use Rattle.std.proofs.lemmas.List.{length_push, length-drop}
 use Rattle.std.proofs.lemmas.Option.{some_pair_parts}
 use Rattle.std.specs.Option.{option_map}
-use Rattle.dma_mem.specs.Places.{Descriptor, lies_below}
+use Rattle.dma_mem.specs.Places.{Descriptor, lies_below, writes}
 use Rattle.dma_mem.specs.declared.call.Call.{Call}
 use Rattle.dma_mem.specs.declared.call.Call.TheVariants.{Write, Read, Submit, Issue, Pause, Resume, Terminate, Checkpoint}
 use Rattle.dma_engine.specs.declared.call.Reply.{Reply}
@@ -14,14 +14,15 @@ use Rattle.dma_engine.specs.declared.entry.Entry.{Entry}
 use Rattle.dma_engine.specs.declared.entry.Entry.TheVariants.{Wrote, ReadBack, Submitted, Issued}
 use Rattle.dma_engine.specs.declared.fault.EngineFault.{EngineFault}
 use Rattle.dma_engine.specs.declared.fault.EngineFault.TheVariants.{OutOfMemoryRange, Busy, Running, NoChannel, CookiesSpent, NoMemory}
-use Rattle.dma_engine.specs.declared.access.Access.TheVariants.{Write as WriteWay, Read as ReadWay}
-use Rattle.dma_engine.specs.Object.{channel, used, unfinished, last_cookie}
+use Rattle.dma_engine.specs.Object.{channel, used, unfinished, last_cookie, Allows}
 use Rattle.dma_engine.specs.View.{View, RunningTransfer, object_of, size, channels}
 use Rattle.dma_engine.specs.Turn.{with_entry}
-use Rattle.dma_engine.specs.Answer.{CallAnswers, answer, reply_of, takes_memory, stores_base, checkpointed, write_fault, read_fault, channel_fault, submit_fault, cause, checked, busy, first_running, with_pause, is_started, terminated}
-use Rattle.dma_engine.specs.inner.Accesses.{named, conflicts}
+use Rattle.dma_engine.specs.Answer.{CallAnswers, answer, reply_of, takes_memory, stores_base, checkpointed, write_fault, read_fault, range_fault, channel_fault, submit_fault, cause, checked, busy, first_running, with_pause, is_started, terminated}
+use Rattle.dma_engine.specs.inner.Accesses.{named}
+use Rattle.dma_engine.proofs.JoinedCalls.{answers_so}
+use Rattle.dma_mem.specs.declared.segment.Segment.{Segment}
 
--- ---- a call that adds an entry takes memory
+-- ---- out of memory
 
 pub starved : (v : View) (call : Call) (reply : Reply) (w : View) (e : Entry) → answer v call ≡ (reply, w) → w.history ≡ v.history ++ e ∷ [] → CallAnswers v call (Refused NoMemory) v
 starved v call reply w e is more =
@@ -30,14 +31,14 @@ starved v call reply w e is more =
     let takes : takes_memory v call ≡ true = ap (λ b. stores_base v call || b) grown ∙ or_right (stores_base v call) true refl in
     (takes, refl)
 
--- a result that is an error, which is this fault
+-- The result is an error with this fault, so the call is refused with it.
 pub refusal : {T : Type 0} (reply : T → Reply) (v w : View) (call : Call) (fault : EngineFault) (r : Result T EngineFault) → IsErrAnd r (λ e. e ≡ fault) → CallAnswers v call (Refused fault) w → CallAnswers v call (reply_of reply r) w
 refusal reply v w call fault (Ok x) h a = absurd h
 refusal reply v w call fault (Err e) h a = rw h a
 
 -- ---- a running transfer that conflicts
 
--- what holds of each running transfer and its name holds of the one that is named
+-- What holds for each running transfer with its channel and cookie holds for the one that these name.
 pub named_by : (x : Option RunningTransfer) (ch cookie : ℕ) (P : Option RunningTransfer → ℕ → ℕ → Type 0) → ((r : RunningTransfer) → P (Some r) r.ch r.cookie) → Some (ch, cookie) ≡ named x → P x ch cookie
 named_by None ch cookie P each h = absurd cc
 named_by (Some r) ch cookie P each h = let same = some_pair_parts ch r.ch cookie r.cookie h in rw (same.0, same.1) (each r)
@@ -46,28 +47,39 @@ pub named_none : (x : Option RunningTransfer) → None ≡ named x → x ≡ Non
 named_none None h = refl
 named_none (Some r) h = absurd cc
 
-busy_known : (x : Option RunningTransfer) (ch cookie : ℕ) → Some (ch, cookie) ≡ named x → busy x ≡ Some (Busy ch cookie)
-busy_known x ch cookie h = named_by x ch cookie (λ y c k. busy y ≡ Some (Busy c k)) (λ r. refl) h
+-- ---- the range of a write or a read
 
-busy_none : (x : Option RunningTransfer) → None ≡ named x → busy x ≡ None
-busy_none x h = ap busy (named_none x h)
+-- It ends above the memory.
+pub range_out : (v : View) (addr n : ℕ) (test : Segment → Descriptor → Bool) → size v < addr + n → range_fault v addr n test ≡ Some OutOfMemoryRange
+range_out v addr n test h = let e : nat_lt (size v) (addr + n) ≡ true = lt-ltb _ _ h in rw e refl
+
+-- It lies in the memory, and a running transfer conflicts with it.
+pub range_busy : (v : View) (addr n : ℕ) (test : Segment → Descriptor → Bool) (ch cookie : ℕ) → addr + n ≤ size v → Some (ch, cookie) ≡ named (first_running v (test (record { addr = addr; len = n }))) → range_fault v addr n test ≡ Some (Busy ch cookie)
+range_busy v addr n test ch cookie within h =
+    let e : nat_lt (size v) (addr + n) ≡ false = le-ltb _ _ within in
+    rw e (named_by (first_running v (test (record { addr = addr; len = n }))) ch cookie (λ y c k. busy y ≡ Some (Busy c k)) (λ r. refl) h)
+
+-- It lies in the memory, and no running transfer conflicts with it.
+pub range_free : (v : View) (addr n : ℕ) (test : Segment → Descriptor → Bool) → addr + n ≤ size v → None ≡ named (first_running v (test (record { addr = addr; len = n }))) → range_fault v addr n test ≡ None
+range_free v addr n test within h =
+    let e : nat_lt (size v) (addr + n) ≡ false = le-ltb _ _ within in
+    rw e (ap busy (named_none (first_running v (test (record { addr = addr; len = n }))) h))
+
+pub cause_none : (b : Bool) (fault : EngineFault) (others : Option EngineFault) → cause b fault others ≡ None → (b ≡ false) × (others ≡ None)
+cause_none true fault others h = absurd cc
+cause_none false fault others h = (refl, h)
+
+none_busy : (x : Option RunningTransfer) → busy x ≡ None → x ≡ None
+none_busy None h = refl
+none_busy (Some r) h = absurd cc
+
+-- If nothing refuses it, both hold.
+pub range_open : (v : View) (addr n : ℕ) (test : Segment → Descriptor → Bool) → range_fault v addr n test ≡ None → (addr + n ≤ size v) × (first_running v (test (record { addr = addr; len = n })) ≡ None)
+range_open v addr n test h =
+    let parts = cause_none (nat_lt (size v) (addr + n)) OutOfMemoryRange _ h in
+    (ltb-false (size v) (addr + n) parts.0, none_busy _ parts.1)
 
 -- ---- write
-
-pub write_out : (v : View) (addr : ℕ) (bytes : List ℕ) → size v < addr + length bytes → CallAnswers v (Write addr bytes) (Refused OutOfMemoryRange) v
-write_out v addr bytes h = let e : nat_lt (size v) (addr + length bytes) ≡ true = lt-ltb _ _ h in rw e refl
-
-pub write_busy : (v : View) (addr : ℕ) (bytes : List ℕ) (ch cookie : ℕ) → addr + length bytes ≤ size v → Some (ch, cookie) ≡ named (first_running v (conflicts (WriteWay (record { addr = addr; len = length bytes })))) → CallAnswers v (Write addr bytes) (Refused (Busy ch cookie)) v
-write_busy v addr bytes ch cookie within h =
-    let e : nat_lt (size v) (addr + length bytes) ≡ false = le-ltb _ _ within in
-    let f = busy_known (first_running v (conflicts (WriteWay (record { addr = addr; len = length bytes })))) ch cookie h in
-    rw (e, f) refl
-
-pub write_free : (v : View) (addr n : ℕ) → addr + n ≤ size v → None ≡ named (first_running v (conflicts (WriteWay (record { addr = addr; len = n })))) → write_fault v addr n ≡ None
-write_free v addr n within h =
-    let e : nat_lt (size v) (addr + n) ≡ false = le-ltb _ _ within in
-    let f = busy_none (first_running v (conflicts (WriteWay (record { addr = addr; len = n })))) h in
-    rw (e, f) refl
 
 pub write_answer : (v : View) (addr : ℕ) (bytes : List ℕ) → write_fault v addr (length bytes) ≡ None → answer v (Write addr bytes) ≡ (Done, with_entry v (Wrote addr bytes))
 write_answer v addr bytes free = rw free refl
@@ -79,21 +91,6 @@ pub write_done : (v w : View) (addr : ℕ) (bytes : List ℕ) → write_fault v 
 write_done v w addr bytes free is = ap (λ x. (Done, x)) is ∙ sym (write_answer v addr bytes free)
 
 -- ---- read
-
-pub read_out : (v : View) (addr n : ℕ) → size v < addr + n → CallAnswers v (Read addr n) (Refused OutOfMemoryRange) v
-read_out v addr n h = let e : nat_lt (size v) (addr + n) ≡ true = lt-ltb _ _ h in rw e refl
-
-pub read_busy : (v : View) (addr n ch cookie : ℕ) → addr + n ≤ size v → Some (ch, cookie) ≡ named (first_running v (conflicts (ReadWay (record { addr = addr; len = n })))) → CallAnswers v (Read addr n) (Refused (Busy ch cookie)) v
-read_busy v addr n ch cookie within h =
-    let e : nat_lt (size v) (addr + n) ≡ false = le-ltb _ _ within in
-    let f = busy_known (first_running v (conflicts (ReadWay (record { addr = addr; len = n })))) ch cookie h in
-    rw (e, f) refl
-
-pub read_free : (v : View) (addr n : ℕ) → addr + n ≤ size v → None ≡ named (first_running v (conflicts (ReadWay (record { addr = addr; len = n })))) → read_fault v addr n ≡ None
-read_free v addr n within h =
-    let e : nat_lt (size v) (addr + n) ≡ false = le-ltb _ _ within in
-    let f = busy_none (first_running v (conflicts (ReadWay (record { addr = addr; len = n })))) h in
-    rw (e, f) refl
 
 pub read_answer : (v : View) (addr n : ℕ) → read_fault v addr n ≡ None → let bytes = take n (drop addr (object_of v).image) in answer v (Read addr n) ≡ (Bytes bytes, with_entry v (ReadBack addr bytes))
 read_answer v addr n free = rw free refl
@@ -107,6 +104,14 @@ pub read_done : (v w : View) (addr n : ℕ) (bytes : List ℕ) → read_fault v 
 read_done v w addr n bytes free read is =
     ap (λ x. (Bytes bytes, x)) is ∙ ap (λ b. (Bytes b, with_entry v (ReadBack addr b))) read ∙ sym (read_answer v addr n free)
 
+-- The history may have the entry of a read that nothing refuses.
+pub read_entry : (v : View) (addr n : ℕ) (bytes : List ℕ) → read_fault v addr n ≡ None → bytes ≡ take n (drop addr (object_of v).image) → Allows (object_of v) (ReadBack addr bytes)
+read_entry v addr n bytes free is =
+    let image = (object_of v).image in
+    let may = range_open v addr n (λ s t. writes t s) free in
+    let long : length bytes ≡ n = ap length is ∙ omega (arith, may.0, length-take n (drop addr image), length-drop addr image) in
+    (omega (arith, long, may.0), is ∙ ap (λ k. take k (drop addr image)) (sym long))
+
 -- ---- channels
 
 pub channel_gone : (v : View) (ch : ℕ) → channels v ≤ ch → channel_fault v ch ≡ Some NoChannel
@@ -114,10 +119,6 @@ channel_gone v ch h = let e : nat_le (channels v) ch ≡ true = le-leb _ _ h in 
 
 pub channel_there : (v : View) (ch : ℕ) → ch < channels v → channel_fault v ch ≡ None
 channel_there v ch h = let e : nat_le (channels v) ch ≡ false = lt-leb _ _ h in rw e refl
-
-pub cause_none : (b : Bool) (fault : EngineFault) (others : Option EngineFault) → cause b fault others ≡ None → (b ≡ false) × (others ≡ None)
-cause_none true fault others h = absurd cc
-cause_none false fault others h = (refl, h)
 
 pub channel_open : (v : View) (ch : ℕ) → channel_fault v ch ≡ None → ch < channels v
 channel_open v ch none = leb-false _ _ (cause_none (nat_le (channels v) ch) NoChannel None none).0
@@ -149,7 +150,7 @@ submit_done v w ch cookie t none number is =
     let given : answer v (Submit ch t) ≡ (Cookie (used (channel (object_of v) ch) + 1), with_entry v (Submitted ch t (used (channel (object_of v) ch) + 1))) = rw none refl in
     ap (λ x. (Cookie cookie, x)) is ∙ ap (λ k. (Cookie k, with_entry v (Submitted ch t k))) number ∙ sym given
 
--- what holds if nothing refuses a submit
+-- If nothing refuses a submit, its channel exists, the transfer lies in the memory, and a cookie is left.
 pub submit_open : (v : View) (ch : ℕ) (t : Descriptor) → submit_fault v ch t ≡ None → (ch < channels v) × (lies_below t (size v) ≡ true) × (used (channel (object_of v) ch) < last_cookie)
 submit_open v ch t none =
     let first = cause_none (nat_le (channels v) ch) NoChannel _ none in
@@ -182,27 +183,8 @@ checked_some : (x : Option EngineFault) (n : ℕ) (fault : EngineFault) → Err 
 checked_some None n fault h = absurd cc
 checked_some (Some f) n fault h = let e : f ≡ fault = cc in ap (λ y. Some y) e
 
--- a fault that a check names is not `NoMemory`
-abbrev IsNamed : EngineFault → Type 0
-IsNamed NoMemory = ⊥
-IsNamed f = Unit {0}
-
-named_cause : (b : Bool) (f : EngineFault) (others : Option EngineFault) (fault : EngineFault) → IsNamed f → (others ≡ Some fault → IsNamed fault) → cause b f others ≡ Some fault → IsNamed fault
-named_cause true f others fault n rest h = let e : f ≡ fault = cc in subst IsNamed e n
-named_cause false f others fault n rest h = rest h
-
-refused_as : (v : View) (call : Call) (fault : EngineFault) → IsNamed fault → answer v call ≡ (Refused fault, v) → CallAnswers v call (Refused fault) v
-refused_as v call NoMemory n is = absurd n
-refused_as v call fault n is = sym is
-
 pub submit_checked : (v : View) (ch n : ℕ) (t : Descriptor) (fault : EngineFault) → Err fault ≡ checked (submit_fault v ch t) n → CallAnswers v (Submit ch t) (Refused fault) v
-submit_checked v ch n t fault h =
-    let is = checked_some (submit_fault v ch t) n fault h in
-    let no_more : None ≡ Some fault → IsNamed fault = λ e. absurd cc in
-    let third = named_cause (nat_le last_cookie (used (channel (object_of v) ch))) CookiesSpent None fault tt no_more in
-    let second = named_cause (not (lies_below t (size v))) OutOfMemoryRange _ fault tt third in
-    let first = named_cause (nat_le (channels v) ch) NoChannel _ fault tt second in
-    refused_as v (Submit ch t) fault (first is) (rw is refl)
+submit_checked v ch n t fault h = let is = checked_some (submit_fault v ch t) n fault h in answers_so v v (Submit ch t) (Refused fault) (rw is refl)
 
 pub checked_cookie : (x : Option EngineFault) (n k : ℕ) → Ok k ≡ checked x n → k ≡ n
 checked_cookie None n k h = cc

@@ -1,7 +1,6 @@
 -- Calls one after another.
 use Rattle.std.proofs.Common.{inl, inr, ◌≡◌, ℕ, ◌+◌, ◌-◌, List, [], ◌∷◌, ◌++◌, length, take, drop, Option, Some, None, true, false, refl, ap, sym, ◌∙◌, subst, append-nil, append_assoc}
 use Rattle.std.proofs.lemmas.Bool.{or_parts, true≢false}
-use Rattle.dma_engine.proofs.AnswerCounts.{answered}
 use Rattle.dma_chan.specs.Traffic.{stored_after}
 use Rattle.dma_mem.specs.declared.call.Call.{Call}
 use Rattle.dma_mem.specs.declared.call.Call.TheVariants.{Write, Read, Submit, Issue, Pause, Resume, Terminate, Step, Mark, Unmark, Raise, Checkpoint}
@@ -16,6 +15,7 @@ use Rattle.dma_engine.specs.View.{View, object_of}
 use Rattle.dma_engine.specs.Turn.{turn, with_entry}
 use Rattle.dma_engine.specs.Laws.{IsQuiet}
 use Rattle.dma_engine.specs.Answer.{CallAnswers, AreAnswers, Extends, answer, unless, write_fault, read_fault, submit_fault, channel_fault, mark_fault, raise_fault, with_pause, terminated, done_on, checkpoint_fault, checkpointed, is_checkpoint, has_checkpoint}
+use Rattle.dma_engine.proofs.AnswerCounts.{answered}
 use Rattle.dma_engine.proofs.Turns.{answer_is, turn_cases}
 
 -- ---- the chain of answers

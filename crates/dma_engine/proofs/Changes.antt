@@ -3,7 +3,7 @@ use Rattle.std.proofs.Common.{◌≡◌, ◌≢◌, ℕ, ◌<◌, ◌/◌, false
 use Rattle.std.specs.Prelude.{slice_get, slice_index, slice_index_or, slice_set, is_some, IfSome, IsSomeAnd}
 use Rattle.std.specs.List.{Contains}
 use Rattle.std.proofs.lemmas.Bool.{cases_eq}
-use Rattle.std.proofs.lemmas.List.{map-set, set-get_or, length-set, get_or-map, get_or-set_same, get_or-set_other}
+use Rattle.std.proofs.lemmas.List.{map-set, set-get_or, length-set, get_or-set_same, get_or-set_other}
 use Rattle.std.specs.Option.{option_map}
 use Rattle.dma_mem.specs.Places.{Descriptor, is_free_of, sources, destinations}
 use Rattle.dma_mem.specs.Meeting.{IsFree}
@@ -16,15 +16,16 @@ use Rattle.dma_chan.specs.Programs.{ProgramValue}
 use Rattle.dma_chan.proofs.LayerLaws.{survives}
 use Rattle.dma_engine.specs.declared.entry.Entry.{Entry}
 use Rattle.dma_engine.specs.declared.queue.Queue.{Queue}
-use Rattle.dma_engine.specs.Object.{Object, ChannelState, channel, empty_channel, after, Allows, front}
-use Rattle.dma_engine.specs.History.{object_after, IsLegal}
+use Rattle.dma_engine.specs.Object.{Object, ChannelState, channel, empty_channel, after, front}
+use Rattle.dma_engine.specs.History.{object_after}
+use Rattle.dma_engine.specs.Turn.{with_entry}
 use Rattle.dma_engine.specs.View.{View, ChannelSchedule, RunningTransfer, Fits, Agrees, AreFree, IsSound, running_in, runs, idle, object_of, memory_of, memory_shown}
 use Rattle.dma_engine.specs.inner.Ranges.{AreOfRunning}
-use Rattle.dma_engine.specs.inner.Holds.{Holds, IsPrepared, IsQueue, IsRun, Parts, view_of, schedule_of, taken_of}
-use Rattle.dma_engine.proofs.Histories.{object_after_append, IsLegal_append}
-use Rattle.dma_engine.proofs.Queues.{slice_get_push, many_queues}
+use Rattle.dma_engine.specs.inner.Holds.{HasSubmitted, Holds, IsPrepared, IsQueue, IsRun, Parts, view_of, schedule_of, taken_of}
+use Rattle.dma_engine.proofs.Histories.{object_after_append}
+use Rattle.dma_engine.proofs.Queues.{HoldsAt, slice_get_push}
 
--- ---- free in both directions
+-- ---- transfers that are free of each other
 
 pub free_true : (t u : Descriptor) → IsFree t u → is_free_of t u ≡ true
 free_true t u h =
@@ -40,9 +41,9 @@ AreFree_sym (Some r) None h = tt
 AreFree_sym (Some r) (Some s) h =
     free_true s.transfer r.transfer (IsFree_sym r.transfer s.transfer (is_free_of_true r.transfer s.transfer h))
 
--- ---- what a machine keeps
+-- ---- what a machine runs, and a queue, when something else changes
 
--- a machine is where another front and memory have it, if it is at each front that it may have
+-- A machine runs the front of another state, over another memory, if it does so for each front that it may run now.
 pub run_moved : (memory other : List ℕ) (m : ChannelValue) (c d : ChannelState) → ((t : Descriptor) → is_some m.program ≡ true → front c ≡ Some t → IsAt t m.taken memory m → IsSomeAnd (front d) (λ u. IsAt u m.taken other m)) → IsRun memory m c → IsRun other m d
 run_moved memory other m c d moved h = by m.program (front c) refl refl h where
   by : (o : Option ProgramValue) (f : Option Descriptor) → m.program ≡ o → front c ≡ f → IfSome o (λ _. IsSomeAnd f (λ t. IsAt t m.taken memory m)) → IfSome o (λ _. IsSomeAnd (front d) (λ u. IsAt u m.taken other m))
@@ -50,34 +51,29 @@ run_moved memory other m c d moved h = by m.program (front c) refl refl h where
   by (Some p) None loaded is g = absurd g
   by (Some p) (Some t) loaded is g = moved t (ap is_some loaded) is g
 
--- a machine stays where it is over a memory that has the same at its front's sources
+-- It runs on over another memory if this one has the same bytes at the sources of the front.
 pub run_kept : (memory other : List ℕ) (m : ChannelValue) (c : ChannelState) → ((t : Descriptor) → is_some m.program ≡ true → front c ≡ Some t → (a : ℕ) → Contains (sources t) a → slice_index other a ≡ slice_index memory a) → IsRun memory m c → IsRun other m c
 run_kept memory other m c same = run_moved memory other m c c (λ t loaded is at. rw is (survives t m.taken memory other m at (same t loaded is)))
 
--- a machine without a program runs nothing
+-- A machine without a program runs nothing.
 pub run_none : (memory : List ℕ) (m : ChannelValue) (c : ChannelState) → taken_of m ≡ None → IsRun memory m c
 run_none memory m c none = by m.program none where
   by : (o : Option ProgramValue) → option_map (λ _. m.taken) o ≡ None → IfSome o (λ _. IsSomeAnd (front c) (λ t. IsAt t m.taken memory m))
   by None e = tt
   by (Some p) e = absurd cc
 
--- a queue stays as it is when the history grows
-pub queue_kept : (ch : ℕ) (kept : List Descriptor) (history longer : List Entry) (memory other : List ℕ) (q : Queue) (c : ChannelState) → ((k : ℕ) (e : Entry) → slice_get history k ≡ Some e → slice_get longer k ≡ Some e) → IsRun other q.channel c → IsQueue ch kept history memory q c → IsQueue ch kept longer other q c
-queue_kept ch kept history longer memory other q c grows machine h = record {
-  forgotten = h.forgotten;
-  given = h.given;
-  many = h.many;
-  first = h.first;
-  indexed = λ k less. let s = h.indexed k less in (s.0, grows _ _ s.1);
-  outcomes = h.outcomes;
-  issued = h.issued;
-  halted = h.halted;
-  machine = machine;
-}
+-- A queue still matches its channel when entries are added to the history: for its cookies, and for all of it.
+pub submitted_kept : {ch : ℕ} {kept : List Descriptor} {history : List Entry} {lost number : ℕ} {indices : List ℕ} {before : ℕ} {submitted : List Descriptor} (longer : List Entry) → ((k : ℕ) (e : Entry) → slice_get history k ≡ Some e → slice_get longer k ≡ Some e) → HasSubmitted ch kept history lost number indices before submitted → HasSubmitted ch kept longer lost number indices before submitted
+submitted_kept longer grows h =
+    record { forgotten = h.forgotten; given = h.given; many = h.many; first = h.first; indexed = λ k less. let s = h.indexed k less in (s.0, grows _ _ s.1) }
+
+pub queue_kept : {ch : ℕ} {kept : List Descriptor} {history : List Entry} {memory : List ℕ} {q : Queue} {c : ChannelState} (longer : List Entry) (other : List ℕ) → ((k : ℕ) (e : Entry) → slice_get history k ≡ Some e → slice_get longer k ≡ Some e) → IsRun other q.channel c → IsQueue ch kept history memory q c → IsQueue ch kept longer other q c
+queue_kept longer other grows machine h =
+    record { submitted = submitted_kept longer grows h.submitted; outcomes = h.outcomes; issued = h.issued; halted = h.halted; machine = machine }
 
 -- ---- an entry that changes no channel
 
--- a schedule fits an object by its channels alone
+-- Whether a schedule fits an object depends on the channels of the object alone.
 pub fits_channels : (o p : Object) (s : List ChannelSchedule) → o.channels ≡ p.channels → Fits o s → Fits p s
 fits_channels o p s e h = record {
   many = rw (← e) h.many;
@@ -90,7 +86,7 @@ abbrev pub with_entry_at : Parts → Entry → List ℕ → List Bool → MarkLi
 with_entry_at p e memory events marks = record p { memory = memory; events = events; marks = marks; history = p.history ++ e ∷ [] }
 
 pub record EntersWith (p : Parts) (e : Entry) (memory : List ℕ) (flags : List Bool) (marked : MarkList) : Type 0 where
-  pub allowed : Allows (object_of (view_of p)) e
+  pub sound : IsSound (with_entry (view_of p) e)
   pub stay : (after (object_of (view_of p)) e).channels ≡ (object_of (view_of p)).channels
   pub shown : memory ≡ memory_shown (after (object_of (view_of p)) e) (view_of p).schedule
   pub events : flags ≡ (after (object_of (view_of p)) e).events
@@ -108,18 +104,13 @@ holds_entered p e memory events marks h w =
     let channels = ap (λ (x : Object). x.channels) step ∙ w.stay in
     let same : (ch : ℕ) → runs (object_of u) u.schedule ch ≡ runs o v.schedule ch = λ ch. ap (λ l. running_in ch (slice_index_or l ch empty_channel) (slice_index_or v.schedule ch idle).taken) channels in
     record {
-      sound = record {
-        opens = h.sound.opens;
-        makes = h.sound.makes;
-        legal = IsLegal_append v.base p.history (e ∷ []) h.sound.legal (w.allowed, tt);
-        fits = rw step (fits_channels o (after o e) v.schedule (sym w.stay) h.sound.fits);
-      };
+      sound = w.sound;
       shown = rw step w.shown;
       events = rw step w.events;
       marks = rw step w.marks;
       size = h.size;
       each = λ ch d less.
-          let kept = queue_kept ch (channel p.base ch).submitted p.history (p.history ++ e ∷ []) p.memory memory (slice_index_or p.queues ch d) (channel o ch) (λ k x. slice_get_push p.history e x k) (w.machines ch d less (h.each ch d less).machine) (h.each ch d less) in
+          let kept = queue_kept (p.history ++ e ∷ []) memory (λ k x. slice_get_push p.history e x k) (w.machines ch d less (h.each ch d less).machine) (h.each ch d less) in
           rw (step, w.stay) kept;
       prepared = λ ch. subst (IsPrepared p.made) (sym (same ch)) (h.prepared ch);
       ranges = λ ch d less. subst (AreOfRunning (slice_index_or p.queues ch d).ranges) (sym (same ch)) (h.ranges ch d less);
@@ -127,12 +118,12 @@ holds_entered p e memory events marks h w =
 
 -- ---- pages
 
--- a transfer whose destinations lie on made pages keeps them when more pages are made
+-- The destinations of what runs lie on made pages, also after more pages are made.
 pub prepared_more : (made more : List Bool) (x : Option RunningTransfer) → ((page : ℕ) → slice_index_or made page false ≡ true → slice_index_or more page false ≡ true) → IsPrepared made x → IsPrepared more x
 prepared_more made more None keeps h = tt
 prepared_more made more (Some r) keeps h = λ a i. keeps (a / 4096) (h a i)
 
--- pages that are made change nothing else
+-- Making pages changes nothing else.
 pub holds_pages : (p : Parts) (more : List Bool) → Holds p → ((page : ℕ) → slice_index_or p.made page false ≡ true → slice_index_or more page false ≡ true) → Holds (record p { made = more })
 holds_pages p more h keeps = record {
   sound = h.sound;
@@ -155,7 +146,7 @@ runs_other o p s ch c x differs same =
     ap (λ (y : ChannelSchedule). running_in c (channel p c) y.taken) (get_or-set_other s ch c x idle differs)
     ∙ ap (λ d. running_in c d (slice_index_or s c idle).taken) same
 
--- the object and the schedule after a change at one channel
+-- An object and a schedule, of which one channel changes, still fit each other.
 pub record FitsStill (o p : Object) (s : List ChannelSchedule) (ch : ℕ) (x : ChannelSchedule) : Type 0 where
   pub there : ch < length o.channels
   pub many : length p.channels ≡ length o.channels
@@ -199,9 +190,9 @@ view_changed p ch q memory events history steps =
     let s = map-set schedule_of p.queues ch q in
     rw s refl
 
--- a history that ends at an object which differs from the present one in one channel alone, which is then `state`
+-- The history begins with the present one and leads to the object o, in which only this channel may differ: its state
+-- is then `state`.
 pub record LeadsTo (p : Parts) (ch : ℕ) (history : List Entry) (o : Object) (state : ChannelState) : Type 0 where
-  pub legal : IsLegal (view_of p).base history
   pub becomes : object_after (view_of p).base history ≡ o
   pub grows : (k : ℕ) (e : Entry) → slice_get p.history k ≡ Some e → slice_get history k ≡ Some e
   pub marks : (object_of (view_of p)).marks ≡ o.marks
@@ -209,15 +200,14 @@ pub record LeadsTo (p : Parts) (ch : ℕ) (history : List Entry) (o : Object) (s
   pub here : channel o ch ≡ state
   pub others : (c : ℕ) → c ≢ ch → channel o c ≡ channel (object_of (view_of p)) c
 
--- the present history, and one more entry
-pub leads_still : (p : Parts) (ch : ℕ) → Holds p → LeadsTo p ch p.history (object_of (view_of p)) (channel (object_of (view_of p)) ch)
-leads_still p ch h = record { legal = h.sound.legal; becomes = refl; grows = λ k e is. is; marks = refl; many = refl; here = refl; others = λ c f. refl }
+-- The present history leads to the present object, and with one more entry to the object after it.
+pub leads_still : (p : Parts) (ch : ℕ) → LeadsTo p ch p.history (object_of (view_of p)) (channel (object_of (view_of p)) ch)
+leads_still p ch = record { becomes = refl; grows = λ k e is. is; marks = refl; many = refl; here = refl; others = λ c f. refl }
 
-pub leads_on : (p : Parts) (ch : ℕ) (e : Entry) (state : ChannelState) → Holds p → ch < length (object_of (view_of p)).channels → Allows (object_of (view_of p)) e → (object_of (view_of p)).marks ≡ (after (object_of (view_of p)) e).marks → (after (object_of (view_of p)) e).channels ≡ slice_set (object_of (view_of p)).channels ch state → LeadsTo p ch (p.history ++ e ∷ []) (after (object_of (view_of p)) e) state
-leads_on p ch e state h there allowed marks is =
+pub leads_on : (p : Parts) (ch : ℕ) (e : Entry) (state : ChannelState) → ch < length (object_of (view_of p)).channels → (object_of (view_of p)).marks ≡ (after (object_of (view_of p)) e).marks → (after (object_of (view_of p)) e).channels ≡ slice_set (object_of (view_of p)).channels ch state → LeadsTo p ch (p.history ++ e ∷ []) (after (object_of (view_of p)) e) state
+leads_on p ch e state there marks is =
     let cs = (object_of (view_of p)).channels in
     record {
-      legal = IsLegal_append (view_of p).base p.history (e ∷ []) h.sound.legal (allowed, tt);
       becomes = object_after_append (view_of p).base p.history (e ∷ []);
       grows = λ k x. slice_get_push p.history e x k;
       marks = marks;
@@ -226,11 +216,10 @@ leads_on p ch e state h there allowed marks is =
       others = λ c f. ap (λ (l : List ChannelState). slice_index_or l c empty_channel) is ∙ get_or-set_other cs ch c state empty_channel f;
     }
 
--- the conditions for the object after the new history
-pub record ChangesTo (p : Parts) (ch : ℕ) (q : Queue) (memory : List ℕ) (flags : List Bool) (history : List Entry) (o : Object) (state : ChannelState) : Type 0 where
+-- What must hold after a change at one channel, so that the engine keeps what it keeps (`Holds`).
+pub record ChangesTo (p : Parts) (ch : ℕ) (q : Queue) (memory : List ℕ) (flags : List Bool) (history : List Entry) (steps : ℕ) (o : Object) (state : ChannelState) : Type 0 where
+  pub sound : IsSound (view_of (changed p ch q memory flags history steps))
   pub leads : LeadsTo p ch history o state
-  pub agrees : Agrees state (schedule_of q).taken
-  pub free : (c : ℕ) → c < length (object_of (view_of p)).channels → c ≢ ch → AreFree (running_in ch state (schedule_of q).taken) (runs (object_of (view_of p)) (view_of p).schedule c)
   pub shown : memory ≡ memory_shown o (slice_set (view_of p).schedule ch (schedule_of q))
   pub events : flags ≡ o.events
   pub tied : IsQueue ch (channel p.base ch).submitted history memory q state
@@ -240,41 +229,33 @@ pub record ChangesTo (p : Parts) (ch : ℕ) (q : Queue) (memory : List ℕ) (fla
       IsRun p.memory (slice_index_or p.queues c d).channel (channel (object_of (view_of p)) c) →
       IsRun memory (slice_index_or p.queues c d).channel (channel (object_of (view_of p)) c)
 
-pub holds_changed : (p : Parts) (ch : ℕ) (q : Queue) (memory : List ℕ) (events : List Bool) (history : List Entry) (steps : ℕ) (o : Object) (state : ChannelState) → Holds p → ch < length p.queues → ChangesTo p ch q memory events history o state → Holds (changed p ch q memory events history steps)
-holds_changed p ch q memory events history steps o state h less w =
+pub holds_changed : {p : Parts} {ch : ℕ} {old : Queue} → HoldsAt p ch old → (q : Queue) (memory : List ℕ) (events : List Bool) (history : List Entry) (steps : ℕ) (o : Object) (state : ChannelState) → ChangesTo p ch q memory events history steps o state → Holds (changed p ch q memory events history steps)
+holds_changed {p} {ch} at q memory events history steps o state w =
+    let h = at.holds in
+    let less = at.less in
     let v : View = view_of p in
     let to = w.leads in
     let r = changed p ch q memory events history steps in
     let u : View = changed_view p ch q history steps in
     let is : u ≡ view_of r = sym (view_changed p ch q memory events history steps) in
     let x : ChannelSchedule = schedule_of q in
-    let there : ch < length (object_of v).channels = omega (arith, less, many_queues p h) in
-    let fits : FitsStill (object_of v) o v.schedule ch x = record { there = there; many = to.many; others = to.others; agrees = rw to.here w.agrees; free = λ c l k. rw to.here (w.free c l k) } in
-    let sound : IsSound u = record {
-      opens = h.sound.opens;
-      makes = h.sound.makes;
-      legal = to.legal;
-      fits = rw to.becomes (fits_changed (object_of v) o v.schedule ch x h.sound.fits fits);
-    } in
-    let becomes : object_of (view_of r) ≡ o = ap object_of (sym is) ∙ to.becomes in
-    let within : ch < length v.schedule = omega (arith, h.sound.fits.many, there) in
     let runs_new : ℕ → Option RunningTransfer = runs (object_of (view_of r)) (view_of r).schedule in
     let new : (c : ℕ) → runs_new c ≡ runs o (slice_set v.schedule ch x) c = λ c. ap (λ (y : View). runs (object_of y) y.schedule c) (sym is) ∙ ap (λ (y : Object). runs y (slice_set v.schedule ch x) c) to.becomes in
-    let here : (c : ℕ) → c ≡ ch → runs_new c ≡ running_in ch state x.taken = λ c e. new c ∙ ap (runs o (slice_set v.schedule ch x)) e ∙ runs_here_law o v.schedule ch x within ∙ ap (λ y. running_in ch y x.taken) to.here in
+    let here : (c : ℕ) → c ≡ ch → runs_new c ≡ running_in ch state x.taken = λ c e. new c ∙ ap (runs o (slice_set v.schedule ch x)) e ∙ runs_here_law o v.schedule ch x at.within ∙ ap (λ y. running_in ch y x.taken) to.here in
     let elsewhere : (c : ℕ) → c ≢ ch → runs_new c ≡ runs (object_of v) v.schedule c = λ c f. new c ∙ runs_other (object_of v) o v.schedule ch c x f (to.others c f) in
     record {
-      sound = subst IsSound is sound;
+      sound = w.sound;
       shown = w.shown ∙ ap (λ x. memory_shown x (slice_set v.schedule ch (schedule_of q))) (sym to.becomes) ∙ ap memory_of is;
-      events = w.events ∙ ap (λ (x : Object). x.events) (sym becomes);
-      marks = h.marks ∙ to.marks ∙ ap (λ (x : Object). x.marks) (sym becomes);
+      events = w.events ∙ ap (λ (x : Object). x.events) (sym to.becomes);
+      marks = h.marks ∙ to.marks ∙ ap (λ (x : Object). x.marks) (sym to.becomes);
       size = h.size;
       each = λ c d l. elim (cases_eq c ch) [
-        | inl e ↦ rw (e, becomes, get_or-set_same p.queues ch q d less, to.here) w.tied
+        | inl e ↦ rw (e, to.becomes, get_or-set_same p.queues ch q d less, to.here) w.tied
         | inr f ↦
             let l' : c < length p.queues = omega (arith, l, length-set p.queues ch q) in
             let old = h.each c d l' in
-            let kept = queue_kept c (channel p.base c).submitted p.history history p.memory memory (slice_index_or p.queues c d) (channel (object_of v) c) to.grows (w.machines c d l' f old.machine) old in
-            rw (becomes, get_or-set_other p.queues ch c q d f, to.others c f) kept
+            let kept = queue_kept history memory to.grows (w.machines c d l' f old.machine) old in
+            rw (to.becomes, get_or-set_other p.queues ch c q d f, to.others c f) kept
       ];
       prepared = λ c. elim (cases_eq c ch) [
         | inl e ↦ subst (IsPrepared p.made) (sym (here c e)) w.prepared
@@ -291,8 +272,7 @@ holds_changed p ch q memory events history steps o state h less w =
       ];
     }
 
--- the schedule stays where a queue's does
-pub schedule_kept : (p : Parts) (ch : ℕ) (q r : Queue) → ch < length p.queues → q ≡ slice_index_or p.queues ch q → schedule_of r ≡ schedule_of q → slice_set (view_of p).schedule ch (schedule_of r) ≡ (view_of p).schedule
-schedule_kept p ch q r less read same =
-    ap (slice_set (view_of p).schedule ch) (same ∙ ap schedule_of read ∙ sym (get_or-map schedule_of p.queues ch q idle less))
-    ∙ set-get_or (view_of p).schedule ch idle
+-- The schedule stays the same if that of the changed queue does.
+pub schedule_kept : {p : Parts} {ch : ℕ} {q : Queue} → HoldsAt p ch q → (r : Queue) → schedule_of r ≡ schedule_of q → slice_set (view_of p).schedule ch (schedule_of r) ≡ (view_of p).schedule
+schedule_kept {p} {ch} {q} at r same =
+    ap (slice_set (view_of p).schedule ch) (same ∙ sym at.schedule_is) ∙ set-get_or (view_of p).schedule ch idle

@@ -1,16 +1,14 @@
 -- What an engine keeps at a checkpoint.
-use Rattle.std.proofs.Common.{◌≡◌, ℕ, ◌+◌, ◌<◌, ◌≤◌, List, [], ◌∷◌, ◌++◌, zero, suc, length, map, take, drop, Option, Some, None, true, false, refl, ap, sym, ◌∙◌, subst, arith, inl, inr}
+use Rattle.std.proofs.Common.{◌≡◌, ℕ, ◌<◌, ◌≤◌, List, [], ◌∷◌, ◌++◌, zero, suc, length, map, take, drop, Option, Some, None, true, refl, ap, sym, ◌∙◌, subst, arith, inl, inr}
 use Rattle.std.specs.Prelude.{slice_index_or, slice_set, find}
-use Rattle.std.proofs.lemmas.Bool.{true≢false, cases_lt}
-use Rattle.std.proofs.lemmas.List.{get_or-map, get_or_past, get_or-drop, length-map, length-drop, get_or_default, take_all}
+use Rattle.std.proofs.lemmas.Bool.{cases_lt}
+use Rattle.std.proofs.lemmas.List.{get_or-map, get_or_past, length-map, length-drop, get_or_default, take_all}
 use Rattle.std.proofs.lemmas.List.Sums.{sum_by-cons}
-use Rattle.std.proofs.lemmas.Option.{slice_get-get_or}
 use Rattle.dma_mem.specs.Image.{over, after_moves}
 use Rattle.dma_mem.proofs.PageImages.{put_none}
 use Rattle.dma_engine.specs.declared.queue.Queue.{Queue}
 use Rattle.std.specs.List.{sum_by}
-use Rattle.dma_engine.proofs.Changes.{run_none}
-use Rattle.dma_engine.specs.Object.{used, finished_all, Object, ChannelState, IsBase, base_from, forget, channel, empty_channel, finished}
+use Rattle.dma_engine.specs.Object.{used, finished_all, Object, ChannelState, base_from, forget, channel, empty_channel, finished}
 use Rattle.dma_engine.specs.declared.call.Reply.{Reply}
 use Rattle.dma_engine.specs.declared.call.Reply.TheVariants.{Done, Refused}
 use Rattle.dma_engine.specs.declared.fault.EngineFault.{EngineFault}
@@ -19,90 +17,34 @@ use Rattle.dma_engine.specs.Laws.{CheckpointsKeep}
 use Rattle.dma_engine.specs.Room.{no_room}
 use Rattle.dma_engine.specs.inner.Inside.{queue_room}
 use Rattle.dma_engine.specs.inner.Ranges.{AreOfRunning}
-use Rattle.dma_engine.specs.View.{View, ChannelSchedule, RunningTransfer, Agrees, Fits, runs, running_in, running, idle, object_of, memory_of, IsSound, with_stored}
+use Rattle.dma_engine.specs.View.{View, ChannelSchedule, RunningTransfer, Fits, runs, running_in, running, idle, object_of, memory_of, IsSound, with_stored}
 use Rattle.dma_engine.specs.Ticks.{board_of, counts_of}
 use Rattle.dma_engine.specs.inner.Holds.{Holds, IsPrepared, IsQueue, Parts, view_of, schedule_of, taken_of, queue_forgotten}
 use Rattle.dma_engine.proofs.Boards.{counted_at, counted_base, counted_object}
-use Rattle.dma_engine.proofs.Queues.{front_where, runs_front, holds_at, many_queues}
+use Rattle.dma_engine.proofs.Changes.{run_none}
 use Rattle.dma_engine.proofs.QueueCalls.{shown_both}
-use Rattle.dma_engine.proofs.TransferRules.{IsGood, marked_object, ruled_object, ruled_base}
-use Rattle.dma_engine.proofs.Sizes.{flags_object, size_object, many_channels}
-use Rattle.dma_engine.proofs.WhatRuns.{find_none_at, running_same}
+use Rattle.dma_engine.proofs.Queues.{HoldsAt, holds_at}
+use Rattle.dma_engine.proofs.Sizes.{size_object}
+use Rattle.dma_engine.proofs.StaysSound.{NothingRuns, checkpoint_sound, forgotten_at, none_taken}
+use Rattle.dma_engine.proofs.WhatRuns.{running_same}
 
 -- ---- the channels of the next base
 
-pub forgotten_at : (o : Object) (ch : ℕ) → channel (base_from o) ch ≡ forget (channel o ch)
-forgotten_at o ch = elim (cases_lt ch (length o.channels)) [
-  | inl less ↦ get_or-map forget o.channels ch empty_channel empty_channel less
-  | inr past ↦ get_or_past (map forget o.channels) ch empty_channel (omega (arith, past, length-map o.channels forget)) ∙ sym (ap forget (get_or_past o.channels ch empty_channel past))
-]
-
--- no runner is found where any would do
-abbrev pub NothingRuns : Object → List ChannelSchedule → Type 0
-NothingRuns o s = find (λ (r : RunningTransfer). true) (running o s) ≡ None
-
--- so no schedule has one
-pub none_taken : (o : Object) (s : List ChannelSchedule) (ch : ℕ) → Fits o s → NothingRuns o s → ch < length o.channels → (slice_index_or s ch idle).taken ≡ None
-none_taken o s ch h none less = by _ refl where
-  by : (x : Option ℕ) → (slice_index_or s ch idle).taken ≡ x → x ≡ None
-  by None e = refl
-  by (Some n) e =
-      let c = channel o ch in
-      let agrees : Agrees c (Some n) = rw e at (h.each ch less) in
-      let f = front_where c _ agrees.1 in
-      let is : runs o s ch ≡ Some (record { ch = ch; cookie = finished c + 1; transfer = f.transfer; taken = n }) = ap (running_in ch c) e ∙ runs_front ch c f.transfer n f.is in
-      absurd (true≢false (find_none_at (λ (r : RunningTransfer). true) o s ch _ less none is))
-
--- so no front has passed or signalled
-none_passed : (o : Object) (s : List ChannelSchedule) (ch : ℕ) → Fits o s → NothingRuns o s → ((channel o ch).passed ≡ false) × ((channel o ch).signalled ≡ false)
-none_passed o s ch h none = elim (cases_lt ch (length o.channels)) [
-  | inl less ↦ let agrees : Agrees (channel o ch) None = rw (none_taken o s ch h none less) at (h.each ch less) in agrees
-  | inr past ↦ rw (get_or_past o.channels ch empty_channel past) (refl, refl)
-]
-
--- the next base is one
-base_next : (v : View) → IsSound v → NothingRuns (object_of v) v.schedule → IsBase (base_from (object_of v))
-base_next v h none =
-    let o = object_of v in
-    let ruled = ruled_object (length v.base.image) v.base v.history refl (ruled_base v.base h.opens) h.legal in
-    let same : length v.base.image ≡ length o.image = sym (size_object v.base v.history) in
-    record {
-      flags = flags_object v.base v.history ∙ h.opens.flags;
-      marks = marked_object v.base v.history h.opens.marks h.legal;
-      each = λ ch.
-          let c = channel o ch in
-          let n = length c.outcomes in
-          let counted = counted_object v.base v.history (counted_base v.base h.opens) h.legal ch in
-          let rests = none_passed o v.schedule ch h.fits none in
-          rw (forgotten_at o ch) (record {
-            outcomes = refl;
-            rests = rests;
-            counts = (
-              omega (arith, counted.order),
-              omega (arith, counted.issue, counted.finish, length-drop n c.submitted),
-              omega (arith, counted.give, counted.finish, length-drop n c.submitted),
-            );
-            rules = λ k d less.
-                let within : n + k < length c.submitted = omega (arith, less, length-drop n c.submitted) in
-                let good : IsGood (length v.base.image) (slice_index_or c.submitted (n + k) d) = ruled ch (n + k) _ (slice_get-get_or c.submitted (n + k) d within) in
-                let here : slice_index_or (drop n c.submitted) k d ≡ slice_index_or c.submitted (n + k) d = get_or-drop n c.submitted k d in
-                subst (IsGood (length o.image)) (sym here) (subst (λ m. IsGood m (slice_index_or c.submitted (n + k) d)) same good);
-          });
-    }
-
 -- ---- the queues after it
 
-pub queue_next : (p : Parts) → Holds p → (ch : ℕ) (q : Queue) → ch < length p.queues → q ≡ slice_index_or p.queues ch q → taken_of q.channel ≡ None → let c = channel (object_of (view_of p)) ch in IsQueue ch (forget c).submitted [] p.memory (queue_forgotten q) (forget c)
-queue_next p h ch q less read none =
+queue_next : {p : Parts} {ch : ℕ} {q : Queue} → HoldsAt p ch q → taken_of q.channel ≡ None → let c = channel (object_of (view_of p)) ch in IsQueue ch (forget c).submitted [] p.memory (queue_forgotten q) (forget c)
+queue_next {p} {ch} {q} at none =
     let c = channel (object_of (view_of p)) ch in
-    let t = (holds_at p h ch q less read).tied in
-    let counted = counted_at p h ch in
+    let t = at.tied in
+    let counted = counted_at p at.holds ch in
     record {
-      forgotten = omega (arith, t.forgotten, ap length t.outcomes);
-      given = omega (arith, t.given, counted.finish, length-drop (length c.outcomes) c.submitted);
-      many = omega arith;
-      first = take_all _ (drop (length c.outcomes) c.submitted) (omega arith);
-      indexed = λ k l. absurd (omega (arith, l));
+      submitted = record {
+        forgotten = omega (arith, t.forgotten, ap length t.outcomes);
+        given = omega (arith, t.given, counted.finish, length-drop (length c.outcomes) c.submitted);
+        many = omega arith;
+        first = take_all _ (drop (length c.outcomes) c.submitted) (omega arith);
+        indexed = λ k l. absurd (omega (arith, l));
+      };
       outcomes = refl;
       issued = t.issued;
       halted = t.halted;
@@ -120,32 +62,6 @@ same_schedule (q ∷ qs) = ap (λ l. schedule_of q ∷ l) (same_schedule qs)
 
 pub view_next : (p : Parts) → view_of (parts_forgotten p) ≡ checkpointed (view_of p)
 view_next p = ap (λ s. record { base = base_from (object_of (view_of p)); history = []; steps = p.steps; schedule = s }) (same_schedule p.queues)
-
-fits_next : (o : Object) (s : List ChannelSchedule) → Fits o s → NothingRuns o s → Fits (base_from o) s
-fits_next o s h none =
-    let many : length (base_from o).channels ≡ length o.channels = length-map o.channels forget in
-    let nothing : (ch : ℕ) → ch < length o.channels → (slice_index_or s ch idle).taken ≡ None = λ ch l. none_taken o s ch h none l in
-    record {
-      many = h.many ∙ sym many;
-      each = λ ch l.
-          let l' : ch < length o.channels = omega (arith, l, many) in
-          let agrees = rw (nothing ch l') at (h.each ch l') in
-          rw (nothing ch l', forgotten_at o ch) agrees;
-      free = λ c d i j k.
-          let i' : c < length o.channels = omega (arith, i, many) in
-          rw (nothing c i') tt;
-    }
-
--- a sound view stays sound
-pub checkpoint_sound : (v : View) → IsSound v → NothingRuns (object_of v) v.schedule → IsSound (checkpointed v)
-checkpoint_sound v h none =
-    let many : length (base_from (object_of v)).channels ≡ length (object_of v).channels = length-map (object_of v).channels forget in
-    record {
-      opens = base_next v h none;
-      makes = rw (size_object v.base v.history, many, many_channels v.base v.history) h.makes;
-      legal = tt;
-      fits = fits_next (object_of v) v.schedule h.fits none;
-    }
 
 -- nothing is taken on any channel
 nothing_taken : (o : Object) (s : List ChannelSchedule) (ch : ℕ) → Fits o s → NothingRuns o s → (slice_index_or s ch idle).taken ≡ None
@@ -175,10 +91,9 @@ holds_next p h none =
           let l : ch < length p.queues = omega (arith, less, length-map p.queues queue_forgotten) in
           let q = slice_index_or p.queues ch d in
           let at = get_or-map queue_forgotten p.queues ch d d l in
-          let read : q ≡ slice_index_or p.queues ch q = get_or_default p.queues ch d q l in
-          let there = (holds_at p h ch q l read).schedule_is in
-          let taken : taken_of q.channel ≡ None = ap (λ (x : ChannelSchedule). x.taken) (sym there) ∙ none_taken o s ch h.sound.fits none (omega (arith, l, many_queues p h)) in
-          rw (at, forgotten_at o ch) (queue_next p h ch q l read taken);
+          let here = holds_at p h ch q l (get_or_default p.queues ch d q l) in
+          let taken : taken_of q.channel ≡ None = ap (λ (x : ChannelSchedule). x.taken) (sym here.schedule_is) ∙ none_taken o s ch h.sound.fits none here.there in
+          rw (at, forgotten_at o ch) (queue_next here taken);
       prepared = λ ch. subst (IsPrepared p.made) (sym (later ch)) tt;
       ranges = λ ch d less.
           let l : ch < length p.queues = omega (arith, less, length-map p.queues queue_forgotten) in

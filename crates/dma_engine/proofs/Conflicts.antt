@@ -1,12 +1,10 @@
 -- The fronts that are found by their entries, and the first running transfer that conflicts.
 use Rattle.std.proofs.Common.{◌≡◌, ℕ, ◌+◌, ◌-◌, ◌<◌, ◌≤◌, List, length, Option, Some, None, Bool, true, false, cond, refl, ap, sym, ◌∙◌, arith}
-use Rattle.std.specs.Prelude.{find, slice_index_or, unwrap_or, is_some, nat_lt}
+use Rattle.std.specs.Prelude.{find, slice_index_or, unwrap_or, nat_lt}
 use Rattle.std.specs.Option.{option_map, option_to_list}
 use Rattle.std.proofs.lemmas.Bool.{le-ltb, lt-ltb, ltb-false, ltb-true}
 use Rattle.std.proofs.lemmas.Option.{get_or_from_slice_get, slice_get-get_or}
 use Rattle.dma_mem.specs.Places.{Descriptor}
-use Rattle.dma_chan.specs.Channel.{ChannelValue}
-use Rattle.dma_chan.specs.Programs.{ProgramValue}
 use Rattle.dma_engine.specs.declared.queue.Queue.{Queue}
 use Rattle.dma_engine.specs.declared.access.Ranges.{Ranges}
 use Rattle.dma_engine.specs.inner.Ranges.{AreOfRunning, HasRangesOf}
@@ -14,35 +12,30 @@ use Rattle.dma_engine.specs.Object.{Object, ChannelState, channel, front, issued
 use Rattle.dma_engine.specs.View.{ChannelSchedule, RunningTransfer, object_of, runs, running_in, running, idle}
 use Rattle.dma_engine.specs.inner.Accesses.{named}
 use Rattle.dma_engine.specs.inner.Found.{front_in, transfer_at}
-use Rattle.dma_engine.specs.inner.Holds.{Holds, Parts, view_of, taken_of}
+use Rattle.dma_engine.specs.inner.Holds.{Parts, view_of}
 use Rattle.dma_engine.proofs.Boards.{counted_at}
-use Rattle.dma_engine.proofs.Queues.{Front, HoldsAt, holds_at, transfer_found}
 use Rattle.dma_engine.proofs.ConflictsByRanges.{kept_ranges, no_ranges}
+use Rattle.dma_engine.proofs.Queues.{Front, HoldsAt, transfer_found}
 use Rattle.dma_engine.proofs.WhatRuns.{below, find_here}
 
 -- ---- the issued front
 
 -- if fewer are finished than issued, there is an issued front
-pub front_queued : (p : Parts) → Holds p → (ch : ℕ) (q : Queue) → ch < length p.queues → q ≡ slice_index_or p.queues ch q → q.forgotten + length q.outcomes.items < q.issued → Front (channel (object_of (view_of p)) ch) (λ t. Unit {0})
-front_queued p h ch q less read open_one =
+pub front_queued : {p : Parts} {ch : ℕ} {q : Queue} → HoldsAt p ch q → q.forgotten + length q.outcomes.items < q.issued → Front (channel (object_of (view_of p)) ch) (λ t. Unit {0})
+front_queued {p} {ch} {q} at open_one =
     let c = channel (object_of (view_of p)) ch in
-    let at = holds_at p h ch q less read in
-    let counted = counted_at p h ch in
-    let many : length q.outcomes.items ≡ length c.outcomes = ap length at.tied.outcomes in
-    let before : finished c < c.issued = omega (arith, many, at.tied.forgotten, at.tied.issued, open_one) in
+    let counted = counted_at p at.holds ch in
+    let before : finished c < c.issued = omega (arith, ap length at.tied.outcomes, at.tied.forgotten, at.tied.issued, open_one) in
     let inside : finished c < used c = omega (arith, counted.issue, before) in
     let is = slice_get-get_or c.submitted (length c.outcomes) no_transfer (omega (arith, inside)) in
     let e : nat_lt (finished c) c.issued ≡ true = lt-ltb _ _ before in
     record { transfer = _; is = is; issued = rw e is; holds = tt; within = inside; below = before }
 
 -- and it is found in the base or in the history
-pub front_found : (p : Parts) → Holds p → (ch : ℕ) (q : Queue) → ch < length p.queues → q ≡ slice_index_or p.queues ch q → front_in q (channel p.base ch).submitted p.history ≡ issued_front (channel (object_of (view_of p)) ch)
-front_found p h ch q less read = by (nat_lt (length q.outcomes.items) (q.issued - q.forgotten)) refl where
+pub front_found : {p : Parts} {ch : ℕ} {q : Queue} → HoldsAt p ch q → front_in q (channel p.base ch).submitted p.history ≡ issued_front (channel (object_of (view_of p)) ch)
+front_found {p} {ch} {q} at = by (nat_lt (length q.outcomes.items) (q.issued - q.forgotten)) refl where
   c : ChannelState
   c = channel (object_of (view_of p)) ch
-
-  at : HoldsAt p ch q
-  at = holds_at p h ch q less read
 
   n : ℕ
   n = length q.outcomes.items
@@ -56,7 +49,7 @@ front_found p h ch q less read = by (nat_lt (length q.outcomes.items) (q.issued 
   by : (b : Bool) → nat_lt n (q.issued - q.forgotten) ≡ b → front_in q kept p.history ≡ issued_front c
   by true e =
       let below : n < q.issued - q.forgotten = ltb-true _ _ e in
-      let f = front_queued p h ch q less read (omega (arith, below)) in
+      let f = front_queued at (omega (arith, below)) in
       let there : n < length c.submitted = omega (arith, f.within, many) in
       let found : transfer_at kept p.history q.indices.items n ≡ Some f.transfer =
       transfer_found ch kept p.history p.memory q c n at.tied there
@@ -69,24 +62,10 @@ front_found p h ch q less read = by (nat_lt (length q.outcomes.items) (q.issued 
       rw (e, d) refl
 
 -- no more are issued than are known
-pub few_issued : (p : Parts) → Holds p → (ch : ℕ) (q : Queue) → ch < length p.queues → q ≡ slice_index_or p.queues ch q → q.issued ≤ q.forgotten + length (channel p.base ch).submitted + length q.indices.items
-few_issued p h ch q less read =
-    let at = holds_at p h ch q less read in
-    let counted = counted_at p h ch in
+pub few_issued : {p : Parts} {ch : ℕ} {q : Queue} → HoldsAt p ch q → q.issued ≤ q.forgotten + length (channel p.base ch).submitted + length q.indices.items
+few_issued {p} {ch} at =
+    let counted = counted_at p at.holds ch in
     omega (arith, at.tied.issued, at.tied.forgotten, at.tied.many, counted.issue)
-
--- ---- what runs
-
-pub taken_none : (m : ChannelValue) → is_some m.program ≡ false → taken_of m ≡ None
-taken_none m h = by m.program h where
-  by : (o : Option ProgramValue) → is_some o ≡ false → option_map (λ _. m.taken) o ≡ None
-  by None e = refl
-  by (Some p) e = absurd cc
-
-pub runs_none : (p : Parts) → Holds p → (ch : ℕ) (q : Queue) → ch < length p.queues → q ≡ slice_index_or p.queues ch q → is_some q.channel.program ≡ false → None ≡ runs (object_of (view_of p)) (view_of p).schedule ch
-runs_none p h ch q less read unloaded =
-    let at = holds_at p h ch q less read in
-    sym (at.runs_is ∙ ap (running_in ch (channel (object_of (view_of p)) ch)) (taken_none q.channel unloaded))
 
 -- ---- the first transfer that conflicts
 

@@ -1,5 +1,5 @@
 -- The state of a channel after a submit and a terminate on it, and the counts that the ticks of a history sum up to.
-use Rattle.std.proofs.Common.{◌≡◌, ℕ, ◌+◌, ◌<◌, ◌≤◌, ◌^◌, List, [], ◌∷◌, length, drop, refl, ap, sym, ◌∙◌, arith, inl, inr}
+use Rattle.std.proofs.Common.{◌≡◌, ℕ, ◌+◌, ◌<◌, ◌≤◌, ◌^◌, List, [], ◌∷◌, length, drop, refl, ap, sym, ◌∙◌, arith, inl, inr, ◌++◌}
 use Rattle.std.specs.List.{All}
 use Rattle.std.specs.Prelude.{Option, Some, None}
 use Rattle.std.proofs.lemmas.Bool.{cases_lt}
@@ -8,7 +8,6 @@ use Rattle.std.proofs.lemmas.List.Elements.{All-cons, All-from_get_or, All-nil}
 use Rattle.std.proofs.lemmas.List.Sums.{sum_by-le}
 use Rattle.std.proofs.Math.ListN.{get_or-map}
 use Rattle.dma_mem.specs.Places.{Descriptor}
-use Rattle.dma_mem.specs.declared.call.Call.TheVariants.{Submit, Terminate}
 use Rattle.dma_engine.specs.declared.call.Reply.{Reply}
 use Rattle.dma_engine.specs.declared.call.Reply.TheVariants.{Cookie, Count, Refused}
 use Rattle.dma_engine.specs.declared.fault.EngineFault.{EngineFault}
@@ -16,81 +15,70 @@ use Rattle.dma_engine.specs.declared.entry.Entry.{Entry}
 use Rattle.dma_engine.specs.declared.entry.Entry.TheVariants.{Submitted as SubmittedEntry, Finished as FinishedEntry, Terminated as TerminatedEntry}
 use Rattle.dma_engine.specs.declared.outcome.TransResult.{TransResult}
 use Rattle.dma_engine.specs.declared.outcome.TransResult.TheVariants.{Aborted}
-use Rattle.dma_engine.specs.Answer.{CallAnswers, answer, unless, channel_fault, done_on, submit_fault, terminated}
+use Rattle.dma_engine.specs.Answer.{unless, channel_fault, done_on, submit_fault, terminated}
 use Rattle.dma_engine.specs.History.{IsLegal}
 use Rattle.dma_engine.specs.Laws.{SubmitsAdd, TerminatesAdd, BoardsCount, StatusByTicks, BaseCountsBounded, TicksAtMostEntries, TicksNameChannels}
-use Rattle.dma_engine.specs.Object.{Allows, ChannelState, FrontIs, Object, after, channel, empty_channel, last_cookie, used, finished, finished_all, unfinished, aborted, with_transfer, with_all_aborted}
+use Rattle.dma_engine.specs.Object.{Allows, ChannelState, FrontIs, Object, after, channel, empty_channel, last_cookie, used, finished, finished_all, unfinished, aborted, with_transfer, with_all_aborted, with_front_laid}
 use Rattle.dma_engine.specs.Ticks.{Counts, Finished, Submitted, counts_of, tick_channel, ticks_of}
 use Rattle.dma_engine.specs.Turn.{with_entry}
 use Rattle.dma_engine.specs.View.{IsSound, View, object_of, channels}
-use Rattle.dma_engine.proofs.CallCases.{submit_open, channel_open}
-use Rattle.dma_engine.proofs.Boards.{AreCounted, board_is, counted_base, counted_object, status_by_board, length_aborted}
-use Rattle.dma_engine.proofs.AnswerCounts.{object_one, submitted, closed}
+use Rattle.dma_engine.proofs.AnswerCounts.{finished_same, finished_with, object_one, ticks_append}
+use Rattle.dma_engine.proofs.Boards.{AreCounted, board_is, counted_base, counted_object, length_aborted, status_by_board}
+use Rattle.dma_engine.proofs.CallCases.{channel_open, submit_open}
 use Rattle.dma_engine.proofs.Sizes.{made, many_after as channels-after, many_channels as channels-object}
 
 -- ---- a reply that is no refusal
 
-no_refusal : (f : Option EngineFault) (v w : View) (x : Reply × View) (reply : Reply) → ((fault : EngineFault) → reply ≡ Refused fault → ⊥) → (reply, w) ≡ unless f v x → f ≡ None
-no_refusal None v w x reply is_answer h = refl
-no_refusal (Some fault) v w x reply is_answer h = absurd (is_answer fault (ap (λ (y : Reply × View). y.0) h))
-
--- ---- a submit
-
--- the cookie that it returns is the last one given, on a channel that exists
-given : (v w : View) (ch k : ℕ) (t : Descriptor) → submit_fault v ch t ≡ None → CallAnswers v (Submit ch t) (Cookie k) w → (k ≡ used (channel (object_of v) ch) + 1) × (used (channel (object_of w) ch) ≡ used (channel (object_of v) ch) + 1) × (ch < channels w)
-given v w ch k t none h =
-    let c = channel (object_of v) ch in
-    let e = SubmittedEntry ch t (used c + 1) in
-    let less = (submit_open v ch t none).0 in
-    let is_answer : answer v (Submit ch t) ≡ (Cookie (used c + 1), with_entry v e) = rw none refl in
-    let number : k ≡ used c + 1 = let both : Cookie k ≡ Cookie (used c + 1) = ap (λ (x : Reply × View). x.0) (h ∙ is_answer) in cc in
-    let is : w ≡ with_entry v e = ap (λ (x : Reply × View). x.1) (h ∙ is_answer) in
-    let many : channels w ≡ channels v = ap channels is ∙ ap (λ (o : Object). length o.channels) (object_one v e) ∙ channels-after (object_of v) e in
-    let more : used (with_transfer c t) ≡ used c + 1 = omega (arith, length_push c.submitted t) in (
-      number,
-      ap (λ (u : View). used (channel (object_of u) ch)) is ∙ ap (λ o. used (channel o ch)) (object_one v e)
-          ∙ ap used (get_or-set_same (object_of v).channels ch (with_transfer c t) empty_channel less) ∙ more,
-      omega (arith, many, less),
-    )
+-- Nothing refuses the call, and the reply and the view are those of an accepted one.
+not_refused : (f : Option EngineFault) (v w : View) (x : Reply × View) (reply : Reply) → ((fault : EngineFault) → reply ≡ Refused fault → ⊥) → (reply, w) ≡ unless f v x → (f ≡ None) × ((reply, w) ≡ x)
+not_refused None v w x reply is_answer h = (refl, h)
+not_refused (Some fault) v w x reply is_answer h = absurd (is_answer fault (ap (λ (y : Reply × View). y.0) h))
 
 pub submits_add : SubmitsAdd
 submits_add v w ch cookie t h =
-    let none = no_refusal (submit_fault v ch t) v w _ (Cookie cookie) (λ fault e. absurd cc) h in
-    let s = submitted v w ch cookie t none h in
-    let g = given v w ch cookie t none h in (
-      record { ticks = s.0; steps = omega (arith, s.1); finished = omega (arith, s.2) },
-      g.2,
-      omega (arith, g.0),
-      g.0 ∙ sym g.1,
-    )
-
--- ---- a terminate
-
--- all cookies of the channel are finished then
-closes : (v w : View) (ch n : ℕ) → channel_fault v ch ≡ None → CallAnswers v (Terminate ch) (Count n) w → (used (channel (object_of w) ch) ≤ finished (channel (object_of w) ch)) × (ch < channels w)
-closes v w ch n none h =
     let o = object_of v in
     let c = channel o ch in
-    let done = done_on v ch in
-    let e = TerminatedEntry ch done (unfinished c) in
-    let less = channel_open v ch none in
-    let is_answer : answer v (Terminate ch) ≡ (Count (unfinished c), terminated v ch) = rw none refl in
-    let is : w ≡ terminated v ch = ap (λ (x : Reply × View). x.1) (h ∙ is_answer) in
+    let e = SubmittedEntry ch t (used c + 1) in
+    let a = not_refused (submit_fault v ch t) v w (Cookie (used c + 1), with_entry v e) (Cookie cookie) (λ fault e. absurd cc) h in
+    let less = (submit_open v ch t a.0).0 in
+    let number : cookie ≡ used c + 1 = let both : Cookie cookie ≡ Cookie (used c + 1) = ap (λ (x : Reply × View). x.0) a.1 in cc in
+    let is : w ≡ with_entry v e = ap (λ (x : Reply × View). x.1) a.1 in
     let becomes : object_of w ≡ after o e = ap object_of is ∙ object_one v e in
-    let here : channel (object_of w) ch ≡ with_all_aborted c done = ap (λ x. channel x ch) becomes ∙ get_or-set_same o.channels ch (with_all_aborted c done) empty_channel less in
-    let more = length-append c.outcomes (aborted done (drop (length c.outcomes) c.submitted)) in
-    let many : channels w ≡ channels v = ap (λ (x : Object). length x.channels) becomes ∙ channels-after o e in
-    (omega (arith, ap used here, ap finished here, more, length_aborted done (drop (length c.outcomes) c.submitted), length-drop (length c.outcomes) c.submitted), omega (arith, many, less))
+    let here : channel (object_of w) ch ≡ with_transfer c t = ap (λ (x : Object). channel x ch) becomes ∙ get_or-set_same o.channels ch (with_transfer c t) empty_channel less in
+    let many : channels w ≡ channels v = ap (λ (x : Object). length x.channels) becomes ∙ channels-after o e in (
+      record {
+        ticks = ap (λ (u : View). ticks_of u.history) is ∙ ticks_append v.history (e ∷ []);
+        steps = omega (arith, ap (λ (u : View). u.steps) is);
+        finished = omega (arith, ap finished_all becomes, finished_same o ch (with_transfer c t) refl);
+      },
+      omega (arith, many, less),
+      omega (arith, number),
+      omega (arith, number, ap used here, length_push c.submitted t),
+    )
 
 pub terminates_add : TerminatesAdd
 terminates_add v w ch count h =
-    let none = no_refusal (channel_fault v ch) v w _ (Count count) (λ fault e. absurd cc) h in
-    let s = closed v w ch count none (channel_open v ch none) h in
-    let c = closes v w ch count none h in (
-      record { ticks = s.1; steps = omega (arith, s.2); finished = s.3 },
-      c.1,
-      s.0,
-      c.0,
+    let o = object_of v in
+    let c = channel o ch in
+    let m = unfinished c in
+    let done = done_on v ch in
+    let e = TerminatedEntry ch done m in
+    let a = not_refused (channel_fault v ch) v w (Count m, terminated v ch) (Count count) (λ fault e. absurd cc) h in
+    let less = channel_open v ch a.0 in
+    let number : count ≡ m = let both : Count count ≡ Count m = ap (λ (x : Reply × View). x.0) a.1 in cc in
+    let is : w ≡ terminated v ch = ap (λ (x : Reply × View). x.1) a.1 in
+    let becomes : object_of w ≡ after o e = ap object_of is ∙ object_one v e in
+    let here : channel (object_of w) ch ≡ with_all_aborted c done = ap (λ (x : Object). channel x ch) becomes ∙ get_or-set_same o.channels ch (with_all_aborted c done) empty_channel less in
+    let many : channels w ≡ channels v = ap (λ (x : Object). length x.channels) becomes ∙ channels-after o e in
+    let more : finished (with_all_aborted c done) ≡ finished c + m = omega (arith, length-append c.outcomes (aborted done (drop (length c.outcomes) c.submitted)), length_aborted done (drop (length c.outcomes) c.submitted), length-drop (length c.outcomes) c.submitted) in (
+      record {
+        ticks = ap (λ (u : View). ticks_of u.history) is ∙ ticks_append v.history (e ∷ []) ∙ ap (λ k. ticks_of v.history ++ Finished ch k ∷ []) (sym number);
+        steps = omega (arith, ap (λ (u : View). u.steps) is);
+        finished = omega (arith, ap finished_all becomes, finished_with (with_front_laid o ch done) ch (with_all_aborted c done) less, more, number);
+      },
+      omega (arith, many, less),
+      number,
+      omega (arith, ap used here, ap finished here, more),
     )
 
 -- ---- the board of the ticks

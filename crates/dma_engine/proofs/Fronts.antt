@@ -7,7 +7,7 @@ use Rattle.dma_insn.specs.declared.insn.Insn.TheVariants.{End, Sev, Wfe}
 use Rattle.dma_mem.specs.Marking.{MarkList, meets_mark}
 use Rattle.dma_mem.specs.declared.marks.MarkKind.{MarkKind}
 use Rattle.dma_mem.specs.declared.marks.MarkKind.TheVariants.{Reading, Writing}
-use Rattle.dma_mem.specs.Places.{Descriptor, sources, destinations, size_of}
+use Rattle.dma_mem.specs.Places.{Descriptor, sources, destinations, size_of, lies_below}
 use Rattle.dma_mem.specs.Rules.{IsTransfer}
 use Rattle.dma_chan.specs.Compiled.{cost}
 use Rattle.dma_chan.specs.Traffic.{member, stored_after, burst}
@@ -16,13 +16,17 @@ use Rattle.dma_engine.specs.declared.entry.Entry.TheVariants.{Finished}
 use Rattle.dma_engine.specs.declared.outcome.TransResult.{TransResult}
 use Rattle.dma_engine.specs.declared.outcome.TransResult.TheVariants.{NoError, ReadFailed, WriteFailed, Aborted}
 use Rattle.dma_engine.specs.declared.queue.Queue.{Queue}
-use Rattle.dma_engine.specs.Object.{ChannelState, Allows, CanHaveStored, channel, front, issued_front}
-use Rattle.dma_engine.specs.View.{View, Agrees, IsSound, channels, object_of, running_in, schedule_at}
+use Rattle.dma_engine.specs.Object.{ChannelState, Allows, CanHaveStored, channel, front, issued_front, finished}
+use Rattle.dma_engine.specs.View.{View, Agrees, IsSound, channels, object_of, running_in, schedule_at, runs, ChannelSchedule, size}
 use Rattle.dma_engine.specs.Answer.{done_by, done_on}
 use Rattle.dma_engine.specs.inner.Due.{Finishes}
-use Rattle.dma_engine.specs.inner.Holds.{Parts, view_of}
-use Rattle.dma_engine.proofs.Queues.{front_where, runs_front}
-use Rattle.dma_engine.proofs.TransferRules.{Runs, ruled_front}
+use Rattle.dma_engine.specs.inner.Holds.{Parts, view_of, IsRun}
+use Rattle.dma_chan.specs.Channel.{ChannelValue}
+use Rattle.dma_chan.specs.inner.At.{IsAt}
+use Rattle.dma_chan.specs.Programs.{ProgramValue}
+use Rattle.dma_engine.proofs.Queues.{HoldsAt, front_where, runs_at, runs_front, taken_some}
+use Rattle.dma_engine.proofs.TransferRules.{ruled_front}
+use Rattle.dma_engine.specs.declared.turn.Turn.TheVariants.{Finished}
 
 -- ---- truth values and marks
 
@@ -62,31 +66,51 @@ pub record IsFront (c : ChannelState) (t : Descriptor) (n : ℕ) : Type 0 where
   pub signalled : c.signalled ≡ (is_some t.signal && n == cost t - 1)
   pub rules : IsTransfer t
 
--- what an engine's channel runs is such a front
-pub front_of_law : (p : Parts) (ch : ℕ) (q : Queue) (r : Runs p ch q) → IsFront (channel (object_of (view_of p)) ch) r.transfer q.channel.taken
-front_of_law p ch q r = record { is = r.is; issued = r.issued; goes = r.goes; within = r.within; passed = r.passed; signalled = r.signalled; rules = r.rules }
-
--- and so is what runs on a channel of a sound view
+-- what runs on a channel of a sound view is such a front
 pub record RunsAt (v : View) (ch n : ℕ) : Type 0 where
   pub transfer : Descriptor
   pub it : IsFront (channel (object_of v) ch) transfer n
+  pub below : lies_below transfer (size v) ≡ true
 
 pub runs_at_law : (v : View) (ch n : ℕ) → IsSound v → ch < channels v → (schedule_at v ch).taken ≡ Some n → RunsAt v ch n
 runs_at_law v ch n h less taken =
     let c = channel (object_of v) ch in
     let agrees : Agrees c (Some n) = rw taken at (h.fits.each ch less) in
     let f = front_where c _ agrees.1 in
+    let good = ruled_front v ch f.transfer h f.is in
     record {
       transfer = f.transfer;
-      it = record {
-        is = f.is;
-        issued = f.issued;
-        goes = agrees.0;
-        within = f.holds.0;
-        passed = f.holds.1;
-        signalled = f.holds.2;
-        rules = (ruled_front v ch f.transfer h f.is).0;
-      };
+      it = record { is = f.is; issued = f.issued; goes = agrees.0; within = f.holds.0; passed = f.holds.1; signalled = f.holds.2; rules = good.0 };
+      below = good.1;
+    }
+
+-- what a queue whose program is loaded runs
+pub record Runs (p : Parts) (ch : ℕ) (q : Queue) : Type 0 where
+  pub at : HoldsAt p ch q
+  pub transfer : Descriptor
+  pub known : IsFront (channel (object_of (view_of p)) ch) transfer q.channel.taken
+  pub open known use *
+  pub runs_is : runs (object_of (view_of p)) (view_of p).schedule ch ≡ Some (record { ch = ch; cookie = finished (channel (object_of (view_of p)) ch) + 1; transfer = transfer; taken = q.channel.taken })
+  pub below : lies_below transfer (size (view_of p)) ≡ true
+  pub machine : IsAt transfer q.channel.taken p.memory q.channel
+
+machine_at : (memory : List ℕ) (m : ChannelValue) (c : ChannelState) (t : Descriptor) → is_some m.program ≡ true → front c ≡ Some t → IsRun memory m c → IsAt t m.taken memory m
+machine_at memory m c t loaded is h = by m.program loaded (rw is at h) where
+  by : (o : Option ProgramValue) → is_some o ≡ true → IfSome o (λ _. IsAt t m.taken memory m) → IsAt t m.taken memory m
+  by None e g = absurd cc
+  by (Some p) e g = g
+
+pub running : {p : Parts} {ch : ℕ} {q : Queue} → HoldsAt p ch q → is_some q.channel.program ≡ true → Runs p ch q
+running {p} {ch} {q} at loaded =
+    let taken = ap (λ (s : ChannelSchedule). s.taken) at.schedule_is ∙ taken_some q.channel loaded in
+    let f = runs_at_law (view_of p) ch q.channel.taken at.holds.sound at.there taken in
+    record {
+      at = at;
+      transfer = f.transfer;
+      known = f.it;
+      runs_is = runs_at at f.transfer loaded f.it.is;
+      below = f.below;
+      machine = machine_at p.memory q.channel (channel (object_of (view_of p)) ch) f.transfer loaded f.it.is at.tied.machine;
     }
 
 -- ---- after one more instruction
@@ -191,3 +215,17 @@ stored_there v ch h less = by _ refl where
       let r = runs_at_law v ch n h less e in
       let some : done_on v ch ≡ stored_after r.transfer n = ap (λ x. done_by (running_in ch c x)) e ∙ ap done_by (runs_front ch c r.transfer n r.it.is) in
       subst (CanHaveStored c) (sym some) (stored_may c r.transfer n r.it)
+
+-- ---- whether a front has signalled
+
+and_true : (b : Bool) → (b && true) ≡ b
+and_true true = refl
+and_true false = refl
+
+pub signalled_end : {p : Parts} {ch : ℕ} {q : Queue} → (r : Runs p ch q) → member r.transfer q.channel.taken ≡ End → (channel (object_of (view_of p)) ch).signalled ≡ is_some r.transfer.signal
+signalled_end {p} {ch} {q} r is =
+    let t = r.transfer in
+    let n = q.channel.taken in
+    let last : n + 1 ≡ cost t = (shape_is t r.rules).end_only n r.within is in
+    let at : n ≡ cost t - 1 = omega arith in
+    r.signalled ∙ ap (λ b. is_some t.signal && b) (eq-eqb n (cost t - 1) at) ∙ and_true (is_some t.signal)

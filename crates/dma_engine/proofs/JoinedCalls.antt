@@ -1,5 +1,5 @@
 -- Answers to consecutive calls, and answers when memory doesn't run out.
-use Rattle.std.proofs.Common.{inl, inr, ◌≡◌, ◌≢◌, ℕ, ◌+◌, List, [], ◌∷◌, ◌++◌, length, take, drop, Option, Some, None, Bool, true, refl, ap, ◌∙◌, subst}
+use Rattle.std.proofs.Common.{inl, inr, ◌≡◌, ◌≢◌, ℕ, ◌+◌, List, [], ◌∷◌, ◌++◌, length, take, drop, Option, Some, None, Bool, true, refl, ap, ◌∙◌, subst, sym}
 use Rattle.std.specs.Prelude.{◌==◌, ◌||◌, nat_le, nat_lt, not}
 use Rattle.std.specs.Option.{option_map}
 use Rattle.std.proofs.lemmas.List.Elements.{All-head, All-tail}
@@ -122,6 +122,10 @@ answer_other v call = tt
 
 pub answer_is_one : AnswerIsOne
 answer_is_one v call = by_answer_law v (answer v call).1 call (answer v call).0 (answer_other v call) refl
+
+-- by the equation, whatever the reply
+pub answers_so : (v w : View) (call : Call) (reply : Reply) → (reply, w) ≡ answer v call → CallAnswers v call reply w
+answers_so v w call reply is = subst (λ (x : Reply × View). CallAnswers v call x.0 x.1) (sym is) (answer_is_one v call)
 
 pub answers_are_answers : AnswersAreAnswers
 answers_are_answers v [] = refl

@@ -15,7 +15,7 @@ use Rattle.dma_mem.proofs.OverTransfers.{over_started, over_ended, over_store, o
 use Rattle.dma_engine.specs.Object.{Object}
 use Rattle.dma_chan.specs.Traffic.{stored_after}
 use Rattle.dma_engine.specs.View.{RunningTransfer, ChannelSchedule, runs, running, with_stored, memory_shown}
-use Rattle.dma_engine.proofs.WhatRuns.{All_find, running_split, below, above, below_same, above_same}
+use Rattle.dma_engine.proofs.WhatRuns.{All_find, above, above_same, below, below_same, running_split}
 
 -- the running transfers depend on the channels, so a change of only the image keeps them
 pub running_image : (o : Object) (schedule : List ChannelSchedule) (image : List ℕ) → running (record o { image = image }) schedule ≡ running o schedule

@@ -12,7 +12,7 @@ use Rattle.dma_engine.specs.declared.queue.Queue.{Queue}
 use Rattle.dma_engine.specs.inner.Ranges.{AreOfRunning}
 use Rattle.dma_engine.specs.inner.Holds.{Holds, IsPrepared, Parts, view_of, schedule_of, new_queue}
 use Rattle.dma_mem.proofs.PageImages.{put_none}
-use Rattle.dma_engine.proofs.Sizes.{opening_size, opening_many, opening_flags}
+use Rattle.dma_engine.proofs.Sizes.{opening_flags, opening_many, opening_size}
 use Rattle.dma_engine.proofs.TransferRules.{AreMarks}
 
 map_same : (n : ℕ) → map schedule_of (replicate n new_queue) ≡ replicate n idle
@@ -106,11 +106,7 @@ holds_new bytes pages n made =
           let inside : ch < n = omega (arith, less, length-replicate n new_queue) in
           let here : channel (object_of v) ch ≡ empty_channel = ap (λ (w : View). channel (object_of w) ch) is ∙ new_at bytes n ch in
           rw (get_or-replicate n ch new_queue d inside, here) (record {
-            forgotten = refl;
-            given = refl;
-            many = refl;
-            first = refl;
-            indexed = λ k l. absurd (omega arith);
+            submitted = record { forgotten = refl; given = refl; many = refl; first = refl; indexed = λ k l. absurd (omega arith) };
             outcomes = refl;
             issued = refl;
             halted = refl;

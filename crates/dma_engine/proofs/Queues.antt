@@ -1,10 +1,12 @@
 -- A queue and what the object knows of its channel.
 use Rattle.std.proofs.Common.{◌≡◌, ℕ, ◌+◌, ◌-◌, ◌<◌, List, [], ◌∷◌, ◌++◌, length, Option, Some, None, Bool, true, false, cond, refl, ap, sym, ◌∙◌, arith, suc, zero, inl, inr}
-use Rattle.std.specs.Prelude.{IsSomeAnd, slice_get, slice_index_or, nat_lt}
-use Rattle.std.proofs.lemmas.Bool.{cases_lt, le-ltb, lt-ltb}
+use Rattle.std.specs.Prelude.{IsSomeAnd, is_some, slice_get, slice_index_or, nat_lt}
+use Rattle.std.specs.Option.{option_map}
+use Rattle.std.proofs.lemmas.Bool.{cases_lt, le-ltb, lt-ltb, ltb-true}
 use Rattle.std.proofs.lemmas.Option.{slice_get_within, slice_get-get_or}
-use Rattle.std.proofs.lemmas.Bool.{ltb-true}
 use Rattle.std.proofs.lemmas.List.{get_or-map, length-map, get_or-take, get_or_default}
+use Rattle.dma_chan.specs.Channel.{ChannelValue}
+use Rattle.dma_chan.specs.Programs.{ProgramValue}
 use Rattle.dma_mem.specs.Places.{Descriptor}
 use Rattle.dma_engine.specs.declared.entry.Entry.{Entry}
 use Rattle.dma_engine.specs.declared.queue.Queue.{Queue}
@@ -12,7 +14,7 @@ use Rattle.dma_engine.specs.Object.{ChannelState, channel, front, issued_front, 
 use Rattle.dma_engine.specs.inner.Found.{given_by, transfer_at}
 use Rattle.dma_engine.specs.inner.Ranges.{AreOfRunning}
 use Rattle.dma_engine.specs.View.{Agrees, running_in, runs, idle, object_of, channels, View, ChannelSchedule}
-use Rattle.dma_engine.specs.inner.Holds.{IsQueue, Holds, Parts, view_of, schedule_of}
+use Rattle.dma_engine.specs.inner.Holds.{IsQueue, Holds, Parts, view_of, schedule_of, taken_of}
 
 -- ---- the front of a channel
 
@@ -54,7 +56,11 @@ runs_front ch c t taken h = rw h refl
 
 -- what an engine keeps, at the queue that was read at a channel
 pub record HoldsAt (p : Parts) (ch : ℕ) (q : Queue) : Type 0 where
+  pub holds : Holds p
+  pub less : ch < length p.queues
+  pub read : q ≡ slice_index_or p.queues ch q
   pub there : ch < channels (view_of p)
+  pub within : ch < length (view_of p).schedule
   pub tied : IsQueue ch (channel p.base ch).submitted p.history p.memory q (channel (object_of (view_of p)) ch)
   pub agrees : Agrees (channel (object_of (view_of p)) ch) (schedule_of q).taken
   pub runs_is : runs (object_of (view_of p)) (view_of p).schedule ch ≡ running_in ch (channel (object_of (view_of p)) ch) (schedule_of q).taken
@@ -74,13 +80,40 @@ holds_at p h ch q less read =
     let inside : ch < channels v = omega (arith, many_queues p h, less) in
     let at : slice_index_or v.schedule ch idle ≡ schedule_of q = get_or-map schedule_of p.queues ch q idle less ∙ ap schedule_of (sym read) in
     record {
+      holds = h;
+      less = less;
+      read = read;
       there = inside;
+      within = omega (arith, h.sound.fits.many, inside);
       tied = rw (← read) at (h.each ch q less);
       agrees = rw at at (h.sound.fits.each ch inside);
       runs_is = ap (λ (s : ChannelSchedule). running_in ch (channel (object_of v) ch) s.taken) at;
       schedule_is = at;
       ranges = rw (← read) at (h.ranges ch q less);
     }
+
+-- how many instructions its machine has executed, if a program is loaded
+pub taken_some : (m : ChannelValue) → is_some m.program ≡ true → taken_of m ≡ Some m.taken
+taken_some m h = by m.program h where
+  by : (o : Option ProgramValue) → is_some o ≡ true → option_map (λ _. m.taken) o ≡ Some m.taken
+  by None e = absurd cc
+  by (Some p) e = refl
+
+pub taken_none : (m : ChannelValue) → is_some m.program ≡ false → taken_of m ≡ None
+taken_none m h = by m.program h where
+  by : (o : Option ProgramValue) → is_some o ≡ false → option_map (λ _. m.taken) o ≡ None
+  by None e = refl
+  by (Some p) e = absurd cc
+
+-- what runs on its channel
+pub runs_at : {p : Parts} {ch : ℕ} {q : Queue} → HoldsAt p ch q → (t : Descriptor) → is_some q.channel.program ≡ true → front (channel (object_of (view_of p)) ch) ≡ Some t → runs (object_of (view_of p)) (view_of p).schedule ch ≡ Some (record { ch = ch; cookie = finished (channel (object_of (view_of p)) ch) + 1; transfer = t; taken = q.channel.taken })
+runs_at {p} {ch} {q} at t loaded is =
+    let c = channel (object_of (view_of p)) ch in
+    at.runs_is ∙ ap (running_in ch c) (taken_some q.channel loaded) ∙ runs_front ch c t q.channel.taken is
+
+pub runs_none : {p : Parts} {ch : ℕ} {q : Queue} → HoldsAt p ch q → is_some q.channel.program ≡ false → None ≡ runs (object_of (view_of p)) (view_of p).schedule ch
+runs_none {p} {ch} {q} at unloaded =
+    sym (at.runs_is ∙ ap (running_in ch (channel (object_of (view_of p)) ch)) (taken_none q.channel unloaded))
 
 -- ---- a queue's transfers
 

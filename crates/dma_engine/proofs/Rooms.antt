@@ -21,15 +21,16 @@ use Rattle.dma_engine.specs.declared.entry.Entry.TheVariants.{Submitted}
 use Rattle.dma_engine.specs.declared.outcome.TransResult.{TransResult}
 use Rattle.dma_engine.specs.declared.outcome.TransResult.TheVariants.{ReadFailed, WriteFailed}
 use Rattle.dma_engine.specs.declared.queue.Queue.{Queue}
-use Rattle.dma_engine.specs.inner.Found.{given_by, transfer_at, transfer_in, transfer_of, transfers_in}
+use Rattle.dma_engine.specs.inner.Found.{given_by, transfer_at, transfer_in, transfer_of, transfers_in, unfinished_in}
 use Rattle.dma_engine.specs.inner.Inside.{queue_room}
 use Rattle.dma_engine.specs.Object.{Object, ChannelState, channel, no_transfer, unfinished, is_set}
-use Rattle.dma_engine.specs.Room.{no_room, room_on, KeepsRoom}
+use Rattle.dma_engine.specs.Room.{no_room, room_on, HasRoom, KeepsRoom}
 use Rattle.dma_engine.specs.Turn.{Stepped, ends, insn_turn, finishes, next_moved}
 use Rattle.dma_engine.specs.View.{View, EngineState, object_of}
 use Rattle.dma_engine.specs.inner.Holds.{Holds, IsQueue, Parts, view_of}
-use Rattle.dma_engine.proofs.Changes.{changed, view_changed, schedule_kept}
-use Rattle.dma_engine.proofs.QueueCalls.{holds_besides}
+use Rattle.dma_engine.proofs.Changes.{changed, schedule_kept, view_changed}
+use Rattle.dma_engine.proofs.QueueCalls.{holds_paused}
+use Rattle.dma_engine.proofs.Queues.{HoldsAt}
 
 -- ---- room
 
@@ -38,15 +39,12 @@ abbrev pub with_room : Queue → ℕ → ℕ → Queue
 with_room q a b =
     record q { indices = record { items = q.indices.items; spare = a }; outcomes = record { items = q.outcomes.items; spare = b } }
 
-pub holds_room : (p : Parts) (ch a b : ℕ) (q : Queue) → Holds p → ch < length p.queues → q ≡ slice_index_or p.queues ch q → Holds (changed p ch (with_room q a b) p.memory p.events p.history p.steps)
-holds_room p ch a b q h less read = holds_besides p ch a b q.paused q h less read
+pub holds_room : {p : Parts} {ch : ℕ} {q : Queue} → HoldsAt p ch q → (a b : ℕ) → Holds (changed p ch (with_room q a b) p.memory p.events p.history p.steps)
+holds_room {q = q} at a b = holds_paused at a b q.paused
 
-pub view_room : (p : Parts) (ch a b : ℕ) (q : Queue) → ch < length p.queues → q ≡ slice_index_or p.queues ch q → view_of (changed p ch (with_room q a b) p.memory p.events p.history p.steps) ≡ view_of p
-view_room p ch a b q less read =
-    let v : View = view_of p in
-    let r = with_room q a b in
-    view_changed p ch r p.memory p.events p.history p.steps
-    ∙ ap (λ s. record { base = v.base; history = p.history; steps = p.steps; schedule = s }) (schedule_kept p ch q r less read refl)
+pub view_room : {p : Parts} {ch : ℕ} {q : Queue} → HoldsAt p ch q → (a b : ℕ) → view_of (changed p ch (with_room q a b) p.memory p.events p.history p.steps) ≡ view_of p
+view_room {p} {ch} {q} at a b =
+    view_changed p ch (with_room q a b) p.memory p.events p.history p.steps ∙ ap (λ s. record (view_of p) { schedule = s }) (schedule_kept at (with_room q a b) refl)
 
 -- the room of a channel is that of its queue
 pub room_at : (queues : List Queue) (ch : ℕ) (q : Queue) → ch < length queues → q ≡ slice_index_or queues ch q → slice_index_or (map queue_room queues) ch no_room ≡ queue_room q
@@ -57,21 +55,19 @@ room_set queues ch q less =
     ap (λ l. slice_index_or l ch no_room) (map-set queue_room queues ch q)
     ∙ get_or-set_same (map queue_room queues) ch (queue_room q) no_room (omega (arith, less, length-map queues queue_room))
 
--- room stays if the object does and no list's room falls
-pub room_grows : (e f : EngineState) → object_of f.view ≡ object_of e.view → e.room.entries ≤ f.room.entries → ((ch : ℕ) → ((room_on e.room ch).indices ≤ (room_on f.room ch).indices) × ((room_on e.room ch).outcomes ≤ (room_on f.room ch).outcomes)) → KeepsRoom e f
-room_grows e f object entries queues ch h = record {
-  entry = omega (arith, entries, h.entry);
-  cookie = omega (arith, (queues ch).0, h.cookie);
-  outcomes = subst (λ (o : Object). unfinished (channel o ch) ≤ (room_on f.room ch).outcomes) (sym object) (omega (arith, (queues ch).1, h.outcomes));
-}
-
--- a queue that is replaced by one with no less room
-pub queues_grow : (queues : List Queue) (i : ℕ) (q r : Queue) → i < length queues → q ≡ slice_index_or queues i q → q.indices.spare ≤ r.indices.spare → q.outcomes.spare ≤ r.outcomes.spare → (ch : ℕ) → ((slice_index_or (map queue_room queues) ch no_room).indices ≤ (slice_index_or (map queue_room (slice_set queues i r)) ch no_room).indices) × ((slice_index_or (map queue_room queues) ch no_room).outcomes ≤ (slice_index_or (map queue_room (slice_set queues i r)) ch no_room).outcomes)
-queues_grow queues i q r less read indices outcomes ch =
-    elim (cases_eq ch i) [
-      | inl same ↦ rw (same, room_at queues i q less read, room_set queues i r less) (indices, outcomes)
-      | inr other ↦ rw (map-set queue_room queues i r, get_or-set_other (map queue_room queues) i ch (queue_room r) no_room other) (omega arith, omega arith)
-    ]
+-- every channel's room is kept when one queue is replaced by one with no less room
+pub keeps_room : {p : Parts} {ch : ℕ} {q : Queue} → HoldsAt p ch q → (r : Queue) (entries : ℕ) (e f : EngineState) → record { view = view_of p; memory = p.memory; room = record { entries = entries; queues = map queue_room p.queues } } ≡ e → object_of f.view ≡ object_of (view_of p) → entries ≤ f.room.entries → f.room.queues ≡ map queue_room (slice_set p.queues ch r) → q.indices.spare ≤ r.indices.spare → q.outcomes.spare ≤ r.outcomes.spare → KeepsRoom e f
+keeps_room {p} {ch} {q} at r entries e f is object more queues indices outcomes d h =
+    let h' = subst (λ (s : EngineState). HasRoom s d) (sym is) h in
+    let grow : ((slice_index_or (map queue_room p.queues) d no_room).indices ≤ (room_on f.room d).indices) × ((slice_index_or (map queue_room p.queues) d no_room).outcomes ≤ (room_on f.room d).outcomes) = elim (cases_eq d ch) [
+      | inl same ↦ rw (queues, same, room_at p.queues ch q at.less at.read, room_set p.queues ch r at.less) (indices, outcomes)
+      | inr other ↦ rw (queues, map-set queue_room p.queues ch r, get_or-set_other (map queue_room p.queues) ch d (queue_room r) no_room other) (omega arith, omega arith)
+    ] in
+    record {
+      entry = omega (arith, more, h'.entry);
+      cookie = omega (arith, grow.0, h'.cookie);
+      outcomes = subst (λ (o : Object). unfinished (channel o d) ≤ (room_on f.room d).outcomes) (sym object) (omega (arith, grow.1, h'.outcomes));
+    }
 
 -- ---- transfers that are found by their indices
 
@@ -93,11 +89,17 @@ later_all ch kept history memory q c t =
     (λ k less. ap transfer_of (t.indexed k (omega (arith, less, many))).1 ∙ sym (get_or-drop n c.submitted k no_transfer))
 
 -- all its transfers, with those that the base has
-pub found_all : (ch : ℕ) (kept : List Descriptor) (history : List Entry) (memory : List ℕ) (q : Queue) (c : ChannelState) → IsQueue ch kept history memory q c → transfers_in kept history q.indices.items ≡ c.submitted
+found_all : (ch : ℕ) (kept : List Descriptor) (history : List Entry) (memory : List ℕ) (q : Queue) (c : ChannelState) → IsQueue ch kept history memory q c → transfers_in kept history q.indices.items ≡ c.submitted
 found_all ch kept history memory q c t =
     ap (λ l. l ++ map (transfer_in history) q.indices.items) (sym t.first)
     ∙ ap (λ l. take (length kept) c.submitted ++ l) (later_all ch kept history memory q c t)
     ∙ take-append-drop (length kept) c.submitted
+
+-- those of its unfinished cookies
+pub unfinished_found : {p : Parts} {ch : ℕ} {q : Queue} → HoldsAt p ch q → let c = channel (object_of (view_of p)) ch in unfinished_in q (channel p.base ch).submitted p.history ≡ drop (length c.outcomes) c.submitted
+unfinished_found {p} {ch} {q} at =
+    let c = channel (object_of (view_of p)) ch in
+    ap (drop (length q.outcomes.items)) (found_all ch (channel p.base ch).submitted p.history p.memory q c at.tied) ∙ ap (λ l. drop (length l) c.submitted) at.tied.outcomes
 
 -- a transfer of the base or of an entry is the one at its place among all
 pub transfer_at_all : (kept : List Descriptor) (history : List Entry) (indices : List ℕ) (n : ℕ) → n < length kept + length indices → unwrap_or (transfer_at kept history indices n) no_transfer ≡ slice_index_or (transfers_in kept history indices) n no_transfer

@@ -1,23 +1,29 @@
--- Whatever a call answers, a sound view stays sound.
-use Rattle.std.proofs.Common.{◌≡◌, ◌≢◌, ℕ, ◌+◌, ◌-◌, ◌<◌, ◌≤◌, [], ◌∷◌, length, take, drop, Option, Some, None, Bool, true, false, ◌&&◌, refl, ap, sym, ◌∙◌, subst, arith}
-use Rattle.std.specs.Prelude.{if◌then◌else◌, ◌==◌, ◌||◌, nat_le, nat_lt, is_some, slice_get, IfSome, Ok, Err}
+-- Whatever a call answers, a sound view stays sound: after an entry that changes no channel, and after a change at one.
+use Rattle.std.proofs.Common.{◌≡◌, ◌≢◌, ℕ, ◌+◌, ◌-◌, ◌<◌, List, [], ◌∷◌, ◌++◌, length, Option, Some, None, Bool, ◌&&◌, refl, ap, sym, ◌∙◌, subst, ◌≤◌, take, drop, true, false, arith, not, find, slice_index_or, true≢false, length-drop, map, inl, inr}
+use Rattle.std.specs.Prelude.{slice_set, is_some, nat_lt, ◌==◌, if◌then◌else◌, ◌||◌, nat_le, slice_get, IfSome, Ok, Err}
+use Rattle.std.proofs.lemmas.List.{set-get_or, length-set, get_or-set_same, get_or-set_other, length-map, get_or-map, get_or_past, get_or-drop}
+use Rattle.dma_mem.specs.Places.{Descriptor, is_free_of, touches}
+use Rattle.dma_chan.specs.Compiled.{cost}
+use Rattle.dma_mem.specs.declared.call.Call.{Call}
+use Rattle.dma_engine.specs.declared.call.Reply.{Reply}
+use Rattle.dma_engine.specs.declared.entry.Entry.{Entry}
+use Rattle.dma_engine.specs.Object.{Object, Allows, after, channel, finished, IsMark, empty_channel, is_set, issued_front, unfinished, used, with_all_aborted, with_outcome, with_transfer, ChannelState, front, base_from, IsBase, forget}
+use Rattle.dma_engine.specs.View.{running, View, ChannelSchedule, RunningTransfer, Agrees, AreFree, Fits, IsSound, channels, idle, object_of, runs, running_in, schedule_at}
+use Rattle.dma_engine.specs.Turn.{with_entry, Stepped, turn, front_turn, start_turn, insn_turn, next_moved, finishes, with_taken, first_conflicting, last_step}
+use Rattle.dma_engine.specs.Answer.{CallAnswers, answer, unless, write_fault, read_fault, submit_fault, channel_fault, mark_fault, raise_fault, checkpoint_fault, checkpointed, first_running, with_pause, terminated, done_on}
+use Rattle.dma_engine.specs.Laws.{AreSoundAnswers, IsCall, NewViewsAreSound, AnswersStaySound, CallsStaySound}
 use Rattle.std.specs.Option.{option_map}
-use Rattle.std.proofs.lemmas.Bool.{eq-eqb, eqb-false, leb-false, lt-ltb, ltb-false, ne_eqb, or_parts, and_right, cond_both}
-use Rattle.std.proofs.lemmas.List.{length-set, get_or-set_same, get_or-set_other}
+use Rattle.std.proofs.lemmas.Bool.{eq-eqb, eqb-false, leb-false, lt-ltb, ltb-false, ne_eqb, or_parts, and_right, cond_both, cases_lt, true_from_ne_false, not-false}
 use Rattle.std.proofs.lemmas.List.Elements.{All-head, All-tail}
 use Rattle.std.proofs.lemmas.Option.{slice_get-get_or}
 use Rattle.dma_insn.specs.declared.insn.Insn.{Insn}
 use Rattle.dma_insn.specs.declared.insn.Insn.TheVariants.{Ld, St, End, Sev, Wfe}
-use Rattle.dma_mem.specs.Places.{Descriptor}
 use Rattle.dma_mem.specs.Marking.{meets_mark}
 use Rattle.dma_mem.specs.declared.marks.MarkKind.TheVariants.{Reading, Writing}
 use Rattle.dma_mem.specs.declared.segment.Segment.{Segment}
-use Rattle.dma_chan.specs.Compiled.{cost}
 use Rattle.dma_chan.specs.Traffic.{member, stored_after, read_places, written_places}
 use Rattle.dma_chan.proofs.ShapeLaws.{shape_is}
-use Rattle.dma_mem.specs.declared.call.Call.{Call}
 use Rattle.dma_mem.specs.declared.call.Call.TheVariants.{Write, Read, Submit, Issue, Pause, Resume, Terminate, Step, Mark, Unmark, Raise, Checkpoint}
-use Rattle.dma_engine.specs.declared.call.Reply.{Reply}
 use Rattle.dma_engine.specs.declared.call.Reply.TheVariants.{Done, Bytes, Cookie, Count}
 use Rattle.dma_engine.specs.declared.entry.Entry.TheVariants.{Wrote, ReadBack, Submitted, Issued, Passed, Signalled, Finished, Terminated, Marked, Unmarked}
 use Rattle.dma_engine.specs.declared.entry.Signaller.TheVariants.{Channel, Host}
@@ -26,22 +32,278 @@ use Rattle.dma_engine.specs.declared.fault.EngineFault.TheVariants.{BadRange, Ba
 use Rattle.dma_engine.specs.declared.outcome.TransResult.{TransResult}
 use Rattle.dma_engine.specs.declared.outcome.TransResult.TheVariants.{NoError, ReadFailed, WriteFailed}
 use Rattle.dma_engine.specs.declared.turn.Turn.TheVariants.{Paused, Halted, Waiting}
-use Rattle.dma_engine.specs.Object.{Allows, IsMark, after, channel, empty_channel, is_set, issued_front, unfinished, used, with_all_aborted, with_outcome, with_transfer}
-use Rattle.dma_engine.specs.View.{View, ChannelSchedule, RunningTransfer, Agrees, IsSound, channels, idle, object_of, running_in, schedule_at}
-use Rattle.dma_engine.specs.Turn.{Stepped, turn, front_turn, start_turn, insn_turn, next_moved, finishes, with_entry, with_taken, first_conflicting, last_step}
-use Rattle.dma_engine.specs.Answer.{answer, unless, write_fault, read_fault, submit_fault, channel_fault, mark_fault, raise_fault, checkpoint_fault, checkpointed, first_running, with_pause, terminated, done_on}
-use Rattle.dma_engine.specs.Laws.{IsCall, NewViewsAreSound, AnswersStaySound, CallsStaySound}
 use Rattle.dma_engine.specs.inner.Due.{Finishes, MayStart}
-use Rattle.dma_engine.proofs.AnswerCounts.{answered}
-use Rattle.dma_engine.proofs.CallCases.{cause_none, submit_open, channel_open}
-use Rattle.dma_engine.proofs.Checkpoint.{checkpoint_sound}
-use Rattle.dma_engine.proofs.Entries.{read_entry, write_allowed}
-use Rattle.dma_engine.proofs.Fronts.{IsFront, finish_may, passed_next, runs_at_law, signalled_next, stored_there, within_next, has_passed}
+use Rattle.dma_mem.specs.Rules.{IsTransfer}
+use Rattle.dma_engine.proofs.AnswerCounts.{answered, object_one}
+use Rattle.dma_engine.proofs.Boards.{counted_base, counted_object}
+use Rattle.dma_engine.proofs.CallCases.{cause_none, channel_open, read_entry, range_open, submit_open}
+use Rattle.dma_engine.proofs.Changes.{FitsStill, fits_changed, fits_channels}
+use Rattle.dma_engine.proofs.Fronts.{IsFront, finish_may, has_passed, passed_next, runs_at_law, signalled_next, stored_there, within_next}
+use Rattle.dma_engine.proofs.Histories.{IsLegal_append}
 use Rattle.dma_engine.proofs.Opening.{new_sound}
-use Rattle.dma_engine.proofs.QueueCalls.{agrees_issued, agrees_submitted, runs_issued, runs_submitted}
-use Rattle.dma_engine.proofs.Sizes.{flags_object}
-use Rattle.dma_engine.proofs.SoundViews.{entered_sound, schedule_sound, change_sound, queue_sound, still_fits, ended_fits, moved_fits_law}
-use Rattle.dma_engine.proofs.Starts.{start_fits}
+use Rattle.dma_engine.proofs.Queues.{front_issued, front_where, runs_front, slice_get_push}
+use Rattle.dma_engine.proofs.Sizes.{flags_object, many_channels, size_object}
+use Rattle.dma_engine.proofs.TransferRules.{IsGood, marked_object, ruled_base, ruled_front, ruled_object}
+use Rattle.dma_engine.proofs.WhatRuns.{find_none_at}
+
+-- ---- an entry more
+
+-- an entry that is allowed, after which the schedule fits the object
+entry_sound : (v : View) (e : Entry) → IsSound v → Allows (object_of v) e → Fits (after (object_of v) e) v.schedule → IsSound (with_entry v e)
+entry_sound v e h allowed fits = record {
+  opens = h.opens;
+  makes = h.makes;
+  legal = IsLegal_append v.base v.history (e ∷ []) h.legal (allowed, tt);
+  fits = subst (λ (o : Object). Fits o v.schedule) (sym (object_one v e)) fits;
+}
+
+-- an entry that changes no channel
+pub entered_sound : (v : View) (e : Entry) → IsSound v → Allows (object_of v) e → (object_of v).channels ≡ (after (object_of v) e).channels → IsSound (with_entry v e)
+entered_sound v e h allowed same =
+    entry_sound v e h allowed (fits_channels (object_of v) (after (object_of v) e) v.schedule same h.fits)
+
+-- ---- a change at one channel
+
+-- the view after it
+abbrev pub changed_at : View → ℕ → List Entry → ChannelSchedule → ℕ → View
+changed_at v ch history x steps = record { base = v.base; history = history; steps = steps; schedule = slice_set v.schedule ch x }
+
+-- of the schedule alone
+pub schedule_sound : (v : View) (ch steps : ℕ) (x : ChannelSchedule) → IsSound v → FitsStill (object_of v) (object_of v) v.schedule ch x → IsSound (changed_at v ch v.history x steps)
+schedule_sound v ch steps x h fits = record {
+  opens = h.opens;
+  makes = h.makes;
+  legal = h.legal;
+  fits = fits_changed (object_of v) (object_of v) v.schedule ch x h.fits fits;
+}
+
+-- by an entry too
+pub change_sound : (v : View) (ch steps : ℕ) (e : Entry) (x : ChannelSchedule) → IsSound v → Allows (object_of v) e → FitsStill (object_of v) (after (object_of v) e) v.schedule ch x → IsSound (changed_at v ch (v.history ++ e ∷ []) x steps)
+change_sound v ch steps e x h allowed fits = record {
+  opens = h.opens;
+  makes = h.makes;
+  legal = IsLegal_append v.base v.history (e ∷ []) h.legal (allowed, tt);
+  fits = subst (λ (o : Object). Fits o (slice_set v.schedule ch x)) (sym (object_one v e)) (fits_changed (object_of v) (after (object_of v) e) v.schedule ch x h.fits fits);
+}
+
+-- by an entry alone
+pub queue_sound : (v : View) (ch : ℕ) (e : Entry) → IsSound v → Allows (object_of v) e → FitsStill (object_of v) (after (object_of v) e) v.schedule ch (schedule_at v ch) → IsSound (with_entry v e)
+queue_sound v ch e h allowed fits =
+    let all = change_sound v ch v.steps e (schedule_at v ch) h allowed fits in
+    subst (λ (s : List ChannelSchedule). IsSound (record { base = v.base; history = v.history ++ e ∷ []; steps = v.steps; schedule = s })) (set-get_or v.schedule ch idle) all
+
+-- ---- what fits
+
+-- where what runs on the channel stays
+pub still_fits : (v : View) (o : Object) (ch : ℕ) (x : ChannelSchedule) → IsSound v → ch < channels v → length o.channels ≡ channels v → ((c : ℕ) → c ≢ ch → channel o c ≡ channel (object_of v) c) → Agrees (channel o ch) x.taken → running_in ch (channel o ch) x.taken ≡ runs (object_of v) v.schedule ch → FitsStill (object_of v) o v.schedule ch x
+still_fits v o ch x h less many others agrees still = record {
+  there = less;
+  many = many;
+  others = others;
+  agrees = agrees;
+  free = λ d l k. subst (λ (r : Option RunningTransfer). AreFree r (runs (object_of v) v.schedule d)) (sym still) (h.fits.free ch d less l (λ e. k (sym e)));
+}
+
+-- where nothing runs on it afterwards
+pub ended_fits : (v : View) (o : Object) (ch : ℕ) (x : ChannelSchedule) → ch < channels v → length o.channels ≡ channels v → ((c : ℕ) → c ≢ ch → channel o c ≡ channel (object_of v) c) → x.taken ≡ None → Agrees (channel o ch) None → FitsStill (object_of v) o v.schedule ch x
+ended_fits v o ch x less many others none agrees = record {
+  there = less;
+  many = many;
+  others = others;
+  agrees = rw none agrees;
+  free = λ d l k. rw none tt;
+}
+
+-- the channel, but for whether its front has passed and signalled
+abbrev pub with_flags : ChannelState → Bool → Bool → ChannelState
+with_flags c a b = record c { passed = a; signalled = b }
+
+pub free_taken : (r s : RunningTransfer) (x : Option RunningTransfer) → r.transfer ≡ s.transfer → AreFree (Some r) x → AreFree (Some s) x
+free_taken r s None e h = tt
+free_taken r s (Some y) e h = rw (← e) h
+
+-- where its front has executed one instruction more
+pub record Advances (v : View) (o : Object) (ch n : ℕ) (t : Descriptor) (a b : Bool) : Type 0 where
+  pub many : length o.channels ≡ channels v
+  pub others : (c : ℕ) → c ≢ ch → channel o c ≡ channel (object_of v) c
+  pub here : channel o ch ≡ with_flags (channel (object_of v) ch) a b
+  pub within : n + 1 < cost t
+  pub passed : a ≡ (is_some t.wait && nat_lt 0 (n + 1))
+  pub signalled : b ≡ (is_some t.signal && n + 1 == cost t - 1)
+
+pub moved_fits_law : (v : View) (o : Object) (ch n : ℕ) (t : Descriptor) (a b : Bool) → IsSound v → ch < channels v → (schedule_at v ch).taken ≡ Some n → IsFront (channel (object_of v) ch) t n → Advances v o ch n t a b → FitsStill (object_of v) o v.schedule ch (record (schedule_at v ch) { taken = Some (n + 1) })
+moved_fits_law v o ch n t a b h less taken f w =
+    let old = object_of v in
+    let c = channel old ch in
+    let was : RunningTransfer = record { ch = ch; cookie = finished c + 1; transfer = t; taken = n } in
+    let now : RunningTransfer = record { ch = ch; cookie = finished c + 1; transfer = t; taken = n + 1 } in
+    let before : runs old v.schedule ch ≡ Some was = ap (running_in ch c) taken ∙ runs_front ch c t n f.is in
+    let there_is : running_in ch (channel o ch) (Some (n + 1)) ≡ Some now = ap (λ y. running_in ch y (Some (n + 1))) w.here ∙ runs_front ch (with_flags c a b) t (n + 1) f.is in
+    let agrees : Agrees (channel o ch) (Some (n + 1)) = rw (w.here, f.issued) (f.goes, (w.within, w.passed, w.signalled)) in
+    record {
+      there = less;
+      many = w.many;
+      others = w.others;
+      agrees = agrees;
+      free = λ d l k.
+          let free : AreFree (Some was) (runs old v.schedule d) = rw before at (h.fits.free ch d less l (λ e. k (sym e))) in
+          rw there_is (free_taken was now (runs old v.schedule d) refl free);
+    }
+
+-- ---- a start, an issue and a submit
+
+start_agrees : (c : ChannelState) (t : Descriptor) → IsTransfer t → c.halted ≡ false → issued_front c ≡ Some t → Agrees c None → Agrees c (Some 0)
+start_agrees c t rules goes is before =
+    let shape = shape_is t rules in
+    let some : 0 < cost t = omega (arith, shape.some) in
+    let last : (w : Option ℕ) → IfSome w (λ e. (2 ≤ cost t) × (member t (cost t - 2) ≡ Sev e)) → false ≡ (is_some w && 0 == cost t - 1) = λ w. elim w as (λ w. IfSome w (λ e. (2 ≤ cost t) × (member t (cost t - 2) ≡ Sev e)) → false ≡ (is_some w && 0 == cost t - 1)) [
+      | None ↦ λ _. refl
+      | Some e ↦ λ l. sym (ne_eqb 0 (cost t - 1) (λ z. omega (arith, l.0)))
+    ] in
+    (goes, rw is (some, before.0 ∙ sym (and_right (is_some t.wait) false refl), before.1 ∙ last t.signal shape.signal_last))
+
+free_of_law : (t : Descriptor) (r : RunningTransfer) (x : Option RunningTransfer) → r.transfer ≡ t → IfSome x (λ s. not (is_free_of t s.transfer) ≡ false) → AreFree (Some r) x
+free_of_law t r None e h = tt
+free_of_law t r (Some s) e h = rw e (not-false (is_free_of t s.transfer) h)
+
+-- the schedule after it fits
+pub start_fits : (v : View) (ch : ℕ) (t : Descriptor) (x : ChannelSchedule) → IsSound v → MayStart v ch → issued_front (channel (object_of v) ch) ≡ Some t → first_conflicting v t ≡ None → x.taken ≡ Some 0 → FitsStill (object_of v) (object_of v) v.schedule ch x
+start_fits v ch t x h may some none begun =
+    let o = object_of v in
+    let s = v.schedule in
+    let c = channel o ch in
+    let is : front c ≡ Some t = front_issued c t some in
+    let before : Agrees c None = rw may.3 at (h.fits.each ch may.0) in
+    let now : RunningTransfer = record { ch = ch; cookie = finished c + 1; transfer = t; taken = 0 } in
+    let there_is : running_in ch c x.taken ≡ Some now = ap (running_in ch c) begun ∙ runs_front ch c t 0 is in
+    let each : (d : ℕ) → d < length o.channels → (y : Option RunningTransfer) → runs o s d ≡ y → IfSome y (λ u. not (is_free_of t u.transfer) ≡ false) = λ d l y. elim y as (λ y. runs o s d ≡ y → IfSome y (λ u. not (is_free_of t u.transfer) ≡ false)) [
+      | None ↦ λ _. tt
+      | Some u ↦ λ e. find_none_at (λ r. not (is_free_of t r.transfer)) o s d u l none e
+    ] in
+    record {
+      there = may.0;
+      many = refl;
+      others = λ d k. refl;
+      agrees = subst (Agrees c) (sym begun) (start_agrees c t (ruled_front v ch t h is).0 may.1 some before);
+      free = λ d l k. rw there_is (free_of_law t now (runs o s d) refl (each d l (runs o s d) refl));
+    }
+
+pub agrees_issued : (c : ChannelState) (taken : Option ℕ) → Agrees c taken → Agrees (record c { issued = used c }) taken
+agrees_issued c None h = h
+agrees_issued c (Some n) h =
+    let f = front_where c _ h.1 in
+    let e : nat_lt (finished c) (used c) ≡ true = lt-ltb _ _ f.within in
+    (h.0, rw (e, f.is) f.holds)
+
+pub runs_issued : (ch : ℕ) (c : ChannelState) (taken : Option ℕ) → running_in ch (record c { issued = used c }) taken ≡ running_in ch c taken
+runs_issued ch c None = refl
+runs_issued ch c (Some n) = refl
+
+pub front_submitted : (c : ChannelState) (t u : Descriptor) → front c ≡ Some t → front (with_transfer c u) ≡ Some t
+front_submitted c t u h = slice_get_push c.submitted u t (length c.outcomes) h
+
+issued_below : (c : ChannelState) (t : Descriptor) → issued_front c ≡ Some t → nat_lt (finished c) c.issued ≡ true
+issued_below c t h = true_from_ne_false _ (λ e. let none : issued_front c ≡ None = rw e refl in cc)
+
+pub agrees_submitted : (c : ChannelState) (u : Descriptor) (taken : Option ℕ) → Agrees c taken → Agrees (with_transfer c u) taken
+agrees_submitted c u None h = h
+agrees_submitted c u (Some n) h =
+    let f = front_where c _ h.1 in
+    let e : nat_lt (finished c) c.issued ≡ true = issued_below c f.transfer f.issued in
+    (h.0, rw (e, front_submitted c f.transfer u f.is) f.holds)
+
+pub runs_submitted : (ch : ℕ) (c : ChannelState) (u : Descriptor) (taken : Option ℕ) → Agrees c taken → running_in ch (with_transfer c u) taken ≡ running_in ch c taken
+runs_submitted ch c u None h = refl
+runs_submitted ch c u (Some n) h =
+    let f = front_where c _ h.1 in
+    runs_front ch (with_transfer c u) f.transfer n (front_submitted c f.transfer u f.is) ∙ sym (runs_front ch c f.transfer n f.is)
+
+-- ---- a checkpoint
+
+pub forgotten_at : (o : Object) (ch : ℕ) → channel (base_from o) ch ≡ forget (channel o ch)
+forgotten_at o ch = elim (cases_lt ch (length o.channels)) [
+  | inl less ↦ get_or-map forget o.channels ch empty_channel empty_channel less
+  | inr past ↦ get_or_past (map forget o.channels) ch empty_channel (omega (arith, past, length-map o.channels forget)) ∙ sym (ap forget (get_or_past o.channels ch empty_channel past))
+]
+
+-- nothing runs
+abbrev pub NothingRuns : Object → List ChannelSchedule → Type 0
+NothingRuns o s = find (λ (r : RunningTransfer). true) (running o s) ≡ None
+
+-- so no schedule has one
+pub none_taken : (o : Object) (s : List ChannelSchedule) (ch : ℕ) → Fits o s → NothingRuns o s → ch < length o.channels → (slice_index_or s ch idle).taken ≡ None
+none_taken o s ch h none less = by _ refl where
+  by : (x : Option ℕ) → (slice_index_or s ch idle).taken ≡ x → x ≡ None
+  by None e = refl
+  by (Some n) e =
+      let c = channel o ch in
+      let agrees : Agrees c (Some n) = rw e at (h.each ch less) in
+      let f = front_where c _ agrees.1 in
+      let is : runs o s ch ≡ Some (record { ch = ch; cookie = finished c + 1; transfer = f.transfer; taken = n }) = ap (running_in ch c) e ∙ runs_front ch c f.transfer n f.is in
+      absurd (true≢false (find_none_at (λ (r : RunningTransfer). true) o s ch _ less none is))
+
+-- so no front has passed or signalled
+none_passed : (o : Object) (s : List ChannelSchedule) (ch : ℕ) → Fits o s → NothingRuns o s → ((channel o ch).passed ≡ false) × ((channel o ch).signalled ≡ false)
+none_passed o s ch h none = elim (cases_lt ch (length o.channels)) [
+  | inl less ↦ let agrees : Agrees (channel o ch) None = rw (none_taken o s ch h none less) at (h.each ch less) in agrees
+  | inr past ↦ rw (get_or_past o.channels ch empty_channel past) (refl, refl)
+]
+
+-- the next base is one
+base_next : (v : View) → IsSound v → NothingRuns (object_of v) v.schedule → IsBase (base_from (object_of v))
+base_next v h none =
+    let o = object_of v in
+    let ruled = ruled_object (length v.base.image) v.base v.history refl (ruled_base v.base h.opens) h.legal in
+    let same : length v.base.image ≡ length o.image = sym (size_object v.base v.history) in
+    record {
+      flags = flags_object v.base v.history ∙ h.opens.flags;
+      marks = marked_object v.base v.history h.opens.marks h.legal;
+      each = λ ch.
+          let c = channel o ch in
+          let n = length c.outcomes in
+          let counted = counted_object v.base v.history (counted_base v.base h.opens) h.legal ch in
+          let rests = none_passed o v.schedule ch h.fits none in
+          rw (forgotten_at o ch) (record {
+            outcomes = refl;
+            rests = rests;
+            counts = (
+              omega (arith, counted.order),
+              omega (arith, counted.issue, counted.finish, length-drop n c.submitted),
+              omega (arith, counted.give, counted.finish, length-drop n c.submitted),
+            );
+            rules = λ k d less.
+                let within : n + k < length c.submitted = omega (arith, less, length-drop n c.submitted) in
+                let good : IsGood (length v.base.image) (slice_index_or c.submitted (n + k) d) = ruled ch (n + k) _ (slice_get-get_or c.submitted (n + k) d within) in
+                let here : slice_index_or (drop n c.submitted) k d ≡ slice_index_or c.submitted (n + k) d = get_or-drop n c.submitted k d in
+                subst (IsGood (length o.image)) (sym here) (subst (λ m. IsGood m (slice_index_or c.submitted (n + k) d)) same good);
+          });
+    }
+
+fits_next : (o : Object) (s : List ChannelSchedule) → Fits o s → NothingRuns o s → Fits (base_from o) s
+fits_next o s h none =
+    let many : length (base_from o).channels ≡ length o.channels = length-map o.channels forget in
+    let nothing : (ch : ℕ) → ch < length o.channels → (slice_index_or s ch idle).taken ≡ None = λ ch l. none_taken o s ch h none l in
+    record {
+      many = h.many ∙ sym many;
+      each = λ ch l.
+          let l' : ch < length o.channels = omega (arith, l, many) in
+          let agrees = rw (nothing ch l') at (h.each ch l') in
+          rw (nothing ch l', forgotten_at o ch) agrees;
+      free = λ c d i j k.
+          let i' : c < length o.channels = omega (arith, i, many) in
+          rw (nothing c i') tt;
+    }
+
+-- a sound view stays sound
+pub checkpoint_sound : (v : View) → IsSound v → NothingRuns (object_of v) v.schedule → IsSound (checkpointed v)
+checkpoint_sound v h none =
+    let many : length (base_from (object_of v)).channels ≡ length (object_of v).channels = length-map (object_of v).channels forget in
+    record {
+      opens = base_next v h none;
+      makes = rw (size_object v.base v.history, many, many_channels v.base v.history) h.makes;
+      legal = tt;
+      fits = fits_next (object_of v) v.schedule h.fits none;
+    }
 
 -- ---- the instructions of a front
 
@@ -180,13 +442,17 @@ turn_sound_law v ch h =
     (λ goes. cond_both {A = Stepped} s.paused (Ok Paused, v) last IsSoundStep (λ _. h)
     (λ active. front_sound v ch (issued_front c) s.taken h (leb-false _ _ there) goes active refl refl)))
 
+-- The view after a step is sound, if the turn is known.
+pub stepped_sound : (v : View) (ch : ℕ) (s : Stepped) → IsSound v → turn v ch ≡ s → IsSound s.1
+stepped_sound v ch s h is = subst IsSoundStep is (turn_sound_law v ch h)
+
 -- ---- the calls
 
 unless_sound : (v : View) (f : Option EngineFault) (x : Reply × View) → IsSound v → (f ≡ None → IsSound x.1) → IsSound (unless f v x).1
 unless_sound v None x h g = g refl
 unless_sound v (Some fault) x h g = h
 
-submit_sound : (v : View) (ch : ℕ) (t : Descriptor) → IsCall (Submit ch t) → IsSound v → submit_fault v ch t ≡ None → IsSound (with_entry v (Submitted ch t (used (channel (object_of v) ch) + 1)))
+pub submit_sound : (v : View) (ch : ℕ) (t : Descriptor) → IsCall (Submit ch t) → IsSound v → submit_fault v ch t ≡ None → IsSound (with_entry v (Submitted ch t (used (channel (object_of v) ch) + 1)))
 submit_sound v ch t rules h none =
     let o = object_of v in
     let c = channel o ch in
@@ -199,7 +465,7 @@ submit_sound v ch t rules h none =
     (rw here (agrees_submitted c t (schedule_at v ch).taken agrees))
     (ap (λ x. running_in ch x (schedule_at v ch).taken) here ∙ runs_submitted ch c t (schedule_at v ch).taken agrees))
 
-issue_sound : (v : View) (ch : ℕ) → IsSound v → ch < channels v → IsSound (with_entry v (Issued ch))
+pub issue_sound : (v : View) (ch : ℕ) → IsSound v → ch < channels v → IsSound (with_entry v (Issued ch))
 issue_sound v ch h less =
     let o = object_of v in
     let c = channel o ch in
@@ -210,12 +476,12 @@ issue_sound v ch h less =
     (rw here (agrees_issued c (schedule_at v ch).taken (h.fits.each ch less)))
     (ap (λ x. running_in ch x (schedule_at v ch).taken) here ∙ runs_issued ch c (schedule_at v ch).taken))
 
-pause_sound : (v : View) (ch : ℕ) (paused : Bool) → IsSound v → ch < channels v → IsSound (with_pause v ch paused)
+pub pause_sound : (v : View) (ch : ℕ) (paused : Bool) → IsSound v → ch < channels v → IsSound (with_pause v ch paused)
 pause_sound v ch paused h less =
     let x : ChannelSchedule = record (schedule_at v ch) { paused = paused } in
     schedule_sound v ch v.steps x h (still_fits v (object_of v) ch x h less refl (λ d k. refl) (h.fits.each ch less) refl)
 
-terminate_sound : (v : View) (ch : ℕ) → IsSound v → ch < channels v → IsSound (terminated v ch)
+pub terminate_sound : (v : View) (ch : ℕ) → IsSound v → ch < channels v → IsSound (terminated v ch)
 terminate_sound v ch h less =
     let o = object_of v in
     let c = channel o ch in
@@ -239,7 +505,7 @@ none_runs (Some r) h = absurd cc
 answer_sound : (v : View) (call : Call) → IsCall call → IsSound v → IsSound (answer v call).1
 answer_sound v (Write addr bytes) is h =
     unless_sound v (write_fault v addr (length bytes)) (Done, with_entry v (Wrote addr bytes)) h
-    (λ free. entered_sound v (Wrote addr bytes) h (write_allowed v addr (length bytes) free).0 refl)
+    (λ free. entered_sound v (Wrote addr bytes) h (range_open v addr (length bytes) (λ s t. touches t s) free).0 refl)
 answer_sound v (Read addr len) is h =
     let bytes = take len (drop addr (object_of v).image) in
     unless_sound v (read_fault v addr len) (Bytes bytes, with_entry v (ReadBack addr bytes)) h
@@ -280,3 +546,12 @@ calls_stay_sound v w (c ∷ cs) (r ∷ rs) all h a =
     let next = answers_stay_sound v a.0 c r (All-head IsCall c cs all) h a.1 in
     let rest = calls_stay_sound a.0 w cs rs (All-tail IsCall c cs all) next a.2 in
     (rest.0, (h, (a.0, a.1, rest.1)))
+
+-- ---- calls in a row
+
+-- one more call
+pub sound_push : (v w x : View) (calls : List Call) (replies : List Reply) (call : Call) (reply : Reply) → AreSoundAnswers v calls replies w → CallAnswers w call reply x → IsSound x → AreSoundAnswers v (calls ++ call ∷ []) (replies ++ reply ∷ []) x
+sound_push v w x [] [] call reply h a s = (subst IsSound h.1 h.0, (x, subst (λ (u : View). CallAnswers u call reply x) h.1 a, (s, refl)))
+sound_push v w x [] (r ∷ rs) call reply h a s = absurd h
+sound_push v w x (c ∷ cs) [] call reply h a s = absurd h
+sound_push v w x (c ∷ cs) (r ∷ rs) call reply h a s = (h.0, (h.1.0, h.1.1, sound_push h.1.0 w x cs rs call reply h.1.2 a s))

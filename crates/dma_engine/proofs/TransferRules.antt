@@ -1,6 +1,6 @@
 -- Facts of each submitted transfer, and of a running one.
-use Rattle.std.proofs.Common.{◌≡◌, ◌≢◌, ℕ, ◌+◌, ◌-◌, ◌<◌, List, [], ◌∷◌, ◌++◌, length, Option, Some, None, true, false, ◌&&◌, refl, ap, ◌∙◌, subst, arith, inl, inr, ◌⊎◌, zero, suc}
-use Rattle.std.specs.Prelude.{slice_get, slice_index_or, is_some, nat_lt, ◌==◌, IfSome}
+use Rattle.std.proofs.Common.{◌≡◌, ◌≢◌, ℕ, ◌+◌, ◌-◌, ◌<◌, List, [], ◌∷◌, ◌++◌, length, Option, Some, None, true, false, refl, ap, ◌∙◌, subst, arith, inl, inr, ◌⊎◌, zero, suc}
+use Rattle.std.specs.Prelude.{slice_get, IfSome}
 use Rattle.std.specs.List.{All}
 use Rattle.std.proofs.lemmas.List.Elements.{All-nil, All-push}
 use Rattle.std.proofs.lemmas.Option.{slice_get_within, get_or_from_slice_get}
@@ -8,25 +8,18 @@ use Rattle.dma_mem.specs.Places.{Descriptor, lies_below}
 use Rattle.dma_mem.specs.Meeting.{IsFree}
 use Rattle.dma_mem.specs.Rules.{IsTransfer}
 use Rattle.dma_mem.proofs.SharedPlaces.{is_free_of_true}
-use Rattle.dma_chan.specs.Channel.{ChannelValue}
-use Rattle.dma_chan.specs.Compiled.{cost}
-use Rattle.dma_chan.specs.inner.At.{IsAt}
-use Rattle.dma_chan.specs.Programs.{ProgramValue}
 use Rattle.dma_mem.specs.declared.marks.MarkKind.{MarkKind}
 use Rattle.dma_mem.specs.declared.segment.Segment.{Segment}
 use Rattle.dma_engine.specs.declared.entry.Entry.{Entry}
 use Rattle.dma_engine.specs.declared.entry.Entry.TheVariants.{Submitted, Issued, Passed, Signalled, Finished, Terminated, Marked, Unmarked}
 use Rattle.dma_engine.specs.declared.entry.Signaller.TheVariants.{Channel}
-use Rattle.dma_engine.specs.declared.queue.Queue.{Queue}
-use Rattle.dma_engine.specs.Object.{Object, ChannelState, Allows, IsMark, after, channel, with_channel, front, issued_front, IsBase, finished, with_flag, with_front_laid}
+use Rattle.dma_engine.specs.Object.{Object, ChannelState, Allows, IsMark, after, channel, with_channel, front, IsBase, with_flag, with_front_laid}
 use Rattle.dma_engine.specs.History.{object_after, IsLegal}
-use Rattle.dma_engine.specs.View.{View, ChannelSchedule, RunningTransfer, Agrees, AreFree, Fits, IsSound, runs, object_of, size}
-use Rattle.dma_engine.specs.inner.Holds.{Holds, IsRun, Parts, view_of}
+use Rattle.dma_engine.specs.View.{View, ChannelSchedule, RunningTransfer, AreFree, Fits, IsSound, runs, object_of, size}
+use Rattle.dma_engine.specs.inner.Holds.{Holds, Parts, view_of}
 use Rattle.dma_engine.proofs.Boards.{each_with}
-use Rattle.dma_engine.proofs.Entries.{taken_some, runs_at}
-use Rattle.dma_engine.proofs.Queues.{front_where, holds_at}
 use Rattle.dma_engine.proofs.Sizes.{size_after, size_object}
-use Rattle.dma_engine.proofs.WhatRuns.{All_filter_map, below, above}
+use Rattle.dma_engine.proofs.WhatRuns.{All_filter_map, above, below}
 
 -- ---- submitted transfers
 
@@ -85,27 +78,7 @@ pub marked_object : (o : Object) (es : List Entry) → AreMarks o.marks → IsLe
 marked_object o [] h a = h
 marked_object o (e ∷ es) h a = marked_object (after o e) es (marked_after o e h a.0) a.1
 
--- ---- a transfer that runs
-
--- all that is known of it
-pub record Runs (p : Parts) (ch : ℕ) (q : Queue) : Type 0 where
-  pub transfer : Descriptor
-  pub is : front (channel (object_of (view_of p)) ch) ≡ Some transfer
-  pub issued : issued_front (channel (object_of (view_of p)) ch) ≡ Some transfer
-  pub runs_is : runs (object_of (view_of p)) (view_of p).schedule ch ≡ Some (record { ch = ch; cookie = finished (channel (object_of (view_of p)) ch) + 1; transfer = transfer; taken = q.channel.taken })
-  pub goes : (channel (object_of (view_of p)) ch).halted ≡ false
-  pub within : q.channel.taken < cost transfer
-  pub passed : (channel (object_of (view_of p)) ch).passed ≡ (is_some transfer.wait && nat_lt 0 q.channel.taken)
-  pub signalled : (channel (object_of (view_of p)) ch).signalled ≡ (is_some transfer.signal && q.channel.taken == cost transfer - 1)
-  pub rules : IsTransfer transfer
-  pub below : lies_below transfer (size (view_of p)) ≡ true
-  pub machine : IsAt transfer q.channel.taken p.memory q.channel
-
-machine_at : (memory : List ℕ) (m : ChannelValue) (c : ChannelState) (t : Descriptor) → is_some m.program ≡ true → front c ≡ Some t → IsRun memory m c → IsAt t m.taken memory m
-machine_at memory m c t loaded is h = by m.program loaded (rw is at h) where
-  by : (o : Option ProgramValue) → is_some o ≡ true → IfSome o (λ _. IsAt t m.taken memory m) → IsAt t m.taken memory m
-  by None e g = absurd cc
-  by (Some p) e g = g
+-- ---- the front of a channel
 
 -- each front of a sound view obeys the rules and lies below the size
 pub ruled_front : (v : View) (ch : ℕ) (t : Descriptor) → IsSound v → front (channel (object_of v) ch) ≡ Some t → IsGood (size v) t
@@ -116,27 +89,6 @@ ruled_front v ch t h is =
 
 pub good_front : (p : Parts) → Holds p → (ch : ℕ) (t : Descriptor) → front (channel (object_of (view_of p)) ch) ≡ Some t → IsGood (size (view_of p)) t
 good_front p h ch t is = ruled_front (view_of p) ch t h.sound is
-
-pub running : (p : Parts) → Holds p → (ch : ℕ) (q : Queue) → ch < length p.queues → q ≡ slice_index_or p.queues ch q → is_some q.channel.program ≡ true → Runs p ch q
-running p h ch q less read loaded =
-    let c = channel (object_of (view_of p)) ch in
-    let at = holds_at p h ch q less read in
-    let agrees : Agrees c (Some q.channel.taken) = rw (taken_some q.channel loaded) at at.agrees in
-    let f = front_where c _ agrees.1 in
-    let good = good_front p h ch f.transfer f.is in
-    record {
-      transfer = f.transfer;
-      is = f.is;
-      issued = f.issued;
-      runs_is = runs_at p h ch q f.transfer less read loaded f.is;
-      goes = agrees.0;
-      within = f.holds.0;
-      passed = f.holds.1;
-      signalled = f.holds.2;
-      rules = good.0;
-      below = good.1;
-      machine = machine_at p.memory q.channel c f.transfer loaded f.is at.tied.machine;
-    }
 
 -- ---- what else runs is free of it
 

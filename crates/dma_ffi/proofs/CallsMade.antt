@@ -43,10 +43,7 @@ one_made v w call answer (reply, is, answers) =
 
 -- a refused step changes nothing
 refused_stays : (v w : View) (ch : ℕ) (fault : EngineFault) → StepAnswers v ch (Err fault) w → w ≡ v
-refused_stays v w ch fault h = elim (answer_is v w (Step ch) (Refused fault) h) [
-  | inl none ↦ none.1
-  | inr is ↦ idle_steps_stay v w ch (Err fault) tt is
-]
+refused_stays v w ch fault h = grind (arith, answer_is, idle_steps_stay)
 
 before_fits : (n : ℕ) (started : Option ℕ) (moved : ℕ) → AreReplies (stepped n (turn_before started moved)) (start_replies started ++ replicate moved (Turned Moved))
 before_fits n None zero = refl
@@ -61,10 +58,7 @@ before_fits n started (suc moved) =
 
 -- the steps before the last
 before_answers : (v w : View) (ch : ℕ) (a : Advanced) → (answers v (replicate (steps_before a) (Step ch))).0 ≡ replies_before a → w ≡ after_steps v ch (steps_before a) → AreAnswers v (replicate (steps_before a) (Step ch)) (replies_before a) w
-before_answers v w ch a is same =
-    let calls = replicate (steps_before a) (Step ch) in
-    subst (λ (x : View). AreAnswers v calls (replies_before a) x) (sym same)
-    (subst (λ (l : List Reply). AreAnswers v calls l (answers v calls).1) is (answers_are_answers v calls))
+before_answers v w ch a is same = grind (arith, answers_are_answers)
 
 before_made : (v w : View) (ch : ℕ) (a : Advanced) → (answers v (replicate (steps_before a) (Step ch))).0 ≡ replies_before a → w ≡ after_steps v ch (steps_before a) → Made v (replicate (steps_before a) (Step ch)) (stepped (steps_before a) (turn_before a.started a.moved)) w
 before_made v w ch a is same = (replies_before a, before_fits (steps_before a) a.started a.moved, before_answers v w ch a is same)

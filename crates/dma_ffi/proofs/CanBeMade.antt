@@ -1,55 +1,30 @@
 -- The engine calls that a request of C makes can be made.
-use Rattle.std.proofs.Common.{◌≡◌, ℕ, ◌+◌, ◌<◌, Bool, true, false, ◌||◌, nat_lt, List, [], ◌∷◌, Option, Some, None, refl, ap, sym, ◌∙◌, arith, subst, inl, inr}
-use Rattle.std.specs.List.{All, list_any}
+use Rattle.std.proofs.Common.{◌≡◌, ℕ, ◌+◌, ◌<◌, List, [], ◌∷◌, Option, None, refl, sym, ◌∙◌, arith}
+use Rattle.std.specs.List.{All}
+use Rattle.std.proofs.Math.Bool.{or-false}
 use Rattle.std.proofs.lemmas.Bool.{le-ltb, true≢false}
 use Rattle.std.proofs.lemmas.List.Elements.{All-cons, All-replicate}
-use Rattle.dma_mem.specs.Limits.{most_transfer_bytes}
 use Rattle.dma_mem.specs.Places.{Descriptor, filling}
-use Rattle.dma_mem.specs.Meeting.{meets}
-use Rattle.dma_mem.specs.Refusals.{cause, has_empty_segment, has_too_many, has_wrapping_segment, is_bad_event, is_empty_list, refusal_of, refusal_of_fill, some_meet, total}
+use Rattle.dma_mem.specs.Refusals.{refusal_of, refusal_of_fill}
 use Rattle.dma_mem.specs.Rules.{IsTransfer}
 use Rattle.dma_mem.specs.declared.marks.MarkKind.{MarkKind}
 use Rattle.dma_mem.specs.declared.segment.Segment.{Segment}
 use Rattle.dma_mem.specs.declared.transfer.TransferFault.{TransferFault}
-use Rattle.dma_mem.specs.declared.transfer.TransferFault.TheVariants.{EmptyList, TooManySegments, EmptySegment, SegmentWraps, TooLong, DestinationsMeet, SourceMeetsDestination, BadEvent}
 use Rattle.dma_mem.proofs.TransferRules.{IsTransfer_from_no_refusal, fill_from_no_refusal}
 use Rattle.dma_mem.specs.declared.call.Call.{Call}
-use Rattle.dma_mem.specs.declared.call.Call.TheVariants.{Submit, Step, Mark}
+use Rattle.dma_mem.specs.declared.call.Call.TheVariants.{Submit, Step}
 use Rattle.dma_engine.specs.View.{View}
 use Rattle.dma_engine.specs.Laws.{IsCall}
 use Rattle.dma_ffi.specs.Codes.{mark_kind}
-use Rattle.dma_ffi.specs.Requests.{Answer, Answers, AnswersSubmit, Request, ask_call, ask_copy, ask_fill, ask_mark, ask_steps, ask_value, closed, known, no_kind, replied, stepped, unfit}
+use Rattle.dma_ffi.specs.Requests.{Answer, Answers, AnswersSubmit, Request, ask_call, ask_copy, ask_fill, ask_mark, ask_steps, ask_value, replied, stepped}
 use Rattle.dma_ffi.specs.Laws.{CanBeRequested, calls_made, if_replied, marking}
 
 -- ---- the refusals of a fill
 
--- the refusal of a fill, given whether a destination wraps and whether one meets the byte
-abbrev refusal_by : List Segment → Option ℕ → Option ℕ → Bool → Bool → Option TransferFault
-refusal_by dst wait signal wraps met =
-    cause (is_empty_list dst) EmptyList (
-    cause (has_too_many dst) TooManySegments (
-    cause (has_empty_segment dst) EmptySegment (
-    cause wraps SegmentWraps (
-    cause (nat_lt most_transfer_bytes (total dst)) TooLong (
-    cause (some_meet dst) DestinationsMeet (
-    cause met SourceMeetsDestination (
-    cause (is_bad_event wait || is_bad_event signal) BadEvent None)))))))
-
-or_false_law : (b : Bool) → (b || false) ≡ b
-or_false_law true = refl
-or_false_law false = refl
-
-no_wrap : (inside wraps : Bool) → inside ≡ false → ((inside || false) || wraps) ≡ wraps
-no_wrap true wraps is = cc
-no_wrap false wraps is = refl
-
 -- a fill whose byte has a 32-bit address breaks the same rule of transfers as of fills
 fill_refusal : (src : ℕ) (dst : List Segment) (wait signal : Option ℕ) → src < 4294967296 → refusal_of (filling src dst wait signal) ≡ refusal_of_fill src dst wait signal
 fill_refusal src dst wait signal below =
-    let inside : nat_lt 4294967296 (src + 1) ≡ false = le-ltb 4294967296 (src + 1) (omega (arith, below)) in
-    let met : Bool = list_any (meets (record { addr = src; len = 1 })) dst in
-    ap (λ b. refusal_by dst wait signal b (met || false)) (no_wrap (nat_lt 4294967296 (src + 1)) (has_wrapping_segment dst) inside)
-    ∙ ap (λ b. refusal_by dst wait signal (has_wrapping_segment dst) b) (or_false_law met)
+    rw (le-ltb 4294967296 (src + 1) (omega (arith, below)), or-false) refl
 
 -- ---- the calls of each request
 
@@ -60,22 +35,15 @@ alone : (call : Call) → IsCall call → All IsCall (call ∷ [])
 alone call can = All-cons IsCall call [] can none_made_law
 
 marks_made : (kind : Option MarkKind) (range : Segment) → All IsCall (marking kind range)
-marks_made None range = none_made_law
-marks_made (Some kind) range = alone (Mark kind range) tt
+marks_made kind range = grind (arith, alone, none_made_law)
 
 submit_made_law : (v w : View) (ch : ℕ) (t : Descriptor) (refusal : Option TransferFault) (answer : Answer) → (refusal ≡ None → IsTransfer t) → AnswersSubmit v ch refusal t answer w → All IsCall (if_replied answer (Submit ch t))
-submit_made_law v w ch t refusal answer fits (inl h) =
-    subst (λ (a : Answer). All IsCall (if_replied a (Submit ch t))) (sym h.0) none_made_law
-submit_made_law v w ch t refusal answer fits (inr h) =
-    subst (λ (a : Answer). All IsCall (if_replied a (Submit ch t))) (sym h.1.1) (alone (Submit ch t) (fits h.0))
+submit_made_law v w ch t refusal answer h1 h2 = grind (arith, alone, none_made_law)
 
 steps_made_law : (ch most : ℕ) (answer : Answer) → All IsCall (calls_made (ask_steps ch most) answer)
 steps_made_law ch most (replied reply) = alone (Step ch) tt
 steps_made_law ch most (stepped taken last) = All-replicate IsCall taken (Step ch) tt
-steps_made_law ch most closed = none_made_law
-steps_made_law ch most (unfit fault) = none_made_law
-steps_made_law ch most no_kind = none_made_law
-steps_made_law ch most (known x) = none_made_law
+steps_made_law ch most answer = none_made_law
 
 -- the calls that a request of C makes, given its answer, can be made
 pub can_be_made : (v w : View) (request : Request) (answer : Answer) → CanBeRequested request → Answers v request answer w → All IsCall (calls_made request answer)

@@ -1,8 +1,9 @@
 -- Calls from C that load a transfer into a channel and step it.
 use Rattle.std.proofs.Common.{◌≡◌, ◌≢◌, ℕ, zero, suc, ◌+◌, ◌-◌, ◌<◌, Bool, true, false, ◌||◌, List, [], ◌∷◌, ◌++◌, length, take, Option, Some, None, refl, sym, ap, ◌∙◌, subst, arith, inl, inr}
-use Rattle.std.specs.Prelude.{nat_le, IsSome, unwrap_or}
+use Rattle.std.specs.Prelude.{IsSome}
 use Rattle.std.specs.List.{list_any}
-use Rattle.std.proofs.lemmas.Bool.{and_parts, le-ltb}
+use Rattle.std.proofs.Math.Bool.{or-false}
+use Rattle.std.proofs.lemmas.Bool.{le-ltb}
 use Rattle.std.proofs.lemmas.List.{append-nil}
 use Rattle.dma_insn.specs.AssemblyText.{most_program_bytes}
 use Rattle.dma_mem.specs.Places.{Descriptor, copying, filling}
@@ -12,7 +13,6 @@ use Rattle.dma_mem.specs.Rules.{IsTransfer}
 use Rattle.dma_mem.specs.declared.regions.Region.{Region}
 use Rattle.dma_mem.specs.declared.segment.Segment.{Segment}
 use Rattle.dma_mem.specs.declared.transfer.TransferFault.{TransferFault}
-use Rattle.dma_mem.specs.declared.transfer.TransferFault.TheVariants as transfers
 use Rattle.dma_mem.proofs.Pieces.{first as first_piece, has_parts}
 use Rattle.dma_mem.proofs.TransferRules.{copy_from_no_refusal, fill_from_no_refusal}
 use Rattle.dma_chan.specs.declared.bus.Bus.TheVariants.{Ideal}
@@ -21,11 +21,11 @@ use Rattle.dma_chan.specs.Changes as chan
 use Rattle.dma_chan.specs.Compiled.{compiled, cost}
 use Rattle.dma_chan.specs.Explains.{Explains, HasEvents, IsLoadedWith}
 use Rattle.dma_chan.specs.Others.{Misses}
-use Rattle.dma_chan.specs.Stepping.{Machine, Wrote}
+use Rattle.dma_chan.specs.Stepping.{Wrote}
 use Rattle.dma_chan.specs.Written.{KeepsOutside, LiesIn}
 use Rattle.dma_chan.specs.declared.lent.Taken.{Taken}
 use Rattle.dma_chan.specs.declared.turn.ChanTurn.{ChanTurn}
-use Rattle.dma_chan.specs.declared.turn.ChanTurn.TheVariants.{Moved, Waiting, Ended, Fault}
+use Rattle.dma_chan.specs.declared.turn.ChanTurn.TheVariants.{Waiting, Ended, Fault}
 use Rattle.dma_chan.specs.declared.turn.FaultKind.{FaultKind}
 use Rattle.dma_chan.proofs.AmongOthers.{Fits}
 use Rattle.dma_chan.proofs.CompiledExplained.{compiled_events, compiled_explained}
@@ -38,36 +38,21 @@ use Rattle.dma_chan.proofs.SteppedOver.{writes_each}
 use Rattle.dma_ffi.specs.declared.channel_steps.ChannelReport.{ChannelReport}
 use Rattle.dma_ffi.specs.declared.marked_channel.MarkedChannel.{MarkedChannel}
 use Rattle.dma_ffi.specs.ChannelLaws.{HasCopied, HasTransfer, IsMade, KeepsEvents, LoadsATransfer, StepCall, StepsCopy, StepsAreCalls, StepsKeepTheRest, StepsSinceLoad, channel_of, machine_of, marked_of, marks_in, memory_of}
-use Rattle.dma_ffi.specs.Channels.{LoadsFrom, LoadsTransfer, StepsOver, marks_over, over, report_of}
+use Rattle.dma_ffi.specs.Channels.{LoadsFrom, LoadsTransfer, StepsOver, marks_over, report_of}
 use Rattle.dma_ffi.specs.Codes.{ok_code, transfer_code}
 
 -- ---- loads
 
 refused : (fault : TransferFault) → ok_code ≢ transfer_code fault
-refused transfers.EmptyList e = cc
-refused transfers.TooManySegments e = cc
-refused transfers.EmptySegment e = cc
-refused transfers.SegmentWraps e = cc
-refused transfers.TotalsDiffer e = cc
-refused transfers.TooLong e = cc
-refused transfers.DestinationsMeet e = cc
-refused transfers.SourceMeetsDestination e = cc
-refused transfers.BadEvent e = cc
-refused transfers.NoMemory e = cc
+refused fault e = grind arith
 
 was_loaded : (refusal : Option TransferFault) (t : Descriptor) (c d : ChannelValue) → LoadsTransfer refusal t c ok_code d → (refusal ≡ None) × IsLoadedWith Ideal (compiled t).bytes d
-was_loaded refusal t c d (inl h) = (h.1, (compiled t, ([], sym (append-nil (compiled t).bytes)), h.2))
-was_loaded refusal t c d (inr h) = absurd (refused (unwrap_or refusal transfers.NoMemory) h.0)
-
-or_false : (b : Bool) → (b || false) ≡ b
-or_false true = refl
-or_false false = refl
+was_loaded refusal t c d h1 = grind (arith, append-nil, refused)
 
 -- a fill that isn't refused as a fill isn't refused as a transfer
 fill_made : (src : ℕ) (dst : List Segment) (wait signal : Option ℕ) → src < 4294967296 → refusal_of_fill src dst wait signal ≡ None → refusal_of (filling src dst wait signal) ≡ None
 fill_made src dst wait signal small h =
-    let fits = le-ltb 4294967296 (src + 1) (omega arith) in
-    rw (fits, or_false) h
+    rw (le-ltb 4294967296 (src + 1) (omega arith), or-false) h
 
 was_read : (program : List ℕ) (regions : List Region) (addr : ℕ) (rest : List ℕ) (c d : ChannelValue) → take most_program_bytes (run_from (pieces_of regions) addr) ≡ program ++ rest → LoadsFrom regions addr c ok_code d → IsLoadedWith Ideal program d
 was_read program regions addr rest c d e (inl bad) = absurd (let f = bad.0 in cc)
@@ -95,53 +80,24 @@ loads_a_transfer = record {
 
 -- ---- reports
 
-ended : (taken pc : ℕ) (w : Segment) (last : Option ChanTurn) (signal : Option ℕ) → (report_of taken pc w last signal).turn ≡ 3 → last ≡ Some Ended
-ended taken pc w (Some Ended) signal e = refl
-ended taken pc w None signal e = absurd (omega arith)
-ended taken pc w (Some Moved) None e = absurd (omega arith)
-ended taken pc w (Some Moved) (Some x) e = absurd (omega arith)
-ended taken pc w (Some (Waiting x)) signal e = absurd (omega arith)
-ended taken pc w (Some (Fault kind)) signal e = absurd (omega arith)
+module _ (r : ChannelReport) (taken pc : ℕ) (w : Segment) (last : Option ChanTurn) (signal : Option ℕ) (is : r ≡ report_of taken pc w last signal) where
+  ended : r.turn ≡ 3 → last ≡ Some Ended
+  ended e = grind arith
 
-failed : (taken pc : ℕ) (w : Segment) (last : Option ChanTurn) (signal : Option ℕ) → (report_of taken pc w last signal).turn ≡ 4 → (kind : FaultKind) × (last ≡ Some (Fault kind))
-failed taken pc w (Some (Fault kind)) signal e = (kind, refl)
-failed taken pc w None signal e = absurd (omega arith)
-failed taken pc w (Some Moved) None e = absurd (omega arith)
-failed taken pc w (Some Moved) (Some x) e = absurd (omega arith)
-failed taken pc w (Some (Waiting x)) signal e = absurd (omega arith)
-failed taken pc w (Some Ended) signal e = absurd (omega arith)
+  failed : r.turn ≡ 4 → (kind : FaultKind) × (last ≡ Some (Fault kind))
+  failed e = grind arith
 
-signalled : (taken pc : ℕ) (w : Segment) (last : Option ChanTurn) (signal : Option ℕ) → (report_of taken pc w last signal).turn ≡ 5 → signal ≡ Some (report_of taken pc w last signal).event
-signalled taken pc w (Some Moved) (Some x) e = refl
-signalled taken pc w None signal e = absurd (omega arith)
-signalled taken pc w (Some Moved) None e = absurd (omega arith)
-signalled taken pc w (Some (Waiting x)) signal e = absurd (omega arith)
-signalled taken pc w (Some (Fault kind)) signal e = absurd (omega arith)
-signalled taken pc w (Some Ended) signal e = absurd (omega arith)
+  signalled : r.turn ≡ 5 → signal ≡ Some r.event
+  signalled e = grind arith
 
-waited : (taken pc : ℕ) (w : Segment) (last : Option ChanTurn) (signal : Option ℕ) → (report_of taken pc w last signal).turn ≡ 2 → last ≡ Some (Waiting (report_of taken pc w last signal).event)
-waited taken pc w (Some (Waiting x)) signal e = refl
-waited taken pc w None signal e = absurd (omega arith)
-waited taken pc w (Some Moved) None e = absurd (omega arith)
-waited taken pc w (Some Moved) (Some x) e = absurd (omega arith)
-waited taken pc w (Some (Fault kind)) signal e = absurd (omega arith)
-waited taken pc w (Some Ended) signal e = absurd (omega arith)
+  waited : r.turn ≡ 2 → last ≡ Some (Waiting r.event)
+  waited e = grind arith
 
-taken_in : (taken pc : ℕ) (w : Segment) (last : Option ChanTurn) (signal : Option ℕ) → (report_of taken pc w last signal).taken ≡ taken
-taken_in taken pc w None signal = refl
-taken_in taken pc w (Some Moved) None = refl
-taken_in taken pc w (Some Moved) (Some x) = refl
-taken_in taken pc w (Some (Waiting x)) signal = refl
-taken_in taken pc w (Some (Fault kind)) signal = refl
-taken_in taken pc w (Some Ended) signal = refl
+  taken_in : r.taken ≡ taken
+  taken_in = grind arith
 
-written_in : (taken pc : ℕ) (w : Segment) (last : Option ChanTurn) (signal : Option ℕ) → (report_of taken pc w last signal).written ≡ w
-written_in taken pc w None signal = refl
-written_in taken pc w (Some Moved) None = refl
-written_in taken pc w (Some Moved) (Some x) = refl
-written_in taken pc w (Some (Waiting x)) signal = refl
-written_in taken pc w (Some (Fault kind)) signal = refl
-written_in taken pc w (Some Ended) signal = refl
+  written_in : r.written ≡ w
+  written_in = grind arith
 
 -- ---- steps
 
@@ -159,27 +115,18 @@ abbrev Took : StepCall → Type 0
 Took call = (m : MarkedChannel) × (n : MarkedChannel) × (taken : Taken) × StepsOver call.lent call.most taken call.report call.left m n
 
 took : (call : StepCall) → call.code ≡ ok_code → IsMade call → Took call
-took call ok (inl h) = absurd (let bad = sym ok ∙ h.0 in cc)
-took call ok (inr (inl h)) = absurd (let bad = sym ok ∙ h.0 in cc)
-took call ok (inr (inr (inl h))) = absurd (let bad = sym ok ∙ h.0 in cc)
-took call ok (inr (inr (inr h))) = h.1
+took call ok made = grind arith
 
 -- the range of the report is the one that the steps wrote
 reported_range : (call : StepCall) (d : Took call) → call.report.written ≡ d.2.written
-reported_range call d =
-    ap (λ (r : ChannelReport). r.written) d.3.reported ∙ written_in d.2.count d.1.channel.registers.pc d.2.written d.2.last d.2.signal
+reported_range call d = written_in call.report d.2.count d.1.channel.registers.pc d.2.written d.2.last d.2.signal d.3.reported
 
 -- a call that is refused changes nothing
 was_refused : (call : StepCall) → call.code ≢ ok_code → IsMade call → (call.left ≡ call.lent) × (call.report ≡ call.former)
-was_refused call bad (inl h) = (h.2, h.3)
-was_refused call bad (inr (inl h)) = (h.3, h.4)
-was_refused call bad (inr (inr (inl h))) = (h.3, h.4)
-was_refused call bad (inr (inr (inr h))) = absurd (bad h.0)
+was_refused call bad made = grind arith
 
 ordered_in : (call : StepCall) → Took call → in_order (pieces_of call.lent.regions) ≡ true
-ordered_in call d =
-    let regions = call.lent.regions in
-    (and_parts (nat_le (length regions) 64) (in_order (pieces_of regions)) d.3.usable).1
+ordered_in call d = grind arith
 
 -- a call in the channel's own words
 abbrev as_call : ℕ → (call : StepCall) → Took call → chan.Call
@@ -197,12 +144,7 @@ as_call ch call d = record {
 }
 
 does_call : (ch : ℕ) (call : StepCall) (d : Took call) → chan.DoesCall (as_call ch call d)
-does_call ch call d =
-    let before : over d.0 call.lent.regions call.lent.flags ≡ machine_of call.lent = ap (λ (o : Option MarkedChannel). over (marked_of o) call.lent.regions call.lent.flags) (sym d.3.before) in
-    let after : over d.1 call.left.regions call.left.flags ≡ machine_of call.left = ap (λ (o : Option MarkedChannel). over (marked_of o) call.left.regions call.left.flags) (sym d.3.after) in
-    let at : Machine → Machine → chan.Call = λ s v. record (as_call ch call d) { found = s; left = v } in
-    let there : chan.DoesCall (at (over d.0 call.lent.regions call.lent.flags) (over d.1 call.left.regions call.left.flags)) = record { is_loaded = d.3.is_loaded; steps = d.3.steps; signal = d.3.signal; written = d.3.written } in
-    subst (λ (s : Machine). chan.DoesCall (at s (machine_of call.left))) before (subst (λ (v : Machine). chan.DoesCall (at (over d.0 call.lent.regions call.lent.flags) v)) after there)
+does_call ch call d = rw (d.3.before, d.3.after) (record { is_loaded = d.3.is_loaded; steps = d.3.steps; signal = d.3.signal; written = d.3.written })
 
 -- the report, by the channel that is left
 reported_by : (call : StepCall) (d : Took call) → call.report ≡ report_of d.2.count (channel_of call.left).registers.pc d.2.written d.2.last d.2.signal
@@ -231,7 +173,7 @@ each_was_written : (call : StepCall) (d : Took call) (a : ℕ) → LiesIn call.r
 each_was_written call d a i =
     let does = does_call 0 call d in
     let s = machine_of call.lent in
-    let count : call.report.taken ≡ d.2.count = ap (λ (r : ChannelReport). r.taken) d.3.reported ∙ taken_in d.2.count d.1.channel.registers.pc d.2.written d.2.last d.2.signal in
+    let count = taken_in call.report d.2.count d.1.channel.registers.pc d.2.written d.2.last d.2.signal d.3.reported in
     let wrote = writes_each (marks_over d.0 call.lent.regions) s d.2.count a (steps_move does.steps) (subst (λ (w : Segment). LiesIn w a) (reported_range call d ∙ does.written) i) in
     subst (λ (o : Option MarkedChannel). Wrote (marks_over (marked_of o) call.lent.regions) s call.report.taken a) (sym d.3.before) (subst (λ (n : ℕ). Wrote (marks_over d.0 call.lent.regions) s n a) (sym count) wrote)
 
@@ -288,15 +230,11 @@ module _ (program : List ℕ) (last_number : ℕ) (t : Descriptor) (count : ℕ)
       record {
         bytes = all.bytes;
         writes = λ a i. all.writes a (subst (λ (w : Segment). LiesIn w a) (reported_range call d) i);
-        signals = λ e.
-            let s : d.2.signal ≡ Some (report_of d.2.count pc d.2.written d.2.last d.2.signal).event = signalled d.2.count pc d.2.written d.2.last d.2.signal (ap (λ (r : ChannelReport). r.turn) (sym said) ∙ e) in
-            all.signals call.report.event (s ∙ ap (λ (r : ChannelReport). Some r.event) (sym said));
-        ends = λ e. all.ends (ended d.2.count pc d.2.written d.2.last d.2.signal (ap (λ (r : ChannelReport). r.turn) (sym said) ∙ e));
-        waits = λ e.
-            let w : d.2.last ≡ Some (Waiting (report_of d.2.count pc d.2.written d.2.last d.2.signal).event) = waited d.2.count pc d.2.written d.2.last d.2.signal (ap (λ (r : ChannelReport). r.turn) (sym said) ∙ e) in
-            all.waits call.report.event (w ∙ ap (λ (r : ChannelReport). Some (Waiting r.event)) (sym said));
+        signals = λ e. all.signals call.report.event (signalled call.report d.2.count pc d.2.written d.2.last d.2.signal said e);
+        ends = λ e. all.ends (ended call.report d.2.count pc d.2.written d.2.last d.2.signal said e);
+        waits = λ e. all.waits call.report.event (waited call.report d.2.count pc d.2.written d.2.last d.2.signal said e);
         never_fails = λ none e.
-            let f = failed d.2.count pc d.2.written d.2.last d.2.signal (ap (λ (r : ChannelReport). r.turn) (sym said) ∙ e) in
+            let f = failed call.report d.2.count pc d.2.written d.2.last d.2.signal said e in
             let own = subst (λ (o : Option MarkedChannel). Misses (marked_of o).marks t) d.3.before none in
             all.never_fails f.0 (gaps_miss call.lent.regions d.0.marks t (ordered k l) (run.have k l) own) f.1;
       }

@@ -19,7 +19,6 @@ use Rattle.dma_device.specs.Explaining.{FailsFor, FindsFor, bus_of, program_of}
 use Rattle.dma_device.specs.declared.device.explain.ExplainFault.{ExplainFault}
 use Rattle.dma_device.specs.declared.device.explain.ExplainFault.TheVariants.{NoChannel, NoProgram, Unexplained}
 use Rattle.dma_ffi.specs.declared.explaining.DmaHappening.{DmaHappening}
-use Rattle.dma_ffi.specs.Codes.{transfer_code}
 use Rattle.dma_ffi.specs.Calls.{ReadsOpen}
 use Rattle.dma_ffi.specs.Explaining.{ExplainsChannel, ExplainsOn, ExplainsProgram, Outputs, happening_of}
 use Rattle.dma_ffi.specs.Programs.{PlansCopy, PlansTransfer}
@@ -49,23 +48,16 @@ module _ (bus : Bus) (program : List ℕ) (most : ℕ) (code : ℤ) (before afte
   fits found long none = elim (cases_lt most_program_bytes (length program)) [ inl less ↦ absurd (none (long.1 less)) | inr le ↦ le ]
 
   here : (found : Result Explained Refusal) → IfOk found (λ x. Finds bus program most x) → IfErr found (λ u. u.cause ≢ NoMemory → u.cause ≢ TooLong → Refuses bus program most u) → (IsErrAnd found (λ u. u.cause ≡ TooLong) ↔ most_program_bytes < length program) → Answers found code before after → ExplainsProgram program (Some bus) most code before after
-  here (Ok x) ok err long h = inr (fits (Ok x) long (λ a. a), on_bus (Ok x) ok tt tt h)
-  here (Err u) ok err long (inl h) = inl (h.1, long.0 h.0, h.2)
-  here (Err u) ok err long (inr (inl h)) =
-      let short : u.cause ≢ TooLong = λ e. let bad = sym e ∙ h.0 in cc in
-      inr (fits (Err u) long short, inr (inr (h.1, h.2)))
-  here (Err u) ok err long (inr (inr h)) = inr (fits (Err u) long h.0, inr (inl (u, err h.1 h.0, h.2, h.3)))
+  here found h1 h2 h3 h4 = grind (arith, fits, on_bus)
 
   pub explains_program : (given : Option Bus) (found : Result Explained Refusal) → Some bus ≡ given → IfOk found (λ x. Finds bus program most x) → IfErr found (λ u. u.cause ≢ NoMemory → u.cause ≢ TooLong → Refuses bus program most u) → (IsErrAnd found (λ u. u.cause ≡ TooLong) ↔ most_program_bytes < length program) → Answers found code before after → ExplainsProgram program given most code before after
-  explains_program given found same ok err long h =
-      subst (λ (b : Option Bus). ExplainsProgram program b most code before after) same (here found ok err long h)
+  explains_program given found same ok err long h = grind (arith, here)
 
 -- ---- a device's channel
 
 -- a program, if there is one, has a property that follows from one that it has
 with_program : (o : Option ProgramValue) (P Q : ProgramValue → Type 0) → ((p : ProgramValue) → P p → Q p) → IsSomeAnd o P → IsSomeAnd o Q
-with_program None P Q f h = h
-with_program (Some p) P Q f h = f p h
+with_program o P Q p h1 = grind arith
 
 explains_channel : (d : DeviceValue) (n most : ℕ) (code : ℤ) (before after : Outputs) (found : Result Explained ExplainFault) → IfOk found (λ x. FindsFor d n most x) → IfErr found (λ fault. FailsFor d n most fault) → AnswersDevice found code before after → ExplainsChannel n most d code before after
 explains_channel d n most code before after (Ok x) ok err h =
@@ -78,20 +70,12 @@ explains_channel d n most code before after (Err (Unexplained u)) ok err h =
     (λ p fails. on_bus (bus_of d) p.bytes most code before after (Err u) tt fails.0 fails.1 h) err))
 
 pub explains_on_device : (old new : Option DeviceValue) (d : DeviceValue) (n most : ℕ) (code : ℤ) (before after : Outputs) (found : Result Explained ExplainFault) → Some d ≡ old → new ≡ Some d → IfOk found (λ x. FindsFor d n most x) → IfErr found (λ fault. FailsFor d n most fault) → AnswersDevice found code before after → ReadsOpen (ExplainsChannel n most) old code before after new
-explains_on_device old new d n most code before after found was is ok err h =
-    subst (λ (o : Option DeviceValue). ReadsOpen (ExplainsChannel n most) o code before after new) was
-    (explains_channel d n most code before after found ok err h, is)
+explains_on_device old new d n most code before after found was is ok err h = grind (arith, explains_channel)
 
 -- ---- plans
 
 plans : (refusal : Option TransferFault) (t : Descriptor) (bus : Bus) (code : ℤ) (buffer out : List ℕ) (len written : ℕ) (made : Result Descriptor TransferFault) → IfOk made (λ x. x ≡ t) → IfOk made (λ _. refusal ≡ None) → IfErr made (λ fault. fault ≡ unwrap_or refusal transfers.NoMemory) → PlansMade made bus code buffer out len written → PlansTransfer refusal t (Some bus) code buffer out len written
-plans refusal t bus code buffer out len written (Ok x) is none err h =
-    let here : PlansMade (Ok t) bus code buffer out len written = subst (λ (d : Descriptor). PlansMade (Ok d) bus code buffer out len written) is h in
-    elim here [
-      | inl w ↦ inl (none, w.0, w.1)
-      | inr w ↦ inr (w.0 ∙ ap (λ (r : Option TransferFault). transfer_code (unwrap_or r transfers.NoMemory)) (sym none), w.1, w.2)
-    ]
-plans refusal t bus code buffer out len written (Err fault) is none err h = inr (h.0 ∙ ap transfer_code err, h.1, h.2)
+plans refusal t bus code buffer out len written made h1 h2 h3 h4 = grind (arith, here)
 
 pub plans_copy : (t t' : Descriptor) (bus : Bus) (given : Option Bus) (code : ℤ) (buffer out : List ℕ) (len written : ℕ) (made : Result Descriptor TransferFault) → t ≡ t' → Some bus ≡ given → IfOk made (λ x. x ≡ t) → IfOk made (λ x. refusal_of x ≡ None) → IfErr made (λ fault. fault ≡ unwrap_or (refusal_of t) transfers.NoMemory) → PlansMade made bus code buffer out len written → PlansCopy t' given code buffer out len written
 plans_copy t t' bus given code buffer out len written (Ok x) same bus_is is none err h =

@@ -1,5 +1,5 @@
 -- What calls from C on a controller return and write, from the engine's answers.
-use Rattle.std.proofs.Common.{◌≡◌, ℕ, List, Option, Some, None, Result, Ok, Err, Bool, true, false, refl, sym, ap, ◌∙◌, subst, inl, inr}
+use Rattle.std.proofs.Common.{◌≡◌, ℕ, List, Option, Some, None, Result, Ok, Err, Bool, true, false, refl, sym, ap, ◌∙◌, subst, inl, inr, arith}
 use Rattle.std.specs.Prelude.{ℤ, pos, negsuc, OnErr, IsSome, IfOk, IfErr, unwrap_or, is_some}
 use Rattle.std.specs.Option.{option_map}
 use Rattle.std.specs.Result.{result_map_both}
@@ -15,7 +15,6 @@ use Rattle.dma_mem.specs.declared.call.Call.TheVariants.{Read, Status as StatusO
 use Rattle.dma_engine.specs.declared.call.Reply.{Reply}
 use Rattle.dma_engine.specs.declared.call.Reply.TheVariants.{Done, Bytes, Count, State, Result as Resulted, Refused}
 use Rattle.dma_engine.specs.declared.fault.EngineFault.{EngineFault}
-use Rattle.dma_engine.specs.declared.fault.EngineFault.TheVariants.{OutOfMemoryRange, Busy, Running as RunningOn, NoChannel, CookiesSpent, StepsSpent, BadEvent, BadRange, NoMemory}
 use Rattle.dma_engine.specs.declared.outcome.Outcome.{Outcome}
 use Rattle.dma_engine.specs.declared.turn.Running.{Running}
 use Rattle.dma_engine.specs.declared.turn.Status.{Status}
@@ -47,16 +46,13 @@ returns {code = code} request written answer e e' was answers is held effect =
 
 -- the code of a reply
 code_is : {A : Type 0} (f : A → Reply) → ((x : A) → reply_code (f x) ≡ pos 0) → (a : Result A EngineFault) → answer_code a ≡ reply_code (reply_of f a)
-code_is f ok (Ok x) = sym (ok x)
-code_is f ok (Err fault) = refl
+code_is f ok a = grind (arith, ok)
 
 conflict_is : {A : Type 0} (f : A → Reply) → ((x : A) (d : DmaConflict) → conflict_in (replied (f x)) d ≡ d) → (a : Result A EngineFault) (d : DmaConflict) → conflict_of a d ≡ conflict_in (replied (reply_of f a)) d
-conflict_is f none (Ok x) d = sym (none x d)
-conflict_is f none (Err fault) d = refl
+conflict_is f none a d = grind (arith, none)
 
 counted : (a : Result ℕ EngineFault) (before : ℕ) → value_or a before ≡ number_in (replied (reply_of (λ n. Count n) a)) before
-counted (Ok n) before = refl
-counted (Err fault) before = refl
+counted a before = grind arith
 
 pub returns_done : {old : Option EngineState} {code : ℤ} (e e' : EngineState) (call : Call) (a : Result (Unit {0}) EngineFault) → Some e ≡ old → CallAnswers e.view call (reply_of (λ _. Done) a) e'.view → code ≡ answer_code a → EffectOf (ask_call call) code e e' → Returns old (ask_call call) code nothing (Some e')
 returns_done e e' call a was answers is effect =
@@ -89,24 +85,20 @@ returns_value {after = after} e value before was is ok =
 
 -- the code and the value of what runs
 run_code : (r : Option Running) → found_code not_running r ≡ code_of (known (runs r))
-run_code (Some r) = refl
-run_code None = refl
+run_code r = grind arith
 
 run_is : (r : Option Running) (before : Running) → unwrap_or r before ≡ run_in (known (runs r)) before
-run_is (Some r) before = refl
-run_is None before = refl
+run_is r before = grind arith
 
 pub returns_run : {old : Option EngineState} {code : ℤ} {after : Running} (e : EngineState) (before : Running) (ch : ℕ) (r : Option Running) → Some e ≡ old → r ≡ running_on e.view ch → code ≡ found_code not_running r → after ≡ unwrap_or r before → Returns old (ask_value (the_run ch)) code (a_run before after) (Some e)
 returns_run {after = after} e before ch r was is coded written =
     returns (ask_value (the_run ch)) (a_run before after) (known (runs r)) e e was (ap (λ x. known (runs x)) is, refl) (coded ∙ run_code r) (written ∙ run_is r before) refl
 
 outcome_code : (o : Option Outcome) (m : Option DmaOutcome) → m ≡ option_map outcome_of o → found_code no_result m ≡ reply_code (Resulted o)
-outcome_code (Some x) m is = ap (found_code no_result) is
-outcome_code None m is = ap (found_code no_result) is
+outcome_code o m is = grind arith
 
 outcome_is : (o : Option Outcome) (m : Option DmaOutcome) (before : DmaOutcome) → m ≡ option_map outcome_of o → unwrap_or m before ≡ outcome_in (replied (Resulted o)) before
-outcome_is (Some x) m before is = ap (λ (n : Option DmaOutcome). unwrap_or n before) is
-outcome_is None m before is = ap (λ (n : Option DmaOutcome). unwrap_or n before) is
+outcome_is o m before is = grind arith
 
 pub returns_outcome : {old : Option EngineState} {code : ℤ} {after : DmaOutcome} (e : EngineState) (before : DmaOutcome) (ch cookie : ℕ) (o : Option Outcome) (m : Option DmaOutcome) → Some e ≡ old → o ≡ result_of (object_of e.view) ch cookie → m ≡ option_map outcome_of o → code ≡ found_code no_result m → after ≡ unwrap_or m before → Returns old (ask_call (ResultOf ch cookie)) code (an_outcome before after) (Some e)
 returns_outcome {after = after} e before ch cookie o m was is map coded written =
@@ -162,21 +154,11 @@ is_refusal (pos n) = false
 is_refusal (negsuc n) = true
 
 refused : (fault : EngineFault) → is_refusal (fault_code fault) ≡ true
-refused OutOfMemoryRange = refl
-refused (Busy ch cookie) = refl
-refused NoChannel = refl
-refused CookiesSpent = refl
-refused StepsSpent = refl
-refused BadEvent = refl
-refused BadRange = refl
-refused (RunningOn ch cookie) = refl
-refused NoMemory = refl
+refused fault = grind arith
 
 -- the effect of a checkpoint, by its code
 checkpoint_effect : {code : ℤ} (a : Result (Unit {0}) EngineFault) (e e' : EngineState) → IfOk a (λ _. HasNoSpare e') → OnErr a (e' ≡ e) → code ≡ answer_code a → EffectOf (ask_call Checkpoint) code e e'
-checkpoint_effect (Ok x) e e' given same is = ((λ _. given), (λ other. absurd (other is)))
-checkpoint_effect (Err fault) e e' given same is =
-    ((λ ok. absurd (true≢false (sym (refused fault) ∙ ap is_refusal (sym is ∙ ok)))), (λ _. same))
+checkpoint_effect h1 h2 h3 = grind (arith, refused)
 
 pub returns_checkpoint : {old : Option EngineState} {code : ℤ} {after : DmaConflict} (e e' : EngineState) (before : DmaConflict) (a : Result (Unit {0}) EngineFault) → Some e ≡ old → CallAnswers e.view Checkpoint (reply_of (λ _. Done) a) e'.view → IfOk a (λ _. HasNoSpare e') → OnErr a (e' ≡ e) → code ≡ answer_code a → after ≡ conflict_of a before → Returns old (ask_call Checkpoint) code (a_conflict before after) (Some e')
 returns_checkpoint e e' before a was answers given same is named =

@@ -1,10 +1,10 @@
 -- What a call from C on a channel does and returns.
-use Rattle.std.specs.Prelude.{◌≡◌, ℕ, ◌+◌, ◌≤◌, ◌<◌, ◌⊎◌, ◌||◌, ◌==◌, ◌&&◌, nat_lt, nat_le, Bool, true, false, ℤ, Option, Some, None, IsSome, IsSomeAnd, is_some, if◌then◌else◌, List, [], ◌∷◌, ◌++◌, length, map, take, unwrap_or}
+use Rattle.std.specs.Prelude.{◌≡◌, ℕ, ◌+◌, ◌≤◌, ◌<◌, ◌⊎◌, ◌||◌, ◌==◌, ◌&&◌, nat_lt, nat_le, Bool, true, false, ℤ, Option, Some, None, IsSome, IsSomeAnd, is_some, if◌then◌else◌, List, [], ◌∷◌, ◌++◌, length, take, unwrap_or}
 use Rattle.dma_mem.specs.Flags.{flags_of}
 use Rattle.dma_mem.specs.Marking.{MarkList}
 use Rattle.dma_mem.specs.Places.{Descriptor, end_of_addresses, filling}
 use Rattle.dma_mem.specs.Refusals.{refusal_of, refusal_of_fill}
-use Rattle.dma_mem.specs.Regions.{in_order, pieces_of, image_of, read_only_of, run_from}
+use Rattle.dma_mem.specs.Regions.{in_order, pieces_of, image_of, run_from}
 use Rattle.dma_mem.specs.declared.marks.MarkKind.{MarkKind}
 use Rattle.dma_mem.specs.declared.regions.Region.{Region}
 use Rattle.dma_mem.specs.declared.segment.Segment.{Segment}
@@ -14,7 +14,7 @@ use Rattle.dma_insn.specs.AssemblyText.{most_program_bytes}
 use Rattle.dma_chan.specs.declared.bus.Bus.TheVariants.{Ideal}
 use Rattle.dma_chan.specs.Channel.{ChannelValue, on_bus, unloaded, loaded}
 use Rattle.dma_chan.specs.Compiled.{compiled}
-use Rattle.dma_chan.specs.LentRegions.{segment_of, with_gaps_of}
+use Rattle.dma_chan.specs.LentRegions.{AreKept, with_gaps_of}
 use Rattle.dma_chan.specs.Saved.{IsChannelValue, IsSave, most_saved, saved}
 use Rattle.dma_chan.specs.Stepping.{Machine, TakesSteps, signal_after, written_after}
 use Rattle.dma_chan.specs.Written.{KeepsOutside}
@@ -163,14 +163,6 @@ over m regions flags = record { channel = m.channel; image = image_of (pieces_of
 abbrev pub marks_over : MarkedChannel → List Region → MarkList
 marks_over m regions = with_gaps_of regions m.marks
 
--- The regions keep their places, whatever their bytes are: the addresses and lengths are the same, what is read-only,
--- and the names of the loans of their bytes. Pointers are not compared: a contract sees where memory is lent only by
--- the names of its loans.
-pub record StayInPlace (regions left : List Region) : Type 0 where
-  pub places : map segment_of left ≡ map segment_of regions
-  pub read_only : read_only_of left ≡ read_only_of regions
-  pub names : map (λ r. r.bytes.ghost_name) left ≡ map (λ r. r.bytes.ghost_name) regions
-
 -- the number of a report without a step
 abbrev pub no_step_turn : ℕ
 no_step_turn = 0
@@ -226,7 +218,7 @@ pub record StepsOver (a : Lent) (most : ℕ) (taken : Taken) (report : ChannelRe
   pub written : taken.written ≡ written_after (marks_over m a.regions) (over m a.regions a.flags) taken.count
   pub kept : KeepsOutside taken.written (image_of (pieces_of a.regions)) (image_of (pieces_of b.regions))
   pub reported : report ≡ report_of taken.count n.channel.registers.pc taken.written taken.last taken.signal
-  pub regions : StayInPlace a.regions b.regions
+  pub regions : AreKept b.regions a.regions
 
 -- A call from C that takes steps: the code that it returns, and the report before and after. On a channel that isn't
 -- open, else over regions that aren't usable, else without a program, it returns the code for that and changes nothing.

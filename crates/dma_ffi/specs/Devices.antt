@@ -3,6 +3,7 @@ use Rattle.std.specs.Prelude.{◌≡◌, ◌≢◌, ℕ, ◌≤◌, ◌⊎◌, �
 use Rattle.std.specs.List.{list_any}
 use Rattle.dma_mem.specs.Regions.{image_of, pieces_of}
 use Rattle.dma_mem.specs.declared.regions.Region.{Region}
+use Rattle.dma_chan.specs.LentRegions.{AreKept}
 use Rattle.dma_chan.specs.Written.{KeepsOutside, LiesIn}
 use Rattle.dma_device.specs.Accesses.{Does, Done, Reads, Resets, Restores as RestoresTo, Turned, Turns, Value, Writes}
 use Rattle.dma_device.specs.Config.{is_valid}
@@ -22,7 +23,7 @@ use Rattle.dma_device.specs.declared.save.RestoreFault.TheVariants.{BadSave, Oth
 use Rattle.dma_ffi.specs.declared.device_config.DeviceConfig.{DeviceConfig}
 use Rattle.dma_ffi.specs.declared.device_calls.DeviceTurn.{DeviceTurn}
 use Rattle.dma_ffi.specs.Calls.{Becomes, OnOpen, WritesValue}
-use Rattle.dma_ffi.specs.Channels.{StayInPlace, are_usable}
+use Rattle.dma_ffi.specs.Channels.{are_usable}
 use Rattle.dma_ffi.specs.Codes.{already_open, bad_config, bad_regions, bad_save, no_memory, not_open, ok_code, other_device}
 
 -- ---- the configuration
@@ -120,7 +121,7 @@ pub record KeepsTheRest (n most : ℕ) (old : Option DeviceValue) (regions : Lis
   pub kept : code ≡ ok_code → KeepsOutside report.written (image_of (pieces_of regions)) (image_of (pieces_of left))
   pub each : (a : ℕ) → code ≡ ok_code → LiesIn report.written a →
       (d : DeviceValue) × (old ≡ Some d) × TurnWrote d regions n most a
-  pub in_place : StayInPlace regions left
+  pub in_place : AreKept left regions
   pub refused : code ≢ ok_code → (new ≡ old) × (left ≡ regions) × (report ≡ before)
 
 -- Each such call keeps the rest.

@@ -4,7 +4,7 @@ ghost use Rattle.std.specs.Prelude.{◌≡◌, ◌↔◌, ◌+◌, ◌≤◌, �
 ghost use Rattle.dma_device.specs.Device.{DeviceValue, reset_device};
 ghost use Rattle.dma_device.specs.Snapshot.{IsDeviceValue, IsOfOther, IsSavedAs, head_of, most_saved, parts_in, saved_device};
 
-use crate::device::{Device, reset_threads};
+use crate::device::Device;
 use crate::save::head::{Head, OLD_VERSION, VERSION, VERSION_AT, is_of_other};
 use crate::save::threads::{restore_threads, save_threads, threads_len};
 use crate::save::{HEAD_LEN, RestoreFault, SUM_LEN, is_sealed, seal};
@@ -113,11 +113,9 @@ impl Device {
         };
         let config = self.config;
         if !restore_threads(&mut self.threads, config, &save[HEAD_LEN..]) {
-            reset_threads(&mut self.threads, config.bus);
             return false;
         }
-        self.manager.is_faulting = head.manager.is_faulting;
-        self.manager.fault = head.manager.fault;
+        self.manager = head.manager;
         self.events = head.events;
         self.interrupts = head.interrupts;
         self.inten = head.inten;

@@ -2,8 +2,8 @@
 
 ghost use Rattle.std.specs.Prelude.{◌≡◌, ◌+◌, ◌^◌, ◌≤◌, ◌<◌, ◌&&◌, [], IsTrue, length, slice_get};
 ghost use Rattle.dma_mem.specs.Regions.{in_order, pieces_of};
-ghost use Rattle.dma_chan.specs.LentRegions.{with_gaps_of};
-ghost use Rattle.dma_device.specs.Turns.{AreKept, TakesTurn, called, called_if, is_beside, may_follow, nothing, outcome_of, raises, runs_at, setup_of, visible_events, with_flags};
+ghost use Rattle.dma_chan.specs.LentRegions.{AreKept, with_gaps_of};
+ghost use Rattle.dma_device.specs.Turns.{TakesTurn, called, called_if, is_beside, may_follow, nothing, outcome_of, raises, runs_at, setup_of, visible_events, with_flags};
 
 use crate::device::Device;
 use dma_chan::lent::step_regions;

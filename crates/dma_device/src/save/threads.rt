@@ -30,7 +30,7 @@ impl Thread {
     }
 
     // Returns the length of the thread's save.
-    #[tactic(auto, using(crate::proofs::SavedParts::thread_length))]
+    #[tactic(auto, using(crate::proofs::SavedDevices::thread_length))]
     fn save_len(&self, events: u8) -> usize
         requires { IsSound events self.now }
         ensures len { result ≡ length (saved_thread self.now) }
@@ -41,7 +41,7 @@ impl Thread {
     }
 
     // Writes the thread's save to the front of `out`, and returns its length. There must be room for it.
-    #[tactic(auto, using(crate::proofs::SavedParts::thread_length))]
+    #[tactic(auto, using(crate::proofs::SavedDevices::thread_length))]
     fn save(&self, out: &mut [u8]) -> usize
         requires { length (saved_thread self.now) ≤ length out.old }
         ensures bytes { out.new ≡ saved_thread self.now ++ drop result out.old }

@@ -12,7 +12,7 @@ use Rattle.dma_engine.specs.declared.entry.Entry.TheVariants.{Submitted}
 use Rattle.dma_engine.specs.declared.outcome.Outcome.{Outcome}
 use Rattle.dma_engine.specs.declared.queue.Queue.{Queue}
 use Rattle.dma_engine.specs.declared.access.Ranges.{Ranges}
-use Rattle.dma_engine.specs.Object.{Object, ChannelState, channel, front, no_transfer, used}
+use Rattle.dma_engine.specs.Object.{Object, ChannelState, channel, front, no_transfer}
 use Rattle.dma_engine.specs.inner.Ranges.{AreOfRunning}
 use Rattle.dma_engine.specs.View.{View, ChannelSchedule, RunningTransfer, IsSound, object_of, memory_of, runs}
 
@@ -111,16 +111,22 @@ queue_forgotten q =
       outcomes = record { items = []; spare = 0 };
     }
 
--- A queue matches the state of its channel. First come the transfers that the base has of it; the indices are those of
--- the Submitted entries of the others.
+-- A queue with these counts and indices has the cookies that were submitted to its channel: those before the base, and
+-- those with these transfers. First come the transfers that the base has of the channel; the indices are those of the
+-- Submitted entries of the others.
+pub record HasSubmitted (ch : ℕ) (kept : List Descriptor) (history : List Entry) (lost number : ℕ) (indices : List ℕ) (before : ℕ) (submitted : List Descriptor) : Type 0 where
+  pub forgotten : lost ≡ before
+  pub given : number ≡ before + length submitted
+  pub many : length submitted ≡ length kept + length indices
+  pub first : take (length kept) submitted ≡ kept
+  pub indexed : (k : ℕ) → k < length indices →
+      (cookie : ℕ) × (slice_get history (slice_index indices k)
+      ≡ Some (Submitted ch (slice_index_or submitted (length kept + k) no_transfer) cookie))
+
+-- A queue matches the state of its channel.
 pub record IsQueue (ch : ℕ) (kept : List Descriptor) (history : List Entry) (memory : List ℕ) (q : Queue) (c : ChannelState) : Type 0 where
-  pub forgotten : q.forgotten ≡ c.forgotten
-  pub given : q.given ≡ used c
-  pub many : length c.submitted ≡ length kept + length q.indices.items
-  pub first : take (length kept) c.submitted ≡ kept
-  pub indexed : (k : ℕ) → k < length q.indices.items →
-      (cookie : ℕ) × (slice_get history (slice_index q.indices.items k)
-      ≡ Some (Submitted ch (slice_index_or c.submitted (length kept + k) no_transfer) cookie))
+  pub submitted : HasSubmitted ch kept history q.forgotten q.given q.indices.items c.forgotten c.submitted
+  pub open submitted use *
   pub outcomes : q.outcomes.items ≡ c.outcomes
   pub issued : q.issued ≡ c.issued
   pub halted : q.halted ≡ c.halted

@@ -1,5 +1,5 @@
-use Rattle.dma_engine.proofs.JoinedCalls.{answer_is_one, answers_are_answers, answer_unless_no_memory, answers_unless_no_memory}
 use Rattle.dma_engine.proofs.laws.answers_with_memory.Goals as goal
+use Rattle.dma_engine.proofs.JoinedCalls.{answer_is_one, answer_unless_no_memory, answers_are_answers, answers_unless_no_memory}
 
 pub returns : goal.returns
 returns c =

@@ -1,9 +1,9 @@
-use Rattle.dma_engine.proofs.CallLists.{answers_extend, chain_extends}
-use Rattle.dma_engine.proofs.AnswerCounts.{quiet_calls_keep_counts, steps_add, ends_as_reported}
-use Rattle.dma_engine.proofs.Checkpoint.{checkpoints_keep}
-use Rattle.dma_engine.proofs.OutcomesStay.{kept}
-use Rattle.dma_engine.proofs.CookieCounts.{submits_add, terminates_add}
 use Rattle.dma_engine.proofs.laws.calls_add.Goals as goal
+use Rattle.dma_engine.proofs.AnswerCounts.{ends_as_reported, quiet_calls_keep_counts, steps_add}
+use Rattle.dma_engine.proofs.CallLists.{answers_extend, chain_extends}
+use Rattle.dma_engine.proofs.Checkpoint.{checkpoints_keep}
+use Rattle.dma_engine.proofs.CookieCounts.{submits_add, terminates_add}
+use Rattle.dma_engine.proofs.OutcomesStay.{kept}
 
 pub returns : goal.returns
 returns c =

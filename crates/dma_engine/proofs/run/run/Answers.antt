@@ -1,9 +1,8 @@
 use Rattle.std.proofs.Common.{◌≡◌, ◌+◌, ◌∙◌, ◌++◌, ◌∷◌, [], ap, sym, take, arith}
 use Rattle.std.proofs.lemmas.List.{take_more, take_all}
 use Rattle.dma_engine.proofs.CallLists.{AreAnswers_push, chain_extends}
-use Rattle.dma_engine.proofs.OutcomesStay.{kept}
-use Rattle.dma_engine.proofs.Remembered.{chain_remembers}
-use Rattle.dma_engine.proofs.SoundViews.{sound_push}
+use Rattle.dma_engine.proofs.OutcomesStay.{kept, chain_remembers}
+use Rattle.dma_engine.proofs.StaysSound.{sound_push}
 use Rattle.dma_engine.proofs.run.run.Goals as goal
 
 pub loop-call-preserved : goal.loop-call-preserved

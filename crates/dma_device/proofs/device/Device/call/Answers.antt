@@ -14,8 +14,7 @@ use Rattle.dma_device.specs.declared.thread.Thread.{Thread}
 use Rattle.dma_device.specs.inner.Fields.{device_value}
 use Rattle.dma_device.proofs.Answered.{answer_channel}
 use Rattle.dma_device.proofs.Calls.{called_is}
-use Rattle.dma_device.proofs.ControlFits.{steps_fit}
-use Rattle.dma_device.proofs.Sound.{answered_sound, with_new}
+use Rattle.dma_device.proofs.Sound.{steps_fit, answered_sound, with_new}
 use Rattle.dma_device.proofs.device.Device.call.Goals as goal
 
 pub invariant_of-self : goal.invariant_of-self

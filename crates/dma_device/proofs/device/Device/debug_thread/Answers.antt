@@ -1,5 +1,5 @@
-use Rattle.std.proofs.Common.{◌≡◌, ◌∙◌, arith, false, refl, subst, sym}
-use Rattle.std.specs.Prelude.{◌==◌}
+use Rattle.std.proofs.Common.{arith, refl, subst, sym}
+use Rattle.std.proofs.lemmas.Grind.{common_steps}
 use Rattle.std.proofs.lemmas.Bool.{ne_eqb}
 use Rattle.std.proofs.lemmas.List.{get_or_default}
 use Rattle.dma_device.specs.Thread.{IsOn, IsSound}
@@ -26,49 +26,25 @@ pub returns-in_default : goal.returns-in_default
 returns-in_default c = rw (← c.self.view_is, none_at c.self.inside.threads.items c.deref.result.now c.args.n c.deref.ensures.value c.in_default.ensures.lookup.0) refl
 
 pub index_mut-requires : goal.index_mut-requires
-index_mut-requires c =
-    let at = found_at c.self.inside.threads.items c.deref.result.now c.args.n c.in-Some.thread.now c.deref.ensures.value c.in-Some.ensures.lookup.0 c.in-Some.ensures.lookup.1 in
-    omega (arith, at.0, c.self.inside.threads.ok.0)
+index_mut-requires c = grind (arith, common_steps, found_at)
 
 pub index_mut-requires-then-opcode-ne52 : goal.index_mut-requires-then-opcode-ne52
-index_mut-requires-then-opcode-ne52 c =
-    let at = found_at c.self.inside.threads.items c.deref.result.now c.args.n c.in-Some.thread.now c.deref.ensures.value c.in-Some.ensures.lookup.0 c.in-Some.ensures.lookup.1 in
-    omega (arith, at.0, c.self.inside.threads.ok.0)
+index_mut-requires-then-opcode-ne52 c = grind (arith, common_steps, found_at)
 
 pub index_mut-requires-else-is_event : goal.index_mut-requires-else-is_event
-index_mut-requires-else-is_event c =
-    let at = found_at c.self.inside.threads.items c.deref.result.now c.args.n c.in-Some.thread.now c.deref.ensures.value c.in-Some.ensures.lookup.0 c.in-Some.ensures.lookup.1 in
-    omega (arith, at.0, c.self.inside.threads.ok.0)
+index_mut-requires-else-is_event c = grind (arith, common_steps, found_at)
 
 pub returns-then-is_faulting : goal.returns-then-is_faulting
-returns-then-is_faulting c =
-    let at = found_at c.self.inside.threads.items c.deref.result.now c.args.n c.in-Some.thread.now c.deref.ensures.value c.in-Some.ensures.lookup.0 c.in-Some.ensures.lookup.1 in
-    let other : (c.args.opcode == 1) ≡ false = ne_eqb c.args.opcode 1 c.if-opcode-eq1.false in
-    rw (← c.self.view_is, at.1, other, sym c.if-is_faulting.ensures) refl
+returns-then-is_faulting c = grind (arith, common_steps, found_at, ne_eqb)
 
 pub returns-then-opcode-eq1 : goal.returns-then-opcode-eq1
-returns-then-opcode-eq1 c =
-    let at = found_at c.self.inside.threads.items c.deref.result.now c.args.n c.in-Some.thread.now c.deref.ensures.value c.in-Some.ensures.lookup.0 c.in-Some.ensures.lookup.1 in
-    let same : c.index_mut.result.now ≡ c.in-Some.thread.now = c.index_mut.ensures.value ∙ get_or_default c.self.inside.threads.items c.args.n _ c.in-Some.thread.now at.0 ∙ sym (rw c.deref.ensures.value at c.in-Some.ensures.lookup.1) in
-    rw (← c.self.view_is, at.1, c.if-opcode-eq1.true, c.kill.ensures, same) refl
+returns-then-opcode-eq1 c = grind (arith, common_steps, found_at, get_or_default)
 
 pub returns-then-opcode-ne52 : goal.returns-then-opcode-ne52
-returns-then-opcode-ne52 c =
-    let at = found_at c.self.inside.threads.items c.deref.result.now c.args.n c.in-Some.thread.now c.deref.ensures.value c.in-Some.ensures.lookup.0 c.in-Some.ensures.lookup.1 in
-    let same : c.index_mut-then-opcode-ne52.result.now ≡ c.in-Some.thread.now = c.index_mut-then-opcode-ne52.ensures.value ∙ get_or_default c.self.inside.threads.items c.args.n _ c.in-Some.thread.now at.0 ∙ sym (rw c.deref.ensures.value at c.in-Some.ensures.lookup.1) in
-    let other : (c.args.opcode == 1) ≡ false = ne_eqb c.args.opcode 1 c.if-opcode-eq1.false in
-    let unknown : (c.args.opcode == 52) ≡ false = ne_eqb c.args.opcode 52 c.if-opcode-ne52.true in
-    rw (← c.self.view_is, at.1, other, sym c.if-is_faulting.ensures, unknown, c.fail.ensures, same) refl
+returns-then-opcode-ne52 c = grind (arith, common_steps, found_at, get_or_default, ne_eqb)
 
 pub returns-then-is_event : goal.returns-then-is_event
-returns-then-is_event c =
-    let at = found_at c.self.inside.threads.items c.deref.result.now c.args.n c.in-Some.thread.now c.deref.ensures.value c.in-Some.ensures.lookup.0 c.in-Some.ensures.lookup.1 in
-    let event = rw (← c.self.view_is) at (sym c.if-is_event.ensures) in
-    rw (c.signal.ensures, ← c.self.view_is, at.1, c.if-opcode-ne52.false, sym c.if-is_faulting.ensures, event) refl
+returns-then-is_event c = grind (arith, common_steps, found_at)
 
 pub returns-else-is_event : goal.returns-else-is_event
-returns-else-is_event c =
-    let at = found_at c.self.inside.threads.items c.deref.result.now c.args.n c.in-Some.thread.now c.deref.ensures.value c.in-Some.ensures.lookup.0 c.in-Some.ensures.lookup.1 in
-    let same : c.index_mut-else-is_event.result.now ≡ c.in-Some.thread.now = c.index_mut-else-is_event.ensures.value ∙ get_or_default c.self.inside.threads.items c.args.n _ c.in-Some.thread.now at.0 ∙ sym (rw c.deref.ensures.value at c.in-Some.ensures.lookup.1) in
-    let event = rw (← c.self.view_is) at (sym c.if-is_event.ensures) in
-    rw (← c.self.view_is, at.1, c.if-opcode-ne52.false, sym c.if-is_faulting.ensures, event, c.fail-else-is_event.ensures, same) refl
+returns-else-is_event c = grind (arith, common_steps, found_at, get_or_default)

@@ -1,19 +1,18 @@
-use Rattle.std.proofs.Common.{◌≡◌, ◌∙◌, ◌++◌, List, ap, arith, drop, length, refl, subst, sym, true≢false, ℕ}
+use Rattle.std.proofs.Common.{◌≡◌, ◌∙◌, List, ap, arith, drop, length, refl, subst, sym, true≢false, true}
 use Rattle.std.proofs.lemmas.List.{take-append-drop, with_items_is}
 use Rattle.std.specs.List.{All, flat_map}
 use Rattle.std.specs.Vec.{with_items}
 use Rattle.dma_device.specs.Device.{DeviceValue}
-use Rattle.dma_device.specs.Snapshot.{HasKnownEvents, IsThreadValue, head_bytes, head_in, head_of, parts_in, saved_thread}
+use Rattle.dma_device.specs.Snapshot.{HasKnownEvents, IsDeviceValue, IsThreadValue, head_in, head_of, parts_in, saved_thread}
 use Rattle.dma_device.specs.Thread.{IsOn, IsSound}
 use Rattle.dma_device.specs.declared.config.Config.{Config}
 use Rattle.dma_device.specs.declared.save.head.Head.{Head}
 use Rattle.dma_device.specs.declared.thread.Thread.{Thread}
-use Rattle.dma_device.proofs.SavedParts.{tail_is}
-use Rattle.dma_device.proofs.SavedDevices.{device_ranges_in, device_value_is, from_head, known_in, threads_behind}
-use Rattle.dma_device.specs.inner.Fields.{AreOn}
+use Rattle.dma_device.proofs.SavedDevices.{tail_is, device_ranges_in, device_value_is, from_head, known_in, threads_behind}
 use Rattle.dma_device.specs.inner.Saves.{HasHeadRanges}
-use Rattle.dma_device.proofs.Sound.{all_reset, are_on, on_of, reset_on, with_parts}
+use Rattle.dma_device.proofs.Sound.{are_on, on_of, with_parts}
 use Rattle.dma_device.proofs.device.Device.restore_parts.Goals as goal
+use Rattle.dma_device.proofs.device.Device.restore_parts.Goals.{After-restore_threads}
 
 -- a head's events are known to a device of its configuration
 known_on : (h : Head) (g : Config) → h.config ≡ g → HasKnownEvents h → HasKnownEvents (record h { config = g })
@@ -28,39 +27,36 @@ returns-in_default-clause-all c d v config e =
 
 pub restore_threads-requires-clause-sound : goal.restore_threads-requires-clause-sound
 restore_threads-requires-clause-sound c =
-    let d = c.self.inside in
-    subst (All (IsSound d.config.events)) (sym c.deref_mut.ensures.value) c.self.invariant.sound.threads
+    subst (All (IsSound c.self.inside.config.events)) (sym c.deref_mut.ensures.value) c.self.invariant.sound.threads
 
 pub restore_threads-requires-clause-on : goal.restore_threads-requires-clause-on
 restore_threads-requires-clause-on c =
     let d = c.self.inside in
     subst (All (IsOn d.config.bus)) (sym c.deref_mut.ensures.value) (on_of d.config.bus d.threads.items c.self.invariant.on)
 
+-- there are as many threads
+same_length : (c : After-restore_threads) → length c.restore_threads.new.threads ≡ c.self.inside.threads.len
+same_length c = omega (arith, c.restore_threads.auto.threads, c.deref_mut.ensures.len)
+
 pub invariant_of-self : goal.invariant_of-self
 invariant_of-self c =
     let d = c.self.inside in
-    let h = c.self.invariant in
-    let one = c.restore_threads.new.threads in
-    let two = c.reset_threads.new.threads in
-    let first = with_items_is d.threads one (omega (arith, c.restore_threads.auto.threads, c.deref_mut.ensures.len)) in
-    let second = with_items_is (with_items d.threads one) two (omega (arith, c.reset_threads.auto.threads, c.deref_mut-then-not-restore_threads.ensures.len)) in
-    let reset = second ∙ c.reset_threads.ensures in
-    record {
-      config = h.config;
-      count = omega (arith, ap length second, c.reset_threads.auto.threads, ap length c.deref_mut-then-not-restore_threads.ensures.value, ap length first, c.restore_threads.auto.threads, ap length c.deref_mut.ensures.value, h.count);
-      sound = record { few = h.sound.few; known = h.sound.known; threads = subst (All (IsSound d.config.events)) (sym reset) (all_reset d.config.bus d.config.events _) };
-      on = subst (AreOn d.config.bus) (sym reset) (reset_on d.config.bus _);
-      marks = h.marks;
-    }
+    let new = c.restore_threads.new.threads in
+    let known = c.self.invariant.sound.known in
+    with_parts d new d.manager _ _ _ d.dbginst0 d.dbginst1 c.self.invariant (same_length (goal.at.invariant_of-self c).After-restore_threads) (c.restore_threads.auto.threads ∙ ap length c.deref_mut.ensures.value) c.restore_threads.ensures.sound (are_on d.config.bus new c.restore_threads.ensures.on) known.events known.interrupts known.inten
 
-pub returns-then-not-restore_threads-clause-all : goal.returns-then-not-restore_threads-clause-all
-returns-then-not-restore_threads-clause-all c d v config e =
+-- the threads of the device whose parts these are
+restored : (c : After-restore_threads) (d : DeviceValue) → IsDeviceValue d → d.config ≡ c.args.self.now.config → c.args.save.now ≡ parts_in c.args.version d → (c.restore_threads.result ≡ true) × (c.restore_threads.new.threads ≡ d.threads)
+restored c d v config e =
     let same = config ∙ sym (ap (λ (x : DeviceValue). x.config) c.self.view_is) in
     let count = v.count ∙ ap (λ (g : Config). g.channels) same ∙ sym c.self.invariant.count ∙ ap length (sym c.deref_mut.ensures.value) in
     let values = subst (λ (g : Config). All (IsThreadValue g.events) d.threads) same v.threads in
     let on = subst (λ (g : Config). All (IsOn g.bus) d.threads) same v.on in
-    let w = c.restore_threads.ensures.all d.threads count values on (threads_behind c.args.version d c.args.save.now e) in
-    absurd (true≢false (sym w.0 ∙ c.if-not-restore_threads.true))
+    c.restore_threads.ensures.all d.threads count values on (threads_behind c.args.version d c.args.save.now e)
+
+pub returns-then-not-restore_threads-clause-all : goal.returns-then-not-restore_threads-clause-all
+returns-then-not-restore_threads-clause-all c d v config e =
+    absurd (true≢false (sym (restored (goal.at.returns-then-not-restore_threads-clause-all c).After-restore_threads d v config e).0 ∙ c.if-not-restore_threads.true))
 
 pub invariant_of-self-2 : goal.invariant_of-self-2
 invariant_of-self-2 c =
@@ -79,11 +75,7 @@ returns-clause-ok c =
     let new = c.restore_threads.new.threads in
     let len : length new ≡ d.threads.len = omega (arith, c.restore_threads.auto.threads, c.deref_mut.ensures.len) in
     let back : drop 40 save ≡ flat_map saved_thread new = sym (tail_is 40 save) ∙ c.restore_threads.ensures.ok c.if-not-restore_threads.false in
-    sym (take-append-drop 40 save) ∙ ap (λ (l : List ℕ). l ++ drop 40 save) c.in-Some.ensures.found
-    ∙ ap (λ (l : List ℕ). head_bytes h ++ l) back
-    ∙ ap (λ (g : Config). head_bytes (record h { config = g }) ++ flat_map saved_thread new) c.in-Some.ensures.config
-    ∙ ap (λ (n : ℕ). head_bytes (record h { version = n; config = d.config }) ++ flat_map saved_thread new) c.in-Some.ensures.version
-    ∙ ap (λ (ts : List Thread). head_bytes (record h { version = c.args.version; config = d.config }) ++ flat_map saved_thread ts) (sym (with_items_is d.threads new len)))
+    sym (take-append-drop 40 save) ∙ simp (c.in-Some.ensures.found, back, sym c.in-Some.ensures.config, sym c.in-Some.ensures.version, with_items_is d.threads new len))
 
 pub returns-clause-all : goal.returns-clause-all
 unfolding parts_in
@@ -96,10 +88,7 @@ returns-clause-all c e v config is =
     let same = config ∙ sym (ap (λ (x : DeviceValue). x.config) c.self.view_is) in
     let found = c.in-Some.ensures.only (head_in c.args.version e) (flat_map saved_thread e.threads) (device_ranges_in c.args.version e v) (known_in c.args.version e v) refl same is in
     let head : h ≡ head_in c.args.version e = cc found in
-    let count = v.count ∙ ap (λ (g : Config). g.channels) same ∙ sym c.self.invariant.count ∙ ap length (sym c.deref_mut.ensures.value) in
-    let values = subst (λ (g : Config). All (IsThreadValue g.events) e.threads) same v.threads in
-    let on = subst (λ (g : Config). All (IsOn g.bus) e.threads) same v.on in
-    let w = c.restore_threads.ensures.all e.threads count values on (threads_behind c.args.version e save is) in (
+    let w = restored (goal.at.returns-clause-all c).After-restore_threads e v config is in (
       refl,
       ap (λ (ts : List Thread). from_head d.config h ts) (with_items_is d.threads new len ∙ w.1)
           ∙ ap (λ (k : Head). from_head d.config k e.threads) head

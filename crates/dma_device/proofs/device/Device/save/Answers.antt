@@ -1,16 +1,16 @@
-use Rattle.std.proofs.Common.{◌≡◌, ◌∙◌, ◌+◌, ◌++◌, List, ap, arith, drop, length, sym, take, ℕ}
+use Rattle.std.proofs.Common.{◌≡◌, ◌∙◌, ◌+◌, ◌++◌, ap, arith, drop, length, sym, take}
+use Rattle.std.proofs.lemmas.Grind.{common_steps}
+use Rattle.std.proofs.lemmas.Bool.{le-leb, lt-leb}
 use Rattle.std.proofs.lemmas.List.{drop-drop, drop_at, take_at}
-use Rattle.dma_chan.specs.Saved.{sealed}
 use Rattle.dma_device.specs.Snapshot.{parts_in, saved_device}
-use Rattle.dma_device.proofs.SavedDevices.{no_room, own_length, room_is}
+use Rattle.dma_device.proofs.SavedDevices.{own_length}
 use Rattle.dma_device.proofs.device.Device.save.Goals as goal
 
 pub returns-then-out-len-clause-limit : goal.returns-then-out-len-clause-limit
 returns-then-out-len-clause-limit c = omega (arith, own_length c.args.self.now, c.parts_len-len.ensures.len, c.parts_len-len.ensures.limit)
 
 pub returns-then-out-len-clause-room : goal.returns-then-out-len-clause-room
-returns-then-out-len-clause-room c =
-    no_room (length (saved_device c.args.self.now)) (length c.args.out.now) (omega (arith, own_length c.args.self.now, c.parts_len-len.ensures.len, c.if-out-len.true))
+returns-then-out-len-clause-room c = grind (arith, common_steps, lt-leb, own_length)
 
 pub returns-clause-len : goal.returns-clause-len
 returns-clause-len c = omega (arith, own_length c.args.self.now, c.parts_len-len.ensures.len)
@@ -19,8 +19,7 @@ pub returns-clause-limit : goal.returns-clause-limit
 returns-clause-limit c = omega (arith, own_length c.args.self.now, c.parts_len-len.ensures.len, c.parts_len-len.ensures.limit)
 
 pub returns-clause-room : goal.returns-clause-room
-returns-clause-room c =
-    room_is (length (saved_device c.args.self.now)) (length c.args.out.now) (omega (arith, own_length c.args.self.now, c.parts_len-len.ensures.len, c.if-out-len.false))
+returns-clause-room c = grind (arith, common_steps, le-leb, own_length)
 
 pub returns-clause-bytes : goal.returns-clause-bytes
 unfolding saved_device
@@ -33,8 +32,5 @@ returns-clause-bytes c =
     let front : take len c.write_parts.new.out ≡ parts = ap (take len) is ∙ take_at parts rest len (sym c.parts_len-len.ensures.len) in
     let behind : drop len c.write_parts.new.out ≡ rest = ap (drop len) is ∙ drop_at parts rest len (sym c.parts_len-len.ensures.len) in
     let tail : drop (len + 4) c.write_parts.new.out ≡ drop (len + 4) out =
-    sym (drop-drop 4 len c.write_parts.new.out) ∙ ap (drop 4) behind ∙ drop-drop 4 (length parts) out
-    ∙ ap (λ (n : ℕ). drop (n + 4) out) (sym c.parts_len-len.ensures.len) in
-    c.seal.ensures
-    ∙ ap (λ (l : List ℕ). sealed l ++ drop (len + 4) c.write_parts.new.out) front
-    ∙ ap (λ (l : List ℕ). sealed parts ++ l) tail
+    sym (drop-drop 4 len c.write_parts.new.out) ∙ ap (drop 4) behind ∙ drop-drop 4 (length parts) out ∙ simp c.parts_len-len.ensures.len in
+    c.seal.ensures ∙ simp (front, tail)

@@ -2,8 +2,7 @@ use Rattle.std.proofs.Common.{◌∙◌, refl, subst, sym}
 use Rattle.std.proofs.lemmas.List.{length-set}
 use Rattle.std.proofs.lemmas.List.Elements.{All-set}
 use Rattle.dma_device.specs.Thread.{IsOn, IsSound}
-use Rattle.dma_device.proofs.ControlFits.{starts_fit}
-use Rattle.dma_device.proofs.Sound.{are_on, on_of, thread_sound}
+use Rattle.dma_device.proofs.Sound.{starts_fit, are_on, on_of, thread_sound}
 use Rattle.dma_device.specs.inner.Fields.{device_value}
 use Rattle.dma_device.proofs.device.Device.start.Goals as goal
 
@@ -13,8 +12,7 @@ invariant_of-self c =
     let h = c.self.invariant in
     let n = c.args.n in
     let new = c.start.new.self in
-    let events = d.config.events in
-    let sound = subst (IsSound events) (sym c.start.ensures) refl in
+    let sound = subst (IsSound d.config.events) (sym c.start.ensures) refl in
     let on = subst (IsOn d.config.bus) (sym c.start.ensures) (record { width = refl; control = starts_fit d.config.bus }) in
     record {
       config = h.config;

@@ -1,4 +1,4 @@
-use Rattle.std.proofs.Common.{◌≡◌, ◌≢◌, ◌∙◌, ℕ, Bool, true, false, ◌&&◌, [], ap, refl, subst, sym}
+use Rattle.std.proofs.Common.{◌≡◌, ◌≢◌, ◌∙◌, ℕ, Bool, true, [], refl, subst, sym, arith}
 use Rattle.std.specs.Prelude.{◌==◌, not}
 use Rattle.std.proofs.lemmas.Bool.{eq-eqb, ne_eqb}
 use mathlib.Core.Bool.{beq}
@@ -18,25 +18,18 @@ call_if-second-requires c = in_order_kept c.args.regions.now c.call_if-first.new
 pub joined-requires-clause-one : goal.joined-requires-clause-one
 joined-requires-clause-one c =
     let one = c.call_if-first in
-    let first = outcome_of one.new.self one.new.regions one.result in
     subst (λ (o : Outcome). adjoins one.result.written o.called.written ≡ true) (rw c.may_follow.ensures at c.call_if-second.ensures.calls)
-    (second_beside (with_gaps_of one.new.regions []) c.from-n.result first)
+    (second_beside (with_gaps_of one.new.regions []) c.from-n.result (outcome_of one.new.self one.new.regions one.result))
 
 -- whether the lines differ, by the first of them that does
 other_lines : (d e : DeviceValue) (a b : ℕ) → a ≡ irqs d → b ≡ irqs e → a ≢ b → not (a == b) ≡ lines_differ d e
-other_lines d e a b p q ne =
-    ap not (ne_eqb a b ne)
-    ∙ sym (ap (λ (x : Bool). not (x && (flag (irq_abort d) == flag (irq_abort e)))) (ne_eqb (irqs d) (irqs e) (λ same. ne (p ∙ same ∙ sym q))))
+other_lines d e a b p q ne = rw (ne_eqb a b ne, ne_eqb (irqs d) (irqs e) (λ same. ne (p ∙ same ∙ sym q))) refl
 
 by_flags : (x y : Bool) → beq x y ≡ (flag x == flag y)
-by_flags true true = refl
-by_flags false true = refl
-by_flags x y = refl
+by_flags x y = grind arith
 
 same_lines : (d e : DeviceValue) (a b : ℕ) (x y : Bool) → a ≡ irqs d → b ≡ irqs e → a ≡ b → x ≡ irq_abort d → y ≡ irq_abort e → not (beq x y) ≡ lines_differ d e
-same_lines d e a b x y p q same left right =
-    ap (λ (z : Bool). not (beq z y)) left ∙ ap (λ (z : Bool). not (beq (irq_abort d) z)) right ∙ ap not (by_flags (irq_abort d) (irq_abort e))
-    ∙ sym (ap (λ (z : Bool). not (z && (flag (irq_abort d) == flag (irq_abort e)))) (eq-eqb (irqs d) (irqs e) (sym p ∙ same ∙ q)))
+same_lines d e a b x y p q same left right = rw (left, right, by_flags (irq_abort d) (irq_abort e), eq-eqb (irqs d) (irqs e) (sym p ∙ same ∙ q)) refl
 
 pub returns-then-before-irqs : goal.returns-then-before-irqs
 returns-then-before-irqs c =

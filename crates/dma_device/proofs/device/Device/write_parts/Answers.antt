@@ -1,4 +1,5 @@
 use Rattle.std.proofs.Common.{◌≡◌, ◌∙◌, ◌+◌, ◌-◌, ◌≤◌, ◌++◌, ℕ, List, ap, append_assoc, arith, drop, length, sym, take}
+use Rattle.std.proofs.lemmas.Grind.{common_steps}
 use Rattle.std.proofs.lemmas.List.{drop-drop, drop_at, length-take}
 use Rattle.std.specs.List.{flat_map}
 use borrow.Rule.Slice.PartMut.{put_mid}
@@ -6,14 +7,12 @@ use Rattle.dma_device.specs.Device.{DeviceValue}
 use Rattle.dma_device.specs.Snapshot.{head_bytes, head_of, parts_in, saved_thread}
 use Rattle.dma_device.specs.declared.thread.Thread.{Thread}
 use Rattle.dma_device.specs.inner.Fields.{device_value}
-use Rattle.dma_device.proofs.SavedDevices.{device_length}
-use Rattle.dma_device.proofs.SavedParts.{front_length, head_length, put_tail, tail_is}
+use Rattle.dma_device.proofs.SavedDevices.{device_length, front_length, head_length, put_tail, tail_is}
 use Rattle.dma_device.proofs.device.Device.write_parts.Goals as goal
 
 -- there is room for the head and the threads
 room : (d e : DeviceValue) (ts : List Thread) (out : List ℕ) → d ≡ e → ts ≡ d.threads → length (parts_in 2 e) ≤ length out → 40 + length (flat_map saved_thread ts) ≤ length out
-room d e ts out is threads fits =
-    omega (arith, fits, ap (λ (v : DeviceValue). length (parts_in 2 v)) is, device_length 2 d, ap (λ (us : List Thread). length (flat_map saved_thread us)) threads)
+room d e ts out is threads fits = grind (arith, common_steps, device_length)
 
 pub save_threads-requires : goal.save_threads-requires
 save_threads-requires c =
@@ -40,13 +39,5 @@ returns c =
     c.copy_from_slice.ensures.after ∙ c.as_slice.ensures.value ∙ c.bytes-head.ensures.bytes
     ∙ ap head_bytes (c.head.ensures ∙ ap head_of (sym c.self.view_is)) in
     let tail : drop 40 (put_mid 40 (length out - 40) out new) ≡ parts ++ drop (40 + length parts) out =
-    ap (drop 40) (put_tail 40 out new long) ∙ drop_at (take 40 out) new 40 (omega (arith, length-take 40 out))
-    ∙ c.save_threads.ensures
-    ∙ ap (λ (ts : List Thread). flat_map saved_thread ts ++ drop (length (flat_map saved_thread ts)) (take (length out - 40) (drop 40 out))) threads
-    ∙ ap (λ (l : List ℕ). parts ++ drop (length parts) l) (tail_is 40 out)
-    ∙ ap (λ (l : List ℕ). parts ++ l) (drop-drop (length parts) 40 out) in
-    ap (λ (l : List ℕ). l ++ drop 40 (put_mid 40 (length out - 40) out new)) head
-    ∙ ap (λ (l : List ℕ). head_bytes (head_of d) ++ l) tail
-    ∙ sym (append_assoc (head_bytes (head_of d)) parts (drop (40 + length parts) out))
-    ∙ ap (λ (n : ℕ). parts_in 2 d ++ drop n out) (sym (device_length 2 d))
-    ∙ ap (λ (v : DeviceValue). parts_in 2 v ++ drop (length (parts_in 2 v)) out) c.self.view_is
+    ap (drop 40) (put_tail 40 out new long) ∙ drop_at (take 40 out) new 40 (omega (arith, length-take 40 out)) ∙ c.save_threads.ensures ∙ simp (threads, tail_is 40 out, drop-drop) in
+    rw (← c.self.view_is, device_length 2 d, head, tail) (sym (append_assoc (head_bytes (head_of d)) parts (drop (40 + length parts) out)))

@@ -1,4 +1,5 @@
 use Rattle.std.proofs.Common.{◌≡◌, ◌∙◌, ◌<◌, ◌≤◌, ◌++◌, ℕ, List, [], ◌∷◌, add-one, ap, append-nil, arith, drop, get_or, inl, inr, length, subst, suc, sym, take}
+use Rattle.std.proofs.lemmas.Grind.{common_steps}
 use Rattle.std.proofs.Math.Seq.{take-add, take-suc}
 use Rattle.std.specs.Prelude.{slice_set}
 use Rattle.std.proofs.lemmas.Bool.{cases_eq}
@@ -9,14 +10,12 @@ use Rattle.std.specs.List.{flat_map}
 use Rattle.dma_device.specs.Snapshot.{IsThreadValue, saved_thread}
 use Rattle.dma_device.specs.Thread.{IsOn, IsSound}
 use Rattle.dma_device.specs.declared.thread.Thread.{Thread}
-use Rattle.dma_device.proofs.SavedParts.{part_at, tail_is}
+use Rattle.dma_device.proofs.SavedDevices.{part_at, tail_is}
 use Rattle.dma_device.proofs.save.threads.restore_threads.Goals as goal
 
 -- what is left to read begins with the save of thread n
 here : (ts threads : List Thread) (n at : ℕ) (bytes : List ℕ) (x : Thread) → n < length ts → at ≤ length bytes → take at bytes ≡ flat_map saved_thread (take n threads) → take n threads ≡ take n ts → bytes ≡ flat_map saved_thread ts → drop at bytes ≡ saved_thread (get_or ts n x) ++ flat_map saved_thread (drop (suc n) ts)
-here ts threads n at bytes x less fits before same is =
-    let front : take at bytes ≡ flat_map saved_thread (take n ts) = before ∙ ap (flat_map saved_thread) same in
-    part_at saved_thread ts n at bytes x less is (omega (arith, ap length front, length-take at bytes))
+here ts threads n at bytes x less fits before same is = grind (arith, common_steps, length-take, part_at)
 
 pub loop-n-preserved : goal.loop-n-preserved
 loop-n-preserved c =
@@ -29,12 +28,7 @@ loop-n-preserved c =
     let set = take_more_set threads n new (omega arith) in
     record {
       at = omega (arith, c.in-Some.ensures.long, ap length (tail_is at bytes), c.loop-n.invariant.at);
-      bytes = take-add at len bytes
-          ∙ ap (λ (l : List ℕ). take at bytes ++ l) (ap (take len) (sym (tail_is at bytes)) ∙ c.in-Some.ensures.found)
-          ∙ ap (λ (l : List ℕ). l ++ saved_thread new) c.loop-n.invariant.bytes
-          ∙ ap (λ (l : List ℕ). flat_map saved_thread (take n threads) ++ l) (sym (append-nil (saved_thread new)))
-          ∙ sym (flat_map-append saved_thread (take n threads) (new ∷ []))
-          ∙ ap (flat_map saved_thread) (sym set);
+      bytes = simp (take-add at len bytes, set, flat_map-append, append-nil, c.loop-n.invariant.bytes, rw (tail_is at bytes) at c.in-Some.ensures.found);
       values = λ k d below. elim (cases_eq k n) [
         | inl here ↦
             let there : get_or (slice_set threads n new) k d ≡ new = ap (λ (j : ℕ). get_or (slice_set threads n new) j d) here ∙ get_or-set_same threads n new d (omega arith) in
@@ -64,8 +58,7 @@ returns-in_default-clause-all c ts count values on is =
     let before = c.loop-n.invariant.all ts same values on is in
     let behind = here ts threads n c.loop-n.at c.args.bytes.now new less c.loop-n.invariant.at c.loop-n.invariant.bytes before is in
     let w = c.in_default.ensures.all (get_or ts n new) (flat_map saved_thread (drop (suc n) ts)) (values n new less) (on n new less) (tail_is c.loop-n.at c.args.bytes.now ∙ behind) in
-    let none = w.0 in
-    absurd (cc none)
+    absurd (cc w.0)
 
 pub returns-clause-values : goal.returns-clause-values
 returns-clause-values c = λ _ k d less. c.loop-n.invariant.values k d (omega arith)

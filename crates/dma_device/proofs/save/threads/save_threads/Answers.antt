@@ -1,25 +1,17 @@
 use Rattle.std.proofs.Common.{◌∙◌, ◌+◌, ◌++◌, ℕ, List, ap, arith, drop, length, sym, take}
+use Rattle.std.proofs.lemmas.Grind.{common_steps}
 use Rattle.std.proofs.lemmas.List.{length-append, length-drop, take_all}
 use Rattle.std.proofs.lemmas.List.Folds.{length-flat_map-take}
 use Rattle.std.specs.List.{flat_map}
 use Rattle.dma_device.specs.Snapshot.{saved_thread}
-use Rattle.dma_device.specs.declared.thread.Thread.{Thread}
-use Rattle.dma_device.proofs.SavedParts.{one_more, tail_is, written_more}
+use Rattle.dma_device.proofs.SavedDevices.{one_more, tail_is, written_more}
 use Rattle.dma_device.proofs.save.threads.save_threads.Goals as goal
 
 pub slice_bounds-save-count : goal.slice_bounds-save-count
-slice_bounds-save-count c =
-    let ts = c.args.threads.now in
-    let few = length-flat_map-take saved_thread ts c.loop-n.n c.index-threads-n.result (omega arith) in
-    omega (arith, few, c.loop-n.invariant.at, c.requires, c.loop-n.auto.out)
+slice_bounds-save-count c = grind (arith, common_steps, length-flat_map-take)
 
 pub save-at-requires : goal.save-at-requires
-save-at-requires c =
-    let ts = c.args.threads.now in
-    let t = c.index-threads-n.result in
-    let few = length-flat_map-take saved_thread ts c.loop-n.n t (omega arith) in
-    let len = ap (λ (u : Thread). length (saved_thread u)) c.index-threads-n.is in
-    omega (arith, few, len, c.loop-n.invariant.at, c.requires, c.loop-n.auto.out, ap length (tail_is c.loop-n.at c.loop-n.out), length-drop c.loop-n.at c.loop-n.out)
+save-at-requires c = grind (arith, common_steps, length-drop, length-flat_map-take, tail_is)
 
 pub loop-n-preserved : goal.loop-n-preserved
 loop-n-preserved c =
@@ -36,9 +28,4 @@ loop-n-preserved c =
     }
 
 pub returns : goal.returns
-returns c =
-    let all = take_all c.loop-n.n c.args.threads.now (omega arith) in
-    let at = c.loop-n.invariant.at ∙ ap (λ (ts : List Thread). length (flat_map saved_thread ts)) all in
-    c.loop-n.invariant.out
-    ∙ ap (λ (ts : List Thread). flat_map saved_thread ts ++ drop c.loop-n.at c.args.out.now) all
-    ∙ ap (λ (n : ℕ). flat_map saved_thread c.args.threads.now ++ drop n c.args.out.now) at
+returns c = grind (arith, common_steps, take_all)

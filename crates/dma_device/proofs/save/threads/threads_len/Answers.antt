@@ -1,16 +1,14 @@
-use Rattle.std.proofs.Common.{◌≡◌, ◌∙◌, ℕ, List, ap, arith, get_or, inl, inr, length, subst, sym, take}
+use Rattle.std.proofs.Common.{◌≡◌, ◌∙◌, ℕ, ap, arith, get_or, inl, inr, length, subst, sym, take}
+use Rattle.std.proofs.lemmas.Grind.{common_steps}
 use Rattle.std.proofs.lemmas.Bool.{cases_lt}
-use Rattle.std.proofs.lemmas.List.{length-append, take_all}
+use Rattle.std.proofs.lemmas.List.{length-append, take_all, get_or_default}
 use Rattle.std.specs.List.{flat_map}
 use Rattle.dma_device.specs.Snapshot.{IsThreadValue, saved_thread}
-use Rattle.dma_device.specs.Thread.{IsSound}
-use Rattle.dma_device.specs.declared.thread.Thread.{Thread}
-use Rattle.dma_device.proofs.SavedParts.{get_or_any, one_more}
+use Rattle.dma_device.proofs.SavedDevices.{one_more}
 use Rattle.dma_device.proofs.save.threads.threads_len.Goals as goal
 
 pub save_len-len-requires : goal.save_len-len-requires
-save_len-len-requires c =
-    subst (IsSound c.args.events) (sym c.index-threads-n.is) (c.requires.sound c.loop-n.n c.index-threads-n.result (omega arith))
+save_len-len-requires c = grind (arith, common_steps)
 
 pub overflow_add-len : goal.overflow_add-len
 overflow_add-len c = omega (arith, c.loop-n.invariant.limit, c.save_len-len.ensures.limit, c.requires.few)
@@ -26,14 +24,13 @@ loop-n-preserved c =
       values = λ k d below. elim (cases_lt k n) [
         | inl early ↦ c.loop-n.invariant.values k d early
         | inr last ↦
-            let here : get_or ts k d ≡ t = ap (λ (i : ℕ). get_or ts i d) (omega arith) ∙ get_or_any ts n d t (omega arith) ∙ sym c.index-threads-n.is in
+            let here : get_or ts k d ≡ t = ap (λ (i : ℕ). get_or ts i d) (omega arith) ∙ get_or_default ts n d t (omega arith) ∙ sym c.index-threads-n.is in
             subst (IsThreadValue c.args.events) (sym here) c.save_len-len.ensures.value
       ];
     }
 
 pub returns-clause-len : goal.returns-clause-len
-returns-clause-len c =
-    c.loop-n.invariant.len ∙ ap (λ (ts : List Thread). length (flat_map saved_thread ts)) (take_all c.loop-n.n c.args.threads.now (omega arith))
+returns-clause-len c = grind (arith, common_steps, take_all)
 
 pub returns-clause-limit : goal.returns-clause-limit
 returns-clause-limit c = omega (arith, c.loop-n.invariant.limit)

@@ -1,4 +1,5 @@
-use Rattle.std.proofs.Common.{◌≡◌, ◌∙◌, ◌+◌, ◌-◌, ◌/◌, ◌%◌, ◌^◌, ◌++◌, ℕ, List, Some, ap, arith, drop, length, refl, subst, sym, take, true≢false}
+use Rattle.std.proofs.Common.{◌≡◌, ◌∙◌, ◌+◌, ◌-◌, ◌/◌, ◌%◌, ◌^◌, ◌++◌, ℕ, List, Some, ap, arith, drop, length, subst, sym, take, true≢false}
+use Rattle.std.proofs.lemmas.Grind.{common_steps}
 use Rattle.std.specs.Prelude.{nat_eq}
 use Rattle.std.proofs.Math.Seq.{take-add}
 use Rattle.std.proofs.lemmas.Bool.Decides.{Decides-eqb}
@@ -14,8 +15,8 @@ use Rattle.dma_device.specs.Snapshot.{IsThreadValue, saved_thread, thread_bytes}
 use Rattle.dma_device.specs.Thread.{IsOn, IsSound}
 use Rattle.dma_device.specs.declared.thread.Status.{Status}
 use Rattle.dma_device.specs.declared.thread.Thread.{Thread}
-use Rattle.dma_device.proofs.ControlFits.{reset_is_on}
-use Rattle.dma_device.proofs.SavedParts.{bit_back, tail_is, thread_found, thread_length}
+use Rattle.dma_device.proofs.Sound.{reset_is_on}
+use Rattle.dma_device.proofs.SavedDevices.{bit_back, tail_is, thread_found, thread_length}
 use Rattle.dma_device.proofs.thread.Thread.restore.Goals as goal
 use Rattle.dma_device.proofs.thread.Thread.restore.Goals.{After-is_possible}
 
@@ -31,9 +32,7 @@ read channel status fault word base pc = record {
 }
 
 read_is : (t : Thread) (channel : ChannelValue) (status : Status) (fault word base pc : ℕ) → channel ≡ t.channel → status ≡ t.status → fault ≡ t.fault → word / 2 ^ 21 % 2 ≡ flag t.nonsecure → base ≡ t.base → pc ≡ t.pc → read channel status fault word base pc ≡ t
-read_is t channel status fault word base pc a b d n e f =
-    let nonsecure : nat_eq (word / 2 ^ 21 % 2) 1 ≡ t.nonsecure = ap (λ (k : ℕ). nat_eq k 1) n ∙ bit_back t.nonsecure in
-    rw (a, b, d, nonsecure, e, f) refl
+read_is t channel status fault word base pc a b d n e f = grind (arith, common_steps, bit_back)
 
 -- a channel on this bus already
 on_bus_same : (bus : BusWidth) (t : Thread) → IsOn bus t → on_bus (Chip bus) t.channel ≡ t.channel
@@ -41,8 +40,7 @@ on_bus_same bus t on = ap (λ (b : Bus). on_bus b t.channel) (sym on.width)
 
 pub returns-then-bytes-lt-THREAD_LEN-clause-all : goal.returns-then-bytes-lt-THREAD_LEN-clause-all
 returns-then-bytes-lt-THREAD_LEN-clause-all c t rest v on e =
-    let found = thread_found c.args.config.events t rest c.args.bytes.now c.requires.few v e in
-    absurd (omega (arith, found.long))
+    absurd (omega (arith, (thread_found c.args.config.events t rest c.args.bytes.now c.requires.few v e).long))
 
 pub returns-in_default-clause-all : goal.returns-in_default-clause-all
 returns-in_default-clause-all c t rest v on e =
@@ -71,8 +69,7 @@ was_saved c t rest v on e =
     let found = thread_found c.args.config.events t rest bytes c.requires.few v e in
     let len = c.u32_at-len.ensures ∙ found.fields.len in
     let channel = c.in-Ok.ensures.all t.channel v.channel (ap (λ (n : ℕ). take n (take (length bytes - 20) (drop 20 bytes))) len ∙ ap (take (length (saved t.channel))) (tail_is 20 bytes) ∙ found.channel) in
-    let some = c.in-Some.ensures t.status (ap (λ (n : ℕ). n % 512) c.u32_at-csr.ensures ∙ found.fields.status) in
-    let status : c.in-Some.status ≡ t.status = cc some in
+    let status : c.in-Some.status ≡ t.status = cc (c.in-Some.ensures t.status (ap (λ (n : ℕ). n % 512) c.u32_at-csr.ensures ∙ found.fields.status)) in
     let word = ap (λ (n : ℕ). n / 2 ^ 21 % 2) c.u32_at-csr.ensures ∙ found.fields.nonsecure in (
       len,
       read_is t c.restore.new.self c.in-Some.status c.u32_at-self.result c.u32_at-csr.result c.u32_at-self-2.result c.u32_at-self-3.result
@@ -111,8 +108,7 @@ returns-then-eq-clause-all c t rest v on e =
 pub returns-else-eq-clause-all : goal.returns-else-eq-clause-all
 returns-else-eq-clause-all c t rest v on e =
     let was = was_saved (goal.at.returns-else-eq-clause-all c).After-is_possible t rest v on e in
-    let found = thread_found c.args.config.events t rest c.args.bytes.now c.requires.few v e in
     let again : c.as_slice.result.now ≡ take 20 c.args.bytes.now =
     c.as_slice.ensures.value ∙ c.head_bytes-again.ensures.bytes ∙ ap (λ (u : Thread). thread_bytes u c.u32_at-len.result) was.1
-    ∙ ap (λ (n : ℕ). thread_bytes t n) was.0 ∙ sym found.head in
+    ∙ ap (λ (n : ℕ). thread_bytes t n) was.0 ∙ sym (thread_found c.args.config.events t rest c.args.bytes.now c.requires.few v e).head in
     absurd (cc ((slice_eq-Decides Decides-eqb _ _ _ c.eq.ensures).1 again, c.if-eq.false))

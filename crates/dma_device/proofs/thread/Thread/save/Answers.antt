@@ -3,7 +3,7 @@ use Rattle.std.proofs.lemmas.List.{drop-drop, drop_at, length-take}
 use borrow.Rule.Slice.PartMut.{put_mid}
 use Rattle.dma_chan.specs.Saved.{saved}
 use Rattle.dma_device.specs.Snapshot.{saved_thread, thread_bytes}
-use Rattle.dma_device.proofs.SavedParts.{put_tail, tail_is, thread_length}
+use Rattle.dma_device.proofs.SavedDevices.{put_tail, tail_is, thread_length}
 use Rattle.dma_device.proofs.thread.Thread.save.Goals as goal
 
 pub returns-clause-bytes : goal.returns-clause-bytes

@@ -9,9 +9,10 @@ use Rattle.dma_engine.specs.declared.call.Reply.TheVariants.{Done}
 use Rattle.dma_engine.specs.declared.fault.EngineFault.TheVariants.{NoMemory}
 use Rattle.dma_engine.specs.declared.queue.Queue.{Queue}
 use Rattle.dma_engine.specs.inner.Inside.{parts_of}
-use Rattle.dma_engine.proofs.CallCases.{checkpoint_done, checkpoint_refused, checkpoint_starved, named_none, refusal}
 use Rattle.dma_engine.proofs.Boards.{queue_small}
+use Rattle.dma_engine.proofs.CallCases.{checkpoint_done, checkpoint_refused, checkpoint_starved, named_none, refusal}
 use Rattle.dma_engine.proofs.Checkpoint.{holds_next, no_room_next, view_next}
+use Rattle.dma_engine.proofs.Queues.{holds_at}
 use Rattle.dma_engine.proofs.engine.Engine.checkpoint.Goals as goal
 
 pub returns-in-Some-clause-answer : goal.returns-in-Some-clause-answer
@@ -31,7 +32,7 @@ forget_all-requires c = λ k d less.
     let p = parts_of c.self.inside in
     let l : k < length p.queues = omega (arith, less, ap length c.deref_mut.ensures.value) in
     let q = slice_index_or p.queues k d in
-    let small = queue_small p c.self.invariant k q l (get_or_default p.queues k d q l) in
+    let small = queue_small (holds_at p c.self.invariant k q l (get_or_default p.queues k d q l)) in
     rw c.deref_mut.ensures.value (omega (arith, small))
 
 pub invariant_of-self : goal.invariant_of-self

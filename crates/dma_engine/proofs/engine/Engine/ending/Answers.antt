@@ -9,7 +9,7 @@ use Rattle.dma_engine.specs.inner.Holds.{view_of}
 use Rattle.dma_engine.specs.inner.Inside.{parts_of}
 use Rattle.dma_engine.specs.Turn.{Stepped, ends, turn}
 use Rattle.dma_engine.specs.View.{EngineState}
-use Rattle.dma_engine.proofs.InstructionSteps.{the_step, shared}
+use Rattle.dma_engine.proofs.Instructions.{shared, the_step}
 use Rattle.dma_engine.proofs.Rooms.{ends_insn}
 use Rattle.dma_engine.proofs.StepCases.{due, due_ahead}
 use Rattle.dma_engine.proofs.engine.Engine.ending.Goals as goal
@@ -18,7 +18,7 @@ pub failing_at-requires : goal.failing_at-requires
 failing_at-requires c =
     let p = parts_of c.self.inside in
     let q = c.index-queue.result.now in
-    due_ahead p c.args.ch q c.in-Some.next
+    due_ahead c.in-Some.next
     (due p c.self.invariant c.args.ch _ q (IsNext c.in-Some.next) c.from.ensures c.index-queue.ensures (rw (← c.self.view_is) at c.in-Some.ensures.due))
 
 pub returns-in_default-insn : goal.returns-in_default-insn
@@ -31,7 +31,7 @@ returns-in_default-insn c =
     let d = due p c.self.invariant ch _ q (IsNext c.in-Some.next) c.from.ensures c.index-queue.ensures (rw (← c.self.view_is) at c.in-Some.ensures.due) in
     let t = d.it.transfer in
     let not_end : member t n ≢ End = λ e. c.in_default-insn.not-End (c.insn.ensures ∙ sym d.holds ∙ e) in
-    let one = the_step p c.self.invariant ch q d.it in
+    let one = the_step d.it in
     c.is_some.ensures ∙ ap is_some (c.failing_at.ensures p.events) ∙ ap (λ x. is_some (fault_in x)) one.turn
     ∙ ap (λ k. is_some (fault_in (effect_of (member t n) (read_places t n) (written_places t n) k (shared p)).0)) c.self.invariant.marks
     ∙ sym (ends_insn v ch n t (shared p) (member t n) not_end)

@@ -7,10 +7,10 @@ use Rattle.dma_engine.specs.inner.Ranges.{AreOfRunning}
 use Rattle.dma_engine.specs.View.{EngineState, object_of, channels, runs}
 use Rattle.dma_engine.specs.inner.Accesses.{named, conflicts}
 use Rattle.dma_engine.proofs.Boards.{queue_small}
-use Rattle.dma_engine.proofs.Conflicts.{way_here, passed_over, nothing_there}
+use Rattle.dma_engine.proofs.Conflicts.{nothing_there, passed_over, way_here}
 use Rattle.dma_engine.proofs.Queues.{holds_at, many_queues}
 use Rattle.dma_engine.proofs.Sizes.{few_queues}
-use Rattle.dma_engine.proofs.WhatRuns.{find_none_more, find_all}
+use Rattle.dma_engine.proofs.WhatRuns.{find_all, find_none_more}
 use Rattle.dma_engine.proofs.engine.Engine.first_conflict.Goals as goal
 use Rattle.dma_engine.proofs.engine.Engine.first_conflict.Goals.{in-Some+else-conflicts_with, in_default}
 
@@ -23,14 +23,14 @@ pub finished-cookie-requires : goal.finished-cookie-requires
 finished-cookie-requires c =
     let p = parts_of c.self.inside in
     let less : c.loop-index.index < length p.queues = omega (arith, c.loop-index-test.true, c.len-index-end.ensures, c.self.inside.queues.ok.0) in
-    let small = queue_small p c.self.invariant c.loop-index.index c.index-queue.result.now less c.index-queue.ensures in
+    let small = queue_small (holds_at p c.self.invariant c.loop-index.index c.index-queue.result.now less c.index-queue.ensures) in
     omega (arith, small)
 
 pub overflow_add-cookie : goal.overflow_add-cookie
 overflow_add-cookie c =
     let p = parts_of c.self.inside in
     let less : c.loop-index.index < length p.queues = omega (arith, c.loop-index-test.true, c.len-index-end.ensures, c.self.inside.queues.ok.0) in
-    let small = queue_small p c.self.invariant c.loop-index.index c.index-queue.result.now less c.index-queue.ensures in
+    let small = queue_small (holds_at p c.self.invariant c.loop-index.index c.index-queue.result.now less c.index-queue.ensures) in
     omega (arith, small, c.finished-cookie.ensures)
 
 pub returns-then-conflicts_with : goal.returns-then-conflicts_with

@@ -1,4 +1,4 @@
-use Rattle.std.proofs.Common.{◌≡◌, ◌-◌, ◌<◌, ◌∙◌, ap, length, arith, refl}
+use Rattle.std.proofs.Common.{◌≡◌, ◌-◌, ◌∙◌, ap, arith, refl}
 use Rattle.dma_mem.specs.declared.call.Call.TheVariants.{Issue}
 use Rattle.dma_engine.specs.declared.call.Reply.TheVariants.{Count}
 use Rattle.dma_engine.specs.declared.fault.EngineFault.TheVariants.{NoMemory}
@@ -7,48 +7,43 @@ use Rattle.dma_engine.specs.inner.Holds.{view_of}
 use Rattle.dma_engine.specs.inner.Inside.{parts_of}
 use Rattle.dma_engine.specs.Object.{channel, used}
 use Rattle.dma_engine.specs.Turn.{with_entry}
-use Rattle.dma_engine.specs.View.{View, EngineState, channels, object_of}
-use Rattle.dma_engine.proofs.CallCases.{issue_answer, issue_done, refusal, starved}
+use Rattle.dma_engine.specs.View.{EngineState, object_of}
 use Rattle.dma_engine.proofs.Boards.{counted_at}
-use Rattle.dma_engine.proofs.Queues.{many_queues, holds_at, queue_there}
+use Rattle.dma_engine.proofs.CallCases.{issue_answer, issue_done, refusal, starved}
 use Rattle.dma_engine.proofs.QueueCalls.{holds_issued, view_entered}
+use Rattle.dma_engine.proofs.Queues.{HoldsAt, holds_at, queue_there}
 use Rattle.dma_engine.proofs.engine.Engine.issue.Goals as goal
+use Rattle.dma_engine.proofs.engine.Engine.issue.Goals.{After-index_mut-queue}
+
+-- the queue that is read
+read : (c : After-index_mut-queue) → HoldsAt (parts_of c.self.inside) c.in_ok-index.index c.index_mut-queue.result.now
+read c =
+    let p = parts_of c.self.inside in
+    holds_at p c.self.invariant c.in_ok-index.index c.index_mut-queue.result.now (queue_there p c.args.self.now.view c.args.ch c.in_ok-index.index c.self.invariant (ap (λ (s : EngineState). s.view) c.self.view_is) c.in_ok-index.ensures.there) c.index_mut-queue.ensures.value
 
 pub issue-requires : goal.issue-requires
 issue-requires c =
-    let p = parts_of c.self.inside in
-    let q = c.index_mut-queue.result.now in
-    let less : c.in_ok-index.index < length p.queues = queue_there p c.args.self.now.view c.args.ch c.in_ok-index.index c.self.invariant (ap (λ (s : EngineState). s.view) c.self.view_is) c.in_ok-index.ensures.there in
-    let at = holds_at p c.self.invariant c.in_ok-index.index q less c.index_mut-queue.ensures.value in
-    let counted = counted_at p c.self.invariant c.in_ok-index.index in
-    omega (arith, counted.issue, at.tied.issued, at.tied.given)
+    let at = read (goal.at.issue-requires c).After-index_mut-queue in
+    omega (arith, (counted_at (parts_of c.self.inside) c.self.invariant c.in_ok-index.index).issue, at.tied.issued, at.tied.given)
 
 pub invariant_of-self-2 : goal.invariant_of-self-2
 invariant_of-self-2 c =
-    let p = parts_of c.self.inside in
-    let less : c.in_ok-index.index < length p.queues = queue_there p c.args.self.now.view c.args.ch c.in_ok-index.index c.self.invariant (ap (λ (s : EngineState). s.view) c.self.view_is) c.in_ok-index.ensures.there in
     rw (c.issue.ensures.issued, c.push_reserved.ensures.items, c.reserve.ensures.items, ← c.in_ok-index.ensures.there.0)
-    (holds_issued p c.in_ok-index.index c.index_mut-queue.result.now c.index_mut-queue.result.now.given c.self.invariant less c.index_mut-queue.ensures.value refl)
+    (holds_issued (read (goal.at.invariant_of-self-2 c).After-index_mut-queue))
 
 pub returns-clause-answer : goal.returns-clause-answer
 returns-clause-answer c =
     let p = parts_of c.self.inside in
     let i = c.in_ok-index.index in
     let q = c.index_mut-queue.result.now in
-    let is : view_of p ≡ c.args.self.now.view = ap (λ (s : EngineState). s.view) c.self.view_is in
-    let less : i < length p.queues = queue_there p c.args.self.now.view c.args.ch c.in_ok-index.index c.self.invariant (ap (λ (s : EngineState). s.view) c.self.view_is) c.in_ok-index.ensures.there in
-    let there : i < channels c.args.self.now.view = omega (arith, many_queues p c.self.invariant, ap channels is, less) in
-    let at = holds_at p c.self.invariant i q less c.index_mut-queue.ensures.value in
+    let at = read (goal.at.returns-clause-answer c).After-index_mut-queue in
     let counted : q.given - q.issued ≡ used (channel (object_of (view_of p)) i) - (channel (object_of (view_of p)) i).issued = omega (arith, at.tied.issued, at.tied.given) in
-    let view = view_entered p i q (record q { issued = q.given }) p.memory p.events (Issued i) less c.index_mut-queue.ensures.value refl ∙ ap (λ (w : View). with_entry w (Issued i)) is in
-    rw (c.issue.ensures.issued, c.push_reserved.ensures.items, c.reserve.ensures.items, ← c.in_ok-index.ensures.there.0)
-    (issue_done c.args.self.now.view _ i _ there (c.issue.ensures.count ∙ counted ∙ ap (λ (w : View). used (channel (object_of w) i) - (channel (object_of w) i).issued) is) view)
+    rw (← c.self.view_is, c.issue.ensures.issued, c.push_reserved.ensures.items, c.reserve.ensures.items, ← c.in_ok-index.ensures.there.0)
+    (issue_done (view_of p) _ i _ at.there (c.issue.ensures.count ∙ counted) (view_entered at (record q { issued = q.given }) p.memory p.events (Issued i) refl))
 
 pub index_mut-queue-requires : goal.index_mut-queue-requires
 index_mut-queue-requires c =
-    let p = parts_of c.self.inside in
-    let less : c.in_ok-index.index < length p.queues = queue_there p c.args.self.now.view c.args.ch c.in_ok-index.index c.self.invariant (ap (λ (s : EngineState). s.view) c.self.view_is) c.in_ok-index.ensures.there in
-    omega (arith, less, c.self.inside.queues.ok.0)
+    omega (arith, queue_there (parts_of c.self.inside) c.args.self.now.view c.args.ch c.in_ok-index.index c.self.invariant (ap (λ (s : EngineState). s.view) c.self.view_is) c.in_ok-index.ensures.there, c.self.inside.queues.ok.0)
 
 pub invariant_of-self : goal.invariant_of-self
 invariant_of-self c = rw c.reserve.ensures.items c.self.invariant

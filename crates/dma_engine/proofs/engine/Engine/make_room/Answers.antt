@@ -1,43 +1,40 @@
-use Rattle.std.proofs.Common.{◌≡◌, ◌-◌, ◌<◌, ◌≤◌, ◌∙◌, ap, arith, length, subst, sym}
-use Rattle.std.specs.Prelude.{map, slice_index_or, slice_set, vec_capacity, vec_len}
+use Rattle.std.proofs.Common.{◌≡◌, ◌-◌, ◌<◌, ◌≤◌, ◌∙◌, ap, arith, length, subst, sym, refl}
+use Rattle.std.specs.Prelude.{map, slice_index_or, slice_set}
 use Rattle.dma_engine.specs.inner.Holds.{view_of}
-use Rattle.dma_engine.specs.inner.Inside.{parts_of, queue_room, room_of}
+use Rattle.dma_engine.specs.inner.Inside.{parts_of, queue_room}
 use Rattle.dma_engine.specs.Object.{channel, unfinished}
-use Rattle.dma_engine.specs.Room.{no_room, HasRoom}
+use Rattle.dma_engine.specs.Room.{no_room}
 use Rattle.dma_engine.specs.View.{View, EngineState, object_of}
-use Rattle.dma_engine.proofs.Queues.{holds_at, queue_there}
-use Rattle.dma_engine.proofs.Rooms.{holds_room, view_room, room_set, room_grows, queues_grow}
+use Rattle.dma_engine.proofs.Queues.{HoldsAt, holds_at, queue_there}
+use Rattle.dma_engine.proofs.Rooms.{holds_room, keeps_room, room_set, view_room}
 use Rattle.dma_engine.proofs.engine.Engine.make_room.Goals as goal
+use Rattle.dma_engine.proofs.engine.Engine.make_room.Goals.{After-index_mut-queue}
+
+-- the queue that is read
+read : (c : After-index_mut-queue) → HoldsAt (parts_of c.self.inside) c.in_ok-index.index c.index_mut-queue.result.now
+read c =
+    let p = parts_of c.self.inside in
+    holds_at p c.self.invariant c.in_ok-index.index c.index_mut-queue.result.now (queue_there p c.args.self.now.view c.args.ch c.in_ok-index.index c.self.invariant (ap (λ (s : EngineState). s.view) c.self.view_is) c.in_ok-index.ensures.there) c.index_mut-queue.ensures.value
 
 pub invariant_of-self-in_err-make_room : goal.invariant_of-self-in_err-make_room
 invariant_of-self-in_err-make_room c =
-    let p = parts_of c.self.inside in
-    let less : c.in_ok-index.index < length p.queues = queue_there p c.args.self.now.view c.args.ch c.in_ok-index.index c.self.invariant (ap (λ (s : EngineState). s.view) c.self.view_is) c.in_ok-index.ensures.there in
     rw (c.reserve.ensures.items, c.make_room.ensures.same)
-    (holds_room p c.in_ok-index.index c.make_room.new.self.indices.spare c.make_room.new.self.outcomes.spare c.index_mut-queue.result.now c.self.invariant less c.index_mut-queue.ensures.value)
+    (holds_room (read (goal.at.invariant_of-self-in_err-make_room c).After-index_mut-queue) c.make_room.new.self.indices.spare c.make_room.new.self.outcomes.spare)
 
 pub returns-in_err-make_room-clause-view : goal.returns-in_err-make_room-clause-view
 returns-in_err-make_room-clause-view c =
-    let p = parts_of c.self.inside in
-    let less : c.in_ok-index.index < length p.queues = queue_there p c.args.self.now.view c.args.ch c.in_ok-index.index c.self.invariant (ap (λ (s : EngineState). s.view) c.self.view_is) c.in_ok-index.ensures.there in
-    rw (c.reserve.ensures.items, c.make_room.ensures.same)
-    (view_room p c.in_ok-index.index c.make_room.new.self.indices.spare c.make_room.new.self.outcomes.spare c.index_mut-queue.result.now less c.index_mut-queue.ensures.value)
-    ∙ ap (λ (s : EngineState). s.view) c.self.view_is
+    rw (c.reserve.ensures.items, c.make_room.ensures.same, ← c.self.view_is)
+    (view_room (read (goal.at.returns-in_err-make_room-clause-view c).After-index_mut-queue) c.make_room.new.self.indices.spare c.make_room.new.self.outcomes.spare)
 
 pub invariant_of-self-2 : goal.invariant_of-self-2
 invariant_of-self-2 c =
-    let p = parts_of c.self.inside in
-    let less : c.in_ok-index.index < length p.queues = queue_there p c.args.self.now.view c.args.ch c.in_ok-index.index c.self.invariant (ap (λ (s : EngineState). s.view) c.self.view_is) c.in_ok-index.ensures.there in
     rw (c.reserve.ensures.items, c.make_room.ensures.same)
-    (holds_room p c.in_ok-index.index c.make_room.new.self.indices.spare c.make_room.new.self.outcomes.spare c.index_mut-queue.result.now c.self.invariant less c.index_mut-queue.ensures.value)
+    (holds_room (read (goal.at.invariant_of-self-2 c).After-index_mut-queue) c.make_room.new.self.indices.spare c.make_room.new.self.outcomes.spare)
 
 pub returns-clause-view : goal.returns-clause-view
 returns-clause-view c =
-    let p = parts_of c.self.inside in
-    let less : c.in_ok-index.index < length p.queues = queue_there p c.args.self.now.view c.args.ch c.in_ok-index.index c.self.invariant (ap (λ (s : EngineState). s.view) c.self.view_is) c.in_ok-index.ensures.there in
-    rw (c.reserve.ensures.items, c.make_room.ensures.same)
-    (view_room p c.in_ok-index.index c.make_room.new.self.indices.spare c.make_room.new.self.outcomes.spare c.index_mut-queue.result.now less c.index_mut-queue.ensures.value)
-    ∙ ap (λ (s : EngineState). s.view) c.self.view_is
+    rw (c.reserve.ensures.items, c.make_room.ensures.same, ← c.self.view_is)
+    (view_room (read (goal.at.returns-clause-view c).After-index_mut-queue) c.make_room.new.self.indices.spare c.make_room.new.self.outcomes.spare)
 
 pub returns-clause-made : goal.returns-clause-made
 returns-clause-made c =
@@ -45,9 +42,8 @@ returns-clause-made c =
     let i = c.in_ok-index.index in
     let q = c.index_mut-queue.result.now in
     let r = c.make_room.new.self in
-    let less : i < length p.queues = queue_there p c.args.self.now.view c.args.ch c.in_ok-index.index c.self.invariant (ap (λ (s : EngineState). s.view) c.self.view_is) c.in_ok-index.ensures.there in
-    let at = holds_at p c.self.invariant i q less c.index_mut-queue.ensures.value in
-    let room : slice_index_or (map queue_room (slice_set p.queues i r)) i no_room ≡ queue_room r = room_set p.queues i r less in
+    let at = read (goal.at.returns-clause-made c).After-index_mut-queue in
+    let room : slice_index_or (map queue_room (slice_set p.queues i r)) i no_room ≡ queue_room r = room_set p.queues i r at.less in
     let cookie : 0 < r.indices.spare = c.in_ok-make_room.ensures.cookie in
     let outcomes : q.given - q.forgotten - length q.outcomes.items ≤ r.outcomes.spare = c.in_ok-make_room.ensures.outcomes in
     let old : unfinished (channel (object_of (view_of p)) i) ≤ r.outcomes.spare = omega (arith, outcomes, at.tied.given, at.tied.forgotten, ap length at.tied.outcomes) in
@@ -59,33 +55,17 @@ returns-clause-made c =
 
 pub returns-in_err-make_room-clause-kept : goal.returns-in_err-make_room-clause-kept
 returns-in_err-make_room-clause-kept c =
-    let p = parts_of c.self.inside in
-    let i = c.in_ok-index.index in
-    let q = c.index_mut-queue.result.now in
-    let less : i < length p.queues = queue_there p c.args.self.now.view c.args.ch c.in_ok-index.index c.self.invariant (ap (λ (s : EngineState). s.view) c.self.view_is) c.in_ok-index.ensures.there in
-    let before : EngineState = record { view = view_of p; memory = p.memory; room = room_of c.self.inside } in
-    let view = returns-in_err-make_room-clause-view c ∙ sym (ap (λ (s : EngineState). s.view) c.self.view_is) in
-    let entries : before.room.entries ≤ vec_capacity c.reserve.new.self - vec_len c.reserve.new.self = omega (arith, c.reserve.ensures.capacity, c.reserve.ensures.len) in
-    let queues = queues_grow p.queues i q c.make_room.new.self less c.index_mut-queue.ensures.value c.make_room.ensures.kept.0 c.make_room.ensures.kept.1 in
-    λ ch h. room_grows before _ (ap object_of view) entries queues ch (subst (λ (s : EngineState). HasRoom s ch) (sym c.self.view_is) h)
+    let object = ap object_of (returns-in_err-make_room-clause-view c ∙ sym (ap (λ (s : EngineState). s.view) c.self.view_is)) in
+    keeps_room (read (goal.at.returns-in_err-make_room-clause-kept c).After-index_mut-queue) c.make_room.new.self _ _ _ c.self.view_is object (omega (arith, c.reserve.ensures.capacity, c.reserve.ensures.len)) refl c.make_room.ensures.kept.0 c.make_room.ensures.kept.1
 
 pub returns-clause-kept : goal.returns-clause-kept
 returns-clause-kept c =
-    let p = parts_of c.self.inside in
-    let i = c.in_ok-index.index in
-    let q = c.index_mut-queue.result.now in
-    let less : i < length p.queues = queue_there p c.args.self.now.view c.args.ch c.in_ok-index.index c.self.invariant (ap (λ (s : EngineState). s.view) c.self.view_is) c.in_ok-index.ensures.there in
-    let before : EngineState = record { view = view_of p; memory = p.memory; room = room_of c.self.inside } in
-    let view = returns-clause-view c ∙ sym (ap (λ (s : EngineState). s.view) c.self.view_is) in
-    let entries : before.room.entries ≤ vec_capacity c.reserve.new.self - vec_len c.reserve.new.self = omega (arith, c.reserve.ensures.capacity, c.reserve.ensures.len) in
-    let queues = queues_grow p.queues i q c.make_room.new.self less c.index_mut-queue.ensures.value c.make_room.ensures.kept.0 c.make_room.ensures.kept.1 in
-    λ ch h. room_grows before _ (ap object_of view) entries queues ch (subst (λ (s : EngineState). HasRoom s ch) (sym c.self.view_is) h)
+    let object = ap object_of (returns-clause-view c ∙ sym (ap (λ (s : EngineState). s.view) c.self.view_is)) in
+    keeps_room (read (goal.at.returns-clause-kept c).After-index_mut-queue) c.make_room.new.self _ _ _ c.self.view_is object (omega (arith, c.reserve.ensures.capacity, c.reserve.ensures.len)) refl c.make_room.ensures.kept.0 c.make_room.ensures.kept.1
 
 pub index_mut-queue-requires : goal.index_mut-queue-requires
 index_mut-queue-requires c =
-    let p = parts_of c.self.inside in
-    let less : c.in_ok-index.index < length p.queues = queue_there p c.args.self.now.view c.args.ch c.in_ok-index.index c.self.invariant (ap (λ (s : EngineState). s.view) c.self.view_is) c.in_ok-index.ensures.there in
-    omega (arith, less, c.self.inside.queues.ok.0)
+    omega (arith, queue_there (parts_of c.self.inside) c.args.self.now.view c.args.ch c.in_ok-index.index c.self.invariant (ap (λ (s : EngineState). s.view) c.self.view_is) c.in_ok-index.ensures.there, c.self.inside.queues.ok.0)
 
 pub invariant_of-self : goal.invariant_of-self
 invariant_of-self c = rw c.reserve.ensures.items c.self.invariant

@@ -1,5 +1,5 @@
 use Rattle.std.proofs.Common.{arith}
-use Rattle.dma_engine.proofs.Opening.{holds_new, new_view_law, made_from}
+use Rattle.dma_engine.proofs.Opening.{holds_new, made_from, new_view_law}
 use Rattle.dma_engine.proofs.engine.Engine.new.Goals as goal
 
 pub invariant_of-result : goal.invariant_of-result

@@ -2,8 +2,8 @@ use Rattle.std.proofs.Common.{◌<◌, arith}
 use Rattle.dma_engine.specs.inner.Holds.{view_of}
 use Rattle.dma_engine.specs.inner.Inside.{parts_of}
 use Rattle.dma_engine.specs.View.{channels, object_of}
-use Rattle.dma_engine.proofs.Checkpoint.{none_taken}
 use Rattle.dma_engine.proofs.Queues.{many_queues}
+use Rattle.dma_engine.proofs.StaysSound.{none_taken}
 use Rattle.dma_engine.proofs.engine.Engine.next_channels.Goals as goal
 
 pub next_channel-requires-clause-rests : goal.next_channel-requires-clause-rests

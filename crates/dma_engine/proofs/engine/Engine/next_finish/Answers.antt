@@ -1,15 +1,14 @@
-use Rattle.std.proofs.Common.{◌≡◌, Option, ◌+◌, ◌-◌, ◌∙◌, None, ap}
+use Rattle.std.proofs.Common.{◌≡◌, Option, ◌+◌, ◌∙◌, None, ap, sym}
 use Rattle.std.specs.Option.{option_map}
-use Rattle.dma_mem.specs.Places.{Descriptor, size_of}
-use Rattle.dma_engine.specs.Answer.{done_on}
+use Rattle.dma_mem.specs.Places.{Descriptor}
 use Rattle.dma_engine.specs.Object.{channel, finished}
 use Rattle.dma_engine.specs.View.{object_of}
 use Rattle.dma_engine.specs.inner.Due.{Finishes, front_with_cookie}
 use Rattle.dma_engine.specs.inner.Holds.{view_of}
 use Rattle.dma_engine.specs.inner.Inside.{parts_of}
-use Rattle.dma_engine.proofs.NextTurns.{finished_turn}
-use Rattle.dma_engine.proofs.Starts.{front_with_cookie_law}
+use Rattle.dma_engine.proofs.StartsAndEnds.{finish_is, finish_left, front_with_cookie_law}
 use Rattle.dma_engine.proofs.StepCases.{due_there}
+use Rattle.dma_engine.specs.Turn.{Stepped}
 use Rattle.dma_engine.proofs.engine.Engine.next_finish.Goals as goal
 
 pub unreachable-requires : goal.unreachable-requires
@@ -24,11 +23,10 @@ unreachable-requires c =
 pub returns : goal.returns
 returns c =
     let p = parts_of c.self.inside in
-    let ch = c.args.ch in
-    let s = channel (object_of (view_of p)) ch in
+    let s = channel (object_of (view_of p)) c.args.ch in
     let u = c.in-Some.transfer.now in
-    let w = due_there p c.self.invariant ch (Finishes (view_of p) c.args.how) (rw (← c.self.view_is) at c.requires) in
+    let d = (due_there p c.self.invariant c.args.ch (Finishes (view_of p) c.args.how) (rw (← c.self.view_is) at c.requires)).1 in
     let known = front_with_cookie_law s u c.in-Some.cookie (rw (c.from-index.ensures, ← c.self.view_is) at c.in-Some.ensures) in
-    let stored : c.done-stored.result ≡ done_on (view_of p) ch = rw (c.from-index.ensures, ← c.self.view_is) at c.done-stored.ensures in
-    let left : c.saturating_sub.result ≡ size_of u - done_on (view_of p) ch = c.saturating_sub.ensures ∙ ap (λ k. k - c.done-stored.result) c.len.ensures.size ∙ ap (λ k. size_of u - k) stored in
-    rw (← c.self.view_is) (finished_turn p ch c.in-Some.cookie c.saturating_sub.result c.args.how w.0 u w.1 known.0 known.1 left)
+    let stored = rw (c.from-index.ensures, ← c.self.view_is) at c.done-stored.ensures in
+    let left = finish_left s u c.len.result c.done-stored.result known.0 c.len.ensures.size stored in
+    rw (← c.self.view_is, known.1, c.saturating_sub.ensures ∙ left) (sym (ap (λ (s : Stepped). s.0) (finish_is c.args.how d)))

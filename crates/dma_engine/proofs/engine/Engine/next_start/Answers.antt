@@ -1,7 +1,9 @@
+use Rattle.dma_engine.specs.Turn.{Stepped}
 use Rattle.dma_engine.specs.Object.{channel}
 use Rattle.dma_engine.specs.View.{object_of}
-use Rattle.dma_engine.proofs.NextTurns.{held_turn, started_turn}
-use Rattle.dma_engine.proofs.Starts.{front_with_cookie_law}
+use Rattle.dma_engine.proofs.CallCases.{named_none}
+use Rattle.dma_engine.proofs.StartsAndEnds.{front_with_cookie_law, held_is, start_is}
+use Rattle.std.proofs.Common.{sym, ap}
 use Rattle.dma_engine.proofs.engine.Engine.next_start.Goals as goal
 
 pub returns-in-Some-first_conflict : goal.returns-in-Some-first_conflict
@@ -9,11 +11,11 @@ returns-in-Some-first_conflict c =
     let v = c.args.self.now.view in
     let ch = c.args.ch in
     let front = front_with_cookie_law (channel (object_of v) ch) c.in-Some.transfer.now c.in-Some.cookie (rw c.from.ensures at c.in-Some.ensures) in
-    held_turn v ch c.in-Some-first_conflict.ch c.in-Some-first_conflict.cookie c.in-Some.transfer.now c.requires front.0 c.in-Some-first_conflict.ensures
+    sym (ap (λ (s : Stepped). s.0) (held_is v ch c.in-Some-first_conflict.ch c.in-Some-first_conflict.cookie c.in-Some.transfer.now c.requires front.0 c.in-Some-first_conflict.ensures))
 
 pub returns-in-None : goal.returns-in-None
 returns-in-None c =
     let v = c.args.self.now.view in
     let ch = c.args.ch in
     let front = front_with_cookie_law (channel (object_of v) ch) c.in-Some.transfer.now c.in-Some.cookie (rw c.from.ensures at c.in-Some.ensures) in
-    started_turn v ch c.in-Some.cookie c.in-Some.transfer.now c.requires front.0 c.in-None.ensures front.1
+    rw front.1 (sym (ap (λ (s : Stepped). s.0) (start_is v ch c.in-Some.transfer.now c.requires front.0 (named_none _ c.in-None.ensures))))

@@ -1,7 +1,7 @@
-use Rattle.std.proofs.Common.{rules, ◌<◌, arith, length, refl, sym}
+use Rattle.std.proofs.Common.{rules, arith, refl, sym}
 use Rattle.dma_engine.specs.inner.Inside.{parts_of}
-use Rattle.dma_engine.proofs.NextTurns.{spent_turn}
-use Rattle.dma_engine.proofs.Queues.{many_queues}
+use Rattle.dma_engine.proofs.StepCases.{spent_turn}
+use Rattle.dma_engine.proofs.Queues.{many_queues, holds_at}
 use Rattle.dma_engine.proofs.engine.Engine.next_turn.Goals as goal
 
 pub next_wait-requires-clause-waits : goal.next_wait-requires-clause-waits
@@ -13,10 +13,8 @@ next_finish-requires c = search rules
 pub returns-in_default : goal.returns-in_default
 returns-in_default c =
     let p = parts_of c.self.inside in
-    let q = c.index-queue.result.now in
     let there = rw (← c.self.view_is) at c.in_ok-index.ensures.there in
-    let less : c.args.ch < length p.queues = omega (arith, there.1, many_queues p c.self.invariant) in
-    let read = rw there.0 at c.index-queue.ensures in
+    let at = holds_at p c.self.invariant c.args.ch c.index-queue.result.now (omega (arith, there.1, many_queues p c.self.invariant)) (rw there.0 at c.index-queue.ensures) in
     let few = rw (← c.self.view_is) at c.facts.ensures.steps in
     let none = rw (← c.self.view_is) at c.in_default.ensures.none in
-    rw (← c.self.view_is) (sym (spent_turn p c.self.invariant c.args.ch q less read (sym c.if-is_paused.ensures) (sym c.if-not-is_loaded.ensures) few (none refl)))
+    rw (← c.self.view_is) (sym (spent_turn at (sym c.if-is_paused.ensures) (sym c.if-not-is_loaded.ensures) few (none refl)))

@@ -7,9 +7,9 @@ use Rattle.dma_engine.specs.inner.Holds.{view_of}
 use Rattle.dma_engine.specs.inner.Inside.{parts_of}
 use Rattle.dma_engine.specs.Turn.{with_entry}
 use Rattle.dma_engine.specs.View.{View, EngineState, size}
-use Rattle.dma_engine.proofs.CallCases.{read_starved, read_done, refusal}
+use Rattle.dma_engine.proofs.CallCases.{read_done, read_starved, refusal}
 use Rattle.dma_engine.proofs.Entries.{holds_read, read_seen}
-use Rattle.dma_engine.proofs.Sizes.{size_is, memory_size}
+use Rattle.dma_engine.proofs.Sizes.{memory_size, size_is}
 use Rattle.dma_engine.proofs.engine.Engine.read.Goals as goal
 
 pub bytes_of-requires : goal.bytes_of-requires

@@ -1,4 +1,5 @@
-use Rattle.std.proofs.Common.{◌≡◌, length, ◌∙◌, ap, drop, arith}
+use Rattle.dma_mem.specs.Places.{writes}
+use Rattle.std.proofs.Common.{◌≡◌, length, ◌∙◌, ap, drop, arith, refl}
 use Rattle.dma_engine.specs.declared.entry.Entry.TheVariants.{ReadBack}
 use Rattle.dma_mem.specs.declared.call.Call.TheVariants.{Read}
 use Rattle.dma_engine.specs.declared.fault.EngineFault.TheVariants.{NoMemory}
@@ -7,10 +8,10 @@ use Rattle.dma_engine.specs.inner.Holds.{view_of}
 use Rattle.dma_engine.specs.inner.Inside.{parts_of}
 use Rattle.dma_engine.specs.Turn.{with_entry}
 use Rattle.dma_engine.specs.View.{View, EngineState, size}
-use Rattle.dma_engine.proofs.CallCases.{read_out, read_starved, read_done, refusal}
-use Rattle.dma_engine.proofs.Entries.{holds_read, read_seen}
-use Rattle.dma_engine.proofs.Sizes.{size_is, memory_size}
 use Rattle.std.proofs.lemmas.List.{length-take, length-drop}
+use Rattle.dma_engine.proofs.CallCases.{read_done, range_out, read_starved, refusal}
+use Rattle.dma_engine.proofs.Entries.{holds_read, read_seen}
+use Rattle.dma_engine.proofs.Sizes.{memory_size, size_is}
 use Rattle.dma_engine.proofs.engine.Engine.read_into.Goals as goal
 
 pub bytes_of-requires : goal.bytes_of-requires
@@ -22,7 +23,8 @@ bytes_of-requires c =
 pub returns-then-out-self-clause-answer : goal.returns-then-out-self-clause-answer
 returns-then-out-self-clause-answer c =
     let end = size_is (parts_of c.self.inside) c.self.invariant ∙ ap (λ (s : EngineState). size s.view) c.self.view_is in
-    read_out c.args.self.now.view c.args.addr (length c.args.out.now) (omega (arith, end, c.if-out-self.true))
+    let out = range_out c.args.self.now.view c.args.addr (length c.args.out.now) (λ s t. writes t s) (omega (arith, end, c.if-out-self.true)) in
+    rw out refl
 
 pub copy_from_slice-requires : goal.copy_from_slice-requires
 copy_from_slice-requires c =

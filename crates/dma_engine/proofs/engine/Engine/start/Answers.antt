@@ -12,12 +12,14 @@ use Rattle.dma_engine.specs.inner.Inside.{parts_of}
 use Rattle.dma_engine.specs.Object.{channel}
 use Rattle.dma_engine.specs.Room.{HasRoom}
 use Rattle.dma_engine.specs.View.{EngineState, object_of}
-use Rattle.dma_engine.proofs.CallCases.{refusal, named_none}
+use Rattle.dma_engine.proofs.CallCases.{named_none, refusal}
 use Rattle.dma_engine.proofs.Changes.{holds_pages}
-use Rattle.dma_engine.proofs.Queues.{many_queues, front_issued}
-use Rattle.dma_engine.proofs.Starts.{front_below, front_with_cookie_law, held_answers, holds_started, now_started, start_answers, start_starved, found_front}
+use Rattle.dma_engine.proofs.Queues.{holds_at, many_queues}
 use Rattle.dma_engine.proofs.Sizes.{many_channels}
+use Rattle.dma_engine.proofs.StartsAndEnds.{FrontFound, found_front, front_with_cookie_law, held_is, holds_started, now_started, start_answers, start_starved}
+use Rattle.dma_engine.proofs.StepCases.{stepped_so}
 use Rattle.dma_engine.proofs.engine.Engine.start.Goals as goal
+use Rattle.dma_engine.proofs.engine.Engine.start.Goals.{After-deref}
 
 pub kept-requires : goal.kept-requires
 kept-requires c =
@@ -28,19 +30,20 @@ pub returns-in-Some-first_conflict-clause-answer : goal.returns-in-Some-first_co
 returns-in-Some-first_conflict-clause-answer c =
     let v = c.args.self.now.view in
     let front = front_with_cookie_law (channel (object_of v) c.args.ch) c.in-Some.transfer.now c.in-Some.cookie (rw c.from-index.ensures at c.in-Some.ensures) in
-    held_answers v c.args.ch c.in-Some-first_conflict.ch c.in-Some-first_conflict.cookie c.in-Some.transfer.now c.requires front.0 c.in-Some-first_conflict.ensures
+    stepped_so v v c.args.ch _ (held_is v c.args.ch c.in-Some-first_conflict.ch c.in-Some-first_conflict.cookie c.in-Some.transfer.now c.requires front.0 c.in-Some-first_conflict.ensures)
+
+-- the front that was found
+found : (c : After-deref) → FrontFound (parts_of c.self.inside) c.args.ch c.index_mut-queue.result.now c.kept.result.now c.deref.result.now c.in-Some.transfer.now
+found c =
+    let p = parts_of c.self.inside in
+    let asked = rw (← c.self.view_is) at c.requires in
+    let front = front_with_cookie_law (channel (object_of (view_of p)) c.args.ch) c.in-Some.transfer.now c.in-Some.cookie (rw (c.from-index.ensures, ← c.self.view_is) at c.in-Some.ensures) in
+    found_front p c.self.invariant c.args.ch _ c.index_mut-queue.result.now c.kept.result.now c.deref.result.now c.in-Some.transfer.now c.from-index.ensures c.index_mut-queue.ensures.value c.kept.ensures c.deref.ensures.value asked.0 front.0
 
 pub start-requires : goal.start-requires
 start-requires c =
-    let p = parts_of c.self.inside in
-    let ch = c.args.ch in
-    let q = c.index_mut-queue.result.now in
-    let t = c.in-Some.transfer.now in
-    let s = channel (object_of (view_of p)) ch in
-    let asked = rw (← c.self.view_is) at c.requires in
-    let front = front_with_cookie_law s t c.in-Some.cookie (rw (c.from-index.ensures, ← c.self.view_is) at c.in-Some.ensures) in
-    let f = found_front p c.self.invariant ch _ q c.kept.result.now c.deref.result.now t c.from-index.ensures c.index_mut-queue.ensures.value c.kept.ensures c.deref.ensures.value asked.0 front.0 in
-    record { issued = f.known; front = ap is_some f.is; below = rw f.is (front_below p c.self.invariant ch t (front_issued s t front.0)) }
+    let f = found (goal.at.start-requires c).After-deref in
+    record { issued = f.known; front = ap is_some f.is; below = rw f.is f.low }
 
 pub invariant_of-self : goal.invariant_of-self
 invariant_of-self c =
@@ -69,31 +72,23 @@ returns-in_err-start-clause-kept c = λ _ ch room.
 pub invariant_of-self-2 : goal.invariant_of-self-2
 invariant_of-self-2 c =
     let p = parts_of c.self.inside in
-    let v = view_of p in
-    let ch = c.args.ch in
     let q = c.index_mut-queue.result.now in
     let t = c.in-Some.transfer.now in
-    let asked = rw (← c.self.view_is) at c.requires in
-    let front = front_with_cookie_law (channel (object_of v) ch) t c.in-Some.cookie (rw (c.from-index.ensures, ← c.self.view_is) at c.in-Some.ensures) in
-    let none = named_none (first_conflicting v t) (rw (← c.self.view_is) at c.in_default-first_conflict.ensures) in
-    let f = found_front p c.self.invariant ch _ q c.kept.result.now c.deref.result.now t c.from-index.ensures c.index_mut-queue.ensures.value c.kept.ensures c.deref.ensures.value asked.0 front.0 in
+    let none = named_none (first_conflicting (view_of p) t) (rw (← c.self.view_is) at c.in_default-first_conflict.ensures) in
+    let f = found (goal.at.invariant_of-self-2 c).After-deref in
     let started = now_started q c.start.new.self t (rw f.is at (c.in_ok-start.ensures.started)) in
     let pages = on_pages c.start.new.memory (destinations t) (rw f.is at (c.in_ok-start.ensures.pages)) in
     let paged : Parts = record p { made = c.start.new.memory.made } in
-    let holds = holds_pages p c.start.new.memory.made c.self.invariant c.start.ensures.keeps.made in
-    rw (c.from-index.ensures, started.is, c.start.ensures.image) (holds_started paged ch q t started.ranges holds f.less f.read asked front.0 none pages started.has)
+    let at = holds_at paged (holds_pages p c.start.new.memory.made c.self.invariant c.start.ensures.keeps.made) c.args.ch q f.at.less f.at.read in
+    rw (c.from-index.ensures, started.is, c.start.ensures.image) (holds_started at t started.ranges (rw (← c.self.view_is) at c.requires) f.issued none pages started.has)
 
 pub returns-clause-answer : goal.returns-clause-answer
 returns-clause-answer c =
     let p = parts_of c.self.inside in
-    let v = view_of p in
-    let ch = c.args.ch in
-    let q = c.index_mut-queue.result.now in
     let t = c.in-Some.transfer.now in
-    let asked = rw (← c.self.view_is) at c.requires in
-    let front = front_with_cookie_law (channel (object_of v) ch) t c.in-Some.cookie (rw (c.from-index.ensures, ← c.self.view_is) at c.in-Some.ensures) in
-    let none = named_none (first_conflicting v t) (rw (← c.self.view_is) at c.in_default-first_conflict.ensures) in
-    let f = found_front p c.self.invariant ch _ q c.kept.result.now c.deref.result.now t c.from-index.ensures c.index_mut-queue.ensures.value c.kept.ensures c.deref.ensures.value asked.0 front.0 in
-    let started = now_started q c.start.new.self t (rw f.is at (c.in_ok-start.ensures.started)) in
+    let front = front_with_cookie_law (channel (object_of (view_of p)) c.args.ch) t c.in-Some.cookie (rw (c.from-index.ensures, ← c.self.view_is) at c.in-Some.ensures) in
+    let none = named_none (first_conflicting (view_of p) t) (rw (← c.self.view_is) at c.in_default-first_conflict.ensures) in
+    let f = found (goal.at.returns-clause-answer c).After-deref in
+    let started = now_started c.index_mut-queue.result.now c.start.new.self t (rw f.is at (c.in_ok-start.ensures.started)) in
     rw (← c.self.view_is, c.from-index.ensures, started.is)
-    (start_answers p ch c.in-Some.cookie q t started.ranges c.self.invariant f.less f.read asked front.0 none front.1)
+    (start_answers f.at c.in-Some.cookie t started.ranges (rw (← c.self.view_is) at c.requires) front.0 none front.1)

@@ -1,5 +1,5 @@
-use Rattle.dma_engine.proofs.CallCases.{submit_checked}
 use Rattle.dma_engine.proofs.engine.Engine.submit.Goals as goal
+use Rattle.dma_engine.proofs.CallCases.{submit_checked}
 
 pub returns-in-Err-clause-answer : goal.returns-in-Err-clause-answer
 returns-in-Err-clause-answer c =

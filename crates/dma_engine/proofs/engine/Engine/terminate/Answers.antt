@@ -1,72 +1,60 @@
-use Rattle.std.proofs.Common.{◌≡◌, ◌<◌, ◌∙◌, ap, length, drop, arith, refl}
+use Rattle.std.proofs.Common.{◌≡◌, ◌∙◌, ap, arith, refl}
 use Rattle.std.specs.Prelude.{slice_set}
 use Rattle.std.proofs.lemmas.List.{set-get_or}
 use Rattle.dma_mem.specs.declared.call.Call.TheVariants.{Terminate}
 use Rattle.dma_engine.specs.declared.call.Reply.TheVariants.{Count}
 use Rattle.dma_engine.specs.declared.entry.Entry.TheVariants.{Terminated}
 use Rattle.dma_engine.specs.declared.fault.EngineFault.TheVariants.{NoMemory}
-use Rattle.dma_engine.specs.inner.Found.{transfers_in}
 use Rattle.dma_engine.specs.inner.Holds.{view_of}
 use Rattle.dma_engine.specs.inner.Inside.{parts_of}
-use Rattle.dma_engine.specs.Object.{channel, unfinished, aborted}
+use Rattle.dma_engine.specs.Object.{channel, unfinished}
 use Rattle.dma_engine.specs.Answer.{done_on, terminated}
-use Rattle.dma_engine.specs.View.{View, EngineState, channels, object_of}
+use Rattle.dma_engine.specs.View.{EngineState, object_of}
 use Rattle.dma_engine.proofs.CallCases.{refusal, starved, terminate_answer, terminate_done}
-use Rattle.dma_engine.proofs.Endings.{holds_terminated, view_terminated}
-use Rattle.dma_engine.proofs.Queues.{many_queues, holds_at, queue_there}
-use Rattle.dma_engine.proofs.Rooms.{found_all}
+use Rattle.dma_engine.proofs.StartsAndEnds.{holds_terminated, view_terminated}
+use Rattle.dma_engine.proofs.Queues.{HoldsAt, holds_at, queue_there}
+use Rattle.dma_engine.proofs.Rooms.{unfinished_found}
 use Rattle.dma_engine.proofs.Sizes.{many_channels}
 use Rattle.dma_engine.proofs.engine.Engine.terminate.Goals as goal
+use Rattle.dma_engine.proofs.engine.Engine.terminate.Goals.{After-index_mut-queue}
+
+-- the queue that is read
+read : (c : After-index_mut-queue) → HoldsAt (parts_of c.self.inside) c.in_ok-index.index c.index_mut-queue.result.now
+read c =
+    let p = parts_of c.self.inside in
+    holds_at p c.self.invariant c.in_ok-index.index c.index_mut-queue.result.now (queue_there p c.args.self.now.view c.args.ch c.in_ok-index.index c.self.invariant (ap (λ (s : EngineState). s.view) c.self.view_is) c.in_ok-index.ensures.there) c.index_mut-queue.ensures.value
 
 pub kept-requires : goal.kept-requires
 kept-requires c =
     let p = parts_of c.self.inside in
-    let less : c.in_ok-index.index < length p.queues = queue_there p c.args.self.now.view c.args.ch c.in_ok-index.index c.self.invariant (ap (λ (s : EngineState). s.view) c.self.view_is) c.in_ok-index.ensures.there in
-    omega (arith, less, many_queues p c.self.invariant, many_channels p.base p.history)
+    omega (arith, (read (goal.at.kept-requires c).After-index_mut-queue).there, many_channels p.base p.history)
 
 pub terminate-requires : goal.terminate-requires
 terminate-requires c =
-    let p = parts_of c.self.inside in
-    let less : c.in_ok-index.index < length p.queues = queue_there p c.args.self.now.view c.args.ch c.in_ok-index.index c.self.invariant (ap (λ (s : EngineState). s.view) c.self.view_is) c.in_ok-index.ensures.there in
-    let at = holds_at p c.self.invariant c.in_ok-index.index c.index_mut-queue.result.now less c.index_mut-queue.ensures.value in
+    let at = read (goal.at.terminate-requires c).After-index_mut-queue in
     rw c.kept.ensures (omega (arith, at.tied.given, at.tied.forgotten, at.tied.many))
 
 pub invariant_of-self-2 : goal.invariant_of-self-2
 invariant_of-self-2 c =
-    let p = parts_of c.self.inside in
-    let i = c.in_ok-index.index in
-    let q = c.index_mut-queue.result.now in
-    let s = channel (object_of (view_of p)) i in
-    let less : i < length p.queues = queue_there p c.args.self.now.view c.args.ch c.in_ok-index.index c.self.invariant (ap (λ (s : EngineState). s.view) c.self.view_is) c.in_ok-index.ensures.there in
-    let at = holds_at p c.self.invariant i q less c.index_mut-queue.ensures.value in
+    let at = read (goal.at.invariant_of-self-2 c).After-index_mut-queue in
     let done = rw (← c.self.view_is) at c.done-done.ensures in
     let count = rw (← c.in_ok-index.ensures.there.0, ← c.self.view_is) at c.unfinished-count.ensures in
-    let kept = (channel p.base i).submitted in
-    let found = drop (length q.outcomes.items) (transfers_in kept p.history q.indices.items) in
-    let all : found ≡ drop (length s.outcomes) s.submitted = ap (drop (length q.outcomes.items)) (found_all i kept p.history p.memory q s at.tied) ∙ ap (λ l. drop (length l) s.submitted) at.tied.outcomes in
-    rw (c.push_reserved.ensures.items, c.in_ok-terminate.ensures.ended, c.kept.ensures, c.deref.ensures.value, c.reserve.ensures.items, done, ← c.in_ok-index.ensures.there.0)
-    (holds_terminated p i c.terminate.new.self.outcomes.spare c.unfinished-count.result q.given q (aborted (done_on (view_of p) i) found) c.self.invariant less c.index_mut-queue.ensures.value (ap (aborted (done_on (view_of p) i)) all) refl count)
+    rw (c.push_reserved.ensures.items, c.in_ok-terminate.ensures.ended, c.kept.ensures, c.deref.ensures.value, c.reserve.ensures.items, done, count, unfinished_found at, ← c.in_ok-index.ensures.there.0)
+    (holds_terminated at c.terminate.new.self.outcomes.spare)
 
 pub returns-clause-answer : goal.returns-clause-answer
 returns-clause-answer c =
     let p = parts_of c.self.inside in
     let i = c.in_ok-index.index in
-    let q = c.index_mut-queue.result.now in
-    let is : view_of p ≡ c.args.self.now.view = ap (λ (s : EngineState). s.view) c.self.view_is in
-    let less : i < length p.queues = queue_there p c.args.self.now.view c.args.ch c.in_ok-index.index c.self.invariant (ap (λ (s : EngineState). s.view) c.self.view_is) c.in_ok-index.ensures.there in
-    let there : i < channels c.args.self.now.view = omega (arith, many_queues p c.self.invariant, ap channels is, less) in
+    let at = read (goal.at.returns-clause-answer c).After-index_mut-queue in
     let done = rw (← c.self.view_is) at c.done-done.ensures in
     let count = rw (← c.in_ok-index.ensures.there.0, ← c.self.view_is) at c.unfinished-count.ensures in
-    let found = drop (length q.outcomes.items) (transfers_in (channel p.base i).submitted p.history q.indices.items) in
-    let view = view_terminated p i c.terminate.new.self.outcomes.spare c.unfinished-count.result q.given q (aborted (done_on (view_of p) i) found) count ∙ ap (λ (w : View). terminated w i) is in
-    rw (c.push_reserved.ensures.items, c.in_ok-terminate.ensures.ended, c.kept.ensures, c.deref.ensures.value, c.reserve.ensures.items, done, ← c.in_ok-index.ensures.there.0)
-    (terminate_done c.args.self.now.view _ i _ there (count ∙ ap (λ (w : View). unfinished (channel (object_of w) i)) is) view)
+    rw (← c.self.view_is, c.push_reserved.ensures.items, c.in_ok-terminate.ensures.ended, c.kept.ensures, c.deref.ensures.value, c.reserve.ensures.items, done, count, ← c.in_ok-index.ensures.there.0)
+    (terminate_done (view_of p) _ i _ at.there refl (view_terminated p i c.terminate.new.self.outcomes.spare c.index_mut-queue.result.now _ c.index_mut-queue.result.now.given))
 
 pub index_mut-queue-requires : goal.index_mut-queue-requires
 index_mut-queue-requires c =
-    let p = parts_of c.self.inside in
-    let less : c.in_ok-index.index < length p.queues = queue_there p c.args.self.now.view c.args.ch c.in_ok-index.index c.self.invariant (ap (λ (s : EngineState). s.view) c.self.view_is) c.in_ok-index.ensures.there in
-    omega (arith, less, c.self.inside.queues.ok.0)
+    omega (arith, queue_there (parts_of c.self.inside) c.args.self.now.view c.args.ch c.in_ok-index.index c.self.invariant (ap (λ (s : EngineState). s.view) c.self.view_is) c.in_ok-index.ensures.there, c.self.inside.queues.ok.0)
 
 pub push_reserved-requires : goal.push_reserved-requires
 push_reserved-requires c = omega (arith, c.in_ok-reserve.ensures.ok)

@@ -5,7 +5,7 @@ use Rattle.dma_engine.specs.inner.Holds.{view_of}
 use Rattle.dma_engine.specs.inner.Inside.{parts_of}
 use Rattle.dma_engine.specs.Object.{channel, no_transfer}
 use Rattle.dma_engine.specs.View.{object_of}
-use Rattle.dma_engine.proofs.Queues.{many_queues, holds_at}
+use Rattle.dma_engine.proofs.Queues.{holds_at, many_queues}
 use Rattle.dma_engine.proofs.engine.Engine.unfinished_copies.Goals as goal
 
 pub loop-n-preserved : goal.loop-n-preserved

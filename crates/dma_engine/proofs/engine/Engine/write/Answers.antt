@@ -1,7 +1,7 @@
 use Rattle.dma_mem.specs.declared.call.Call.TheVariants.{Write}
 use Rattle.dma_engine.specs.declared.fault.EngineFault.TheVariants.{NoMemory}
 use Rattle.dma_engine.specs.declared.call.Reply.TheVariants.{Done}
-use Rattle.dma_engine.proofs.CallCases.{write_starved, refusal}
+use Rattle.dma_engine.proofs.CallCases.{refusal, write_starved}
 use Rattle.dma_engine.proofs.engine.Engine.write.Goals as goal
 
 pub returns-in_err-kept-clause-answer : goal.returns-in_err-kept-clause-answer

@@ -8,8 +8,8 @@ use Rattle.dma_engine.specs.inner.Holds.{view_of}
 use Rattle.dma_engine.specs.inner.Inside.{parts_of}
 use Rattle.dma_engine.specs.Turn.{with_entry}
 use Rattle.dma_engine.specs.View.{View, EngineState}
+use Rattle.dma_engine.proofs.CallCases.{refusal, write_done, write_starved}
 use Rattle.dma_engine.proofs.Changes.{holds_pages}
-use Rattle.dma_engine.proofs.CallCases.{write_starved, write_done, refusal}
 use Rattle.dma_engine.proofs.Entries.{holds_wrote}
 use Rattle.dma_engine.proofs.engine.Engine.write_checked.Goals as goal
 

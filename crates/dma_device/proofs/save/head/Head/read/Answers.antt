@@ -1,6 +1,6 @@
 use Rattle.std.proofs.Common.{refl, sym}
 use Rattle.dma_chan.proofs.SavedHeads.{flag_back}
-use Rattle.dma_device.proofs.SavedParts.{head_fields}
+use Rattle.dma_device.proofs.SavedDevices.{head_fields}
 use Rattle.dma_device.proofs.save.head.Head.read.Goals as goal
 
 pub returns-clause-same : goal.returns-clause-same
