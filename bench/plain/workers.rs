@@ -64,7 +64,7 @@ pub fn workers(words: &[String]) -> ExitCode {
     };
     match timed(workers, len, turns, count) {
         Some((steps, finished, took)) => {
-            println!("answers 0 steps {steps} finished {finished} took {}ns busy 0ns", took.as_nanos());
+            println!("steps {steps} finished {finished} took {}ns busy 0ns", took.as_nanos());
             ExitCode::SUCCESS
         }
         None => ExitCode::FAILURE,

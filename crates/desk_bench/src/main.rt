@@ -1,17 +1,16 @@
-//! Measures requests for statuses without the lock, and steps through a desk. It does nothing unless its arguments say
-//! what to measure and how often.
+//! Measures requests for statuses without the lock, and steps with and without a desk. It does nothing unless its
+//! arguments say what to measure: the six numbers of a [`Case`], in order.
 #![tactic(auto)]
 
-mod asking;
-mod copies;
-mod plan;
-mod stepping;
+mod case;
+mod desk;
+mod watch;
 
-use crate::asking::time_statuses;
-use crate::copies::{Copies, loaded};
-use crate::plan::{Meanwhile, Measured, Plan, Steppers};
-use crate::stepping::{time_engine, time_workers};
-use dma_work::{Job, Parts};
+use crate::case::Case;
+use crate::desk::time_desk;
+use crate::watch::{Measured, Times, Watch};
+use dma_engine::Engine;
+use dma_work::Parts;
 use std::alloc::Global;
 use std::marker::Brand;
 use std::rt::Clock;
@@ -21,78 +20,48 @@ use std::time::CpuClock;
 use std::{env, io};
 
 fn main(rt: HostRuntime) -> io::Result<()> {
-    let mut args = env::args(&rt)?.skip(1);
-    let Some(word) = args.next() else {
+    let words: Vec<String> = env::args(&rt)?.collect(rt.alloc())?;
+    let Some(case) = Case::of(&words) else {
         return Ok(());
     };
-    let Some(count) = args.next() else {
-        return Ok(());
-    };
-    let (Some(plan), Ok(count)) = (Plan::named(word.as_str()), count.parse::<u32>()) else {
-        return Ok(());
-    };
-    let Some(measured) = measure(&rt, rt.alloc(), plan, count) else {
+    let Some(it) = measure(&rt, rt.alloc(), case) else {
         return println!(rt; "nothing was measured");
     };
+    let answers = u64::from(case.readers) * u64::from(case.requests);
     println!(rt;
-        "answers {} steps {} finished {} took {:?} busy {:?}",
-        measured.answers,
-        measured.steps,
-        measured.finished,
-        measured.times.took,
-        measured.times.busy
+        "answers {answers} took {:?} busy {:?}",
+        it.asked.took, it.asked.busy
+    )?;
+    println!(rt;
+        "steps {} finished {} took {:?} busy {:?}",
+        it.steps, it.finished, it.stepped.took, it.stepped.busy
     )
 }
 
+// Measures the case. Without readers and workers, the engine steps channel 0 without a desk.
 fn measure<R: Threads + Wait + Clock + CpuClock + Sync>(
     rt: &R,
     alloc: Global,
-    plan: Plan,
-    count: u32,
+    case: Case,
 ) -> Option<Measured> {
-    match plan {
-        Plan::Statuses { readers, meanwhile } => statuses(rt, alloc, readers, meanwhile, count),
-        Plan::Steps { by, copies } => steps(rt, alloc, by, copies, count),
+    let engine = case.engine(alloc)?;
+    if case.readers == 0 && case.workers == 0 {
+        return time_engine(rt, engine, case.turns());
     }
+    let (parts, readers) = Parts::new(rt, alloc, engine, case.readers as usize).ok()?;
+    time_desk::<Brand, _>(rt, alloc, parts, readers, case)
 }
 
-// Measures `count` statuses for each reader.
-fn statuses<R: Threads + Wait + Clock + CpuClock + Sync>(
-    rt: &R,
-    alloc: Global,
-    readers: usize,
-    meanwhile: Meanwhile,
-    count: u32,
-) -> Option<Measured> {
-    let engine = loaded(alloc, Copies::Short, 1, 1)?;
-    let made = Parts::new(rt, alloc, engine, readers);
-    let (parts, readers) = made.ok()?;
-    time_statuses::<Brand, _>(rt, alloc, parts, readers, count, meanwhile)
-}
-
-// Measures the steps of `count` copies.
-fn steps<R: Threads + Wait + Clock + CpuClock + Sync>(
-    rt: &R,
-    alloc: Global,
-    by: Steppers,
-    copies: Copies,
-    count: u32,
-) -> Option<Measured> {
-    match by {
-        Steppers::Engine => {
-            let engine = loaded(alloc, copies, 1, count)?;
-            time_engine(rt, engine, copies.turns_of(count))
-        }
-        Steppers::Workers(workers) => {
-            let each = count.checked_div(u32::from(workers))?;
-            let mut jobs = Vec::new(alloc);
-            for ch in 0..workers {
-                let job = Job::new(ch, ch, copies.turns_of(each))?;
-                jobs.push(job).ok()?;
-            }
-            let made = Parts::new(rt, alloc, loaded(alloc, copies, workers, each)?, 0);
-            let (parts, _readers) = made.ok()?;
-            time_workers::<Brand, _>(rt, alloc, parts, &jobs)
-        }
+// Measures `turns` steps of channel 0 of an engine.
+fn time_engine<R: Clock + CpuClock>(rt: &R, mut engine: Engine, turns: u64) -> Option<Measured> {
+    let watch = Watch::started(rt);
+    for _ in 0..turns {
+        let _ = engine.step(0);
     }
+    Some(Measured {
+        asked: Times::default(),
+        steps: engine.steps(),
+        finished: engine.finished_all(),
+        stepped: Watch::times(watch, rt)?,
+    })
 }

@@ -1,6 +1,6 @@
 -- Steps of one channel in a row.
 use Rattle.std.proofs.Common.{◌≡◌, ◌≢◌, ℕ, ◌+◌, ◌-◌, ◌<◌, arith, List, [], ◌∷◌, ◌++◌, map, refl, ap, sym, ◌∙◌, subst, zero, suc, inl, inr, append_assoc}
-use Rattle.std.specs.Prelude.{IfSome, IsNone, if◌then◌else◌, is_some, replicate, ◌⊎◌, OnErr, OnOk, Option, Some, None, Result, Ok}
+use Rattle.std.specs.Prelude.{if◌then◌else◌, is_some, replicate, ◌⊎◌, OnErr, OnOk, Option, Some, None, Result, Ok}
 use Rattle.std.proofs.lemmas.Result.{on_ok_weaker}
 use Rattle.std.proofs.lemmas.List.{append-nil, map-append}
 use Rattle.dma_script.specs.Command.{text_of}
@@ -36,10 +36,6 @@ again v call reply (suc n) is =
     ap (λ (a : Reply × View). (let rest = answers a.1 (replicate n call) in (a.0 ∷ rest.0, rest.1))) (sym is)
     ∙ ap (λ (rest : List Reply × View). (reply ∷ rest.0, rest.1)) (again v call reply n is)
 
-once_or_same : (A B C : Type 0) → (B → C) → A ⊎ B → A ⊎ C
-once_or_same A B C f (inl a) = inl a
-once_or_same A B C f (inr b) = inr (f b)
-
 -- the last answer, repeated
 last_steps : (v w : View) (ch : ℕ) (reply : Reply) (many : ℕ) → (reply, w) ≡ answer v (Step ch) → (many ≡ 1) ⊎ (w ≡ v) → answers v (replicate many (Step ch)) ≡ (replicate many reply, w)
 last_steps v w ch reply many is (inl one) =
@@ -67,7 +63,7 @@ steps_then v w ch most a many last reply h some is times =
     let answer_is = answer_unless_no_memory u w (Step ch) reply is.1 (subst (λ (r : Reply). CallAnswers u (Step ch) r w) (sym is.0) end.2) in
     let stays : IsIdle last → w ≡ u = λ idle. idle_steps_stay u w ch last idle (ap (λ (r : Reply). (r, w)) (sym is.0) ∙ answer_is) in
     steps_joined v u w ch n many (replies_before a) (replicate many reply) (ap (λ (l : List Reply). (l, u)) (sym h.before))
-    (sym (last_steps u w ch reply many answer_is (once_or_same (many ≡ 1) (IsIdle last) (w ≡ u) stays times)))
+    (sym (last_steps u w ch reply many answer_is (elim times [ inl one ↦ inl one | inr idle ↦ inr (stays idle) ])))
 
 -- ---- their texts
 
@@ -95,17 +91,6 @@ both_texts a n last w all rest is =
     ∙ ap (λ t. map reply_text f ++ (t ++ rest)) (sym (map_replicate reply_text n last))
     ∙ sym (append_assoc (map reply_text f) (map reply_text l) rest)
     ∙ ap (λ t. t ++ rest) (sym (map-append reply_text f l) ∙ ap (λ (x : List Reply × View). map reply_text x.0) is)
-
--- ---- how many steps
-
--- all of `most`, or fewer
-pub number_of_law : (v w : View) (ch most : ℕ) (a : Advanced) → IsAdvance v ch most a w → (IsNone a.last → steps_before a ≡ most) × IfSome a.last (λ _. steps_before a < most)
-number_of_law v w ch most a h =
-    let by : (o : Option (Result Turn EngineFault)) → EndsWith (after_steps v ch (steps_before a)) ch (steps_before a) most o w → (IsNone o → steps_before a ≡ most) × IfSome o (λ _. steps_before a < most) = λ o. elim o as (λ o. EndsWith (after_steps v ch (steps_before a)) ch (steps_before a) most o w → (IsNone o → steps_before a ≡ most) × IfSome o (λ _. steps_before a < most)) [
-      | None ↦ λ end. (λ _. end.0, tt)
-      | Some last ↦ λ end. (λ some. absurd cc, end.0)
-    ] in
-    by a.last h.last
 
 -- ---- a transfer that starts, moves and finishes in one call
 

@@ -1,10 +1,10 @@
 -- The steps of a copy end: after each step that goes on, one instruction less remains.
 use Rattle.std.proofs.Common.{◌≡◌, ◌≢◌, ◌⊎◌, ℕ, ◌+◌, ◌-◌, ◌<◌, ◌≤◌, Bool, true, false, if◌then◌else◌, List, [], ◌∷◌, ◌++◌, length, Option, Some, None, refl, ap, sym, subst, ◌∙◌, inl, inr, zero, suc, arith}
 use Rattle.std.specs.Prelude.{slice_get, slice_index_or, nat_le, nat_lt, not, ◌==◌, ◌||◌}
-use Rattle.std.proofs.lemmas.Bool.{cases_lt, false≢true, leb-false, lt-leb, ltb-false}
+use Rattle.std.proofs.lemmas.Bool.{cases_lt, cond_both, false≢true, leb-false, lt-leb, ltb-false}
 use Rattle.std.proofs.lemmas.List.{length-set, get_or-set_same, get_or_past}
 use Rattle.dma_insn.specs.declared.insn.Insn.{Insn}
-use Rattle.dma_insn.specs.declared.insn.Insn.TheVariants.{Ld, St, End, Sev, Wfe, Mov, Rmb, Wmb, Nop, Lp, LpEnd}
+use Rattle.dma_insn.specs.declared.insn.Insn.TheVariants.{Ld, St, End, Sev, Wfe}
 use Rattle.dma_mem.specs.Places.{Descriptor, lies_below}
 use Rattle.dma_mem.specs.Rules.{IsTransfer}
 use Rattle.dma_mem.specs.declared.marks.MarkKind.TheVariants.{Reading, Writing}
@@ -42,10 +42,6 @@ record At (v : View) (t : Descriptor) (k : ℕ) : Type 0 where
 abbrev GoesOn : Descriptor → ℕ → Stepped → Type 0
 GoesOn t k s = goes_on (reply_of Turned s.0) ≡ true → (k + 1 < cost t) × At s.1 t (k + 1)
 
-either : (P : Stepped → Type 0) (b : Bool) (x y : Stepped) → P x → P y → P (if b then x else y)
-either P true x y f g = f
-either P false x y f g = g
-
 taken_at : (u : View) (k : Option ℕ) → 0 < length u.schedule → (schedule_at (with_taken u 0 k) 0).taken ≡ k
 taken_at u k there = ap (λ s. s.taken) (get_or-set_same u.schedule 0 (record (schedule_at u 0) { taken = k }) idle there)
 
@@ -80,22 +76,19 @@ signalled_front v event = ap (λ o. issued_front (channel o 0)) (entry_is v (Sig
 
 insn_goes : (v : View) (t : Descriptor) (k : ℕ) → At v t k → (i : Insn) → (i ≢ End → k + 1 < cost t) → GoesOn t k (insn_turn v 0 t k i)
 insn_goes v t k at (Wfe event invalid) less =
-    either (GoesOn t k) (is_set (object_of v) event) _ _
-    (moved_on_law (with_entry v (Passed 0 event)) t k at.there (passed_front v event ∙ at.front) (less (λ e. absurd cc)))
-    (λ e. absurd cc)
+    cond_both {A = Stepped} (is_set (object_of v) event) _ _ (GoesOn t k)
+    (λ _. moved_on_law (with_entry v (Passed 0 event)) t k at.there (passed_front v event ∙ at.front) (less (λ e. absurd cc)))
+    (λ _ e. absurd cc)
 insn_goes v t k at (Sev event) less =
     moved_on_law (with_entry v (Signalled (Channel 0) event)) t k at.there (signalled_front v event ∙ at.front) (less (λ e. absurd cc))
 insn_goes v t k at End less = λ e. absurd cc
 insn_goes v t k at Ld less =
-    either (GoesOn t k) (meets_mark Reading (object_of v).marks (read_places t k)) _ _ (λ e. absurd cc) (moved_on_law v t k at.there at.front (less (λ e. absurd cc)))
+    cond_both {A = Stepped} (meets_mark Reading (object_of v).marks (read_places t k)) _ _ (GoesOn t k) (λ _ e. absurd cc)
+    (λ _. moved_on_law v t k at.there at.front (less (λ e. absurd cc)))
 insn_goes v t k at St less =
-    either (GoesOn t k) (meets_mark Writing (object_of v).marks (written_places t k)) _ _ (λ e. absurd cc) (moved_on_law v t k at.there at.front (less (λ e. absurd cc)))
-insn_goes v t k at (Mov a b) less = moved_on_law v t k at.there at.front (less (λ e. absurd cc))
-insn_goes v t k at Rmb less = moved_on_law v t k at.there at.front (less (λ e. absurd cc))
-insn_goes v t k at Wmb less = moved_on_law v t k at.there at.front (less (λ e. absurd cc))
-insn_goes v t k at Nop less = moved_on_law v t k at.there at.front (less (λ e. absurd cc))
-insn_goes v t k at (Lp a b) less = moved_on_law v t k at.there at.front (less (λ e. absurd cc))
-insn_goes v t k at (LpEnd a b) less = moved_on_law v t k at.there at.front (less (λ e. absurd cc))
+    cond_both {A = Stepped} (meets_mark Writing (object_of v).marks (written_places t k)) _ _ (GoesOn t k) (λ _ e. absurd cc)
+    (λ _. moved_on_law v t k at.there at.front (less (λ e. absurd cc)))
+insn_goes v t k at i less = moved_on_law v t k at.there at.front (less (λ e. absurd cc))
 
 -- an instruction that is the last one, or would be after it, is the end
 member_late : (t : Descriptor) (k : ℕ) → HasShape t → cost t ≤ k + 1 → member t k ≡ End
@@ -113,21 +106,18 @@ member_less t k shape other = elim (cases_lt (k + 1) (cost t)) [
 
 front_goes : (v : View) (t : Descriptor) (k : ℕ) → IsTransfer t → At v t k → GoesOn t k (front_turn v 0 (Some t) (Some k))
 front_goes v t k rules at =
-    either (GoesOn t k) (v.steps == last_step) _ _ (λ e. absurd cc) (insn_goes v t k at (member t k) (member_less t k (shape_is t rules)))
+    cond_both {A = Stepped} (v.steps == last_step) _ _ (GoesOn t k) (λ _ e. absurd cc)
+    (λ _. insn_goes v t k at (member t k) (member_less t k (shape_is t rules)))
 
 -- a property of each step that ends the copy, and of the front's step, is one of what a step does
 stepped_by : (P : Stepped → Type 0) (v : View) (x : Option Descriptor) (taken : Option ℕ) → ((s : Stepped) → goes_on (reply_of Turned s.0) ≡ false → P s) → issued_front (channel (object_of v) 0) ≡ x → (schedule_at v 0).taken ≡ taken → P (front_turn v 0 x taken) → P (turn v 0)
 stepped_by P v x taken quiet front is h =
-    either P (nat_le (channels v) 0) _ _ (quiet _ refl)
-    (either P (channel (object_of v) 0).halted _ _ (quiet _ refl)
-    (either P (schedule_at v 0).paused _ _ (quiet _ refl)
-    (subst (λ y. P (front_turn v 0 y (schedule_at v 0).taken)) (sym front) (subst (λ n. P (front_turn v 0 x n)) (sym is) h))))
-
-quiet_goes : (t : Descriptor) (k : ℕ) (s : Stepped) → goes_on (reply_of Turned s.0) ≡ false → GoesOn t k s
-quiet_goes t k s off = λ on. absurd (false≢true (sym off ∙ on))
+    cond_both {A = Stepped} (nat_le (channels v) 0) _ _ P (λ _. quiet _ refl)
+    (λ _. cond_both {A = Stepped} (channel (object_of v) 0).halted _ _ P (λ _. quiet _ refl)
+    (λ _. cond_both {A = Stepped} (schedule_at v 0).paused _ _ P (λ _. quiet _ refl) (λ _. rw (front, is) h)))
 
 step_goes : (v : View) (t : Descriptor) (k : ℕ) → IsTransfer t → At v t k → GoesOn t k (turn v 0)
-step_goes v t k rules at = stepped_by (GoesOn t k) v (Some t) (Some k) (quiet_goes t k) at.front at.taken (front_goes v t k rules at)
+step_goes v t k rules at = stepped_by (GoesOn t k) v (Some t) (Some k) (λ s off on. absurd (false≢true (sym off ∙ on))) at.front at.taken (front_goes v t k rules at)
 
 -- ---- all steps
 

@@ -1,8 +1,8 @@
 -- The lines of a disassembled program.
-use Rattle.std.proofs.Common.{◌≡◌, ℕ, ◌+◌, ◌-◌, ◌<◌, ◌≤◌, Bool, true, false, cond, ltb, List, [], ◌∷◌, ◌++◌, length, drop, map, Option, Some, None, Result, Ok, Err, suc, zero, refl, ap, sym, ◌∙◌, subst, arith, append_assoc}
+use Rattle.std.proofs.Common.{◌≡◌, ℕ, ◌+◌, ◌-◌, ◌<◌, ◌≤◌, ltb, List, [], ◌∷◌, ◌++◌, length, drop, map, Option, Some, None, Result, Ok, Err, suc, zero, refl, ap, sym, ◌∙◌, subst, arith, append_assoc}
 use Rattle.std.specs.Prelude.{IfSome, IfOk}
 use Rattle.std.specs.Char.{digit_value}
-use Rattle.std.proofs.lemmas.Bool.{ltb-true}
+use Rattle.std.proofs.lemmas.Bool.{cond_both, ltb-true}
 use Rattle.std.proofs.lemmas.List.{length-append, append-nil}
 use Rattle.std.proofs.Math.Seq.{drop-append_seam}
 use Rattle.dma_insn.specs.declared.insn.Insn.{Insn}
@@ -98,12 +98,9 @@ printed_stops bytes offset fault s =
     ap lines_printed read
 
 -- what pairs spell are bytes
-digit_small_by : (v : ℕ) (t : Bool) → ltb v 16 ≡ t → IfSome (cond t (Some v) None) (λ d. d < 16)
-digit_small_by v true e = ltb-true v 16 e
-digit_small_by v false e = tt
-
 digit_small : (b : ℕ) → IfSome (hex_digit_of b) (λ d. d < 16)
-digit_small b = digit_small_by (digit_value b) (ltb (digit_value b) 16) refl
+digit_small b =
+    cond_both {A = Option ℕ} (ltb (digit_value b) 16) _ _ (λ o. IfSome o (λ d. d < 16)) (λ e. ltb-true (digit_value b) 16 e) (λ _. tt)
 
 pair_small : (line : ℕ) (high low : Option ℕ) → IfSome high (λ d. d < 16) → IfSome low (λ d. d < 16) → IfOk (pair_of line high low) (λ byte. byte < 256)
 pair_small line (Some high) (Some low) h l = omega (arith, h, l)
@@ -122,15 +119,13 @@ pair_then (Ok byte) (Ok more) small h = bytes_more byte more small h
 pair_then (Ok byte) (Err line) small h = tt
 pair_then (Err line) rest small h = tt
 
-by_gap : (t : Bool) (x y : Result (List ℕ) Fault) → IfOk x IsBytes → IfOk y IsBytes → IfOk (cond t x y) IsBytes
-by_gap true x y h k = h
-by_gap false x y h k = k
-
 pairs_bytes : (input : List ℕ) (line : ℕ) → IfOk (pairs_from line input) IsBytes
 pairs_bytes [] line = bytes_none
-pairs_bytes (a ∷ []) line = by_gap (is_gap a) (Ok []) (Err (hex_fault line)) bytes_none tt
+pairs_bytes (a ∷ []) line =
+    cond_both (is_gap a) (Ok []) (Err (hex_fault line)) (λ r. IfOk r IsBytes) (λ _. bytes_none) (λ _. tt)
 pairs_bytes (a ∷ b ∷ rest) line =
-    by_gap (is_gap a) _ _ (pairs_bytes (b ∷ rest) (line_after line a)) (pair_then _ _ (pair_small line _ _ (digit_small a) (digit_small b)) (pairs_bytes rest line))
+    cond_both (is_gap a) _ _ (λ r. IfOk r IsBytes) (λ _. pairs_bytes (b ∷ rest) (line_after line a))
+    (λ _. pair_then _ _ (pair_small line _ _ (digit_small a) (digit_small b)) (pairs_bytes rest line))
 
 pairs_of_bytes : (input bytes : List ℕ) → pairs_of input ≡ Ok bytes → IsBytes bytes
 pairs_of_bytes input bytes e = subst (λ (r : Result (List ℕ) Fault). IfOk r IsBytes) e (pairs_bytes input 1)

@@ -1,5 +1,4 @@
 pub mod RunLemmas
-pub mod LeftLemmas
 pub mod Served
 pub mod Advances
 pub mod StepLemmas

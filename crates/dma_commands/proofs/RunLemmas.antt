@@ -1,10 +1,11 @@
 -- What the lines of a script print, and the view after them.
-use Rattle.std.proofs.Common.{◌≡◌, ◌≢◌, ℕ, ◌<◌, ◌+◌, true, false, if◌then◌else◌, codes, List, [], ◌∷◌, ◌++◌, length, Option, Some, None, refl, ap, sym, subst, ◌∙◌, take, drop, suc, arith, append_assoc}
+use Rattle.std.proofs.Common.{◌≡◌, ◌≢◌, ℕ, ◌<◌, ◌+◌, true, false, codes, List, [], ◌∷◌, ◌++◌, length, Option, Some, None, refl, ap, sym, subst, ◌∙◌, take, drop, suc, arith, append_assoc}
 use Rattle.std.proofs.Math.Seq.{take-append-add}
 use Rattle.std.proofs.lemmas.List.{append-nil, length-append}
 use Rattle.std.proofs.lemmas.Result.{on_err_weaker, on_ok_weaker}
 use Rattle.std.specs.Prelude.{Err, IsErr, Ok, OnErr, OnOk, Result}
 use Rattle.dma_mem.specs.Places.{Descriptor}
+use Rattle.dma_mem.specs.Refusals.{refusal_of}
 use Rattle.dma_mem.specs.declared.call.Call.{Call}
 use Rattle.dma_mem.specs.declared.call.Call.TheVariants.{Read, Submit as SubmitCall, Issue as IssueCall}
 use Rattle.dma_engine.specs.declared.call.Reply.{Reply}
@@ -21,6 +22,7 @@ use Rattle.dma_script.specs.Command.{Answers, AppendsGroups, Printed, printed_te
 use Rattle.dma_script.specs.Interpreted.{ActsInTurn, PrintsLines, StopsAtALine}
 use Rattle.dma_script.specs.declared.statements.Statement.{Statement}
 use Rattle.dma_text.specs.Digits.{hex_digits, spaced_bytes}
+use Rattle.dma_commands.specs.Left.{lines_left}
 use Rattle.dma_commands.specs.Printed.{call_line, fault_text, transfer_fault_name, refused_line}
 use Rattle.dma_commands.specs.Run.{Answered, call_answer, copied, copied_after, is_in_use, line_answer, lines_answered, most_copy_steps, stepped_to_end, last_answer_line, one_line, unless_invalid}
 use Rattle.dma_commands.specs.inner.RunSteps.{RunsLine, read_at, read_in}
@@ -49,8 +51,8 @@ unfit_runs v fault e answered result out out' is prints kept =
     rw is (printed_runs (one_line (refused_line (transfer_fault_name e)) v) v result out out' (on_ok_weaker result (λ _. refl) prints) prints kept)
 
 -- a transfer that breaks none
-pub fit_runs : {A E : Type 0} (v w : View) (fault : Option TransferFault) (answered : Answered) (result : Result A E) (out out' : List ℕ) → fault ≡ None → RunsLine answered w result out out' → RunsLine (unless_invalid fault v answered) w result out out'
-fit_runs v w fault answered result out out' none runs = rw none runs
+pub fit_runs : {A E : Type 0} (answered : Descriptor → Answered) (v w : View) (t u : Descriptor) (result : Result A E) (out out' : List ℕ) → u ≡ t → refusal_of u ≡ None → RunsLine (answered u) w result out out' → RunsLine (unless_invalid (refusal_of t) v (answered t)) w result out out'
+fit_runs answered v w t u result out out' is fit runs = rw (← is, fit) runs
 
 -- ---- reads
 
@@ -72,27 +74,22 @@ read_runs v w addr n bytes result out out' is prints kept =
 
 -- ---- copies
 
--- channel 0 in use or not
-pub where_used : (start : List ℕ) (v : View) (t : Descriptor) → is_in_use v ≡ true → copied start v t ≡ one_line (refused_line (codes "ChannelInUse")) v
-where_used start v t used = ap (λ b. if b then one_line (refused_line (codes "ChannelInUse")) v else copied_after start (answer v (SubmitCall 0 t))) used
-
-pub where_free : (start : List ℕ) (v : View) (t : Descriptor) → is_in_use v ≡ false → copied start v t ≡ copied_after start (answer v (SubmitCall 0 t))
-where_free start v t free = ap (λ b. if b then one_line (refused_line (codes "ChannelInUse")) v else copied_after start (answer v (SubmitCall 0 t))) free
-
 -- the submit of a copy was refused
-pub refused_copy_runs : {A E : Type 0} (start : List ℕ) (v w : View) (t : Descriptor) (fault : EngineFault) (result : Result A E) (out out' : List ℕ) → CallAnswers v (SubmitCall 0 t) (Refused fault) w → OnOk result (fault ≢ NoMemory) → OnOk result (out' ≡ out ++ text_of (refused_line (fault_text fault) ∷ [])) → OnErr result (out' ≡ out) → RunsLine (copied_after start (answer v (SubmitCall 0 t))) w result out out'
-refused_copy_runs {A = A} {E = E} start v w t fault (Ok a) out out' is served prints kept =
-    subst (λ (x : Reply × View). RunsLine {A = A} {E = E} (copied_after start x) w (Ok a) out out') (answer_unless_no_memory v w (SubmitCall 0 t) (Refused fault) (refused_served fault served) is)
-    (printed_runs {A = A} {E = E} (one_line (refused_line (fault_text fault)) w) w (Ok a) out out' refl prints tt)
-refused_copy_runs start v w t fault (Err e) out out' is served prints kept = record { ok = tt; err = kept }
+pub refused_copy_runs : {A E : Type 0} (start : List ℕ) (v w : View) (t : Descriptor) (fault : EngineFault) (result : Result A E) (out out' : List ℕ) → is_in_use v ≡ false → CallAnswers v (SubmitCall 0 t) (Refused fault) w → OnOk result (fault ≢ NoMemory) → OnOk result (out' ≡ out ++ text_of (refused_line (fault_text fault) ∷ [])) → OnErr result (out' ≡ out) → RunsLine (copied start v t) w result out out'
+refused_copy_runs {A = A} {E = E} start v w t fault (Ok a) out out' free is served prints kept =
+    rw free
+    (subst (λ (x : Reply × View). RunsLine {A = A} {E = E} (copied_after start x) w (Ok a) out out') (answer_unless_no_memory v w (SubmitCall 0 t) (Refused fault) (refused_served fault served) is)
+    (printed_runs {A = A} {E = E} (one_line (refused_line (fault_text fault)) w) w (Ok a) out out' refl prints tt))
+refused_copy_runs start v w t fault (Err e) out out' free is served prints kept = record { ok = tt; err = kept }
 
 -- a copy was submitted, issued and stepped through
-pub copy_runs : {A E : Type 0} (start : List ℕ) (v u x w : View) (t : Descriptor) (cookie : ℕ) (issued last : Reply) (result : Result A E) (out out' : List ℕ) → (Cookie cookie, u) ≡ answer v (SubmitCall 0 t) → (issued, x) ≡ answer u (IssueCall 0) → (last, w) ≡ stepped_to_end most_copy_steps x → OnOk result (out' ≡ out ++ text_of (last_answer_line start last ∷ [])) → OnErr result (out' ≡ out) → RunsLine (copied_after start (answer v (SubmitCall 0 t))) w result out out'
-copy_runs {A = A} {E = E} start v u x w t cookie issued last result out out' submitted is steps prints kept =
+pub copy_runs : {A E : Type 0} (start : List ℕ) (v u x w : View) (t : Descriptor) (cookie : ℕ) (issued last : Reply) (result : Result A E) (out out' : List ℕ) → is_in_use v ≡ false → (Cookie cookie, u) ≡ answer v (SubmitCall 0 t) → (issued, x) ≡ answer u (IssueCall 0) → (last, w) ≡ stepped_to_end most_copy_steps x → OnOk result (out' ≡ out ++ text_of (last_answer_line start last ∷ [])) → OnErr result (out' ≡ out) → RunsLine (copied start v t) w result out out'
+copy_runs {A = A} {E = E} start v u x w t cookie issued last result out out' free submitted is steps prints kept =
     let through = steps ∙ ap (λ (a : Reply × View). stepped_to_end most_copy_steps a.1) is in
-    subst (λ (a : Reply × View). RunsLine {A = A} {E = E} (copied_after start a) w result out out') submitted
+    rw free
+    (subst (λ (a : Reply × View). RunsLine {A = A} {E = E} (copied_after start a) w result out out') submitted
     (subst (λ (a : Reply × View). RunsLine {A = A} {E = E} (one_line (last_answer_line start a.0) a.1) w result out out') through
-    (printed_runs (one_line (last_answer_line start last) w) w result out out' (on_ok_weaker result (λ _. refl) prints) prints kept))
+    (printed_runs (one_line (last_answer_line start last) w) w result out out' (on_ok_weaker result (λ _. refl) prints) prints kept)))
 
 -- ---- the lines of a script, one after another
 
@@ -104,15 +101,13 @@ length_lines_answered v (line ∷ rest) = ap (λ n. suc n) (length_lines_answere
 abbrev pub AnswersSeen : {S : Type 0} → (S → View) → S → Statement → List (List ℕ) → S → Type 0
 AnswersSeen seen found line group left = line_answer (seen found) line ≡ (group, seen left)
 
--- what lines print that are executed one after another
-answered_in_turn : {S : Type 0} (seen : S → View) (lines : List Statement) (found left : S) (groups : List (List (List ℕ))) → ActsInTurn (AnswersSeen seen) lines found groups left → groups ≡ lines_answered (seen found) lines
-answered_in_turn seen [] found left [] done = refl
+-- what lines print that are executed one after another, and the view after them
+pub answered_in_turn : {S : Type 0} (seen : S → View) (lines : List Statement) (found left : S) (groups : List (List (List ℕ))) → ActsInTurn (AnswersSeen seen) lines found groups left → (groups ≡ lines_answered (seen found) lines) × (seen left ≡ lines_left (seen found) lines)
+answered_in_turn seen [] found left [] done = (refl, ap seen done)
 answered_in_turn seen [] found left (g ∷ groups) done = absurd done
 answered_in_turn seen (line ∷ lines) found left [] done = absurd done
 answered_in_turn seen (line ∷ lines) found left (g ∷ groups) (next, acts, rest) =
-    let more = answered_in_turn seen lines next left groups rest in
-    let a = line_answer (seen found) line in
-    ap (λ (b : Answered). b.0 ∷ groups) (sym acts) ∙ ap (λ l. a.0 ∷ l) (more ∙ ap (λ (b : Answered). lines_answered b.1 lines) (sym acts))
+    let more = answered_in_turn seen lines next left groups rest in rw acts (ap (λ l. g ∷ l) more.0, more.1)
 
 -- the first lines print the same without the others
 answered_first : (v : View) (before behind : List Statement) → take (length before) (lines_answered v (before ++ behind)) ≡ lines_answered v before
@@ -121,7 +116,7 @@ answered_first v (line ∷ before) behind = ap (λ l. (line_answer v line).0 ∷
 
 -- all lines were executed
 pub answered_all : {S : Type 0} (seen : S → View) (found left : S) (lines : List Statement) (old new : List ℕ) → PrintsLines (AnswersSeen seen) found lines left old new → new ≡ old ++ printed_text (lines_answered (seen found) lines)
-answered_all seen found left lines old new done = done.text ∙ ap (λ g. old ++ printed_text g) (answered_in_turn seen lines found left done.groups done.acted)
+answered_all seen found left lines old new done = done.text ∙ ap (λ g. old ++ printed_text g) (answered_in_turn seen lines found left done.groups done.acted).0
 
 -- a line was out of memory
 pub answered_some : {S : Type 0} (seen : S → View) (is_refused : S → Statement → S → Type 0) (found left : S) (lines : List Statement) (old new : List ℕ) → StopsAtALine (AnswersSeen seen) is_refused found lines left old new → AppendsGroups (lines_answered (seen found) lines) old new

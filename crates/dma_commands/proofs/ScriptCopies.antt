@@ -1,7 +1,8 @@
 -- No copy or fill of a script is cut off.
-use Rattle.std.proofs.Common.{◌≡◌, ℕ, ◌+◌, ◌<◌, zero, suc, Bool, true, false, if◌then◌else◌, List, [], ◌∷◌, Option, Some, None, refl, ap, sym, subst, arith}
+use Rattle.std.proofs.Common.{◌≡◌, ℕ, ◌+◌, ◌<◌, zero, suc, true, false, List, [], ◌∷◌, Option, Some, None, refl, ap, sym, subst, arith}
 use Rattle.std.specs.Prelude.{replicate}
 use Rattle.std.specs.List.{All}
+use Rattle.std.proofs.lemmas.Bool.{cond_both}
 use Rattle.std.proofs.lemmas.List.Elements.{All-head, All-tail}
 use Rattle.dma_mem.specs.Places.{Descriptor}
 use Rattle.dma_mem.specs.Refusals.{refusal_of}
@@ -57,13 +58,9 @@ submitted_whole ends v t None sound rules free is =
     let u = (answer w (calls.Issue 0)).1 in
     steps_end_law (steps_before_last most_copy_steps u) u (before_last_on most_copy_steps u) (ends v t cookie w sound rules free took)
 
-used_or_not : (v : View) (cs : List Call) (b : Bool) → is_in_use v ≡ b → (is_in_use v ≡ false → IsWholeCopy (answers v cs).0) → IsWholeCopy (answers v (if b then [] else cs)).0
-used_or_not v cs true is whole = tt
-used_or_not v cs false is whole = whole is
-
 through_whole : CopiesEnd → (v : View) (t : Descriptor) → IsSound v → IsTransfer t → IsWholeCopy (answers v (transfer_calls v t)).0
 through_whole ends v t sound rules =
-    used_or_not v (calls.Submit 0 t ∷ calls_after (answer v (calls.Submit 0 t))) (is_in_use v) refl
+    cond_both {A = List Call} (is_in_use v) [] (calls.Submit 0 t ∷ calls_after (answer v (calls.Submit 0 t))) (λ cs. IsWholeCopy (answers v cs).0) (λ _. tt)
     (λ free. submitted_whole ends v t (submit_fault v 0 t) sound rules free refl)
 
 fit_whole : CopiesEnd → (v : View) (t : Descriptor) (fault : Option TransferFault) → IsSound v → HasOneByte t → refusal_of t ≡ fault → IsWholeCopy (answers v (if_valid fault (transfer_calls v t))).0

@@ -1,15 +1,15 @@
 -- Scripts make calls of the engine and print its replies.
-use Rattle.std.proofs.Common.{◌≡◌, ◌≢◌, ℕ, zero, suc, Bool, true, false, ◌||◌, List, [], ◌∷◌, length, Option, Some, None, refl, ap, sym, subst, ◌∙◌, arith}
-use Rattle.std.specs.Prelude.{nat_lt, is_none, Ok}
-use Rattle.std.proofs.lemmas.Bool.{false≢true}
+use Rattle.std.proofs.Common.{◌≡◌, ◌≢◌, ℕ, zero, suc, false, List, [], ◌∷◌, length, Option, Some, None, refl, ap, sym, subst, ◌∙◌, arith}
+use Rattle.std.specs.Prelude.{is_none, Ok}
+use Rattle.std.proofs.lemmas.Bool.{false≢true, le-ltb}
 use Rattle.dma_mem.specs.declared.call.Call.{Call}
-use Rattle.dma_mem.specs.declared.call.Call.TheVariants.{Write, Read, Submit, Issue, Pause, Resume, Terminate, Step, Status, Result as ResultOf, Mark, Unmark, Raise, Checkpoint}
+use Rattle.dma_mem.specs.declared.call.Call.TheVariants.{Checkpoint}
 use Rattle.dma_engine.specs.declared.call.Reply.{Reply}
 use Rattle.dma_engine.specs.declared.call.Reply.TheVariants.{Done, Refused}
 use Rattle.dma_engine.specs.declared.fault.EngineFault.{EngineFault}
 use Rattle.dma_engine.specs.declared.fault.EngineFault.TheVariants.{NoMemory}
 use Rattle.dma_engine.specs.View.{View}
-use Rattle.dma_engine.specs.Answer.{AreAnswers, CallAnswers, answer, answers, checkpoint_fault, checkpointed, is_started, stores_base, takes_memory, unless}
+use Rattle.dma_engine.specs.Answer.{AreAnswers, CallAnswers, answer, answers, checkpoint_fault, checkpointed, stores_base, takes_memory, unless}
 use Rattle.dma_engine.proofs.JoinedCalls.{answer_is_one, answers_are_answers, answers_unless_no_memory}
 use Rattle.dma_script.specs.Statements.{run_script_of}
 use Rattle.dma_script.specs.declared.statements.RunScript.{RunScript}
@@ -21,35 +21,14 @@ use Rattle.dma_commands.proofs.ScriptsWithin.{can_be_made, script_within}
 
 -- ---- an answer with enough memory isn't out of memory
 
--- a checkpoint that stores a base answers `Done`
-stored_done : (v : View) (fault : Option EngineFault) → is_none fault ≡ true → (unless fault v (Done, checkpointed v)).0 ≡ Done
-stored_done v None is = refl
-stored_done v (Some fault) is = absurd (false≢true is)
+-- a checkpoint that is out of memory stores no base
+no_base_by : (v : View) (fault : Option EngineFault) → (unless fault v (Done, checkpointed v)).0 ≡ Refused NoMemory → is_none fault ≡ false
+no_base_by v None is = absurd cc
+no_base_by v (Some fault) is = refl
 
 no_base : (v : View) (call : Call) → (answer v call).0 ≡ Refused NoMemory → stores_base v call ≡ false
-no_base v Checkpoint is =
-    let by : (b : Bool) → is_none (checkpoint_fault v) ≡ b → b ≡ false = λ b. elim b as (λ b. is_none (checkpoint_fault v) ≡ b → b ≡ false) [
-      | true ↦ λ none. absurd (let bad : Done ≡ Refused NoMemory = sym (stored_done v (checkpoint_fault v) none) ∙ is in cc)
-      | false ↦ λ _. refl
-    ] in
-    by _ refl
-no_base v (Write addr bytes) is = refl
-no_base v (Read addr len) is = refl
-no_base v (Submit ch t) is = refl
-no_base v (Issue ch) is = refl
-no_base v (Pause ch) is = refl
-no_base v (Resume ch) is = refl
-no_base v (Terminate ch) is = refl
-no_base v (Step ch) is = refl
-no_base v (Status ch cookie) is = refl
-no_base v (ResultOf ch cookie) is = refl
-no_base v (Mark kind segment) is = refl
-no_base v Unmark is = refl
-no_base v (Raise event) is = refl
-
--- a number isn't below itself
-not_below_law : (n : ℕ) → nat_lt n n ≡ false
-not_below_law n = grind arith
+no_base v Checkpoint is = no_base_by v (checkpoint_fault v) is
+no_base v call is = refl
 
 answer_served : (v : View) (call : Call) → (answer v call).0 ≢ Refused NoMemory
 answer_served v call is =
@@ -57,9 +36,7 @@ answer_served v call is =
     let starved : CallAnswers v call (Refused NoMemory) w = subst (λ (r : Reply). CallAnswers v call r w) is (answer_is_one v call) in
     let same : w ≡ v = starved.1 in
     let none : takes_memory v call ≡ false =
-    ap (λ b. b || (is_started (answer v call).0 || nat_lt (length v.history) (length w.history))) (no_base v call is)
-    ∙ ap (λ (r : Reply). is_started r || nat_lt (length v.history) (length w.history)) is
-    ∙ ap (λ (u : View). nat_lt (length v.history) (length u.history)) same ∙ not_below_law (length v.history) in
+    rw (no_base v call is, is, same) (le-ltb (length v.history) (length v.history) (omega arith)) in
     false≢true (sym none ∙ starved.0)
 
 -- and so of calls in order

@@ -1,8 +1,9 @@
 -- The transfers that a script submits meet their rules.
-use Rattle.std.proofs.Common.{◌≡◌, ℕ, zero, suc, Bool, true, false, if◌then◌else◌, List, [], ◌∷◌, ◌++◌, Option, Some, None, refl, arith}
+use Rattle.std.proofs.Common.{◌≡◌, ℕ, suc, List, [], ◌∷◌, Option, Some, None, refl}
 use Rattle.std.specs.Prelude.{replicate}
 use Rattle.std.specs.List.{All}
-use Rattle.std.proofs.lemmas.List.Elements.{All-head, All-tail}
+use Rattle.std.proofs.lemmas.Bool.{cond_both}
+use Rattle.std.proofs.lemmas.List.Elements.{All-append, All-cons, All-head, All-nil, All-replicate, All-tail}
 use Rattle.dma_mem.specs.Places.{Descriptor}
 use Rattle.dma_mem.specs.Refusals.{refusal_of}
 use Rattle.dma_mem.specs.Rules.{HasOneByte, IsTransfer}
@@ -27,27 +28,10 @@ use Rattle.dma_commands.specs.Laws.{calls_after, calls_in, calls_of, issue_and_s
 -- ---- lists of which all can be made
 
 none_made_law : All IsCall []
-none_made_law k d less = absurd (omega (arith, less))
-
-one_before : (call : Call) (cs : List Call) → IsCall call → All IsCall cs → All IsCall (call ∷ cs)
-one_before call cs one rest zero d less = one
-one_before call cs one rest (suc k) d less = rest k d (omega (arith, less))
-
-both : (xs ys : List Call) → All IsCall xs → All IsCall ys → All IsCall (xs ++ ys)
-both [] ys first rest = rest
-both (x ∷ xs) ys first rest =
-    one_before x (xs ++ ys) (first zero x (omega arith)) (both xs ys (λ k d less. first (suc k) d (omega (arith, less))) rest)
+none_made_law = All-nil IsCall
 
 alone : (call : Call) → IsCall call → All IsCall (call ∷ [])
-alone call one = one_before call [] one none_made_law
-
-equal_calls : (n : ℕ) (call : Call) → IsCall call → All IsCall (replicate n call)
-equal_calls zero call one = none_made_law
-equal_calls (suc n) call one = one_before call (replicate n call) one (equal_calls n call one)
-
-either : (b : Bool) (xs ys : List Call) → All IsCall xs → All IsCall ys → All IsCall (if b then xs else ys)
-either true xs ys f g = f
-either false xs ys f g = g
+alone call one = All-cons IsCall call [] one none_made_law
 
 -- ---- the transfers of lines
 
@@ -67,11 +51,11 @@ through_made_law : (v : View) (t : Descriptor) → IsTransfer t → All IsCall (
 through_made_law v t rules =
     let s = answer v (calls.Submit 0 t) in
     let w = (answer s.1 (calls.Issue 0)).1 in
-    either (is_in_use v) [] (calls.Submit 0 t ∷ calls_after s) none_made_law
-    (one_before (calls.Submit 0 t) (calls_after s) rules
-    (either (is_refused s.0) [] (issue_and_step_calls s.1) none_made_law
-    (one_before (calls.Issue 0) (replicate (suc (steps_before_last most_copy_steps w)) (calls.Step 0)) tt
-    (equal_calls (suc (steps_before_last most_copy_steps w)) (calls.Step 0) tt))))
+    cond_both {A = List Call} (is_in_use v) [] (calls.Submit 0 t ∷ calls_after s) (All IsCall) (λ _. none_made_law)
+    (λ _. All-cons IsCall (calls.Submit 0 t) (calls_after s) rules
+    (cond_both {A = List Call} (is_refused s.0) [] (issue_and_step_calls s.1) (All IsCall) (λ _. none_made_law)
+    (λ _. All-cons IsCall (calls.Issue 0) (replicate (suc (steps_before_last most_copy_steps w)) (calls.Step 0)) tt
+    (All-replicate IsCall (suc (steps_before_last most_copy_steps w)) (calls.Step 0) tt))))
 
 -- the call of a line that is read
 plain_made : (call : Call) → IsNoSubmit (statements.Call call) → IsCall call
@@ -86,11 +70,11 @@ line_made_law v (statements.Submit ch line) read =
 line_made_law v (statements.Copy line) read =
     let t = transfer_of line in
     fit_made t (refusal_of t) (transfer_calls v t) (line_byte line) refl (through_made_law v t)
-line_made_law v (statements.Step ch count) read = equal_calls count (calls.Step ch) tt
+line_made_law v (statements.Step ch count) read = All-replicate IsCall count (calls.Step ch) tt
 line_made_law v statements.Totals read = none_made_law
 
 -- all calls of a script can be made
 pub calls_made_law : (v : View) (lines : List Statement) → All IsNoSubmit lines → All IsCall (calls_in v lines)
 calls_made_law v [] read = none_made_law
 calls_made_law v (line ∷ rest) read =
-    both (calls_of v line) (calls_in (view_after v line) rest) (line_made_law v line (All-head IsNoSubmit line rest read)) (calls_made_law (view_after v line) rest (All-tail IsNoSubmit line rest read))
+    All-append IsCall (calls_of v line) (calls_in (view_after v line) rest) (line_made_law v line (All-head IsNoSubmit line rest read)) (calls_made_law (view_after v line) rest (All-tail IsNoSubmit line rest read))

@@ -1,28 +1,21 @@
 -- Runs of equal answers, and the lines of the runs before the last.
-use Rattle.std.proofs.Common.{◌≡◌, ◌≢◌, ℕ, ◌+◌, ◌<◌, List, [], ◌∷◌, ◌++◌, map, Bool, true, false, refl, ap, sym, subst, ◌∙◌, zero, suc, add-one, append_assoc, arith, codes, lit<}
-use Rattle.std.specs.Prelude.{Result, decimal, replicate}
+use Rattle.std.proofs.Common.{◌≡◌, ℕ, ◌+◌, ◌<◌, List, [], ◌∷◌, ◌++◌, map, Bool, true, false, refl, ap, sym, ◌∙◌, zero, suc, add-one, append_assoc, arith}
+use Rattle.std.specs.Prelude.{replicate}
 use Rattle.std.specs.Str.{bytes_eq}
 use Rattle.std.proofs.Math.Nat.{zero-lt-suc}
-use Rattle.std.proofs.lemmas.Fmt.{decimal_digit}
 use Rattle.std.proofs.lemmas.List.{append-nil, map-append, replicate-append-replicate}
 use Rattle.std.proofs.lemmas.Slice.Eq.{bytes_eq-Decides}
 use Rattle.dma_script.specs.Command.{text_of}
 use Rattle.dma_mem.specs.declared.call.Call.{Call}
-use Rattle.dma_mem.specs.declared.call.Call.TheVariants.{Step}
 use Rattle.dma_engine.specs.declared.call.Reply.{Reply}
-use Rattle.dma_engine.specs.declared.call.Reply.TheVariants.{Turned, Refused}
-use Rattle.dma_engine.specs.declared.fault.EngineFault.{EngineFault}
-use Rattle.dma_engine.specs.declared.fault.EngineFault.TheVariants.{NoMemory}
 use Rattle.dma_engine.specs.declared.outcome.TransResult.TheVariants.{NoError}
-use Rattle.dma_engine.specs.declared.turn.Turn.{Turn}
 use Rattle.dma_engine.specs.declared.turn.Turn.TheVariants.{Started, Moved, Finished}
 use Rattle.dma_engine.specs.View.{View}
-use Rattle.dma_engine.specs.Answer.{CallAnswers, StepAnswers, answer, answers, reply_of}
+use Rattle.dma_engine.specs.Answer.{answers}
 use Rattle.dma_commands.specs.Printed.{reply_text, turn_text}
 use Rattle.dma_commands.specs.inner.Counting.{text_with, transfer_text}
-use Rattle.dma_commands.specs.inner.RunSteps.{AnswersLine}
-use Rattle.dma_commands.specs.Run.{joined, runs_of, step_answer, step_line, step_lines}
-use Rattle.dma_engine.proofs.JoinedCalls.{answer_unless_no_memory, answers_append_law}
+use Rattle.dma_commands.specs.Run.{joined, runs_of, step_line, step_lines}
+use Rattle.dma_engine.proofs.JoinedCalls.{answers_append_law}
 
 -- ---- runs
 
@@ -110,23 +103,6 @@ more_texts v w step calls m n k rest sum is same =
     ∙ sym (append_assoc (map reply_text a.0) (map reply_text (answers a.1 (replicate n step)).0) rest)
     ∙ ap (λ l. l ++ rest) (sym (map-append reply_text a.0 (answers a.1 (replicate n step)).0) ∙ ap (λ (b : List Reply × View). map reply_text b.0) (sym (steps_more v step m n k sum)))
 
--- ---- one step alone
-
-pub step_prints : (v w : View) (ch : ℕ) (turned : Result Turn EngineFault) (reply : Reply) (out out' : List ℕ) → StepAnswers v ch turned w → (reply ≡ reply_of Turned turned) × (reply ≢ Refused NoMemory) → out' ≡ out ++ text_of (step_line ch (reply_text reply, 1) ∷ []) → AnswersLine (step_answer v ch 1) w out out'
-step_prints v w ch turned reply out out' answers is prints =
-    let answered : (reply, w) ≡ answer v (Step ch) = answer_unless_no_memory v w (Step ch) reply is.1 (subst (λ (r : Reply). CallAnswers v (Step ch) r w) (sym is.0) answers) in
-    subst (λ (x : Reply × View). AnswersLine (step_lines ch (reply_text x.0 ∷ []), x.1) w out out') answered (record { acts = refl; prints = prints })
-
--- the parts of the line of one step, one after another
-pub one_step_parts : (line a b c d : List ℕ) (ch : ℕ) (text : List ℕ) → a ≡ line ++ (codes "step " ++ decimal ch) → b ≡ a ++ codes " " → c ≡ b ++ text → d ≡ c ++ codes " x1" → d ≡ line ++ step_line ch (text, 1)
-one_step_parts line a b c d ch text first blank answer last =
-    let front = codes "step " ++ decimal ch in
-    let one : codes " x1" ≡ codes " x" ++ decimal 1 = sym (ap (λ (l : List ℕ). codes " x" ++ l) (decimal_digit 1 (lit< tt))) in
-    last ∙ ap (λ (l : List ℕ). c ++ l) one
-    ∙ ap (λ (l : List ℕ). l ++ (codes " x" ++ decimal 1)) (answer ∙ ap (λ (l : List ℕ). l ++ text) (blank ∙ ap (λ (l : List ℕ). l ++ codes " ") first ∙ append_assoc line front (codes " ")) ∙ append_assoc line (front ++ codes " ") text)
-    ∙ append_assoc line (front ++ codes " " ++ text) (codes " x" ++ decimal 1)
-    ∙ ap (λ (l : List ℕ). line ++ l) (sym (append_assoc (front ++ codes " " ++ text) (codes " x") (decimal 1)))
-
 -- ---- a transfer that starts, moves and finishes
 
 -- three runs
@@ -139,62 +115,3 @@ three_lines ch a b c (suc n) ab bc some =
 pub transfer_lines : (ch cookie moved finished : ℕ) → 0 < moved → text_of (step_lines ch (turn_text (Started cookie) ∷ (replicate moved (turn_text Moved) ++ turn_text (Finished finished NoError 0) ∷ []))) ≡ transfer_text ch cookie moved finished
 transfer_lines ch cookie moved finished some =
     three_lines ch (turn_text (Started cookie)) (turn_text Moved) (turn_text (Finished finished NoError 0)) moved refl refl some
-
--- ---- texts in parts
-
--- a text in five parts
-in_parts : (a b c d e : List ℕ) → (((a ++ b) ++ c) ++ d) ++ e ≡ a ++ (b ++ (c ++ (d ++ e)))
-in_parts a b c d e =
-    append_assoc ((a ++ b) ++ c) d e ∙ append_assoc (a ++ b) c (d ++ e) ∙ append_assoc a b (c ++ (d ++ e))
-
--- the line of an answer and its count, and a text after it
-row : (ch answer count rest : List ℕ) → (((codes "step " ++ ch ++ codes " " ++ answer) ++ codes " x" ++ count) ++ 10 ∷ []) ++ rest ≡ codes "step " ++ (ch ++ (codes " " ++ (answer ++ (codes " x" ++ (count ++ (10 ∷ rest))))))
-row ch answer count rest =
-    in_parts (codes "step " ++ ch ++ codes " " ++ answer) (codes " x") count (10 ∷ []) rest
-    ∙ in_parts (codes "step ") ch (codes " ") answer (codes " x" ++ (count ++ (10 ∷ rest)))
-
--- the text of a transfer's lines, of the texts of its numbers
-abbrev rows : List ℕ → List ℕ → List ℕ → List ℕ → List ℕ → List ℕ → List ℕ
-rows ch started moved finished none one = text_of (
-    (codes "step " ++ ch ++ codes " " ++ (codes "started " ++ started) ++ codes " x" ++ one)
-    ∷ (codes "step " ++ ch ++ codes " " ++ codes "moved" ++ codes " x" ++ moved)
-    ∷ (codes "step " ++ ch ++ codes " " ++ (codes "finished " ++ finished ++ codes " " ++ (codes "NoError" ++ codes " residue " ++ none)) ++ codes " x" ++ one)
-    ∷ [])
-
--- the same text, as it is printed
-abbrev printed : List ℕ → List ℕ → List ℕ → List ℕ → List ℕ
-printed ch started moved finished =
-    (codes "step " ++ ch ++ codes " started " ++ started)
-    ++ ((codes " x1" ++ 10 ∷ codes "step ") ++ ch ++ codes " moved x" ++ moved)
-    ++ ((10 ∷ codes "step ") ++ ch ++ codes " finished " ++ finished)
-    ++ (codes " NoError residue 0 x1" ++ 10 ∷ [])
-
-printed_rows : (ch started moved finished : List ℕ) → printed ch started moved finished ≡ rows ch started moved finished (codes "0") (codes "1")
-printed_rows ch started moved finished =
-    let end = codes " NoError residue 0 x1" ++ 10 ∷ [] in
-    let second = (codes " x1" ++ 10 ∷ codes "step ") ++ ch ++ codes " moved x" ++ moved in
-    let third = (10 ∷ codes "step ") ++ ch ++ codes " finished " ++ finished in
-    let result = codes "NoError" ++ codes " residue " ++ codes "0" in
-    let third_row = (codes "step " ++ ch ++ codes " " ++ (codes "finished " ++ finished ++ codes " " ++ result) ++ codes " x" ++ codes "1") ++ 10 ∷ [] in
-    let second_row = (codes "step " ++ ch ++ codes " " ++ codes "moved" ++ codes " x" ++ moved) ++ 10 ∷ [] in
-    let left =
-    append_assoc (codes "step " ++ ch ++ codes " started " ++ started ++ second) third end
-    ∙ append_assoc (codes "step " ++ ch ++ codes " started " ++ started) second (third ++ end)
-    ∙ in_parts (codes "step ") ch (codes " started ") started (second ++ (third ++ end))
-    ∙ ap (λ l. codes "step " ++ (ch ++ (codes " started " ++ (started ++ l)))) (in_parts (codes " x1" ++ 10 ∷ codes "step ") ch (codes " moved x") moved (third ++ end))
-    ∙ ap (λ l. codes "step " ++ (ch ++ (codes " started " ++ (started ++ ((codes " x1" ++ 10 ∷ codes "step ") ++ (ch ++ (codes " moved x" ++ (moved ++ l)))))))) (in_parts (10 ∷ codes "step ") ch (codes " finished ") finished end) in
-    let right =
-    row ch (codes "started " ++ started) (codes "1") (second_row ++ (third_row ++ []))
-    ∙ ap (λ l. codes "step " ++ (ch ++ (codes " " ++ l))) (append_assoc (codes "started ") started (codes " x" ++ (codes "1" ++ (10 ∷ (second_row ++ (third_row ++ []))))))
-    ∙ ap (λ l. codes "step " ++ (ch ++ (codes " started " ++ (started ++ (codes " x1" ++ 10 ∷ l))))) (row ch (codes "moved") moved (third_row ++ []))
-    ∙ ap (λ l. codes "step " ++ (ch ++ (codes " started " ++ (started ++ ((codes " x1" ++ 10 ∷ codes "step ") ++ (ch ++ (codes " moved x" ++ (moved ++ (10 ∷ l))))))))) (row ch (codes "finished " ++ finished ++ codes " " ++ result) (codes "1") [])
-    ∙ ap (λ l. codes "step " ++ (ch ++ (codes " started " ++ (started ++ ((codes " x1" ++ 10 ∷ codes "step ") ++ (ch ++ (codes " moved x" ++ (moved ++ (10 ∷ (codes "step " ++ (ch ++ (codes " " ++ l)))))))))))) (in_parts (codes "finished ") finished (codes " ") result (codes " x" ++ (codes "1" ++ (10 ∷ [])))) in
-    left ∙ sym right
-
--- The text of a transfer's lines, as it is printed.
-pub transfer_parts : (ch started moved finished : ℕ) → printed (decimal ch) (decimal started) (decimal moved) (decimal finished) ≡ transfer_text ch started moved finished
-transfer_parts ch started moved finished =
-    let rows_of = rows (decimal ch) (decimal started) (decimal moved) (decimal finished) in
-    printed_rows (decimal ch) (decimal started) (decimal moved) (decimal finished)
-    ∙ ap (λ (l : List ℕ). rows_of l (codes "1")) (sym (decimal_digit 0 (lit< tt)))
-    ∙ ap (λ (l : List ℕ). rows_of (decimal 0) l) (sym (decimal_digit 1 (lit< tt)))

@@ -104,37 +104,31 @@ impl Text for Shown<Turn> {
     fn push(&self, out: &mut Vec<u8>) -> Result<(), AllocError> {
         match self.0 {
             Turn::Nothing => "nothing".push(out),
+            Turn::Held { ch, cookie } => push_apart(&("held ", ch, " ", cookie), out),
+            Turn::Started(cookie) => push_apart(&("started ", cookie), out),
             Turn::Moved => "moved".push(out),
+            Turn::Waiting(event) => push_apart(&("waiting ", event), out),
             Turn::Paused => "paused".push(out),
             Turn::Halted => "halted".push(out),
-            turn => push_turn(turn, out),
+            Turn::Finished {
+                cookie,
+                result,
+                residue,
+            } => {
+                let outcome = Shown(Some(Outcome { result, residue }));
+                push_apart(&("finished ", cookie, " ", outcome), out)
+            }
         }
     }
 }
 
-/// Appends what a step did.
+/// Appends a text. Not inlined, so that the code of its callers stays small.
 #[inline(never)]
-fn push_turn(turn: Turn, out: &mut Vec<u8>) -> Result<(), AllocError>
-    ensures ok { OnOk result (out.new.items ≡ out.old.items ++ turn_text turn) }
+fn push_apart<T: Text>(text: &T, out: &mut Vec<u8>) -> Result<(), AllocError>
+    ensures ok { OnOk result (out.new.items ≡ out.old.items ++ T.text text.now) }
     ensures begins { Begins out.new.items out.old.items }
 {
-    match turn {
-        Turn::Nothing => "nothing".push(out),
-        Turn::Held { ch, cookie } => ("held ", ch, " ", cookie).push(out),
-        Turn::Started(cookie) => ("started ", cookie).push(out),
-        Turn::Moved => "moved".push(out),
-        Turn::Waiting(event) => ("waiting ", event).push(out),
-        Turn::Paused => "paused".push(out),
-        Turn::Halted => "halted".push(out),
-        Turn::Finished {
-            cookie,
-            result,
-            residue,
-        } => {
-            let outcome = Shown(Some(Outcome { result, residue }));
-            ("finished ", cookie, " ", outcome).push(out)
-        }
-    }
+    text.push(out)
 }
 
 // The result of a step, or its refusal.

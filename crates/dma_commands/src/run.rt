@@ -83,8 +83,8 @@ impl Interpreter for LinesOnEngine {
     }
 }
 
-/// Executes the lines of a script on an engine, drops each one afterwards, and then the engine. Returns the exit status.
-/// If memory runs out, the output keeps what the lines before printed.
+/// Executes the lines of a script on an engine, drops each one afterwards, and then the engine. Returns the exit
+/// status. If memory runs out, the output keeps what the lines before printed.
 pub fn run_statements(
     alloc: Global,
     engine: Engine,
@@ -96,7 +96,9 @@ pub fn run_statements(
 {
     let steps = StepLines::new(alloc);
     let mut lines = LinesOnEngine { engine, steps };
-    statements.run(&mut lines, out)?;
+    let ran = statements.run(&mut lines, out);
+    drop(lines);
+    ran?;
     Ok(SUCCESS)
 }
 

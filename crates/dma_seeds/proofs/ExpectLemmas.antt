@@ -18,34 +18,33 @@ use Rattle.dma_seeds.specs.inner.Counted.{failing_in}
 use Rattle.dma_seeds.specs.declared.seeds.SeedRange.{SeedRange}
 use Rattle.dma_seeds.specs.declared.seeds.SeedsVerdict.{SeedsVerdict}
 use Rattle.dma_seeds.specs.declared.expect.Verdict.{Verdict}
-use Rattle.dma_seeds.specs.declared.expect.Verdict.TheVariants.{Holds, Misses, Refused}
+use Rattle.dma_seeds.specs.declared.expect.Verdict.TheVariants.{Holds, Refused}
 use Rattle.dma_seeds.proofs.ReadLemmas.{option_cases}
 
 -- ---- several seeds
 
+-- after good verdicts the next one counts
 pub goes_on : (first next : Verdict) → is_good first ≡ true → unless_holds first next ≡ next
 goes_on Holds next good = refl
-goes_on Refused next good = absurd (false≢true good)
-goes_on (Misses missed) next good = absurd (false≢true good)
+goes_on first next good = absurd (false≢true good)
 
+-- a verdict that isn't good stays
 pub stops : (first next : Verdict) → is_good first ≡ false → unless_holds first next ≡ first
 stops Holds next bad = absurd (true≢false bad)
-stops Refused next bad = refl
-stops (Misses missed) next bad = refl
+stops first next bad = refl
 
+-- a good verdict changes nothing
 pub good_last : (first next : Verdict) → is_good next ≡ true → unless_holds first next ≡ first
 good_last Holds Holds good = refl
-good_last Refused next good = refl
-good_last (Misses missed) next good = refl
-good_last Holds Refused good = absurd (false≢true good)
-good_last Holds (Misses missed) good = absurd (false≢true good)
+good_last Holds next good = absurd (false≢true good)
+good_last first next good = refl
 
--- the first of three
+-- the first of three verdicts that isn't good, by the first two or by the last two
 in_turn : (a b c : Verdict) → unless_holds (unless_holds a b) c ≡ unless_holds a (unless_holds b c)
 in_turn Holds b c = refl
-in_turn Refused b c = refl
-in_turn (Misses missed) b c = refl
+in_turn a b c = refl
 
+-- the verdicts from a seed on are its own and those after it
 pub one_seed : (each : ℕ → Verdict) (seed end : ℕ) → seed < end → first_verdict each seed (end - seed) ≡ unless_holds (each seed) (first_verdict each (seed + 1) (end - (seed + 1)))
 one_seed each seed end less =
     let more : end - seed ≡ suc (end - (seed + 1)) = omega arith in ap (λ n. first_verdict each seed n) more
@@ -57,16 +56,16 @@ one_failing each seed end less =
 
 at_most_one : (v : Verdict) → failing_in v ≤ 1
 at_most_one Holds = omega arith
-at_most_one Refused = omega arith
-at_most_one (Misses missed) = omega arith
+at_most_one v = omega arith
 
--- The verdicts for the seeds up to `seed` are counted: with those of the others up to `end` they are the verdicts from
--- `first` on.
+-- The verdicts for the seeds before `seed` are counted in `found`. Together with those for the seeds from `seed` to the
+-- one before `end` they are the verdicts for all seeds from `first` on.
 pub record CountedSome (each : ℕ → Verdict) (first end seed : ℕ) (found : SeedsVerdict) : Type 0 where
   pub first_is : unless_holds found.first (first_verdict each seed (end - seed)) ≡ first_verdict each first (end - first)
   pub failing_is : found.failing + failing each seed (end - seed) ≡ failing each first (end - first)
   pub few : found.failing ≤ seed
 
+-- no seed is counted yet
 pub counted_none : (each : ℕ → Verdict) (first end seed : ℕ) → seed ≡ first → CountedSome each first end seed (record { first = Holds; failing = 0 })
 counted_none each first end seed same = record {
   first_is = ap (λ s. first_verdict each s (end - s)) same;
@@ -74,6 +73,7 @@ counted_none each first end seed same = record {
   few = omega arith;
 }
 
+-- one more seed is counted
 pub counted_more : (each : ℕ → Verdict) (first end seed : ℕ) (found after : SeedsVerdict) (v : Verdict) → seed < end → CountedSome each first end seed found → v ≡ each seed → after.first ≡ unless_holds found.first v → after.failing ≡ found.failing + failing_in v → CountedSome each first end (seed + 1) after
 counted_more each first end seed found after v less some is firsts fails =
     let rest = first_verdict each (seed + 1) (end - (seed + 1)) in
@@ -85,6 +85,7 @@ counted_more each first end seed found after v less some is firsts fails =
       few = omega (arith, fails, at_most_one v, some.few);
     }
 
+-- all seeds are counted
 pub counted_all : (each : ℕ → Verdict) (first end seed : ℕ) (found : SeedsVerdict) → end ≤ seed → CountedSome each first end seed found → found ≡ verdicts each first (end - first)
 counted_all each first end seed found done some =
     let none : end - seed ≡ 0 = omega arith in
@@ -95,6 +96,7 @@ counted_all each first end seed found done some =
     ap (λ (v : Verdict). let s : SeedsVerdict = record { first = v; failing = found.failing } in s) firsts
     ∙ ap (λ (n : ℕ). let s : SeedsVerdict = record { first = first_verdict each first (end - first); failing = n } in s) fails
 
+-- if the expect lines hold for each seed, they fail for none
 all_hold : (each : ℕ → Verdict) → ((seed : ℕ) → each seed ≡ Holds) → (first n : ℕ) → first_verdict each first n ≡ Holds
 all_hold each holds first zero = refl
 all_hold each holds first (suc n) = rw (holds first) (all_hold each holds (first + 1) n)
@@ -104,7 +106,7 @@ none_failing each holds first zero = refl
 none_failing each holds first (suc n) =
     omega (arith, sum_by-cons (λ s. failing_in (each s)) first (range_with_len (first + 1) n), ap failing_in (holds first), none_failing each holds (first + 1) n)
 
--- for how many seeds an expect line fails, as it is printed
+-- the line that says for how many seeds an expect line fails
 pub failing_printed : (n many : ℕ) (seeds : SeedRange) (old new : List ℕ) → (n ≡ 0 → ⊥) → many ≡ seeds.last + 1 - seeds.first → new ≡ old ++ text_of ((codes "  expect lines fail for " ++ decimal n ++ codes " of " ++ number_of_things many (codes "seed")) ∷ []) → new ≡ old ++ failing_text n seeds
 failing_printed n many seeds old new some same printed =
     let text : ℕ → List ℕ = λ m. text_of ((codes "  expect lines fail for " ++ decimal n ++ codes " of " ++ number_of_things m (codes "seed")) ∷ []) in
@@ -113,6 +115,7 @@ failing_printed n many seeds old new some same printed =
 
 -- ---- no expect lines
 
+-- a script without expect lines holds
 none_fails : (seed n : ℕ) (unread : Unread) (ls : List (List ℕ)) → list_any (λ line. is_some (expected_in (words_of line))) ls ≡ false → verdict_on (after_lines seed n unread ls) ≡ Holds
 none_fails seed n unread [] none = refl
 none_fails seed n unread (line ∷ rest) none = elim (option_cases (expected_in (words_of line))) [
@@ -138,7 +141,7 @@ pub seeds_good : (r : Result RaceScript Fault) (input : List ℕ) (seeds : SeedR
 seeds_good (Ok script) input seeds ok = refl
 seeds_good (Err fault) input seeds ok = absurd (false≢true ok)
 
--- and one with a fault
+-- a script with a fault
 pub seeds_bad : (r : Result RaceScript Fault) (input : List ℕ) (seeds : SeedRange) → is_ok r ≡ false → seeds_verdict_of r input seeds ≡ record { first = Refused; failing = 0 }
 seeds_bad (Ok script) input seeds bad = absurd (true≢false bad)
 seeds_bad (Err fault) input seeds bad = refl

@@ -12,14 +12,13 @@ use Rattle.dma_engine.specs.Answer.{answer, answers}
 use Rattle.dma_engine.specs.View.{View}
 use Rattle.dma_script.specs.Command.{printed_text, text_of}
 use Rattle.dma_script.specs.Interpreted.{ActsInTurn, PrintsLines}
-use Rattle.dma_script.specs.declared.race.JobLine.{JobLine}
 use Rattle.dma_script.specs.declared.race.RaceScript.{RaceScript}
 use Rattle.dma_script.specs.declared.statements.Statement.{Statement}
 use Rattle.dma_script.proofs.InterpretedLemmas.{printed_text_append}
 use Rattle.dma_commands.specs.Left.{lines_left}
-use Rattle.dma_commands.specs.Run.{Answered, line_answer, lines_answered}
+use Rattle.dma_commands.specs.Run.{line_answer, lines_answered}
 use Rattle.dma_seeds.specs.declared.turns.RaceTurn.{RaceTurn}
-use Rattle.dma_seeds.specs.Race.{before_go, finishes_in, from_go, go_line, go_text, raced, start_of, step_calls, steps_in}
+use Rattle.dma_seeds.specs.Race.{before_go, finishes_in, from_go, go_line, raced, start_of, step_calls, steps_in}
 use Rattle.dma_seeds.specs.Seeds.{text_from_go}
 use Rattle.dma_seeds.specs.Turns.{turns_of_seed}
 use Rattle.dma_seeds.specs.inner.Measured.{Prints, lengths_of, pieces}
@@ -45,10 +44,9 @@ measured_in_turn seen lengths [] found left (g ∷ groups) done = absurd done
 measured_in_turn seen lengths (line ∷ lines) found left [] done = absurd done
 measured_in_turn seen lengths (line ∷ lines) found left (g ∷ groups) (next, (acts, longer), rest) =
     let more = measured_in_turn seen lengths lines next left groups rest in
-    let a = line_answer (seen found) line in
     record {
-      groups_are = ap (λ (b : Answered). b.0 ∷ groups) (sym acts) ∙ ap (λ l. a.0 ∷ l) (more.groups_are ∙ ap (λ (b : Answered). lines_answered b.1 lines) (sym acts));
-      left = more.left ∙ ap (λ (b : Answered). lines_left b.1 lines) (sym acts);
+      groups_are = rw acts (ap (λ l. g ∷ l) more.groups_are);
+      left = rw acts more.left;
       lengths_are = more.lengths_are ∙ ap (λ l. l ++ lengths_of groups) longer ∙ append_assoc (lengths found) (length (text_of g) ∷ []) (lengths_of groups);
     }
 
@@ -145,18 +143,14 @@ pub lengths_fit : (groups : List (List (List ℕ))) (text lengths : List ℕ) �
 lengths_fit groups text lengths p = omega (arith, ap sum p.measured, ap length p.appended, lengths_add groups)
 
 -- what is printed from `go` on, in the words of the script
-started_from : (script : RaceScript) (seed : ℕ) (v : View) (jobs : List JobLine) (after : List Statement) → IsStarted script v jobs after → from_go v (turns_of_seed jobs seed) after ≡ from_go (lines_left (start_of script) script.before.statements) (turns_of_seed script.jobs seed) script.after
-started_from script seed v jobs after started =
-    let found = lines_left (start_of script) script.before.statements in
-    ap (λ (x : View). from_go x (turns_of_seed jobs seed) after) started.view
-    ∙ ap (λ (x : List JobLine). from_go found (turns_of_seed x seed) after) started.jobs_are
-    ∙ ap (λ (x : List Statement). from_go found (turns_of_seed script.jobs seed) x) started.after_is
+started_from : (script : RaceScript) (seed : ℕ) (v : View) (turns : List RaceTurn) (after : List Statement) → IsStarted script seed v turns after → from_go v turns after ≡ from_go (lines_left (start_of script) script.before.statements) (turns_of_seed script.jobs seed) script.after
+started_from script seed v turns after started = rw (started.view, started.turns_are, started.after_is) refl
 
 -- a race prints what its lines before `go` print, and then the rest
-pub raced_in_parts : (script : RaceScript) (seed : ℕ) (v : View) (jobs : List JobLine) (after : List Statement) (a b c l m n : List ℕ) → IsStarted script v jobs after → Prints (before_go script) a b l m → Prints (from_go v (turns_of_seed jobs seed) after) b c m n → Prints (raced script (turns_of_seed script.jobs seed)).groups a c l n
-raced_in_parts script seed v jobs after a b c l m n started first last =
-    subst (λ (g : List (List (List ℕ))). Prints (before_go script ++ g) a c l n) (started_from script seed v jobs after started)
-    (prints_both (before_go script) (from_go v (turns_of_seed jobs seed) after) a b c l m n first last)
+pub raced_in_parts : (script : RaceScript) (seed : ℕ) (v : View) (turns : List RaceTurn) (after : List Statement) (a b c l m n : List ℕ) → IsStarted script seed v turns after → Prints (before_go script) a b l m → Prints (from_go v turns after) b c m n → Prints (raced script (turns_of_seed script.jobs seed)).groups a c l n
+raced_in_parts script seed v turns after a b c l m n started first last =
+    subst (λ (g : List (List (List ℕ))). Prints (before_go script ++ g) a c l n) (started_from script seed v turns after started)
+    (prints_both (before_go script) (from_go v turns after) a b c l m n first last)
 
 -- the memory line prints nothing
 pub started_prints : (script : RaceScript) (v : View) (a c l m n : List ℕ) → v ≡ start_of script → m ≡ l ++ 0 ∷ [] → Prints (lines_answered v script.before.statements) a c m n → Prints (before_go script) a c l n
@@ -168,22 +162,12 @@ started_prints script v a c l m n view first rest =
           ∙ append_assoc l (0 ∷ []) (lengths_of (lines_answered v script.before.statements));
     })
 
--- the line of `go`, if the counts are those of the turns
-pub go_printed : (v : View) (turns taken : List RaceTurn) (steps finished : ℕ) (a b l m : List ℕ) → taken ≡ turns → steps ≡ sum_by steps_in (answers v (step_calls taken)).0 → finished ≡ sum_by finishes_in (answers v (step_calls taken)).0 → Prints ((go_text steps finished ∷ []) ∷ []) a b l m → Prints ((go_line (answers v (step_calls turns)).0 ∷ []) ∷ []) a b l m
-go_printed v turns taken steps finished a b l m all some ends printed =
-    let stepped = subst (λ (x : ℕ). Prints ((go_text x finished ∷ []) ∷ []) a b l m) some printed in
-    let ended = subst (λ (x : ℕ). Prints ((go_text (sum_by steps_in (answers v (step_calls taken)).0) x ∷ []) ∷ []) a b l m) ends stepped in
-    subst (λ (x : List RaceTurn). Prints ((go_line (answers v (step_calls x)).0 ∷ []) ∷ []) a b l m) all ended
-
 -- the line of `go`, and then the lines after it
-pub go_and_after : (v w : View) (turns : List RaceTurn) (after rest : List Statement) (a b c l m n : List ℕ) → w ≡ (answers v (step_calls turns)).1 → rest ≡ after → Prints ((go_line (answers v (step_calls turns)).0 ∷ []) ∷ []) a b l m → Prints (lines_answered w rest) b c m n → Prints (from_go v turns after) a c l n
-go_and_after v w turns after rest a b c l m n left same first last =
-    let viewed = subst (λ (x : View). Prints (lines_answered x rest) b c m n) left last in
-    let lines = subst (λ (x : List Statement). Prints (lines_answered (answers v (step_calls turns)).1 x) b c m n) same viewed in
-    prints_both ((go_line (answers v (step_calls turns)).0 ∷ []) ∷ []) (lines_answered (answers v (step_calls turns)).1 after) a b c l m n first lines
+pub go_and_after : (v w : View) (turns : List RaceTurn) (after : List Statement) (a b c l m n : List ℕ) → w ≡ (answers v (step_calls turns)).1 → Prints ((go_line (answers v (step_calls turns)).0 ∷ []) ∷ []) a b l m → Prints (lines_answered w after) b c m n → Prints (from_go v turns after) a c l n
+go_and_after v w turns after a b c l m n left first last =
+    prints_both _ _ a b c l m n first (subst (λ (x : View). Prints (lines_answered x after) b c m n) left last)
 
 -- what is printed from `go` on
-pub from_started : (script : RaceScript) (seed : ℕ) (v : View) (jobs : List JobLine) (after : List Statement) (a c l n : List ℕ) → IsStarted script v jobs after → a ≡ [] → Prints (from_go v (turns_of_seed jobs seed) after) a c l n → c ≡ text_from_go (Ok script) seed
-from_started script seed v jobs after a c l n started none p =
-    p.appended ∙ ap (λ t. t ++ printed_text (from_go v (turns_of_seed jobs seed) after)) none
-    ∙ ap printed_text (started_from script seed v jobs after started)
+pub from_started : (script : RaceScript) (seed : ℕ) (v : View) (turns : List RaceTurn) (after : List Statement) (a c l n : List ℕ) → IsStarted script seed v turns after → a ≡ [] → Prints (from_go v turns after) a c l n → c ≡ text_from_go (Ok script) seed
+from_started script seed v turns after a c l n started none p =
+    p.appended ∙ ap (λ t. t ++ printed_text (from_go v turns after)) none ∙ ap printed_text (started_from script seed v turns after started)

@@ -1,8 +1,8 @@
 -- The turns that are drawn for a seed.
 use Rattle.std.proofs.Common.{◌≡◌, ℕ, zero, suc, ◌+◌, ◌-◌, ◌%◌, ◌<◌, ◌≤◌, List, [], ◌∷◌, length, refl, ap, sym, ◌∙◌, subst, arith, inl, inr, map}
-use Rattle.std.specs.Prelude.{if◌then◌else◌, slice_index_or, slice_set}
+use Rattle.std.specs.Prelude.{if◌then◌else◌, nat_lt, slice_index_or, slice_set}
 use Rattle.std.specs.List.{All}
-use Rattle.std.proofs.lemmas.Bool.{cases_eq, cases_lt, eq-eqb, lt-ltb, le-ltb, ne_eqb}
+use Rattle.std.proofs.lemmas.Bool.{cases_eq, cases_lt, cond_both, eq-eqb, lt-ltb, le-ltb, ltb-true, ne_eqb}
 use Rattle.std.proofs.lemmas.List.{get_or-map, get_or-set_other, get_or-set_same, get_or_past, length-map, set_past}
 use Rattle.std.proofs.lemmas.List.Sums.{get_or-le-sum_by, sum_by-cons, sum_by-set}
 use Rattle.dma_script.specs.Race.{IsJob}
@@ -14,16 +14,6 @@ use Rattle.dma_seeds.specs.Turns.{after_turn, drawn, Interleaves, all_turns, cha
 
 -- ---- the job of a turn
 
--- the first job has the turn, or one of the others
-pub job_at_here : (job : TurnsLeft) (jobs : List TurnsLeft) (place : ℕ) → place < job.left → job_at (job ∷ jobs) place ≡ 0
-job_at_here job jobs place less = ap (λ b. if b then 0 else suc (job_at jobs (place - job.left))) (lt-ltb place job.left less)
-
-pub job_at_behind : (job : TurnsLeft) (jobs : List TurnsLeft) (place : ℕ) → job.left ≤ place → job_at (job ∷ jobs) place ≡ suc (job_at jobs (place - job.left))
-job_at_behind job jobs place le = ap (λ b. if b then 0 else suc (job_at jobs (place - job.left))) (le-ltb place job.left le)
-
-pub total_cons : (job : TurnsLeft) (jobs : List TurnsLeft) → total_left (job ∷ jobs) ≡ job.left + total_left jobs
-total_cons job jobs = sum_by-cons (λ (j : TurnsLeft). j.left) job jobs
-
 -- the job of a turn that is left exists, and has a turn left
 pub record HasTurn (jobs : List TurnsLeft) (k : ℕ) : Type 0 where
   pub there : k < length jobs
@@ -32,10 +22,10 @@ pub record HasTurn (jobs : List TurnsLeft) (k : ℕ) : Type 0 where
 pub job_at_has : (jobs : List TurnsLeft) (place : ℕ) → place < total_left jobs → HasTurn jobs (job_at jobs place)
 job_at_has [] place less = absurd (omega (arith, less))
 job_at_has (job ∷ jobs) place less = elim (cases_lt place job.left) [
-  | inl here ↦ rw (job_at_here job jobs place here) (record { there = omega arith; some = omega (arith, here) })
+  | inl here ↦ rw (lt-ltb place job.left here) (record { there = omega arith; some = omega (arith, here) })
   | inr behind ↦
-      let rest = job_at_has jobs (place - job.left) (omega (arith, less, behind, total_cons job jobs)) in
-      rw (job_at_behind job jobs place behind) (record { there = omega (arith, rest.there); some = rest.some })
+      let rest = job_at_has jobs (place - job.left) (omega (arith, less, behind, sum_by-cons (λ (j : TurnsLeft). j.left) job jobs)) in
+      rw (le-ltb place job.left behind) (record { there = omega (arith, rest.there); some = rest.some })
 ]
 
 -- ---- one turn
@@ -142,10 +132,8 @@ AreLow [] = Unit {0}
 AreLow (t ∷ turns) = (t.channel ≤ 7) × AreLow turns
 
 following_low : (first last ch : ℕ) → first ≤ 7 → last ≤ 7 → following first last ch ≤ 7
-following_low first last ch f l = elim (cases_lt ch last) [
-  | inl less ↦ rw (lt-ltb ch last less) (omega arith)
-  | inr le ↦ rw (le-ltb ch last le) f
-]
+following_low first last ch f l =
+    cond_both {A = ℕ} (nat_lt ch last) (ch + 1) first (λ n. n ≤ 7) (λ e. omega (arith, ltb-true ch last e, l)) (λ _. f)
 
 after_low : (t : TurnsLeft) → IsLow t → IsLow (after_turn t)
 after_low t low = (low.0, low.1, following_low t.first t.last t.next low.0 low.1)

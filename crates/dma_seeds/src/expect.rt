@@ -83,9 +83,10 @@ impl Verdict {
         matches!(self, Verdict::Holds)
     }
 
-    /// Appends the line of an `expect` line that fails, or nothing. Fails if memory runs out.
+    /// Appends the line of an `expect` line that fails, or nothing. If memory runs out, appends nothing.
     pub fn print(&self, out: &mut Vec<u8>) -> Result<(), AllocError>
-        ensures { OnOk result (out.new.items ≡ out.old.items ++ verdict_text self.now) }
+        ensures ok { OnOk result (out.new.items ≡ out.old.items ++ verdict_text self.now) }
+        ensures err { OnErr result (out.new.items ≡ out.old.items) }
     {
         match self {
             Verdict::Misses(missed) => print_line(out, missed),

@@ -2,6 +2,7 @@
 #![tactic(auto, using(dma_text::proofs::Begun::begins_same, dma_text::proofs::Begun::begins_appended, dma_text::proofs::Begun::begins_more))]
 
 ghost use Rattle.std.specs.Prelude.{◌≡◌, ◌++◌, IfOk, OnOk, map};
+ghost use Rattle.dma_text.specs.Text.{Begins};
 ghost use Rattle.dma_script.specs.Printing.{cause_name};
 ghost use Rattle.dma_seeds.specs.Faults.{fault_text, line_at, missing_message, race_message, run_message, shown_byte, shown_line};
 
@@ -29,7 +30,8 @@ fn shown_byte(byte: u8) -> u8
 
 /// Appends the bytes that are shown for bytes of a line. Fails if memory runs out.
 fn push_shown(bytes: &[u8], out: &mut Vec<u8>) -> Result<(), AllocError>
-    ensures { OnOk result (out.new.items ≡ out.old.items ++ map shown_byte bytes.now) }
+    ensures ok { OnOk result (out.new.items ≡ out.old.items ++ map shown_byte bytes.now) }
+    ensures begins { Begins out.new.items out.old.items }
 {
     for byte in bytes {
         out.push(shown_byte(*byte))?;
@@ -39,7 +41,8 @@ fn push_shown(bytes: &[u8], out: &mut Vec<u8>) -> Result<(), AllocError>
 
 /// Appends a line and the quote behind it, or the first bytes of a long line. Fails if memory runs out.
 fn push_line(line: &[u8], out: &mut Vec<u8>) -> Result<(), AllocError>
-    ensures { OnOk result (out.new.items ≡ out.old.items ++ shown_line line.now) }
+    ensures ok { OnOk result (out.new.items ≡ out.old.items ++ shown_line line.now) }
+    ensures begins { Begins out.new.items out.old.items }
 {
     if line.len() > MOST_SHOWN {
         push_shown(&line[..MOST_SHOWN], out)?;
@@ -97,7 +100,8 @@ fn missing_message(cause: Cause) -> &'static str
 
 /// Appends the message for a fault of a script. Fails if memory runs out.
 fn push_fault(script: &[u8], fault: Fault, out: &mut Vec<u8>) -> Result<(), AllocError>
-    ensures { OnOk result (out.new.items ≡ out.old.items ++ fault_text script.now fault) }
+    ensures ok { OnOk result (out.new.items ≡ out.old.items ++ fault_text script.now fault) }
+    ensures begins { Begins out.new.items out.old.items }
 {
     let name = name_of(fault.cause);
     if fault.line == 0 {
@@ -108,9 +112,10 @@ fn push_fault(script: &[u8], fault: Fault, out: &mut Vec<u8>) -> Result<(), Allo
 }
 
 /// Appends the message for the first fault of a race script, which may have `expect` lines, or nothing if it has no
-/// fault. Fails if memory runs out.
+/// fault. Fails if memory runs out, and may have appended a part of the message then.
 pub fn push_race_message(alloc: Global, script: &[u8], out: &mut Vec<u8>) -> Result<(), AllocError>
-    ensures { OnOk result (out.new.items ≡ out.old.items ++ race_message script.now) }
+    ensures ok { OnOk result (out.new.items ≡ out.old.items ++ race_message script.now) }
+    ensures begins { Begins out.new.items out.old.items }
 {
     let kept = without_expects(alloc, script)?;
     match read_race_script(alloc, &kept) {
@@ -121,9 +126,10 @@ pub fn push_race_message(alloc: Global, script: &[u8], out: &mut Vec<u8>) -> Res
 }
 
 /// Appends the message for the first fault of a script of `run`, or nothing if it has no fault. Fails if memory runs
-/// out.
+/// out, and may have appended a part of the message then.
 pub fn push_run_message(alloc: Global, script: &[u8], out: &mut Vec<u8>) -> Result<(), AllocError>
-    ensures { OnOk result (out.new.items ≡ out.old.items ++ run_message script.now) }
+    ensures ok { OnOk result (out.new.items ≡ out.old.items ++ run_message script.now) }
+    ensures begins { Begins out.new.items out.old.items }
 {
     match read_run_script(alloc, script) {
         Ok(_) => Ok(()),

@@ -3,8 +3,8 @@
 //! Proved: the turns for a seed are an interleaving of the jobs' turns (`laws::seeds_interleave`). What is printed is a
 //! function of script and seed (`race_by_seed`): that of `run` with those turns as `step` lines in place of `go`, but
 //! with the line of `go` in place of the lines of the steps (`laws::races_are_runs`), and so one of the texts that
-//! `dmasim race` may print. `script_of_seed` writes that script of `run`. `race_by_seeds` prints which outputs the seeds
-//! of a range give (`seeds_printed`). This is so for a script without its `expect` lines; whether these hold is a
+//! `dmasim race` may print. `script_of_seed` writes that script of `run`. `race_by_seeds` prints which outputs the
+//! seeds of a range give (`seeds_printed`). This is so for a script without its `expect` lines; whether these hold is a
 //! function of script and seed, too (`verdict`), and of script and range (`seeds_verdict`). The message for the first
 //! fault of a script is a function of the script (`race_message`, `run_message`).
 //!

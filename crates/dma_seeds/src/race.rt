@@ -1,6 +1,6 @@
 //! A race whose turns are taken in the order that a seed determines.
 
-ghost use Rattle.std.specs.Prelude.{◌≡◌, ◌+◌, ◌<◌, ◌≤◌, ◌++◌, ◌∷◌, [], IfOk, OnErr, OnOk, length};
+ghost use Rattle.std.specs.Prelude.{◌≡◌, ◌+◌, ◌<◌, ◌++◌, ◌∷◌, [], IfOk, OnErr, OnOk};
 ghost use Rattle.std.specs.List.{sum_by};
 ghost use Rattle.std.specs.Str.Lines.{lines};
 ghost use Rattle.dma_engine.specs.Answer.{answer, answers, reply_of};
@@ -12,7 +12,7 @@ ghost use Rattle.dma_commands.specs.Left.{lines_left};
 ghost use Rattle.dma_commands.specs.Run.{line_answer, lines_answered};
 ghost use Rattle.dma_seeds.specs.Expect.{lines_verdict, verdict, without_expects};
 ghost use Rattle.dma_seeds.specs.Turns.{turns_of_seed};
-ghost use Rattle.dma_seeds.specs.Race.{before_go, finishes_in, from_go, go_line, go_text, race_printed, raced, step_calls, steps_in};
+ghost use Rattle.dma_seeds.specs.Race.{before_go, finishes_in, from_go, go_line, go_text, race_printed, raced, start_of, step_calls, steps_in};
 ghost use Rattle.dma_seeds.specs.inner.Measured.{Prints};
 ghost use Rattle.dma_seeds.specs.inner.Started.{IsStarted};
 
@@ -23,7 +23,7 @@ use dma_engine::{Call, Engine, EngineFault, Reply, Turn};
 use dma_script::fault::ScriptError;
 use dma_script::interpreter::Interpreter;
 use dma_script::printing::print_line;
-use dma_script::race::{Jobs, RaceScript, read_race_script};
+use dma_script::race::{RaceScript, read_race_script};
 use dma_script::statements::{RunScript, Statement, Statements};
 use std::alloc::{AllocError, Global};
 
@@ -147,39 +147,63 @@ fn take_turns(engine: &mut Engine, turns: Turns) -> Result<Totals, AllocError>
     Ok(totals)
 }
 
-/// A race whose lines before `go` were executed.
+/// A race whose lines before `go` were executed, with the turns of its jobs.
 #[derive(Drop)]
 pub(crate) struct StartedRace {
     measured: MeasuredEngine,
-    jobs: Jobs,
+    turns: Turns,
     after: Statements,
 }
 
-/// Executes the lines of a race script before `go`, and appends what they print. Fails if memory runs out.
+/// Returns a new engine for a race script, and the turns of its jobs in the order that a seed determines. Fails if
+/// memory runs out.
+fn opened(
+    alloc: Global,
+    script: &RaceScript,
+    seed: u64,
+) -> Result<(MeasuredEngine, Turns), AllocError>
+    requires { IsRace script.now }
+    ensures view { IfOk result (λ opened. opened.0.engine.view ≡ start_of script.now) }
+    ensures lengths { IfOk result (λ opened. opened.0.lengths.items ≡ 0 ∷ []) }
+    ensures turns { IfOk result (λ opened. opened.1 ≡ turns_of_seed script.now.jobs seed) }
+{
+    let turns = Turns::of_seed(alloc, script.jobs.as_slice(), seed)?;
+    let measured = MeasuredEngine::new(alloc, &script.before)?;
+    Ok((measured, turns))
+}
+
+/// Executes the lines of a race script before `go`, and appends what they print. The turns will be taken in the order
+/// that a seed determines. Fails if memory runs out.
 pub(crate) fn start(
     alloc: Global,
     script: RaceScript,
+    seed: u64,
     out: &mut Vec<u8>,
 ) -> Result<StartedRace, AllocError>
     requires { IsRace script }
     ensures race { IfOk result
-        (λ race. IsStarted script race.measured.engine.view race.jobs race.after) }
+        (λ race. IsStarted script seed race.measured.engine.view race.turns race.after) }
     ensures text { IfOk result (λ race. Prints (before_go script)
         out.old.items out.new.items [] race.measured.lengths.items) }
 {
-    let measured = MeasuredEngine::new(alloc, &script.before)?;
+    let (measured, turns) = opened(alloc, &script, seed)?;
     let RaceScript {
         before,
-        jobs,
+        jobs: _,
         after,
     } = script;
-    let mut started = StartedRace {
+    let mut race = StartedRace {
         measured,
-        jobs,
+        turns,
         after,
     };
-    run_measured(before.statements, &mut started.measured, out)?;
-    Ok(started)
+    match run_measured(before.statements, &mut race.measured, out) {
+        Ok(()) => Ok(race),
+        Err(error) => {
+            drop(race);
+            Err(error)
+        }
+    }
 }
 
 /// Appends the line of `go`, and its length. Fails if memory runs out.
@@ -196,46 +220,53 @@ fn print_go(totals: Totals, out: &mut Vec<u8>, lengths: &mut Vec<usize>) -> Resu
     Ok(())
 }
 
-impl StartedRace {
-    /// Takes the turns of the jobs in the order that a seed determines, and appends the line of `go`. Fails if memory
-    /// runs out.
-    fn go(&mut self, alloc: Global, seed: u64, out: &mut Vec<u8>) -> Result<(), AllocError>
-        requires { length self.old.jobs ≤ 16 }
-        ensures left { OnOk result (self.new.measured.engine.view ≡ (answers
-            self.old.measured.engine.view (step_calls (turns_of_seed self.old.jobs seed))).1) }
-        ensures after { self.new.after ≡ self.old.after }
-        ensures text { OnOk result (Prints ((go_line (answers self.old.measured.engine.view
-            (step_calls (turns_of_seed self.old.jobs seed))).0 ∷ []) ∷ []) out.old.items
-            out.new.items self.old.measured.lengths.items self.new.measured.lengths.items) }
+impl MeasuredEngine {
+    /// Takes the turns one after another, and appends the line of `go` and its length. Fails if memory runs out.
+    fn go(&mut self, turns: Turns, out: &mut Vec<u8>) -> Result<(), AllocError>
+        ensures left { OnOk result (self.new.engine.view
+            ≡ (answers self.old.engine.view (step_calls turns)).1) }
+        ensures text { OnOk result
+            (Prints ((go_line (answers self.old.engine.view (step_calls turns)).0 ∷ []) ∷ [])
+            out.old.items out.new.items self.old.lengths.items self.new.lengths.items) }
     {
-        let turns = Turns::of_seed(alloc, self.jobs.as_slice(), seed)?;
-        let totals = take_turns(&mut self.measured.engine, turns)?;
-        print_go(totals, out, &mut self.measured.lengths)
+        let totals = take_turns(&mut self.engine, turns)?;
+        print_go(totals, out, &mut self.lengths)
     }
 
-    /// Takes the turns of the jobs in the order that a seed determines, executes the lines after `go`, and appends what
-    /// is printed from the line of `go` on. Returns the length of what each line of the script printed. Fails if memory
-    /// runs out.
-    pub(crate) fn finish(
-        self,
-        alloc: Global,
-        seed: u64,
+    /// Takes the turns, executes the lines after `go`, and appends what is printed from the line of `go` on. Fails if
+    /// memory runs out.
+    fn finish(
+        &mut self,
+        turns: Turns,
+        after: Statements,
         out: &mut Vec<u8>,
-    ) -> Result<Vec<usize>, AllocError>
-        requires { length self.jobs ≤ 16 }
+    ) -> Result<(), AllocError>
+        ensures { OnOk result (Prints (from_go self.old.engine.view turns after)
+            out.old.items out.new.items self.old.lengths.items self.new.lengths.items) }
+    {
+        self.go(turns, out)?;
+        run_measured(after, self, out)
+    }
+}
+
+impl StartedRace {
+    /// Takes the turns, executes the lines after `go`, and appends what is printed from the line of `go` on. Returns
+    /// the length of what each line of the script printed. Fails if memory runs out.
+    pub(crate) fn finish(self, out: &mut Vec<u8>) -> Result<Vec<usize>, AllocError>
         ensures { IfOk result (λ lengths. Prints
-            (from_go self.measured.engine.view (turns_of_seed self.jobs seed) self.after)
+            (from_go self.measured.engine.view self.turns self.after)
             out.old.items out.new.items self.measured.lengths.items lengths.items) }
     {
-        let mut race = self;
-        race.go(alloc, seed, out)?;
         let StartedRace {
             mut measured,
-            jobs: _,
+            turns,
             after,
-        } = race;
-        run_measured(after, &mut measured, out)?;
-        Ok(measured.lengths)
+        } = self;
+        let finished = measured.finish(turns, after, out);
+        let MeasuredEngine { engine, lengths } = measured;
+        drop(engine);
+        finished?;
+        Ok(lengths)
     }
 }
 
@@ -251,8 +282,8 @@ fn run_whole(
     ensures { IfOk result (λ lengths. Prints (raced race (turns_of_seed race.jobs seed)).groups
         out.old.items out.new.items [] lengths.items) }
 {
-    let started = start(alloc, race, out)?;
-    started.finish(alloc, seed, out)
+    let started = start(alloc, race, seed, out)?;
+    started.finish(out)
 }
 
 /// Executes a race, appends what it prints, and returns whether the `expect` lines of its script hold. Fails if memory

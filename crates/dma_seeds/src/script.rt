@@ -75,8 +75,8 @@ fn script_of_jobs(
 }
 
 /// Appends a race script as a script of `run`, whose `step` lines are the turns of the jobs, in the order that a seed
-/// determines. Skipped lines and `expect` lines are left out. Returns false, and appends nothing, if the race script has
-/// a fault. If memory runs out, appends nothing.
+/// determines. Skipped lines and `expect` lines are left out. Returns false, and appends nothing, if the race script
+/// has a fault. If memory runs out, appends nothing.
 pub fn script_of_seed(
     alloc: Global,
     script: &[u8],

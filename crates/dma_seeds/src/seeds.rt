@@ -1,6 +1,7 @@
 //! A race executed once for each seed of a range.
 
 ghost use Rattle.std.specs.Prelude.{◌≡◌, ◌<◌, ◌++◌, ◌+◌, ◌-◌, IfOk, OnErr, OnOk, is_ok, true, Ok};
+ghost use Rattle.dma_text.specs.Text.{Begins};
 ghost use Rattle.dma_script.specs.Race.{IsRace, race_script_of};
 ghost use Rattle.dma_seeds.specs.Expect.{verdict, without_expects};
 ghost use Rattle.dma_seeds.specs.Seeds.{failing_text, outputs_of, outputs_text, seeds_printed, seeds_verdict, seeds_verdict_text, text_from_go, unless_holds, verdicts};
@@ -52,19 +53,22 @@ impl SeedsVerdict {
     }
 
     /// Appends the line of the first `expect` line that fails, and one with the number of seeds for which one fails, or
-    /// nothing. Fails if memory runs out.
+    /// nothing. Fails if memory runs out, and may have appended the first of the two lines then.
+    #[tactic(auto, using(dma_text::proofs::Begun::begins_same, dma_text::proofs::Begun::begins_appended))]
     pub fn print(&self, seeds: SeedRange, out: &mut Vec<u8>) -> Result<(), AllocError>
-        ensures { OnOk result (out.new.items ≡ out.old.items ++ seeds_verdict_text self.now seeds) }
+        ensures ok { OnOk result (out.new.items ≡ out.old.items ++ seeds_verdict_text self.now seeds) }
+        ensures begins { Begins out.new.items out.old.items }
     {
         self.first.print(out)?;
         print_failing(self.failing, seeds, out)
     }
 }
 
-/// Appends for how many seeds of a range an `expect` line fails, or nothing if it fails for none. Fails if memory runs
-/// out.
+/// Appends for how many seeds of a range an `expect` line fails, or nothing if it fails for none. If memory runs out,
+/// appends nothing.
 fn print_failing(failing: u64, seeds: SeedRange, out: &mut Vec<u8>) -> Result<(), AllocError>
-    ensures { OnOk result (out.new.items ≡ out.old.items ++ failing_text failing seeds) }
+    ensures ok { OnOk result (out.new.items ≡ out.old.items ++ failing_text failing seeds) }
+    ensures err { OnErr result (out.new.items ≡ out.old.items) }
 {
     if failing == 0 {
         return Ok(());
@@ -81,8 +85,8 @@ fn text_of_race(alloc: Global, race: RaceScript, seed: u64) -> Result<Vec<u8>, A
 {
     let mut early = Vec::new(alloc);
     let mut text = Vec::new(alloc);
-    let started = start(alloc, race, &mut early)?;
-    started.finish(alloc, seed, &mut text)?;
+    let started = start(alloc, race, seed, &mut early)?;
+    started.finish(&mut text)?;
     Ok(text)
 }
 

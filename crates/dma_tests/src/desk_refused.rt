@@ -7,7 +7,7 @@ ghost use Rattle.dma_work.specs.Desk.{Names};
 use crate::transfers::{copy, four, issue};
 use dma_engine::{Engine, EngineFault, Status};
 use dma_mem::marks::MarkKind;
-use dma_work::{Desk, DeskName, Parts, ShareFaultKind, StatusReader};
+use dma_work::{Desk, DeskName, Parts, ShareFault, ShareFaultKind, StatusReader};
 use std::alloc::Global;
 use std::marker::Brand;
 use std::process::Abort;
@@ -140,12 +140,12 @@ fn at_a_desk<N: DeskName, R: Wait + Print>(
         Err(EngineFault::NoMemory) => make(rt, alloc, &mut desk, asked),
         other => other,
     };
-    let is_right = was_seen && second.is_ok() && are_seen(&mut desk, readers, wanted);
+    let is_seen = are_seen(&mut desk, readers, wanted);
     desk.close(rt);
     if first.is_err() {
         println!(rt; "refused Desk {name}")?;
     }
-    Ok(is_right)
+    Ok(was_seen && second.is_ok() && is_seen)
 }
 
 /// Returns the parts of a desk over an engine, with `count` readers. Makes them once more if they are out of memory.
@@ -155,14 +155,22 @@ pub fn parts_of<R: Wait + Abort + Print>(
     engine: Engine,
     count: usize,
 ) -> Result<(Parts, Vec<StatusReader>), Fail> {
-    println!(rt; "row Parts::new")?;
-    let refused = match Parts::new(rt, alloc, engine, count) {
-        Ok(made) => return Ok(made),
-        Err(refused) => refused,
-    };
-    println!(rt; "refused Parts::new")?;
-    assert_eq!(rt; refused.fault, ShareFaultKind::NoMemory);
-    match Parts::new(rt, alloc, refused.engine, count) {
+    match Parts::new(rt, alloc, engine, count) {
+        Ok(made) => Ok(made),
+        Err(refused) => parts_again(rt, alloc, refused, count),
+    }
+}
+
+fn parts_again<R: Wait + Abort + Print>(
+    rt: &R,
+    alloc: Global,
+    refused: ShareFault,
+    count: usize,
+) -> Result<(Parts, Vec<StatusReader>), Fail> {
+    let ShareFault { fault, engine } = refused;
+    assert_eq!(rt; fault, ShareFaultKind::NoMemory);
+    let _ = println!(rt; "refused Parts::new");
+    match Parts::new(rt, alloc, engine, count) {
         Ok(made) => Ok(made),
         Err(_) => Err(Fail::from("no parts")),
     }
@@ -192,6 +200,20 @@ fn prepare(alloc: Global, engine: &mut Engine, steps: u32) -> Result<(), Fail> {
     Ok(())
 }
 
+// Makes the call of a row on a desk with `count` readers, after `steps` steps of the second copy.
+fn is_made_again<R: Wait + Abort + Print>(
+    rt: &R,
+    alloc: Global,
+    steps: u32,
+    count: usize,
+    row: Row,
+) -> Result<bool, Fail> {
+    println!(rt; "row Parts::new\nrow Desk {}", row.0)?;
+    let engine = without_room(alloc, steps)?;
+    let (parts, readers) = parts_of(rt, alloc, engine, count)?;
+    at_a_desk::<Brand, _>(rt, alloc, parts, readers, row)
+}
+
 #[test]
 fn calls_are_made_again(rt: HostRuntime) -> Result<(), Fail> {
     // A row has the call's name, the call, the steps of the second copy before it, the number of readers, and the
@@ -211,11 +233,7 @@ fn calls_are_made_again(rt: HostRuntime) -> Result<(), Fail> {
         ("a submit then", Asked::Later, 0, 2, [DONE, GIVEN, GIVEN]),
     ];
     for (name, asked, steps, count, wanted) in rows {
-        let engine = without_room(rt.alloc(), steps)?;
-        println!(rt; "row Desk {name}")?;
-        let (parts, readers) = parts_of(&rt, rt.alloc(), engine, count)?;
-        let row = (name, asked, wanted);
-        let is_right = at_a_desk::<Brand, _>(&rt, rt.alloc(), parts, readers, row)?;
+        let is_right = is_made_again(&rt, rt.alloc(), steps, count, (name, asked, wanted))?;
         assert!(rt; is_right, "{name}");
     }
     Ok(())

@@ -45,6 +45,15 @@ fn make(alloc: Global, engine: &mut Engine, asked: Asked) -> Result<(), EngineFa
     }
 }
 
+// Makes a call on a new engine, and once more if it is refused. Returns how the first call ended, and whether one of
+// them succeeded.
+fn made(alloc: Global, asked: Asked) -> Result<(Result<(), EngineFault>, bool), Fail> {
+    let mut engine = Engine::new(alloc, 0xC000, 1)?;
+    let first = make(alloc, &mut engine, asked);
+    let is_made = first.is_ok() || make(alloc, &mut engine, asked).is_ok();
+    Ok((first, is_made))
+}
+
 #[test]
 fn calls_are_made_again(rt: HostRuntime) -> Result<(), Fail> {
     let rows = [
@@ -56,13 +65,13 @@ fn calls_are_made_again(rt: HostRuntime) -> Result<(), Fail> {
         ("reserve_entries", Asked::Reserve),
     ];
     for (name, asked) in rows {
-        let mut engine = Engine::new(rt.alloc(), 0xC000, 1)?;
         println!(rt; "row {name}")?;
-        if let Err(fault) = make(rt.alloc(), &mut engine, asked) {
+        let (first, is_made) = made(rt.alloc(), asked)?;
+        if let Err(fault) = first {
             println!(rt; "refused {name}")?;
             assert_eq!(rt; fault, EngineFault::NoMemory);
-            assert!(rt; make(rt.alloc(), &mut engine, asked).is_ok(), "{name}");
         }
+        assert!(rt; is_made, "{name}");
     }
     Ok(())
 }

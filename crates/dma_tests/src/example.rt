@@ -26,7 +26,7 @@ fn copies_four_bytes(rt: &impl Abort, alloc: Global, engine: &mut Engine) -> Res
         assert_eq!(rt; engine.status(0, cookie), Status::InProgress);
         engine.step(0)?;
     }
-    assert_eq!(rt; engine.status(0, cookie), Status::Complete);
-    assert_eq!(rt; engine.read(0x2000, 4)?.as_slice(), [1, 2, 3, 4].as_slice());
+    assert!(rt; engine.status(0, cookie) == Status::Complete);
+    assert!(rt; engine.read(0x2000, 4)?.as_slice() == [1, 2, 3, 4].as_slice());
     Ok(())
 }

@@ -6,8 +6,6 @@
 #[cfg(test)]
 mod blocks;
 #[cfg(test)]
-mod control;
-#[cfg(test)]
 mod desk_refused;
 #[cfg(test)]
 mod engine_refused;
@@ -18,11 +16,7 @@ mod lists;
 #[cfg(test)]
 mod memory_refused;
 #[cfg(test)]
-mod streams;
-#[cfg(test)]
 mod transfers;
-#[cfg(test)]
-mod turns;
 #[cfg(test)]
 mod work_in_turn;
 #[cfg(test)]

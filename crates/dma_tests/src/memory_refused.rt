@@ -4,6 +4,7 @@
 
 use dma_chan::run::{RunEnd, RunFault, run_program};
 use dma_mem::memory::Memory;
+use std::alloc::Global;
 use std::test::Fail;
 
 // Copies eight bytes from 0x100 to 0x7FF8 and the next eight to 0x8000, each with one beat. Each store is the first in
@@ -11,21 +12,26 @@ use std::test::Fail;
 static TWO_STORES: &[u8] =
     b"\xbc\0\0\x01\0\0\xbc\x02\xf8\x7f\0\0\xbc\x01\x07\xc0\x01\0\x04\x08\x04\x08\0";
 
+// Runs the program, and once more if the first run is out of memory. Returns how many instructions that run executed,
+// and how the last run ended.
+fn run_again(alloc: Global) -> Result<(Option<u32>, Option<RunEnd>), Fail> {
+    let mut memory = Memory::new(alloc, 0xC000)?;
+    let turns = match run_program(alloc, TWO_STORES, &mut memory, 1000) {
+        Ok(end) => return Ok((None, Some(end))),
+        Err(RunFault::PageRefused { turns }) => turns,
+        Err(_) => 0,
+    };
+    let end = run_program(alloc, TWO_STORES, &mut memory, 1000).ok();
+    Ok((Some(turns), end))
+}
+
 #[test]
 fn a_program_is_run_again(rt: HostRuntime) -> Result<(), Fail> {
     println!(rt; "row run_program after 0\nrow run_program after 4\nrow run_program after 6")?;
-    let mut memory = Memory::new(rt.alloc(), 0xC000)?;
-    let end = match run_program(rt.alloc(), TWO_STORES, &mut memory, 1000) {
-        Ok(end) => end,
-        Err(fault) => {
-            let turns = match fault {
-                RunFault::PageRefused { turns } => turns,
-                RunFault::NoMemory | RunFault::ProgramTooLong => 0,
-            };
-            println!(rt; "refused run_program after {turns}")?;
-            run_program(rt.alloc(), TWO_STORES, &mut memory, 1000)?
-        }
-    };
-    assert!(rt; end == RunEnd::Ended { turns: 8 });
+    let (refused, end) = run_again(rt.alloc())?;
+    if let Some(turns) = refused {
+        println!(rt; "refused run_program after {turns}")?;
+    }
+    assert!(rt; end == Some(RunEnd::Ended { turns: 8 }));
     Ok(())
 }

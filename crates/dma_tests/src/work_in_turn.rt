@@ -9,7 +9,9 @@ use dma_mem::transfer::Transfer;
 use dma_work::{Job, NoGate, Totals};
 use std::alloc::Global;
 use std::process::Abort;
+use std::sync::Wait;
 use std::test::Fail;
+use std::thread::Threads;
 
 // Writes four bytes, lets loads fail at 0x182, and sets the flag of event 3.
 fn prepare(engine: &mut Engine) -> Result<(), EngineFault> {
@@ -132,12 +134,39 @@ fn compare(
     Ok(())
 }
 
+fn set_up(alloc: Global, engine: &mut Engine) -> Result<(), Fail> {
+    prepare(engine)?;
+    issue_all(alloc, engine)?;
+    pause_and_halt(engine)?;
+    Ok(())
+}
+
 fn paused_and_halted(alloc: Global) -> Result<Engine, Fail> {
     let mut engine = Engine::new(alloc, 0x400, 3)?;
-    prepare(&mut engine)?;
-    issue_all(alloc, &mut engine)?;
-    pause_and_halt(&mut engine)?;
+    set_up(alloc, &mut engine)?;
     Ok(engine)
+}
+
+// Checks that an engine is as after 21 steps in rotation, now and later.
+fn compare_with_steps(rt: &impl Abort, alloc: Global, mut this: Engine) -> Result<(), Fail> {
+    let mut that = paused_and_halted(alloc)?;
+    step_often(&mut that, 21);
+    compare(rt, alloc, &mut this, &mut that)
+}
+
+// Runs two jobs at a desk, which ends with the first `reported` tallies, and checks its engine. Returns the totals, and
+// whether the desk was settled.
+fn totals_of<R: Threads + Wait + Sync + Abort + Print>(
+    rt: &R,
+    alloc: Global,
+    jobs: [Job; 2],
+    reported: usize,
+) -> Result<(Totals, bool), Fail> {
+    let engine = paused_and_halted(alloc)?;
+    let (ended, _) = worked(rt, alloc, engine, jobs, &NoGate, reported)?;
+    let (this, totals, is_settled) = ended;
+    compare_with_steps(rt, alloc, this)?;
+    Ok((totals, is_settled))
 }
 
 // The copies of channels 0 and 1 don't move, and that of channel 2 still runs after seven steps. The channel of the
@@ -146,19 +175,14 @@ fn paused_and_halted(alloc: Global) -> Result<Engine, Fail> {
 fn a_desk_ends_as_the_steps_do(rt: HostRuntime) -> Result<(), Fail> {
     let job = Job::new(0, 2, 21).ok_or("no job")?;
     let idle = Job::new(3, 3, 21).ok_or("no job")?;
-    let totals = Totals {
+    let wanted = Totals {
         steps: 6,
         finished: 0,
         terminated: 0,
     };
     for reported in 0..3 {
-        let mut that = paused_and_halted(rt.alloc())?;
-        let engine = paused_and_halted(rt.alloc())?;
-        let (ended, _) = worked(&rt, rt.alloc(), engine, [job, idle], &NoGate, reported)?;
-        let (mut this, counted, is_settled) = ended;
-        assert!(rt; counted == totals && is_settled == (reported > 0));
-        step_often(&mut that, 21);
-        compare(&rt, rt.alloc(), &mut this, &mut that)?;
+        let (totals, is_settled) = totals_of(&rt, rt.alloc(), [job, idle], reported)?;
+        assert!(rt; totals == wanted && is_settled == (reported > 0));
     }
     Ok(())
 }

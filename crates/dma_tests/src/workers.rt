@@ -35,8 +35,27 @@ fn counts<N: DeskName, R: Wait>(rt: &R, shared: &Shared<N>) -> (u64, usize) {
     counts
 }
 
-// Runs two jobs while another thread asks the reader. If they are out of memory, they have done nothing, and are run
-// again. Returns the tallies, and the last status of cookie 1 of channel 0.
+// Returns the number of turns of a tally.
+fn turns_at<N: DeskName>(tallies: &[Tally<N>], at: usize) -> Option<u64> {
+    Some(tallies.get(at)?.turns())
+}
+
+// Runs two jobs that were out of memory, and so have done nothing.
+fn run_again<N: DeskName + Send + Sync, R: Threads + Wait + Sync + Abort + Print, G: Gate>(
+    rt: &R,
+    alloc: Global,
+    shared: &Shared<N>,
+    before: (u64, usize),
+    jobs: [Job; 2],
+    gate: &G,
+) -> Result<Vec<Tally<N>>, Fail> {
+    println!(rt; "refused run_workers")?;
+    assert!(rt; counts(rt, shared) == before);
+    Ok(run_workers(rt, alloc, shared, &jobs, gate)?)
+}
+
+// Runs two jobs while another thread asks the reader. If they are out of memory, they are run again. Returns the
+// tallies, and the last status of cookie 1 of channel 0.
 fn run_jobs<N: DeskName + Send + Sync, R: Threads + Wait + Sync + Abort + Print, G: Gate>(
     rt: &R,
     alloc: Global,
@@ -51,16 +70,13 @@ fn run_jobs<N: DeskName + Send + Sync, R: Threads + Wait + Sync + Abort + Print,
         move || ask_often(reader),
         || run_workers(rt, alloc, shared, &jobs, gate),
     );
-    assert!(rt; is_right);
     let tallies = match tallies {
         Ok(tallies) => tallies,
-        Err(_) => {
-            println!(rt; "refused run_workers")?;
-            assert!(rt; counts(rt, shared) == before);
-            run_workers(rt, alloc, shared, &jobs, gate)?
-        }
+        Err(_) => run_again(rt, alloc, shared, before, jobs, gate)?,
     };
-    assert!(rt; tallies[0].turns() == jobs[0].turns && tallies[1].turns() == jobs[1].turns);
+    assert!(rt; is_right);
+    assert!(rt; turns_at(&tallies, 0) == Some(jobs[0].turns));
+    assert!(rt; turns_at(&tallies, 1) == Some(jobs[1].turns));
     Ok((tallies, reader.status(0, 1)))
 }
 
@@ -130,6 +146,20 @@ fn issue_both(alloc: Global, engine: &mut Engine) -> Result<(), Fail> {
     issue(engine, 1, copy(alloc, 0x1000, 0x3000)?)
 }
 
+fn with_two_copies(alloc: Global) -> Result<Engine, Fail> {
+    let mut engine = Engine::new(alloc, 0x4000, 2)?;
+    issue_both(alloc, &mut engine)?;
+    Ok(engine)
+}
+
+// Returns the steps of a settled desk, and how many copies have finished.
+fn counts_of(rt: &impl Abort, ended: Ended) -> (u64, u64) {
+    let (engine, totals, is_settled) = ended;
+    assert!(rt; is_settled && totals.terminated == 0);
+    assert!(rt; (totals.steps, totals.finished) == (engine.steps(), engine.finished_all()));
+    (totals.steps, totals.finished)
+}
+
 /// Runs two jobs at a desk over two channels with a copy each, and settles it. Returns the steps, how many copies have
 /// finished, and the status of the first that a reader then sees.
 pub fn two_copies<R: Threads + Wait + Sync + Abort + Print, G: Gate>(
@@ -138,12 +168,10 @@ pub fn two_copies<R: Threads + Wait + Sync + Abort + Print, G: Gate>(
     jobs: [Job; 2],
     gate: &G,
 ) -> Result<(u64, u64, Option<Status>), Fail> {
-    let mut engine = Engine::new(alloc, 0x4000, 2)?;
-    issue_both(alloc, &mut engine)?;
-    let ((engine, totals, is_settled), status) = worked(rt, alloc, engine, jobs, gate, 2)?;
-    assert!(rt; is_settled && totals.terminated == 0);
-    assert!(rt; (totals.steps, totals.finished) == (engine.steps(), engine.finished_all()));
-    Ok((totals.steps, totals.finished, status))
+    let engine = with_two_copies(alloc)?;
+    let (ended, status) = worked(rt, alloc, engine, jobs, gate, 2)?;
+    let (steps, finished) = counts_of(rt, ended);
+    Ok((steps, finished, status))
 }
 
 // ---- a gate

@@ -3,7 +3,7 @@ use Rattle.std.proofs.Common.{◌≡◌, ℕ, suc, ◌+◌, ◌≤◌, List, ◌
 use Rattle.std.specs.Prelude.{nat_lt, slice_get}
 use Rattle.std.proofs.lemmas.Bool.{ltb-false}
 use Rattle.dma_insn.specs.declared.insn.Insn.{Insn}
-use Rattle.dma_insn.specs.declared.insn.Insn.TheVariants.{Mov, Ld, St, Rmb, Wmb, Nop, End, Lp, LpEnd, Sev, Wfe}
+use Rattle.dma_insn.specs.declared.insn.Insn.TheVariants.{Ld, St}
 use Rattle.dma_chan.specs.declared.bus.Bus.{Bus}
 use Rattle.dma_chan.specs.declared.exec.Registers.{Registers}
 use Rattle.dma_chan.specs.declared.explain.Cause.TheVariants.{Fails}
@@ -19,7 +19,7 @@ use Rattle.dma_chan.proofs.GoingOn.{none_first}
 use Rattle.dma_chan.proofs.TracerSteps.{length_touched}
 use Rattle.dma_trace.specs.declared.front.Front.{Front}
 use Rattle.dma_trace.specs.Explained.{unexplained_text}
-use Rattle.dma_trace.specs.Touches.{after_next, after_touch, touches_in, where_text}
+use Rattle.dma_trace.specs.Touches.{after_next, after_touch, conflict_text, touches_in}
 use Rattle.dma_trace.specs.Words.{cause_text, refusal_text}
 use Rattle.dma_trace.specs.declared.touches.Touches.{Touches}
 use Rattle.dma_trace.specs.Front.{front_at, front_of, held_after, registers_of}
@@ -86,15 +86,7 @@ follows_store x w e =
 pub follows : (i : Insn) (x : Trace) → Within x → stop_of_insn i x ≡ None → Follows i x
 follows Ld x w e = follows_load x w e
 follows St x w e = follows_store x w e
-follows (Mov r v) x w e = same (Mov r v) x w refl refl
-follows Rmb x w e = same Rmb x w refl refl
-follows Wmb x w e = same Wmb x w refl refl
-follows Nop x w e = same Nop x w refl refl
-follows End x w e = same End x w refl refl
-follows (Lp c n) x w e = same (Lp c n) x w refl refl
-follows (LpEnd c b) x w e = same (LpEnd c b) x w refl refl
-follows (Sev n) x w e = same (Sev n) x w refl refl
-follows (Wfe n v) x w e = same (Wfe n v) x w refl refl
+follows i x w e = same i x w refl refl
 
 -- ---- in a program
 
@@ -137,26 +129,16 @@ within_on bus program n i next w = subst Within (sym (traced_on bus program n i 
 
 pub room_here : (bus : Bus) (program : List ℕ) (n : ℕ) (f : Front) (i : Insn) → f ≡ front_at (traced bus program n) → Follows i (traced bus program n) → held_after i (registers_of f) f.held ≤ buffer_size
 room_here bus program n f i at w =
-    let P : Front → Type 0 = λ g. held_after i (registers_of g) g.held ≤ buffer_size in
-    subst P (sym at) w.room
+    rw at w.room
 
 -- the loads and stores of an address, with one more instruction
 pub touches_on : (bus : Bus) (program : List ℕ) (a n : ℕ) (f : Front) (i : Insn) (t u : Touches) → f ≡ front_at (traced bus program n) → next_in program (traced bus program n) ≡ Ok i → t ≡ touches_in bus program a n → u ≡ after_touch i a (n + 1) f t → u ≡ touches_in bus program a (n + 1)
 touches_on bus program a n f i t u at next is to =
-    let x = traced bus program n in
     let number : n + 1 ≡ suc n = omega arith in
-    to
-    ∙ ap (after_touch i a (n + 1) f) is
-    ∙ ap (λ (g : Front). after_touch i a (n + 1) g (touches_in bus program a n)) at
-    ∙ ap (λ (r : Result Insn FaultKind). after_next r a (n + 1) (front_at x) (touches_in bus program a n)) (sym next)
-    ∙ ap (touches_in bus program a) (sym number)
+    let more : after_next (next_in program (traced bus program n)) a (n + 1) f t ≡ u = rw next (sym to) in
+    let all : u ≡ touches_in bus program a (suc n) = sym more ∙ rw (at, is) refl in all ∙ ap (touches_in bus program a) (sym number)
 
 -- what is printed of a program that is refused
-pub cause_printed : (bus : Bus) (program : List ℕ) (u : Unexplained) (f : Front) (first : Option ℕ) (next : Result Insn FaultKind) (t : Touches) → f ≡ front_at (traced bus program u.steps) → first ≡ slice_get program f.pc → next ≡ next_of program f.pc → t ≡ touches_in bus program u.addr u.steps → refusal_text (cause_text u.cause first next u.steps f ++ where_text u.cause u.addr t) first next u.steps f u.stored ≡ unexplained_text bus program u
+pub cause_printed : (bus : Bus) (program : List ℕ) (u : Unexplained) (f : Front) (first : Option ℕ) (next : Result Insn FaultKind) (t : Touches) → f ≡ front_at (traced bus program u.steps) → first ≡ slice_get program f.pc → next ≡ next_of program f.pc → t ≡ touches_in bus program u.addr u.steps → refusal_text (cause_text u.cause first next u.steps f ++ conflict_text u.cause u.addr t) first next u.steps f u.stored ≡ unexplained_text bus program u
 cause_printed bus program u f first next t at byte is touches =
-    let x = traced bus program u.steps in
-    let places : List ℕ = where_text u.cause u.addr (touches_in bus program u.addr u.steps) in
-    ap (λ (y : Touches). refusal_text (cause_text u.cause first next u.steps f ++ where_text u.cause u.addr y) first next u.steps f u.stored) touches
-    ∙ ap (λ (b : Option ℕ). refusal_text (cause_text u.cause b next u.steps f ++ places) b next u.steps f u.stored) byte
-    ∙ ap (λ (r : Result Insn FaultKind). refusal_text (cause_text u.cause (slice_get program f.pc) r u.steps f ++ places) (slice_get program f.pc) r u.steps f u.stored) (sym (next_here bus program u.steps f next at is))
-    ∙ ap (λ (g : Front). refusal_text (cause_text u.cause (slice_get program g.pc) (next_in program x) u.steps g ++ places) (slice_get program g.pc) (next_in program x) u.steps g u.stored) at
+    rw (touches, byte, ← next_here bus program u.steps f next at is, at) refl

@@ -1,7 +1,8 @@
 -- A run of a trace, step after step.
 use Rattle.std.proofs.Common.{◌≡◌, ◌≢◌, ℕ, suc, ◌+◌, ◌-◌, ◌<◌, ◌≤◌, Bool, true, false, ◌&&◌, List, [], ◌∷◌, ◌++◌, length, map, Option, Some, None, Result, Ok, refl, sym, ap, subst, ◌∙◌, arith, inl, inr, append_assoc, append-nil}
-use Rattle.std.specs.Prelude.{flat_map, nat_le, nat_lt, slice_get, if◌then◌else◌}
+use Rattle.std.specs.Prelude.{IsOk, flat_map, nat_le, nat_lt, slice_get}
 use Rattle.std.proofs.lemmas.Bool.{cases_lt, le-ltb, lt-ltb}
+use Rattle.dma_insn.specs.Spelling.{spelling}
 use Rattle.dma_insn.specs.declared.insn.Insn.{Insn}
 use Rattle.dma_mem.specs.Flags.{flags_of}
 use Rattle.dma_mem.specs.Lent.{marks_at, stores_at}
@@ -13,17 +14,17 @@ use Rattle.dma_chan.specs.declared.turn.ChanTurn.{ChanTurn}
 use Rattle.dma_chan.specs.declared.turn.ChanTurn.TheVariants.{Moved}
 use Rattle.dma_chan.specs.declared.turn.FaultKind.{FaultKind}
 use Rattle.dma_chan.specs.Channel.{ChannelValue, ahead_of, bytes_of_program, code_of, loaded_on}
-use Rattle.dma_chan.specs.Exec.{moved, start_on}
+use Rattle.dma_chan.specs.Exec.{buffer_size, moved, start_on}
 use Rattle.dma_chan.specs.LentRegions.{segment_of, with_gaps_of}
 use Rattle.dma_chan.specs.Stepping.{Machine, after_step, after_steps, answer_at}
 use Rattle.dma_trace.specs.declared.front.Front.{Front}
 use Rattle.dma_trace.specs.declared.options.TraceOptions.{TraceOptions}
 use Rattle.dma_trace.specs.Front.{front_of, held_after, registers_of}
 use Rattle.dma_insn.specs.AssemblyText.{most_program_bytes}
-use Rattle.dma_trace.specs.Traced.{End, Shows, StopsAfter, dump_text, end_after, end_of, first_byte_of, front_in, if_wave, last_answer, lines, marks_over, moment_in, opening, pieces_in, shown_line, tried, waveform}
+use Rattle.dma_trace.specs.Traced.{End, Shows, StopsAfter, dump_text, end_after, end_of, front_in, if_wave, last_answer, lines, marks_over, moment_in, opening, pieces_in, shown_line, tried, waveform}
 use Rattle.dma_trace.specs.Wave.{executing, last_text}
 use Rattle.dma_trace.specs.inner.Running.{Ends, Goes, Runs, Waves, machine_over}
-use Rattle.dma_trace.proofs.Steps.{Moves, front_moves, moves_on, pieces_are}
+use Rattle.dma_trace.proofs.Steps.{Moves, fetched_there, front_moves, moves_on, pc_fits, pieces_are, room_moves}
 use Rattle.dma_trace.proofs.Waves.{wave_ends}
 
 -- ---- whether regions are in order, and the marks at their gaps, depend on their places alone
@@ -63,20 +64,9 @@ pub record Took (marks : MarkList) (c d : ChannelValue) (rs left : List Region) 
   pub answer : turn ≡ answer_at marks (machine_over c rs flags)
   pub to : machine_over d left after ≡ after_step marks (machine_over c rs flags)
 
--- it does the same by the marks over the regions before the run
-pub took : (first rs left : List Region) (given marks : MarkList) (c d : ChannelValue) (flags after : List Bool) (turn : ChanTurn) → map segment_of rs ≡ map segment_of first → read_only_of rs ≡ read_only_of first → given ≡ marks → turn ≡ answer_at (with_gaps_of rs given) (machine_over c rs flags) → machine_over d left after ≡ after_step (with_gaps_of rs given) (machine_over c rs flags) → Took (with_gaps_of first marks) c d rs left flags after turn
-took first rs left given marks c d flags after turn places access is answer to =
-    let kept = marks_kept first rs marks given places access is in
-    record {
-      answer = answer ∙ ap (λ (m : MarkList). answer_at m (machine_over c rs flags)) kept;
-      to = to ∙ ap (λ (m : MarkList). after_step m (machine_over c rs flags)) kept;
-    }
-
--- a step from one state of a run to the next, and what was printed of it
-pub record Step (o : TraceOptions) (marks : MarkList) (n : ℕ) (i : Insn) (c d : ChannelValue) (rs left : List Region) (flags after : List Bool) (front next : Front) (mid new : List ℕ) : Type 0 where
+-- a line was printed of the step from one front to the next
+pub record Step (o : TraceOptions) (n : ℕ) (i : Insn) (c : ChannelValue) (rs left : List Region) (front next : Front) (mid new : List ℕ) : Type 0 where
   pub ahead : ahead_of c ≡ Ok i
-  pub answer : answer_at marks (machine_over c rs flags) ≡ Moved
-  pub to : machine_over d left after ≡ after_step marks (machine_over c rs flags)
   pub places : map segment_of left ≡ map segment_of rs
   pub read_only : read_only_of left ≡ read_only_of rs
   pub order : in_order (pieces_of left) ≡ true
@@ -84,144 +74,134 @@ pub record Step (o : TraceOptions) (marks : MarkList) (n : ℕ) (i : Insn) (c d 
   pub more : next.held ≡ held_after i (registers_of front) front.held
   pub text : new ≡ mid ++ shown_line o (n + 1) (Ok i) front next (pieces_of left)
 
-module _ (o : TraceOptions) (marks : MarkList) (first : List Region) (s : Machine) (n : ℕ) (c : ChannelValue) (rs : List Region) (flags : List Bool) (front : Front) (old mid : List ℕ) (w : Goes o marks first s n c rs flags front old mid) where
+-- a run after n steps that moved
+module _ {o : TraceOptions} {marks : MarkList} {first : List Region} {s : Machine} {n : ℕ} {c : ChannelValue} {rs : List Region} {flags : List Bool} {front : Front} {old mid : List ℕ} (w : Goes o marks first s n c rs flags front old mid) where
   abbrev u : Machine
   u = after_steps marks s n
 
-  abbrev next_number : n + 1 ≡ suc n
-  next_number = omega arith
+  ahead_there : {r : Result Insn FaultKind} → r ≡ ahead_of c → r ≡ ahead_of u.channel
+  ahead_there e = e ∙ ap (λ (m : Machine). ahead_of m.channel) w.at
 
-  pub ahead_there : (r : Result Insn FaultKind) → r ≡ ahead_of c → r ≡ ahead_of u.channel
-  ahead_there r e = e ∙ ap (λ (m : Machine). ahead_of m.channel) w.at
-
-  pub answer_there : (turn : ChanTurn) → turn ≡ answer_at marks (machine_over c rs flags) → turn ≡ answer_at marks u
-  answer_there turn e = e ∙ ap (answer_at marks) w.at
-
-  pub room_there : length u.channel.buffer ≤ 256
-  room_there = let held : front.held ≡ length u.channel.buffer = ap (λ (f : Front). f.held) w.front_is in omega (arith, held, w.room)
-
-  pub moves_there : (i : Insn) → ahead_of c ≡ Ok i → answer_at marks (machine_over c rs flags) ≡ Moved → Moves i u.channel (after_step marks u).channel
-  moves_there i ahead answer = moves_on marks u i (sym (ahead_there (Ok i) (sym ahead))) (sym (answer_there Moved (sym answer))) room_there
-
-  pub goes_on : (i : Insn) (d : ChannelValue) (left : List Region) (after : List Bool) (next : Front) (new : List ℕ) → Step o marks n i c d rs left flags after front next mid new → Goes o marks first s (n + 1) d left after next old new
-  goes_on i d left after next new t =
-      let m = moves_there i t.ahead t.answer in
-      let to : machine_over d left after ≡ after_step marks u = t.to ∙ ap (after_step marks) w.at in
-      let channel : d ≡ (after_step marks u).channel = ap (λ (v : Machine). v.channel) to in
-      let before : c ≡ u.channel = ap (λ (v : Machine). v.channel) w.at in
-      let image : image_of (pieces_of left) ≡ (after_step marks u).image = ap (λ (v : Machine). v.image) to in
-      let front_next : next ≡ front_in (after_step marks u) = front_moves marks u i front next m w.front_is t.registers t.more in
-      let held : next.held ≡ length (after_step marks u).channel.buffer = ap (λ (f : Front). f.held) front_next in
-      let places = t.places ∙ w.places in
-      let pieces : pieces_of left ≡ pieces_in (map segment_of first) (after_step marks u).image =
-      pieces_are left t.order
-      ∙ ap (λ (ss : List Segment). pieces_in ss (image_of (pieces_of left))) places
-      ∙ ap (pieces_in (map segment_of first)) image in
-      let line : shown_line o (n + 1) (Ok i) front next (pieces_of left) ≡ shown_line o (suc n) (ahead_of u.channel) (front_in u) (front_in (after_step marks u)) (pieces_in (map segment_of first) (after_step marks u).image) =
-      ap (λ (k : ℕ). shown_line o k (Ok i) front next (pieces_of left)) next_number
-      ∙ ap (λ (r : Result Insn FaultKind). shown_line o (suc n) r front next (pieces_of left)) (ahead_there (Ok i) (sym t.ahead))
-      ∙ ap (λ (f : Front). shown_line o (suc n) (ahead_of u.channel) f next (pieces_of left)) w.front_is
-      ∙ ap (λ (f : Front). shown_line o (suc n) (ahead_of u.channel) (front_in u) f (pieces_of left)) front_next
-      ∙ ap (λ (ps : List Piece). shown_line o (suc n) (ahead_of u.channel) (front_in u) (front_in (after_step marks u)) ps) pieces in
+  -- a step does the same by the marks over the regions before the run
+  pub took : (given : MarkList) (left : List Region) {d : ChannelValue} {after : List Bool} {turn : ChanTurn} → marks ≡ with_gaps_of first given → turn ≡ answer_at (with_gaps_of rs given) (machine_over c rs flags) → machine_over d left after ≡ after_step (with_gaps_of rs given) (machine_over c rs flags) → Took marks c d rs left flags after turn
+  took given left same answer to =
+      let kept = marks_kept first rs given given w.places w.read_only refl ∙ sym same in
       record {
-        at = to ∙ ap (after_steps marks s) (sym next_number);
-        moved = λ k less. elim (cases_lt k n) [
-          | inl before ↦ w.moved k before
-          | inr ge ↦
-              let is : n ≡ k = omega (arith, less, ge) in
-              subst (λ (j : ℕ). answer_at marks (after_steps marks s j) ≡ Moved) is (sym (answer_there Moved (sym t.answer)))
-        ];
-        front_is = front_next ∙ ap (λ (k : ℕ). front_in (after_steps marks s k)) (sym next_number);
-        room = omega (arith, held, m.room);
-        program = ap (λ (v : ChannelValue). v.program) channel ∙ m.program ∙ sym (ap (λ (v : ChannelValue). v.program) before) ∙ w.program;
-        taken = omega (arith, ap (λ (v : ChannelValue). v.taken) channel, m.taken, ap (λ (v : ChannelValue). v.taken) before, w.taken);
-        places = places;
-        read_only = t.read_only ∙ w.read_only;
-        text =
-            t.text
-            ∙ ap (λ (xs : List ℕ). xs ++ shown_line o (n + 1) (Ok i) front next (pieces_of left)) w.text
-            ∙ ap (λ (xs : List ℕ). (old ++ lines o marks (map segment_of first) s n) ++ xs) line
-            ∙ append_assoc old (lines o marks (map segment_of first) s n) _
-            ∙ ap (λ (k : ℕ). old ++ lines o marks (map segment_of first) s k) (sym next_number);
+        answer = answer ∙ ap (λ (m : MarkList). answer_at m (machine_over c rs flags)) kept;
+        to = to ∙ ap (λ (m : MarkList). after_step m (machine_over c rs flags)) kept;
       }
 
-  -- the program stays loaded
-  pub program_there : (i : Insn) (d : ChannelValue) (left : List Region) (after : List Bool) → ahead_of c ≡ Ok i → answer_at marks (machine_over c rs flags) ≡ Moved → machine_over d left after ≡ after_step marks (machine_over c rs flags) → d.program ≡ s.channel.program
-  program_there i d left after ahead answer to =
-      ap (λ (v : Machine). v.channel.program) (to ∙ ap (after_step marks) w.at)
-      ∙ (moves_there i ahead answer).program
-      ∙ sym (ap (λ (v : Machine). v.channel.program) w.at)
-      ∙ w.program
-
   -- the moment in the waveform
-  pub moment_there : (r : Result Insn FaultKind) (steps : ℕ) (f : Front) → r ≡ ahead_of c → steps ≡ n → f ≡ front → executing steps r f ≡ moment_in n u
-  moment_there r steps f ahead number at =
-      ap (λ (k : ℕ). executing k r f) number
-      ∙ ap (λ (q : Result Insn FaultKind). executing n q f) (ahead_there r ahead)
-      ∙ ap (λ (g : Front). executing n (ahead_of u.channel) g) (at ∙ w.front_is)
-
-  -- the first byte of the next instruction
-  first_there : (program : List ℕ) (f : Front) → program ≡ code_of s.channel → f ≡ front → slice_get program f.pc ≡ first_byte_of u.channel
-  first_there program f loaded at =
-      ap (λ (bytes : List ℕ). slice_get bytes f.pc) (loaded ∙ sym (ap bytes_of_program w.program) ∙ ap (λ (m : Machine). code_of m.channel) w.at)
-      ∙ ap (λ (g : Front). slice_get (code_of u.channel) g.pc) (at ∙ w.front_is)
+  pub moment_there : {r : Result Insn FaultKind} → r ≡ ahead_of c → executing n r front ≡ moment_in n u
+  moment_there e = rw (ahead_there e, w.front_is) refl
 
   -- the end that is printed is that of the run
-  end_same : (turn : Option ChanTurn) (program : List ℕ) (r : Result Insn FaultKind) (steps : ℕ) (f : Front) (stored : ℕ) → turn ≡ last_answer marks s o.limit n → program ≡ code_of s.channel → r ≡ ahead_of c → steps ≡ n → f ≡ front → stored ≡ c.stored → end_of turn (slice_get program f.pc) r steps f stored ≡ end_after o marks s n
-  end_same turn program r steps f stored is loaded ahead count at bytes =
-      ap (λ (t : Option ChanTurn). end_of t (slice_get program f.pc) r steps f stored) is
-      ∙ ap (λ (b : Option ℕ). end_of (last_answer marks s o.limit n) b r steps f stored) (first_there program f loaded at)
-      ∙ ap (λ (q : Result Insn FaultKind). end_of (last_answer marks s o.limit n) (first_byte_of u.channel) q steps f stored) (ahead_there r ahead)
-      ∙ ap (λ (k : ℕ). end_of (last_answer marks s o.limit n) (first_byte_of u.channel) (ahead_of u.channel) k f stored) count
-      ∙ ap (λ (g : Front). end_of (last_answer marks s o.limit n) (first_byte_of u.channel) (ahead_of u.channel) n g stored) (at ∙ w.front_is)
-      ∙ ap (λ (k : ℕ). end_of (last_answer marks s o.limit n) (first_byte_of u.channel) (ahead_of u.channel) n (front_in u) k) (bytes ∙ ap (λ (m : Machine). m.channel.stored) w.at)
+  end_same : {turn : Option ChanTurn} {r : Result Insn FaultKind} {steps stored : ℕ} → turn ≡ last_answer marks s o.limit n → steps ≡ n → r ≡ ahead_of c → stored ≡ c.stored → end_of turn (slice_get (code_of s.channel) front.pc) r steps front stored ≡ end_after o marks s n
+  end_same is number ahead bytes =
+      let code : code_of s.channel ≡ code_of u.channel = sym (ap bytes_of_program w.program) ∙ ap (λ (m : Machine). code_of m.channel) w.at in
+      rw (is, number, ahead_there ahead, bytes ∙ ap (λ (m : Machine). m.channel.stored) w.at, code, w.front_is) refl
 
-  finish : (end : End) (good : Bool) (after err wave new_out new_err new_wave : List ℕ) → end ≡ end_after o marks s n → StopsAfter marks s o.limit n → after ≡ (after_steps marks s (tried o.limit n)).image → Ends end good mid err new_out new_err → new_wave ≡ wave ++ if_wave o (waveform marks s n (last_answer marks s o.limit n)) → Runs o marks (map segment_of first) s good after old err wave new_out new_err new_wave
-  finish end good after err wave new_out new_err new_wave same run memory e waved = record {
-    count = n;
-    run = run;
-    succeeds = e.succeeds ∙ ap (λ (x : End). x.succeeds) same;
-    memory = memory;
-    to_out = e.to_out ∙ ap (λ (xs : List ℕ). xs ++ end.says) w.text ∙ ap (λ (x : End). (old ++ lines o marks (map segment_of first) s n) ++ x.says) same;
-    to_err = e.to_err ∙ ap (λ (x : End). err ++ x.wrong) same;
-    to_wave = waved;
-  }
-
-  -- the next step doesn't move
-  pub stops : (turn : ChanTurn) (program : List ℕ) (r : Result Insn FaultKind) (steps : ℕ) (f : Front) (stored : ℕ) (d : ChannelValue) (left : List Region) (flags_after : List Bool) (good : Bool) (err wave mid_wave new_out new_err new_wave : List ℕ) → n < o.limit → turn ≢ Moved → turn ≡ answer_at marks (machine_over c rs flags) → program ≡ code_of s.channel → r ≡ ahead_of c → steps ≡ n → f ≡ front → stored ≡ c.stored → machine_over d left flags_after ≡ after_step marks (machine_over c rs flags) → Ends (end_of (Some turn) (slice_get program f.pc) r steps f stored) good mid err new_out new_err → Waves o marks s n wave mid_wave → new_wave ≡ mid_wave ++ if_wave o (last_text (executing steps r f) (Some turn)) → Runs o marks (map segment_of first) s good (image_of (pieces_of left)) old err wave new_out new_err new_wave
-  stops turn program r steps f stored d left flags_after good err wave mid_wave new_out new_err new_wave less other is loaded ahead number at bytes to e waves waved =
-      let here : turn ≡ answer_at marks u = answer_there turn is in
-      let image : image_of (pieces_of left) ≡ (after_step marks u).image = ap (λ (v : Machine). v.image) (to ∙ ap (after_step marks) w.at) in
-      let test : nat_lt n o.limit ≡ true = lt-ltb n o.limit less in
-      let last : last_answer marks s o.limit n ≡ Some (answer_at marks u) = ap (λ (b : Bool). if b then Some (answer_at marks u) else None) test in
-      let count : tried o.limit n ≡ suc n = ap (λ (b : Bool). if b then suc n else n) test in
-      finish (end_of (Some turn) (slice_get program f.pc) r steps f stored) good (image_of (pieces_of left)) err wave new_out new_err new_wave
-      (end_same (Some turn) program r steps f stored (ap Some here ∙ sym last) loaded ahead number at bytes)
-      (record { moved = w.moved; few = omega (arith, less); stops = λ more e. other (here ∙ e) })
-      (image ∙ ap (λ (k : ℕ). (after_steps marks s k).image) (sym count))
-      e
-      (wave_ends o marks s n (executing steps r f) (Some turn) wave mid_wave new_wave waves (moment_there r steps f ahead number at) (ap Some here ∙ sym last) waved)
+  -- The run ends with this answer. Nothing was appended to `err` before.
+  finish : {turn : Option ChanTurn} {r : Result Insn FaultKind} {steps stored : ℕ} {good : Bool} (after : List ℕ) {err now wave mid_wave new_out new_err new_wave : List ℕ} → turn ≡ last_answer marks s o.limit n → steps ≡ n → r ≡ ahead_of c → stored ≡ c.stored → StopsAfter marks s o.limit n → after ≡ (after_steps marks s (tried o.limit n)).image → now ≡ err → Ends (end_of turn (slice_get (code_of s.channel) front.pc) r steps front stored) good mid now new_out new_err → Waves o marks s n wave mid_wave → new_wave ≡ mid_wave ++ if_wave o (last_text (executing steps r front) turn) → Runs o marks (map segment_of first) s good after old err wave new_out new_err new_wave
+  finish {turn} {r} {steps} {stored} {good} after {err} is number ahead bytes run memory clean e waves waved =
+      let end = end_of turn (slice_get (code_of s.channel) front.pc) r steps front stored in
+      let same : end ≡ end_after o marks s n = end_same is number ahead bytes in
+      record {
+        count = n;
+        run = run;
+        succeeds = e.succeeds ∙ ap (λ (x : End). x.succeeds) same;
+        memory = memory;
+        to_out = e.to_out ∙ ap (λ (xs : List ℕ). xs ++ end.says) w.text ∙ ap (λ (x : End). (old ++ lines o marks (map segment_of first) s n) ++ x.says) same;
+        to_err = e.to_err ∙ ap (λ (xs : List ℕ). xs ++ end.wrong) clean ∙ ap (λ (x : End). err ++ x.wrong) same;
+        to_wave = wave_ends o marks s n _ _ _ _ _ waves (ap (λ (k : ℕ). executing k r front) number ∙ moment_there ahead) is waved;
+      }
 
   -- the limit is reached
-  pub ends : (program : List ℕ) (r : Result Insn FaultKind) (steps : ℕ) (f : Front) (stored : ℕ) (good : Bool) (err wave mid_wave new_out new_err new_wave : List ℕ) → n ≡ o.limit → program ≡ code_of s.channel → r ≡ ahead_of c → steps ≡ n → f ≡ front → stored ≡ c.stored → Ends (end_of None (slice_get program f.pc) r steps f stored) good mid err new_out new_err → Waves o marks s n wave mid_wave → new_wave ≡ mid_wave ++ if_wave o (last_text (executing steps r f) None) → Runs o marks (map segment_of first) s good (image_of (pieces_of rs)) old err wave new_out new_err new_wave
-  ends program r steps f stored good err wave mid_wave new_out new_err new_wave limit loaded ahead number at bytes e waves waved =
+  pub ends : {r : Result Insn FaultKind} {stored : ℕ} {good : Bool} {err now wave mid_wave new_out new_err new_wave : List ℕ} → n ≡ o.limit → r ≡ ahead_of c → stored ≡ c.stored → now ≡ err → Ends (end_of None (slice_get (code_of s.channel) front.pc) r o.limit front stored) good mid now new_out new_err → Waves o marks s n wave mid_wave → new_wave ≡ mid_wave ++ if_wave o (last_text (executing o.limit r front) None) → Runs o marks (map segment_of first) s good (image_of (pieces_of rs)) old err wave new_out new_err new_wave
+  ends limit ahead bytes clean e waves waved =
       let test : nat_lt n o.limit ≡ false = le-ltb n o.limit (omega (arith, limit)) in
-      let last : last_answer marks s o.limit n ≡ None = ap (λ (b : Bool). if b then Some (answer_at marks u) else None) test in
-      let count : tried o.limit n ≡ n = ap (λ (b : Bool). if b then suc n else n) test in
-      finish (end_of None (slice_get program f.pc) r steps f stored) good (image_of (pieces_of rs)) err wave new_out new_err new_wave
-      (end_same None program r steps f stored (sym last) loaded ahead number at bytes)
+      finish (image_of (pieces_of rs)) (rw test refl) (sym limit) ahead bytes
       (record { moved = w.moved; few = omega (arith, limit); stops = λ more e. omega (arith, more, limit) })
-      (ap (λ (v : Machine). v.image) w.at ∙ ap (λ (k : ℕ). (after_steps marks s k).image) (sym count))
-      e
-      (wave_ends o marks s n (executing steps r f) None wave mid_wave new_wave waves (moment_there r steps f ahead number at) (sym last) waved)
+      (ap (λ (v : Machine). v.image) w.at ∙ rw test refl)
+      clean e waves waved
 
--- nothing was appended to `err` before the end
-pub from_err : {end : End} {good : Bool} {out now err new_out new_err : List ℕ} → now ≡ err → Ends end good out now new_out new_err → Ends end good out err new_out new_err
-from_err {end} {good} {out} {now} {err} {new_out} {new_err} e x = record {
-  succeeds = x.succeeds;
-  to_out = x.to_out;
-  to_err = x.to_err ∙ ap (λ (xs : List ℕ). xs ++ end.wrong) e;
-}
+-- one more step
+module _ {o : TraceOptions} {marks : MarkList} {first : List Region} {s : Machine} {n : ℕ} {c : ChannelValue} {rs : List Region} {flags : List Bool} {front : Front} {old mid : List ℕ} {d : ChannelValue} {left : List Region} {after : List Bool} {turn : ChanTurn} (w : Goes o marks first s n c rs flags front old mid) (t : Took marks c d rs left flags after turn) where
+  abbrev v : Machine
+  v = after_steps marks s n
+
+  answer_there : turn ≡ answer_at marks v
+  answer_there = t.answer ∙ ap (answer_at marks) w.at
+
+  to_there : machine_over d left after ≡ after_step marks v
+  to_there = t.to ∙ ap (after_step marks) w.at
+
+  pub fetched : {r : Result Insn FaultKind} → r ≡ ahead_of c → turn ≡ Moved → IsOk r
+  fetched ahead moves = fetched_there marks v _ (ahead_there w ahead) (sym answer_there ∙ moves)
+
+  pub moves_there : {i : Insn} → ahead_of c ≡ Ok i → turn ≡ Moved → Moves i v.channel (after_step marks v).channel
+  moves_there ahead moves =
+      let held : front.held ≡ length v.channel.buffer = ap (λ (f : Front). f.held) w.front_is in
+      moves_on marks v _ (sym (ahead_there w (sym ahead))) (sym answer_there ∙ moves) (omega (arith, held, w.room))
+
+  -- the program stays loaded
+  pub program_there : {i : Insn} → ahead_of c ≡ Ok i → turn ≡ Moved → d.program ≡ s.channel.program
+  program_there ahead moves =
+      ap (λ (m : Machine). m.channel.program) to_there
+      ∙ (moves_there ahead moves).program
+      ∙ sym (ap (λ (m : Machine). m.channel.program) w.at)
+      ∙ w.program
+
+  -- the front has room for the instruction, which lies in the program
+  pub front_there : {i : Insn} → ahead_of c ≡ Ok i → turn ≡ Moved → length (code_of s.channel) ≤ most_program_bytes → (front.pc + length (spelling i) ≤ most_program_bytes) × (held_after i (registers_of front) front.held ≤ buffer_size)
+  front_there ahead moves long =
+      let pc : front.pc ≡ c.registers.pc = ap (λ (f : Front). f.pc) w.front_is ∙ sym (ap (λ (m : Machine). m.channel.registers.pc) w.at) in (
+        omega (arith, pc, pc_fits _ c _ (ap bytes_of_program w.program) ahead, long),
+        room_moves marks v _ front (moves_there ahead moves) w.front_is,
+      )
+
+  pub goes_on : {i : Insn} {next : Front} {new : List ℕ} → turn ≡ Moved → Step o n i c rs left front next mid new → Goes o marks first s (n + 1) d left after next old new
+  goes_on {i} {next} moves x =
+      let number : n + 1 ≡ suc n = omega arith in
+      let m = moves_there x.ahead moves in
+      let channel : d ≡ (after_step marks v).channel = ap (λ (m : Machine). m.channel) to_there in
+      let before : c ≡ v.channel = ap (λ (m : Machine). m.channel) w.at in
+      let front_next = front_moves marks v i front next m w.front_is x.registers x.more in
+      let held : next.held ≡ length (after_step marks v).channel.buffer = ap (λ (f : Front). f.held) front_next in
+      let places = x.places ∙ w.places in
+      let pieces : pieces_of left ≡ pieces_in (map segment_of first) (after_step marks v).image =
+      pieces_are left x.order ∙ rw (places, ap (λ (m : Machine). m.image) to_there) refl in
+      let line : shown_line o (n + 1) (Ok i) front next (pieces_of left) ≡ shown_line o (suc n) (ahead_of v.channel) (front_in v) (front_in (after_step marks v)) (pieces_in (map segment_of first) (after_step marks v).image) =
+      rw (number, ahead_there w (sym x.ahead), w.front_is, front_next, pieces) refl in
+      record {
+        at = to_there ∙ ap (after_steps marks s) (sym number);
+        moved = λ k less. elim (cases_lt k n) [
+          | inl earlier ↦ w.moved k earlier
+          | inr ge ↦
+              let is : n ≡ k = omega (arith, less, ge) in
+              subst (λ (j : ℕ). answer_at marks (after_steps marks s j) ≡ Moved) is (sym answer_there ∙ moves)
+        ];
+        front_is = front_next ∙ ap (λ (k : ℕ). front_in (after_steps marks s k)) (sym number);
+        room = omega (arith, held, m.room);
+        program = ap (λ (x : ChannelValue). x.program) channel ∙ m.program ∙ sym (ap (λ (x : ChannelValue). x.program) before) ∙ w.program;
+        taken = omega (arith, ap (λ (x : ChannelValue). x.taken) channel, m.taken, ap (λ (x : ChannelValue). x.taken) before, w.taken);
+        places = places;
+        read_only = x.read_only ∙ w.read_only;
+        text =
+            x.text ∙ ap (λ (xs : List ℕ). xs ++ shown_line o (n + 1) (Ok i) front next (pieces_of left)) w.text
+            ∙ ap (λ (xs : List ℕ). (old ++ lines o marks (map segment_of first) s n) ++ xs) line
+            ∙ append_assoc old (lines o marks (map segment_of first) s n) _
+            ∙ ap (λ (k : ℕ). old ++ lines o marks (map segment_of first) s k) (sym number);
+      }
+
+  -- the step doesn't move
+  pub stops : {r : Result Insn FaultKind} {stored : ℕ} {good : Bool} {err now wave mid_wave new_out new_err new_wave : List ℕ} → n < o.limit → turn ≢ Moved → r ≡ ahead_of c → stored ≡ c.stored → now ≡ err → Ends (end_of (Some turn) (slice_get (code_of s.channel) front.pc) r n front stored) good mid now new_out new_err → Waves o marks s n wave mid_wave → new_wave ≡ mid_wave ++ if_wave o (last_text (executing n r front) (Some turn)) → Runs o marks (map segment_of first) s good (image_of (pieces_of left)) old err wave new_out new_err new_wave
+  stops less other ahead bytes clean e waves waved =
+      let test : nat_lt n o.limit ≡ true = lt-ltb n o.limit less in
+      finish w (image_of (pieces_of left)) (rw test (ap Some answer_there)) refl ahead bytes
+      (record { moved = w.moved; few = omega (arith, less); stops = λ more e. other (answer_there ∙ e) })
+      (rw test (ap (λ (m : Machine). m.image) to_there))
+      clean e waves waved
 
 -- ---- the whole
 
@@ -260,9 +240,9 @@ shows o program first left good out err wave mid new_out new_err new_wave long p
     }
 
 -- nothing has happened before the first step
-pub begins : (o : TraceOptions) (program : List ℕ) (first : List Region) (c : ChannelValue) (flags : List Bool) (front : Front) (out : List ℕ) → c ≡ loaded_on o.bus (record { bytes = program; cost = None }) → flags ≡ flags_of o.events → front ≡ front_of (start_on o.bus) 0 → Goes o (marks_over o first) first (opening o program (image_of (pieces_of first))) 0 c first flags front out out
-begins o program first c flags front out channel events at = record {
-  at = ap (λ (d : ChannelValue). machine_over d first flags) channel ∙ ap (machine_over (loaded_on o.bus (record { bytes = program; cost = None })) first) events;
+pub begins : (o : TraceOptions) (marks : MarkList) (program : List ℕ) (first : List Region) (c : ChannelValue) (flags : List Bool) (front : Front) (out : List ℕ) → c ≡ loaded_on o.bus (record { bytes = program; cost = None }) → flags ≡ flags_of o.events → front ≡ front_of (start_on o.bus) 0 → Goes o marks first (opening o program (image_of (pieces_of first))) 0 c first flags front out out
+begins o marks program first c flags front out channel events at = record {
+  at = rw (channel, events) refl;
   moved = λ k less. absurd (omega (arith, less));
   front_is = at;
   room = omega (arith, ap (λ (f : Front). f.held) at);

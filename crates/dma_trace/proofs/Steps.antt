@@ -2,11 +2,11 @@
 use Rattle.std.proofs.Common.{◌≡◌, ℕ, zero, suc, ◌+◌, ◌-◌, ◌<◌, ◌≤◌, Bool, true, false, cond, ◌&&◌, List, [], ◌∷◌, ◌++◌, length, take, drop, map, replicate, Option, Some, None, Result, Ok, Err, refl, sym, ap, subst, ◌∙◌, arith, inl, inr, length-append}
 use Rattle.std.specs.Prelude.{IfOk, IsOk, IsSome, OnOk, nat_lt, slice_index_or}
 use Rattle.std.proofs.Math.Seq.{take-append_seam, drop-append_seam, drop-drop}
-use Rattle.std.proofs.lemmas.Bool.{cases_lt, ltb-false}
+use Rattle.std.proofs.lemmas.Bool.{cases_lt, cond_both, ltb-false}
 use Rattle.std.proofs.lemmas.List.{drop_all, length-drop, length-map, length-replicate}
 use Rattle.dma_insn.specs.declared.insn.Insn.{Insn}
-use Rattle.dma_insn.specs.declared.insn.Insn.TheVariants.{Mov, Ld, St, Rmb, Wmb, Nop, End, Lp, LpEnd, Sev, Wfe}
-use Rattle.dma_insn.specs.declared.insn.Reg.TheVariants.{Sar, Ccr, Dar}
+use Rattle.dma_insn.specs.declared.insn.Insn.TheVariants.{Mov, Ld, St, End, LpEnd, Wfe}
+use Rattle.dma_insn.specs.declared.insn.Reg.TheVariants.{Ccr}
 use Rattle.dma_mem.specs.Marking.{MarkList}
 use Rattle.dma_mem.specs.Regions.{Piece, bytes_above, end_of, image_of, in_order, piece_of, pieces_of, rises_from}
 use Rattle.dma_mem.specs.declared.marks.MarkKind.TheVariants.{Reading, Writing}
@@ -67,15 +67,12 @@ pub record Acts (i : Insn) (s t : State) : Type 0 where
   pub room : length t.buffer ≤ 256
 
 by_test : (P : State → Type 0) (b : Bool) (x y : ChanTurn × State) → (cond b x y).0 ≡ Moved → (b ≡ true → x.0 ≡ Moved → P x.1) → (b ≡ false → y.0 ≡ Moved → P y.1) → P (cond b x y).1
-by_test P true x y e f g = f refl e
-by_test P false x y e f g = g refl e
+by_test P b x y e f g = cond_both {A = ChanTurn × State} b x y (λ z. z.0 ≡ Moved → P z.1) f g e
 
 not_fault : (kind : FaultKind) (X : Type 0) → Fault kind ≡ Moved → X
 not_fault kind X e = absurd (cc)
 
 act_moved : (marks : MarkList) (i : Insn) (s : State) → (act marks i s).0 ≡ Moved → length s.buffer ≤ 256 → Acts i s (act marks i s).1
-act_moved marks (Mov Sar v) s e r = record { registers = refl; more = refl; room = r }
-act_moved marks (Mov Dar v) s e r = record { registers = refl; more = refl; room = r }
 act_moved marks (Mov Ccr v) s e r =
     by_test (Acts (Mov Ccr v) s) (accepts s.registers.bus v) _ _ e
     (λ t m. record { registers = refl; more = refl; room = r })
@@ -103,20 +100,16 @@ act_moved marks St s e r =
       room = omega (arith, r, length-drop (burst_len b) s.buffer);
     })
     (λ u k. not_fault _ _ k))
-act_moved marks (Lp c n) s e r = record { registers = refl; more = refl; room = r }
 act_moved marks (LpEnd c back) s e r =
     by_test (Acts (LpEnd c back) s) (nat_lt 0 (counter_of c s.registers) && nat_lt s.registers.pc back) _ _ e
     (λ t m. not_fault _ _ m)
     (λ t m. record { registers = refl; more = refl; room = r })
-act_moved marks (Sev n) s e r = record { registers = refl; more = refl; room = r }
 act_moved marks (Wfe n v) s e r =
     by_test (Acts (Wfe n v) s) (slice_index_or s.flags n false) _ _ e
     (λ t m. record { registers = refl; more = refl; room = r })
     (λ t m. absurd (let w : Waiting n ≡ Moved = m in cc))
-act_moved marks Rmb s e r = record { registers = refl; more = refl; room = r }
-act_moved marks Wmb s e r = record { registers = refl; more = refl; room = r }
-act_moved marks Nop s e r = record { registers = refl; more = refl; room = r }
 act_moved marks End s e r = absurd (let w : Ended ≡ Moved = e in cc)
+act_moved marks i s e r = record { registers = refl; more = refl; room = r }
 
 -- the same of a channel
 pub record Moves (i : Insn) (c d : ChannelValue) : Type 0 where
@@ -161,8 +154,7 @@ front_moves marks u i f g w at registers more =
 -- the buffer has room for what an instruction loads, if it is executed
 pub room_moves : (marks : MarkList) (u : Machine) (i : Insn) (f : Front) → Moves i u.channel (after_step marks u).channel → f ≡ front_in u → held_after i (registers_of f) f.held ≤ buffer_size
 room_moves marks u i f w at =
-    let P : Front → Type 0 = λ k. held_after i (registers_of k) k.held ≤ buffer_size in
-    subst P (sym at) (omega (arith, w.more, w.room))
+    rw at (omega (arith, w.more, w.room))
 
 -- an instruction lies in its program
 pub pc_within : (program : List ℕ) (pc : ℕ) (i : Insn) → next_of program pc ≡ Ok i → pc ≤ length program

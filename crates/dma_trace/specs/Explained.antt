@@ -12,7 +12,7 @@ use Rattle.dma_chan.specs.declared.explain.Sync.TheVariants.{Waits, Signals}
 use Rattle.dma_chan.specs.declared.explain.Unexplained.{Unexplained}
 use Rattle.dma_chan.specs.Explains.{Finds, Refuses, next_in, traced}
 use Rattle.dma_trace.specs.Front.{front_at}
-use Rattle.dma_trace.specs.Touches.{touches_in, where_text}
+use Rattle.dma_trace.specs.Touches.{conflict_text, touches_in}
 use Rattle.dma_trace.specs.Words.{bytes_text, cause_text, count_text, line_feed, long_text, range_text, refusal_text}
 
 -- `  from 0x00002000 + 32 bytes, 64 times`
@@ -54,7 +54,8 @@ unexplained_text bus program u =
     let first = slice_get program x.registers.pc in
     let next = next_in program x in
     let touches = touches_in bus program u.addr u.steps in
-    refusal_text (cause_text u.cause first next u.steps (front_at x) ++ where_text u.cause u.addr touches) first next u.steps (front_at x) u.stored
+    let why = cause_text u.cause first next u.steps (front_at x) ++ conflict_text u.cause u.addr touches in
+    refusal_text why first next u.steps (front_at x) u.stored
 
 -- `explain` prints what it finds of a program on a bus with a limit of instructions.
 pub record PrintsCopy (bus : Bus) (program : List ℕ) (most : ℕ) (printed : List ℕ) : Type 0 where
@@ -75,7 +76,8 @@ Prints bus program most false printed =
     ((most_program_bytes < length program) × (printed ≡ long_text)) ⊎ PrintsCause bus program most printed
 
 -- What is printed is appended to `out` if there is a copy, else to `err`; the other stays as it is.
-pub record Appends (bus : Bus) (program : List ℕ) (most : ℕ) (copies : Bool) (out err new_out new_err : List ℕ) : Type 0 where
+pub record Appends (bus : Bus) (program : List ℕ) (most : ℕ) (copies : Bool)
+    (out err new_out new_err : List ℕ) : Type 0 where
   pub printed : List ℕ
   pub prints : Prints bus program most copies printed
   pub to_out : new_out ≡ out ++ (if copies then printed else [])

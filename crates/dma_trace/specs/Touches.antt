@@ -12,41 +12,45 @@ use Rattle.dma_chan.specs.Exec.{destination_of, source_of}
 use Rattle.dma_chan.specs.Explains.{next_in, traced}
 use Rattle.dma_trace.specs.declared.front.Front.{Front}
 use Rattle.dma_trace.specs.declared.front.Span.{Span}
-use Rattle.dma_trace.specs.declared.touches.Spot.{Spot}
+use Rattle.dma_trace.specs.declared.touches.Access.{Access}
 use Rattle.dma_trace.specs.declared.touches.Touches.{Touches}
 use Rattle.dma_trace.specs.Front.{front_at, registers_of, span_at}
 use Rattle.dma_trace.specs.Words.{offset_text}
 
--- whether a burst touches an address
+-- Tells whether a burst touches an address.
 abbrev pub has_addr : Span → ℕ → Bool
 has_addr s a = nat_le s.addr a && nat_lt (a - s.addr) s.len
 
--- of no instruction
+-- No instruction loads or stores the address.
 abbrev pub untouched : Touches
-untouched = record { load = None; store = None; again = None }
+untouched = record { load = None; store = None; second_store = None }
 
--- with one more load
-abbrev pub with_load : Spot → Touches → Touches
-with_load s t = record t { load = option_or t.load (Some s) }
+-- Adds a load.
+abbrev pub with_load : Access → Touches → Touches
+with_load access t = record t { load = option_or t.load (Some access) }
 
--- with one more store, which is the second one if there was one before
-abbrev pub with_store : Spot → Touches → Touches
-with_store s t = record t { store = option_or t.store (Some s); again = option_and t.store (option_or t.again (Some s)) }
+-- Adds a store, which is the second one if there was one before.
+abbrev pub with_store : Access → Touches → Touches
+with_store access t = record t {
+  store = option_or t.store (Some access);
+  second_store = option_and t.store (option_or t.second_store (Some access));
+}
 
--- with instruction number n, by the registers before it
+-- Adds instruction number n, by the registers before it.
 abbrev pub after_touch : Insn → ℕ → ℕ → Front → Touches → Touches
 after_touch Ld a n f t =
     if has_addr (span_at (source_of (registers_of f))) a then with_load (record { number = n; pc = f.pc }) t else t
 after_touch St a n f t =
-    if has_addr (span_at (destination_of (registers_of f))) a then with_store (record { number = n; pc = f.pc }) t else t
+    if has_addr (span_at (destination_of (registers_of f))) a then with_store (record { number = n; pc = f.pc }) t
+    else t
 after_touch i a n f t = t
 
--- the same of an instruction that was fetched
+-- Adds an instruction that was fetched. A fault adds nothing.
 abbrev pub after_next : Result Insn FaultKind → ℕ → ℕ → Front → Touches → Touches
 after_next (Ok i) a n f t = after_touch i a n f t
 after_next (Err kind) a n f t = t
 
--- the first load of an address among a program's first n instructions on a bus, and the first two stores
+-- Finds the first load of an address and its first two stores among a program's first n instructions on a bus.
 abbrev pub touches_in : Bus → List ℕ → ℕ → ℕ → Touches
 touches_in bus program a zero = untouched
 touches_in bus program a (suc n) =
@@ -54,17 +58,20 @@ touches_in bus program a (suc n) =
 
 -- ---- text
 
--- an instruction that was executed, or that there is none: `instruction 6 at offset 0x0015`
-abbrev pub spot_text : Option Spot → List ℕ
-spot_text (Some s) = codes "instruction " ++ decimal s.number ++ (codes " at offset " ++ offset_text s.pc)
-spot_text None = codes "no instruction"
+-- Prints the instruction of an access, as in `instruction 6 at offset 0x0015`, or that there is none.
+abbrev pub access_text : Option Access → List ℕ
+access_text (Some access) =
+    codes "instruction " ++ decimal access.number ++ (codes " at offset " ++ offset_text access.pc)
+access_text None = codes "no instruction"
 
--- The address at which a byte is stored twice, with the first two instructions that store it; or at which a byte is
--- stored where one is loaded, with the first instruction that loads it and the first one that stores it. Nothing for any
--- other cause.
-unfoldable pub where_text : Cause → ℕ → Touches → List ℕ
-where_text StoresTwice a t =
-    (codes ": 0x" ++ hex_digits a) ++ (codes ", by " ++ spot_text t.store) ++ (codes " and by " ++ spot_text t.again)
-where_text StoresSource a t =
-    (codes ": 0x" ++ hex_digits a) ++ (codes ", loaded by " ++ spot_text t.load) ++ (codes ", stored by " ++ spot_text t.store)
-where_text cause a t = []
+-- Prints the address at which a byte is stored twice, with the first two instructions that store it; or the address at
+-- which a byte is stored where one is loaded, with the first instruction that loads it and the first one that stores it.
+-- Prints nothing for any other cause.
+unfoldable pub conflict_text : Cause → ℕ → Touches → List ℕ
+conflict_text StoresTwice a t =
+    (codes ": 0x" ++ hex_digits a) ++ (codes ", by " ++ access_text t.store)
+    ++ (codes " and by " ++ access_text t.second_store)
+conflict_text StoresSource a t =
+    (codes ": 0x" ++ hex_digits a) ++ (codes ", loaded by " ++ access_text t.load)
+    ++ (codes ", stored by " ++ access_text t.store)
+conflict_text cause a t = []

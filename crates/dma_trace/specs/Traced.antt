@@ -30,17 +30,17 @@ use Rattle.dma_trace.specs.Words.{cause_text, count_text, fault_text, front_text
 
 -- ---- memory
 
--- what regions at these places have, by the image of their memory
+-- Gives the regions at these places with their bytes, by the image of the memory.
 abbrev pub pieces_in : List Segment → List ℕ → List Piece
 pieces_in places image = map (λ s. record { addr = s.addr; bytes = take s.len (drop s.addr image) }) places
 
--- a burst: `; loaded 0x00002000 + 32 bytes: 00 01 02`, with the first 16 bytes
+-- Prints a burst with its first 16 bytes, as in `; loaded 0x00002000 + 32 bytes: 00 01 02`.
 unfoldable pub burst_text : List ℕ → Span → List Piece → List ℕ
 burst_text verb s pieces =
-    verb ++ span_text s
-    ++ (codes ":" ++ spaced_bytes (take (min s.len 16) (run_from pieces s.addr)) ++ (if nat_lt 16 s.len then codes " .." else []))
+    let bytes = take (min s.len 16) (run_from pieces s.addr) in
+    verb ++ span_text s ++ (codes ":" ++ spaced_bytes bytes ++ (if nat_lt 16 s.len then codes " .." else []))
 
--- what an instruction loads or stores, by the registers before it and the memory after it
+-- Prints what an instruction loads or stores, by the registers before it and the memory after it.
 unfoldable pub moves_text : Insn → Front → List Piece → List ℕ
 moves_text Ld f pieces = burst_text (codes "; loaded ") (span_at (source_of (registers_of f))) pieces
 moves_text St f pieces = burst_text (codes "; stored ") (span_at (destination_of (registers_of f))) pieces
@@ -48,53 +48,54 @@ moves_text i f pieces = []
 
 -- ---- lines
 
--- an instruction's number and offset, its text, and the registers after it
+-- Prints an instruction's number and offset, its text, and the registers after it.
 unfoldable pub step_text : ℕ → Insn → ℕ → Front → List ℕ
 step_text n i pc after =
     (decimal n ++ codes " " ++ offset_text pc) ++ (codes " " ++ manual_text i) ++ (codes "; " ++ front_text after)
 
--- the line of instruction number n: these, and what it moved
+-- Prints the line of instruction number n: the same, and what the instruction loads or stores.
 abbrev pub line_text : ℕ → Insn → Front → Front → List Piece → List ℕ
 line_text n i before after pieces = step_text n i before.pc after ++ moves_text i before pieces ++ line_feed
 
--- the front of a machine's channel
+-- Gives the registers of a machine's channel, and how many bytes its buffer holds.
 abbrev pub front_in : Machine → Front
 front_in s = front_of s.channel.registers (length s.channel.buffer)
 
--- whether the line of instruction number n is printed
+-- Tells whether the line of instruction number n is printed.
 abbrev pub is_shown : TraceOptions → ℕ → Bool
 is_shown o n = nat_le o.from n && nat_lt (n - o.from) o.count
 
--- the line of an instruction that was fetched, if it is printed
+-- Prints the line of an instruction that was fetched, if the options ask for it.
 unfoldable pub shown_line : TraceOptions → ℕ → Result Insn FaultKind → Front → Front → List Piece → List ℕ
 shown_line o n (Ok i) before after pieces = if is_shown o n then line_text n i before after pieces else []
 shown_line o n (Err kind) before after pieces = []
 
--- the line of a machine's next step, number n, with regions at these places
+-- Prints the line of a machine's next step, which has number n, with regions at these places.
 abbrev pub step_line : TraceOptions → MarkList → List Segment → ℕ → Machine → List ℕ
 step_line o marks places n s =
     let u = after_step marks s in
     shown_line o n (ahead_of s.channel) (front_in s) (front_in u) (pieces_in places u.image)
 
--- the lines of the first n steps
+-- Prints the lines of the first n steps.
 abbrev pub lines : TraceOptions → MarkList → List Segment → Machine → ℕ → List ℕ
 lines o marks places s zero = []
 lines o marks places s (suc n) = lines o marks places s n ++ step_line o marks places (suc n) (after_steps marks s n)
 
 -- ---- the end
 
--- How a trace ends: whether it succeeds, what follows the lines, and what is wrong.
+-- An end of a trace says whether the trace succeeds, what is printed after the lines, and what is wrong.
 pub record End : Type 0 where
   pub succeeds : Bool
   pub says : List ℕ
   pub wrong : List ℕ
 
--- what is wrong with an instruction, after n others, which stored this number of bytes
+-- The trace fails at an instruction, after n others, which stored this number of bytes.
 abbrev pub refused : List ℕ → Option ℕ → Result Insn FaultKind → ℕ → Front → ℕ → End
-refused why first next n f stored = record { succeeds = false; says = []; wrong = refusal_text why first next n f stored }
+refused why first next n f stored =
+    record { succeeds = false; says = []; wrong = refusal_text why first next n f stored }
 
--- The end by the answer of the last step, after n steps that moved and stored this number of bytes, or None at the limit
--- of steps.
+-- Gives the end by the answer of the last step, after n steps that moved and stored this number of bytes. The answer is
+-- None at the limit of steps.
 abbrev pub end_of : Option ChanTurn → Option ℕ → Result Insn FaultKind → ℕ → Front → ℕ → End
 end_of (Some Ended) first next n f stored =
     record { succeeds = true; says = codes "ended after " ++ count_text (n + 1) ++ line_feed; wrong = [] }
@@ -109,91 +110,100 @@ end_of None first next n f stored = refused (cause_text NoEnd first next n f) fi
 
 -- ---- the waveform
 
--- a text, if the options ask for a waveform
+-- Gives a text if the options ask for a waveform, else nothing.
 abbrev pub if_wave : TraceOptions → List ℕ → List ℕ
 if_wave o text = if o.wave then text else []
 
--- the moment at which a machine executes its next instruction, after n others
+-- Gives the moment at which a machine executes its next instruction, after n others.
 abbrev pub moment_in : ℕ → Machine → Moment
 moment_in n u = executing n (ahead_of u.channel) (front_in u)
 
--- the changes after each of the first n steps
+-- Prints the changes after each of the first n steps.
 abbrev pub changes : MarkList → Machine → ℕ → List ℕ
 changes marks s zero = []
 changes marks s (suc n) =
-    changes marks s n ++ change_text (moment_in n (after_steps marks s n)) (moment_in (suc n) (after_steps marks s (suc n)))
+    changes marks s n
+    ++ change_text (moment_in n (after_steps marks s n)) (moment_in (suc n) (after_steps marks s (suc n)))
 
--- the waveform before the end: the values at the first instruction, and the changes after each of the first n steps
+-- Prints the waveform before the end: the values at the first instruction, and the changes after each of the first n
+-- steps.
 abbrev pub wave_lines : MarkList → Machine → ℕ → List ℕ
 wave_lines marks s n = first_text (moment_in 0 s) ++ changes marks s n
 
--- the waveform of a run that stops after n steps that moved, by the answer of the last step
+-- Prints the waveform of a run that stops after n steps that moved, by the answer of the last step.
 abbrev pub waveform : MarkList → Machine → ℕ → Option ChanTurn → List ℕ
 waveform marks s n answer = wave_lines marks s n ++ last_text (moment_in n (after_steps marks s n)) answer
 
 -- ---- the memory after the end
 
--- the bytes of a row, or that no region has its first address
+-- Prints the bytes of a row, or that no region has its first address.
 abbrev pub row_bytes : List ℕ → List ℕ
 row_bytes bytes = if length bytes == 0 then codes ": no RAM here" else spaced_bytes bytes
 
--- row number k of a range: an address and at most 16 bytes, up to the first address that no region has
+-- Prints row number k of a range: an address and at most 16 bytes, up to the first address that no region has.
 unfoldable pub row_text : List Piece → Segment → ℕ → List ℕ
 row_text pieces s k =
     let addr = (s.addr + 16 * k) % 2 ^ 32 in
     codes "0x" ++ hex_digits addr ++ (row_bytes (take (min (s.len - 16 * k) 16) (run_from pieces addr)) ++ line_feed)
 
+-- Prints the rows of a range.
 abbrev pub dump_text : List Piece → Segment → List ℕ
 dump_text pieces s = flat_map (row_text pieces s) (range_with_len 0 ((s.len + 15) / 16))
 
 -- ---- the whole
 
--- the machine before the first step
+-- Gives the machine before the first step.
 abbrev pub opening : TraceOptions → List ℕ → List ℕ → Machine
 opening o program image = machine (loaded_on o.bus (record { bytes = program; cost = None })) image (flags_of o.events)
 
--- A run stops after n steps that moved: the next one doesn't, or the limit is reached and no further step is tried.
+-- A run stops after n steps that moved: the next one doesn't move, or the limit is reached and no further step is
+-- tried.
 pub record StopsAfter (marks : MarkList) (s : Machine) (limit n : ℕ) : Type 0 where
   pub moved : (k : ℕ) → k < n → answer_at marks (after_steps marks s k) ≡ Moved
   pub few : n ≤ limit
   pub stops : n < limit → answer_at marks (after_steps marks s n) ≢ Moved
 
--- the answer of the last step that was tried, or None at the limit
+-- Gives the answer of the last step that was tried, or None at the limit.
 abbrev pub last_answer : MarkList → Machine → ℕ → ℕ → Option ChanTurn
 last_answer marks s limit n = if nat_lt n limit then Some (answer_at marks (after_steps marks s n)) else None
 
--- the first byte of a channel's next instruction, if its program has one there
+-- Gives the first byte of a channel's next instruction, if its program has one there.
 abbrev pub first_byte_of : ChannelValue → Option ℕ
 first_byte_of c = slice_get (code_of c) c.registers.pc
 
--- how a trace ends, after n steps that moved
+-- Gives the end of a trace after n steps that moved.
 abbrev pub end_after : TraceOptions → MarkList → Machine → ℕ → End
 end_after o marks s n =
     let u = after_steps marks s n in
-    end_of (last_answer marks s o.limit n) (first_byte_of u.channel) (ahead_of u.channel) n (front_in u) u.channel.stored
+    let c = u.channel in
+    end_of (last_answer marks s o.limit n) (first_byte_of c) (ahead_of c) n (front_in u) c.stored
 
--- how many steps are tried, if n moved
+-- Gives how many steps are tried if n moved.
 abbrev pub tried : ℕ → ℕ → ℕ
 tried limit n = if nat_lt n limit then suc n else n
 
--- A trace of a machine over regions at these places: whether it succeeds, the memory after it, what it prints, and the
--- waveform of the whole run.
-pub record Traces (o : TraceOptions) (marks : MarkList) (places : List Segment) (s : Machine) (good : Bool) (after out err wave : List ℕ) : Type 0 where
+-- A trace of a machine over regions at these places succeeds or not, leaves this memory, prints these texts, and has
+-- this waveform of the whole run.
+pub record Traces (o : TraceOptions) (marks : MarkList) (places : List Segment) (s : Machine) (good : Bool)
+    (after out err wave : List ℕ) : Type 0 where
   pub steps : ℕ
   pub run : StopsAfter marks s o.limit steps
   pub succeeds : good ≡ (end_after o marks s steps).succeeds
   pub memory : after ≡ (after_steps marks s (tried o.limit steps)).image
-  pub to_out : out ≡ lines o marks places s steps ++ (end_after o marks s steps).says ++ flat_map (dump_text (pieces_in places after)) o.dumps.items
+  pub to_out :
+      out ≡ lines o marks places s steps ++ (end_after o marks s steps).says
+      ++ flat_map (dump_text (pieces_in places after)) o.dumps.items
   pub to_err : err ≡ (end_after o marks s steps).wrong
   pub to_wave : wave ≡ if_wave o (waveform marks s steps (last_answer marks s o.limit steps))
 
--- the marks at which bursts over regions fail: the gaps between them, and the ranges of the options
+-- Gives the marks at which bursts over regions fail: the gaps between them, and the ranges of the options.
 abbrev pub marks_over : TraceOptions → List Region → MarkList
 marks_over o regions = with_gaps_of regions (marks_at o.failing.items)
 
--- What `trace` appends: of a program that is too long a line in `err`, else its trace over the regions, with the
--- waveform in `wave`. The regions stay where they are.
-pub record Shows (o : TraceOptions) (program : List ℕ) (regions new : List Region) (good : Bool) (out err wave new_out new_err new_wave : List ℕ) : Type 0 where
+-- `trace` appends a line to `err` if a program is too long, else its trace over the regions, with the waveform in
+-- `wave`. The regions stay where they are.
+pub record Shows (o : TraceOptions) (program : List ℕ) (regions new : List Region) (good : Bool)
+    (out err wave new_out new_err new_wave : List ℕ) : Type 0 where
   pub printed : List ℕ
   pub wrong : List ℕ
   pub waved : List ℕ

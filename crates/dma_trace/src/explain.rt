@@ -13,7 +13,7 @@ ghost use Rattle.dma_trace.specs.Touches.{touches_in};
 use crate::amounts::{Bytes, Instructions, Range};
 use crate::front::Front;
 use crate::progress::report;
-use crate::touches::{Touches, Whereabouts};
+use crate::touches::{Conflict, Touches};
 use crate::words::{LongProgram, Place, Point, State, Why, first_byte};
 use dma_chan::bus::Bus;
 use dma_chan::explain as runs;
@@ -235,7 +235,7 @@ fn print_cause<P: Progress>(
         first,
         at: &at,
     };
-    let whereabouts = Whereabouts {
+    let conflict = Conflict {
         cause: found.cause,
         addr: found.addr,
         touches: &touches,
@@ -244,7 +244,7 @@ fn print_cause<P: Progress>(
         front: &at.front,
         stored: found.stored,
     };
-    print(err, &(place, (why, whereabouts), state))
+    print(err, &(place, (why, conflict), state))
 }
 
 /// Explains a program on a bus, executing at most `most` instructions: appends to `out` what it copies for every

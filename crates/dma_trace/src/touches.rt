@@ -2,7 +2,7 @@
 #![tactic(auto, using(dma_text::proofs::Begun::begins_same, dma_text::proofs::Begun::begins_appended, dma_text::proofs::Begun::begins_more))]
 
 ghost use Rattle.std.specs.Prelude.{◌≡◌};
-ghost use Rattle.dma_trace.specs.Touches.{after_touch, spot_text, untouched, where_text, with_load, with_store};
+ghost use Rattle.dma_trace.specs.Touches.{access_text, after_touch, conflict_text, untouched, with_load, with_store};
 
 use crate::amounts::Offset;
 use crate::front::Front;
@@ -11,9 +11,9 @@ use dma_insn::insn::Insn;
 use dma_text::text::{Address, Text};
 use std::alloc::AllocError;
 
-/// An instruction that was executed: its number, counted from 1, and its offset.
+/// An instruction that loads or stores the address: its number, counted from 1, and its offset.
 #[derive(Clone, Copy, Debug)]
-pub struct Spot {
+pub struct Access {
     pub number: u32,
     pub pc: u32,
 }
@@ -21,55 +21,55 @@ pub struct Spot {
 /// The first load of an address, and its first two stores.
 #[derive(Clone, Copy, Debug)]
 pub struct Touches {
-    pub load: Option<Spot>,
-    pub store: Option<Spot>,
-    pub again: Option<Spot>,
+    pub load: Option<Access>,
+    pub store: Option<Access>,
+    pub second_store: Option<Access>,
 }
 
 impl Touches {
-    /// Returns those of no instruction.
+    /// Returns a value without loads and stores.
     pub fn none() -> Touches
         ensures { result ≡ untouched }
     {
         Touches {
             load: None,
             store: None,
-            again: None,
+            second_store: None,
         }
     }
 
     // Adds a load.
-    fn add_load(&mut self, spot: Spot)
-        ensures { self.new ≡ with_load spot self.old }
+    fn add_load(&mut self, access: Access)
+        ensures { self.new ≡ with_load access self.old }
     {
-        self.load = self.load.or(Some(spot));
+        self.load = self.load.or(Some(access));
     }
 
     // Adds a store, which is the second one if there was one before.
-    fn add_store(&mut self, spot: Spot)
-        ensures { self.new ≡ with_store spot self.old }
+    fn add_store(&mut self, access: Access)
+        ensures { self.new ≡ with_store access self.old }
     {
-        self.again = self.store.and(self.again.or(Some(spot)));
-        self.store = self.store.or(Some(spot));
+        self.second_store = self.store.and(self.second_store.or(Some(access)));
+        self.store = self.store.or(Some(access));
     }
 
-    /// Adds an instruction, by the registers before it. `number` is its number.
+    /// Adds an instruction with this number, by the registers before it.
     pub fn add(&mut self, insn: &Insn, addr: u32, number: u32, before: &Front)
         ensures { self.new ≡ after_touch insn.now addr number before.now self.old }
     {
-        let spot = Spot {
+        let access = Access {
             number,
             pc: before.pc,
         };
         match *insn {
             Insn::Ld => {
                 if before.loads().has(addr) {
-                    self.add_load(spot);
+                    self.add_load(access);
                 }
             }
             Insn::St => {
                 if before.stores().has(addr) {
-                    self.add_store(spot);
+                    self.add_store(access);
                 }
             }
             _ => {}
@@ -77,44 +77,44 @@ impl Touches {
     }
 }
 
-/// An instruction that was executed, or that there is none.
+/// The instruction of an access, or `no instruction`.
 #[derive(Drop)]
-struct Executed(Option<Spot>);
+struct AccessOrNone(Option<Access>);
 
-impl Text for Executed {
-    ghost text = { λ executed. spot_text executed.0 };
+impl Text for AccessOrNone {
+    ghost text = { λ shown. access_text shown.0 };
 
     fn push(&self, out: &mut Vec<u8>) -> Result<(), AllocError> {
         match self.0 {
-            Some(spot) => {
-                let number = ("instruction ", spot.number);
-                (number, (" at offset ", Offset(spot.pc))).push(out)
+            Some(access) => {
+                let number = ("instruction ", access.number);
+                (number, (" at offset ", Offset(access.pc))).push(out)
             }
             None => "no instruction".push(out),
         }
     }
 }
 
-/// Where a byte is stored twice, or stored where one is loaded, and by which instructions. For any other cause it has no
-/// text.
+/// The address at which a byte is stored twice, or stored where one is loaded, and the instructions that do so. For
+/// any other cause it has no text.
 #[derive(Drop)]
-pub struct Whereabouts<'a> {
+pub struct Conflict<'a> {
     pub cause: Cause,
     pub addr: u32,
     pub touches: &'a Touches,
 }
 
-impl Text for Whereabouts<'_> {
-    ghost text = { λ w. where_text w.cause w.addr w.touches.now };
+impl Text for Conflict<'_> {
+    ghost text = { λ conflict. conflict_text conflict.cause conflict.addr conflict.touches.now };
 
-    #[tactic(auto, unfolding(crate::specs::Touches::where_text))]
+    #[tactic(auto, unfolding(crate::specs::Touches::conflict_text))]
     fn push(&self, out: &mut Vec<u8>) -> Result<(), AllocError> {
-        let load = Executed(self.touches.load);
-        let store = Executed(self.touches.store);
-        let again = Executed(self.touches.again);
+        let load = AccessOrNone(self.touches.load);
+        let store = AccessOrNone(self.touches.store);
+        let second = AccessOrNone(self.touches.second_store);
         let addr = (": 0x", Address(self.addr));
         match self.cause {
-            Cause::StoresTwice => (addr, (", by ", store), (" and by ", again)).push(out),
+            Cause::StoresTwice => (addr, (", by ", store), (" and by ", second)).push(out),
             Cause::StoresSource => (addr, (", loaded by ", load), (", stored by ", store)).push(
                 out,
             ),

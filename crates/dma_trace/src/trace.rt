@@ -1,11 +1,11 @@
 //! A program, executed over memory with a line for each instruction.
 #![tactic(auto, using(dma_text::proofs::Begun::begins_same, dma_text::proofs::Begun::begins_appended, dma_text::proofs::Begun::begins_more))]
 
-ghost use Rattle.std.specs.Prelude.{◌≡◌, ◌≤◌, ◌<◌, ◌++◌, IsTrue, IsSome, IsOk, IfOk, OnOk, OnErr, length, map, slice_get};
+ghost use Rattle.std.specs.Prelude.{◌≡◌, ◌≤◌, ◌<◌, ◌++◌, IsTrue, IsSome, IsOk, IfOk, None, OnOk, OnErr, length, map, slice_get};
 ghost use Rattle.dma_insn.specs.AssemblyText.{most_program_bytes};
 ghost use Rattle.dma_mem.specs.Lent.{marks_at};
 ghost use Rattle.dma_mem.specs.Regions.{image_of, in_order, pieces_of, read_only_of};
-ghost use Rattle.dma_chan.specs.Channel.{last_count};
+ghost use Rattle.dma_chan.specs.Channel.{last_count, loaded_on};
 ghost use Rattle.dma_chan.specs.LentRegions.{segment_of, with_gaps_of};
 ghost use Rattle.dma_chan.specs.Stepping.{after_step, answer_at};
 ghost use Rattle.dma_text.specs.Text.{Begins};
@@ -151,6 +151,63 @@ fn finish(
     push_end(turn, first, at, stored, out, err)
 }
 
+// Executes a loaded program until it ends, waits or fails, or until the limit. Loads and stores fail at these marks.
+// Appends the lines, the end and the waveform.
+fn run_loaded<P: Progress>(
+    alloc: Global,
+    program: &[u8],
+    channel: &mut Channel,
+    marks: &Marks,
+    regions: &mut [Region<'_>],
+    options: &TraceOptions,
+    out: &mut Vec<u8>,
+    err: &mut Vec<u8>,
+    wave: &mut Vec<u8>,
+    progress: &mut P,
+) -> Result<bool, AllocError>
+    requires long { length program.now ≤ most_program_bytes }
+    requires order { IsTrue (in_order (pieces_of regions.old)) }
+    requires loaded { channel.old
+        ≡ loaded_on options.now.bus (record { bytes = program.now; cost = None }) }
+    ensures ok { IfOk result (λ good. Runs options.now (with_gaps_of regions.old marks.now)
+        (map segment_of regions.old) (opening options.now program.now
+        (image_of (pieces_of regions.old))) good (image_of (pieces_of regions.new))
+        out.old.items err.old.items wave.old.items
+        out.new.items err.new.items wave.new.items) }
+    ensures places { map segment_of regions.new ≡ map segment_of regions.old }
+    ensures begins { Begins out.new.items out.old.items }
+    ensures begins_err { Begins err.new.items err.old.items }
+    ensures begins_wave { Begins wave.new.items wave.old.items }
+{
+    let mut events = Events::from_bits(options.events);
+    let mut front = Front::start(options.bus);
+    push_first(options, channel, &front, wave)?;
+    for steps in 0..options.limit {
+        report(progress, steps);
+        let ahead = channel.ahead();
+        let at = Point {
+            ahead,
+            steps,
+            front,
+        };
+        let stored = channel.stored();
+        let turn = step(channel, regions, &mut events, marks);
+        let ChanTurn::Moved = turn else {
+            return finish(options, &Some(turn), program, &at, stored, out, err, wave);
+        };
+        front.advance(insn_of(&at));
+        push_step(alloc, options, &at, &front, regions, out)?;
+        push_next(options, &at, channel, &front, wave)?;
+    }
+    let at = Point {
+        ahead: channel.ahead(),
+        steps: options.limit,
+        front,
+    };
+    let stored = channel.stored();
+    finish(options, &None, program, &at, stored, out, err, wave)
+}
+
 // Executes a program until it ends, waits or fails, or until the limit. Appends the lines, the end and the waveform.
 fn run<P: Progress>(
     alloc: Global,
@@ -177,33 +234,18 @@ fn run<P: Progress>(
     let marks = failing_marks(alloc, &options.failing)?;
     let mut channel = Channel::new(alloc)?;
     channel.load_bytes(program, options.bus);
-    let mut events = Events::from_bits(options.events);
-    let mut front = Front::start(options.bus);
-    push_first(options, &channel, &front, wave)?;
-    for steps in 0..options.limit {
-        report(progress, steps);
-        let ahead = channel.ahead();
-        let at = Point {
-            ahead,
-            steps,
-            front,
-        };
-        let stored = channel.stored();
-        let turn = step(&mut channel, regions, &mut events, &marks);
-        let ChanTurn::Moved = turn else {
-            return finish(options, &Some(turn), program, &at, stored, out, err, wave);
-        };
-        front.advance(insn_of(&at));
-        push_step(alloc, options, &at, &front, regions, out)?;
-        push_next(options, &at, &channel, &front, wave)?;
-    }
-    let at = Point {
-        ahead: channel.ahead(),
-        steps: options.limit,
-        front,
-    };
-    let stored = channel.stored();
-    finish(options, &None, program, &at, stored, out, err, wave)
+    run_loaded(
+        alloc,
+        program,
+        &mut channel,
+        &marks,
+        regions,
+        options,
+        out,
+        err,
+        wave,
+        progress,
+    )
 }
 
 // Traces a program. If memory runs out, it may have appended a part.
@@ -235,8 +277,8 @@ fn trace_all<P: Progress>(
 
 /// Executes a program over regions of memory, and appends to `out` a line for each instruction that `options` asks for,
 /// how the program ended, and the memory that it asks for. Returns whether the program ended or waits. If it is too
-/// long, fails, or reaches the limit, appends to `err` why. Appends the waveform of the whole run to `wave` if `options`
-/// asks for it, with at most 120 bytes for each instruction.
+/// long, fails, or reaches the limit, appends to `err` why. Appends the waveform of the whole run to `wave` if
+/// `options` asks for it, with at most 120 bytes for each instruction.
 ///
 /// If memory runs out, it fails and appends nothing; the regions may have changed.
 pub fn trace<P: Progress>(

@@ -1,28 +1,13 @@
 -- Texts that are appended piece by piece.
-use Rattle.std.proofs.Common.{◌≡◌, ℕ, List, [], ◌∷◌, ◌++◌, None, refl, ap, sym, ◌∙◌, append_assoc, append-nil}
-use Rattle.dma_engine.specs.declared.outcome.TransResult.{TransResult}
-use Rattle.dma_engine.specs.declared.outcome.TransResult.TheVariants.{NoError, ReadFailed, WriteFailed, Aborted}
-use Rattle.dma_engine.specs.Object.{no_transfer}
+use Rattle.std.proofs.Common.{◌≡◌, ℕ, List, [], ◌∷◌, ◌++◌, ap, sym, ◌∙◌, append_assoc, append-nil}
 use Rattle.dma_engine.specs.View.{View}
 use Rattle.dma_script.specs.Command.{printed_text, text_of}
-use Rattle.dma_why.specs.Why.{failed_at}
 
 -- a line of three texts and a line feed, and what follows it
 pub line_text : (o x f s nl ev a b c d e : List ℕ) → a ≡ o ++ x → b ≡ a ++ f → c ≡ b ++ s → d ≡ c ++ nl → e ≡ d ++ ev → e ≡ o ++ ((((x ++ f) ++ s) ++ nl) ++ ev)
 line_text o x f s nl ev a b c d e ha hb hc hd he =
     he ∙ ap (λ l. l ++ ev) (hd ∙ ap (λ l. l ++ nl) (hc ∙ ap (λ l. l ++ s) (hb ∙ ap (λ l. l ++ f) ha)))
     ∙ simp append_assoc
-
--- two texts
-pub two_texts : (o x y a b : List ℕ) → a ≡ o ++ x → b ≡ a ++ y → b ≡ o ++ (x ++ y)
-two_texts o x y a b ha hb = hb ∙ ap (λ l. l ++ y) ha ∙ append_assoc o x y
-
--- a transfer of nothing fails nowhere
-pub fails_nowhere : (how : TransResult) (done : ℕ) → failed_at no_transfer how done ≡ None
-fails_nowhere NoError done = refl
-fails_nowhere ReadFailed done = refl
-fails_nowhere WriteFailed done = refl
-fails_nowhere Aborted done = refl
 
 -- the text of an explanation as the only group that is printed
 pub explained : (lines : View → List (List ℕ)) (o n : List ℕ) (v w : View) → v ≡ w → n ≡ o ++ text_of (lines v) → n ≡ o ++ printed_text (lines w ∷ [])

@@ -1,8 +1,6 @@
 -- Lists of cookies and of channels, one more at a time.
-use Rattle.std.proofs.Common.{◌≡◌, ℕ, ◌+◌, List, [], ◌∷◌, ◌++◌, map, zero-add, Bool, true, false, refl, ap, sym, ◌∙◌, arith, append_assoc, append-nil}
-use Rattle.std.specs.Prelude.{◌==◌, ◌&&◌, not}
+use Rattle.std.proofs.Common.{◌≡◌, ℕ, ◌+◌, List, [], ◌∷◌, ◌++◌, map, zero-add, Bool, true, false, refl, ap, sym, ◌∙◌, append_assoc, append-nil}
 use Rattle.std.specs.List.{filter, flat_map, range_with_len}
-use Rattle.std.proofs.lemmas.Bool.{eq-eqb, ne_eqb}
 use Rattle.std.proofs.lemmas.List.{flat_map_more, map-append}
 use Rattle.std.proofs.lemmas.List.FromFn.{map-range_with_len_more}
 use Rattle.std.proofs.lemmas.List.Concat.{flat_map-append}
@@ -53,26 +51,6 @@ text_more f before now new n so_far more =
     ∙ append_assoc before (text_of (flat_map f (range_with_len 0 n))) (text_of (f n))
     ∙ ap (λ l. before ++ l) (sym (flat_map-append (λ line. line ++ 10 ∷ []) (flat_map f (range_with_len 0 n)) (f n)))
     ∙ ap (λ l. before ++ text_of l) (channels_more f [] n)
-
--- ---- whether a cookie would signal an event
-
-pub has_signalled : (s : Bool) (x y : ℕ) (b : Bool) → s ≡ true → x ≡ y → false ≡ (not (s && x + 1 == y + 1) && b)
-has_signalled s x y b is same =
-    let e : (x + 1 == y + 1) ≡ true = eq-eqb (x + 1) (y + 1) (omega arith) in
-    rw (is, e) refl
-
-pub signals_none : (a : Bool) → false ≡ (a && false)
-signals_none true = refl
-signals_none false = refl
-
-pub yet_to_signal : (s : Bool) (x y : ℕ) (b : Bool) → s ≡ false → b ≡ (not (s && x + 1 == y + 1) && b)
-yet_to_signal s x y b is = rw is refl
-
-pub not_the_front : (s : Bool) (x y : ℕ) (b : Bool) → (x ≡ y → ⊥) → b ≡ (not (s && x + 1 == y + 1) && b)
-not_the_front true x y b other =
-    let e : (x + 1 == y + 1) ≡ false = ne_eqb (x + 1) (y + 1) (λ s. other (omega arith)) in
-    rw e refl
-not_the_front false x y b other = refl
 
 -- the items of one channel more, and the item of one channel more
 pub items_more : {X : Type 0} (f : ℕ → List X) (now new : List X) (n : ℕ) → now ≡ flat_map f (range_with_len 0 n) → new ≡ now ++ f n → new ≡ flat_map f (range_with_len 0 (n + 1))

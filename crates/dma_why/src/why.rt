@@ -19,7 +19,9 @@ fn push_why(alloc: Global, script: RunScript, out: &mut Vec<u8>) -> Result<(), A
         ≡ out.old.items ++ printed_text (why_printed_of (Ok script)).groups) }
 {
     let engine = engine_after(alloc, script)?;
-    push_explanation(alloc, &engine, out)
+    let pushed = push_explanation(alloc, &engine, out);
+    drop(engine);
+    pushed
 }
 
 /// Executes a script of `dmasim run`, and appends why each channel is where it is after it. Of a script with a fault it

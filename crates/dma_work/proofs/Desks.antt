@@ -1,9 +1,10 @@
 -- What each call keeps of a desk.
-use Rattle.std.proofs.Common.{◌≡◌, ℕ, ◌+◌, ◌<◌, ◌≤◌, List, [], ◌∷◌, ◌++◌, length, true, false, refl, ap, sym, ◌∙◌, arith, append-nil, append_assoc, subst, inl, inr, zero, suc}
+use Rattle.std.proofs.Common.{◌≡◌, ℕ, ◌+◌, ◌<◌, ◌≤◌, List, [], ◌∷◌, ◌++◌, length, true, false, refl, ap, sym, ◌∙◌, arith, append-nil, append_assoc, subst, inl, inr, zero-add}
 use Rattle.std.specs.Prelude.{if◌then◌else◌, slice_set, Result, Ok}
 use Rattle.std.specs.List.{All}
-use Rattle.std.proofs.lemmas.Bool.{cases_eq, cases_lt}
-use Rattle.std.proofs.lemmas.List.{length-map, length-set, get_or-set_same, get_or-set_other, get_or_past}
+use Rattle.std.proofs.lemmas.Bool.{cases_eq}
+use Rattle.std.proofs.lemmas.List.{ext_get_or, length-map, length-set, get_or-set_same, get_or-set_other}
+use Rattle.std.proofs.lemmas.List.FromFn.{get_or-map-range_with_len}
 use Rattle.std.proofs.lemmas.List.Elements.{All-head, All-tail}
 use Rattle.std.proofs.Math.ListN.{get_or-map}
 use Rattle.logbook.specs.Pages.{Book}
@@ -33,81 +34,53 @@ use Rattle.dma_work.specs.inner.Published.{EditionState, HasActed, PublisherStat
 use Rattle.dma_work.specs.Ticks.{AreFinished, IsGiven, base_of, board_from, eight}
 use Rattle.dma_work.proofs.Boards.{board_append}
 
--- ---- boards that agree at a channel
+-- ---- boards that agree at the channels 0 to 7
 
-set_alike : (f : Counts → Counts) (a b : Board) (c ch : ℕ) → ch < length a → ch < length b → counts a ch ≡ counts b ch → counts (slice_set a c (f (counts a c))) ch ≡ counts (slice_set b c (f (counts b c))) ch
-set_alike f a b c ch la lb e = elim (cases_eq c ch) [
-  | inl is ↦ rw is (get_or-set_same a ch (f (counts a ch)) no_counts la ∙ ap f e ∙ sym (get_or-set_same b ch (f (counts b ch)) no_counts lb))
-  | inr apart ↦ get_or-set_other a c ch (f (counts a c)) no_counts (λ k. apart (sym k)) ∙ e ∙ sym (get_or-set_other b c ch (f (counts b c)) no_counts (λ k. apart (sym k)))
+Alike : Board → Board → Type 0
+Alike a b = (ch : ℕ) → ch < 8 → counts a ch ≡ counts b ch
+
+set_alike : (f : Counts → Counts) (a b : Board) (c ch : ℕ) → c < length a → c < length b → counts a c ≡ counts b c → counts a ch ≡ counts b ch → counts (slice_set a c (f (counts a c))) ch ≡ counts (slice_set b c (f (counts b c))) ch
+set_alike f a b c ch la lb here e = elim (cases_eq ch c) [
+  | inl is ↦ rw is (get_or-set_same a c (f (counts a c)) no_counts la ∙ ap f here ∙ sym (get_or-set_same b c (f (counts b c)) no_counts lb))
+  | inr apart ↦ get_or-set_other a c ch (f (counts a c)) no_counts apart ∙ e ∙ sym (get_or-set_other b c ch (f (counts b c)) no_counts apart)
 ]
 
-tick_alike : (a b : Board) (t : Tick) (ch : ℕ) → ch < length a → ch < length b → counts a ch ≡ counts b ch → counts (ticked a t) ch ≡ counts (ticked b t) ch
-tick_alike a b (Submitted c) ch la lb e = set_alike (λ x. record x { used = added_up x.used 1 }) a b c ch la lb e
-tick_alike a b (Finished c n) ch la lb e = set_alike (λ x. record x { finished = added_up x.finished n }) a b c ch la lb e
+tick_alike : (a b : Board) (t : Tick) → length a ≡ 8 → length b ≤ 8 → tick_channel t < length b → Alike a b → Alike (ticked a t) (ticked b t)
+unfolding Alike
+tick_alike a b (Submitted c) la few less e ch in_8 = set_alike (λ x. record x { used = added_up x.used 1 }) a b c ch (omega arith) less (e c (omega arith)) (e ch in_8)
+tick_alike a b (Finished c n) la few less e ch in_8 = set_alike (λ x. record x { finished = added_up x.finished n }) a b c ch (omega arith) less (e c (omega arith)) (e ch in_8)
 
 ticked_length : (a : Board) (t : Tick) → length (ticked a t) ≡ length a
 ticked_length a (Submitted c) = length-set a c _
 ticked_length a (Finished c n) = length-set a c _
 
-boards_alike : (a b : Board) (ts : List Tick) (ch : ℕ) → ch < length a → ch < length b → counts a ch ≡ counts b ch → counts (board_after a ts) ch ≡ counts (board_after b ts) ch
-boards_alike a b [] ch la lb e = e
-boards_alike a b (t ∷ ts) ch la lb e =
-    boards_alike (ticked a t) (ticked b t) ts ch (omega (arith, la, ticked_length a t)) (omega (arith, lb, ticked_length b t)) (tick_alike a b t ch la lb e)
-
-pub counts_eight : (b : Board) (ch : ℕ) → ch < 8 → counts (eight b) ch ≡ counts b ch
-counts_eight b zero less = refl
-counts_eight b (suc zero) less = refl
-counts_eight b (suc (suc zero)) less = refl
-counts_eight b (suc (suc (suc zero))) less = refl
-counts_eight b (suc (suc (suc (suc zero)))) less = refl
-counts_eight b (suc (suc (suc (suc (suc zero))))) less = refl
-counts_eight b (suc (suc (suc (suc (suc (suc zero)))))) less = refl
-counts_eight b (suc (suc (suc (suc (suc (suc (suc zero))))))) less = refl
-counts_eight b (suc (suc (suc (suc (suc (suc (suc (suc n)))))))) less = absurd (omega arith)
-
 after_length : (b : Board) (ts : List Tick) → length (board_after b ts) ≡ length b
 after_length b [] = refl
 after_length b (t ∷ ts) = after_length (ticked b t) ts ∙ ticked_length b t
 
--- a board of eight channels is known by its counts
-eight_is : (e b : Board) → length e ≡ 8 → ((i : ℕ) → i < 8 → counts e i ≡ counts b i) → e ≡ eight b
-eight_is (a ∷ c ∷ d ∷ e ∷ f ∷ g ∷ h ∷ i ∷ []) b n same =
-    let s0 : a ≡ counts b 0 = same 0 (omega arith) in
-    let s1 : c ≡ counts b 1 = same 1 (omega arith) in
-    let s2 : d ≡ counts b 2 = same 2 (omega arith) in
-    let s3 : e ≡ counts b 3 = same 3 (omega arith) in
-    let s4 : f ≡ counts b 4 = same 4 (omega arith) in
-    let s5 : g ≡ counts b 5 = same 5 (omega arith) in
-    let s6 : h ≡ counts b 6 = same 6 (omega arith) in
-    let s7 : i ≡ counts b 7 = same 7 (omega arith) in
-    rw (s0, s1, s2, s3, s4, s5, s6, s7) refl
-eight_is [] b n same = absurd (omega (arith, n))
-eight_is (a ∷ []) b n same = absurd (omega (arith, n))
-eight_is (a ∷ c ∷ []) b n same = absurd (omega (arith, n))
-eight_is (a ∷ c ∷ d ∷ []) b n same = absurd (omega (arith, n))
-eight_is (a ∷ c ∷ d ∷ e ∷ []) b n same = absurd (omega (arith, n))
-eight_is (a ∷ c ∷ d ∷ e ∷ f ∷ []) b n same = absurd (omega (arith, n))
-eight_is (a ∷ c ∷ d ∷ e ∷ f ∷ g ∷ []) b n same = absurd (omega (arith, n))
-eight_is (a ∷ c ∷ d ∷ e ∷ f ∷ g ∷ h ∷ []) b n same = absurd (omega (arith, n))
-eight_is (a ∷ c ∷ d ∷ e ∷ f ∷ g ∷ h ∷ i ∷ j ∷ rest) b n same = absurd (omega (arith, n))
+boards_alike : (a b : Board) (ts : List Tick) → length a ≡ 8 → length b ≤ 8 → All (λ t. tick_channel t < length b) ts → Alike a b → Alike (board_after a ts) (board_after b ts)
+boards_alike a b [] la few below e = e
+boards_alike a b (t ∷ ts) la few below e =
+    let n = ticked_length b t in
+    boards_alike (ticked a t) (ticked b t) ts (ticked_length a t ∙ la) (omega (arith, few, n)) (rw n (All-tail (λ t. tick_channel t < length b) t ts below))
+    (tick_alike a b t la few (All-head (λ t. tick_channel t < length b) t ts below) e)
 
--- a channel of which there is no tick keeps its counts
-untouched : (a : Board) (ts : List Tick) (n ch : ℕ) → n ≤ ch → All (λ t. tick_channel t < n) ts → counts (board_after a ts) ch ≡ counts a ch
-untouched a [] n ch past below = refl
-untouched a (t ∷ ts) n ch past below =
-    untouched (ticked a t) ts n ch past (All-tail (λ t. tick_channel t < n) t ts below) ∙ one a t n ch past (All-head (λ t. tick_channel t < n) t ts below) where
-      one : (a : Board) (t : Tick) (n ch : ℕ) → n ≤ ch → tick_channel t < n → counts (ticked a t) ch ≡ counts a ch
-      one a (Submitted c) n ch past less = get_or-set_other a c ch _ no_counts (λ k. omega (arith, past, less, k))
-      one a (Finished c m) n ch past less = get_or-set_other a c ch _ no_counts (λ k. omega (arith, past, less, k))
+pub counts_eight : (b : Board) (ch : ℕ) → ch < 8 → counts (eight b) ch ≡ counts b ch
+counts_eight b ch less = get_or-map-range_with_len (counts b) 0 8 ch ch no_counts less (zero-add ch)
 
 -- ticks of channels that are there leave the same on a board of eight
 after_eight : (b : Board) (ts : List Tick) → length b ≤ 8 → All (λ t. tick_channel t < length b) ts → board_after (eight b) ts ≡ eight (board_after b ts)
-after_eight b ts few below = eight_is (board_after (eight b) ts) (board_after b ts) (after_length (eight b) ts) (λ i less. elim (cases_lt i (length b)) [
-  | inl inside ↦ boards_alike (eight b) b ts i less inside (counts_eight b i less)
-  | inr past ↦
-      untouched (eight b) ts (length b) i past below ∙ counts_eight b i less ∙ get_or_past b i no_counts past
-      ∙ sym (get_or_past (board_after b ts) i no_counts (omega (arith, past, after_length b ts)))
-])
+unfolding Alike
+after_eight b ts few below =
+    let n = after_length (eight b) ts in
+    ext_get_or no_counts (board_after (eight b) ts) (eight (board_after b ts)) n (λ i less.
+    boards_alike (eight b) b ts refl few below (counts_eight b) i (omega (arith, n)) ∙ sym (counts_eight (board_after b ts) i (omega (arith, n))))
+
+-- and so those of an engine's history
+history_eight : (v : View) → IsSound v → board_after (base_of v) (ticks_of v.history) ≡ eight (board_after (board_of v.base) (ticks_of v.history))
+history_eight v h =
+    let o = base_counts_bounded v h in
+    after_eight (board_of v.base) (ticks_of v.history) (omega (arith, o.0, o.1)) (subst (λ n. All (λ t. tick_channel t < n) (ticks_of v.history)) (sym o.0) (ticks_name_channels v h))
 
 -- ---- steps
 
@@ -198,16 +171,13 @@ module _ (opening : View) (base : Board) (log : Book) where
   kept_checkpoint old new p q b sound h is k =
       let c = checkpoints_keep old.view new.view sound h in
       let ticks = ticks_of old.view.history in
-      let o = base_counts_bounded old.view sound in
-      let few : length (board_of old.view.base) ≤ 8 = omega (arith, o.0, o.1) in
-      let there = subst (λ n. All (λ t. tick_channel t < n) ticks) (sym o.0) (ticks_name_channels old.view sound) in
       let next : new.view ≡ checkpointed old.view = accepted (checkpoint_fault old.view) old.view new.view (checkpointed old.view) h in
       let before : p.shown.ticks ≡ p.before ++ ticks = ap (λ (x : EditionState). x.ticks) k.shown in
       rw is (record {
         shown = k.shown ∙ ap board (sym before ∙ sym (ap (λ (es : List Entry). p.shown.ticks ++ ticks_of es) c.0 ∙ append-nil p.shown.ticks));
         pending = k.pending;
         opens = ap (board_from base) before ∙ board_append base p.before ticks ∙ ap (λ x. board_after x ticks) k.opens
-            ∙ after_eight (board_of old.view.base) ticks few there
+            ∙ history_eight old.view sound
             ∙ ap eight (boards_count old.view sound ∙ sym c.1);
         small = k.small;
         counts = record { steps = k.counts.steps ∙ sym c.2; finished = k.counts.finished ∙ sym c.3 };
@@ -230,10 +200,8 @@ kept_anew opening opening_now base base_now log log_now engine p b e k names non
 -- The published board has the engine's own counts of each channel.
 pub board_counts : (base : Board) (before : List Tick) (v : View) → board_from base before ≡ base_of v → IsSound v → (ch : ℕ) → ch < channels v → counts (board_from base (before ++ ticks_of v.history)) ch ≡ counts_of (channel (object_of v) ch)
 board_counts base before v opens h ch less =
-    let o = base_counts_bounded v h in
-    let inside : ch < length (board_of v.base) = omega (arith, less, o.0) in
-    ap (λ b. counts b ch) (board_append base before (ticks_of v.history) ∙ ap (λ b. board_after b (ticks_of v.history)) opens)
-    ∙ boards_alike (eight (board_of v.base)) (board_of v.base) (ticks_of v.history) ch (omega (arith, less, o.1)) inside (counts_eight (board_of v.base) ch (omega (arith, less, o.1)))
+    ap (λ b. counts b ch) (board_append base before (ticks_of v.history) ∙ ap (λ b. board_after b (ticks_of v.history)) opens ∙ history_eight v h)
+    ∙ counts_eight (board_after (board_of v.base) (ticks_of v.history)) ch (omega (arith, less, (base_counts_bounded v h).1))
     ∙ ap (λ b. counts b ch) (boards_count v h)
     ∙ get_or-map counts_of (object_of v).channels ch empty_channel
 

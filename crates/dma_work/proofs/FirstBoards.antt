@@ -1,8 +1,8 @@
 -- The board with which a published list begins.
-use Rattle.std.proofs.Common.{◌≡◌, ℕ, zero, suc, ◌+◌, ◌<◌, List, [], ◌∷◌, ◌++◌, take, length, refl, ap, sym, ◌∙◌, arith, add-one, append_assoc, inl, inr}
+use Rattle.std.proofs.Common.{◌≡◌, ℕ, ◌+◌, ◌<◌, List, [], ◌∷◌, ◌++◌, take, length, ap, ◌∙◌, arith, inl, inr}
 use Rattle.std.specs.Prelude.{slice_index_or}
 use Rattle.std.proofs.lemmas.Bool.{cases_lt}
-use Rattle.std.proofs.lemmas.List.{get_or_past}
+use Rattle.std.proofs.lemmas.List.{get_or_past, take_more}
 use Rattle.dma_engine.specs.declared.entry.Entry.{Entry}
 use Rattle.dma_engine.specs.Ticks.{Counts, board_of, counts, no_counts, ticks_of}
 use Rattle.dma_engine.specs.View.{View, IsSound}
@@ -14,11 +14,7 @@ use Rattle.dma_work.proofs.Desks.{counts_eight}
 
 -- the ticks of one entry more
 pub ticks_more : (es : List Entry) (i : ℕ) (d : Entry) → i < length es → ticks_of (take (i + 1) es) ≡ ticks_of (take i es) ++ ticks_of (slice_index_or es i d ∷ [])
-ticks_more [] i d h = absurd (omega arith)
-ticks_more (e ∷ es) zero d h = refl
-ticks_more (e ∷ es) (suc i) d h =
-    let rest = ticks_more es i d (omega arith) in
-    rw add-one (ticks_append (e ∷ []) (take (suc i) es) ∙ ap (λ l. ticks_of (e ∷ []) ++ l) (rw add-one at rest) ∙ sym (append_assoc (ticks_of (e ∷ [])) (ticks_of (take i es)) (ticks_of (slice_index_or es i d ∷ []))) ∙ ap (λ l. l ++ ticks_of (slice_index_or es i d ∷ [])) (sym (ticks_append (e ∷ []) (take i es))))
+ticks_more es i d h = ap ticks_of (take_more es i d h) ∙ ticks_append (take i es) (slice_index_or es i d ∷ [])
 
 -- an engine's history begins with counts of 32 bits
 pub small_base : (v : View) → IsSound v → AreCounts (base_of v)

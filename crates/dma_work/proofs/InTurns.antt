@@ -1,9 +1,10 @@
 -- The turns that were taken on a shift.
-use Rattle.std.proofs.Common.{◌≡◌, ◌≢◌, ◌==◌, ℕ, zero, suc, ◌+◌, ◌<◌, ◌≤◌, Bool, true, false, List, [], ◌∷◌, ◌++◌, length, take, refl, sym, ap, ◌∙◌, subst, arith, append-nil, add-one, inl, inr}
+use Rattle.std.proofs.Common.{◌≡◌, ◌≢◌, ◌==◌, ℕ, ◌+◌, ◌<◌, ◌≤◌, Bool, true, false, List, [], ◌∷◌, ◌++◌, length, take, refl, sym, ap, ◌∙◌, subst, arith, append-nil, add-one, inl, inr}
 use Rattle.std.specs.Prelude.{if◌then◌else◌, Result, slice_index_or, slice_set}
 use Rattle.std.specs.List.{All}
 use Rattle.std.proofs.lemmas.Bool.{cases_eq, eq-eqb, ne_eqb}
-use Rattle.std.proofs.lemmas.List.{get_or-set_other, get_or-set_same, length-map, length-set, map-append, take_more}
+use Rattle.std.proofs.Math.Seq.{map-set_same}
+use Rattle.std.proofs.lemmas.List.{get_or-map, get_or-set_other, get_or-set_same, get_or_default, length-map, length-set, map-append, take_more}
 use Rattle.std.proofs.lemmas.List.Elements.{All-push}
 use Rattle.std.proofs.lemmas.List.Sums.{sum_by-append}
 use Rattle.dma_engine.specs.Answer.{StepAnswers}
@@ -17,7 +18,7 @@ use Rattle.dma_work.specs.declared.worker.Totals.{Totals}
 use Rattle.dma_work.specs.Desk.{stepped_book}
 use Rattle.dma_work.specs.Rotation.{channel_at, rotation}
 use Rattle.dma_work.specs.Taken.{LeadsTo, TakenTurn, TookAllTurns, channels_of, channels_of_job}
-use Rattle.dma_work.specs.Shift.{AreNewSeats, HasNoTurn, IsDone, TakesNext, jobs_of}
+use Rattle.dma_work.specs.Shift.{AreNewSeats, IsDone, TakesNext}
 use Rattle.dma_work.specs.inner.InTurn.{IsInTurn}
 use Rattle.dma_work.proofs.ItemsOfLists.{some_item}
 
@@ -47,11 +48,6 @@ module _ (turns : List TakenTurn) (t : TakenTurn) where
       channels_more_law k turns (t ∷ []) ∙ ap (λ b. channels_of k turns ++ (if b then t.channel ∷ [] else [])) (ne_eqb t.worker k (λ e. apart (sym e)))
       ∙ append-nil (channels_of k turns)
 
-jobs_set : (seats : List Seat) (k : ℕ) (seat : Seat) → seat.job ≡ (slice_index_or seats k seat).job → jobs_of (slice_set seats k seat) ≡ jobs_of seats
-jobs_set [] k seat same = refl
-jobs_set (s ∷ seats) zero seat same = ap (λ j. j ∷ jobs_of seats) same
-jobs_set (s ∷ seats) (suc k) seat same = ap (λ l. s.job ∷ l) (jobs_set seats k seat same)
-
 -- a seat's next turn
 next_turn : (job : Job) (n m ch : ℕ) (channels : List ℕ) → channels ≡ rotation job.first job.last n → ch ≡ channel_at job.first job.last n → m ≡ n + 1 → channels ++ ch ∷ [] ≡ rotation job.first job.last m
 next_turn job n m ch channels before here more = rw (more, add-one n, before, here) refl
@@ -67,7 +63,7 @@ in_turn_more opening jobs v w book worker ch r old new step next h =
       leads = leads_more h.turns t opening v w h.leads step;
       steps = omega (arith, h.steps, sum_by-append (λ (x : TakenTurn). steps_in x.answer) h.turns (t ∷ []));
       finished = omega (arith, h.finished, sum_by-append (λ (x : TakenTurn). finishes_in x.answer) h.turns (t ∷ []));
-      jobs_are = jobs_set old worker next.seat (next.job next.seat) ∙ h.jobs_are;
+      jobs_are = map-set_same (λ (s : Seat). s.job) old worker next.seat next.seat (next.job next.seat) ∙ h.jobs_are;
       each = λ k s less. elim (cases_eq k worker) [
         | inl same ↦
             let was = slice_index_or old worker s in
@@ -108,16 +104,10 @@ new_more jobs n job seats seat less at is fresh new = (
   All-push (λ (s : Seat). s.taken ≡ 0) seats seat new.1 fresh,
 )
 
--- an item in range doesn't depend on the other value
-same_item : (seats : List Seat) (k : ℕ) (d e : Seat) → k < length seats → slice_index_or seats k d ≡ slice_index_or seats k e
-same_item [] k d e less = absurd (omega arith)
-same_item (x ∷ seats) zero d e less = refl
-same_item (x ∷ seats) (suc k) d e less = same_item seats k d e (omega arith)
-
 -- a turn on the channel that is next
 pub takes_next : (worker ch : ℕ) (seats now : List Seat) (was seat : Seat) → seats ≡ now → worker < length seats → was ≡ slice_index_or seats worker was → was.next ≡ ch → (seat.job ≡ was.job) × (seat.taken ≡ was.taken + 1) → TakesNext worker ch now (slice_set seats worker seat)
 takes_next worker ch seats now was seat same less at here more =
-    let item : (s : Seat) → was ≡ slice_index_or now worker s = λ s. at ∙ same_item seats worker was s less ∙ ap (λ l. slice_index_or l worker s) same in record {
+    let item : (s : Seat) → was ≡ slice_index_or now worker s = λ s. at ∙ get_or_default seats worker was s less ∙ ap (λ l. slice_index_or l worker s) same in record {
       seat = seat;
       there = subst (λ l. worker < length l) same less;
       now = ap (λ l. slice_set l worker seat) same;
@@ -128,22 +118,12 @@ takes_next worker ch seats now was seat same less at here more =
           ∙ ap (λ (x : Seat). channel_at seat.job.first seat.job.last x.taken) (item s);
     }
 
--- a worker whose seat has no turn left
-pub no_turn : (worker : ℕ) (seats now : List Seat) (was : Seat) → seats ≡ now → worker < length seats → was ≡ slice_index_or seats worker was → was.job.turns ≤ was.taken → HasNoTurn worker now
-no_turn worker seats now was same less at past s inside =
-    subst IsDone (at ∙ same_item seats worker was s less ∙ ap (λ l. slice_index_or l worker s) same) (omega (arith, past, was.within))
-
 -- ---- all turns
 
 pub done_more : (seats : List Seat) (n : ℕ) (seat : Seat) → n < length seats → seat ≡ slice_index_or seats n seat → seat.job.turns ≤ seat.taken → All IsDone (take n seats) → All IsDone (take (n + 1) seats)
 done_more seats n seat less at past done =
     subst (All IsDone) (sym (take_more seats n seat less))
     (All-push IsDone (take n seats) (slice_index_or seats n seat) done (subst IsDone at (omega (arith, past, seat.within))))
-
-job_at : (seats : List Seat) (k : ℕ) (j : Job) (s : Seat) → k < length seats → slice_index_or (jobs_of seats) k j ≡ (slice_index_or seats k s).job
-job_at [] k j s less = absurd (omega arith)
-job_at (x ∷ seats) zero j s less = refl
-job_at (x ∷ seats) (suc k) j s less = job_at seats k j s (omega arith)
 
 pub all_taken : (opening : View) (jobs : List Job) (v : View) (book : Totals) (seats : List Seat) → All IsDone seats → IsInTurn opening jobs v book seats → TookAllTurns opening jobs v book
 all_taken opening jobs v book seats done h =
@@ -155,7 +135,7 @@ all_taken opening jobs v book seats done h =
             let inside : k < length seats = omega (arith, less, many) in
             let s = some_item seats (omega (arith, inside)) in
             let seat = slice_index_or seats k s in
-            let job : slice_index_or jobs k j ≡ seat.job = ap (λ l. slice_index_or l k j) (sym h.jobs_are) ∙ job_at seats k j s inside in
+            let job : slice_index_or jobs k j ≡ seat.job = ap (λ l. slice_index_or l k j) (sym h.jobs_are) ∙ get_or-map (λ (s : Seat). s.job) seats k s j inside in
             h.each k s inside ∙ ap (λ n. rotation seat.job.first seat.job.last n) (done k s inside) ∙ ap channels_of_job (sym job);
         no_others = λ k past. h.no_others k (omega (arith, past, many));
       };

@@ -2,13 +2,13 @@
 use Rattle.std.proofs.Common.{◌≡◌, ◌≢◌, ℕ, Option, Some, None, List, [], ◌∷◌, set, refl, sym, ◌∙◌, subst, ⊎_elim}
 use mathlib.Core.Option.{some, some-ne-none}
 use lib.ListN.{get_elem?}
+use base.Growing.{prefix_refl, prefix_trans}
 use Rattle.crossbeam_utils.specs.Register.{Admits, TurnsAt, Forks, Merges}
 use Rattle.atomic_table.proofs.Lists.{at_set, at_snoc}
 use Rattle.dma_work.specs.inner.Published.{EditionState, IsSeen, Keeps, IsLaterEdition, Sees}
-use Rattle.dma_work.proofs.Beginnings.{prefix_self, prefix_trans}
 
 pub later_self : (p : EditionState) → IsLaterEdition p p
-later_self p = record { base = refl; log = refl; ticks = prefix_self p.ticks }
+later_self p = record { base = refl; log = refl; ticks = prefix_refl p.ticks }
 
 pub later_trans : (p q r : EditionState) → IsLaterEdition p q → IsLaterEdition q r → IsLaterEdition p r
 later_trans p q r a b = record { base = b.base ∙ a.base; log = b.log ∙ a.log; ticks = prefix_trans p.ticks q.ticks r.ticks a.ticks b.ticks }

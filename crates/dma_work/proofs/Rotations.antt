@@ -1,10 +1,10 @@
 -- Rotations: the channel after a channel, and the items of the list.
-use Rattle.std.proofs.Common.{length-append, inl, inr, zero, suc, ◌≡◌, ℕ, ◌+◌, ◌-◌, ◌%◌, ◌*◌, ◌/◌, ◌<◌, ◌≤◌, List, [], ◌∷◌, ◌++◌, length, refl, sym, ◌∙◌, subst, ap, arith, add-mul, one-mul}
+use Rattle.std.proofs.Common.{zero, suc, map, zero-add, add-one, ◌≡◌, ℕ, ◌+◌, ◌-◌, ◌%◌, ◌*◌, ◌/◌, ◌<◌, ◌≤◌, List, [], ◌∷◌, ◌++◌, length, refl, sym, ◌∙◌, subst, ap, arith, add-mul, one-mul}
 use Rattle.std.proofs.lemmas.Nat.{mod-mul-add, mod_below, div-add-mod'}
 use Rattle.std.specs.Prelude.{slice_index}
 use Rattle.std.proofs.Math.Nat.{zero-mod}
-use Rattle.std.proofs.lemmas.Bool.{cases_lt}
-use Rattle.std.proofs.lemmas.List.{get_or_append_left, get_or_push}
+use Rattle.std.specs.List.{range_with_len}
+use Rattle.std.proofs.lemmas.List.FromFn.{get_or-map-range_with_len, length-map-range_with_len, map-range_with_len_more}
 use Rattle.dma_work.specs.Rotation.{GoesRound, ListsChannels, StepsInTurn, channel_at, rotation}
 
 -- one turn more
@@ -46,22 +46,16 @@ goes_round first last k le = (
   λ is. sym (channel_again first last k (channel_at first last k) le refl (omega (arith, is))),
 )
 
-pub rotation_length : (first last turns : ℕ) → length (rotation first last turns) ≡ turns
-rotation_length first last zero = refl
-rotation_length first last (suc n) =
-    omega (arith, length-append (rotation first last n) (channel_at first last n ∷ []), rotation_length first last n)
-
-item_at : (first last turns k : ℕ) → k < turns → slice_index (rotation first last turns) k ≡ channel_at first last k
-item_at first last zero k less = absurd (omega arith)
-item_at first last (suc n) k less =
-    let all = rotation_length first last n in
-    let last_one = channel_at first last n in
-    elim (cases_lt k n) [
-      | inl l ↦ get_or_append_left (rotation first last n) (last_one ∷ []) 0 k (omega (arith, all, l)) ∙ item_at first last n k l
-      | inr past ↦
-          let same : k ≡ n = omega (arith, less, past) in
-          get_or_push (rotation first last n) last_one 0 k (omega (arith, all, same)) ∙ ap (channel_at first last) (sym same)
-    ]
+rotation_is : (first last turns : ℕ) → rotation first last turns ≡ map (channel_at first last) (range_with_len 0 turns)
+rotation_is first last zero = refl
+rotation_is first last (suc n) =
+    ap (λ l. l ++ channel_at first last n ∷ []) (rotation_is first last n)
+    ∙ sym (rw (add-one n) at (map-range_with_len_more (channel_at first last) 0 n n (zero-add n)))
 
 pub lists_channels : ListsChannels
-lists_channels first last turns = (rotation_length first last turns, λ k less. item_at first last turns k less)
+lists_channels first last turns =
+    let at = channel_at first last in
+    let is = rotation_is first last turns in (
+      ap length is ∙ length-map-range_with_len at 0 turns,
+      λ k less. ap (λ l. slice_index l k) is ∙ get_or-map-range_with_len at 0 turns k k 0 less (zero-add k),
+    )

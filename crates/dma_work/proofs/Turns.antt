@@ -1,5 +1,5 @@
 -- The turns of a worker, at its lender and at one of which nothing is known.
-use Rattle.std.proofs.Common.{◌≡◌, ℕ, ◌+◌, List, [], ◌∷◌, ap, refl, sym, ◌∙◌, subst, zero-add}
+use Rattle.std.proofs.Common.{◌≡◌, ℕ, ◌+◌, List, [], ◌∷◌, ap, ◌∙◌, subst, zero-add}
 use Rattle.dma_engine.specs.View.{View}
 use Rattle.dma_work.specs.declared.job.Job.{Job}
 use Rattle.dma_work.specs.Desk.{DeskState, TakesAStep, TallyCounts, WorkerState, new_tally}
@@ -7,20 +7,13 @@ use Rattle.dma_work.specs.Rotation.{StepsInTurn, rotation}
 use Rattle.dma_work.specs.Tallies.{TookTurns, TookTurnsAt, any_desk}
 
 module _ {L : Type 0} (opening : View) (passes : ℕ → ℕ → Type 0) (lends : L → DeskState → DeskState → L → Type 0) where
-  worker_is : (w : WorkerState L) (lender : L) (tally : TallyCounts) → w.lender ≡ lender → w.tally ≡ tally → w ≡ record { lender = lender; tally = tally }
-  worker_is w lender tally at is = rw (← at, ← is) refl
-
   -- a new worker that took the turns of a job, and what is left of it
-  pub took : (worker : ℕ) (job : Job) (w x : WorkerState L) (lender left : L) (tally : TallyCounts) → w.lender ≡ lender → w.tally ≡ new_tally worker → left ≡ x.lender → tally ≡ x.tally → x.tally.worker ≡ w.tally.worker → x.tally.turns ≡ w.tally.turns + job.turns → StepsInTurn (TakesAStep opening passes lends) (rotation job.first job.last job.turns) w x → TookTurnsAt opening passes lends worker job lender left tally
-  took worker job w x lender left tally at fresh gone is number count steps =
-      let first = worker_is w lender (new_tally worker) at fresh in
-      let last = worker_is x left tally (sym gone) (sym is) in record {
-        number = ap (λ (t : TallyCounts). t.worker) is ∙ number ∙ ap (λ (t : TallyCounts). t.worker) fresh;
-        count = ap (λ (t : TallyCounts). t.turns) is ∙ count ∙ ap (λ (t : TallyCounts). t.turns + job.turns) fresh ∙ zero-add job.turns;
-        steps =
-            subst (λ v. StepsInTurn (TakesAStep opening passes lends) (rotation job.first job.last job.turns) v (record { lender = left; tally = tally })) first
-            (subst (λ v. StepsInTurn (TakesAStep opening passes lends) (rotation job.first job.last job.turns) w v) last steps);
-      }
+  pub took : (worker : ℕ) (job : Job) (w x : WorkerState L) → w.tally ≡ new_tally worker → x.tally.worker ≡ w.tally.worker → x.tally.turns ≡ w.tally.turns + job.turns → StepsInTurn (TakesAStep opening passes lends) (rotation job.first job.last job.turns) w x → TookTurnsAt opening passes lends worker job w.lender x.lender x.tally
+  took worker job w x fresh number count steps = record {
+    number = number ∙ ap (λ (t : TallyCounts). t.worker) fresh;
+    count = count ∙ ap (λ (t : TallyCounts). t.turns + job.turns) fresh ∙ zero-add job.turns;
+    steps = subst (λ t. StepsInTurn (TakesAStep opening passes lends) (rotation job.first job.last job.turns) (record { lender = w.lender; tally = t }) x) fresh steps;
+  }
 
   -- steps at a lender of which nothing is known
   steps_at_any : (xs : List ℕ) (a b : WorkerState L) → StepsInTurn (TakesAStep opening passes lends) xs a b → StepsInTurn (TakesAStep opening passes any_desk) xs (record { lender = tt; tally = a.tally }) (record { lender = tt; tally = b.tally })

@@ -17,15 +17,13 @@ use std::{env, io};
 
 /// Returns the subcommand that the words of the command line name, if any.
 fn subcommand<'a>(alloc: Global, words: &'a [String]) -> Result<Option<&'a str>, Error> {
-    let matches = Command::new(alloc, "dmasim")
+    let mut command = Command::new(alloc, "dmasim")
         .disable_help_subcommand(true)
-        .subcommand_required(true)
-        .subcommand(Command::new(alloc, "asm"))?
-        .subcommand(Command::new(alloc, "dis"))?
-        .subcommand(Command::new(alloc, "plan"))?
-        .subcommand(Command::new(alloc, "run"))?
-        .subcommand(Command::new(alloc, "race"))?
-        .try_get_matches_from(words)?;
+        .subcommand_required(true);
+    for name in ["asm", "dis", "plan", "run", "race"] {
+        command = command.subcommand(Command::new(alloc, name))?;
+    }
+    let matches = command.try_get_matches_from(words)?;
     Ok(matches.subcommand_name())
 }
 

@@ -19,6 +19,27 @@ use dma_text::text::{Text, print};
 use std::alloc::{AllocError, Global};
 use std::mem;
 
+/// The line of consecutive equal answers to steps of a channel, with their number.
+#[derive(Drop)]
+struct StepLine<T> {
+    ch: u8,
+    answer: T,
+    count: u32,
+}
+
+impl<T: Text> Text for StepLine<T> {
+    ghost text = { λ line. step_line line.ch (T.text line.answer, line.count) };
+
+    ghost is_printed = { λ line. T.is_printed line.answer };
+
+    #[inline(always)]
+    fn push(&self, out: &mut Vec<u8>) -> Result<(), AllocError> {
+        ("step ", self.ch, " ").push(out)?;
+        self.answer.push(out)?;
+        (" x", self.count).push(out)
+    }
+}
+
 /// The answers to the steps of a line so far: the printed lines of the earlier ones, and the last answer with the
 /// number of its consecutive occurrences. A script uses one value for all its `step` lines, so that the memory of its
 /// lists is reused.
@@ -58,7 +79,11 @@ impl StepLines {
         if self.count == 0 {
             return Ok(());
         }
-        let line = (("step ", ch, " ", self.last.as_slice()), " x", self.count);
+        let line = StepLine {
+            ch,
+            answer: self.last.as_slice(),
+            count: self.count,
+        };
         print_line(&mut self.lines, &line)
     }
 
@@ -177,7 +202,12 @@ fn print_step(
         (reply_of (λ turn. Reply.Turned turn) turned ≢ Reply.Refused EngineFault.NoMemory) }
     ensures err { OnErr result (out.new.items ≡ out.old.items) }
 {
-    print_line(out, &(("step ", ch, " ", Shown(turned)), " x", 1u32))
+    let line = StepLine {
+        ch,
+        answer: Shown(turned),
+        count: 1,
+    };
+    print_line(out, &line)
 }
 
 /// Appends the line of one step that moved. Most channels have one digit.
@@ -241,10 +271,27 @@ fn print_transfer(
         (out.new.items ≡ out.old.items ++ transfer_text ch started moved finished) }
     ensures err { OnErr result (out.new.items ≡ out.old.items) }
 {
-    let start = ("step ", ch, " started ", started);
-    let moves = (" x1\nstep ", ch, " moved x", moved);
-    let finish = ("\nstep ", ch, " finished ", finished);
-    print(out, &(start, moves, finish, " NoError residue 0 x1\n"))
+    let finish = Turn::Finished {
+        cookie: finished,
+        result: TransResult::NoError,
+        residue: 0,
+    };
+    let start = StepLine {
+        ch,
+        answer: Shown(Turn::Started(started)),
+        count: 1,
+    };
+    let moves = StepLine {
+        ch,
+        answer: Shown(Turn::Moved),
+        count: moved,
+    };
+    let finish = StepLine {
+        ch,
+        answer: Shown(finish),
+        count: 1,
+    };
+    print(out, &((start, "\n"), (moves, "\n"), (finish, "\n")))
 }
 
 /// Executes `step CH N` of several steps. No step allocates memory for its answer, and the steps after one that changed

@@ -6,4 +6,4 @@ returns g c =
     let w = c.new-worker.ensures in
     let t = c.take_turns.ensures in
     let p = c.into_parts.ensures in
-    took _ _ _ _ _ _ _ _ _ _ w.lender w.tally p.0 p.1 t.worker t.taken t.acts
+    rw (p.0, p.1, ← w.lender) (took _ _ _ _ _ _ _ w.tally t.worker t.taken t.acts)

@@ -1,7 +1,8 @@
 use Rattle.std.proofs.Common.{◌≡◌, ◌+◌, ◌-◌, [], ◌++◌, length, refl, ap, sym, ◌∙◌, arith, rules, append-nil}
 use Rattle.std.specs.List.{slice_get}
 use Rattle.dma_work.specs.inner.Published.{SnapshotState, ticks_of_option}
-use Rattle.dma_work.proofs.Beginnings.{one_longer, prefix_trans}
+use base.Growing.{prefix_trans}
+use Rattle.dma_work.proofs.Beginnings.{one_longer}
 use Rattle.dma_work.proofs.log.Snapshot.is_within_next.Goals as goal
 
 pub returns-then-is_within : goal.returns-then-is_within
