@@ -1,11 +1,16 @@
 -- What a request prints for its input (profile).
-use Rattle.std.specs.Prelude.{◌≡◌, ℕ, Bool, ◌==◌, if◌then◌else◌, List, [], ◌++◌, Option, Some, None, Result, Ok, Err, is_ok}
+use Rattle.std.specs.Prelude.{◌≡◌, ℕ, Bool, true, false, ◌==◌, if◌then◌else◌, List, [], ◌++◌, Option, Some, None, Result, Ok, Err, is_ok}
 use Rattle.dma_chan.specs.declared.bus.Bus.{Bus}
 use Rattle.dma_mem.specs.declared.regions.Region.{Region}
 use Rattle.std.specs.Result.{result_unwrap_or}
+use Rattle.dma_manual.specs.Answer.{Printed, under_name, with_note}
 use Rattle.dma_manual.specs.Assembled.{assembled, read_text}
 use Rattle.dma_manual.specs.Errors.{assembled_err, assembled_out}
+use Rattle.dma_manual.specs.Hexadecimal.{spelled}
 use Rattle.dma_manual.specs.Listing.{is_whole, listed, rest_text, stop_text}
+use Rattle.dma_manual.specs.Notes.{hint, end_warning}
+use Rattle.dma_manual.specs.Refusal.{refusal}
+use Rattle.dma_manual.specs.declared.hexadecimal.Notation.{Notation}
 use Rattle.dma_script.specs.Command.{printed_text}
 use Rattle.dma_seeds.specs.Expect.{is_good, verdict, verdict_text, without_expects}
 use Rattle.dma_seeds.specs.Faults.{race_message, run_message}
@@ -17,10 +22,6 @@ use Rattle.dma_why.specs.Why.{why_printed}
 use Rattle.dma_trace.specs.declared.options.TraceOptions.{TraceOptions}
 use Rattle.dma_trace.specs.Explained.{Appends}
 use Rattle.dma_trace.specs.Traced.{Shows}
-use Rattle.dma330.specs.Answer.{Printed, named, with_note}
-use Rattle.dma330.specs.Notes.{hint, end_warning}
-use Rattle.dma330.specs.Text.{refusal, spelled}
-use Rattle.dma330.specs.declared.text.Notation.{Notation}
 use Rattle.dma330.specs.declared.command_line.Request.{Request}
 use Rattle.dma330.specs.declared.command_line.Request.TheVariants.{Dis, Asm, Explain, Trace, Race, RaceSeeds, Why}
 
@@ -85,11 +86,27 @@ Replies (Race seed) ram input = Races seed input
 Replies (RaceSeeds seeds) ram input = RacesSeeds seeds input
 Replies Why ram input = Reasons input
 
+-- whether a request takes a program
+abbrev pub takes_program : Request → Bool
+takes_program (Dis at) = true
+takes_program (Asm to_file) = false
+takes_program (Explain bus most) = true
+takes_program (Trace options) = true
+takes_program (Race seed) = false
+takes_program (RaceSeeds seeds) = false
+takes_program Why = false
+
+-- whether a request executes a program
+abbrev pub executes : Request → Bool
+executes (Explain bus most) = true
+executes (Trace options) = true
+executes other = false
+
 -- What a request prints for a program, with a warning if it begins with DMAEND, has more bytes and is executed without
 -- a fault.
 abbrev pub ProgramReplies : Request → List Region → List ℕ → Printed → Type 0
 ProgramReplies request ram program p =
-    (q : Printed) × Replies request ram program q × (p ≡ with_note q (end_warning request program q.succeeds))
+    (q : Printed) × Replies request ram program q × (p ≡ with_note q (end_warning (executes request) program q.succeeds))
 
 -- What a request prints for a program that was read from hexadecimal text, or for the text's first fault.
 abbrev pub ReadReplies : Request → Notation → List Region → List ℕ → Result (List ℕ) ℕ → Printed → Type 0
@@ -103,18 +120,14 @@ TextReplies request notation ram text = ReadReplies request notation ram text (s
 -- What a request prints for an input that isn't read as hexadecimal text, without the name of the input.
 abbrev pub RawReplies : Request → List Region → List ℕ → Printed → Type 0
 RawReplies request ram input p =
-    (q : Printed) × ProgramReplies request ram input q × (p ≡ with_note q (hint request input q.succeeds))
+    (q : Printed) × ProgramReplies request ram input q × (p ≡ with_note q (hint (takes_program request) input q.succeeds))
 
 -- What a request prints for an input, without the name of the input.
 abbrev pub InputReplies : Request → Option Notation → List Region → List ℕ → Printed → Type 0
 InputReplies request (Some notation) ram input = TextReplies request notation ram input
 InputReplies request None ram input = RawReplies request ram input
 
--- the same with the name of the input before the message on standard error
-abbrev pub IsUnderName : List ℕ → Printed → Printed → Type 0
-IsUnderName name q p = p ≡ record q { err = named name q.err }
-
 -- What a call prints: the message on standard error begins with the name of the input.
 abbrev pub Answers : Request → Option Notation → List ℕ → List Region → List ℕ → Printed → Type 0
 Answers request notation name ram input p =
-    (q : Printed) × InputReplies request notation ram input q × IsUnderName name q p
+    (q : Printed) × InputReplies request notation ram input q × (p ≡ under_name name q)

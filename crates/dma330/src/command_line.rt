@@ -1,10 +1,10 @@
 //! What the words of a command line ask for.
 use crate::subcommands::{dma330, subcommand};
-use crate::text::Notation;
 use crate::values::{RamRange, number, ram_range, range, seed_range};
 use clap::error::ErrorKind;
 use clap::{ArgMatches, Error};
 use dma_chan::bus::{Bus, BusWidth};
+use dma_manual::hexadecimal::Notation;
 use dma_mem::segment::Segment;
 use dma_seeds::seeds::SeedRange;
 use dma_trace::options::TraceOptions;

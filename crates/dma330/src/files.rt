@@ -1,9 +1,9 @@
 //! A call with its files: reads them, answers, and writes.
-use crate::answer::deliver;
 use crate::command_line::Call;
 use crate::meter::Meter;
 use crate::replies::answer;
 use crate::values::RamRange;
+use dma_manual::answer::deliver;
 use dma_mem::regions::{Region, are_in_order};
 use dma_script::command::{FAULT, OUT_OF_MEMORY};
 use dma_script::output::OutputFailed;

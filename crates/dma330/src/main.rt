@@ -1,23 +1,17 @@
 //! The program `dma330`: a workbench for channel programs.
 //!
-//! Proved: the answer to a request is a function of its input (`answer`); hexadecimal text is read as its pairs or its
-//! words, or as its first fault (`read_text`); unless a write fails, what standard output and standard error get, and
-//! the status, are those of the answer (`deliver`). Not proved: `main`, which reads the command line and the files,
-//! writes the file that an option names, and shows progress.
+//! Proved: the answer to a request is a function of its input (`answer`), also if that is hexadecimal text
+//! (`read_hexadecimal` of `dma_manual`); unless a write fails, what standard output and standard error get, and the
+//! status, are those of the answer (`deliver` of `dma_manual`). Not proved: `main`, which reads the command line and
+//! the files, writes the file that an option names, and shows progress.
 #![tactic(auto)]
 
-mod addresses;
-mod answer;
 mod command_line;
 mod files;
-mod hexadecimal;
 mod meter;
-mod notes;
 mod replies;
 mod subcommands;
-mod text;
 mod values;
-mod words;
 
 use command_line::call_of;
 use files::{Failure, run};

@@ -4,17 +4,18 @@ ghost use Rattle.dma_mem.specs.Regions.{in_order, pieces_of};
 ghost use Rattle.dma_seeds.specs.Expect.{is_good, verdict_text};
 ghost use Rattle.dma_seeds.specs.Faults.{race_message};
 ghost use Rattle.dma_seeds.specs.Seeds.{seeds_verdict_text};
-ghost use Rattle.dma330.specs.Answer.{printed_of};
-ghost use Rattle.dma330.specs.Replies.{Answers, Assembles, Explains, InputReplies, IsUnderName, Lists, ProgramReplies, Races, RacesSeeds, RawReplies, Reasons, Replies, TextReplies, Traces, program_of};
+ghost use Rattle.dma_manual.specs.Answer.{printed_of};
+ghost use Rattle.dma330.specs.Replies.{Answers, Assembles, Explains, InputReplies, Lists, ProgramReplies, Races, RacesSeeds, RawReplies, Reasons, Replies, TextReplies, Traces, executes, program_of, takes_program};
 
-use crate::answer::{Answer, named};
 use crate::command_line::Request;
-use crate::notes::{end_warning, hint, with_note};
-use crate::text::{Notation, read_text, refusal};
 use dma_chan::bus::Bus;
+use dma_manual::answer::Answer;
 use dma_manual::assembler::{assemble, assemble_text};
 use dma_manual::errors::AsmError;
+use dma_manual::hexadecimal::{Notation, read_hexadecimal};
 use dma_manual::listing::disassemble;
+use dma_manual::notes::{end_warning, hint};
+use dma_manual::refusal::refusal;
 use dma_mem::regions::Region;
 use dma_seeds::expect::Verdict;
 use dma_seeds::faults::{push_race_message, push_run_message};
@@ -219,6 +220,23 @@ fn reply<P: Progress>(
     }
 }
 
+/// Returns whether a request takes a program.
+fn takes_program(request: &Request) -> bool
+    ensures { result ≡ takes_program request.now }
+{
+    match request {
+        Request::Dis { .. } | Request::Explain { .. } | Request::Trace(_) => true,
+        Request::Asm { .. } | Request::Race { .. } | Request::RaceSeeds(_) | Request::Why => false,
+    }
+}
+
+/// Returns whether a request executes a program.
+fn executes(request: &Request) -> bool
+    ensures { result ≡ executes request.now }
+{
+    matches!(request, Request::Explain { .. } | Request::Trace(_))
+}
+
 /// Returns what a request prints for a program, with a warning if it begins with DMAEND and has more bytes.
 fn program_reply<P: Progress>(
     alloc: Global,
@@ -232,8 +250,8 @@ fn program_reply<P: Progress>(
         ProgramReplies request.now ram.old program.now (printed_of answer)) }
 {
     let replied = reply(alloc, request, program, ram, progress)?;
-    let note = end_warning(request, program, replied.succeeds);
-    with_note(replied, note)
+    let note = end_warning(executes(request), program, replied.succeeds);
+    replied.with_note(note)
 }
 
 /// Returns what a request prints for a program in hexadecimal text.
@@ -249,7 +267,7 @@ fn text_reply<P: Progress>(
     ensures { IfOk result (λ answer.
         TextReplies request.now notation ram.old text.now (printed_of answer)) }
 {
-    match read_text(alloc, notation, text)? {
+    match read_hexadecimal(alloc, notation, text)? {
         Ok(program) => program_reply(alloc, request, &program, ram, progress),
         Err(at) => refusal(alloc, notation, text, at),
     }
@@ -268,8 +286,8 @@ fn raw_reply<P: Progress>(
         RawReplies request.now ram.old input.now (printed_of answer)) }
 {
     let replied = program_reply(alloc, request, input, ram, progress)?;
-    let note = hint(request, input, replied.succeeds);
-    with_note(replied, note)
+    let note = hint(takes_program(request), input, replied.succeeds);
+    replied.with_note(note)
 }
 
 /// Returns what a request prints for its input.
@@ -291,25 +309,6 @@ fn input_reply<P: Progress>(
     }
 }
 
-/// Puts the name of the input before the message of an answer.
-fn under_name(alloc: Global, name: &str, answer: Answer) -> Result<Answer, AllocError>
-    ensures { IfOk result (λ shown. IsUnderName name.now (printed_of answer) (printed_of shown)) }
-{
-    let Answer {
-        out,
-        err,
-        file,
-        succeeds,
-    } = answer;
-    let err = named(alloc, name, &err)?;
-    Ok(Answer {
-        out,
-        err,
-        file,
-        succeeds,
-    })
-}
-
 /// Returns the answer to a request. Fails if memory runs out.
 pub fn answer<P: Progress>(
     alloc: Global,
@@ -325,5 +324,5 @@ pub fn answer<P: Progress>(
         Answers request.now notation name.now ram.old input.now (printed_of answer)) }
 {
     let replied = input_reply(alloc, request, notation, input, ram, progress)?;
-    under_name(alloc, name, replied)
+    replied.under_name(alloc, name)
 }

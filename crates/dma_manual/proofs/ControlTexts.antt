@@ -4,11 +4,10 @@ use Rattle.std.specs.List.{list_all}
 use Rattle.std.specs.Fmt.{digits}
 use Rattle.std.proofs.lemmas.List.{map-append, length-map}
 use Rattle.std.proofs.lemmas.Bool.{and_from, le-leb}
-use Rattle.dma_text.specs.Digits.{hex_digits}
 use Rattle.dma_insn.specs.ControlWord.{HasEndRanges, HasFields, beat_bytes, bits_of, control_of}
 use Rattle.dma_insn.proofs.ControlLaws.{bits_of_fields, control_of_fields}
 use Rattle.dma_insn.specs.declared.control.BeatSize.{BeatSize}
-use Rattle.dma_insn.specs.declared.control.BeatSize.TheVariants.{One, Two, Four, Eight, Sixteen}
+use Rattle.dma_insn.specs.declared.control.BeatSize.TheVariants.{One}
 use Rattle.dma_insn.specs.declared.control.BurstEnd.{BurstEnd}
 use Rattle.dma_insn.specs.declared.control.Control.{Control}
 use Rattle.dma_insn.specs.declared.control.ControlFault.{ControlFault}
@@ -24,8 +23,8 @@ use Rattle.dma_manual.specs.Words.{is_word_byte, next_of, plain_byte}
 use Rattle.dma_manual.specs.Fields.{cache_of, end_of, fields_at, fields_from, no_end, no_fields, set_end, set_field, word_of}
 use Rattle.dma_manual.specs.Statements.{control_line}
 use Rattle.dma_manual.proofs.Cuts.{all_append, gap_spaces, has_bytes, is_gap, is_inline, is_space, next_none, next_space, next_word}
-use Rattle.dma_manual.proofs.Numerals.{decimal_read, each, each_at, hex_read, hex_words, plain, plain_append_law}
-use Rattle.dma_manual.proofs.Said.{control_fields, number_control}
+use Rattle.dma_manual.proofs.Numerals.{decimal_read, each, each_at, hex_words, plain, plain_append_law}
+use Rattle.dma_manual.proofs.Said.{control_fields, control_said}
 
 -- words, each after a space, in front of a tail
 abbrev pub spaced : List (List ℕ) → List ℕ → List ℕ
@@ -135,10 +134,7 @@ size_set : (side : Side) (b : ℕ) (s : BeatSize) (word rest : List ℕ)
     → set_end (record no_end { beats = Some b }) side (115 ∷ plain (decimal (8 * beat_bytes s))) word rest ≡ Ok (record no_end { beats = Some b; size = Some s })
 unfolding digits
 size_set side b One word rest = refl
-size_set side b Two word rest = refl
-size_set side b Four word rest = refl
-size_set side b Eight word rest = refl
-size_set side b Sixteen word rest = refl
+size_set side b _ word rest = refl
 
 increments_set : (side : Side) (b : ℕ) (s : BeatSize) (i : Bool) (word rest : List ℕ)
     → set_end (record no_end { beats = Some b; size = Some s }) side (plain (increment_name i)) word rest ≡ Ok (with_three b s i None None)
@@ -148,10 +144,7 @@ increments_set side b s false word rest = refl
 size_word : (s : BeatSize) → list_all is_word_byte (115 ∷ plain (decimal (8 * beat_bytes s))) ≡ true
 unfolding digits
 size_word One = refl
-size_word Two = refl
-size_word Four = refl
-size_word Eight = refl
-size_word Sixteen = refl
+size_word _ = refl
 
 increments_word : (i : Bool) → list_all is_word_byte (plain (increment_name i)) ≡ true
 increments_word true = refl
@@ -235,33 +228,28 @@ end_set side e h =
     (protection_flag side e.beats e.size e.increments e.protection h.protection)
     (cache_flag side e.beats e.size e.increments p n e.cache (signals_le side e.cache h.cache) (cache_back side e.cache h.cache)))
 
-end_again : (side : Side) (e : BurstEnd) → HasEndRanges e → end_of (fields_of side e) ≡ e
-end_again side e h =
+end_of_fields : (side : Side) (e : BurstEnd) → HasEndRanges e → end_of (fields_of side e) ≡ e
+end_of_fields side e h =
     ap₂ (λ (p c : ℕ). record e { protection = p; cache = c }) (flag_back Source e.protection h.protection) (flag_back side e.cache h.cache)
 
 -- The printed ends are these words.
 five : (b s a p c rest : List ℕ) → plain ((((b ++ s) ++ a) ++ p) ++ c) ++ rest ≡ plain b ++ (plain s ++ (plain a ++ (plain p ++ (plain c ++ rest))))
 five b s a p c rest = simp (map-append, append_assoc)
 
+field_plain : (side : Side) (name : ℕ) (value rest : List ℕ) → plain (field_text (letter side) (name ∷ []) value) ++ rest ≡ 32 ∷ ((key side ∷ plain_byte name ∷ plain value) ++ rest)
+field_plain Source name value rest = refl
+field_plain Destination name value rest = refl
+
 flag_plain : (side : Side) (name n : ℕ) (rest : List ℕ) → plain (flag_text (letter side) (name ∷ []) n) ++ rest ≡ spaced (with_key side (flag_name (plain_byte name) n)) rest
-flag_plain Source name n rest =
-    elim (eqb n 0) as (λ (t : Bool). plain (cond t [] (field_text (letter Source) (name ∷ []) (decimal n))) ++ rest ≡ spaced (with_key Source (cond t [] ((plain_byte name ∷ plain (decimal n)) ∷ []))) rest) [
+flag_plain side name n rest =
+    elim (eqb n 0) as (λ (t : Bool). plain (cond t [] (field_text (letter side) (name ∷ []) (decimal n))) ++ rest ≡ spaced (with_key side (cond t [] ((plain_byte name ∷ plain (decimal n)) ∷ []))) rest) [
       | true ↦ refl
-      | false ↦ refl
-    ]
-flag_plain Destination name n rest =
-    elim (eqb n 0) as (λ (t : Bool). plain (cond t [] (field_text (letter Destination) (name ∷ []) (decimal n))) ++ rest ≡ spaced (with_key Destination (cond t [] ((plain_byte name ∷ plain (decimal n)) ∷ []))) rest) [
-      | true ↦ refl
-      | false ↦ refl
+      | false ↦ field_plain side name (decimal n) rest
     ]
 
 increments_plain : (side : Side) (i : Bool) (rest : List ℕ) → plain (codes " " ++ letter side ++ increment_name i) ++ rest ≡ 32 ∷ ((key side ∷ plain (increment_name i)) ++ rest)
 increments_plain Source i rest = refl
 increments_plain Destination i rest = refl
-
-field_plain : (side : Side) (name : ℕ) (value rest : List ℕ) → plain (field_text (letter side) (name ∷ []) value) ++ rest ≡ 32 ∷ ((key side ∷ plain_byte name ∷ plain value) ++ rest)
-field_plain Source name value rest = refl
-field_plain Destination name value rest = refl
 
 end_plain : (side : Side) (e : BurstEnd) (rest : List ℕ) → plain (end_text side e) ++ rest ≡ spaced (with_key side (names_of side e)) rest
 end_plain side e rest =
@@ -307,7 +295,7 @@ ends_read c tail s d spaces =
     omega (arith, length-append ss ds, length-map (names_of Source c.src) (λ name. key Source ∷ name), length-map (names_of Destination c.dst) (λ name. key Destination ∷ name), names_of_le Source c.src, names_of_le Destination c.dst) in
     fields_space 11 no_fields (spaced (ss ++ ds) tail)
     ∙ fields_read (ss ++ ds) 11 no_fields (record { src = fields_of Source c.src; dst = fields_of Destination c.dst }) tail fits (ends_set c s d) spaces
-    ∙ ap₂ (λ (x y : BurstEnd). Ok (bits_of (record { src = x; dst = y }))) (end_again Source c.src s) (end_again Destination c.dst d)
+    ∙ ap₂ (λ (x y : BurstEnd). Ok (bits_of (record { src = x; dst = y }))) (end_of_fields Source c.src s) (end_of_fields Destination c.dst d)
 
 -- an accepted word has its ends in range
 ranges_of : (v : ℕ) (c : Control) → HasFields v c → HasEndRanges c.src × HasEndRanges c.dst
@@ -320,8 +308,7 @@ ranges_of v c h =
 -- What follows DMAMOV CCR is read as the word.
 control_by : (v : ℕ) (tail : List ℕ) (r : Result Control ControlFault) → control_of v ≡ r → v < 2 ^ 32 → list_all is_space tail ≡ true
     → control_line (codes "ccr") (32 ∷ (plain (control_text_of v r) ++ tail)) ≡ Ok (says.Plain (Mov Ccr v))
-control_by v tail (Err fault) is small spaces =
-    number_control [] tail spaces (48 ∷ 120 ∷ plain (hex_digits v)) v refl (hex_words v).0 refl (hex_read v small) (omega arith)
+control_by v tail (Err fault) is small spaces = control_said [] tail spaces v small
 control_by v tail (Ok c) is small spaces =
     let fields = control_of_fields v c is in
     let ranges = ranges_of v c fields in
@@ -339,36 +326,25 @@ pub control_read : (v : ℕ) (tail : List ℕ) → v < 2 ^ 32 → list_all is_sp
 control_read v tail small spaces = control_by v tail (control_of v) refl small spaces
 
 -- The text has no comment and no line feed.
-flag_inline : (side : Side) (name n : ℕ) → n ≤ 256 → is_inline name ≡ true → list_all is_inline (flag_text (letter side) (name ∷ []) n) ≡ true
-flag_inline Source name n small word =
-    let r = decimal_read n small in
-    elim (eqb n 0) as (λ (t : Bool). list_all is_inline (cond t [] (field_text (letter Source) (name ∷ []) (decimal n))) ≡ true) [
-      | true ↦ refl
-      | false ↦ and_from _ _ word r.inline
-    ]
-flag_inline Destination name n small word =
-    let r = decimal_read n small in
-    elim (eqb n 0) as (λ (t : Bool). list_all is_inline (cond t [] (field_text (letter Destination) (name ∷ []) (decimal n))) ≡ true) [
-      | true ↦ refl
-      | false ↦ and_from _ _ word r.inline
-    ]
-
 field_inline : (side : Side) (name n : ℕ) → n ≤ 256 → is_inline name ≡ true → list_all is_inline (field_text (letter side) (name ∷ []) (decimal n)) ≡ true
 field_inline Source name n small word = let r = decimal_read n small in and_from _ _ word r.inline
 field_inline Destination name n small word = let r = decimal_read n small in and_from _ _ word r.inline
 
+flag_inline : (side : Side) (name n : ℕ) → n ≤ 256 → is_inline name ≡ true → list_all is_inline (flag_text (letter side) (name ∷ []) n) ≡ true
+flag_inline side name n small word =
+    elim (eqb n 0) as (λ (t : Bool). list_all is_inline (cond t [] (field_text (letter side) (name ∷ []) (decimal n))) ≡ true) [
+      | true ↦ refl
+      | false ↦ field_inline side name n small word
+    ]
+
 increments_inline : (side : Side) (i : Bool) → list_all is_inline (codes " " ++ letter side ++ increment_name i) ≡ true
 increments_inline Source true = refl
-increments_inline Source false = refl
 increments_inline Destination true = refl
-increments_inline Destination false = refl
+increments_inline _ _ = refl
 
 size_le : (s : BeatSize) → 8 * beat_bytes s ≤ 256
 size_le One = omega arith
-size_le Two = omega arith
-size_le Four = omega arith
-size_le Eight = omega arith
-size_le Sixteen = omega arith
+size_le _ = omega arith
 
 end_inline : (side : Side) (e : BurstEnd) → HasEndRanges e → list_all is_inline (end_text side e) ≡ true
 end_inline side e h =

@@ -6,13 +6,13 @@ use Rattle.dma_insn.specs.AssemblyText.{most_program_bytes, text_lines}
 use Rattle.dma_insn.specs.declared.insn.Counter.{Counter}
 use Rattle.dma_insn.specs.declared.insn.Counter.TheVariants.{Lc0, Lc1}
 use Rattle.dma_insn.specs.declared.insn.Insn.{Insn}
-use Rattle.dma_insn.specs.declared.insn.Insn.TheVariants.{Mov, Ld, St, Rmb, Wmb, Nop, End, Lp, LpEnd, Sev, Wfe}
+use Rattle.dma_insn.specs.declared.insn.Insn.TheVariants.{Lp, LpEnd}
 use Rattle.dma_manual.specs.Listing.{is_end}
 use Rattle.dma_manual.specs.Words.{code_of, next_of}
 use Rattle.dma_manual.specs.Statements.{statement_at}
 use Rattle.dma_manual.specs.Assembled.{Read, after_statement, assembled, empty, ended_loop, first_stray, is_closed_by, jump_of, label_in, place_of, slot, take_line, take_lines, with_bytes, with_loop, with_statement}
 use Rattle.dma_manual.specs.declared.assembler.Located.{Located}
-use Rattle.dma_manual.specs.declared.assembler.Spot.{Spot}
+use Rattle.dma_manual.specs.declared.assembler.Place.{Place}
 use Rattle.dma_manual.specs.declared.loops.Loops.{Loops}
 use Rattle.dma_manual.specs.declared.loops.Open.{Open}
 use Rattle.dma_manual.specs.declared.statements.End.{End as LoopTo}
@@ -39,53 +39,45 @@ pub record Grown (r : Read) (bytes : List ℕ) (result : Result Read Located) : 
   pub labels : next.labels ≡ r.labels
   pub quiet : Quiet next.loops
 
-bytes_fit : (code bytes : List ℕ) (spot : Spot) → length code + length bytes ≤ most_program_bytes → with_bytes code bytes spot ≡ Ok (code ++ bytes)
-bytes_fit code bytes spot fits = rw (le-leb (length code + length bytes) most_program_bytes fits) refl
+bytes_fit : (code bytes : List ℕ) (place : Place) → length code + length bytes ≤ most_program_bytes → with_bytes code bytes place ≡ Ok (code ++ bytes)
+bytes_fit code bytes place fits = rw (le-leb (length code + length bytes) most_program_bytes fits) refl
 
-plain_grown : (r : Read) (i : Insn) (spot : Spot) → length r.code + length (spelling i) ≤ most_program_bytes → Quiet r.loops → Grown r (spelling i) (after_statement r (says.Plain i) spot)
-plain_grown r i spot fits q =
-    record { next = record r { code = r.code ++ spelling i; stops = r.stops || is_end i }; is = rw (bytes_fit r.code (spelling i) spot fits) refl; code = refl; labels = refl; quiet = q }
+plain_grown : (r : Read) (i : Insn) (place : Place) → length r.code + length (spelling i) ≤ most_program_bytes → Quiet r.loops → Grown r (spelling i) (after_statement r (says.Plain i) place)
+plain_grown r i place fits q =
+    record { next = record r { code = r.code ++ spelling i; stops = r.stops || is_end i }; is = rw (bytes_fit r.code (spelling i) place fits) refl; code = refl; labels = refl; quiet = q }
 
-loop_grown : (r : Read) (c : Counter) (n : ℕ) (spot : Spot) → length r.code + length (spelling (Lp c n)) ≤ most_program_bytes → Quiet r.loops
-    → Grown r (spelling (Lp c n)) (after_statement r (says.Loop (Some c) n) spot)
-loop_grown r c n spot fits q =
+loop_grown : (r : Read) (c : Counter) (n : ℕ) (place : Place) → length r.code + length (spelling (Lp c n)) ≤ most_program_bytes → Quiet r.loops
+    → Grown r (spelling (Lp c n)) (after_statement r (says.Loop (Some c) n) place)
+loop_grown r c n place fits q =
     let code = r.code ++ spelling (Lp c n) in
     let loop = Some (record { start = length code; unnamed = None }) in
     record {
       next = record r { code = code; loops = with_loop r.loops c loop };
-      is = rw (bytes_fit r.code (spelling (Lp c n)) spot fits) refl;
+      is = rw (bytes_fit r.code (spelling (Lp c n)) place fits) refl;
       code = refl;
       labels = refl;
       quiet = quiet_with r.loops c loop refl q;
     }
 
-pub end_grown : (r : Read) (c : Counter) (b : ℕ) (end : LoopTo) (spot : Spot) → jump_of r.loops (length r.code) end spot ≡ Ok (c, b)
-    → length r.code + length (spelling (LpEnd c b)) ≤ most_program_bytes → Quiet r.loops → Grown r (spelling (LpEnd c b)) (after_statement r (says.LoopEnd end) spot)
-end_grown r c b end spot jump fits q =
+pub end_grown : (r : Read) (c : Counter) (b : ℕ) (end : LoopTo) (place : Place) → jump_of r.loops (length r.code) end place ≡ Ok (c, b)
+    → length r.code + length (spelling (LpEnd c b)) ≤ most_program_bytes → Quiet r.loops → Grown r (spelling (LpEnd c b)) (after_statement r (says.LoopEnd end) place)
+end_grown r c b end place jump fits q =
     record {
       next = record r {
         code = r.code ++ spelling (LpEnd c b);
         loops = with_loop r.loops c None;
-        stray = first_stray r.stray (is_closed_by (slot r.loops c) (length r.code) b) spot;
+        stray = first_stray r.stray (is_closed_by (slot r.loops c) (length r.code) b) place;
       };
-      is = rw (jump, bytes_fit r.code (spelling (LpEnd c b)) spot fits) refl;
+      is = rw (jump, bytes_fit r.code (spelling (LpEnd c b)) place fits) refl;
       code = refl;
       labels = refl;
       quiet = quiet_with r.loops c None refl q;
     }
 
-pub insn_grown : (r : Read) (i : Insn) (spot : Spot) → length r.code + length (spelling i) ≤ most_program_bytes → Quiet r.loops → Grown r (spelling i) (after_statement r (statement_of i) spot)
-insn_grown r End spot fits q = plain_grown r End spot fits q
-insn_grown r Ld spot fits q = plain_grown r Ld spot fits q
-insn_grown r St spot fits q = plain_grown r St spot fits q
-insn_grown r Rmb spot fits q = plain_grown r Rmb spot fits q
-insn_grown r Wmb spot fits q = plain_grown r Wmb spot fits q
-insn_grown r Nop spot fits q = plain_grown r Nop spot fits q
-insn_grown r (Lp c n) spot fits q = loop_grown r c n spot fits q
-insn_grown r (LpEnd c b) spot fits q = end_grown r c b (ends.Back c b) spot refl fits q
-insn_grown r (Sev e) spot fits q = plain_grown r (Sev e) spot fits q
-insn_grown r (Wfe e v) spot fits q = plain_grown r (Wfe e v) spot fits q
-insn_grown r (Mov reg v) spot fits q = plain_grown r (Mov reg v) spot fits q
+pub insn_grown : (r : Read) (i : Insn) (place : Place) → length r.code + length (spelling i) ≤ most_program_bytes → Quiet r.loops → Grown r (spelling i) (after_statement r (statement_of i) place)
+insn_grown r (Lp c n) place fits q = loop_grown r c n place fits q
+insn_grown r (LpEnd c b) place fits q = end_grown r c b (ends.Back c b) place refl fits q
+insn_grown r i place fits q = plain_grown r i place fits q
 
 -- a line that says a statement
 said_line : (r : Read) (n : ℕ) (line : List ℕ) (s : Statement) → label_in line ≡ None → statement_at r.labels line ≡ Ok s

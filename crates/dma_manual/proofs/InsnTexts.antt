@@ -13,22 +13,14 @@ use Rattle.dma_manual.specs.declared.statements.End.TheVariants as ends
 use Rattle.dma_manual.specs.declared.statements.Statement.{Statement}
 use Rattle.dma_manual.specs.declared.statements.Statement.TheVariants as says
 use Rattle.dma_manual.proofs.Cuts.{all_append, is_inline, is_space}
-use Rattle.dma_manual.proofs.Numerals.{decimal_read, hex_read, hex_words, plain, plain_append_law}
-use Rattle.dma_manual.proofs.Said.{Says, says_back, says_bare, says_control, says_dar, says_invalid, says_loop, says_sar, says_signal, says_wait}
+use Rattle.dma_manual.proofs.Numerals.{decimal_read, hex_words, plain, plain_append_law}
+use Rattle.dma_manual.proofs.Said.{Says, address_said, says_back, says_bare, says_invalid, says_loop, says_set, says_signal, says_wait}
 use Rattle.dma_manual.proofs.ControlTexts.{control_inline, control_read}
 
 abbrev pub statement_of : Insn → Statement
 statement_of (Lp c n) = says.Loop (Some c) n
 statement_of (LpEnd c b) = says.LoopEnd (ends.Back c b)
-statement_of End = says.Plain End
-statement_of Ld = says.Plain Ld
-statement_of St = says.Plain St
-statement_of Rmb = says.Plain Rmb
-statement_of Wmb = says.Plain Wmb
-statement_of Nop = says.Plain Nop
-statement_of (Sev e) = says.Plain (Sev e)
-statement_of (Wfe e v) = says.Plain (Wfe e v)
-statement_of (Mov r v) = says.Plain (Mov r v)
+statement_of i = says.Plain i
 
 pub insn_says : (labels : List Label) (i : Insn) (tail : List ℕ) → HasRanges i → list_all is_space tail ≡ true → Says labels (plain (manual_text i) ++ tail) (statement_of i)
 unfolding by_name
@@ -46,20 +38,12 @@ insn_says labels (Sev e) tail h spaces = says_signal labels tail spaces e (omega
 insn_says labels (Wfe e false) tail h spaces = says_wait labels tail spaces e (omega arith)
 insn_says labels (Wfe e true) tail h spaces =
     subst (λ (l : List ℕ). Says labels (codes "dmawfe e" ++ l) (says.Plain (Wfe e true))) (sym (plain_append_law (decimal e) (codes ", invalid") tail)) (says_invalid labels tail spaces e (omega arith))
-insn_says labels (Mov Sar v) tail h spaces =
-    says_sar labels tail spaces (48 ∷ 120 ∷ plain (hex_digits v)) v refl (hex_words v).0 (hex_read v h) (omega arith)
-insn_says labels (Mov Dar v) tail h spaces =
-    says_dar labels tail spaces (48 ∷ 120 ∷ plain (hex_digits v)) v refl (hex_words v).0 (hex_read v h) (omega arith)
-insn_says labels (Mov Ccr v) tail h spaces = says_control labels tail spaces (32 ∷ (plain (control_text v) ++ tail)) v refl (control_read v tail h spaces)
+insn_says labels (Mov Sar v) tail h spaces = says_set labels (codes "sar") (32 ∷ 32 ∷ 48 ∷ 120 ∷ (plain (hex_digits v) ++ tail)) _ refl refl refl (address_said labels tail spaces Sar (codes "sar") v h)
+insn_says labels (Mov Dar v) tail h spaces = says_set labels (codes "dar") (32 ∷ 32 ∷ 48 ∷ 120 ∷ (plain (hex_digits v) ++ tail)) _ refl refl refl (address_said labels tail spaces Dar (codes "dar") v h)
+insn_says labels (Mov Ccr v) tail h spaces = says_set labels (codes "ccr") (32 ∷ (plain (control_text v) ++ tail)) _ refl refl refl (control_read v tail h spaces)
 
 -- The text has no comment and no line feed.
 pub insn_inline : (i : Insn) → HasRanges i → list_all is_inline (manual_text i) ≡ true
-insn_inline End h = refl
-insn_inline Ld h = refl
-insn_inline St h = refl
-insn_inline Rmb h = refl
-insn_inline Wmb h = refl
-insn_inline Nop h = refl
 insn_inline (Lp Lc0 n) h = let r = decimal_read n h.1 in r.inline
 insn_inline (Lp Lc1 n) h = let r = decimal_read n h.1 in r.inline
 insn_inline (LpEnd Lc0 b) h = let r = decimal_read b (omega arith) in r.inline
@@ -70,3 +54,4 @@ insn_inline (Wfe e true) h = let r = decimal_read e (omega arith) in all_append 
 insn_inline (Mov Sar v) h = (hex_words v).1
 insn_inline (Mov Dar v) h = (hex_words v).1
 insn_inline (Mov Ccr v) h = control_inline v
+insn_inline _ h = refl

@@ -11,3 +11,5 @@ mod ListedLines
 mod Growth
 mod Listed
 mod OneLine
+mod HexadecimalLemmas
+mod Rows

@@ -12,14 +12,14 @@ use Rattle.dma_insn.specs.Disassembly.{AllInRange}
 use Rattle.dma_insn.specs.declared.insn.Counter.{Counter}
 use Rattle.dma_insn.specs.declared.insn.Counter.TheVariants.{Lc0, Lc1}
 use Rattle.dma_insn.specs.declared.insn.Insn.{Insn}
-use Rattle.dma_insn.specs.declared.insn.Insn.TheVariants.{Mov, Ld, St, Rmb, Wmb, Nop, End, Lp, LpEnd, Sev, Wfe}
+use Rattle.dma_insn.specs.declared.insn.Insn.TheVariants.{Lp, LpEnd}
 use Rattle.dma_manual.specs.ManualText.{counter_name, manual_text}
 use Rattle.dma_manual.specs.Words.{code_of, next_of, plain_byte}
 use Rattle.dma_manual.specs.Statements.{Label, label_of}
 use Rattle.dma_manual.specs.Listing.{Ending, follow, stop, blanks_behind, follow_words, jump_of, label_behind, label_name, label_text, line_text, listed, more_labels, rest_text, statement_text, target_of, target_text}
 use Rattle.dma_manual.specs.Assembled.{Read, after_statement, empty, jump_of as jump_from, place_of, take_line, take_lines, with_statement}
 use Rattle.dma_manual.specs.Laws.{ListingsAssemble, shown}
-use Rattle.dma_manual.specs.declared.assembler.Spot.{Spot}
+use Rattle.dma_manual.specs.declared.assembler.Place.{Place}
 use Rattle.dma_manual.specs.declared.loops.Loops.{Loops}
 use Rattle.dma_manual.specs.declared.statements.End.TheVariants as ends
 use Rattle.dma_manual.specs.declared.statements.Statement.{Statement}
@@ -44,14 +44,14 @@ record IsSaid (r : Read) (i : Insn) (text : List ℕ) : Type 0 where
   statement : Statement
   says : (tail : List ℕ) → list_all is_space tail ≡ true → Says r.labels (plain text ++ tail) statement
   inline : list_all is_inline text ≡ true
-  grown : (spot : Spot) → Grown r (spelling i) (after_statement r statement spot)
+  grown : (place : Place) → Grown r (spelling i) (after_statement r statement place)
 
 text_said : (r : Read) (i : Insn) → HasRanges i → length r.code + length (spelling i) ≤ most_program_bytes → Quiet r.loops → IsSaid r i (manual_text i)
 text_said r i h fits q = record {
   statement = statement_of i;
   says = λ tail spaces. insn_says r.labels i tail h spaces;
   inline = insn_inline i h;
-  grown = λ spot. insn_grown r i spot fits q;
+  grown = λ place. insn_grown r i place fits q;
 }
 
 -- a DMALPEND with a label
@@ -69,8 +69,8 @@ end_inline : (c : Counter) (o : ℕ) → list_all is_inline (end_text c o) ≡ t
 end_inline Lc0 o = label_inline o
 end_inline Lc1 o = label_inline o
 
-jump_to : (loops : Loops) (c : Counter) (here start back : ℕ) (spot : Spot) → start ≤ here → here - start ≡ back → back ≤ 255 → jump_from loops here (ends.To c start) spot ≡ Ok (c, back)
-jump_to loops c here start back spot before is small = rw (is, le-leb start here before, le-leb back 255 small) refl
+jump_to : (loops : Loops) (c : Counter) (here start back : ℕ) (place : Place) → start ≤ here → here - start ≡ back → back ≤ 255 → jump_from loops here (ends.To c start) place ≡ Ok (c, back)
+jump_to loops c here start back place before is small = rw (is, le-leb start here before, le-leb back 255 small) refl
 
 end_said : (r : Read) (labels : List ℕ) (o : ℕ) (c : Counter) (b : ℕ) → IsAt r labels o → b < 256 → b ≤ o → list_any (λ l. l == (o - b)) labels ≡ true
     → o < 65536 → length r.code + length (spelling (LpEnd c b)) ≤ most_program_bytes → IsSaid r (LpEnd c b) (end_text c (o - b))
@@ -82,7 +82,7 @@ end_said r labels o c b at small within any below fits =
       statement = says.LoopEnd (ends.To c (o - b));
       says = λ tail spaces. end_says r.labels c (o - b) tail found spaces;
       inline = end_inline c (o - b);
-      grown = λ spot. end_grown r c b (ends.To c (o - b)) spot (jump_to r.loops c (length r.code) (o - b) b spot (omega arith) (omega arith) (omega arith)) fits at.quiet;
+      grown = λ place. end_grown r c b (ends.To c (o - b)) place (jump_to r.loops c (length r.code) (o - b) b place (omega arith) (omega arith) (omega arith)) fits at.quiet;
     }
 
 -- an instruction as its line has it
@@ -95,17 +95,8 @@ end_by r labels o c b false u within any at small below fits = text_said r (LpEn
 
 insn_said : (r : Read) (labels : List ℕ) (o : ℕ) (i : Insn) → IsAt r labels o → HasRanges i → o < 65536 → length r.code + length (spelling i) ≤ most_program_bytes
     → IsSaid r i (statement_text (jump_of labels o i) i)
-insn_said r labels o End at h below fits = text_said r End h fits at.quiet
-insn_said r labels o Ld at h below fits = text_said r Ld h fits at.quiet
-insn_said r labels o St at h below fits = text_said r St h fits at.quiet
-insn_said r labels o Rmb at h below fits = text_said r Rmb h fits at.quiet
-insn_said r labels o Wmb at h below fits = text_said r Wmb h fits at.quiet
-insn_said r labels o Nop at h below fits = text_said r Nop h fits at.quiet
-insn_said r labels o (Lp c n) at h below fits = text_said r (Lp c n) h fits at.quiet
 insn_said r labels o (LpEnd c b) at h below fits = end_by r labels o c b (nat_le b o) (list_any (λ l. l == (o - b)) labels) refl refl at h below fits
-insn_said r labels o (Sev e) at h below fits = text_said r (Sev e) h fits at.quiet
-insn_said r labels o (Wfe e v) at h below fits = text_said r (Wfe e v) h fits at.quiet
-insn_said r labels o (Mov reg v) at h below fits = text_said r (Mov reg v) h fits at.quiet
+insn_said r labels o i at h below fits = text_said r i h fits at.quiet
 
 -- the spaces behind a text
 spaces_dropped : (k : ℕ) (bytes : List ℕ) → list_all is_space bytes ≡ true → list_all is_space (drop k bytes) ≡ true
@@ -185,8 +176,8 @@ line_read r n at labels o i more h =
     let feed = all_append no_feed front (59 ∷ comment) (inline_no_feed front inline) (comment_feed at labels o i) in
     let split : line_text at labels o i ++ more ≡ line ++ 10 ∷ more =
     line_split (codes "    " ++ text) (blanks_behind (length (codes "    " ++ text))) (hex_digits ((at + o) % 2 ^ 32)) (words_of at labels o i) more in
-    let spot = place_of (n + 1) (length (plain front)) (next_of (plain front)) in
-    let g = h.grown spot in
+    let place = place_of (n + 1) (length (plain front)) (next_of (plain front)) in
+    let g = h.grown place in
     let took : take_line r (n + 1) (plain (code_of line)) ≡ Ok g.next =
     ap (λ (l : List ℕ). take_line r (n + 1) (plain l)) (code_before front comment inline) ∙ says_line r (n + 1) (plain front) h.statement (front_says r.labels text h.statement h.says) ∙ g.is in
     record {
@@ -206,17 +197,8 @@ record ReadsLabel (r : Read) (n : ℕ) (labels : List ℕ) (o : ℕ) (text more 
   at : IsAt next labels o
 
 label_behind_by : (i : Insn) (o : ℕ) → o < 65536 → (label_behind i o ≡ None) ⊎ (label_behind i o ≡ Some o)
-label_behind_by End o small = inl refl
-label_behind_by Ld o small = inl refl
-label_behind_by St o small = inl refl
-label_behind_by Rmb o small = inl refl
-label_behind_by Wmb o small = inl refl
-label_behind_by Nop o small = inl refl
 label_behind_by (Lp c n) o small = inr (rw (lt-ltb o 65536 small) refl)
-label_behind_by (LpEnd c b) o small = inl refl
-label_behind_by (Sev e) o small = inl refl
-label_behind_by (Wfe e v) o small = inl refl
-label_behind_by (Mov reg v) o small = inl refl
+label_behind_by _ o small = inl refl
 
 label_read : (r : Read) (n : ℕ) (labels : List ℕ) (p o : ℕ) (more : List ℕ) (behind : Option ℕ) → length r.code ≡ o → r.labels ≡ map named_at labels → are_labels p labels ≡ true
     → Quiet r.loops → p < o → o < 65536 → (behind ≡ None) ⊎ (behind ≡ Some o) → ReadsLabel r n (more_labels labels behind) o (label_text behind) more

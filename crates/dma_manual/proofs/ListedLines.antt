@@ -7,7 +7,7 @@ use Rattle.dma_insn.specs.Decoding.{Decoded, decoded}
 use Rattle.dma_insn.specs.AssemblyText.{joined}
 use Rattle.dma_insn.specs.Disassembly.{AllInRange}
 use Rattle.dma_insn.specs.declared.insn.Insn.{Insn}
-use Rattle.dma_insn.specs.declared.insn.Insn.TheVariants.{Mov, Ld, St, Rmb, Wmb, Nop, End, Lp, LpEnd, Sev, Wfe}
+use Rattle.dma_insn.specs.declared.insn.Insn.TheVariants.{End}
 use Rattle.dma_insn.proofs.Laws.{IsBytes, Right, decoded_right, spelled_within}
 use Rattle.dma_manual.specs.Listing.{Listing, follow, stop, is_end, label_behind, label_text, line_text, listed_from, more_labels, with_text}
 use Rattle.dma_manual.specs.Laws.{shown}
@@ -31,16 +31,7 @@ pub record IsListed (at : ℕ) (labels : List ℕ) (o : ℕ) (xs program : List 
 
 end_is : (i : Insn) → is_end i ≡ true → i ≡ End
 end_is End h = refl
-end_is Ld h = absurd (false≢true h)
-end_is St h = absurd (false≢true h)
-end_is Rmb h = absurd (false≢true h)
-end_is Wmb h = absurd (false≢true h)
-end_is Nop h = absurd (false≢true h)
-end_is (Lp c n) h = absurd (false≢true h)
-end_is (LpEnd c b) h = absurd (false≢true h)
-end_is (Sev e) h = absurd (false≢true h)
-end_is (Wfe e v) h = absurd (false≢true h)
-end_is (Mov r v) h = absurd (false≢true h)
+end_is _ h = absurd (false≢true h)
 
 -- one more instruction in front
 listed_more : (at : ℕ) (labels : List ℕ) (o : ℕ) (xs program : List ℕ) (i : Insn) (l more : Listing) → HasRanges i → xs ≡ spelling i ++ drop (length (spelling i)) xs

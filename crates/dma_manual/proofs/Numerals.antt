@@ -1,10 +1,10 @@
 -- Numbers in decimal and hexadecimal digits, which the assembler reads back.
-use Rattle.std.proofs.Common.{◌≡◌, ℕ, ◌+◌, ◌*◌, ◌/◌, ◌%◌, ◌^◌, ◌<◌, ◌≤◌, Bool, true, false, ◌&&◌, List, [], ◌∷◌, ◌++◌, map, min, zero, suc, refl, sym, ap, ◌∙◌, Some, eqb, cond, arith, decimal, append_assoc, inl, inr}
+use Rattle.std.proofs.Common.{◌≡◌, ℕ, ◌+◌, ◌*◌, ◌/◌, ◌%◌, ◌^◌, ◌<◌, ◌≤◌, Bool, true, false, ◌&&◌, List, [], ◌∷◌, ◌++◌, map, min, nat_lt, zero, suc, refl, sym, ap, ◌∙◌, Some, eqb, cond, arith, decimal, append_assoc, inl, inr}
 use Rattle.std.proofs.lemmas.List.{map-append}
 use Rattle.std.specs.List.{list_all}
 use Rattle.std.specs.Fmt.{digits, digits_onto, digit_glyph}
 use Rattle.std.specs.Char.{digit_value}
-use Rattle.std.proofs.lemmas.Bool.{and_parts, and_from, cases_lt, lt-ltb, le-ltb, lt-leb, ne_eqb}
+use Rattle.std.proofs.lemmas.Bool.{and_parts, and_from, cases_lt, cond_both, lt-leb, ne_eqb}
 use Rattle.dma_text.specs.Digits.{hex_digits, hex_pair, spaced_bytes}
 use Rattle.dma_manual.specs.Words.{is_word_byte, plain_byte}
 use Rattle.dma_manual.specs.Operands.{digits_from, digits_in, number_of}
@@ -82,31 +82,23 @@ glyph_value d small = each_at (λ d. digit_value (glyph d)) (λ d. d) 16 d glyph
 glyph_word : (d : ℕ) → d < 16 → (is_word_byte (glyph d) ≡ true) × (is_inline (digit_glyph true d) ≡ true)
 glyph_word d small = and_parts (is_word_byte (glyph d)) (is_inline (digit_glyph true d)) (each_at glyph_passes (λ d. true) 16 d glyph_words small)
 
-hex_more : (value c d next : ℕ) (rest : List ℕ) → digit_value c ≡ d → d < 16 → value * 16 + d ≡ next → next ≤ 2 ^ 32
-    → digits_from 16 value (c ∷ rest) ≡ digits_from 16 next rest
-hex_more value c d next rest is small e most =
+-- one more digit
+hex_more : (value d next : ℕ) (rest : List ℕ) → d < 16 → value * 16 + d ≡ next → next ≤ 2 ^ 32 → digits_from 16 value (glyph d ∷ rest) ≡ digits_from 16 next rest
+hex_more value d next rest small e most =
     let capped : min (value * 16 + d) (2 ^ 32) ≡ next = omega arith in
-    rw (is, lt-leb 16 d small, capped) refl
-
--- eight digits
-eight_read : (v a b c d e f g h : ℕ) → v < 2 ^ 32 → digit_value a ≡ v / 0x10000000 % 16 → digit_value b ≡ v / 0x1000000 % 16
-    → digit_value c ≡ v / 0x100000 % 16 → digit_value d ≡ v / 0x10000 % 16 → digit_value e ≡ v / 0x1000 % 16 → digit_value f ≡ v / 0x100 % 16
-    → digit_value g ≡ v / 0x10 % 16 → digit_value h ≡ v / 0x1 % 16 → digits_from 16 0 (a ∷ b ∷ c ∷ d ∷ e ∷ f ∷ g ∷ h ∷ []) ≡ Some v
-eight_read v a b c d e f g h small p q r s t u w x =
-    hex_more 0 a (v / 0x10000000 % 16) (v / 0x10000000) (b ∷ c ∷ d ∷ e ∷ f ∷ g ∷ h ∷ []) p (omega arith) (omega arith) (omega arith)
-    ∙ hex_more (v / 0x10000000) b (v / 0x1000000 % 16) (v / 0x1000000) (c ∷ d ∷ e ∷ f ∷ g ∷ h ∷ []) q (omega arith) (omega arith) (omega arith)
-    ∙ hex_more (v / 0x1000000) c (v / 0x100000 % 16) (v / 0x100000) (d ∷ e ∷ f ∷ g ∷ h ∷ []) r (omega arith) (omega arith) (omega arith)
-    ∙ hex_more (v / 0x100000) d (v / 0x10000 % 16) (v / 0x10000) (e ∷ f ∷ g ∷ h ∷ []) s (omega arith) (omega arith) (omega arith)
-    ∙ hex_more (v / 0x10000) e (v / 0x1000 % 16) (v / 0x1000) (f ∷ g ∷ h ∷ []) t (omega arith) (omega arith) (omega arith)
-    ∙ hex_more (v / 0x1000) f (v / 0x100 % 16) (v / 0x100) (g ∷ h ∷ []) u (omega arith) (omega arith) (omega arith)
-    ∙ hex_more (v / 0x100) g (v / 0x10 % 16) (v / 0x10) (h ∷ []) w (omega arith) (omega arith) (omega arith)
-    ∙ hex_more (v / 0x10) h (v / 0x1 % 16) v [] x (omega arith) (omega arith) (omega arith)
+    rw (glyph_value d small, lt-leb 16 d small, capped) refl
 
 pub hex_read : (v : ℕ) → v < 2 ^ 32 → number_of (48 ∷ 120 ∷ plain (hex_digits v)) ≡ Some v
 hex_read v small =
-    eight_read v (glyph (v / 0x10000000 % 16)) (glyph (v / 0x1000000 % 16)) (glyph (v / 0x100000 % 16)) (glyph (v / 0x10000 % 16)) (glyph (v / 0x1000 % 16))
-    (glyph (v / 0x100 % 16)) (glyph (v / 0x10 % 16)) (glyph (v / 0x1 % 16)) small (glyph_value _ (omega arith)) (glyph_value _ (omega arith)) (glyph_value _ (omega arith))
-    (glyph_value _ (omega arith)) (glyph_value _ (omega arith)) (glyph_value _ (omega arith)) (glyph_value _ (omega arith)) (glyph_value _ (omega arith))
+    let g = λ (w : ℕ). glyph (v / w % 16) in
+    hex_more 0 (v / 0x10000000 % 16) (v / 0x10000000) (g 0x1000000 ∷ g 0x100000 ∷ g 0x10000 ∷ g 0x1000 ∷ g 0x100 ∷ g 0x10 ∷ g 0x1 ∷ []) (omega arith) (omega arith) (omega arith)
+    ∙ hex_more (v / 0x10000000) (v / 0x1000000 % 16) (v / 0x1000000) (g 0x100000 ∷ g 0x10000 ∷ g 0x1000 ∷ g 0x100 ∷ g 0x10 ∷ g 0x1 ∷ []) (omega arith) (omega arith) (omega arith)
+    ∙ hex_more (v / 0x1000000) (v / 0x100000 % 16) (v / 0x100000) (g 0x10000 ∷ g 0x1000 ∷ g 0x100 ∷ g 0x10 ∷ g 0x1 ∷ []) (omega arith) (omega arith) (omega arith)
+    ∙ hex_more (v / 0x100000) (v / 0x10000 % 16) (v / 0x10000) (g 0x1000 ∷ g 0x100 ∷ g 0x10 ∷ g 0x1 ∷ []) (omega arith) (omega arith) (omega arith)
+    ∙ hex_more (v / 0x10000) (v / 0x1000 % 16) (v / 0x1000) (g 0x100 ∷ g 0x10 ∷ g 0x1 ∷ []) (omega arith) (omega arith) (omega arith)
+    ∙ hex_more (v / 0x1000) (v / 0x100 % 16) (v / 0x100) (g 0x10 ∷ g 0x1 ∷ []) (omega arith) (omega arith) (omega arith)
+    ∙ hex_more (v / 0x100) (v / 0x10 % 16) (v / 0x10) (g 0x1 ∷ []) (omega arith) (omega arith) (omega arith)
+    ∙ hex_more (v / 0x10) (v / 0x1 % 16) v [] (omega arith) (omega arith) (omega arith)
 
 places_words : (v : ℕ) (weights : List ℕ) → (list_all is_word_byte (plain (map (λ w. digit_glyph true (v / w % 16)) weights)) ≡ true)
     × (list_all is_inline (map (λ w. digit_glyph true (v / w % 16)) weights) ≡ true)
@@ -129,23 +121,18 @@ pair_words b small =
 pub pairs_read : (o : ℕ) → o < 65536 → digits_in 16 (plain (hex_pair (o / 256 % 256) ++ hex_pair (o % 256))) ≡ Some o
 pairs_read o small =
     let a = o / 256 % 256 in let b = o % 256 in
-    hex_more 0 (glyph (a / 16)) (a / 16) (a / 16) (glyph (a % 16) ∷ glyph (b / 16) ∷ glyph (b % 16) ∷ []) (glyph_value _ (omega arith)) (omega arith) (omega arith) (omega arith)
-    ∙ hex_more (a / 16) (glyph (a % 16)) (a % 16) a (glyph (b / 16) ∷ glyph (b % 16) ∷ []) (glyph_value _ (omega arith)) (omega arith) (omega arith) (omega arith)
-    ∙ hex_more a (glyph (b / 16)) (b / 16) (a * 16 + b / 16) (glyph (b % 16) ∷ []) (glyph_value _ (omega arith)) (omega arith) refl (omega arith)
-    ∙ hex_more (a * 16 + b / 16) (glyph (b % 16)) (b % 16) o [] (glyph_value _ (omega arith)) (omega arith) (omega arith) (omega arith)
+    hex_more 0 (a / 16) (a / 16) (glyph (a % 16) ∷ glyph (b / 16) ∷ glyph (b % 16) ∷ []) (omega arith) (omega arith) (omega arith)
+    ∙ hex_more (a / 16) (a % 16) a (glyph (b / 16) ∷ glyph (b % 16) ∷ []) (omega arith) (omega arith) (omega arith)
+    ∙ hex_more a (b / 16) (a * 16 + b / 16) (glyph (b % 16) ∷ []) (omega arith) refl (omega arith)
+    ∙ hex_more (a * 16 + b / 16) (b % 16) o [] (omega arith) (omega arith) (omega arith)
 
 -- no digit is a line feed
+later_feed : (b : ℕ) → 10 < b → no_feed b ≡ true
+later_feed b more = rw (ne_eqb b 10 (λ z. omega arith)) refl
+
 glyph_feed : (upper : Bool) (d : ℕ) → no_feed (digit_glyph upper d) ≡ true
-glyph_feed true d =
-    elim (cases_lt d 10) [
-      | inl small ↦ rw (lt-ltb d 10 small, ne_eqb (48 + d) 10 (λ z. omega arith)) refl
-      | inr big ↦ rw (le-ltb d 10 big, ne_eqb (55 + d) 10 (λ z. omega arith)) refl
-    ]
-glyph_feed false d =
-    elim (cases_lt d 10) [
-      | inl small ↦ rw (lt-ltb d 10 small, ne_eqb (48 + d) 10 (λ z. omega arith)) refl
-      | inr big ↦ rw (le-ltb d 10 big, ne_eqb (87 + d) 10 (λ z. omega arith)) refl
-    ]
+glyph_feed true d = cond_both (nat_lt d 10) (48 + d) (55 + d) (λ b. no_feed b ≡ true) (λ _. later_feed (48 + d) (omega arith)) (λ _. later_feed (55 + d) (omega arith))
+glyph_feed false d = cond_both (nat_lt d 10) (48 + d) (87 + d) (λ b. no_feed b ≡ true) (λ _. later_feed (48 + d) (omega arith)) (λ _. later_feed (87 + d) (omega arith))
 
 digits_feed : (k n : ℕ) (bytes : List ℕ) → list_all no_feed bytes ≡ true → list_all no_feed (digits_onto k 10 false n bytes) ≡ true
 digits_feed zero n bytes h = h

@@ -4,9 +4,9 @@ use Rattle.std.specs.List.{list_all}
 use Rattle.std.proofs.lemmas.Bool.{false≢true}
 use Rattle.dma_insn.specs.Spelling.{spelling}
 use Rattle.dma_insn.specs.AssemblyText.{most_program_bytes, text_lines}
-use Rattle.dma_insn.specs.declared.insn.Reg.TheVariants.{Sar, Ccr, Dar}
+use Rattle.dma_insn.specs.declared.insn.Reg.TheVariants.{Sar}
 use Rattle.dma_insn.specs.declared.insn.Insn.{Insn}
-use Rattle.dma_insn.specs.declared.insn.Insn.TheVariants.{Mov, Ld, St, Rmb, Wmb, Nop, End, Lp, LpEnd, Sev, Wfe}
+use Rattle.dma_insn.specs.declared.insn.Insn.TheVariants.{Mov, End, Wfe}
 use Rattle.dma_manual.specs.ManualText.{manual_text}
 use Rattle.dma_manual.specs.Words.{code_of, next_of}
 use Rattle.dma_manual.specs.Assembled.{empty, place_of, take_line, take_lines}
@@ -22,33 +22,13 @@ one_line [] some h = absurd (false≢true some)
 one_line (b ∷ text) some h = line_alone b text h
 
 text_some : (i : Insn) → has_bytes (manual_text i) ≡ true
-text_some End = refl
-text_some Ld = refl
-text_some St = refl
-text_some Rmb = refl
-text_some Wmb = refl
-text_some Nop = refl
-text_some (Lp c n) = refl
-text_some (LpEnd c b) = refl
-text_some (Sev e) = refl
 text_some (Wfe e false) = refl
-text_some (Wfe e true) = refl
 text_some (Mov Sar v) = refl
-text_some (Mov Ccr v) = refl
-text_some (Mov Dar v) = refl
+text_some _ = refl
 
 spelling_le : (i : Insn) → length (spelling i) ≤ most_program_bytes
 spelling_le End = omega arith
-spelling_le Ld = omega arith
-spelling_le St = omega arith
-spelling_le Rmb = omega arith
-spelling_le Wmb = omega arith
-spelling_le Nop = omega arith
-spelling_le (Lp c n) = omega arith
-spelling_le (LpEnd c b) = omega arith
-spelling_le (Sev e) = omega arith
-spelling_le (Wfe e v) = omega arith
-spelling_le (Mov r v) = omega arith
+spelling_le _ = omega arith
 
 pub texts_assemble : TextsAssemble
 texts_assemble i h =

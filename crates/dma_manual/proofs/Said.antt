@@ -1,10 +1,11 @@
 -- What the words of a printed line say.
-use Rattle.std.proofs.Common.{◌≡◌, ℕ, ◌≤◌, Bool, true, false, List, ◌∷◌, ◌++◌, refl, ap, ◌∙◌, Some, None, Ok, arith, codes, decimal}
+use Rattle.std.proofs.Common.{◌≡◌, ℕ, ◌^◌, ◌<◌, ◌≤◌, Bool, true, false, List, ◌∷◌, ◌++◌, refl, ap, ◌∙◌, Some, None, Ok, arith, codes, decimal}
 use Rattle.std.specs.Prelude.{nat_eq}
 use Rattle.std.specs.List.{list_all, starts_with}
 use Rattle.std.proofs.lemmas.Bool.{le-leb}
+use Rattle.dma_text.specs.Digits.{hex_digits}
 use Rattle.dma_insn.specs.declared.insn.Reg.{Reg}
-use Rattle.dma_insn.specs.declared.insn.Reg.TheVariants.{Sar, Ccr, Dar}
+use Rattle.dma_insn.specs.declared.insn.Reg.TheVariants.{Ccr}
 use Rattle.dma_insn.specs.declared.insn.Counter.{Counter}
 use Rattle.dma_insn.specs.declared.insn.Insn.{Insn}
 use Rattle.dma_insn.specs.declared.insn.Insn.TheVariants.{Mov, Sev, Wfe}
@@ -18,7 +19,7 @@ use Rattle.dma_manual.specs.declared.statements.End.TheVariants as ends
 use Rattle.dma_manual.specs.declared.statements.Statement.{Statement}
 use Rattle.dma_manual.specs.declared.statements.Statement.TheVariants as says
 use Rattle.dma_manual.proofs.Cuts.{gap_spaces, has_bytes, is_gap, is_space, next_none, next_space, next_word}
-use Rattle.dma_manual.proofs.Numerals.{decimal_read, plain}
+use Rattle.dma_manual.proofs.Numerals.{decimal_read, hex_read, hex_words, plain}
 
 -- The line has no label and says the statement.
 pub record Says (labels : List Label) (line : List ℕ) (s : Statement) : Type 0 where
@@ -83,6 +84,14 @@ control_number name rest w b v p n q small t = rw (p, n, q, le-leb 0 v (omega ar
 pub control_fields : (name rest w b : List ℕ) (v : ℕ) → next_of rest ≡ Some (w, b) → is_numeral w ≡ false → fields_at rest ≡ Ok v
     → control_line name rest ≡ Ok (says.Plain (Mov Ccr v))
 control_fields name rest w b v p n q = rw (p, n, q) refl
+
+-- DMAMOV with a register and what follows it
+pub says_set : (labels : List Label) (reg rest : List ℕ) (s : Statement) → has_bytes reg ≡ true → list_all is_word_byte reg ≡ true → is_gap rest ≡ true → set_by reg rest ≡ Ok s
+    → Says labels (codes "dmamov " ++ (reg ++ rest)) s
+unfolding by_name
+says_set labels reg rest s some word gap said =
+    named labels (codes "dmamov") (32 ∷ (reg ++ rest)) s refl refl refl refl
+    (set_of (codes "dmamov") (32 ∷ (reg ++ rest)) reg rest (next_space (reg ++ rest) ∙ next_word reg rest some word gap) ∙ said)
 
 -- Each kind of instruction, in front of spaces.
 module _ (labels : List Label) (tail : List ℕ) (spaces : list_all is_space tail ≡ true) where
@@ -152,41 +161,18 @@ module _ (labels : List Label) (tail : List ℕ) (spaces : list_all is_space tai
       wait_said e true (32 ∷ 32 ∷ last) small refl
       (flag_of (32 ∷ 32 ∷ last) tail (next_space (32 ∷ last) ∙ next_space last ∙ next_word (codes "invalid") tail refl refl (gap_spaces tail spaces)) (next_none tail spaces))
 
-  -- DMAMOV with a number
-  number_said : (reg : Reg) (name word : List ℕ) (v : ℕ) → has_bytes word ≡ true → list_all is_word_byte word ≡ true → number_of word ≡ Some v → v ≤ 0xffffffff
-      → address_line reg name (32 ∷ 32 ∷ (word ++ tail)) ≡ Ok (says.Plain (Mov reg v))
-  number_said reg name word v some words value small =
-      address_of reg name (32 ∷ 32 ∷ (word ++ tail)) word tail v (next_space (32 ∷ (word ++ tail)) ∙ next_space (word ++ tail) ∙ next_word word tail some words (gap_spaces tail spaces)) value small
-      (next_none tail spaces)
+  -- a number in hexadecimal digits
+  number_next : (v : ℕ) → next_of (32 ∷ 32 ∷ 48 ∷ 120 ∷ (plain (hex_digits v) ++ tail)) ≡ Some (48 ∷ 120 ∷ plain (hex_digits v), tail)
+  number_next v =
+      let word = 48 ∷ 120 ∷ plain (hex_digits v) in
+      next_space (32 ∷ (word ++ tail)) ∙ next_space (word ++ tail) ∙ next_word word tail refl (hex_words v).0 (gap_spaces tail spaces)
 
-  pub says_sar : (word : List ℕ) (v : ℕ) → has_bytes word ≡ true → list_all is_word_byte word ≡ true → number_of word ≡ Some v → v ≤ 0xffffffff
-      → Says labels (codes "dmamov sar  " ++ (word ++ tail)) (says.Plain (Mov Sar v))
-  unfolding by_name
-  says_sar word v some words value small =
-      let last = 32 ∷ 32 ∷ (word ++ tail) in
-      named labels (codes "dmamov") (codes " sar" ++ last) (says.Plain (Mov Sar v)) refl refl refl refl
-      (set_of (codes "dmamov") (codes " sar" ++ last) (codes "sar") last (next_space (codes "sar" ++ last) ∙ next_word (codes "sar") last refl refl refl)
-      ∙ number_said Sar (codes "sar") word v some words value small)
+  pub address_said : (reg : Reg) (name : List ℕ) (v : ℕ) → v < 2 ^ 32 → address_line reg name (32 ∷ 32 ∷ 48 ∷ 120 ∷ (plain (hex_digits v) ++ tail)) ≡ Ok (says.Plain (Mov reg v))
+  address_said reg name v small =
+      let word = 48 ∷ 120 ∷ plain (hex_digits v) in
+      address_of reg name (32 ∷ 32 ∷ (word ++ tail)) word tail v (number_next v) (hex_read v small) (omega arith) (next_none tail spaces)
 
-  pub says_dar : (word : List ℕ) (v : ℕ) → has_bytes word ≡ true → list_all is_word_byte word ≡ true → number_of word ≡ Some v → v ≤ 0xffffffff
-      → Says labels (codes "dmamov dar  " ++ (word ++ tail)) (says.Plain (Mov Dar v))
-  unfolding by_name
-  says_dar word v some words value small =
-      let last = 32 ∷ 32 ∷ (word ++ tail) in
-      named labels (codes "dmamov") (codes " dar" ++ last) (says.Plain (Mov Dar v)) refl refl refl refl
-      (set_of (codes "dmamov") (codes " dar" ++ last) (codes "dar") last (next_space (codes "dar" ++ last) ∙ next_word (codes "dar") last refl refl refl)
-      ∙ number_said Dar (codes "dar") word v some words value small)
-
-  -- DMAMOV CCR with what follows it
-  pub says_control : (rest : List ℕ) (v : ℕ) → is_gap rest ≡ true → control_line (codes "ccr") rest ≡ Ok (says.Plain (Mov Ccr v))
-      → Says labels (codes "dmamov ccr" ++ rest) (says.Plain (Mov Ccr v))
-  unfolding by_name
-  says_control rest v gap said =
-      named labels (codes "dmamov") (codes " ccr" ++ rest) (says.Plain (Mov Ccr v)) refl refl refl refl
-      (set_of (codes "dmamov") (codes " ccr" ++ rest) (codes "ccr") rest (next_space (codes "ccr" ++ rest) ∙ next_word (codes "ccr") rest refl refl gap) ∙ said)
-
-  pub number_control : (word : List ℕ) (v : ℕ) → has_bytes word ≡ true → list_all is_word_byte word ≡ true → is_numeral word ≡ true → number_of word ≡ Some v
-      → v ≤ 0xffffffff → control_line (codes "ccr") (32 ∷ 32 ∷ (word ++ tail)) ≡ Ok (says.Plain (Mov Ccr v))
-  number_control word v some words numeral value small =
-      control_number (codes "ccr") (32 ∷ 32 ∷ (word ++ tail)) word tail v (next_space (32 ∷ (word ++ tail)) ∙ next_space (word ++ tail) ∙ next_word word tail some words (gap_spaces tail spaces)) numeral value
-      small (next_none tail spaces)
+  pub control_said : (v : ℕ) → v < 2 ^ 32 → control_line (codes "ccr") (32 ∷ 32 ∷ 48 ∷ 120 ∷ (plain (hex_digits v) ++ tail)) ≡ Ok (says.Plain (Mov Ccr v))
+  control_said v small =
+      let word = 48 ∷ 120 ∷ plain (hex_digits v) in
+      control_number (codes "ccr") (32 ∷ 32 ∷ (word ++ tail)) word tail v (number_next v) refl (hex_read v small) (omega arith) (next_none tail spaces)

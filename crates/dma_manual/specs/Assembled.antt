@@ -12,7 +12,7 @@ use Rattle.dma_manual.specs.Statements.{Label, label_of, label_view, statement_a
 use Rattle.dma_manual.specs.declared.assembler.AsmCause.TheVariants as causes
 use Rattle.dma_manual.specs.declared.assembler.Fault.{Fault}
 use Rattle.dma_manual.specs.declared.assembler.Located.{Located}
-use Rattle.dma_manual.specs.declared.assembler.Spot.{Spot}
+use Rattle.dma_manual.specs.declared.assembler.Place.{Place}
 use Rattle.dma_manual.specs.declared.assembler.Stop.{Stop}
 use Rattle.dma_manual.specs.declared.assembler.Stop.TheVariants.{NoMemory, At}
 use Rattle.dma_manual.specs.declared.draft.Draft.{Draft}
@@ -24,14 +24,13 @@ use Rattle.dma_manual.specs.declared.statements.Statement.{Statement}
 use Rattle.dma_manual.specs.declared.statements.Statement.TheVariants as says
 
 -- What the lines so far say: the program's bytes, the labels, the loops that are open, whether an instruction is DMAEND
--- or a byte is 0, and the place of the first DMALPEND that jumps elsewhere than behind the DMALP of its counter's open
--- loop.
+-- or a `DCB` is 0, and the place of the first DMALPEND that doesn't jump to the start of its counter's open loop.
 pub record Read : Type 0 where
   pub code : List ℕ
   pub labels : List Label
   pub loops : Loops
   pub stops : Bool
-  pub stray : Option Spot
+  pub stray : Option Place
 
 abbrev pub draft_view : Draft → Read
 draft_view d = record {
@@ -42,7 +41,7 @@ draft_view d = record {
   stray = d.stray;
 }
 
--- nothing is read
+-- what no lines say
 abbrev pub empty : Read
 empty = record {
   code = [];
@@ -52,30 +51,30 @@ empty = record {
   stray = None;
 }
 
--- the place of a word of line n, which has `width` bytes, of which this number is after the word
-abbrev pub spot_at : ℕ → ℕ → ℕ → ℕ → Spot
-spot_at n width len after = record { line = n; column = width - after - len + 1; len = len }
+-- The place of a word of line n: the line has `width` bytes, the word `len`, and behind the word are `after`.
+abbrev pub place_at : ℕ → ℕ → ℕ → ℕ → Place
+place_at n width len after = record { line = n; column = width - after - len + 1; len = len }
 
 abbrev pub located : ℕ → ℕ → Fault → Located
-located n width fault = record { spot = spot_at n width fault.len fault.after; cause = fault.cause }
+located n width fault = record { place = place_at n width fault.len fault.after; cause = fault.cause }
 
 -- the place of the next word of a line
-abbrev pub place_of : ℕ → ℕ → Option (List ℕ × List ℕ) → Spot
-place_of n width None = spot_at n width 0 0
-place_of n width (Some w) = spot_at n width (length w.0) (length w.1)
+abbrev pub place_of : ℕ → ℕ → Option (List ℕ × List ℕ) → Place
+place_of n width None = place_at n width 0 0
+place_of n width (Some w) = place_at n width (length w.0) (length w.1)
 
--- the program with more bytes; `TooLong` if they are more than 8,192
-abbrev pub with_bytes : List ℕ → List ℕ → Spot → Result (List ℕ) Located
-with_bytes code bytes spot =
+-- The program with more bytes. Fails with `TooLong` if they are more than 8,192 then.
+abbrev pub with_bytes : List ℕ → List ℕ → Place → Result (List ℕ) Located
+with_bytes code bytes place =
     if nat_le (length code + length bytes) most_program_bytes then Ok (code ++ bytes)
-    else Err (record { spot = spot; cause = causes.TooLong })
+    else Err (record { place = place; cause = causes.TooLong })
 
 -- the open loop of a counter
 abbrev pub slot : Loops → Counter → Option Open
 slot loops Lc0 = loops.lc0
 slot loops Lc1 = loops.lc1
 
--- the loops with another one of a counter
+-- the loops with this one in place of the counter's
 abbrev pub with_loop : Loops → Counter → Option Open → Loops
 with_loop loops Lc0 loop = record { lc0 = loop; lc1 = loops.lc1 }
 with_loop loops Lc1 loop = record { lc0 = loops.lc0; lc1 = loop }
@@ -100,40 +99,40 @@ abbrev pub innermost : Loops → Option (Counter × ℕ)
 innermost loops = innermost_of loops.lc0 loops.lc1
 
 -- the counter of a DMALP, and its place if the counter has to be found
-abbrev pub found_counter : Option Counter → Spot → Result (Counter × Option Spot) Located
-found_counter None spot = Err (record { spot = spot; cause = causes.NoCounter })
-found_counter (Some counter) spot = Ok (counter, Some spot)
+abbrev pub found_counter : Option Counter → Place → Result (Counter × Option Place) Located
+found_counter None place = Err (record { place = place; cause = causes.NoCounter })
+found_counter (Some counter) place = Ok (counter, Some place)
 
-abbrev pub chosen : Loops → Option Counter → Spot → Result (Counter × Option Spot) Located
-chosen loops (Some counter) spot = Ok (counter, None)
-chosen loops None spot = found_counter (free_counter loops) spot
+abbrev pub chosen : Loops → Option Counter → Place → Result (Counter × Option Place) Located
+chosen loops (Some counter) place = Ok (counter, None)
+chosen loops None place = found_counter (free_counter loops) place
 
 -- the length of a jump to a loop's start, at most 255 bytes
-abbrev pub back_to : ℕ → ℕ → Spot → Result ℕ Located
-back_to here start spot =
+abbrev pub back_to : ℕ → ℕ → Place → Result ℕ Located
+back_to here start place =
     if nat_le start here && nat_le (here - start) 255 then Ok (here - start)
-    else Err (record { spot = spot; cause = causes.Far })
+    else Err (record { place = place; cause = causes.Far })
 
 -- the counter of a DMALPEND at an offset, and the length of its jump
-abbrev pub jump_of : Loops → ℕ → LoopTo → Spot → Result (Counter × ℕ) Located
-jump_of loops here ends.Innermost spot = do
-  l ← ok_or (innermost loops) (record { spot = spot; cause = causes.NoLoop })
-  back ← back_to here l.1 spot
+abbrev pub jump_of : Loops → ℕ → LoopTo → Place → Result (Counter × ℕ) Located
+jump_of loops here ends.Innermost place = do
+  l ← ok_or (innermost loops) (record { place = place; cause = causes.NoLoop })
+  back ← back_to here l.1 place
   Ok (l.0, back)
-jump_of loops here (ends.Of counter) spot = do
-  loop ← ok_or (slot loops counter) (record { spot = spot; cause = causes.NoLoop })
-  back ← back_to here loop.start spot
+jump_of loops here (ends.Of counter) place = do
+  loop ← ok_or (slot loops counter) (record { place = place; cause = causes.NoLoop })
+  back ← back_to here loop.start place
   Ok (counter, back)
-jump_of loops here (ends.To counter start) spot = do
-  back ← back_to here start spot
+jump_of loops here (ends.To counter start) place = do
+  back ← back_to here start place
   Ok (counter, back)
-jump_of loops here (ends.Back counter back) spot = Ok (counter, back)
+jump_of loops here (ends.Back counter back) place = Ok (counter, back)
 
--- with a DMALP, whose loop is open then
-abbrev pub begun : Read → Option Counter → ℕ → Spot → Result Read Located
-begun r counter times spot = do
-  c ← chosen r.loops counter spot
-  code ← with_bytes r.code (spelling (Lp c.0 times)) spot
+-- What the lines say if a DMALP follows them: its loop is open.
+abbrev pub begun : Read → Option Counter → ℕ → Place → Result Read Located
+begun r counter times place = do
+  c ← chosen r.loops counter place
+  code ← with_bytes r.code (spelling (Lp c.0 times)) place
   Ok (record r { code = code; loops = with_loop r.loops c.0 (Some (record { start = length code; unnamed = c.1 })) })
 
 -- whether a jump of this many bytes back from an offset leads to the start of an open loop
@@ -141,43 +140,43 @@ abbrev pub is_closed_by : Option Open → ℕ → ℕ → Bool
 is_closed_by None here back = false
 is_closed_by (Some loop) here back = nat_le back here && (here - back) == loop.start
 
--- the place of the first DMALPEND that closes no loop, with one more, which has this place
-abbrev pub first_stray : Option Spot → Bool → Spot → Option Spot
-first_stray (Some first) closes spot = Some first
-first_stray None true spot = None
-first_stray None false spot = Some spot
+-- The place of the first DMALPEND that closes no loop, if one more follows, which has this place.
+abbrev pub first_stray : Option Place → Bool → Place → Option Place
+first_stray (Some first) closes place = Some first
+first_stray None true place = None
+first_stray None false place = Some place
 
--- with a DMALPEND, which ends the open loop of its counter
-abbrev pub ended : Read → LoopTo → Spot → Result Read Located
-ended r end spot = do
-  jump ← jump_of r.loops (length r.code) end spot
-  code ← with_bytes r.code (spelling (LpEnd jump.0 jump.1)) spot
+-- What the lines say if a DMALPEND follows them: it ends the open loop of its counter.
+abbrev pub ended : Read → LoopTo → Place → Result Read Located
+ended r end place = do
+  jump ← jump_of r.loops (length r.code) end place
+  code ← with_bytes r.code (spelling (LpEnd jump.0 jump.1)) place
   Ok (record r {
     code = code;
     loops = with_loop r.loops jump.0 None;
-    stray = first_stray r.stray (is_closed_by (slot r.loops jump.0) (length r.code) jump.1) spot;
+    stray = first_stray r.stray (is_closed_by (slot r.loops jump.0) (length r.code) jump.1) place;
   })
 
--- with more bytes, and whether they are DMAEND
-abbrev pub with_code : Read → List ℕ → Bool → Spot → Result Read Located
-with_code r bytes stops spot = do
-  code ← with_bytes r.code bytes spot
+-- What the lines say if more bytes follow them; `stops` is whether these are DMAEND.
+abbrev pub with_code : Read → List ℕ → Bool → Place → Result Read Located
+with_code r bytes stops place = do
+  code ← with_bytes r.code bytes place
   Ok (record r { code = code; stops = r.stops || stops })
 
--- with what a statement says
-abbrev pub after_statement : Read → Statement → Spot → Result Read Located
-after_statement r says.Nothing spot = Ok r
-after_statement r (says.Plain i) spot = with_code r (spelling i) (is_end i) spot
-after_statement r (says.Byte b) spot = with_code r (b ∷ []) (b == 0) spot
-after_statement r (says.Loop counter times) spot = begun r counter times spot
-after_statement r (says.LoopEnd end) spot = ended r end spot
+-- what the lines say if a statement follows them
+abbrev pub after_statement : Read → Statement → Place → Result Read Located
+after_statement r says.Nothing place = Ok r
+after_statement r (says.Plain i) place = with_code r (spelling i) (is_end i) place
+after_statement r (says.Byte b) place = with_code r (b ∷ []) (b == 0) place
+after_statement r (says.Loop counter times) place = begun r counter times place
+after_statement r (says.LoopEnd end) place = ended r end place
 
--- a statement, or the place of its fault
+-- a result whose fault, if it has one, has its place in line n
 abbrev pub placed : {A : Type 0} → ℕ → ℕ → Result A Fault → Result A Located
 placed n width (Ok x) = Ok x
 placed n width (Err fault) = Err (located n width fault)
 
--- with what follows a label in line n
+-- what the lines say if the words behind the label of line n follow them
 unfoldable pub with_statement : Read → ℕ → ℕ → List ℕ → Result Read Located
 with_statement r n width rest = do
   s ← placed n width (statement_at r.labels rest)
@@ -191,14 +190,14 @@ label_by (Some w) = if slice_index w.0 (length w.0 - 1) == 58 then Some (take (l
 abbrev pub label_in : List ℕ → Option (List ℕ × List ℕ)
 label_in line = label_by (next_of line)
 
--- with a label, which no other has the name of
+-- What the lines say if a label follows them. Fails with `Twice` if one of them has the same label.
 abbrev pub with_label : Read → ℕ → ℕ → List ℕ → List ℕ → Result Read Located
 with_label r n width name rest =
     if is_some (label_of r.labels name)
-    then Err (record { spot = spot_at n width (length name + 1) (length rest); cause = causes.Twice })
+    then Err (record { place = place_at n width (length name + 1) (length rest); cause = causes.Twice })
     else Ok (record r { labels = r.labels ++ (name, length r.code) ∷ [] })
 
--- with line n, by the label at its front
+-- what the lines say if line n follows them, given the label at its front
 abbrev pub taken : Read → ℕ → List ℕ → Option (List ℕ × List ℕ) → Result Read Located
 taken r n line None = with_statement r n (length line) line
 taken r n line (Some w) = do
@@ -208,7 +207,7 @@ taken r n line (Some w) = do
 abbrev pub take_line : Read → ℕ → List ℕ → Result Read Located
 take_line r n line = taken r n line (label_in line)
 
--- with the lines that follow line n
+-- what the lines say if these follow them, behind line n
 unfoldable pub take_lines : Read → ℕ → List (List ℕ) → Result Read Located
 take_lines r n [] = Ok r
 take_lines r n (line ∷ lines) = do
@@ -216,9 +215,9 @@ take_lines r n (line ∷ lines) = do
   take_lines next (n + 1) lines
 
 -- succeeds if each loop whose counter was found is ended
-abbrev pub ended_by : Option Spot → Result (Unit {0}) Located
+abbrev pub ended_by : Option Place → Result (Unit {0}) Located
 ended_by None = Ok tt
-ended_by (Some spot) = Err (record { spot = spot; cause = causes.Open })
+ended_by (Some place) = Err (record { place = place; cause = causes.Open })
 
 abbrev pub ended_loop : Option Open → Result (Unit {0}) Located
 ended_loop None = Ok tt

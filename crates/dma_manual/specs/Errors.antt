@@ -13,7 +13,7 @@ use Rattle.dma_manual.specs.declared.assembler.Field.TheVariants as field
 use Rattle.dma_manual.specs.declared.assembler.Operand.{Operand}
 use Rattle.dma_manual.specs.declared.assembler.Operand.TheVariants as operand
 use Rattle.dma_manual.specs.declared.assembler.Located.{Located}
-use Rattle.dma_manual.specs.declared.assembler.Spot.{Spot}
+use Rattle.dma_manual.specs.declared.assembler.Place.{Place}
 use Rattle.dma_manual.specs.declared.errors.AsmError.{AsmError}
 use Rattle.dma_manual.specs.declared.errors.AsmError.TheVariants as errors
 use Rattle.dma_manual.specs.declared.errors.Note.{Note}
@@ -73,28 +73,29 @@ line_of [] n = []
 line_of (line ∷ lines) n = if nat_le n 1 then line else line_of lines (n - 1)
 
 -- the word at a place of a line
-abbrev pub word_at : List ℕ → Spot → List ℕ
-word_at line spot =
-    let from = drop (min (spot.column - 1) (length line)) line in take (min spot.len (length from)) from
+abbrev pub word_at : List ℕ → Place → List ℕ
+word_at line place =
+    let from = drop (min (place.column - 1) (length line)) line in take (min place.len (length from)) from
 
--- whether a plain line has a label
+-- whether a label, if there is one, has a name
 abbrev pub label_is : Option (List ℕ × List ℕ) → List ℕ → Bool
 label_is None name = false
 label_is (Some w) name = bytes_eq w.0 name
 
+-- whether a plain line has a label with a name
 abbrev pub named_by : List ℕ → List ℕ → Bool
 named_by line name = label_is (label_in line) name
 
--- whether a line has a label
+-- whether a line has a label with a name
 abbrev pub has_label : List ℕ → List ℕ → Bool
 has_label line name = named_by (map plain_byte (code_of line)) name
 
--- the number of the first line with a label, of the lines that follow line n
+-- the number of the first line that has a label with a name, of the lines behind line n
 abbrev pub line_with : List ℕ → ℕ → List (List ℕ) → Option ℕ
 line_with name n [] = None
 line_with name n (line ∷ lines) = if has_label line name then Some (n + 1) else line_with name (n + 1) lines
 
--- which line has a label
+-- what is said of a label, given the number of the first line that has it
 abbrev pub label_note : Option ℕ → Note
 label_note None = notes.NoLine
 label_note (Some n) = notes.Line n
@@ -108,7 +109,7 @@ abbrev pub is_missing : AsmCause → Bool
 is_missing (causes.Missing which) = true
 is_missing _ = false
 
--- whether a cause is that no line before has a label
+-- whether a cause is that no line before has the label
 abbrev pub is_label : AsmCause → Bool
 is_label causes.Label = true
 is_label _ = false
@@ -117,7 +118,7 @@ is_label _ = false
 -- comment; of a label that no line before has, which line has it.
 abbrev pub note_of : List ℕ → Located → List ℕ → Note
 note_of text l word =
-    if is_missing l.cause then sign_note (line_of (text_lines text) l.spot.line) else (
+    if is_missing l.cause then sign_note (line_of (text_lines text) l.place.line) else (
     if is_label l.cause then label_note (line_with (map plain_byte (code_of word)) 0 (text_lines text))
     else notes.Nothing)
 
@@ -125,37 +126,37 @@ note_of text l word =
 abbrev pub note_text : Note → List ℕ
 note_text notes.Nothing = []
 note_text notes.Sign = codes ": # begins a comment"
-note_text notes.NoLine = codes ": no line has it"
+note_text notes.NoLine = codes ": no line has this label"
 note_text (notes.Line n) = codes ": line " ++ decimal n ++ codes " has it"
 
 -- `LINE:COLUMN: 'WORD' MESSAGE`, and behind a colon what the text says besides
 abbrev pub error_text : Located → List ℕ → Note → List ℕ
 error_text l word note =
-    decimal l.spot.line ++ codes ":" ++ decimal l.spot.column
+    decimal l.place.line ++ codes ":" ++ decimal l.place.column
     ++ (codes ": '" ++ word ++ codes "' " ++ (message l.cause ++ note_text note))
 
 -- the word at a place of a text
-abbrev pub word_in : List ℕ → Spot → List ℕ
-word_in text spot = word_at (line_of (text_lines text) spot.line) spot
+abbrev pub word_in : List ℕ → Place → List ℕ
+word_in text place = word_at (line_of (text_lines text) place.line) place
 
 -- What `assemble` returns: the bytes of the text's program, or its first fault with the word, or out of memory.
 abbrev pub IsAssembled : {X : Type 0} → (X → List ℕ) → List ℕ → Result X AsmError → Type 0
 IsAssembled view text (Ok program) = assembled text ≡ Ok (view program)
 IsAssembled view text (Err (errors.Wrong e)) =
-    (assembled text ≡ Err e.located) × (e.word.now ≡ word_in text e.located.spot)
+    (assembled text ≡ Err e.located) × (e.word.now ≡ word_in text e.located.place)
     × (e.note ≡ note_of text e.located e.word.now)
 IsAssembled view text (Err errors.NoMemory) = Unit {0}
 
--- whether a program has a DMAEND, or no bytes
+-- whether a text has a DMAEND, or its program has no bytes
 abbrev pub stops_or_empty : Read → Bool
 stops_or_empty r = r.stops || length r.code == 0
 
--- The first warning about a program: a DMALPEND jumps elsewhere than behind the DMALP of its counter's open loop, or
--- the text has no DMAEND.
-abbrev pub warning_text : Option Spot → Bool → List ℕ
-warning_text (Some spot) stops =
-    decimal spot.line ++ codes ":" ++ decimal spot.column
-    ++ codes ": warning: 'DMALPEND' jumps elsewhere than behind its DMALP\n"
+-- The first warning about a program: a DMALPEND doesn't jump to the start of its counter's open loop, or the text has
+-- no DMAEND.
+abbrev pub warning_text : Option Place → Bool → List ℕ
+warning_text (Some place) stops =
+    decimal place.line ++ codes ":" ++ decimal place.column
+    ++ codes ": warning: 'DMALPEND' does not jump to the instruction after its DMALP\n"
 warning_text None true = []
 warning_text None false = codes " warning: the text has no DMAEND\n"
 
@@ -167,4 +168,4 @@ assembled_out (Err l) = []
 -- what is written to standard error for a text: its first fault, or the first warning about its program
 abbrev pub assembled_err : List ℕ → Result Read Located → List ℕ
 assembled_err text (Ok r) = warning_text r.stray (stops_or_empty r)
-assembled_err text (Err l) = error_text l (word_in text l.spot) (note_of text l (word_in text l.spot)) ++ codes "\n"
+assembled_err text (Err l) = error_text l (word_in text l.place) (note_of text l (word_in text l.place)) ++ codes "\n"

@@ -8,3 +8,8 @@ pub mod Statements
 pub mod Assembled
 pub mod Errors
 pub mod Laws
+pub mod Addresses
+pub mod Hexadecimal
+pub mod Answer
+pub mod Refusal
+pub mod Notes

@@ -73,7 +73,7 @@ pub struct Fault {
 
 /// The place of a word: the number of its line and its column, both from 1, and its length.
 #[derive(Clone, Copy)]
-pub struct Spot {
+pub struct Place {
     pub line: usize,
     pub column: usize,
     pub len: usize,
@@ -82,7 +82,7 @@ pub struct Spot {
 /// What is wrong with a word of a text.
 #[derive(Clone, Copy)]
 pub struct Located {
-    pub spot: Spot,
+    pub place: Place,
     pub cause: AsmCause,
 }
 
@@ -157,7 +157,7 @@ pub fn assemble(alloc: Global, text: &[u8]) -> Result<Vec<u8>, AsmError<'_>>
     match read_text(alloc, text) {
         Ok(draft) => Ok(draft.code),
         Err(Stop::At(located)) => {
-            let word = word_at(text, located.spot);
+            let word = word_at(text, located.place);
             match note_of(alloc, text, located, word) {
                 Ok(note) => Err(AsmError::Wrong(Wrong {
                     located,
@@ -200,7 +200,7 @@ pub fn assemble_text(
             Ok(true)
         }
         Err(Stop::At(located)) => {
-            let word = word_at(text, located.spot);
+            let word = word_at(text, located.place);
             let note = note_of(alloc, text, located, word)?;
             let wrong = Wrong {
                 located,

@@ -4,11 +4,11 @@ ghost use Rattle.std.specs.Prelude.{◌≡◌, ◌==◌, ◌++◌, ◌+◌, ◌-
 ghost use Rattle.dma_insn.specs.Spelling.{spelling};
 ghost use Rattle.dma_insn.specs.LineReading.{ResultIs};
 ghost use Rattle.dma_manual.specs.Words.{next_of};
-ghost use Rattle.dma_manual.specs.Assembled.{ResultOr, after_statement, begun, draft_view, empty, ended, first_stray, label_in, located, place_of, spot_at, take_line, unclosed, with_bytes, with_code, with_label, with_statement};
+ghost use Rattle.dma_manual.specs.Assembled.{ResultOr, after_statement, begun, draft_view, empty, ended, first_stray, label_in, located, place_of, place_at, take_line, unclosed, with_bytes, with_code, with_label, with_statement};
 ghost use Rattle.dma_manual.specs.Listing.{is_end};
 ghost use Rattle.dma_manual.specs.Statements.{label_view};
 
-use crate::assembler::{AsmCause, Fault, Located, Spot, Stop};
+use crate::assembler::{AsmCause, Fault, Located, Place, Stop};
 use crate::listing::is_end;
 use crate::loops::{Loops, Open, chosen, jump_of};
 use crate::statements::{End, Named, Statement, label_of, statement_at};
@@ -24,10 +24,10 @@ pub struct Draft {
     pub code: Vec<u8>,
     pub labels: Vec<Named>,
     pub loops: Loops,
-    /// Whether an instruction is DMAEND, or a byte is 0, which is DMAEND.
+    /// Whether an instruction is DMAEND, or a `DCB` is 0, which is DMAEND's byte.
     pub stops: bool,
-    /// The place of the first DMALPEND that jumps elsewhere than behind the DMALP of its counter's open loop.
-    pub stray: Option<Spot>,
+    /// The place of the first DMALPEND that doesn't jump to the start of its counter's open loop.
+    pub stray: Option<Place>,
 }
 
 impl Draft {
@@ -55,12 +55,12 @@ impl Draft {
     }
 }
 
-// Returns the place of a word of a line, which has this many bytes and this many after it.
-fn spot_at(number: usize, line: &[u8], len: usize, after: usize) -> Spot
-    ensures { result ≡ spot_at number (length line.now) len after }
+// Returns the place of a word of a line: the word has `len` bytes, and behind it are `after`.
+fn place_at(number: usize, line: &[u8], len: usize, after: usize) -> Place
+    ensures { result ≡ place_at number (length line.now) len after }
 {
     let column = line.len().saturating_sub(after).saturating_sub(len) + 1;
-    Spot {
+    Place {
         line: number,
         column,
         len,
@@ -72,28 +72,28 @@ fn located(number: usize, line: &[u8], fault: Fault) -> Located
     ensures { result ≡ located number (length line.now) fault }
 {
     Located {
-        spot: spot_at(number, line, fault.len, fault.after),
+        place: place_at(number, line, fault.len, fault.after),
         cause: fault.cause,
     }
 }
 
 // Returns the place of the next word.
-fn place_of(number: usize, line: &[u8], rest: &[u8]) -> Spot
+fn place_of(number: usize, line: &[u8], rest: &[u8]) -> Place
     ensures { result ≡ place_of number (length line.now) (next_of rest.now) }
 {
     match next_word(rest) {
-        None => spot_at(number, line, 0, 0),
-        Some((word, after)) => spot_at(number, line, word.len(), after.len()),
+        None => place_at(number, line, 0, 0),
+        Some((word, after)) => place_at(number, line, word.len(), after.len()),
     }
 }
 
 // Appends bytes to the program. Fails if it gets too long.
-fn push_bytes(code: &mut Vec<u8>, bytes: &[u8], spot: Spot) -> Result<(), Stop>
-    ensures { ResultOr (λ _. code.new.items) result (with_bytes code.old.items bytes.now spot) }
+fn push_bytes(code: &mut Vec<u8>, bytes: &[u8], place: Place) -> Result<(), Stop>
+    ensures { ResultOr (λ _. code.new.items) result (with_bytes code.old.items bytes.now place) }
 {
     if bytes.len() > MAX_PROGRAM_BYTES || code.len() > MAX_PROGRAM_BYTES - bytes.len() {
         return Err(Stop::At(Located {
-            spot,
+            place,
             cause: AsmCause::TooLong,
         }));
     }
@@ -102,13 +102,13 @@ fn push_bytes(code: &mut Vec<u8>, bytes: &[u8], spot: Spot) -> Result<(), Stop>
 }
 
 // Appends an instruction to the program. Fails if it gets too long.
-fn push_insn(code: &mut Vec<u8>, insn: Insn, spot: Spot) -> Result<(), Stop>
+fn push_insn(code: &mut Vec<u8>, insn: Insn, place: Place) -> Result<(), Stop>
     ensures { ResultOr (λ _. code.new.items) result
-        (with_bytes code.old.items (spelling insn) spot) }
+        (with_bytes code.old.items (spelling insn) place) }
 {
     let mut bytes = [0; 6];
     let len = encode(insn, &mut bytes);
-    push_bytes(code, &bytes[..len], spot)
+    push_bytes(code, &bytes[..len], place)
 }
 
 // Appends a DMALP, and opens its loop.
@@ -116,13 +116,13 @@ fn begin_loop(
     draft: &mut Draft,
     counter: Option<Counter>,
     times: Times,
-    spot: Spot,
+    place: Place,
 ) -> Result<(), Stop>
     ensures { ResultOr (λ _. draft_view draft.new) result
-        (begun (draft_view draft.old) counter times spot) }
+        (begun (draft_view draft.old) counter times place) }
 {
-    let (counter, unnamed) = chosen(&draft.loops, counter, spot)?;
-    push_insn(&mut draft.code, Insn::Lp { counter, times }, spot)?;
+    let (counter, unnamed) = chosen(&draft.loops, counter, place)?;
+    push_insn(&mut draft.code, Insn::Lp { counter, times }, place)?;
     let open = Open {
         start: draft.code.len(),
         unnamed,
@@ -131,62 +131,62 @@ fn begin_loop(
     Ok(())
 }
 
-// Returns the place of the first DMALPEND that closes no loop, with this one, whose place follows.
-fn first_stray(stray: Option<Spot>, closes: bool, spot: Spot) -> Option<Spot>
-    ensures { result ≡ first_stray stray closes spot }
+// Returns the place of the first DMALPEND that closes no loop, if one more follows, which has this place.
+fn first_stray(stray: Option<Place>, closes: bool, place: Place) -> Option<Place>
+    ensures { result ≡ first_stray stray closes place }
 {
     match stray {
         Some(first) => Some(first),
         None if closes => None,
-        None => Some(spot),
+        None => Some(place),
     }
 }
 
 // Appends a DMALPEND, and closes its loop.
-fn end_loop(draft: &mut Draft, end: End, spot: Spot) -> Result<(), Stop>
+fn end_loop(draft: &mut Draft, end: End, place: Place) -> Result<(), Stop>
     ensures { ResultOr (λ _. draft_view draft.new) result
-        (ended (draft_view draft.old) end spot) }
+        (ended (draft_view draft.old) end place) }
 {
     let here = draft.code.len();
-    let (counter, back) = jump_of(&draft.loops, here, end, spot)?;
+    let (counter, back) = jump_of(&draft.loops, here, end, place)?;
     let closes = draft.loops.is_closed_by(counter, here, back);
-    push_insn(&mut draft.code, Insn::LpEnd { counter, back }, spot)?;
+    push_insn(&mut draft.code, Insn::LpEnd { counter, back }, place)?;
     draft.loops = draft.loops.with(counter, None);
-    draft.stray = first_stray(draft.stray, closes, spot);
+    draft.stray = first_stray(draft.stray, closes, place);
     Ok(())
 }
 
 // Appends an instruction that is no DMALP or DMALPEND.
-fn push_plain(draft: &mut Draft, insn: Insn, spot: Spot) -> Result<(), Stop>
+fn push_plain(draft: &mut Draft, insn: Insn, place: Place) -> Result<(), Stop>
     ensures { ResultOr (λ _. draft_view draft.new) result
-        (with_code (draft_view draft.old) (spelling insn) (is_end insn) spot) }
+        (with_code (draft_view draft.old) (spelling insn) (is_end insn) place) }
 {
-    push_insn(&mut draft.code, insn, spot)?;
+    push_insn(&mut draft.code, insn, place)?;
     draft.stops = draft.stops || is_end(&insn);
     Ok(())
 }
 
 // Appends a byte.
-fn push_byte(draft: &mut Draft, byte: u8, spot: Spot) -> Result<(), Stop>
+fn push_byte(draft: &mut Draft, byte: u8, place: Place) -> Result<(), Stop>
     ensures { ResultOr (λ _. draft_view draft.new) result
-        (with_code (draft_view draft.old) (byte ∷ []) (byte == 0) spot) }
+        (with_code (draft_view draft.old) (byte ∷ []) (byte == 0) place) }
 {
-    push_bytes(&mut draft.code, &[byte], spot)?;
+    push_bytes(&mut draft.code, &[byte], place)?;
     draft.stops = draft.stops || byte == 0;
     Ok(())
 }
 
 // Appends what a statement says.
-fn push_statement(draft: &mut Draft, statement: Statement, spot: Spot) -> Result<(), Stop>
+fn push_statement(draft: &mut Draft, statement: Statement, place: Place) -> Result<(), Stop>
     ensures { ResultOr (λ _. draft_view draft.new) result
-        (after_statement (draft_view draft.old) statement spot) }
+        (after_statement (draft_view draft.old) statement place) }
 {
     match statement {
         Statement::Nothing => Ok(()),
-        Statement::Plain(insn) => push_plain(draft, insn, spot),
-        Statement::Byte(byte) => push_byte(draft, byte, spot),
-        Statement::Loop { counter, times } => begin_loop(draft, counter, times, spot),
-        Statement::LoopEnd(end) => end_loop(draft, end, spot),
+        Statement::Plain(insn) => push_plain(draft, insn, place),
+        Statement::Byte(byte) => push_byte(draft, byte, place),
+        Statement::Loop { counter, times } => begin_loop(draft, counter, times, place),
+        Statement::LoopEnd(end) => end_loop(draft, end, place),
     }
 }
 
@@ -196,9 +196,9 @@ fn take_statement(draft: &mut Draft, number: usize, line: &[u8], rest: &[u8]) ->
     ensures { ResultOr (λ _. draft_view draft.new) result
         (with_statement (draft_view draft.old) number (length line.now) rest.now) }
 {
-    let spot = place_of(number, line, rest);
+    let place = place_of(number, line, rest);
     match statement_at(&draft.labels, rest) {
-        Ok(statement) => push_statement(draft, statement, spot),
+        Ok(statement) => push_statement(draft, statement, place),
         Err(fault) => Err(Stop::At(located(number, line, fault))),
     }
 }
@@ -227,9 +227,9 @@ fn add_label(
         (with_label (draft_view draft.old) number (length line.now) name.now rest.now) }
 {
     if label_of(&draft.labels, name).is_some() {
-        let spot = spot_at(number, line, name.len() + 1, rest.len());
+        let place = place_at(number, line, name.len() + 1, rest.len());
         return Err(Stop::At(Located {
-            spot,
+            place,
             cause: AsmCause::Twice,
         }));
     }

@@ -5,7 +5,7 @@ ghost use Rattle.dma_insn.specs.AssemblyText.{text_lines};
 ghost use Rattle.dma_manual.specs.Errors.{error_text, field_message, has_label, is_label, is_missing, label_note, line_of, line_with, message, missing_message, named_by, note_of, note_text, sign_note, word_at};
 ghost use Rattle.dma_manual.specs.Words.{code_of, plain_byte};
 
-use crate::assembler::{AsmCause, Field, Located, Operand, Spot};
+use crate::assembler::{AsmCause, Field, Located, Operand, Place};
 use crate::draft::label_in;
 use crate::manual::Side;
 use crate::words::{has_sign, plain_line, split_line};
@@ -32,7 +32,7 @@ impl Text for Note {
         match *self {
             Note::Nothing => "".push(out),
             Note::Sign => ": # begins a comment".push(out),
-            Note::NoLine => ": no line has it".push(out),
+            Note::NoLine => ": no line has this label".push(out),
             Note::Line(number) => (": line ", number, " has it").push(out),
         }
     }
@@ -57,7 +57,7 @@ impl Text for Wrong<'_> {
     ghost text = { λ e. error_text e.located e.word.now e.note };
 
     fn push(&self, out: &mut Vec<u8>) -> Result<(), AllocError> {
-        let Spot { line, column, .. } = self.located.spot;
+        let Place { line, column, .. } = self.located.place;
         (
             line,
             ":",
@@ -155,16 +155,16 @@ fn line_of(text: &[u8], number: usize) -> &[u8]
 }
 
 /// Returns the word at a place of a text.
-pub fn word_at(text: &[u8], spot: Spot) -> &[u8]
-    ensures { result.now ≡ word_at (line_of (text_lines text.now) spot.line) spot }
+pub fn word_at(text: &[u8], place: Place) -> &[u8]
+    ensures { result.now ≡ word_at (line_of (text_lines text.now) place.line) place }
 {
-    let line = line_of(text, spot.line);
-    let (_, from) = line.split_at(spot.column.saturating_sub(1).min(line.len()));
-    let (word, _) = from.split_at(spot.len.min(from.len()));
+    let line = line_of(text, place.line);
+    let (_, from) = line.split_at(place.column.saturating_sub(1).min(line.len()));
+    let (word, _) = from.split_at(place.len.min(from.len()));
     word
 }
 
-// Returns whether a plain line has a label.
+// Returns whether a plain line has a label with a name.
 fn named_by(line: &[u8], name: &[u8]) -> bool
     ensures { result ≡ named_by line.now name.now }
 {
@@ -174,7 +174,7 @@ fn named_by(line: &[u8], name: &[u8]) -> bool
     }
 }
 
-// Returns whether a line has a label.
+// Returns whether a line has a label with a name.
 fn has_label(alloc: Global, line: &[u8], name: &[u8]) -> Result<bool, AllocError>
     ensures { IfOk result (λ it. it ≡ has_label line.now name.now) }
 {
@@ -182,7 +182,7 @@ fn has_label(alloc: Global, line: &[u8], name: &[u8]) -> Result<bool, AllocError
     Ok(named_by(&plain, name))
 }
 
-// Returns the number of the first line with a label.
+// Returns the number of the first line that has a label with a name.
 fn line_with(alloc: Global, text: &[u8], name: &[u8]) -> Result<Option<usize>, AllocError>
     ensures { IfOk result (λ line. line ≡ line_with name.now 0 (text_lines text.now)) }
 {
@@ -233,7 +233,7 @@ fn is_missing(cause: AsmCause) -> bool
     }
 }
 
-// Returns whether a cause is that no line before has a label.
+// Returns whether a cause is that no line before has the label.
 fn is_label(cause: AsmCause) -> bool
     ensures { result ≡ is_label cause }
 {
@@ -253,7 +253,7 @@ pub fn note_of(
     ensures { IfOk result (λ note. note ≡ note_of text.now located word.now) }
 {
     if is_missing(located.cause) {
-        return Ok(sign_note(line_of(text, located.spot.line)));
+        return Ok(sign_note(line_of(text, located.place.line)));
     }
     if is_label(located.cause) {
         return label_note(alloc, text, word);

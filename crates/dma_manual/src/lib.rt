@@ -1,25 +1,32 @@
-//! Channel programs in the syntax of the DMA-330's manual (ARM DDI 0424, instruction set and assembler directives).
+//! Channel programs as text: in the syntax of the DMA-330's manual (ARM DDI 0424, instruction set and assembler
+//! directives), and in hexadecimal digits; and how the answer of a call about a program is written.
 //!
 //! Contracts see a program and a text as lists of bytes.
 //!
 //! Proved: what `disassemble` appends is a function of the program's bytes; `assemble` returns the bytes of the text's
 //! program or the text's first fault with its place, as a function of the text; the listing of a program assembles to the
 //! bytes that it shows, if they are at most 8,192 (`laws::listings_assemble`), and the text of each instruction to the
-//! instruction's bytes (`laws::texts_assemble`).
+//! instruction's bytes (`laws::texts_assemble`); `read_hexadecimal` returns the bytes that a text spells or the text's
+//! first fault; `deliver` writes an answer, unless a write fails.
 //!
 //! Not proved: that syntax and defaults are those of the manual; that an allocation succeeds.
 #![tactic(auto)]
 
+mod addresses;
+pub mod answer;
 pub mod assembler;
 pub mod chip_only;
 mod draft;
 pub mod errors;
 mod fields;
+pub mod hexadecimal;
 pub mod laws;
 pub mod listing;
 mod loops;
 pub mod manual;
+pub mod notes;
 mod operands;
+pub mod refusal;
 mod statements;
 mod warning;
 mod words;

@@ -3,7 +3,7 @@
 ghost use Rattle.std.specs.Prelude.{◌≡◌, ◌-◌, ◌≤◌};
 ghost use Rattle.dma_manual.specs.Assembled.{back_to, chosen, free_counter, innermost, is_closed_by, jump_of, slot, unclosed, with_loop};
 
-use crate::assembler::{AsmCause, Located, Spot};
+use crate::assembler::{AsmCause, Located, Place};
 use crate::statements::End;
 use dma_insn::insn::Counter;
 
@@ -13,7 +13,7 @@ pub struct Open {
     /// The offset of the loop's body.
     pub start: usize,
     /// The place of a DMALP without a counter, whose loop has to be ended.
-    pub unnamed: Option<Spot>,
+    pub unnamed: Option<Place>,
 }
 
 /// The open loops by their counters.
@@ -96,25 +96,25 @@ impl Loops {
     {
         if let Some(
             Open {
-                unnamed: Some(spot),
+                unnamed: Some(place),
                 ..
             },
         ) = self.lc0
         {
             return Err(Located {
-                spot,
+                place,
                 cause: AsmCause::Open,
             });
         }
         if let Some(
             Open {
-                unnamed: Some(spot),
+                unnamed: Some(place),
                 ..
             },
         ) = self.lc1
         {
             return Err(Located {
-                spot,
+                place,
                 cause: AsmCause::Open,
             });
         }
@@ -126,16 +126,16 @@ impl Loops {
 pub fn chosen(
     loops: &Loops,
     counter: Option<Counter>,
-    spot: Spot,
-) -> Result<(Counter, Option<Spot>), Located>
-    ensures { result ≡ chosen loops.now counter spot }
+    place: Place,
+) -> Result<(Counter, Option<Place>), Located>
+    ensures { result ≡ chosen loops.now counter place }
 {
     match counter {
         Some(counter) => Ok((counter, None)),
         None => match loops.free_counter() {
-            Some(counter) => Ok((counter, Some(spot))),
+            Some(counter) => Ok((counter, Some(place))),
             None => Err(Located {
-                spot,
+                place,
                 cause: AsmCause::NoCounter,
             }),
         },
@@ -143,37 +143,37 @@ pub fn chosen(
 }
 
 // Returns the number of bytes from a loop's start to a DMALPEND, at most 255.
-fn back_to(here: usize, start: usize, spot: Spot) -> Result<u8, Located>
-    ensures { result ≡ back_to here start spot }
+fn back_to(here: usize, start: usize, place: Place) -> Result<u8, Located>
+    ensures { result ≡ back_to here start place }
 {
     if start <= here && here - start <= 255 {
         Ok((here - start) as u8)
     } else {
         Err(Located {
-            spot,
+            place,
             cause: AsmCause::Far,
         })
     }
 }
 
 /// Returns the counter of a DMALPEND at an offset, and the length of its jump.
-pub fn jump_of(loops: &Loops, here: usize, end: End, spot: Spot) -> Result<(Counter, u8), Located>
-    ensures { result ≡ jump_of loops.now here end spot }
+pub fn jump_of(loops: &Loops, here: usize, end: End, place: Place) -> Result<(Counter, u8), Located>
+    ensures { result ≡ jump_of loops.now here end place }
 {
     let missing = Located {
-        spot,
+        place,
         cause: AsmCause::NoLoop,
     };
     match end {
         End::Innermost => {
             let (counter, start) = loops.innermost().ok_or(missing)?;
-            Ok((counter, back_to(here, start, spot)?))
+            Ok((counter, back_to(here, start, place)?))
         }
         End::Of(counter) => {
             let open = loops.slot(counter).ok_or(missing)?;
-            Ok((counter, back_to(here, open.start, spot)?))
+            Ok((counter, back_to(here, open.start, place)?))
         }
-        End::To(counter, start) => Ok((counter, back_to(here, start, spot)?)),
+        End::To(counter, start) => Ok((counter, back_to(here, start, place)?)),
         End::Back(counter, back) => Ok((counter, back)),
     }
 }

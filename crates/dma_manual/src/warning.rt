@@ -4,7 +4,7 @@ ghost use Rattle.std.specs.Prelude.{◌≡◌};
 ghost use Rattle.dma_manual.specs.Assembled.{draft_view};
 ghost use Rattle.dma_manual.specs.Errors.{stops_or_empty, warning_text};
 
-use crate::assembler::Spot;
+use crate::assembler::Place;
 use crate::draft::Draft;
 use dma_text::text::Text;
 use std::alloc::AllocError;
@@ -12,9 +12,9 @@ use std::alloc::AllocError;
 /// The first warning about a program, if there is one.
 #[derive(Clone, Copy)]
 pub struct Warning {
-    /// The place of the first DMALPEND that jumps elsewhere than behind the DMALP of its counter's open loop.
-    pub stray: Option<Spot>,
-    /// Whether the program has a DMAEND, or no bytes.
+    /// The place of the first DMALPEND that doesn't jump to the start of its counter's open loop.
+    pub stray: Option<Place>,
+    /// Whether the text has a DMAEND, or the program has no bytes.
     pub stops: bool,
 }
 
@@ -23,8 +23,9 @@ impl Text for Warning {
 
     fn push(&self, out: &mut Vec<u8>) -> Result<(), AllocError> {
         match self.stray {
-            Some(Spot { line, column, .. }) => {
-                let words = ": warning: 'DMALPEND' jumps elsewhere than behind its DMALP\n";
+            Some(Place { line, column, .. }) => {
+                let words =
+                    ": warning: 'DMALPEND' does not jump to the instruction after its DMALP\n";
                 (line, ":", column, words).push(out)
             }
             None if self.stops => "".push(out),

@@ -2,6 +2,7 @@
 use Rattle.std.proofs.Common.{◌≡◌, ℕ, inl, inr, Bool, true, false, not, ◌&&◌, nat_le, if◌then◌else◌, List, [], ◌∷◌, ◌++◌, map, refl, ap, subst, ◌∙◌, sym, Option, Some, None, Result, Ok, Err, is_some, unwrap_or, codes}
 use Rattle.std.specs.Option.{ok_or, option_map, option_or}
 use Rattle.std.specs.Str.{bytes_eq}
+use Rattle.std.proofs.lemmas.Bool.{cases_Bool}
 use Rattle.dma_mem.specs.declared.call.Call.TheVariants as calls
 use Rattle.dma_mem.specs.declared.marks.MarkKind.{MarkKind}
 use Rattle.dma_mem.specs.declared.marks.MarkKind.TheVariants.{Reading, Writing}
@@ -26,7 +27,7 @@ use Rattle.dma_script.specs.declared.statements.RunScript.{RunScript}
 use Rattle.dma_script.specs.declared.statements.Statement.{Statement}
 use Rattle.dma_script.specs.declared.statements.Statement.TheVariants as statements
 use Rattle.dma_script.specs.declared.race.JobLine.{JobLine}
-use Rattle.dma_script.proofs.Parts.{Part, behind, both_assoc, both_is, both_ok, both_read, both_unit, byte_is, bytes_is, choose, ends_of, line_of, list_is, no_to, number_is, ok_is, one_is, or_assoc, or_none, outcome, segment_is, within_is, words_left, words_right}
+use Rattle.dma_script.proofs.Parts.{Part, behind, both_assoc, both_is, both_ok, both_read, both_unit, byte_is, bytes_is, ends_of, line_of, list_is, no_to, number_is, ok_is, one_is, or_assoc, or_none, outcome, segment_is, within_is, words_left, words_right}
 
 -- ---- the first of some causes
 
@@ -133,38 +134,38 @@ two_events f r a b x y = rw (sym (or_assoc f a b), sym (or_assoc r x y)) (in_ord
 events_agree : {A C : Type 0} {p : Result A Cause} {f r : Option Cause} {a : A} (x : Part p f r a) (words : List (List ℕ)) (make : A → Option ℕ × Option ℕ → C)
     → Agrees (both p (events_at words) make) (whole (make a (events_from (so_far f r words)).0, (events_from (so_far f r words)).1)) (reported_after f r (events words))
 events_agree {f = f} {r = r} x [] make = part_agrees (both_ok x (None, None) make) (in_order f r [] [])
-events_agree x (b ∷ []) make = elim (choose (bytes_eq b (codes "wait"))) [
+events_agree x (b ∷ []) make = elim (cases_Bool (bytes_eq b (codes "wait"))) [
   | inl waits ↦ rw (events_from, waits) (words_agree (words_right x make))
-  | inr waits ↦ elim (choose (bytes_eq b (codes "signal"))) [ inl signals ↦ rw (events_from, waits, signals) (words_agree (words_right x make)) | inr signals ↦ rw (events_from, waits, signals) (words_agree (words_right x make)) ]
+  | inr waits ↦ elim (cases_Bool (bytes_eq b (codes "signal"))) [ inl signals ↦ rw (events_from, waits, signals) (words_agree (words_right x make)) | inr signals ↦ rw (events_from, waits, signals) (words_agree (words_right x make)) ]
 ]
-events_agree {f = f} {r = r} x (b ∷ d ∷ []) make = elim (choose (bytes_eq b (codes "wait"))) [
+events_agree {f = f} {r = r} x (b ∷ d ∷ []) make = elim (cases_Bool (bytes_eq b (codes "wait"))) [
   | inl waits ↦ rw (events_from, waits) (part_agrees (both_is x (one_is (byte_is d) (λ e. (Some e, None))) make) (in_order f r (form_cause byte d ∷ []) (range_cause byte d ∷ [])))
-  | inr waits ↦ elim (choose (bytes_eq b (codes "signal"))) [
+  | inr waits ↦ elim (cases_Bool (bytes_eq b (codes "signal"))) [
     | inl signals ↦ rw (events_from, waits, signals) (part_agrees (both_is x (one_is (byte_is d) (λ e. (None, Some e))) make) (in_order f r (form_cause byte d ∷ []) (range_cause byte d ∷ [])))
     | inr signals ↦ rw (events_from, waits, signals) (words_agree (words_right x make))
   ]
 ]
-events_agree x (b ∷ d ∷ e ∷ []) make = elim (choose (bytes_eq b (codes "wait"))) [
-  | inl waits ↦ elim (choose (bytes_eq e (codes "signal"))) [ inl signals ↦ rw (events_from, waits, signals) (words_agree (words_right x make)) | inr signals ↦ rw (events_from, waits, signals) (words_agree (words_right x make)) ]
-  | inr waits ↦ elim (choose (bytes_eq b (codes "signal"))) [ inl signals ↦ rw (events_from, waits, signals) (words_agree (words_right x make)) | inr signals ↦ rw (events_from, waits, signals) (words_agree (words_right x make)) ]
+events_agree x (b ∷ d ∷ e ∷ []) make = elim (cases_Bool (bytes_eq b (codes "wait"))) [
+  | inl waits ↦ elim (cases_Bool (bytes_eq e (codes "signal"))) [ inl signals ↦ rw (events_from, waits, signals) (words_agree (words_right x make)) | inr signals ↦ rw (events_from, waits, signals) (words_agree (words_right x make)) ]
+  | inr waits ↦ elim (cases_Bool (bytes_eq b (codes "signal"))) [ inl signals ↦ rw (events_from, waits, signals) (words_agree (words_right x make)) | inr signals ↦ rw (events_from, waits, signals) (words_agree (words_right x make)) ]
 ]
 events_agree {f = f} {r = r} x (b ∷ d ∷ e ∷ h ∷ []) make =
     let pair : ℕ → ℕ → Option ℕ × Option ℕ = λ e f. (Some e, Some f) in
-    elim (choose (bytes_eq b (codes "wait"))) [
-      | inl waits ↦ elim (choose (bytes_eq e (codes "signal"))) [
+    elim (cases_Bool (bytes_eq b (codes "wait"))) [
+      | inl waits ↦ elim (cases_Bool (bytes_eq e (codes "signal"))) [
         | inl signals ↦ rw (events_from, waits, signals, or_assoc f (form_cause byte d) (form_cause byte h), or_assoc r (range_cause byte d) (range_cause byte h)) (part_agrees (both_is x (both_is (byte_is d) (byte_is h) pair) make) (two_events f r (form_cause byte d) (form_cause byte h) (range_cause byte d) (range_cause byte h)))
         | inr signals ↦ rw (events_from, waits, signals, words_right (byte_is d) pair) (words_agree (words_right x make))
       ]
-      | inr waits ↦ elim (choose (bytes_eq b (codes "signal"))) [ inl signals ↦ rw (events_from, waits, signals) (words_agree (words_right x make)) | inr signals ↦ rw (events_from, waits, signals) (words_agree (words_right x make)) ]
+      | inr waits ↦ elim (cases_Bool (bytes_eq b (codes "signal"))) [ inl signals ↦ rw (events_from, waits, signals) (words_agree (words_right x make)) | inr signals ↦ rw (events_from, waits, signals) (words_agree (words_right x make)) ]
     ]
-events_agree x (b ∷ d ∷ e ∷ h ∷ i ∷ rest) make = elim (choose (bytes_eq b (codes "wait"))) [
-  | inl waits ↦ elim (choose (bytes_eq e (codes "signal"))) [ inl signals ↦ rw (events_from, waits, signals) (words_agree (words_right x make)) | inr signals ↦ rw (events_from, waits, signals) (words_agree (words_right x make)) ]
-  | inr waits ↦ elim (choose (bytes_eq b (codes "signal"))) [ inl signals ↦ rw (events_from, waits, signals) (words_agree (words_right x make)) | inr signals ↦ rw (events_from, waits, signals) (words_agree (words_right x make)) ]
+events_agree x (b ∷ d ∷ e ∷ h ∷ i ∷ rest) make = elim (cases_Bool (bytes_eq b (codes "wait"))) [
+  | inl waits ↦ elim (cases_Bool (bytes_eq e (codes "signal"))) [ inl signals ↦ rw (events_from, waits, signals) (words_agree (words_right x make)) | inr signals ↦ rw (events_from, waits, signals) (words_agree (words_right x make)) ]
+  | inr waits ↦ elim (cases_Bool (bytes_eq b (codes "signal"))) [ inl signals ↦ rw (events_from, waits, signals) (words_agree (words_right x make)) | inr signals ↦ rw (events_from, waits, signals) (words_agree (words_right x make)) ]
 ]
 
 -- A line with a missing or wrong word stays one.
 event_misses : (name : List ℕ) (line : LineRead) → line.misses ≡ true → (event_from name line).1.misses ≡ true
-event_misses name line missed = elim (choose (begins name line.left)) [ inl is ↦ rw (is, missed) refl | inr is ↦ rw is missed ]
+event_misses name line missed = elim (cases_Bool (begins name line.left)) [ inl is ↦ rw (is, missed) refl | inr is ↦ rw is missed ]
 
 missed : {A : Type 0} (a : A) (line : LineRead) → line.misses ≡ true → whole (a, (events_from line).1) ≡ Err causes.Words
 missed a line misses = rw (event_misses (codes "signal") (event_from (codes "wait") line).1 (event_misses (codes "wait") line misses)) refl
@@ -206,7 +207,7 @@ place_agrees : {A C : Type 0} {p : Result A Cause} {f r : Option Cause} {a : A} 
     let dst = to_list_from src.1 in
     let found = events_from dst.1 in
     Agrees (both p (transfer_at (λ addr. one_made (number_at addr) (λ addr. origins.Place addr)) words) make) (whole (make a (line_of (origins.Place src.0, dst.0) found.0), found.1)) (reported_after f r (one_to_list_and_events number words))
-place_agrees x (src ∷ to ∷ []) make = elim (choose (bytes_eq to (codes "to"))) [ inl is ↦ rw is (words_agree (words_right x make)) | inr is ↦ rw is (words_agree (words_right x make)) ]
+place_agrees x (src ∷ to ∷ []) make = elim (cases_Bool (bytes_eq to (codes "to"))) [ inl is ↦ rw is (words_agree (words_right x make)) | inr is ↦ rw is (words_agree (words_right x make)) ]
 place_agrees x (src ∷ to ∷ dst ∷ more) make = ends_agree x (one_is (number_is src) (λ addr. origins.Place addr)) (record { form = number; word = src }) to dst more make (bytes_eq to (codes "to")) refl refl refl refl
 place_agrees x _ make = words_agree (words_right x make)
 
@@ -215,7 +216,7 @@ list_agrees : {A C : Type 0} {p : Result A Cause} {f r : Option Cause} {a : A} (
     let dst = to_list_from src.1 in
     let found = events_from dst.1 in
     Agrees (both p (transfer_at (λ list. one_made (list_at list) (λ list. origins.List list)) words) make) (whole (make a (line_of (origins.List src.0, dst.0) found.0), found.1)) (reported_after f r (one_to_list_and_events list words))
-list_agrees x (src ∷ to ∷ []) make = elim (choose (bytes_eq to (codes "to"))) [ inl is ↦ rw is (words_agree (words_right x make)) | inr is ↦ rw is (words_agree (words_right x make)) ]
+list_agrees x (src ∷ to ∷ []) make = elim (cases_Bool (bytes_eq to (codes "to"))) [ inl is ↦ rw is (words_agree (words_right x make)) | inr is ↦ rw is (words_agree (words_right x make)) ]
 list_agrees x (src ∷ to ∷ dst ∷ more) make = ends_agree x (one_is (list_is src) (λ list. origins.List list)) (record { form = list; word = src }) to dst more make (bytes_eq to (codes "to")) refl refl refl refl
 list_agrees x _ make = words_agree (words_right x make)
 
@@ -223,7 +224,7 @@ list_agrees x _ make = words_agree (words_right x make)
 after_part : {A C : Type 0} {p : Result A Cause} {f r : Option Cause} {a : A} (x : Part p f r a) (words : List (List ℕ)) (make : A → TransferLine → C)
     → Agrees (both p (transfer_line words) make) (whole (make a (transfer_from (so_far f r words)).0, (transfer_from (so_far f r words)).1)) (reported_after f r (transfer words))
 after_part x [] make = words_agree (words_right x make)
-after_part x (word ∷ words) make = elim (choose (bytes_eq word (codes "fill"))) [ inl is ↦ rw is (place_agrees x words make) | inr is ↦ rw is (list_agrees x (word ∷ words) make) ]
+after_part x (word ∷ words) make = elim (cases_Bool (bytes_eq word (codes "fill"))) [ inl is ↦ rw is (place_agrees x words make) | inr is ↦ rw is (list_agrees x (word ∷ words) make) ]
 
 -- The words after a channel.
 channel_reported : (ch : List ℕ) (found : Option (List Operand)) → reported_after (form_cause byte ch) (range_cause byte ch) found ≡ first_reported (word_tests (option_map (λ rest. record { form = byte; word = ch } ∷ rest) found) true)
@@ -241,11 +242,8 @@ transfer_agrees words =
 
 -- The memory line.
 memory_tests : (a b x y : Option Cause) → option_or (option_or a b) (option_or x y) ≡ first_reported (first_reported (a ∷ b ∷ []) ∷ None ∷ None ∷ first_reported (x ∷ []) ∷ first_reported (y ∷ []) ∷ [])
-memory_tests (Some cause) b x y = refl
-memory_tests None (Some cause) x y = refl
-memory_tests None None (Some cause) y = refl
-memory_tests None None None (Some cause) = refl
 memory_tests None None None None = refl
+memory_tests _ _ _ _ = refl
 
 -- a script of a size and channels
 abbrev pub script_of : ℕ → ℕ → RunScript
@@ -264,10 +262,8 @@ job_of first last turns = where_holds (nat_le first last && nat_le last last_cha
 
 pub job_known : (x y z : Option ℕ) → (unless (option_or (option_or (option_or (where_not (is_some x) causes.Number) (where_not (is_some y) causes.Number)) (where_not (is_some z) causes.Number)) None) >>= (λ done. job_of (unwrap_or x 0) (unwrap_or y 0) (unwrap_or z 0)))
     ≡ (ok_or x causes.Number >>= (λ first. ok_or y causes.Number >>= (λ last. ok_or z causes.Number >>= (λ turns. job_of first last turns))))
-job_known None y z = refl
-job_known (Some a) None z = refl
-job_known (Some a) (Some b) None = refl
 job_known (Some a) (Some b) (Some d) = refl
+job_known _ _ _ = refl
 
 pub job_agrees : (words : List (List ℕ))
     → let first = number_from (unread words) in
@@ -291,22 +287,22 @@ statement_agrees keywords.Write (a ∷ b ∷ more) =
     part_agrees (both_read (number_is a) (bytes_is (b ∷ more)) (λ addr bytes. statements.Call (calls.Write addr bytes)))
     (forms_alone (form_cause number a) (cause_reported (bytes_at (b ∷ more))) _ _ _ _ (hex_reported (b ∷ more)) (no_hex_cause range_cause (λ word. refl) (b ∷ more)) (no_hex_cause size_cause (λ word. refl) (b ∷ more)) (no_hex_cause channels_cause (λ word. refl) (b ∷ more)))
 statement_agrees keywords.Read (a ∷ []) = part_agrees (one_is (segment_is a) (λ s. statements.Call (calls.Read s.addr s.len))) (in_order None None (form_cause segment a ∷ []) [])
-statement_agrees keywords.Copy (a ∷ b ∷ []) = elim (choose (bytes_eq b (codes "to"))) [ inl is ↦ rw is (words_agree refl) | inr is ↦ rw is (words_agree refl) ]
+statement_agrees keywords.Copy (a ∷ b ∷ []) = elim (cases_Bool (bytes_eq b (codes "to"))) [ inl is ↦ rw is (words_agree refl) | inr is ↦ rw is (words_agree refl) ]
 statement_agrees keywords.Copy (a ∷ b ∷ d ∷ []) =
     let make : List Segment → List Segment → Statement = λ src dst. statements.Copy (plain (origins.List src) dst) in
-    elim (choose (bytes_eq b (codes "to"))) [
+    elim (cases_Bool (bytes_eq b (codes "to"))) [
       | inl is ↦ rw is (part_agrees (both_read (list_is a) (list_is d) make) (in_order None None (form_cause list a ∷ form_cause list d ∷ []) []))
       | inr is ↦ rw is (words_agree (words_right (list_is a) make))
     ]
-statement_agrees keywords.Copy (a ∷ b ∷ d ∷ e ∷ rest) = elim (choose (bytes_eq b (codes "to"))) [ inl is ↦ rw is (words_agree refl) | inr is ↦ rw is (words_agree refl) ]
-statement_agrees keywords.Fill (a ∷ b ∷ []) = elim (choose (bytes_eq b (codes "to"))) [ inl is ↦ rw is (words_agree refl) | inr is ↦ rw is (words_agree refl) ]
+statement_agrees keywords.Copy (a ∷ b ∷ d ∷ e ∷ rest) = elim (cases_Bool (bytes_eq b (codes "to"))) [ inl is ↦ rw is (words_agree refl) | inr is ↦ rw is (words_agree refl) ]
+statement_agrees keywords.Fill (a ∷ b ∷ []) = elim (cases_Bool (bytes_eq b (codes "to"))) [ inl is ↦ rw is (words_agree refl) | inr is ↦ rw is (words_agree refl) ]
 statement_agrees keywords.Fill (a ∷ b ∷ d ∷ []) =
     let make : ℕ → List Segment → Statement = λ src dst. statements.Copy (plain (origins.Place src) dst) in
-    elim (choose (bytes_eq b (codes "to"))) [
+    elim (cases_Bool (bytes_eq b (codes "to"))) [
       | inl is ↦ rw is (part_agrees (both_read (number_is a) (list_is d) make) (in_order None None (form_cause number a ∷ form_cause list d ∷ []) []))
       | inr is ↦ rw is (words_agree (words_right (number_is a) make))
     ]
-statement_agrees keywords.Fill (a ∷ b ∷ d ∷ e ∷ rest) = elim (choose (bytes_eq b (codes "to"))) [ inl is ↦ rw is (words_agree refl) | inr is ↦ rw is (words_agree refl) ]
+statement_agrees keywords.Fill (a ∷ b ∷ d ∷ e ∷ rest) = elim (cases_Bool (bytes_eq b (codes "to"))) [ inl is ↦ rw is (words_agree refl) | inr is ↦ rw is (words_agree refl) ]
 statement_agrees keywords.Submit (ch ∷ words) =
     let all = after_part (byte_is ch) words (λ ch transfer. statements.Submit ch transfer) in
     record { same = all.same; caused = all.caused ∙ channel_reported ch (transfer words) }
@@ -320,22 +316,22 @@ statement_agrees keywords.Step (a ∷ b ∷ []) =
     (in_order None None (form_cause byte a ∷ form_cause steps b ∷ []) (range_cause byte a ∷ range_cause steps b ∷ []))
 statement_agrees keywords.Status (a ∷ b ∷ []) = pair_agrees a b (λ ch cookie. statements.Call (calls.Status ch cookie))
 statement_agrees keywords.Result (a ∷ b ∷ []) = pair_agrees a b (λ ch cookie. statements.Call (calls.Result ch cookie))
-statement_agrees keywords.Mark (a ∷ []) = elim (choose (bytes_eq a (codes "read"))) [
+statement_agrees keywords.Mark (a ∷ []) = elim (cases_Bool (bytes_eq a (codes "read"))) [
   | inl reads ↦ rw reads (words_agree refl)
-  | inr reads ↦ elim (choose (bytes_eq a (codes "write"))) [ inl writes ↦ rw (reads, writes) (words_agree refl) | inr writes ↦ rw (reads, writes) (words_agree refl) ]
+  | inr reads ↦ elim (cases_Bool (bytes_eq a (codes "write"))) [ inl writes ↦ rw (reads, writes) (words_agree refl) | inr writes ↦ rw (reads, writes) (words_agree refl) ]
 ]
 statement_agrees keywords.Mark (a ∷ b ∷ []) =
     let make : MarkKind → Segment → Statement = λ kind segment. statements.Call (calls.Mark kind segment) in
-    elim (choose (bytes_eq a (codes "read"))) [
+    elim (cases_Bool (bytes_eq a (codes "read"))) [
       | inl reads ↦ rw reads (part_agrees (both_is (ok_is Reading) (segment_is b) make) (in_order None None (form_cause segment b ∷ []) []))
-      | inr reads ↦ elim (choose (bytes_eq a (codes "write"))) [
+      | inr reads ↦ elim (cases_Bool (bytes_eq a (codes "write"))) [
         | inl writes ↦ rw (reads, writes) (part_agrees (both_is (ok_is Writing) (segment_is b) make) (in_order None None (form_cause segment b ∷ []) []))
         | inr writes ↦ rw (reads, writes) (words_agree (words_left (segment_at b) make))
       ]
     ]
-statement_agrees keywords.Mark (a ∷ b ∷ d ∷ rest) = elim (choose (bytes_eq a (codes "read"))) [
+statement_agrees keywords.Mark (a ∷ b ∷ d ∷ rest) = elim (cases_Bool (bytes_eq a (codes "read"))) [
   | inl reads ↦ rw reads (words_agree refl)
-  | inr reads ↦ elim (choose (bytes_eq a (codes "write"))) [ inl writes ↦ rw (reads, writes) (words_agree refl) | inr writes ↦ rw (reads, writes) (words_agree refl) ]
+  | inr reads ↦ elim (cases_Bool (bytes_eq a (codes "write"))) [ inl writes ↦ rw (reads, writes) (words_agree refl) | inr writes ↦ rw (reads, writes) (words_agree refl) ]
 ]
 statement_agrees keywords.Unmark [] = record { same = refl; caused = refl }
 statement_agrees keywords.Raise (a ∷ []) = byte_agrees a (λ event. statements.Call (calls.Raise event))

@@ -74,22 +74,17 @@ early_reported false r f rest same = refl
 -- a job, one too many or not
 job_tests : {B : Type 0} (forms : Option Cause) (x few : Bool) (job : JobLine) (f : JobLine → B)
     → cause_reported ((unless forms >>= (λ done. where_holds x causes.Range >>= (λ in_range. Ok job))) >>= (λ job. where_holds few causes.Range >>= (λ few. Ok (f job)))) ≡ option_or forms (where_not (x && few) causes.Range)
-job_tests (Some cause) x few job f = refl
 job_tests None true true job f = refl
-job_tests None true false job f = refl
-job_tests None false few job f = refl
+job_tests _ _ _ job f = refl
 
 job_words : {B : Type 0} (words : List (List ℕ)) (few : Bool) (f : JobLine → B) → cause_reported (job_line words >>= (λ job. where_holds few causes.Range >>= (λ few. Ok (f job)))) ≡ first_reported (word_tests (three_numbers words) (job_in_range words && few))
-job_words [] few f = refl
-job_words (a ∷ []) few f = refl
-job_words (a ∷ b ∷ []) few f = refl
 job_words (a ∷ b ∷ d ∷ []) few f =
     let x = nat_le (number_or_zero a) (number_or_zero b) && nat_le (number_or_zero b) 7 in
     let forms = form_cause number a ∷ form_cause number b ∷ form_cause number d ∷ [] in
     ap (λ job. cause_reported (job >>= (λ job. where_holds few causes.Range >>= (λ few. Ok (f job))))) (sym (job_known (number_of a) (number_of b) (number_of d)))
     ∙ job_tests (option_or (in_turn None forms) None) x few (record { first = number_or_zero a; last = number_or_zero b; turns = number_or_zero d }) f
     ∙ rw (or_none (in_turn None forms), in_turn_reported None forms) (ap (option_or (first_reported forms)) (sym (or_none (where_not (x && few) causes.Range))))
-job_words (a ∷ b ∷ d ∷ e ∷ rest) few f = refl
+job_words _ few f = refl
 
 go_words : {B : Type 0} (words : List (List ℕ)) (x : B) → cause_reported (no_words words >>= (λ bare. Ok x)) ≡ first_reported (word_tests (bare words) true)
 go_words [] x = refl
@@ -101,12 +96,9 @@ race_command None jobs None (race_keywords.Line keyword) words = early_reported 
 race_command (Some script) jobs None (race_keywords.Line keyword) words = early_reported (is_early keyword) (next_line (Some script) keyword words) (λ before. let read : RaceRead = record { before = before; jobs = jobs; after = None } in read) (where_not (not (is_memory keyword)) causes.First ∷ word_tests (operands_of keyword words) true) (next_reported (Some script) keyword words)
 race_command None jobs (Some after) (race_keywords.Line keyword) words = map_reported (later_line keyword words) (λ statement. let read : RaceRead = record { before = None; jobs = jobs; after = Some (after ++ statement ∷ []) } in read) ∙ (statement_agrees keyword words).caused
 race_command (Some script) jobs (Some after) (race_keywords.Line keyword) words = map_reported (later_line keyword words) (λ statement. let read : RaceRead = record { before = Some script; jobs = jobs; after = Some (after ++ statement ∷ []) } in read) ∙ (statement_agrees keyword words).caused
-race_command None jobs None race_keywords.Job words = refl
 race_command (Some script) jobs None race_keywords.Job words = job_words words (nat_lt (length jobs) 16) (λ job. let read : RaceRead = record { before = Some script; jobs = jobs ++ job ∷ []; after = None } in read)
-race_command before jobs (Some after) race_keywords.Job words = refl
-race_command None jobs None race_keywords.Go words = refl
 race_command (Some script) jobs None race_keywords.Go words = go_words words (let read : RaceRead = record { before = Some script; jobs = jobs; after = Some [] } in read)
-race_command before jobs (Some after) race_keywords.Go words = refl
+race_command _ jobs _ _ words = refl
 
 race_found : (read : RaceRead) (found : Option RaceKeyword) (words : List (List ℕ)) → cause_reported (ok_or found causes.Command >>= (λ keyword. next_race_line read keyword words)) ≡ first_reported (after_bytes (elim found [ None ↦ no_command | Some keyword ↦ race_asked (side_of read) keyword words ]))
 race_found read None words = refl

@@ -175,15 +175,11 @@ go_made jobs script (word ∷ words) next is = absurd (let bad : Err causes.Word
 
 race_moves : (before : Option RunScript) (jobs : List JobLine) (after : Option (List Statement)) (found : Option RaceKeyword) (words : List (List ℕ)) (next : RaceRead)
     → (ok_or found causes.Command >>= (λ keyword. next_race_line (record { before = before; jobs = jobs; after = after }) keyword words)) ≡ Ok next → Moves (record { before = before; jobs = jobs; after = after }) found next
-race_moves before jobs after None words next is = absurd (let bad : Err causes.Command ≡ Ok next = is in cc)
 race_moves before jobs None (Some (race_keywords.Line keyword)) words next is = early_made jobs before keyword (is_early keyword) (next_line before keyword words) next (λ b. run_next before (Some keyword) words b) is
 race_moves before jobs (Some l) (Some (race_keywords.Line keyword)) words next is = later_made jobs before l keyword (later_line keyword words) next is
-race_moves None jobs None (Some race_keywords.Job) words next is = absurd (let bad : Err causes.First ≡ Ok next = is in cc)
 race_moves (Some script) jobs None (Some race_keywords.Job) words next is = job_made jobs script (job_line words) (nat_lt (length jobs) 16) next is
-race_moves before jobs (Some l) (Some race_keywords.Job) words next is = absurd (let bad : Err causes.Command ≡ Ok next = is in cc)
-race_moves None jobs None (Some race_keywords.Go) words next is = absurd (let bad : Err causes.First ≡ Ok next = is in cc)
 race_moves (Some script) jobs None (Some race_keywords.Go) words next is = go_made jobs script words next is
-race_moves before jobs (Some l) (Some race_keywords.Go) words next is = absurd (let bad : Err causes.Command ≡ Ok next = is in cc)
+race_moves _ jobs _ _ words next is = absurd cc
 
 race_stepped : (read : RaceRead) (words : List (List ℕ)) (next : RaceRead) → race_step read words ≡ Ok next → Moves read (race_command_of words) next
 race_stepped read [] next is = absurd (let bad : Err causes.Command ≡ Ok next = is in cc)
@@ -238,9 +234,8 @@ sound_behind false false sound = refl
 race_end : (jobs : List JobLine) (before : Option RunScript) (after : Option (List Statement))
     → fault_reported (ok_or before (record { line = 0; cause = causes.First }) >>= (λ before. ok_or after (record { line = 0; cause = causes.Go }) >>= (λ after. let script : RaceScript = record { before = before; jobs = jobs; after = after } in Ok script)))
     ≡ option_or (if is_some before then None else Some (record { line = 0; cause = causes.First })) (if is_some after then None else Some (record { line = 0; cause = causes.Go }))
-race_end jobs None after = refl
 race_end jobs (Some script) None = refl
-race_end jobs (Some script) (Some l) = refl
+race_end jobs _ _ = refl
 
 whole_race : (r : Result RaceRead Fault) (of_lines : Option Fault) (some go : Bool) → fault_reported r ≡ of_lines → ((final : RaceRead) → r ≡ Ok final → (is_some final.before ≡ some) × (is_some final.after ≡ go))
     → fault_reported (r >>= (λ read. ok_or read.before (record { line = 0; cause = causes.First }) >>= (λ before. ok_or read.after (record { line = 0; cause = causes.Go }) >>= (λ after. let script : RaceScript = record { before = before; jobs = read.jobs; after = after } in Ok script))))

@@ -1,6 +1,6 @@
 -- The bytes of hexadecimal words, pair by pair.
-use Rattle.std.proofs.Common.{◌≡◌, ℕ, ◌<◌, ◌≤◌, ◌+◌, ◌*◌, ◌⊎◌, inl, inr, Bool, ◌||◌, true, false, not, ◌==◌, eqb, if◌then◌else◌, List, [], ◌∷◌, ◌++◌, length, drop, filter, get_or, slice_index, refl, ap, ◌∙◌, sym, arith, append_assoc, append-nil, Option, Some, None, Result, Ok, Err}
-use Rattle.std.proofs.lemmas.Bool.{eqb-true, false_from_ne_true}
+use Rattle.std.proofs.Common.{◌≡◌, ℕ, ◌<◌, ◌≤◌, ◌+◌, ◌*◌, inl, inr, true, false, not, ◌==◌, eqb, if◌then◌else◌, List, [], ◌∷◌, ◌++◌, length, drop, filter, get_or, slice_index, refl, ap, ◌∙◌, sym, arith, append_assoc, append-nil, Option, Some, None, Result, Ok, Err}
+use Rattle.std.proofs.lemmas.Bool.{cases_Bool, eqb-true, false_from_ne_true, or_cases}
 use Rattle.std.proofs.lemmas.Bool.Decides.{nat_tests}
 use Rattle.std.specs.List.{onto_first, slice_split}
 use Rattle.std.specs.Option.{ok_or, option_map, option_and_then}
@@ -59,10 +59,6 @@ parts_after : (a b byte : ℕ) (before : List ℕ) (parts : List (List ℕ)) →
 parts_after a b byte before [] is = pair_parts a b byte before [] [] is
 parts_after a b byte before (part ∷ parts) is = pair_parts a b byte before part parts is
 
-or_cases : (p q : Bool) → (p || q) ≡ true → (p ≡ true) ⊎ (q ≡ true)
-or_cases true q e = inl refl
-or_cases false q e = inr e
-
 -- A blank is no digit.
 blank_is_no_digit : (b : ℕ) → is_blank b ≡ true → hex_digit_of b ≡ None
 blank_is_no_digit b blank = elim (or_cases (eqb b 32) (eqb b 9) blank) [
@@ -100,15 +96,11 @@ no_parts : (a b : ℕ) (before : List ℕ) (parts : List (List ℕ)) → hex_pai
 no_parts a b before [] is = no_part a b before [] [] is
 no_parts a b before (part ∷ parts) is = no_part a b before part parts is
 
-choose : (b : Bool) → (b ≡ true) ⊎ (b ≡ false)
-choose true = inl refl
-choose false = inr refl
-
 -- Two bytes that are no pair, the first no blank.
 pub bytes_after_fault : (before rest : List ℕ) → 2 ≤ length rest → is_blank (get_or rest 0 0) ≡ false → hex_pair_of (get_or rest 0 0) (get_or rest 1 0) ≡ None → bytes_after before (words_of rest) ≡ Err Hex
 bytes_after_fault before [] two plain is = absurd (omega arith)
 bytes_after_fault before (a ∷ []) two plain is = absurd (omega arith)
-bytes_after_fault before (a ∷ b ∷ rest) two plain is = elim (choose (is_blank b)) [
+bytes_after_fault before (a ∷ b ∷ rest) two plain is = elim (cases_Bool (is_blank b)) [
   | inl blank ↦ rw (plain, blank) refl
   | inr other ↦ rw (plain, other) (no_parts a b before (slice_split is_blank rest) is)
 ]

@@ -1,6 +1,6 @@
 -- Pairs of digits, one after another.
-use Rattle.std.proofs.Common.{◌≡◌, ℕ, ◌≤◌, ◌+◌, ◌*◌, ◌⊎◌, inl, inr, Bool, ◌||◌, Option, Some, None, List, [], ◌∷◌, ◌++◌, length, drop, get_or, refl, ap, ◌∙◌, sym, arith, append_assoc, append-nil, true, false, eqb, eq-eqb, Result, Ok, Err}
-use Rattle.std.proofs.lemmas.Bool.{eqb-true, ne_eqb, false_from_ne_true}
+use Rattle.std.proofs.Common.{◌≡◌, ℕ, ◌≤◌, ◌+◌, ◌*◌, inl, inr, ◌||◌, Option, Some, None, List, [], ◌∷◌, ◌++◌, length, drop, get_or, refl, ap, ◌∙◌, sym, arith, append_assoc, append-nil, true, false, eqb, eq-eqb, Result, Ok, Err}
+use Rattle.std.proofs.lemmas.Bool.{eqb-true, ne_eqb, false_from_ne_true, or_cases}
 use Rattle.std.specs.Option.{option_and_then, option_map}
 use Rattle.dma_script.specs.Words.{hex_digit_of, hex_pair_of}
 use Rattle.dma_script.specs.Lines.{◌>>=◌}
@@ -23,10 +23,6 @@ joined : (before : List ℕ) (b : ℕ) (rest : Result (List ℕ) Fault) → (res
 joined before b (Err line) = refl
 joined before b (Ok more) = ap Ok (append_assoc before (b ∷ []) more)
 
-or_cases : (p q : Bool) → (p || q) ≡ true → (p ≡ true) ⊎ (q ≡ true)
-or_cases true q e = inl refl
-or_cases false q e = inr e
-
 no_digit_at : (b gap : ℕ) → hex_digit_of gap ≡ None → eqb b gap ≡ true → hex_digit_of b ≡ None
 no_digit_at b gap none is = ap hex_digit_of (eqb-true b gap is) ∙ none
 
@@ -48,10 +44,8 @@ pair_spelled line (Some h) None byte is = absurd (let bad : None ≡ Some byte =
 pair_spelled line (Some h) (Some l) byte is = let same : 16 * h + l ≡ byte = cc in ap Ok same
 
 pair_refused : (line : ℕ) (high low : Option ℕ) → option_and_then (λ h. option_map (λ l. 16 * h + l) low) high ≡ None → pair_of line high low ≡ Err (hex_fault line)
-pair_refused line None None is = refl
-pair_refused line None (Some l) is = refl
-pair_refused line (Some h) None is = refl
 pair_refused line (Some h) (Some l) is = absurd (let bad : Some (16 * h + l) ≡ None = is in cc)
+pair_refused line _ _ is = refl
 
 -- One more pair.
 pub pairs_after_pair : (before : List ℕ) (line byte : ℕ) (rest : List ℕ) → 2 ≤ length rest → hex_pair_of (get_or rest 0 0) (get_or rest 1 0) ≡ Some byte → pairs_after (before ++ byte ∷ []) line (drop 2 rest) ≡ pairs_after before line rest

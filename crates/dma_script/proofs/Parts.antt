@@ -1,7 +1,7 @@
 -- Parts of a line, each with the cause of its forms, the cause of its ranges, and a value.
-use Rattle.std.proofs.Common.{◌≡◌, ℕ, ◌⊎◌, inl, inr, Bool, true, false, nat_lt, if◌then◌else◌, List, [], ◌∷◌, ◌++◌, refl, ap, ◌∙◌, arith, Option, Some, None, IfSome, Result, Ok, Err, is_some, unwrap_or}
+use Rattle.std.proofs.Common.{◌≡◌, ℕ, inl, inr, Bool, true, false, nat_lt, if◌then◌else◌, List, [], ◌∷◌, ◌++◌, refl, ap, ◌∙◌, arith, Option, Some, None, IfSome, Result, Ok, Err, is_some, unwrap_or}
 use Rattle.std.specs.Option.{ok_or, option_or}
-use Rattle.std.proofs.lemmas.Bool.{le-ltb, lt-ltb, ltb-false, ltb-true}
+use Rattle.std.proofs.lemmas.Bool.{cases_Bool, le-ltb, lt-ltb, ltb-false, ltb-true}
 use Rattle.dma_mem.specs.declared.segment.Segment.{Segment}
 use Rattle.dma_script.specs.Words.{bytes_in, list_of, number_of, segment_of}
 use Rattle.dma_script.specs.Lines.{◌>>=◌}
@@ -22,10 +22,6 @@ or_none (Some cause) = refl
 pub or_assoc : (a b c : Option Cause) → option_or (option_or a b) c ≡ option_or a (option_or b c)
 or_assoc None b c = refl
 or_assoc (Some cause) b c = refl
-
-pub choose : (b : Bool) → (b ≡ true) ⊎ (b ≡ false)
-choose true = inl refl
-choose false = inr refl
 
 -- a value after these causes of forms and ranges, or the first of them
 abbrev pub outcome : {A : Type 0} → Option Cause → Option Cause → A → Result A Cause
@@ -48,14 +44,11 @@ not_stage n false cause is = is
 both_outcomes : {A B C : Type 0} (f r g s : Option Cause) (a : A) (b : B) (make : A → B → C) → IfSome f (λ cause. stage cause ≡ 1) → IfSome r (λ cause. stage cause ≡ 2) → IfSome g (λ cause. stage cause ≡ 1) → IfSome s (λ cause. stage cause ≡ 2)
     → both (outcome f r a) (outcome g s b) make ≡ outcome (option_or f g) (option_or r s) (make a b)
 both_outcomes None None None None a b make x y z w = refl
-both_outcomes None None None (Some d) a b make x y z w = refl
-both_outcomes None None (Some d) s a b make x y z w = refl
-both_outcomes None (Some c) None None a b make x y z w = refl
 both_outcomes None (Some c) None (Some d) a b make x y z w = rw (y, w) refl
 both_outcomes None (Some c) (Some d) s a b make x y z w = rw (y, z) refl
-both_outcomes (Some c) r None None a b make x y z w = refl
 both_outcomes (Some c) r None (Some d) a b make x y z w = rw (x, w) refl
 both_outcomes (Some c) r (Some d) s a b make x y z w = rw (x, z) refl
+both_outcomes _ _ _ _ a b make x y z w = refl
 
 pub both_is : {A B C : Type 0} {p : Result A Cause} {q : Result B Cause} {f r g s : Option Cause} {a : A} {b : B} (x : Part p f r a) (y : Part q g s b) (make : A → B → C) → Part (both p q make) (option_or f g) (option_or r s) (make a b)
 both_is {f = f} {r = r} {g = g} {s = s} {a = a} {b = b} x y make = record {
@@ -72,8 +65,7 @@ both_read {r = r} x y make =
 
 one_outcome : {A B : Type 0} (f r : Option Cause) (a : A) (make : A → B) → one (outcome f r a) make ≡ outcome f r (make a)
 one_outcome None None a make = refl
-one_outcome None (Some c) a make = refl
-one_outcome (Some c) r a make = refl
+one_outcome _ _ a make = refl
 
 pub one_is : {A B : Type 0} {p : Result A Cause} {f r : Option Cause} {a : A} (x : Part p f r a) (make : A → B) → Part (one p make) f r (make a)
 one_is {f = f} {r = r} {a = a} x make = record { is = rw x.is (one_outcome f r a make); forms = x.forms; ranges = x.ranges }
@@ -87,7 +79,7 @@ both_ok {f = f} x b make = record { is = rw ((both_read x (ok_is b) make).is, or
 -- `Words` comes before any other cause.
 pub words_left : {A B C : Type 0} (q : Result B Cause) (make : A → B → C) → both (Err causes.Words) q make ≡ Err causes.Words
 words_left (Ok b) make = refl
-words_left (Err cause) make = elim (choose (nat_lt (stage cause) 0)) [ inl less ↦ absurd (omega (arith, ltb-true (stage cause) 0 less)) | inr not_less ↦ rw not_less refl ]
+words_left (Err cause) make = elim (cases_Bool (nat_lt (stage cause) 0)) [ inl less ↦ absurd (omega (arith, ltb-true (stage cause) 0 less)) | inr not_less ↦ rw not_less refl ]
 
 words_after : {A B C : Type 0} (f r : Option Cause) (a : A) (make : A → B → C) → IfSome f (λ cause. stage cause ≡ 1) → IfSome r (λ cause. stage cause ≡ 2) → both (outcome f r a) (Err causes.Words) make ≡ Err causes.Words
 words_after None None a make x y = refl
@@ -150,12 +142,12 @@ bytes_is words = record { is = hex_outcome (bytes_at words); forms = hex_forms w
 
 earlier_assoc : (c d e : Cause) → earlier c (earlier d e) ≡ earlier (earlier c d) e
 earlier_assoc c d e =
-    elim (choose (nat_lt (stage d) (stage c))) [
-      | inl dc ↦ elim (choose (nat_lt (stage e) (stage d))) [
+    elim (cases_Bool (nat_lt (stage d) (stage c))) [
+      | inl dc ↦ elim (cases_Bool (nat_lt (stage e) (stage d))) [
         | inl ed ↦ rw (dc, ed, lt-ltb (stage e) (stage c) (omega (arith, ltb-true (stage d) (stage c) dc, ltb-true (stage e) (stage d) ed))) refl
         | inr ed ↦ rw (dc, ed, dc) refl
       ]
-      | inr dc ↦ elim (choose (nat_lt (stage e) (stage d))) [
+      | inr dc ↦ elim (cases_Bool (nat_lt (stage e) (stage d))) [
         | inl ed ↦ rw (dc, ed) refl
         | inr ed ↦ rw (dc, ed, dc, le-ltb (stage e) (stage c) (omega (arith, ltb-false (stage d) (stage c) dc, ltb-false (stage e) (stage d) ed))) refl
       ]
@@ -164,13 +156,10 @@ earlier_assoc c d e =
 pub both_assoc : {A B D E F : Type 0} (p : Result A Cause) (q : Result B Cause) (e : Result D Cause) (inner : B → D → E) (make : A → E → F)
     → both p (both q e inner) make ≡ both {A = A × B} (both p q (λ a b. (a, b))) e (λ ends d. make ends.0 (inner ends.1 d))
 both_assoc (Ok a) (Ok b) (Ok d) inner make = refl
-both_assoc (Ok a) (Ok b) (Err z) inner make = refl
 both_assoc (Ok a) (Err y) (Ok d) inner make = refl
-both_assoc (Ok a) (Err y) (Err z) inner make = refl
 both_assoc (Err x) (Ok b) (Ok d) inner make = refl
-both_assoc (Err x) (Ok b) (Err z) inner make = refl
-both_assoc (Err x) (Err y) (Ok d) inner make = refl
 both_assoc (Err x) (Err y) (Err z) inner make = ap (λ cause. Err cause) (earlier_assoc x y z)
+both_assoc _ _ _ inner make = refl
 
 pub both_unit : {B : Type 0} (q : Result B Cause) → both (Ok (tt {0})) q (λ u b. b) ≡ q
 both_unit (Ok b) = refl

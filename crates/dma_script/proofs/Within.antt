@@ -36,15 +36,13 @@ bind_holds P (Err e) f h = tt
 
 both_hold : {A B C : Type 0} (Q : A → Type 0) (R : B → Type 0) (P : C → Type 0) (p : Result A Cause) (q : Result B Cause) (make : A → B → C) → IfOk p Q → IfOk q R → ((a : A) (b : B) → Q a → R b → P (make a b)) → IfOk (both p q make) P
 both_hold Q R P (Ok a) (Ok b) make x y h = h a b x y
-both_hold Q R P (Ok a) (Err cause) make x y h = tt
 both_hold Q R P (Err cause) (Ok b) make x y h = tt
-both_hold Q R P (Err cause) (Err other) make x y h = tt
+both_hold Q R P _ _ make x y h = tt
 
 each_made : {A B C : Type 0} (P : C → Type 0) (p : Result A Cause) (q : Result B Cause) (make : A → B → C) → ((a : A) (b : B) → P (make a b)) → IfOk (both p q make) P
 each_made P (Ok a) (Ok b) make h = h a b
-each_made P (Ok a) (Err cause) make h = tt
 each_made P (Err cause) (Ok b) make h = tt
-each_made P (Err cause) (Err other) make h = tt
+each_made P _ _ make h = tt
 
 one_made : {A B : Type 0} (P : B → Type 0) (p : Result A Cause) (make : A → B) → ((a : A) → P (make a)) → IfOk (one p make) P
 one_made P (Ok a) make h = h a

@@ -34,7 +34,7 @@ impl Cause {
     ghost use Rattle.dma_script.specs.Printing.{cause_name};
 
     /// Returns the name that is printed.
-    fn name(self) -> &'static str
+    pub fn name(self) -> &'static str
         ensures { result.now ≡ cause_name self }
     {
         match self {

@@ -1,8 +1,8 @@
 //! The statements of a script, kept in little memory: most lines take 12 bytes.
-ghost use Rattle.std.specs.Prelude.{◌≡◌, ◌++◌, ◌∷◌, [], IfSome, IsNone, OnErr, OnOk};
+ghost use Rattle.std.specs.Prelude.{◌≡◌, ◌++◌, ◌∷◌, [], IfSome, IsNone, OnErr, OnOk, true};
 ghost use Rattle.std.specs.List.{All};
-ghost use Rattle.dma_script.specs.Interpreted.{PrintsLines, StopsAtALine};
-ghost use Rattle.dma_script.specs.inner.Queued.{IsWhole, RunsFirst, statements_in};
+ghost use Rattle.dma_script.specs.Interpreted.{PrintsLine, PrintsLines, StopsAtALine};
+ghost use Rattle.dma_script.specs.inner.Queued.{IsWhole, RunsFirst, is_short, short_of, statements_in};
 
 use crate::interpreter::Interpreter;
 use crate::statements::Statement;
@@ -158,9 +158,46 @@ impl<'a> Model for Left<'a> {
     ghost invariant = { λ s. IsWhole s.lines.now (into_iter_items s.bytes) (into_iter_items s.long) };
 }
 
+/// Runs the statement of a line that needs no other list. Each kind of line calls the interpreter itself, so that only
+/// the code for this kind follows.
+#[inline(always)]
+fn run_short<I: Interpreter<Line = Statement>>(
+    line: Line,
+    interpreter: &mut I,
+    out: &mut Vec<u8>,
+) -> Result<(), AllocError>
+    requires short { is_short line ≡ true }
+    requires taken { I.takes (short_of line) }
+    requires ready { I.is_ready interpreter.old }
+    ensures ok { OnOk result (PrintsLine (I.acts interpreter.old (short_of line))
+        interpreter.new out.old.items out.new.items) }
+    ensures ready_again { OnOk result (I.is_ready interpreter.new) }
+    ensures refused { OnErr result (I.is_refused interpreter.old (short_of line) interpreter.new) }
+    ensures err { OnErr result (out.new.items ≡ out.old.items) }
+{
+    match line {
+        Line::Read { addr, len } => {
+            interpreter.interpret(Statement::Call(Call::Read { addr, len }), out)
+        }
+        Line::Issue { ch } => interpreter.interpret(Statement::Call(Call::Issue { ch }), out),
+        Line::Pause { ch } => interpreter.interpret(Statement::Call(Call::Pause { ch }), out),
+        Line::Resume { ch } => interpreter.interpret(Statement::Call(Call::Resume { ch }), out),
+        Line::Terminate { ch } => {
+            interpreter.interpret(Statement::Call(Call::Terminate { ch }), out)
+        }
+        Line::Step { ch, count } => interpreter.interpret(Statement::Step { ch, count }, out),
+        Line::Status { ch, cookie } => {
+            interpreter.interpret(Statement::Call(Call::Status { ch, cookie }), out)
+        }
+        Line::Result { ch, cookie } => {
+            interpreter.interpret(Statement::Call(Call::Result { ch, cookie }), out)
+        }
+        Line::Write { .. } | Line::Long => unreachable!(),
+    }
+}
+
 impl Left<'_> {
-    /// Runs the next statement, if any is left. Each kind of line calls the interpreter itself, so that only the code
-    /// for this kind follows.
+    /// Runs the next statement, if any is left.
     #[inline(always)]
     fn run_next<I: Interpreter<Line = Statement>>(
         &mut self,
@@ -187,34 +224,11 @@ impl Left<'_> {
                 )),
                 None => unreachable!(),
             },
-            Line::Read { addr, len } => {
-                Some(interpreter.interpret(Statement::Call(Call::Read { addr, len }), out))
-            }
-            Line::Issue { ch } => {
-                Some(interpreter.interpret(Statement::Call(Call::Issue { ch }), out))
-            }
-            Line::Pause { ch } => {
-                Some(interpreter.interpret(Statement::Call(Call::Pause { ch }), out))
-            }
-            Line::Resume { ch } => {
-                Some(interpreter.interpret(Statement::Call(Call::Resume { ch }), out))
-            }
-            Line::Terminate { ch } => {
-                Some(interpreter.interpret(Statement::Call(Call::Terminate { ch }), out))
-            }
-            Line::Step { ch, count } => {
-                Some(interpreter.interpret(Statement::Step { ch, count }, out))
-            }
-            Line::Status { ch, cookie } => {
-                Some(interpreter.interpret(Statement::Call(Call::Status { ch, cookie }), out))
-            }
-            Line::Result { ch, cookie } => {
-                Some(interpreter.interpret(Statement::Call(Call::Result { ch, cookie }), out))
-            }
             Line::Long => match self.long.next() {
                 Some(long) => Some(interpreter.interpret(long, out)),
                 None => unreachable!(),
             },
+            short => Some(run_short(short, interpreter, out)),
         }
     }
 }

@@ -210,45 +210,44 @@ fn read_statement(
     ensures { Gives (λ _. (statements.new, words.new)) result
         (statement_added keyword statements.old words.old) }
 {
-    match keyword {
-        Keyword::Memory => Err(LineError::Fault(Cause::First)),
-        Keyword::Write => read_write(alloc, kept, words, statements),
+    let statement = match keyword {
+        Keyword::Memory => return Err(LineError::Fault(Cause::First)),
+        Keyword::Write => return read_write(alloc, kept, words, statements),
+        Keyword::Copy => return read_copy(alloc, words, statements),
+        Keyword::Fill => return read_fill(alloc, words, statements),
+        Keyword::Submit => return read_submit(alloc, words, statements),
         Keyword::Read => {
             let Segment { addr, len } = words.segment();
-            Ok(statements.push(Statement::Call(Call::Read { addr, len }))?)
+            Statement::Call(Call::Read { addr, len })
         }
-        Keyword::Copy => read_copy(alloc, words, statements),
-        Keyword::Fill => read_fill(alloc, words, statements),
-        Keyword::Submit => read_submit(alloc, words, statements),
-        Keyword::Issue => Ok(statements.push(Statement::Call(Call::Issue { ch: words.byte() }))?),
-        Keyword::Pause => Ok(statements.push(Statement::Call(Call::Pause { ch: words.byte() }))?),
-        Keyword::Resume => Ok(statements.push(Statement::Call(Call::Resume { ch: words.byte() }))?),
-        Keyword::Terminate => Ok(statements.push(Statement::Call(Call::Terminate {
-            ch: words.byte(),
-        }))?),
-        Keyword::Step => Ok(statements.push(Statement::Step {
+        Keyword::Issue => Statement::Call(Call::Issue { ch: words.byte() }),
+        Keyword::Pause => Statement::Call(Call::Pause { ch: words.byte() }),
+        Keyword::Resume => Statement::Call(Call::Resume { ch: words.byte() }),
+        Keyword::Terminate => Statement::Call(Call::Terminate { ch: words.byte() }),
+        Keyword::Step => Statement::Step {
             ch: words.byte(),
             count: words.count(),
-        })?),
-        Keyword::Status => Ok(statements.push(Statement::Call(Call::Status {
+        },
+        Keyword::Status => Statement::Call(Call::Status {
             ch: words.byte(),
             cookie: words.number(),
-        }))?),
-        Keyword::Result => Ok(statements.push(Statement::Call(Call::Result {
+        }),
+        Keyword::Result => Statement::Call(Call::Result {
             ch: words.byte(),
             cookie: words.number(),
-        }))?),
-        Keyword::Mark => Ok(statements.push(Statement::Call(Call::Mark {
+        }),
+        Keyword::Mark => Statement::Call(Call::Mark {
             kind: words.mark_kind(),
             segment: words.segment(),
-        }))?),
-        Keyword::Unmark => Ok(statements.push(Statement::Call(Call::Unmark))?),
-        Keyword::Raise => Ok(statements.push(Statement::Call(Call::Raise {
+        }),
+        Keyword::Unmark => Statement::Call(Call::Unmark),
+        Keyword::Raise => Statement::Call(Call::Raise {
             event: words.byte(),
-        }))?),
-        Keyword::Checkpoint => Ok(statements.push(Statement::Call(Call::Checkpoint))?),
-        Keyword::Totals => Ok(statements.push(Statement::Totals)?),
-    }
+        }),
+        Keyword::Checkpoint => Statement::Call(Call::Checkpoint),
+        Keyword::Totals => Statement::Totals,
+    };
+    Ok(statements.push(statement)?)
 }
 
 /// Reads a line after the first and adds its statement, as [`read_statement`] does. After an error nothing is known of

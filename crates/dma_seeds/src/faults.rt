@@ -3,7 +3,6 @@
 
 ghost use Rattle.std.specs.Prelude.{◌≡◌, ◌++◌, IfOk, OnOk, map};
 ghost use Rattle.dma_text.specs.Text.{Begins};
-ghost use Rattle.dma_script.specs.Printing.{cause_name};
 ghost use Rattle.dma_seeds.specs.Faults.{fault_text, line_at, missing_message, race_message, run_message, shown_byte, shown_line};
 
 use crate::expect::without_expects;
@@ -70,24 +69,6 @@ fn line_at(script: &[u8], number: usize) -> &[u8]
     &[]
 }
 
-/// Returns the name of a cause.
-fn name_of(cause: Cause) -> &'static str
-    ensures { result.now ≡ cause_name cause }
-{
-    match cause {
-        Cause::Byte => "Byte",
-        Cause::Command => "Command",
-        Cause::First => "First",
-        Cause::Words => "Words",
-        Cause::Number => "Number",
-        Cause::Hex => "Hex",
-        Cause::Range => "Range",
-        Cause::SizeOutOfRange => "SizeOutOfRange",
-        Cause::BadChannels => "BadChannels",
-        Cause::Go => "Go",
-    }
-}
-
 /// Returns which line is missing, if a fault is in no line.
 fn missing_message(cause: Cause) -> &'static str
     ensures { result.now ≡ missing_message cause }
@@ -103,7 +84,7 @@ fn push_fault(script: &[u8], fault: Fault, out: &mut Vec<u8>) -> Result<(), Allo
     ensures ok { OnOk result (out.new.items ≡ out.old.items ++ fault_text script.now fault) }
     ensures begins { Begins out.new.items out.old.items }
 {
-    let name = name_of(fault.cause);
+    let name = fault.cause.name();
     if fault.line == 0 {
         return (" ", name, missing_message(fault.cause)).push(out);
     }

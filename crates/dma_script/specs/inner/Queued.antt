@@ -1,6 +1,6 @@
 -- How the statements of a script are kept: the bytes of `write` lines, and the statements that have lists, are in lists
 -- of their own.
-use Rattle.std.specs.Prelude.{◌≡◌, ℕ, List, [], ◌∷◌, OnErr, OnOk, Result}
+use Rattle.std.specs.Prelude.{◌≡◌, ℕ, Bool, true, false, List, [], ◌∷◌, OnErr, OnOk, Result}
 use Rattle.dma_mem.specs.declared.call.Call.TheVariants as calls
 use Rattle.dma_script.specs.Interpreted.{PrintsLine}
 use Rattle.dma_script.specs.declared.queue.Line.{Line}
@@ -8,21 +8,32 @@ use Rattle.dma_script.specs.declared.queue.Line.TheVariants as lines
 use Rattle.dma_script.specs.declared.statements.Statement.{Statement}
 use Rattle.dma_script.specs.declared.statements.Statement.TheVariants as statements
 
+-- the statement of a line that needs no other list; a step for any other line
+abbrev pub short_of : Line → Statement
+short_of (lines.Read addr len) = statements.Call (calls.Read addr len)
+short_of (lines.Issue ch) = statements.Call (calls.Issue ch)
+short_of (lines.Pause ch) = statements.Call (calls.Pause ch)
+short_of (lines.Resume ch) = statements.Call (calls.Resume ch)
+short_of (lines.Terminate ch) = statements.Call (calls.Terminate ch)
+short_of (lines.Step ch count) = statements.Step ch count
+short_of (lines.Status ch cookie) = statements.Call (calls.Status ch cookie)
+short_of (lines.Result ch cookie) = statements.Call (calls.Result ch cookie)
+short_of _ = statements.Step 0 0
+
+-- whether a line needs no other list
+abbrev pub is_short : Line → Bool
+is_short (lines.Write addr) = false
+is_short lines.Long = false
+is_short _ = true
+
 -- the statements of lines
 abbrev pub statements_in : List Line → List (List ℕ) → List Statement → List Statement
 statements_in [] bytes long = []
 statements_in (lines.Write addr ∷ rest) (first ∷ bytes) long = statements.Call (calls.Write addr first) ∷ statements_in rest bytes long
 statements_in (lines.Write addr ∷ rest) [] long = []
-statements_in (lines.Read addr len ∷ rest) bytes long = statements.Call (calls.Read addr len) ∷ statements_in rest bytes long
-statements_in (lines.Issue ch ∷ rest) bytes long = statements.Call (calls.Issue ch) ∷ statements_in rest bytes long
-statements_in (lines.Pause ch ∷ rest) bytes long = statements.Call (calls.Pause ch) ∷ statements_in rest bytes long
-statements_in (lines.Resume ch ∷ rest) bytes long = statements.Call (calls.Resume ch) ∷ statements_in rest bytes long
-statements_in (lines.Terminate ch ∷ rest) bytes long = statements.Call (calls.Terminate ch) ∷ statements_in rest bytes long
-statements_in (lines.Step ch count ∷ rest) bytes long = statements.Step ch count ∷ statements_in rest bytes long
-statements_in (lines.Status ch cookie ∷ rest) bytes long = statements.Call (calls.Status ch cookie) ∷ statements_in rest bytes long
-statements_in (lines.Result ch cookie ∷ rest) bytes long = statements.Call (calls.Result ch cookie) ∷ statements_in rest bytes long
 statements_in (lines.Long ∷ rest) bytes (first ∷ long) = first ∷ statements_in rest bytes long
 statements_in (lines.Long ∷ rest) bytes [] = []
+statements_in (line ∷ rest) bytes long = short_of line ∷ statements_in rest bytes long
 
 -- No line lacks its bytes or its statement.
 abbrev pub IsWhole : List Line → List (List ℕ) → List Statement → Type 0

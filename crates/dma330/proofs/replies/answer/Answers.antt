@@ -1,6 +1,5 @@
-use Rattle.std.proofs.Common.{◌≡◌}
 use Rattle.std.proofs.lemmas.Result.{IfOk-weaker}
-use Rattle.dma330.specs.Answer.{printed_of}
+use Rattle.dma_manual.specs.Answer.{printed_of}
 use Rattle.dma330.proofs.replies.answer.Goals as goal
 
 pub returns : goal.returns

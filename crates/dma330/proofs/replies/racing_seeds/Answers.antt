@@ -4,7 +4,7 @@ use Rattle.dma_seeds.specs.Expect.{is_good, without_expects}
 use Rattle.dma_seeds.specs.Faults.{race_message}
 use Rattle.dma_seeds.specs.Seeds.{seeds_printed, seeds_verdict_text}
 use Rattle.dma_seeds.specs.declared.seeds.SeedsVerdict.{SeedsVerdict}
-use Rattle.dma330.specs.Answer.{Printed}
+use Rattle.dma_manual.specs.Answer.{Printed}
 use Rattle.dma330.proofs.replies.racing_seeds.Goals as goal
 
 pub returns : goal.returns

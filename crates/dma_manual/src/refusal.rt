@@ -1,47 +1,20 @@
-//! Programs in hexadecimal text, and what is wrong with such a text.
-ghost use Rattle.std.specs.Prelude.{◌≡◌, ◌≤◌, Err, IfOk, MatchResult, Ok, length};
-ghost use Rattle.dma330.specs.Answer.{printed_of};
-ghost use Rattle.dma330.specs.Text.{byte_message, end_message, pair_message, refusal, spelled, word_message};
+//! What is printed for a hexadecimal text with a fault.
+ghost use Rattle.std.specs.Prelude.{◌≡◌, ◌≤◌, IfOk, length};
+ghost use Rattle.dma_manual.specs.Answer.{printed_of};
+ghost use Rattle.dma_manual.specs.Refusal.{byte_message, end_message, pair_message, refusal, word_message};
 
-use crate::addresses::without_addresses;
+use crate::addresses::is_digit;
 use crate::answer::Answer;
-use crate::hexadecimal::{column_of, is_digit, is_gap, line_of, read_hexadecimal};
-use crate::words::read_words;
+use crate::hexadecimal::{Notation, column_of, is_gap, line_of};
 use dma_text::text::{HexByte, print};
 use std::alloc::{AllocError, Global};
-
-/// How a text spells bytes.
-#[derive(Clone, Copy, Debug, PartialEq, Eq)]
-pub enum Notation {
-    /// Each byte by two digits.
-    Pairs,
-    /// Each 32-bit word by eight digits.
-    Words,
-}
-
-/// Returns the bytes that a text spells, or the offset of its first fault. Fails if memory runs out.
-pub fn read_text(
-    alloc: Global,
-    notation: Notation,
-    text: &[u8],
-) -> Result<Result<Vec<u8>, usize>, AllocError>
-    ensures { IfOk result (λ read. MatchResult read
-        (λ bytes. spelled notation text.now ≡ Ok bytes.items)
-        (λ at. (spelled notation text.now ≡ Err at) × (at ≤ length text.now))) }
-{
-    let text = without_addresses(alloc, text)?;
-    match notation {
-        Notation::Pairs => read_hexadecimal(alloc, &text),
-        Notation::Words => read_words(alloc, &text),
-    }
-}
 
 /// Returns what is wrong with a byte of a text of pairs.
 fn pair_message(byte: u8) -> &'static str
     ensures { result.now ≡ pair_message byte }
 {
     if is_digit(byte) {
-        " is a third digit after 0x: --hex reads one byte for each number, --words 32-bit words\n"
+        " is a third digit after 0x: --hex reads one byte for each number, --words 32-bit words; an address needs a colon\n"
     } else {
         " is not a hexadecimal digit here\n"
     }
@@ -64,8 +37,11 @@ fn word_message(byte: u8) -> &'static str
 fn byte_message(notation: Notation, byte: u8) -> &'static str
     ensures { result.now ≡ byte_message notation byte }
 {
-    if matches!(byte, b':' | b'|' | b'.') {
-        return " is of a dump: leave its characters out, and put an address before a colon at the start of the line\n";
+    if byte == b':' {
+        return " ends no address: an address begins its line and has at least four digits\n";
+    }
+    if matches!(byte, b'|' | b'.') {
+        return " looks like the text column of a dump: remove that column\n";
     }
     match notation {
         Notation::Pairs => pair_message(byte),

@@ -1,12 +1,19 @@
 //! Leaves the addresses of a dump out of its text.
 ghost use Rattle.std.specs.Prelude.{◌≡◌, IfOk, length};
-ghost use Rattle.dma330.specs.Addresses.{closes_symbol, ends_address, is_address, is_address_after, without_addresses};
+ghost use Rattle.dma_manual.specs.Addresses.{closes_symbol, ends_address, is_address, is_address_after, is_digit, without_addresses};
 
-use crate::hexadecimal::is_digit;
+use dma_text::digits::digit_value;
 use std::alloc::{AllocError, Global};
 
 /// The least number of digits of an address. A pair before a colon is no address.
 const ADDRESS_DIGITS: usize = 4;
+
+/// Returns whether a byte is a hexadecimal digit.
+pub fn is_digit(byte: u8) -> bool
+    ensures { result ≡ is_digit byte }
+{
+    digit_value(byte) < 16
+}
 
 /// Returns whether the first colon of a line, if it isn't in a comment, follows a `>`. The text follows a `<`.
 fn closes_symbol(text: &[u8]) -> bool

@@ -1,8 +1,8 @@
-//! The answer to a call, and how it is written.
+//! What a call of a program prints, and how it is written.
 ghost use Rattle.std.specs.Prelude.{◌≡◌, ◌⊎◌, [], IfOk, OnErr, OnOk};
 ghost use Rattle.std.specs.Io.KnownBytes.{Appends};
 ghost use Rattle.dma_script.specs.Command.{failures};
-ghost use Rattle.dma330.specs.Answer.{Delivers, named, printed_of, writes_file};
+ghost use Rattle.dma_manual.specs.Answer.{Delivers, named, printed_of, under_name, with_note, writes_file};
 
 use dma_script::command::{FAULT, SUCCESS};
 use dma_script::output::{OutputFailed, Sink, write_output};
@@ -22,6 +22,17 @@ pub struct Answer {
     pub succeeds: bool,
 }
 
+/// Returns a message behind the name of the input and a colon; an empty message stays empty.
+fn named(alloc: Global, name: &str, message: &[u8]) -> Result<Vec<u8>, AllocError>
+    ensures { IfOk result (λ text. text.items ≡ named name.now message.now) }
+{
+    let mut text = Vec::new(alloc);
+    if !message.is_empty() {
+        print(&mut text, &(name, ":", message))?;
+    }
+    Ok(text)
+}
+
 impl Answer {
     /// Returns an answer that writes no file.
     pub fn printed(alloc: Global, out: Vec<u8>, err: Vec<u8>, succeeds: bool) -> Answer
@@ -37,23 +48,28 @@ impl Answer {
         }
     }
 
+    /// Returns the answer with a note behind its message. Fails if memory runs out.
+    pub fn with_note(mut self, note: &str) -> Result<Answer, AllocError>
+        ensures { IfOk result (λ shown. printed_of shown ≡ with_note (printed_of self) note.now) }
+    {
+        print(&mut self.err, &note)?;
+        Ok(self)
+    }
+
+    /// Returns the answer with the name of the input before its message. Fails if memory runs out.
+    pub fn under_name(mut self, alloc: Global, name: &str) -> Result<Answer, AllocError>
+        ensures { IfOk result (λ shown. printed_of shown ≡ under_name name.now (printed_of self)) }
+    {
+        self.err = named(alloc, name, &self.err)?;
+        Ok(self)
+    }
+
     /// Returns whether the file that an option names is written.
     pub fn writes_file(&self) -> bool
         ensures { result ≡ writes_file (printed_of self.now) }
     {
         self.succeeds || !self.file.is_empty()
     }
-}
-
-/// Returns a message behind the name of the input and a colon; an empty message stays empty. Fails if memory runs out.
-pub fn named(alloc: Global, name: &str, message: &[u8]) -> Result<Vec<u8>, AllocError>
-    ensures { IfOk result (λ text. text.items ≡ named name.now message.now) }
-{
-    let mut text = Vec::new(alloc);
-    if !message.is_empty() {
-        print(&mut text, &(name, ":", message))?;
-    }
-    Ok(text)
 }
 
 /// Writes the two texts of an answer to standard output and standard error. Fails at the first write that fails.

@@ -1,8 +1,12 @@
 -- The addresses of a dump (profile): a line may begin with an address and a colon, as debuggers print memory. The
 -- address has at least four hexadecimal digits, perhaps `0x` before them, and perhaps a symbol's name in angle brackets
 -- after them.
-use Rattle.std.specs.Prelude.{ℕ, ◌+◌, Bool, false, true, not, ◌==◌, ◌&&◌, ◌||◌, nat_le, if◌then◌else◌, List, [], ◌∷◌}
-use Rattle.dma330.specs.Hexadecimal.{is_digit}
+use Rattle.std.specs.Prelude.{ℕ, ◌+◌, Bool, false, ◌==◌, ◌&&◌, ◌||◌, nat_le, nat_lt, if◌then◌else◌, List, [], ◌∷◌}
+use Rattle.std.specs.Char.{digit_value}
+
+-- a hexadecimal digit in either case
+abbrev pub is_digit : ℕ → Bool
+is_digit b = nat_lt (digit_value b) 16
 
 -- whether the first colon of a line, if it isn't in a comment, follows a `>`; `before` is the byte before the text
 abbrev pub closes_symbol : ℕ → List ℕ → Bool

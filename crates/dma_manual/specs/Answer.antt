@@ -1,9 +1,9 @@
--- What a call prints, and how it is written.
+-- What a call of a program prints, and how it is written.
 use Rattle.std.specs.Prelude.{◌≡◌, ◌⊎◌, ◌||◌, ℕ, nat_lt, Bool, if◌then◌else◌, List, [], ◌∷◌, ◌++◌, length, Option, Result, Ok, Err}
 use Rattle.std.specs.Io.KnownBytes.{Appends}
 use Rattle.dma_script.specs.Command.{Failures, Unfailed}
 use Rattle.dma_script.specs.declared.output.OutputFailed.{OutputFailed}
-use Rattle.dma330.specs.declared.answer.Answer.{Answer}
+use Rattle.dma_manual.specs.declared.answer.Answer.{Answer}
 
 -- What a call prints: to standard output, to standard error, and into the file that an option names; and whether it
 -- succeeds.
@@ -29,6 +29,10 @@ with_note p note = record p { err = p.err ++ note }
 abbrev pub named : List ℕ → List ℕ → List ℕ
 named name [] = []
 named name (b ∷ message) = name ++ 58 ∷ [] ++ (b ∷ message)
+
+-- the same with the name of the input before the message on standard error
+abbrev pub under_name : List ℕ → Printed → Printed
+under_name name p = record p { err = named name p.err }
 
 -- How a call ends (profile): both texts are written, no write failed, and the status is 0 if the call succeeds, else 1;
 -- or a write failed. `old` and `new` are the bytes that a writer held before and holds now.

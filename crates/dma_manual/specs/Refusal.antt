@@ -1,23 +1,17 @@
--- Programs in hexadecimal text, and what is printed for a text with a fault (profile).
-use Rattle.std.specs.Prelude.{ℕ, false, ◌==◌, ◌||◌, if◌then◌else◌, List, [], ◌++◌, Option, Some, None, Result, codes, decimal, slice_get}
+-- What is printed for a hexadecimal text with a fault (profile).
+use Rattle.std.specs.Prelude.{ℕ, false, ◌==◌, ◌||◌, if◌then◌else◌, List, [], ◌++◌, Option, Some, None, codes, decimal, slice_get}
 use Rattle.dma_text.specs.Digits.{hex_pair}
-use Rattle.dma330.specs.Addresses.{without_addresses}
-use Rattle.dma330.specs.Answer.{Printed}
-use Rattle.dma330.specs.Hexadecimal.{column_of, is_digit, is_gap, line_of, read}
-use Rattle.dma330.specs.Words.{read_words}
-use Rattle.dma330.specs.declared.text.Notation.{Notation}
-use Rattle.dma330.specs.declared.text.Notation.TheVariants.{Pairs, Words}
-
--- The bytes that a text spells, or the offset of its first fault.
-abbrev pub spelled : Notation → List ℕ → Result (List ℕ) ℕ
-spelled Pairs text = read (without_addresses text)
-spelled Words text = read_words (without_addresses text)
+use Rattle.dma_manual.specs.Addresses.{is_digit}
+use Rattle.dma_manual.specs.Answer.{Printed}
+use Rattle.dma_manual.specs.Hexadecimal.{column_of, is_gap, line_of}
+use Rattle.dma_manual.specs.declared.hexadecimal.Notation.{Notation}
+use Rattle.dma_manual.specs.declared.hexadecimal.Notation.TheVariants.{Pairs, Words}
 
 -- What is wrong with a byte of a text of pairs. A digit is refused only behind a pair that has a mark.
 abbrev pub pair_message : ℕ → List ℕ
 pair_message b =
     if is_digit b
-    then codes " is a third digit after 0x: --hex reads one byte for each number, --words 32-bit words\n"
+    then codes " is a third digit after 0x: --hex reads one byte for each number, --words 32-bit words; an address needs a colon\n"
     else codes " is not a hexadecimal digit here\n"
 
 -- What is wrong with a byte of a text of words. A digit is refused only behind a whole word, a gap only within one.
@@ -27,12 +21,12 @@ word_message b =
     if is_gap b then codes " ends a word of fewer than eight digits\n"
     else codes " is not a hexadecimal digit here\n")
 
--- what is wrong with a byte of a text; a colon, a vertical bar and a full stop are those of dumps
+-- what is wrong with a byte of a text; a colon ends an address, a vertical bar and a full stop are of a dump's text
 abbrev pub byte_message : Notation → ℕ → List ℕ
 byte_message notation b =
-    if b == 58 || (b == 124 || b == 46)
-    then codes " is of a dump: leave its characters out, and put an address before a colon at the start of the line\n"
-    else in_notation notation b
+    if b == 58 then codes " ends no address: an address begins its line and has at least four digits\n" else (
+    if b == 124 || b == 46 then codes " looks like the text column of a dump: remove that column\n"
+    else in_notation notation b)
   where
     in_notation : Notation → ℕ → List ℕ
     in_notation Pairs c = pair_message c
