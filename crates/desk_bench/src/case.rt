@@ -43,7 +43,7 @@ impl Case {
         u64::from(self.copies) * u64::from(self.turns)
     }
 
-    /// Returns an engine with a channel for each worker, at least one, and with its copies issued.
+    /// Returns an engine with one channel for each worker, or one if there is no worker, whose copies are issued.
     pub fn engine(self, alloc: Global) -> Option<Engine> {
         let channels = self.workers.max(1);
         let mut engine = Engine::new(alloc, 16 * MIB, channels).ok()?;

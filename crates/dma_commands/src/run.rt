@@ -83,7 +83,7 @@ impl Interpreter for LinesOnEngine {
     }
 }
 
-/// Executes the lines of a script on an engine, drops each one afterwards, and then the engine. Returns the exit
+/// Executes the lines of a script on an engine. Drops each line after it, and the engine at the end. Returns the exit
 /// status. If memory runs out, the output keeps what the lines before printed.
 pub fn run_statements(
     alloc: Global,

@@ -218,6 +218,7 @@ pub record StepsOver (a : Lent) (most : ℕ) (taken : Taken) (report : ChannelRe
   pub written : taken.written ≡ written_after (marks_over m a.regions) (over m a.regions a.flags) taken.count
   pub kept : KeepsOutside taken.written (image_of (pieces_of a.regions)) (image_of (pieces_of b.regions))
   pub reported : report ≡ report_of taken.count n.channel.registers.pc taken.written taken.last taken.signal
+  -- (pointers are not compared: a contract sees where memory is lent only by the names of its loans)
   pub regions : AreKept b.regions a.regions
 
 -- A call from C that takes steps: the code that it returns, and the report before and after. On a channel that isn't

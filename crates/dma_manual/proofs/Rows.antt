@@ -1,4 +1,4 @@
--- Control words: rows computed from the definition.
+-- Control words: rows computed from the definition of `dma_insn`, which has no rows of its own.
 use Rattle.std.proofs.Common.{◌≡◌, Bool, true, false, [], ◌∷◌, map, Ok, Err, refl}
 use Rattle.dma_insn.specs.ControlWord.{control_of, end_at}
 use Rattle.dma_insn.specs.declared.control.BeatSize.TheVariants.{Eight}

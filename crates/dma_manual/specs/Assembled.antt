@@ -41,7 +41,7 @@ draft_view d = record {
   stray = d.stray;
 }
 
--- what no lines say
+-- what an empty text says
 abbrev pub empty : Read
 empty = record {
   code = [];
@@ -74,7 +74,7 @@ abbrev pub slot : Loops → Counter → Option Open
 slot loops Lc0 = loops.lc0
 slot loops Lc1 = loops.lc1
 
--- the loops with this one in place of the counter's
+-- the open loops, with the loop of this counter replaced
 abbrev pub with_loop : Loops → Counter → Option Open → Loops
 with_loop loops Lc0 loop = record { lc0 = loop; lc1 = loops.lc1 }
 with_loop loops Lc1 loop = record { lc0 = loops.lc0; lc1 = loop }
@@ -140,7 +140,8 @@ abbrev pub is_closed_by : Option Open → ℕ → ℕ → Bool
 is_closed_by None here back = false
 is_closed_by (Some loop) here back = nat_le back here && (here - back) == loop.start
 
--- The place of the first DMALPEND that closes no loop, if one more follows, which has this place.
+-- The place of the first DMALPEND that closes no loop: that of an earlier one, else this place, unless the DMALPEND
+-- there closes its loop.
 abbrev pub first_stray : Option Place → Bool → Place → Option Place
 first_stray (Some first) closes place = Some first
 first_stray None true place = None
@@ -171,7 +172,7 @@ after_statement r (says.Byte b) place = with_code r (b ∷ []) (b == 0) place
 after_statement r (says.Loop counter times) place = begun r counter times place
 after_statement r (says.LoopEnd end) place = ended r end place
 
--- a result whose fault, if it has one, has its place in line n
+-- the result, with the place in line n added to its fault
 abbrev pub placed : {A : Type 0} → ℕ → ℕ → Result A Fault → Result A Located
 placed n width (Ok x) = Ok x
 placed n width (Err fault) = Err (located n width fault)
@@ -207,7 +208,7 @@ taken r n line (Some w) = do
 abbrev pub take_line : Read → ℕ → List ℕ → Result Read Located
 take_line r n line = taken r n line (label_in line)
 
--- what the lines say if these follow them, behind line n
+-- what the lines say if more lines follow; the first of these is line n + 1
 unfoldable pub take_lines : Read → ℕ → List (List ℕ) → Result Read Located
 take_lines r n [] = Ok r
 take_lines r n (line ∷ lines) = do

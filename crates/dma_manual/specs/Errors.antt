@@ -77,20 +77,20 @@ abbrev pub word_at : List ℕ → Place → List ℕ
 word_at line place =
     let from = drop (min (place.column - 1) (length line)) line in take (min place.len (length from)) from
 
--- whether a label, if there is one, has a name
+-- whether a label, if there is one, has this name
 abbrev pub label_is : Option (List ℕ × List ℕ) → List ℕ → Bool
 label_is None name = false
 label_is (Some w) name = bytes_eq w.0 name
 
--- whether a plain line has a label with a name
+-- whether a line in lower case without a comment begins with the label of this name
 abbrev pub named_by : List ℕ → List ℕ → Bool
 named_by line name = label_is (label_in line) name
 
--- whether a line has a label with a name
+-- whether a line begins with the label of this name
 abbrev pub has_label : List ℕ → List ℕ → Bool
 has_label line name = named_by (map plain_byte (code_of line)) name
 
--- the number of the first line that has a label with a name, of the lines behind line n
+-- the number of the first line that begins with the label of this name; the first of these lines is line n + 1
 abbrev pub line_with : List ℕ → ℕ → List (List ℕ) → Option ℕ
 line_with name n [] = None
 line_with name n (line ∷ lines) = if has_label line name then Some (n + 1) else line_with name (n + 1) lines
@@ -109,7 +109,7 @@ abbrev pub is_missing : AsmCause → Bool
 is_missing (causes.Missing which) = true
 is_missing _ = false
 
--- whether a cause is that no line before has the label
+-- whether the fault is a label that no earlier line has
 abbrev pub is_label : AsmCause → Bool
 is_label causes.Label = true
 is_label _ = false
@@ -147,7 +147,7 @@ IsAssembled view text (Err (errors.Wrong e)) =
     × (e.note ≡ note_of text e.located e.word.now)
 IsAssembled view text (Err errors.NoMemory) = Unit {0}
 
--- whether a text has a DMAEND, or its program has no bytes
+-- whether a text has a DMAEND or a `DCB` of 0, or its program has no bytes
 abbrev pub stops_or_empty : Read → Bool
 stops_or_empty r = r.stops || length r.code == 0
 

@@ -131,7 +131,8 @@ fn begin_loop(
     Ok(())
 }
 
-// Returns the place of the first DMALPEND that closes no loop, if one more follows, which has this place.
+// Returns the place of the first DMALPEND that closes no loop: `stray` if there already is one, else `place`, unless
+// the DMALPEND there closes its loop.
 fn first_stray(stray: Option<Place>, closes: bool, place: Place) -> Option<Place>
     ensures { result ≡ first_stray stray closes place }
 {

@@ -164,7 +164,7 @@ pub fn word_at(text: &[u8], place: Place) -> &[u8]
     word
 }
 
-// Returns whether a plain line has a label with a name.
+// Returns whether a line in lower case without a comment begins with the label `name`.
 fn named_by(line: &[u8], name: &[u8]) -> bool
     ensures { result ≡ named_by line.now name.now }
 {
@@ -174,7 +174,7 @@ fn named_by(line: &[u8], name: &[u8]) -> bool
     }
 }
 
-// Returns whether a line has a label with a name.
+// Returns whether a line begins with the label `name`.
 fn has_label(alloc: Global, line: &[u8], name: &[u8]) -> Result<bool, AllocError>
     ensures { IfOk result (λ it. it ≡ has_label line.now name.now) }
 {
@@ -233,7 +233,7 @@ fn is_missing(cause: AsmCause) -> bool
     }
 }
 
-// Returns whether a cause is that no line before has the label.
+// Returns whether the fault is a label that no earlier line has.
 fn is_label(cause: AsmCause) -> bool
     ensures { result ≡ is_label cause }
 {

@@ -85,7 +85,8 @@ fn next_digit(
     Some((number, is_last.then_some(value)))
 }
 
-/// Returns what a byte outside a number is a part of, if a number may begin there or not, or `None` if it is refused.
+/// Returns what a byte that isn't inside a number is a part of, or `None` if the byte can't be there. A digit can if
+/// `may_begin`.
 fn between(notation: Notation, may_begin: bool, byte: u8) -> Option<(Reading, Option<u32>)>
     ensures { result ≡ between notation may_begin byte }
 {

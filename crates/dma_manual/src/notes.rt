@@ -16,7 +16,7 @@ fn is_text(input: &[u8]) -> bool
     input.iter().all(|byte| is_text_byte(*byte))
 }
 
-/// Returns the note for a program that is refused and is text, or no text.
+/// Returns the note for an input that is taken as a program, is refused and is text, or no text.
 pub fn hint(is_program: bool, input: &[u8], succeeds: bool) -> &'static str
     ensures { result.now ≡ hint is_program input.now succeeds }
 {
@@ -34,7 +34,8 @@ fn ends_at_once(program: &[u8]) -> bool
     matches!(program, [0, _, ..])
 }
 
-/// Returns the warning for a program that begins with DMAEND and has more bytes, or no text.
+/// Returns the warning for a program that is executed without a fault, begins with DMAEND and has more bytes, or no
+/// text.
 pub fn end_warning(is_executed: bool, program: &[u8], succeeds: bool) -> &'static str
     ensures { result.now ≡ end_warning is_executed program.now succeeds }
 {

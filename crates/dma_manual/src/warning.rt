@@ -14,7 +14,7 @@ use std::alloc::AllocError;
 pub struct Warning {
     /// The place of the first DMALPEND that doesn't jump to the start of its counter's open loop.
     pub stray: Option<Place>,
-    /// Whether the text has a DMAEND, or the program has no bytes.
+    /// Whether the text has a DMAEND or a `DCB` of 0, or the program has no bytes.
     pub stops: bool,
 }
 

@@ -83,7 +83,7 @@ impl Verdict {
         matches!(self, Verdict::Holds)
     }
 
-    /// Appends the line of an `expect` line that fails, or nothing. If memory runs out, appends nothing.
+    /// Appends the message for the `expect` line that fails, or nothing if none fails or memory runs out.
     pub fn print(&self, out: &mut Vec<u8>) -> Result<(), AllocError>
         ensures ok { OnOk result (out.new.items ≡ out.old.items ++ verdict_text self.now) }
         ensures err { OnErr result (out.new.items ≡ out.old.items) }

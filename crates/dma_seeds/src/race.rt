@@ -172,8 +172,8 @@ fn opened(
     Ok((measured, turns))
 }
 
-/// Executes the lines of a race script before `go`, and appends what they print. The turns will be taken in the order
-/// that a seed determines. Fails if memory runs out.
+/// Executes the lines of a race script before `go`, and appends what they print. Returns the race with its turns in the
+/// order that a seed determines. Fails if memory runs out.
 pub(crate) fn start(
     alloc: Global,
     script: RaceScript,

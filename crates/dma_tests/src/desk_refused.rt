@@ -200,7 +200,8 @@ fn prepare(alloc: Global, engine: &mut Engine, steps: u32) -> Result<(), Fail> {
     Ok(())
 }
 
-// Makes the call of a row on a desk with `count` readers, after `steps` steps of the second copy.
+// Makes the call of a row on a desk with `count` readers, after `steps` steps of the second copy, and again if it is out
+// of memory. Returns whether it succeeds and the readers see the row's statuses.
 fn is_made_again<R: Wait + Abort + Print>(
     rt: &R,
     alloc: Global,

@@ -16,7 +16,11 @@ mod lists;
 #[cfg(test)]
 mod memory_refused;
 #[cfg(test)]
+mod streams;
+#[cfg(test)]
 mod transfers;
+#[cfg(test)]
+mod turns;
 #[cfg(test)]
 mod work_in_turn;
 #[cfg(test)]

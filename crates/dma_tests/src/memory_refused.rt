@@ -12,8 +12,8 @@ use std::test::Fail;
 static TWO_STORES: &[u8] =
     b"\xbc\0\0\x01\0\0\xbc\x02\xf8\x7f\0\0\xbc\x01\x07\xc0\x01\0\x04\x08\x04\x08\0";
 
-// Runs the program, and once more if the first run is out of memory. Returns how many instructions that run executed,
-// and how the last run ended.
+// Runs the program, and again if it is out of memory. Returns how many instructions the refused run executed, if there
+// was one, and how the last run ended.
 fn run_again(alloc: Global) -> Result<(Option<u32>, Option<RunEnd>), Fail> {
     let mut memory = Memory::new(alloc, 0xC000)?;
     let turns = match run_program(alloc, TWO_STORES, &mut memory, 1000) {

@@ -147,7 +147,7 @@ fn paused_and_halted(alloc: Global) -> Result<Engine, Fail> {
     Ok(engine)
 }
 
-// Checks that an engine is as after 21 steps in rotation, now and later.
+// Checks that an engine equals one that took 21 steps in rotation, now and after further steps.
 fn compare_with_steps(rt: &impl Abort, alloc: Global, mut this: Engine) -> Result<(), Fail> {
     let mut that = paused_and_halted(alloc)?;
     step_often(&mut that, 21);

@@ -40,7 +40,7 @@ fn turns_at<N: DeskName>(tallies: &[Tally<N>], at: usize) -> Option<u64> {
     Some(tallies.get(at)?.turns())
 }
 
-// Runs two jobs that were out of memory, and so have done nothing.
+// Runs two jobs again after a call that was out of memory, which has changed nothing.
 fn run_again<N: DeskName + Send + Sync, R: Threads + Wait + Sync + Abort + Print, G: Gate>(
     rt: &R,
     alloc: Global,

@@ -17,7 +17,7 @@ use Rattle.dma_trace.specs.declared.touches.Touches.{Touches}
 use Rattle.dma_trace.specs.Front.{front_at, registers_of, span_at}
 use Rattle.dma_trace.specs.Words.{offset_text}
 
--- Tells whether a burst touches an address.
+-- Returns whether a burst touches an address.
 abbrev pub has_addr : Span → ℕ → Bool
 has_addr s a = nat_le s.addr a && nat_lt (a - s.addr) s.len
 

@@ -30,7 +30,7 @@ use Rattle.dma_trace.specs.Words.{cause_text, count_text, fault_text, front_text
 
 -- ---- memory
 
--- Gives the regions at these places with their bytes, by the image of the memory.
+-- Returns the regions at these places, with the bytes that the memory image has there.
 abbrev pub pieces_in : List Segment → List ℕ → List Piece
 pieces_in places image = map (λ s. record { addr = s.addr; bytes = take s.len (drop s.addr image) }) places
 
@@ -57,11 +57,11 @@ step_text n i pc after =
 abbrev pub line_text : ℕ → Insn → Front → Front → List Piece → List ℕ
 line_text n i before after pieces = step_text n i before.pc after ++ moves_text i before pieces ++ line_feed
 
--- Gives the registers of a machine's channel, and how many bytes its buffer holds.
+-- Returns the registers of a machine's channel, and how many bytes its buffer holds.
 abbrev pub front_in : Machine → Front
 front_in s = front_of s.channel.registers (length s.channel.buffer)
 
--- Tells whether the line of instruction number n is printed.
+-- Returns whether the line of instruction number n is printed.
 abbrev pub is_shown : TraceOptions → ℕ → Bool
 is_shown o n = nat_le o.from n && nat_lt (n - o.from) o.count
 
@@ -94,7 +94,7 @@ abbrev pub refused : List ℕ → Option ℕ → Result Insn FaultKind → ℕ �
 refused why first next n f stored =
     record { succeeds = false; says = []; wrong = refusal_text why first next n f stored }
 
--- Gives the end by the answer of the last step, after n steps that moved and stored this number of bytes. The answer is
+-- Returns the end by the answer of the last step, after n steps that moved and stored this number of bytes. The answer is
 -- None at the limit of steps.
 abbrev pub end_of : Option ChanTurn → Option ℕ → Result Insn FaultKind → ℕ → Front → ℕ → End
 end_of (Some Ended) first next n f stored =
@@ -110,11 +110,11 @@ end_of None first next n f stored = refused (cause_text NoEnd first next n f) fi
 
 -- ---- the waveform
 
--- Gives a text if the options ask for a waveform, else nothing.
+-- Returns a text if the options ask for a waveform, else nothing.
 abbrev pub if_wave : TraceOptions → List ℕ → List ℕ
 if_wave o text = if o.wave then text else []
 
--- Gives the moment at which a machine executes its next instruction, after n others.
+-- Returns the moment at which a machine executes its next instruction, after n others.
 abbrev pub moment_in : ℕ → Machine → Moment
 moment_in n u = executing n (ahead_of u.channel) (front_in u)
 
@@ -152,7 +152,7 @@ dump_text pieces s = flat_map (row_text pieces s) (range_with_len 0 ((s.len + 15
 
 -- ---- the whole
 
--- Gives the machine before the first step.
+-- Returns the machine before the first step.
 abbrev pub opening : TraceOptions → List ℕ → List ℕ → Machine
 opening o program image = machine (loaded_on o.bus (record { bytes = program; cost = None })) image (flags_of o.events)
 
@@ -163,22 +163,22 @@ pub record StopsAfter (marks : MarkList) (s : Machine) (limit n : ℕ) : Type 0 
   pub few : n ≤ limit
   pub stops : n < limit → answer_at marks (after_steps marks s n) ≢ Moved
 
--- Gives the answer of the last step that was tried, or None at the limit.
+-- Returns the answer of the last step that was tried, or None at the limit.
 abbrev pub last_answer : MarkList → Machine → ℕ → ℕ → Option ChanTurn
 last_answer marks s limit n = if nat_lt n limit then Some (answer_at marks (after_steps marks s n)) else None
 
--- Gives the first byte of a channel's next instruction, if its program has one there.
+-- Returns the first byte of a channel's next instruction, if its program has one there.
 abbrev pub first_byte_of : ChannelValue → Option ℕ
 first_byte_of c = slice_get (code_of c) c.registers.pc
 
--- Gives the end of a trace after n steps that moved.
+-- Returns the end of a trace after n steps that moved.
 abbrev pub end_after : TraceOptions → MarkList → Machine → ℕ → End
 end_after o marks s n =
     let u = after_steps marks s n in
     let c = u.channel in
     end_of (last_answer marks s o.limit n) (first_byte_of c) (ahead_of c) n (front_in u) c.stored
 
--- Gives how many steps are tried if n moved.
+-- Returns how many steps are tried if n moved.
 abbrev pub tried : ℕ → ℕ → ℕ
 tried limit n = if nat_lt n limit then suc n else n
 
@@ -196,7 +196,7 @@ pub record Traces (o : TraceOptions) (marks : MarkList) (places : List Segment) 
   pub to_err : err ≡ (end_after o marks s steps).wrong
   pub to_wave : wave ≡ if_wave o (waveform marks s steps (last_answer marks s o.limit steps))
 
--- Gives the marks at which bursts over regions fail: the gaps between them, and the ranges of the options.
+-- Returns the marks at which bursts over regions fail: the gaps between them, and the ranges of the options.
 abbrev pub marks_over : TraceOptions → List Region → MarkList
 marks_over o regions = with_gaps_of regions (marks_at o.failing.items)
 

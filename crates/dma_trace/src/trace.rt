@@ -277,7 +277,7 @@ fn trace_all<P: Progress>(
 
 /// Executes a program over regions of memory, and appends to `out` a line for each instruction that `options` asks for,
 /// how the program ended, and the memory that it asks for. Returns whether the program ended or waits. If it is too
-/// long, fails, or reaches the limit, appends to `err` why. Appends the waveform of the whole run to `wave` if
+/// long, fails, or reaches the limit, appends the reason to `err`. Appends the waveform of the whole run to `wave` if
 /// `options` asks for it, with at most 120 bytes for each instruction.
 ///
 /// If memory runs out, it fails and appends nothing; the regions may have changed.
