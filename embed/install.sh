@@ -90,7 +90,8 @@ find_programs() {
         if is_current "$it" "$top/crates/$it/out/$it"; then
             found="$found $it"
         elif [ "$it" = dmasim ]; then
-            stop "dmasim isn't built: ./prove dmasim dma_ffi proves and builds all, in some 20 minutes from nothing"
+            stop "dmasim isn't built: ./prove dmasim dma_ffi proves and builds all, in 20 to 30 minutes from nothing; it" \
+                "needs the command rt of the Rattle kit (README.md, \"Set up\")"
         elif [ -d "$top/crates/$it" ]; then
             say "$it isn't built, and is left out: ./prove $it proves and builds it"
         fi
