@@ -169,18 +169,17 @@ def rows_that_differ(found):
 def rules_astray():
     """Yields what the table of rules in docs/ARCHITECTURE.md names and the tree lacks, each with its row."""
     table = (TOP / "docs/ARCHITECTURE.md").read_text().split("## Where each rule is\n")[1].split("\n## ")[0]
-    head, *rows = filter(str.strip, table.splitlines())
+    head, *rows = (row for row in table.splitlines() if row.startswith("    "))
     specs, code = head.index("Definition"), head.index("Code")
     for row in rows:
-        crate = folder = ""
+        crate = ""
         for named in RULE.finditer(row, specs):
             crate, name, definition = named[1] or crate, named[2], named[3]
             if named.start() < code:
                 file = CRATES / crate / "specs" / f"{name}.antt"
                 is_there = file.exists() and (definition is None or definition in Source(file).blocks)
             else:
-                is_there = any((CRATES / crate / "src" / it / name).exists() for it in ("", folder))
-                folder = name.rpartition("/")[0] or folder
+                is_there = (CRATES / crate / "src" / name).exists()
             if not is_there:
                 yield f"docs/ARCHITECTURE.md, {row[:specs].strip()}: {crate} has no {named[0]}"
 

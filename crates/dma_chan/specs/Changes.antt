@@ -75,8 +75,7 @@ Does Guest before after = (ch : ℕ) → after.channels ch ≡ before.channels c
 
 -- from change number `from` on, up to `count`, change number k leads from state k to state k + 1
 abbrev pub DoesAll : (ℕ → Change) → (ℕ → System) → ℕ → ℕ → Type 0
-DoesAll changes states from count =
-    (k : ℕ) → from ≤ k → k < count → Does (changes k) (states k) (states (k + 1))
+DoesAll changes states from count = (k : ℕ) → from ≤ k → k < count → Does (changes k) (states k) (states (k + 1))
 
 -- ---- one transfer, since its load
 

@@ -1,6 +1,7 @@
 -- The compiled form of a transfer for a bus (profile; the instructions are the PL330 manual's).
-use Rattle.std.specs.Prelude.{ℕ, zero, suc, ◌+◌, ◌-◌, ◌*◌, ◌/◌, ◌%◌, ◌^◌, Bool, true, false, ◌&&◌, ◌==◌, nat_le, nat_lt, if◌then◌else◌, List, [], ◌∷◌, ◌++◌, map, length, Option, Some, None}
+use Rattle.std.specs.Prelude.{ℕ, zero, suc, ◌+◌, ◌-◌, ◌*◌, ◌/◌, ◌%◌, ◌^◌, Bool, true, false, ◌&&◌, ◌==◌, nat_le, nat_lt, if◌then◌else◌, List, [], ◌∷◌, ◌++◌, map, length, Option, Some}
 use Rattle.std.specs.List.{flat_map}
+use Rattle.std.specs.Option.{option_map_or}
 use Rattle.dma_insn.specs.declared.insn.Reg.TheVariants.{Sar, Ccr, Dar}
 use Rattle.dma_insn.specs.declared.insn.Counter.TheVariants.{Lc0, Lc1}
 use Rattle.dma_insn.specs.declared.insn.Insn.{Insn}
@@ -110,13 +111,11 @@ piece_tree bus p = Then (One (Mov Sar p.src)) (Then (One (Mov Dar p.dst)) (parts
 
 -- the DMAWFE of an event, with the invalid flag clear, or nothing without an event
 abbrev pub wait_tree : Option ℕ → Tree
-wait_tree None = Nothing
-wait_tree (Some e) = One (Wfe e false)
+wait_tree wait = option_map_or (λ e. One (Wfe e false)) wait Nothing
 
 -- the DMASEV of an event, or nothing without an event
 abbrev pub signal_tree : Option ℕ → Tree
-signal_tree None = Nothing
-signal_tree (Some e) = One (Sev e)
+signal_tree signal = option_map_or (λ e. One (Sev e)) signal Nothing
 
 -- The code of a transfer for a bus: the wait, the pieces in order, the signal and the end.
 abbrev pub tree_on : Bus → Descriptor → Tree

@@ -1,10 +1,10 @@
 //! What a program copies, found by one run without memory.
 
-ghost use Rattle.std.specs.Prelude.{◌≡◌, ◌≢◌, ◌<◌, ◌↔◌, IfErr, IfOk, IsErrAnd, length};
+ghost use Rattle.std.specs.Prelude.{◌≡◌, ◌≢◌, ◌-◌, ◌<◌, ◌↔◌, IfErr, IfOk, IsErrAnd, length};
 ghost use Rattle.dma_insn.specs.AssemblyText.{most_program_bytes};
 ghost use Rattle.dma_insn.specs.declared.insn.Insn.TheVariants.{End};
 ghost use Rattle.dma_mem.specs.Places.{places};
-ghost use Rattle.dma_chan.specs.Explains.{Finds, HasAddress, Refuses, unrolled};
+ghost use Rattle.dma_chan.specs.Explains.{Finds, HasAddress, Refuses, bursts_in, unrolled};
 ghost use Rattle.dma_chan.specs.inner.Tracing.{IsCopied, IsTracer, Stops};
 
 mod counts;
@@ -109,8 +109,8 @@ pub enum Cause {
     NoMemory,
 }
 
-/// Tells why no copy explains a program, and at which instruction. If the cause is `TooLong` or `NoMemory`, the other
-/// fields say nothing.
+/// Why no copy explains a program, and at which instruction. If the cause is `TooLong` or `NoMemory`, the other fields
+/// have no meaning.
 #[derive(Clone, Copy, PartialEq, Eq, Debug)]
 pub struct Unexplained {
     pub cause: Cause,
@@ -175,6 +175,7 @@ fn finish(alloc: Global, tracer: Tracer, steps: u32) -> Result<Explained, Stop>
 /// doesn't continue the one before; a list that grows takes up to three times as much for a moment.
 pub fn explain(alloc: Global, bus: Bus, program: &[u8], most: u32) -> Result<Explained, Unexplained>
     ensures ok { IfOk result (λ x. Finds bus program.now most x) }
+    ensures bursts { IfOk result (λ x. x.bursts ≡ bursts_in bus program.now (x.steps - 1)) }
     ensures err { IfErr result (λ u. u.cause ≢ Cause.NoMemory → u.cause ≢ Cause.TooLong
         → Refuses bus program.now most u) }
     ensures long { IsErrAnd result (λ u. u.cause ≡ Cause.TooLong)

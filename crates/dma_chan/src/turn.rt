@@ -1,5 +1,8 @@
 //! The result of one step of a channel.
 
+ghost use Rattle.std.specs.Prelude.{◌≡◌, ◌<◌};
+ghost use Rattle.dma_chan.specs.Exec.{fault_bit};
+
 use dma_insn::insn::Event;
 
 /// The fault of an instruction. The names are the manual's, which writes them in lower case with underscores (PL330
@@ -20,6 +23,24 @@ pub enum FaultKind {
     DataWriteErr,
     /// A load touches an address at or above the memory's size, in one of its gaps, or in a mark.
     DataReadErr,
+}
+
+impl FaultKind {
+    /// Returns the number of the fault's bit in FTR.
+    pub fn bit(self) -> u32
+        ensures value { result ≡ fault_bit self }
+        ensures range { fault_bit self < 32 }
+    {
+        match self {
+            FaultKind::UndefInstr => 0,
+            FaultKind::OperandInvalid => 1,
+            FaultKind::MfifoErr => 12,
+            FaultKind::StDataUnavailable => 13,
+            FaultKind::InstrFetchErr => 16,
+            FaultKind::DataWriteErr => 17,
+            FaultKind::DataReadErr => 18,
+        }
+    }
 }
 
 /// The result of a step.

@@ -1,5 +1,6 @@
 -- The printed text of refusals, calls and replies, without line feeds (profile).
-use Rattle.std.specs.Prelude.{ℕ, ◌++◌, List, [], Option, Some, None, codes, decimal}
+use Rattle.std.specs.Prelude.{ℕ, ◌++◌, List, [], Option, codes, decimal}
+use Rattle.std.specs.Option.{option_map_or}
 use Rattle.dma_mem.specs.declared.transfer.TransferFault.{TransferFault}
 use Rattle.dma_mem.specs.declared.transfer.TransferFault.TheVariants as transfers
 use Rattle.dma_mem.specs.declared.call.Call.{Call}
@@ -59,8 +60,7 @@ residue_text result residue = result_name result ++ codes " residue " ++ decimal
 
 -- the outcome of a cookie, or `none`
 abbrev pub outcome_text : Option Outcome → List ℕ
-outcome_text None = codes "none"
-outcome_text (Some x) = residue_text x.result x.residue
+outcome_text outcome = option_map_or (λ x. residue_text x.result x.residue) outcome (codes "none")
 
 -- the name of a cookie's status
 abbrev pub status_name : Status → List ℕ

@@ -1,5 +1,6 @@
 -- What `dmasim run` prints for an input.
-use Rattle.std.specs.Prelude.{◌≡◌, ℕ, ◌+◌, ◌++◌, ◌∷◌, [], if◌then◌else◌, ◌||◌, Bool, true, false, nat_lt, Option, Some, None, Result, Ok, Err, List, length, map, replicate, codes, decimal}
+use Rattle.std.specs.Prelude.{◌≡◌, ℕ, ◌+◌, ◌++◌, ◌∷◌, [], if◌then◌else◌, ◌||◌, Bool, true, false, nat_lt, Option, Result, Ok, Err, List, length, map, replicate, codes, decimal}
+use Rattle.std.specs.Option.{option_map_or}
 use Rattle.std.specs.Str.{bytes_eq}
 use Rattle.dma_mem.specs.declared.transfer.TransferFault.{TransferFault}
 use Rattle.dma_mem.specs.Places.{Descriptor}
@@ -41,8 +42,7 @@ call_answer v call = one_line (call_line call (answer v call).0) (answer v call)
 
 -- prints the rule that the transfer breaks and doesn't change the view; if it breaks none, this answer
 abbrev pub unless_invalid : Option TransferFault → View → Answered → Answered
-unless_invalid (Some fault) v answered = one_line (refused_line (transfer_fault_name fault)) v
-unless_invalid None v answered = answered
+unless_invalid found v answered = option_map_or (λ e. one_line (refused_line (transfer_fault_name e)) v) found answered
 
 -- a submit line: checks the transfer's own rules, then makes the call
 abbrev pub submit_answer : View → ℕ → TransferLine → Answered

@@ -1,6 +1,8 @@
 -- A call does nothing, or it takes steps; a turn has two calls.
 use Rattle.std.proofs.Common.{◌≡◌, ◌∙◌, ◌⊎◌, ℕ, ◌^◌, ◌<◌, Bool, true, false, List, [], Option, Some, None, ap, refl, sym, subst, inl, inr, true≢false}
-use Rattle.std.specs.Prelude.{if◌then◌else◌, slice_get}
+use Rattle.std.specs.Prelude.{if◌then◌else◌, nat_lt, slice_get}
+use Rattle.std.specs.Option.{option_map_or}
+use Rattle.std.proofs.lemmas.Bool.{and_parts}
 use Rattle.dma_mem.specs.Flags.{flags_of}
 use Rattle.dma_mem.specs.Marking.{MarkList}
 use Rattle.dma_mem.specs.Regions.{image_of, pieces_of}
@@ -8,19 +10,35 @@ use Rattle.dma_mem.specs.declared.regions.Region.{Region}
 use Rattle.dma_mem.specs.declared.segment.Segment.{Segment}
 use Rattle.dma_chan.specs.Channel.{ChannelValue}
 use Rattle.dma_chan.specs.LentRegions.{AreKept, with_gaps_of}
-use Rattle.dma_chan.specs.Stepping.{TakesSteps, machine, signal_after, written_after}
-use Rattle.dma_chan.specs.Written.{joined}
+use Rattle.dma_chan.specs.Stepping.{Machine, TakesSteps, machine, signal_after, written_after}
+use Rattle.dma_chan.specs.Written.{adjoins, joined, range_at, store_ahead}
 use Rattle.dma_chan.specs.declared.lent.Taken.{Taken}
 use Rattle.dma_chan.specs.declared.turn.ChanTurn.{ChanTurn}
-use Rattle.dma_device.specs.CallSteps.{Executes, first_in, marks_in, second_in}
+use Rattle.dma_device.specs.CallSteps.{Executes, first_in, last_in, machine_after, marks_in, second_in, signal_in}
 use Rattle.dma_device.specs.Device.{DeviceValue, with_thread}
-use Rattle.dma_device.specs.Thread.{answered}
-use Rattle.dma_device.specs.Turns.{Outcome, Setup, TakesTurn, begins, called, called_if, follows, idle, last_in, lines_differ, machine_in, machine_left, outcome_of, setup_of, stepped, steps_in, visible_events, with_flags}
+use Rattle.dma_device.specs.Thread.{answered, runs}
+use Rattle.dma_device.specs.Turns.{Outcome, Setup, TakesTurn, begins, called, called_if, follows, idle, is_beside, lines_differ, machine_in, outcome_of, raises, runs_at, setup_of, stepped, steps_in, visible_events, with_flags}
 use Rattle.dma_device.specs.declared.device.turns.Called.{Called}
 use Rattle.dma_device.specs.declared.device.turns.Turn.{Turn}
 use Rattle.dma_device.specs.declared.thread.Thread.{Thread}
 use Rattle.dma_device.proofs.FlagNumber.{number_is}
 use Rattle.dma_device.proofs.InOrder.{marks_kept}
+
+-- ---- a call
+
+-- the machine after a call of a thread
+abbrev pub machine_left : MarkList → ℕ → Thread → Setup → Machine
+machine_left marks most t s = machine_after marks s t (steps_in marks most t s)
+
+-- the thread after it
+abbrev pub thread_left : MarkList → ℕ → Thread → Setup → Thread
+thread_left marks most t s =
+    let moved : Thread = record t { channel = (machine_left marks most t s).channel } in
+    answered s.device.config.events moved (last_in marks most t s) (signal_in marks most t s)
+
+-- what a call did that isn't made
+abbrev pub nothing : Called
+nothing = record { written = range_at 0 0; signal = None }
 
 -- nothing is called
 pub record Rests (made : Bool) (marks : MarkList) (n most : ℕ) (s : Setup) : Type 0 where
@@ -86,6 +104,22 @@ called_is d e regions left n most t none events after channel flags taken found 
     ∙ ap (λ (f : DeviceValue). outcome_of f left made) (sym device)
 
 -- ---- a turn
+
+-- a thread that is found runs if the device's does
+pub runs_found : (d : DeviceValue) (n : ℕ) (t : Thread) → slice_get d.threads n ≡ Some t → runs_at d n ≡ runs t
+runs_found d n t found = ap (λ (o : Option Thread). option_map_or runs o false) found
+
+-- a channel whose call is made runs
+pub begins_runs : (d : DeviceValue) (n most : ℕ) → begins d n most ≡ true → runs_at d n ≡ true
+begins_runs d n most on = (and_parts (nat_lt 0 most) (runs_at d n) on).1
+
+beside_runs : (range : Segment) (o : Option Thread) → is_beside range o ≡ true → option_map_or runs o false ≡ true
+beside_runs range None on = on
+beside_runs range (Some t) on = (and_parts (runs t) (adjoins range (store_ahead t.channel)) on).0
+
+pub follows_runs : (d : DeviceValue) (n : ℕ) (first : Called) → follows d n first ≡ true → runs_at d n ≡ true
+follows_runs d n first on =
+    beside_runs first.written (slice_get d.threads n) (and_parts (raises d first.signal) (is_beside first.written (slice_get d.threads n)) on).1
 
 -- a turn has the outcome of its two calls
 pub turn_is : (d m e : DeviceValue) (regions lent left : List Region) (n most : ℕ) (first second : Called) (range : Segment) (changed : Bool) → called_if (begins d n most) (with_gaps_of regions []) n most (setup_of d regions) ≡ outcome_of m lent first → AreKept lent regions → called_if (follows m n first) (with_gaps_of lent []) n 1 (setup_of m lent) ≡ outcome_of e left second → AreKept left lent → range ≡ joined first.written second.written → changed ≡ lines_differ d e → TakesTurn d regions n most e left (record { written = range; lines_changed = changed })

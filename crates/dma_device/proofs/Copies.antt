@@ -21,7 +21,7 @@ use Rattle.dma_device.specs.Device.{DeviceValue, irqs}
 use Rattle.dma_device.specs.Dmago.{Go, RunsCopy, GivenTurns, bus_of, csr_status, image_in}
 use Rattle.dma_device.specs.Interrupts.{HasLine, IsHigh}
 use Rattle.dma_device.specs.Thread.{is_faulting}
-use Rattle.dma_device.specs.Turns.{TakesTurn, begins, nothing, runs_at, setup_of}
+use Rattle.dma_device.specs.Turns.{TakesTurn, begins, runs_at, setup_of}
 use Rattle.dma_device.specs.declared.config.Config.{Config}
 use Rattle.dma_device.specs.declared.device.turns.Called.{Called}
 use Rattle.dma_device.specs.declared.device.turns.Turn.{Turn}
@@ -37,7 +37,7 @@ use Rattle.dma_chan.proofs.Traced.{grows_to}
 use Rattle.dma_chan.proofs.StepsTaken.{steps_move}
 use Rattle.dma_chan.proofs.SteppedOver.{is_still, was_moved, went_before}
 use Rattle.dma_device.proofs.Answered.{answer_fine}
-use Rattle.dma_device.proofs.Calls.{if_config}
+use Rattle.dma_device.proofs.Calls.{if_config, nothing}
 use Rattle.dma_device.proofs.Driven.{After, Before, Call, Copying, Going, Has, Steps, after_steps_of, after_turn, along, at_answer, channel_after, copying, count_in, from, last_answer, new, one_of, result_of, sent_by, sets, steps_of, to, two_of}
 use Rattle.dma_device.proofs.Starts.{reads_fine, reads_stopped, stopped_fine}
 use Rattle.dma_device.proofs.Interrupts.{turn_raises}

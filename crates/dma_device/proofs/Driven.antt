@@ -1,7 +1,6 @@
 -- What a channel that a DMAGO started is after a turn: it executes a program that copies, or has ended it.
 use Rattle.std.proofs.Common.{◌≡◌, ◌≢◌, ◌∙◌, ◌⊎◌, ℕ, zero, suc, ◌+◌, ◌%◌, ◌^◌, ◌<◌, Bool, true, false, ◌&&◌, List, [], length, get_or, Option, Some, None, ap, refl, sym, subst, arith, inl, inr, true≢false}
-use Rattle.std.specs.Prelude.{is_some, nat_lt, not, slice_get}
-use Rattle.std.proofs.lemmas.Bool.{and_parts}
+use Rattle.std.specs.Prelude.{is_some, not, slice_get}
 use Rattle.dma_mem.specs.Image.{laid}
 use Rattle.dma_mem.specs.Marking.{MarkList}
 use Rattle.dma_mem.specs.Places.{Descriptor, size_of}
@@ -16,15 +15,15 @@ use Rattle.dma_chan.specs.declared.turn.ChanTurn.{ChanTurn}
 use Rattle.dma_chan.specs.declared.turn.ChanTurn.TheVariants.{Ended}
 use Rattle.dma_chan.proofs.AmongOthers.{Fits, touched_below}
 use Rattle.dma_chan.proofs.CallsAmongOthers.{Leads, Runs, at_first, call, survived}
-use Rattle.dma_device.specs.CallSteps.{Executes, first_in, marks_in}
+use Rattle.dma_device.specs.CallSteps.{Executes, first_in, last_in, marks_in, signal_in}
 use Rattle.dma_device.specs.Device.{DeviceValue, program_at}
 use Rattle.dma_device.specs.Dmago.{Go, RunsCopy, GivenTurns, bus_of, image_in}
 use Rattle.dma_device.specs.Thread.{answer, is_faulting, is_stopped, started}
-use Rattle.dma_device.specs.Turns.{Outcome, Setup, TakesTurn, begins, called_if, follows, last_in, machine_in, machine_left, may_follow, nothing, runs_at, runs_if, setup_of, signal_in, steps_in, thread_left}
+use Rattle.dma_device.specs.Turns.{Outcome, Setup, TakesTurn, begins, called_if, follows, machine_in, runs_at, setup_of, steps_in}
 use Rattle.dma_device.specs.declared.device.turns.Turn.{Turn}
 use Rattle.dma_device.specs.declared.thread.Thread.{Thread}
 use Rattle.dma_device.proofs.Answered.{answer_busy, answer_channel, is_ended}
-use Rattle.dma_device.proofs.Calls.{call_acts, call_is, takes, turn_left}
+use Rattle.dma_device.proofs.Calls.{begins_runs, call_acts, call_is, follows_runs, machine_left, nothing, runs_found, takes, thread_left, turn_left}
 use Rattle.dma_device.proofs.InMemory.{program_is_read}
 use Rattle.dma_device.proofs.Starts.{dmago_starts}
 use Rattle.dma_device.proofs.Found.{set_found}
@@ -123,8 +122,8 @@ module _ (c : Copying) where
       pub is : slice_get s.device.threads n ≡ Some thread
       pub stands : Stands O E s.image thread
 
-    -- what is known after a call: that isn't made, of a channel whose program has ended or goes on; and that steps the
-    -- thread, which ends or goes on
+    -- Before a call O is known if the program has ended, and E if it goes on; after the call P and F. The call isn't made
+    -- (`rests_over`, `rests`), or it steps the thread, whose program ends or goes on (`ends`, `goes`).
     pub record Steps (O : Type 0) (E : Thread → Type 0) (P : Type 0) (F : Thread → Type 0) (k : Call) : Type 0 where
       pub rests_over : (result_of n k).called ≡ nothing → O → P
       pub rests : ¬ Executes k.made n k.before → (result_of n k).called ≡ nothing → (th : Thread) → slice_get k.before.device.threads n ≡ Some th → Going k.before.image th → E th → F th
@@ -132,7 +131,7 @@ module _ (c : Copying) where
       pub goes : k.made ≡ true → (th : Thread) → slice_get k.before.device.threads n ≡ Some th → Going k.before.image th → E th → sent_by n k ≡ sets k th → last_answer k th ≢ Some Ended → F (after_steps_of k th)
 
     no_program : (d : DeviceValue) (th : Thread) → slice_get d.threads n ≡ Some th → th.channel.program ≡ None → runs_at d n ≡ false
-    no_program d th is gone = ap runs_if is ∙ ap (λ (p : Option ProgramValue). is_some p && not (is_faulting th)) gone
+    no_program d th is gone = runs_found d n th is ∙ ap (λ (p : Option ProgramValue). is_some p && not (is_faulting th)) gone
 
     stands_after : (O : Type 0) (E : Thread → Type 0) (P : Type 0) (F : Thread → Type 0) (k : Call) (th : Thread) → k.made ≡ true → slice_get k.before.device.threads n ≡ Some th → Going k.before.image th → E th → sent_by n k ≡ sets k th → Steps O E P F k → Stands P F (to k th).image (after_steps_of k th)
     stands_after O E P F k th made found g e sent steps =
@@ -200,8 +199,8 @@ module _ (c : Copying) where
           let first = first_in d regions n most in
           let m = first.left.device in
           subst (Has R G) (turn_left x)
-          (after_call P F R G two (λ is. (and_parts (may_follow m n first.called) (runs_at m n) is).1) steps_two
-          (after_call O E P F one (λ is. (and_parts (nat_lt 0 most) (runs_at d n) is).1) steps_one g))
+          (after_call P F R G two (follows_runs m n first.called) steps_two
+          (after_call O E P F one (begins_runs d n most) steps_one g))
 
 -- ---- along the turns
 

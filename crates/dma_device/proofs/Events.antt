@@ -19,15 +19,15 @@ use Rattle.dma_device.specs.declared.device.turns.Turn.{Turn}
 use Rattle.dma_device.specs.declared.thread.Status.TheVariants.{WaitingForEvent}
 use Rattle.dma_device.specs.declared.thread.Thread.{Thread}
 use Rattle.dma_device.specs.Accesses.{Access, Answer, Does, Resets, Restores, Turns, Writes}
-use Rattle.dma_device.specs.CallSteps.{Executes, first_in, marks_in, second_in}
+use Rattle.dma_device.specs.CallSteps.{Executes, first_in, last_in, marks_in, second_in, signal_in}
 use Rattle.dma_device.specs.Device.{DeviceValue, with_thread, written}
 use Rattle.dma_device.specs.Events.{CallTakes, Ends, EventsAreExact, IsSet, Sets, TakenWasSet, TurnTakes, WaitsForUnset}
 use Rattle.dma_device.specs.Interrupts.{HasLine, IsHigh, TurnSignals}
 use Rattle.dma_device.specs.Thread.{answer}
-use Rattle.dma_device.specs.Turns.{Outcome, Setup, TakesTurn, begins, called_if, follows, last_in, machine_in, machine_left, number_of, setup_of, signal_in, steps_in, thread_left, visible_events, with_flags}
-use Rattle.dma_device.proofs.Calls.{call_acts, call_is, if_config, if_inten, takes, turn_device, acts_alike}
+use Rattle.dma_device.specs.Turns.{Outcome, Setup, TakesTurn, begins, called_if, follows, machine_in, number_of, setup_of, steps_in, visible_events, with_flags}
+use Rattle.dma_device.proofs.Calls.{acts_alike, call_acts, call_is, if_config, if_inten, machine_left, takes, thread_left, turn_device}
 use Rattle.dma_device.proofs.FlagSteps.{Is, IsClear, Passes, clear_since, passed, waits_at}
-use Rattle.dma_device.proofs.Interrupts.{Exact, all_have, restored_bit, same_exact, flag_bit, hidden, seen_bit, NonePass, below, flag_left, flag_sets, flags_left}
+use Rattle.dma_device.proofs.Interrupts.{Exact, all_have, restored_bit, exact_if_same, flag_bit, hidden, seen_bit, NonePass, below, flag_left, flag_sets, flags_left}
 use Rattle.dma_device.proofs.WriteRaises.{dbgcmd_raises, has_kept, others_keep}
 use Rattle.dma_device.proofs.History as history
 use Rattle.dma_device.proofs.Found.{set_found}
@@ -247,7 +247,7 @@ access_exact k Resets d e regions left answer has x =
     let low : ¬ IsSet e k = (λ high. let zero_bit = ap (λ (v : DeviceValue). bit_at v.events k) x.1 ∙ bit_at-zero k in omega (arith, zero_bit, high)) in
     ((λ high. absurd (low high)), (λ why. elim why [ inl up ↦ absurd (up.1) | inr stays ↦ absurd (stays.1 tt) ]))
 access_exact k (Restores saved) d e regions left answer has x = restored_bit k saved.events d.events e.events (ap (λ (v : DeviceValue). v.events) x.1)
-access_exact k a d e regions left answer has x = same_exact k d.events e.events (Sets k a d regions) ⊥ (ap (λ (v : DeviceValue). v.events) x.1) (λ up. up.1) (λ down. down)
+access_exact k a d e regions left answer has x = exact_if_same k d.events e.events (Sets k a d regions) ⊥ (ap (λ (v : DeviceValue). v.events) x.1) (λ up. up.1) (λ down. down)
 
 -- ---- accesses in a row
 

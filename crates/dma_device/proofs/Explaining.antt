@@ -1,8 +1,9 @@
 -- A channel's turns stay in the copy that explains its program.
 use Rattle.std.proofs.Common.{◌≡◌, ◌∙◌, ◌⊎◌, ℕ, suc, ◌+◌, ◌-◌, ◌%◌, ◌/◌, ◌^◌, ◌<◌, Bool, true, List, [], append-nil, Option, Some, None, ap, refl, sym, subst, arith, inl, inr}
-use Rattle.std.specs.Prelude.{IsSomeAnd, nat_lt, replicate, slice_get}
-use Rattle.std.proofs.lemmas.Bool.{and_parts, cases_eq}
+use Rattle.std.specs.Prelude.{IsSomeAnd, replicate, slice_get}
+use Rattle.std.proofs.lemmas.Bool.{cases_eq}
 use Rattle.std.specs.List.{Contains}
+use Rattle.std.specs.Option.{option_and_then, option_map}
 use Rattle.dma_insn.specs.ControlWord.{field}
 use Rattle.dma_mem.specs.Marking.{MarkList}
 use Rattle.dma_mem.specs.Places.{Descriptor, destinations, sources}
@@ -19,21 +20,27 @@ use Rattle.dma_chan.proofs.CallWrites.{call_stays_in, load_executes, many_in, ne
 use Rattle.dma_chan.proofs.ReadsOnly.{reads_inside}
 use Rattle.dma_chan.proofs.StepsTaken.{steps_move}
 use Rattle.dma_device.specs.Accesses.{Access, Answer, Does, Happen, Resets, Restores, Turns, Writes}
-use Rattle.dma_device.specs.CallSteps.{Executes as Steps, first_in, marks_in}
+use Rattle.dma_device.specs.CallSteps.{Executes as Steps, first_in, last_in, marks_in, signal_in}
 use Rattle.dma_device.specs.Device.{DeviceValue, is_interrupt, program_at, signalled, with_thread, written}
-use Rattle.dma_device.specs.Explaining.{CallReads, GivesNone, IsUnderway, OnlyDmagoGives, StaysIn, TurnsStayIn, bus_of, channel_if, channel_of, copy_of, program_if, program_of}
+use Rattle.dma_device.specs.Explaining.{CallReads, GivesNone, IsUnderway, OnlyDmagoGives, StaysIn, TurnsStayIn, bus_of, channel_of, copy_of, program_of}
 use Rattle.dma_device.specs.Thread.{failed, killed, reset_thread, started}
-use Rattle.dma_device.specs.Turns.{Setup, TakesTurn, begins, called_if, follows, last_in, machine_in, machine_left, may_follow, runs_at, setup_of, signal_in, steps_in, thread_left}
+use Rattle.dma_device.specs.Turns.{Setup, TakesTurn, begins, called_if, follows, machine_in, runs_at, setup_of, steps_in}
 use Rattle.dma_device.specs.Writes.{CallWrote}
-use Rattle.dma_device.specs.declared.device.turns.Called.{Called}
 use Rattle.dma_device.specs.declared.device.turns.Turn.{Turn}
 use Rattle.dma_device.specs.declared.thread.Thread.{Thread}
 use Rattle.dma_device.proofs.Answered.{answer_channel}
-use Rattle.dma_device.proofs.Calls.{call_keeps, takes, turn_device, turn_keeps}
+use Rattle.dma_device.proofs.Calls.{begins_runs, call_keeps, follows_runs, machine_left, takes, thread_left, turn_device, turn_keeps}
 use Rattle.dma_device.proofs.Cases.{branch, debug_cases, write_cases}
 use Rattle.dma_device.proofs.History.{kept_along}
 use Rattle.dma_device.proofs.Writes.{turn_writes_each}
 use Rattle.dma_device.proofs.Found.{set_found, set_other}
+
+-- the channel of a thread, and the program of a channel, if there is one
+abbrev channel_if : Option Thread → Option ChannelValue
+channel_if thread = option_map (λ t. t.channel) thread
+
+abbrev program_if : Option ChannelValue → Option ProgramValue
+program_if channel = option_and_then (λ c. c.program) channel
 
 -- ---- a channel that executes a program that copies, or has ended it
 
@@ -82,21 +89,15 @@ module _ (bus : Bus) (program : List ℕ) (t : Descriptor) (count : ℕ) (h : Ex
 
   -- ---- a turn
 
-  first_on : (d : DeviceValue) (most : ℕ) → begins d n most ≡ true → runs_at d n ≡ true
-  first_on d most is = (and_parts (nat_lt 0 most) (runs_at d n) is).1
-
-  second_on : (d : DeviceValue) (called : Called) → follows d n called ≡ true → runs_at d n ≡ true
-  second_on d called is = (and_parts (may_follow d n called) (runs_at d n) is).1
-
   middle_copy : (d : DeviceValue) (regions : List Region) (most : ℕ) → HasCopy d → HasCopy (first_in d regions n most).left.device
-  middle_copy d regions most g = after_call (marks_in regions) (begins d n most) most (setup_of d regions) (first_on d most) g
+  middle_copy d regions most g = after_call (marks_in regions) (begins d n most) most (setup_of d regions) (begins_runs d n most) g
 
   after_turn : (d : DeviceValue) (regions : List Region) (most : ℕ) (e : DeviceValue) (left : List Region) (turn : Turn) → HasCopy d → TakesTurn d regions n most e left turn → HasCopy e
   after_turn d regions most e left turn g x =
       let first = first_in d regions n most in
       let m = first.left.device in
       subst HasCopy (turn_device x)
-      (after_call (marks_in regions) (follows m n first.called) 1 first.left (second_on m first.called) (middle_copy d regions most g))
+      (after_call (marks_in regions) (follows m n first.called) 1 first.left (follows_runs m n first.called) (middle_copy d regions most g))
 
   pub turn_stays : (d : DeviceValue) (regions : List Region) (most : ℕ) (e : DeviceValue) (left : List Region) (turn : Turn) → HasCopy d → TakesTurn d regions n most e left turn → StaysIn t d regions n most turn
   turn_stays d regions most e left turn g x =
@@ -107,12 +108,12 @@ module _ (bus : Bus) (program : List ℕ) (t : Descriptor) (count : ℕ) (h : Ex
       let there = middle_copy d regions most g in
       record {
         writes = λ a i. elim ((turn_writes_each d regions n most e left turn x).each a i) [
-          | inl one ↦ wrote_in marks (begins d n most) most s a (first_on d most) g one
-          | inr two ↦ wrote_in marks (follows m n first.called) 1 first.left a (second_on m first.called) there two
+          | inl one ↦ wrote_in marks (begins d n most) most s a (begins_runs d n most) g one
+          | inr two ↦ wrote_in marks (follows m n first.called) 1 first.left a (follows_runs m n first.called) there two
         ];
         reads = λ a w. elim w [
-          | inl one ↦ read_in marks (begins d n most) most s a (first_on d most) g one
-          | inr two ↦ read_in marks (follows m n first.called) 1 first.left a (second_on m first.called) there two
+          | inl one ↦ read_in marks (begins d n most) most s a (begins_runs d n most) g one
+          | inr two ↦ read_in marks (follows m n first.called) 1 first.left a (follows_runs m n first.called) there two
         ];
       }
 

@@ -1,9 +1,10 @@
 -- What makes threads faulting, and with them the line irq_abort high.
 use Rattle.std.proofs.Common.{◌≡◌, ◌≢◌, ◌∙◌, ◌⊎◌, ℕ, zero, suc, ◌+◌, ◌*◌, ◌%◌, ◌/◌, ◌^◌, Bool, true, false, ◌&&◌, ◌||◌, List, [], ◌∷◌, Option, Some, None, ap, refl, sym, subst, arith, inl, inr, true≢false, replicate}
 use Rattle.std.proofs.lemmas.Bool.Decides.{nat_tests}
-use Rattle.std.specs.Prelude.{◌↔◌, ◌==◌, if◌then◌else◌, nat_lt, not, slice_get}
+use Rattle.std.specs.Prelude.{◌↔◌, ◌==◌, if◌then◌else◌, not, slice_get}
 use Rattle.std.specs.Int.{bit_at}
 use Rattle.std.specs.List.{list_any}
+use Rattle.std.specs.Option.{option_map_or}
 use Rattle.std.proofs.lemmas.Bool.{and_parts, cases_eq, eq-eqb, false_from_ne_true, ne_eqb, not-true, or_cases, or_left, or_right, true_from_ne_false, eqb-true, eqb-false}
 use Rattle.std.proofs.lemmas.List.Elements.{All-replicate}
 use Rattle.std.proofs.lemmas.List.Folds.{list_any_none}
@@ -20,13 +21,13 @@ use Rattle.dma_device.specs.declared.config.Config.{Config}
 use Rattle.dma_device.specs.declared.device.turns.Turn.{Turn}
 use Rattle.dma_device.specs.declared.thread.Thread.{Thread}
 use Rattle.dma_device.specs.Accesses.{Access, Answer, Does, Reads, Resets, Restores, Turns, Writes}
-use Rattle.dma_device.specs.CallSteps.{first_in, marks_in, second_in}
+use Rattle.dma_device.specs.CallSteps.{first_in, last_in, marks_in, second_in, signal_in}
 use Rattle.dma_device.specs.Device.{reset_device, DeviceValue, by_manager, by_thread, debugged, faulting_bits, irq_abort, signalled, with_thread, written}
 use Rattle.dma_device.specs.Faults.{EndsFault, EndsAll, AbortIsFaulting, AbortsAreExact, Addresses, CallFails, DebugFails, Fails, FaultsAreExact, Kills, LastFails, TheChannel, TheManager, TurnFails, Who, can_execute, channel_fails, debug_fails, faults_at, faults_if, manager_fails}
 use Rattle.dma_device.specs.Interrupts.{is_fine}
-use Rattle.dma_device.specs.Thread.{answer, failed, is_faulting, killed, reset_thread, is_stopped}
-use Rattle.dma_device.specs.Turns.{Outcome, Setup, TakesTurn, begins, called_if, follows, last_in, machine_left, may_follow, number_of, runs_at, runs_if, setup_of, signal_in, thread_left, with_flags}
-use Rattle.dma_device.proofs.Calls.{call_acts, call_is, call_keeps, turn_device, turn_keeps, acts_alike}
+use Rattle.dma_device.specs.Thread.{answer, failed, is_faulting, is_stopped, killed, reset_thread, runs}
+use Rattle.dma_device.specs.Turns.{Outcome, Setup, TakesTurn, begins, called_if, follows, number_of, setup_of, with_flags}
+use Rattle.dma_device.proofs.Calls.{acts_alike, begins_runs, call_acts, call_is, call_keeps, follows_runs, machine_left, thread_left, turn_device, turn_keeps}
 use Rattle.dma_device.proofs.Cases.{branch, debug_cases}
 use Rattle.dma_device.proofs.FlagNumber.{flag_few, flag_is}
 use Rattle.dma_device.proofs.History as history
@@ -127,8 +128,8 @@ decide_addresses (TheChannel m) d = grind (arith, cases_eq (field 0 1 d.dbginst0
 abbrev Exact : Who → DeviceValue → DeviceValue → Type 0 → Type 0 → Type 0
 Exact who d e Up Down = history.Exact (faults_at who d ≡ true) (faults_at who e ≡ true) Up Down
 
-same_exact : (who : Who) (d e : DeviceValue) (Up Down : Type 0) → faults_at who e ≡ faults_at who d → ¬ Up → ¬ Down → Exact who d e Up Down
-same_exact who d e Up Down same = history.same_exact (faults_at who d ≡ true) (faults_at who e ≡ true) Up Down (λ was. same ∙ was) (λ is. sym same ∙ is)
+exact_if_same : (who : Who) (d e : DeviceValue) (Up Down : Type 0) → faults_at who e ≡ faults_at who d → ¬ Up → ¬ Down → Exact who d e Up Down
+exact_if_same who d e Up Down same = history.exact_if_same (faults_at who d ≡ true) (faults_at who e ≡ true) Up Down (λ was. same ∙ was) (λ is. sym same ∙ is)
 
 -- a write to any register but DBGCMD leaves the threads
 others_keep : (who : Who) (ram : List Piece) (at value : ℕ) (d : DeviceValue) → at ≢ offset.dbgcmd → faults_at who (written ram at value d) ≡ faults_at who d
@@ -151,15 +152,15 @@ by_result : (one f c g a : Bool) (Up Down : Type 0) → a ≡ (if one then false
 by_result one f c g a Up Down is calm up down = grind arith
 
 debug_exact : (who : Who) (ram : List Piece) (value : ℕ) (d : DeviceValue) → value % 4 ≡ 0 → Exact who d (debugged ram d) (FailsBy who offset.dbgcmd value d) (KillsBy who offset.dbgcmd value d)
-debug_exact who ram value d even = grind (arith, addressed, by_result, decide_addresses, eq-eqb, eqb-true, kill_passes, passed_by, same_exact)
+debug_exact who ram value d even = grind (arith, addressed, by_result, decide_addresses, eq-eqb, eqb-true, kill_passes, passed_by, exact_if_same)
 
 write_exact : (who : Who) (at value : ℕ) (d : DeviceValue) (regions : List Region) → Exact who d (written (pieces_of regions) at value d) (FailsBy who at value d) (KillsBy who at value d)
 write_exact who at value d regions = elim (cases_eq at offset.dbgcmd) [
-  | inr other ↦ same_exact who d (written (pieces_of regions) at value d) _ _ (others_keep who (pieces_of regions) at value d other) (λ up. other up.0) (λ down. other down.0)
+  | inr other ↦ exact_if_same who d (written (pieces_of regions) at value d) _ _ (others_keep who (pieces_of regions) at value d other) (λ up. other up.0) (λ down. other down.0)
   | inl dbgcmd ↦ subst (λ (j : ℕ). Exact who d (written (pieces_of regions) j value d) (FailsBy who j value d) (KillsBy who j value d)) (sym dbgcmd)
       (branch (λ (e : DeviceValue). Exact who d e (FailsBy who offset.dbgcmd value d) (KillsBy who offset.dbgcmd value d)) (value % 4 == 0) (debugged (pieces_of regions) d) d
       (λ even. debug_exact who (pieces_of regions) value d (eqb-true (value % 4) 0 even))
-      (λ some. same_exact who d d _ _ refl (λ up. eqb-false (value % 4) 0 some up.1.command) (λ down. eqb-false (value % 4) 0 some down.1.0)))
+      (λ some. exact_if_same who d d _ _ refl (λ up. eqb-false (value % 4) 0 some up.1.command) (λ down. eqb-false (value % 4) 0 some down.1.0)))
 ]
 
 -- ---- a call
@@ -182,7 +183,7 @@ call_own marks n made most s fine = elim (call_is made marks n most s) [
       )
 ]
 
-runs_fine : (o : Option Thread) → runs_if o ≡ true → faults_if o ≡ false
+runs_fine : (o : Option Thread) → option_map_or runs o false ≡ true → faults_if o ≡ false
 runs_fine None on = absurd (true≢false (sym on))
 runs_fine (Some t) on = not-true (is_faulting t) (and_parts _ (not (is_faulting t)) on).1
 
@@ -200,16 +201,16 @@ turn_own d regions n most =
     let marks = marks_in regions in
     let first = first_in d regions n most in
     let m = first.left.device in
-    then_or _ _ _ _ _ (call_own marks n (begins d n most) most (setup_of d regions) (λ on. runs_fine (slice_get d.threads n) (and_parts (nat_lt 0 most) (runs_at d n) on).1))
-    (call_own marks n (follows m n first.called) 1 first.left (λ on. runs_fine (slice_get m.threads n) (and_parts (may_follow m n first.called) (runs_at m n) on).1))
+    then_or _ _ _ _ _ (call_own marks n (begins d n most) most (setup_of d regions) (λ on. runs_fine (slice_get d.threads n) (begins_runs d n most on)))
+    (call_own marks n (follows m n first.called) 1 first.left (λ on. runs_fine (slice_get m.threads n) (follows_runs m n first.called on)))
 
 turn_exact : (who : Who) (n most : ℕ) (d e : DeviceValue) (regions left : List Region) (turn : Turn) → TakesTurn d regions n most e left turn → Exact who d e (Fails who (Turns n most) d regions) ⊥
-turn_exact TheManager n most d e regions left turn x = same_exact TheManager d e ⊥ ⊥ (turn_leaves TheManager d e regions left n most turn x (λ same. cc)) (λ up. up) (λ down. down)
+turn_exact TheManager n most d e regions left turn x = exact_if_same TheManager d e ⊥ ⊥ (turn_leaves TheManager d e regions left n most turn x (λ same. cc)) (λ up. up) (λ down. down)
 turn_exact (TheChannel m) n most d e regions left turn x = elim (cases_eq m n) [
   | inl same ↦
       subst (λ (j : ℕ). Exact (TheChannel j) d e ((j ≡ n) × TurnFails d regions n most) ⊥) (sym same)
-      (history.up_exact _ _ _ _ ⊥ (λ up. (refl, up)) (λ up. up.1) (λ down. down) (subst (λ (v : DeviceValue). (faults_at (TheChannel n) v ≡ true) ↔ ((faults_at (TheChannel n) d ≡ true) ⊎ TurnFails d regions n most)) (turn_device x) (turn_own d regions n most)))
-  | inr other ↦ same_exact (TheChannel m) d e ((m ≡ n) × TurnFails d regions n most) ⊥ (turn_leaves (TheChannel m) d e regions left n most turn x (λ same. other (cc))) (λ up. other up.0) (λ down. down)
+      (history.exact_if_raised _ _ _ _ ⊥ (λ up. (refl, up)) (λ up. up.1) (λ down. down) (subst (λ (v : DeviceValue). (faults_at (TheChannel n) v ≡ true) ↔ ((faults_at (TheChannel n) d ≡ true) ⊎ TurnFails d regions n most)) (turn_device x) (turn_own d regions n most)))
+  | inr other ↦ exact_if_same (TheChannel m) d e ((m ≡ n) × TurnFails d regions n most) ⊥ (turn_leaves (TheChannel m) d e regions left n most turn x (λ same. other (cc))) (λ up. other up.0) (λ down. down)
 ]
 
 -- ---- one access
@@ -230,13 +231,13 @@ restored_exact : (who : Who) (d e saved : DeviceValue) → e ≡ saved → Exact
 restored_exact who d e saved is = grind (arith, true_from_ne_false)
 
 access_exact : (who : Who) (a : Access) (d e : DeviceValue) (regions left : List Region) (answer : Answer) → Does a d regions answer e left → Exact who d e (Fails who a d regions) (EndsFault who a d)
-access_exact TheManager (Reads at) d e regions left answer x = same_exact TheManager d e ⊥ ⊥ (ap (faults_at TheManager) x.1) (λ up. up) (λ down. down)
+access_exact TheManager (Reads at) d e regions left answer x = exact_if_same TheManager d e ⊥ ⊥ (ap (faults_at TheManager) x.1) (λ up. up) (λ down. down)
 access_exact who (Writes at value) d e regions left answer x =
     subst (λ (v : DeviceValue). Exact who d v (Fails who (Writes at value) d regions) (Kills who (Writes at value) d)) (sym x.1) (write_exact who at value d regions)
 access_exact who (Turns n most) d e regions left answer x = turn_exact who n most d e regions left x.0 x.1.1
 access_exact who Resets d e regions left answer x = reset_exact who d e x.1 ⊥ (λ up. up)
 access_exact who (Restores saved) d e regions left answer x = restored_exact who d e saved x.1
-access_exact who a d e regions left answer x = same_exact who d e ⊥ ⊥ (ap (faults_at who) x.1) (λ up. up) (λ down. down)
+access_exact who a d e regions left answer x = exact_if_same who d e ⊥ ⊥ (ap (faults_at who) x.1) (λ up. up) (λ down. down)
 
 pub faults_are_exact : FaultsAreExact
 faults_are_exact access answer before lent left count n who happen within =

@@ -1,21 +1,22 @@
--- What holds before access number n, if each access makes it hold, or leaves it, or ends it.
+-- When a fact holds before access number n, if each access makes it hold, leaves it as it is, or ends it.
 use Rattle.std.proofs.Common.{◌≡◌, ◌⊎◌, ℕ, zero, suc, ◌+◌, ◌<◌, ◌≤◌, subst, arith, inl, inr}
 use Rattle.std.specs.Prelude.{◌↔◌}
 use Rattle.std.proofs.lemmas.Bool.{cases_eq}
 use Rattle.dma_device.specs.Accesses.{IsExact, Since, Stays}
 
--- it holds after a step exactly if the step makes it hold, or if it held before and the step doesn't end it
+-- a fact holds after an access exactly if the access makes it hold, or if it holds before and the access doesn't end it
 abbrev pub Exact : (before after Up Down : Type 0) → Type 0
 Exact before after Up Down = after ↔ (Up ⊎ (before × ¬ Down))
 
-pub same_exact : (before after Up Down : Type 0) → (before → after) → (after → before) → ¬ Up → ¬ Down → Exact before after Up Down
-same_exact before after Up Down to back no_up no_down = grind arith
+-- the access leaves it as it is
+pub exact_if_same : (before after Up Down : Type 0) → (before → after) → (after → before) → ¬ Up → ¬ Down → Exact before after Up Down
+exact_if_same before after Up Down to back no_up no_down = grind arith
 
--- what only makes it hold
-pub up_exact : (before after P Up Down : Type 0) → (P → Up) → (Up → P) → ¬ Down → after ↔ (before ⊎ P) → Exact before after Up Down
-up_exact before after P Up Down to back no_down x = grind arith
+-- the access makes it hold exactly if P, and doesn't end it
+pub exact_if_raised : (before after P Up Down : Type 0) → (P → Up) → (Up → P) → ¬ Down → after ↔ (before ⊎ P) → Exact before after Up Down
+exact_if_raised before after P Up Down to back no_down x = grind arith
 
--- what holds at first, and each access keeps
+-- a fact that holds before access number 0, and that each access keeps, holds before each access
 pub kept_along : (P : ℕ → Type 0) (count : ℕ) → P 0 → ((n : ℕ) → n < count → P n → P (n + 1)) → (n : ℕ) → n ≤ count → P n
 kept_along P count first step zero within = first
 kept_along P count first step (suc n) within =

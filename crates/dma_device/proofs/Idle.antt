@@ -13,12 +13,13 @@ use Rattle.dma_mem.specs.Regions.{Piece, pieces_of}
 use Rattle.dma_mem.specs.declared.regions.Region.{Region}
 use Rattle.dma_device.specs.declared.config.Config.{Config}
 use Rattle.dma_device.specs.Accesses.{Access, Answer, Does, Resets, Restores, Turned, Turns, Writes}
+use Rattle.dma_device.specs.CallSteps.{last_in, signal_in}
 use Rattle.dma_device.specs.Device.{DeviceValue, all_events, debugged, is_event, program_at, reset_device, signalled, written}
 use Rattle.dma_device.specs.Idle.{IsSoundDevice, NothingHappens, StaySound}
 use Rattle.dma_device.specs.Snapshot.{IsDeviceValue}
 use Rattle.dma_device.specs.Thread.{IsSound, failed, killed, reset_thread, started}
-use Rattle.dma_device.specs.Turns.{Setup, called_if, last_in, machine_in, machine_left, number_of, signal_in, steps_in, thread_left, with_flags}
-use Rattle.dma_device.proofs.Calls.{call_keeps, takes, turn_keeps}
+use Rattle.dma_device.specs.Turns.{Setup, called_if, machine_in, number_of, steps_in, with_flags}
+use Rattle.dma_device.proofs.Calls.{call_keeps, machine_left, takes, thread_left, turn_keeps}
 use Rattle.dma_device.proofs.Cases.{branch, debug_cases, write_cases}
 use Rattle.dma_device.proofs.History.{kept_along}
 use Rattle.dma_device.proofs.Sound.{and_fewer, and_known, answered_sound, few_events, same_threads, thread_sound}

@@ -9,7 +9,7 @@ use Rattle.dma_mem.specs.Regions.{pieces_of}
 use Rattle.dma_mem.specs.declared.regions.Region.{Region}
 use Rattle.dma_device.specs.Accesses.{Access, Answer, Does, Happen, Resets, Restores, Turns, Writes}
 use Rattle.dma_device.specs.Device.{DeviceValue, irqs, written}
-use Rattle.dma_device.specs.Turns.{TakesTurn, Outcome, Setup, begins, called_if, follows, last_in, machine_in, machine_left, number_of, setup_of, signal_in, stepped, steps_in, visible_events, with_flags}
+use Rattle.dma_device.specs.Turns.{TakesTurn, Outcome, Setup, begins, called_if, follows, machine_in, number_of, setup_of, stepped, steps_in, visible_events, with_flags}
 use Rattle.dma_device.specs.declared.config.Config.{Config}
 use Rattle.dma_device.specs.declared.device.turns.Turn.{Turn}
 use Rattle.dma_device.specs.Interrupts.{Clears, HasLine, InterruptsAreExact, IsHigh, Raises, TurnSignals}
@@ -18,11 +18,11 @@ use Rattle.dma_mem.specs.Flags.{flags_of}
 use Rattle.dma_mem.specs.Marking.{MarkList}
 use Rattle.dma_mem.proofs.FlagBits.{get_or_flags_of, length_flags_of}
 use Rattle.dma_device.specs.declared.thread.Thread.{Thread}
-use Rattle.dma_device.specs.CallSteps.{first_in, marks_in, second_in}
+use Rattle.dma_device.specs.CallSteps.{first_in, last_in, marks_in, second_in, signal_in}
 use Rattle.dma_device.proofs.Sound.{few_events, fits_word}
 use Rattle.dma_device.proofs.WriteRaises.{dbgcmd_raises, has_kept, intclr_lowers, others_keep, write_has}
 use Rattle.dma_device.proofs.History as history
-use Rattle.dma_device.proofs.Calls.{call_acts, call_is, if_config, if_inten, takes, turn_device, turn_keeps}
+use Rattle.dma_device.proofs.Calls.{call_acts, call_is, if_config, if_inten, machine_left, takes, turn_device, turn_keeps}
 use Rattle.dma_device.proofs.FlagNumber.{flag_is, number_bit}
 use Rattle.dma_device.proofs.FlagSteps.{IsClear, flag_exact, steps_flags, Is, Passes}
 
@@ -125,15 +125,15 @@ turn_config d e regions left n most turn x = turn_keeps x (λ (v : DeviceValue).
 abbrev pub Exact : (k old new : ℕ) → Type 0 → Type 0 → Type 0
 Exact k old new Up Down = history.Exact (IsHigh old k) (IsHigh new k) Up Down
 
-pub same_exact : (k old new : ℕ) (Up Down : Type 0) → new ≡ old → ¬ Up → ¬ Down → Exact k old new Up Down
-same_exact k old new Up Down same =
-    history.same_exact (IsHigh old k) (IsHigh new k) Up Down (subst (λ (m : ℕ). IsHigh m k) (sym same)) (subst (λ (m : ℕ). IsHigh m k) same)
+pub exact_if_same : (k old new : ℕ) (Up Down : Type 0) → new ≡ old → ¬ Up → ¬ Down → Exact k old new Up Down
+exact_if_same k old new Up Down same =
+    history.exact_if_same (IsHigh old k) (IsHigh new k) Up Down (subst (λ (m : ℕ). IsHigh m k) (sym same)) (subst (λ (m : ℕ). IsHigh m k) same)
 
 write_exact : (k at value : ℕ) (d : DeviceValue) (regions : List Region) → HasLine d k → let e = written (pieces_of regions) at value d in Exact k (irqs d) (irqs e) (Raises k (Writes at value) d regions) (Clears k (Writes at value) d)
 write_exact k at value d regions has = grind (arith, intclr_lowers d (pieces_of regions) value k has, dbgcmd_raises true d (pieces_of regions) value k, others_keep true d (pieces_of regions) at value)
 
 turn_exact : (k n most : ℕ) (d e : DeviceValue) (regions left : List Region) (turn : Turn) → HasLine d k → TakesTurn d regions n most e left turn → Exact k (irqs d) (irqs e) (Raises k (Turns n most) d regions) (Clears k (Turns n most) d)
-turn_exact k n most d e regions left turn has x = history.up_exact _ _ _ _ ⊥ (λ up. up) (λ up. up) (λ down. down) (turn_raises d e regions left n most k turn x has)
+turn_exact k n most d e regions left turn has x = history.exact_if_raised _ _ _ _ ⊥ (λ up. up) (λ up. up) (λ down. down) (turn_raises d e regions left n most k turn x has)
 
 -- after a restore a bit is that of the restored device
 pub restored_bit : (k bits before after : ℕ) → after ≡ bits → IsHigh after k ↔ (IsHigh bits k ⊎ (IsHigh before k × ¬ ¬ IsHigh bits k))
@@ -147,7 +147,7 @@ access_exact k Resets d e regions left answer has x =
     let low : ¬ IsHigh (irqs e) k = (λ high. let zero_bit = ap (λ (v : DeviceValue). bit_at (irqs v) k) x.1 ∙ bit_at-zero k in omega (arith, zero_bit, high)) in
     ((λ high. absurd (low high)), (λ why. elim why [ inl up ↦ absurd (up.1) | inr stays ↦ absurd (stays.1 tt) ]))
 access_exact k (Restores saved) d e regions left answer has x = restored_bit k (irqs saved) (irqs d) (irqs e) (ap irqs x.1)
-access_exact k a d e regions left answer has x = same_exact k (irqs d) (irqs e) (Raises k a d regions) ⊥ (ap irqs x.1) (λ up. up.1) (λ down. down)
+access_exact k a d e regions left answer has x = exact_if_same k (irqs d) (irqs e) (Raises k a d regions) ⊥ (ap irqs x.1) (λ up. up.1) (λ down. down)
 
 -- ---- an access leaves a device its lines
 

@@ -19,13 +19,13 @@ use Rattle.dma_chan.proofs.StepsTaken.{steps_move}
 use Rattle.dma_chan.proofs.SteppedOver.{was_moved, went_before}
 use Rattle.dma_device.specs.declared.thread.Status.TheVariants.{Faulting, WaitingForEvent}
 use Rattle.dma_device.specs.declared.thread.Thread.{Thread}
-use Rattle.dma_device.specs.CallSteps.{Executes, first_in, marks_in}
+use Rattle.dma_device.specs.CallSteps.{Executes, first_in, last_in, marks_in, signal_in}
 use Rattle.dma_device.specs.Device.{DeviceValue}
 use Rattle.dma_device.specs.Idle.{TurnChanges}
 use Rattle.dma_device.specs.Thread.{answer, can_step, is_signalled, runs, waited}
-use Rattle.dma_device.specs.Turns.{Outcome, Setup, begins, called_if, follows, last_in, machine_in, machine_left, may_follow, raises, runs_at, runs_if, setup_of, signal_in, steps_in, thread_left, visible_events}
+use Rattle.dma_device.specs.Turns.{Outcome, Setup, begins, called_if, follows, machine_in, raises, runs_at, setup_of, steps_in, visible_events}
 use Rattle.dma_device.proofs.Answered.{answer_channel}
-use Rattle.dma_device.proofs.Calls.{call_acts, call_is, takes, turn_device}
+use Rattle.dma_device.proofs.Calls.{call_acts, call_is, machine_left, runs_found, takes, thread_left, turn_device}
 use Rattle.dma_device.proofs.FlagSteps.{waits_at}
 use Rattle.dma_device.proofs.Found.{set_found}
 
@@ -134,7 +134,7 @@ turn_changes d e regions left n most turn t x h found can some same =
     let first = first_in d regions n most in
     let m = first.left.device in
     let on = (and_parts (runs t) (is_signalled (visible_events d) t.status) can).0 in
-    let starts : begins d n most ≡ true = ap (λ (b : Bool). b && runs_at d n) (lt-ltb 0 most some) ∙ ap runs_if found ∙ on in
+    let starts : begins d n most ≡ true = ap (λ (b : Bool). b && runs_at d n) (lt-ltb 0 most some) ∙ runs_found d n t found ∙ on in
     let one : Executes (begins d n most) n s = record { on = starts; thread = t; found = found } in
     let u = thread_left marks most t s in
     let there : slice_get m.threads n ≡ Some u = call_found marks n most s (begins d n most) one in
@@ -156,7 +156,7 @@ turn_changes d e regions left n most turn t x h found can some same =
                 let new = ap (λ (k : Thread). k.channel.taken) mid in
                 absurd (omega (arith, up, call_keeps_count marks 1 w first.left, ap (λ (k : Thread). k.channel.taken) back, new))
             | inr other ↦
-                let raised = (and_parts (raises m first.called.signal) _ ((and_parts (may_follow m n first.called) (runs_at m n) two.on).0)).0 in
+                let raised = (and_parts (raises m first.called.signal) _ two.on).0 in
                 let none : first.called.signal ≡ None = ap (λ (o : Outcome). o.called.signal) (call_acts marks most one) ∙ other.1 in
                 true≢false (sym raised ∙ ap (raises m) none)
           ]

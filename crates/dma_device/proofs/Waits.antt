@@ -30,12 +30,13 @@ use Rattle.dma_device.specs.declared.thread.Status.{Status}
 use Rattle.dma_device.specs.declared.thread.Status.TheVariants.{WaitingForEvent}
 use Rattle.dma_device.specs.declared.thread.Thread.{Thread}
 use Rattle.dma_device.specs.Accesses.{AreAlike}
+use Rattle.dma_device.specs.CallSteps.{last_in}
 use Rattle.dma_device.specs.Device.{DeviceValue, all_events, irq_abort, irqs}
 use Rattle.dma_device.specs.Idle.{IsSoundDevice, no_turn}
 use Rattle.dma_device.specs.Run.{put_from}
 use Rattle.dma_device.specs.Thread.{IsSound, answered, can_step, has_status, is_signalled, runs, waits_for}
-use Rattle.dma_device.specs.Turns.{Setup, TakesTurn, called_if, idle, last_in, lines_differ, machine_in, machine_left, nothing, runs_at, runs_if, stepped, steps_in, visible_events, with_flags}
-use Rattle.dma_device.proofs.Calls.{call_acts, call_is, stepped_is, takes, turn_device, turn_image, turn_lines, turn_written}
+use Rattle.dma_device.specs.Turns.{Setup, TakesTurn, called_if, idle, lines_differ, machine_in, runs_at, stepped, steps_in, visible_events, with_flags}
+use Rattle.dma_device.proofs.Calls.{call_acts, call_is, follows_runs, machine_left, nothing, runs_found, stepped_is, takes, turn_device, turn_image, turn_lines, turn_written}
 use Rattle.dma_device.proofs.Runs.{put_is}
 use Rattle.dma_device.proofs.Found.{all_at, any_at, put_back}
 
@@ -149,7 +150,7 @@ waits_still marks n most t s h found some w =
 -- the thread of a call waits
 waits_here : (d : DeviceValue) (n : ℕ) (t : Thread) → IsSoundDevice d → list_any (can_step (visible_events d)) d.threads ≡ false → slice_get d.threads n ≡ Some t → runs_at d n ≡ true → Waits d.config.events (visible_events d) t
 waits_here d n t h idle found on =
-    idle_waits d.config.events (visible_events d) t (all_at (IsSound d.config.events) d.threads n t h.threads found) (sym (ap runs_if found) ∙ on)
+    idle_waits d.config.events (visible_events d) t (all_at (IsSound d.config.events) d.threads n t h.threads found) (sym (runs_found d n t found) ∙ on)
     (any_at (can_step (visible_events d)) d.threads n t idle found)
 
 call_rests : (made : Bool) (marks : MarkList) (n most : ℕ) (s : Setup) → IsSoundDevice s.device → list_any (can_step (visible_events s.device)) s.device.threads ≡ false → (made ≡ true → (0 < most) × (runs_at s.device n ≡ true)) → called_if made marks n most s ≡ idle s
@@ -166,4 +167,4 @@ pub record Rests (d : DeviceValue) (regions : List Region) (e : DeviceValue) (le
   pub report : turn ≡ no_turn
 
 pub turn_rests : (d : DeviceValue) (regions : List Region) (n most : ℕ) (e : DeviceValue) (left : List Region) (turn : Turn) → IsSoundDevice d → list_any (can_step (visible_events d)) d.threads ≡ false → TakesTurn d regions n most e left turn → Rests d regions e left turn
-turn_rests d regions n most e left turn h none x = grind (arith, alike_is, call_rests, lines_same, ltb-true, turn_device, turn_image, turn_lines, turn_written)
+turn_rests d regions n most e left turn h none x = grind (arith, alike_is, call_rests, follows_runs, lines_same, ltb-true, turn_device, turn_image, turn_lines, turn_written)

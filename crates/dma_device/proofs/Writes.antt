@@ -14,7 +14,7 @@ use Rattle.dma_chan.proofs.StepsTaken.{steps_few, steps_move}
 use Rattle.dma_chan.proofs.SteppedOver.{writes_each, steps_size}
 use Rattle.dma_chan.proofs.WrittenRanges.{in_joined, joined_first, joined_none, of_either}
 use Rattle.dma_device.specs.declared.thread.Thread.{Thread}
-use Rattle.dma_device.specs.Turns.{Outcome, Setup, begins, called_if, follows, is_beside, machine_in, second_call, setup_of, steps_in}
+use Rattle.dma_device.specs.Turns.{Outcome, Setup, begins, called_if, follows, is_beside, machine_in, setup_of, steps_in}
 use Rattle.dma_device.specs.CallSteps.{first_in, marks_in, second_in}
 use Rattle.dma_device.specs.Writes.{CallWrote, TurnWritesEach, TurnWritesInRegions}
 use Rattle.std.specs.List.{Contains, list_all, list_any}
@@ -72,7 +72,7 @@ by_count w marks s (suc (suc k)) few close = absurd (omega arith)
 beside_of : (w : Segment) (o : Option Thread) (t : Thread) → o ≡ Some t → is_beside w o ≡ true → adjoins w (store_ahead t.channel) ≡ true
 beside_of w o t h1 h2 = grind arith
 
-pub second_beside : (marks : MarkList) (n : ℕ) (first : Outcome) → adjoins first.called.written (second_call marks n first).called.written ≡ true
+pub second_beside : (marks : MarkList) (n : ℕ) (first : Outcome) → adjoins first.called.written (called_if (follows first.left.device n first.called) marks n 1 first.left).called.written ≡ true
 second_beside marks n first = grind (arith, adjoins_none, beside_of, by_count, call_acts, call_is, steps_few, takes)
 
 -- ---- a turn

@@ -54,20 +54,20 @@ abbrev pub Happen : (ℕ → Access) → (ℕ → Answer) → (ℕ → DeviceVal
 Happen access answer before lent left count =
     (k : ℕ) → k < count → Does (access k) (before k) (lent k) (answer k) (before (k + 1)) (left k)
 
--- ---- what accesses make hold, and end
+-- ---- when a fact holds, by the accesses that make it hold and those that end it
 
--- from access number i up to, and without, number n none ends it
+-- no access from number i to number n - 1 ends the fact
 abbrev pub Stays : (ℕ → Type 0) → ℕ → ℕ → Type 0
 Stays Ends i n = (j : ℕ) → i ≤ j → j < n → ¬ Ends j
 
--- one of the accesses below number n makes it hold, and none after it ends it
+-- an access before number n makes the fact hold, and no access between the two ends it
 pub record Since (Makes Ends : ℕ → Type 0) (n : ℕ) : Type 0 where
   pub at : ℕ
   pub below : at < n
   pub makes : Makes at
   pub stays : Stays Ends (at + 1) n
 
--- It holds before access number n exactly if an access made it hold, and none after it ended it; or if it held at first,
--- and no access ended it.
+-- The fact holds before access number n exactly if an earlier access makes it hold, and no access between the two ends
+-- it; or if it holds before access number 0, and no access before number n ends it.
 abbrev pub IsExact : (Holds Makes Ends : ℕ → Type 0) → ℕ → Type 0
 IsExact Holds Makes Ends n = Holds n ↔ (Since Makes Ends n ⊎ (Holds 0 × Stays Ends 0 n))

@@ -2,6 +2,7 @@
 use Rattle.std.specs.Prelude.{ℕ, ◌+◌, ◌-◌, ◌*◌, ◌/◌, ◌%◌, ◌^◌, Bool, true, false, not, ◌&&◌, ◌||◌, ◌==◌, nat_le, nat_lt, List, [], ◌∷◌, take, replicate, Option, Some, None, slice_get, slice_set, bit_and, bit_or, if◌then◌else◌}
 use Rattle.std.specs.Int.{w32, bit_at, bit_not}
 use Rattle.std.specs.List.{list_any}
+use Rattle.std.specs.Option.{option_map_or}
 use Rattle.dma_mem.specs.Regions.{Piece, run_from}
 use Rattle.dma_insn.specs.AssemblyText.{most_program_bytes}
 use Rattle.dma_insn.specs.ControlWord.{field, flag}
@@ -74,8 +75,7 @@ address_register r at =
 
 -- the value of a register of thread n, or 0 if the device doesn't have the thread
 abbrev pub of_thread : (Thread → ℕ) → Option Thread → ℕ
-of_thread value None = 0
-of_thread value (Some t) = value t
+of_thread value thread = option_map_or value thread 0
 
 -- The registers that each channel has: FTR n at 0x040 + 4n; CSR n and CPC n at 0x100 + 8n and 0x104 + 8n; SAR n, DAR n,
 -- CCR n, LC0 n and LC1 n from 0x400 + 0x20n on.

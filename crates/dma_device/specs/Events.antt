@@ -10,10 +10,10 @@ use Rattle.dma_device.specs.declared.device.turns.Turn.{Turn}
 use Rattle.dma_device.specs.declared.thread.Status.TheVariants.{WaitingForEvent}
 use Rattle.dma_device.specs.declared.thread.Thread.{Thread}
 use Rattle.dma_device.specs.Accesses.{Access, Answer, Does, Happen, IsExact, Resets, Restores, Turns}
-use Rattle.dma_device.specs.CallSteps.{Executes, InTurn, marks_in}
+use Rattle.dma_device.specs.CallSteps.{Executes, InTurn, machine_after, marks_in}
 use Rattle.dma_device.specs.Device.{DeviceValue}
 use Rattle.dma_device.specs.Interrupts.{HasLine, IsHigh, Signals}
-use Rattle.dma_device.specs.Turns.{Setup, TakesTurn, begins, machine_after, steps_in}
+use Rattle.dma_device.specs.Turns.{Setup, TakesTurn, begins, steps_in}
 
 -- event k is set
 abbrev pub IsSet : DeviceValue → ℕ → Type 0

@@ -1,6 +1,7 @@
 -- What the program of a channel copies, as the device explains it, and that the channel's turns stay in that copy.
-use Rattle.std.specs.Prelude.{◌≡◌, ◌≢◌, ◌⊎◌, ℕ, ◌+◌, ◌-◌, ◌<◌, ◌≤◌, Bool, List, length, Option, Some, None, slice_get, IsSomeAnd}
+use Rattle.std.specs.Prelude.{◌≡◌, ◌≢◌, ◌⊎◌, ℕ, ◌+◌, ◌-◌, ◌<◌, ◌≤◌, Bool, List, length, Option, None, slice_get, IsSomeAnd}
 use Rattle.std.specs.List.{Contains}
+use Rattle.std.specs.Option.{option_and_then, option_map}
 use Rattle.dma_mem.specs.Marking.{MarkList}
 use Rattle.dma_mem.specs.Places.{Descriptor, copying, destinations, sources}
 use Rattle.dma_mem.specs.declared.regions.Region.{Region}
@@ -20,25 +21,14 @@ use Rattle.dma_device.specs.Turns.{Setup, machine_in, steps_in}
 use Rattle.dma_device.specs.declared.device.explain.ExplainFault.{ExplainFault}
 use Rattle.dma_device.specs.declared.device.explain.ExplainFault.TheVariants.{NoChannel, NoProgram, Unexplained}
 use Rattle.dma_device.specs.declared.device.turns.Turn.{Turn}
-use Rattle.dma_device.specs.declared.thread.Thread.{Thread}
-
--- the channel of a thread, if there is one
-abbrev pub channel_if : Option Thread → Option ChannelValue
-channel_if None = None
-channel_if (Some t) = Some t.channel
 
 -- channel n, if the device has it
 abbrev pub channel_of : DeviceValue → ℕ → Option ChannelValue
-channel_of d n = channel_if (slice_get d.threads n)
-
--- the program of a channel, if there is one
-abbrev pub program_if : Option ChannelValue → Option ProgramValue
-program_if None = None
-program_if (Some c) = c.program
+channel_of d n = option_map (λ t. t.channel) (slice_get d.threads n)
 
 -- the program of channel n, if the device has the channel and a program is loaded
 abbrev pub program_of : DeviceValue → ℕ → Option ProgramValue
-program_of d n = program_if (channel_of d n)
+program_of d n = option_and_then (λ c. c.program) (channel_of d n)
 
 -- the bus of a device's channels
 abbrev pub bus_of : DeviceValue → Bus

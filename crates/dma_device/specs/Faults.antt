@@ -8,12 +8,12 @@ use Rattle.dma_chan.specs.declared.turn.ChanTurn.TheVariants.{Moved, Waiting, En
 use Rattle.dma_device.specs.declared.config.Config.{Config}
 use Rattle.dma_device.specs.declared.thread.Thread.{Thread}
 use Rattle.dma_device.specs.Accesses.{Access, Answer, Does, Happen, IsExact, Resets, Restores, Turns, Writes}
-use Rattle.dma_device.specs.CallSteps.{Executes, InTurn, marks_in}
+use Rattle.dma_device.specs.CallSteps.{Executes, InTurn, last_in, marks_in, signal_in}
 use Rattle.dma_device.specs.Device.{DeviceValue, irq_abort, is_event, read_at, reset_device}
 use Rattle.dma_device.specs.Interrupts.{IsHigh, is_fine}
 use Rattle.dma_device.specs.Offsets as offset
 use Rattle.dma_device.specs.Thread.{is_faulting}
-use Rattle.dma_device.specs.Turns.{Setup, last_in, signal_in}
+use Rattle.dma_device.specs.Turns.{Setup}
 
 -- a thread: the manager, or that of channel n
 pub data Who : Type 0 where

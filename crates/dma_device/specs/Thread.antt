@@ -7,10 +7,10 @@ use Rattle.dma_chan.specs.declared.bus.BusWidth.{BusWidth}
 use Rattle.dma_chan.specs.declared.bus.Bus.TheVariants.{Chip}
 use Rattle.dma_chan.specs.Bus.{fits}
 use Rattle.dma_chan.specs.Channel.{ahead_of, last_count, loaded_on, unloaded_on}
+use Rattle.dma_chan.specs.Exec.{fault_bit}
 use Rattle.dma_chan.specs.declared.turn.ChanTurn.{ChanTurn}
 use Rattle.dma_chan.specs.declared.turn.ChanTurn.TheVariants.{Moved, Waiting, Ended, Fault}
 use Rattle.dma_chan.specs.declared.turn.FaultKind.{FaultKind}
-use Rattle.dma_chan.specs.declared.turn.FaultKind.TheVariants.{UndefInstr, OperandInvalid, MfifoErr, StDataUnavailable, InstrFetchErr, DataWriteErr, DataReadErr}
 use Rattle.dma_device.specs.declared.thread.Status.{Status}
 use Rattle.dma_device.specs.declared.thread.Status.TheVariants.{Stopped, Executing, WaitingForEvent, Faulting}
 use Rattle.dma_device.specs.declared.thread.Thread.{Thread}
@@ -32,16 +32,6 @@ lockup_err = 2 ^ 31
 -- beside another bit: the instruction came from the debug registers
 abbrev pub dbg_instr : ℕ
 dbg_instr = 2 ^ 30
-
--- the bit of a channel's fault in FTR
-abbrev pub fault_bit : FaultKind → ℕ
-fault_bit UndefInstr = undef_instr
-fault_bit OperandInvalid = operand_invalid
-fault_bit MfifoErr = 2 ^ 12
-fault_bit StDataUnavailable = 2 ^ 13
-fault_bit InstrFetchErr = 2 ^ 16
-fault_bit DataWriteErr = 2 ^ 17
-fault_bit DataReadErr = 2 ^ 18
 
 -- ---- a thread
 
@@ -155,7 +145,7 @@ answer events t None signal = failed lockup_err t
 answer events t (Some Moved) signal = moved events t signal
 answer events t (Some (Waiting e)) signal = waited events t e
 answer events t (Some Ended) signal = record t { status = Stopped }
-answer events t (Some (Fault kind)) signal = failed (fault_bit kind) t
+answer events t (Some (Fault kind)) signal = failed (2 ^ fault_bit kind) t
 
 -- `answer`, with CPC the address of the next instruction
 abbrev pub answered : ℕ → Thread → Option ChanTurn → Option ℕ → Thread

@@ -1,6 +1,7 @@
 -- What a turn of a channel does.
-use Rattle.std.specs.Prelude.{◌≡◌, ℕ, ◌+◌, ◌*◌, Bool, false, not, ◌&&◌, ◌==◌, nat_lt, List, [], ◌∷◌, Option, Some, None, slice_get, bit_and, bit_or, if◌then◌else◌}
+use Rattle.std.specs.Prelude.{◌≡◌, ℕ, ◌+◌, ◌*◌, Bool, false, not, ◌&&◌, ◌==◌, nat_lt, List, [], ◌∷◌, Option, None, slice_get, bit_and, bit_or, if◌then◌else◌}
 use Rattle.std.specs.Int.{w32, bit_not}
+use Rattle.std.specs.Option.{option_map_or}
 use Rattle.dma_insn.specs.ControlWord.{flag}
 use Rattle.dma_mem.specs.Flags.{flags_of}
 use Rattle.dma_mem.specs.Marking.{MarkList}
@@ -11,7 +12,6 @@ use Rattle.dma_mem.specs.declared.segment.Segment.{Segment}
 use Rattle.dma_chan.specs.LentRegions.{AreKept, with_gaps_of}
 use Rattle.dma_chan.specs.Stepping.{Machine, after_steps, last_of, machine, more_after, signal_after, written_after}
 use Rattle.dma_chan.specs.Written.{adjoins, joined, range_at, store_ahead}
-use Rattle.dma_chan.specs.declared.turn.ChanTurn.{ChanTurn}
 use Rattle.dma_device.specs.declared.thread.Thread.{Thread}
 use Rattle.dma_device.specs.declared.device.turns.Called.{Called}
 use Rattle.dma_device.specs.declared.device.turns.Turn.{Turn}
@@ -37,36 +37,26 @@ with_flags flags d =
 
 -- whether a call that set the flag of this event, if any, raised an interrupt
 abbrev pub raises : DeviceValue → Option ℕ → Bool
-raises d None = false
-raises d (Some e) = is_interrupt d e
+raises d signal = option_map_or (is_interrupt d) signal false
 
 -- whether there is a thread that runs, and the range that its next instruction writes overlaps or touches this one, or
 -- one of them is empty
 abbrev pub is_beside : Segment → Option Thread → Bool
-is_beside range None = false
-is_beside range (Some t) = runs t && adjoins range (store_ahead t.channel)
-
--- whether one more step may follow a call of channel `n`: the call's last step raised an interrupt, and the next step
--- writes nothing, or in or beside the range that the call wrote (or the call wrote nothing)
-abbrev pub may_follow : DeviceValue → ℕ → Called → Bool
-may_follow d n called = raises d called.signal && is_beside called.written (slice_get d.threads n)
-
--- whether there is a thread, and it runs
-abbrev pub runs_if : Option Thread → Bool
-runs_if None = false
-runs_if (Some t) = runs t
+is_beside range thread = option_map_or (λ t. runs t && adjoins range (store_ahead t.channel)) thread false
 
 -- whether the device has thread `n`, and it runs
 abbrev pub runs_at : DeviceValue → ℕ → Bool
-runs_at d n = runs_if (slice_get d.threads n)
+runs_at d n = option_map_or runs (slice_get d.threads n) false
 
 -- whether the first call of a turn of at most `most` steps is made: channel `n` runs
 abbrev pub begins : DeviceValue → ℕ → ℕ → Bool
 begins d n most = nat_lt 0 most && runs_at d n
 
--- whether the second is made, after a first call that did this and left this device
+-- Whether the second call is made, after a first one that did this and left this device: the first call's last step
+-- raised an interrupt, channel `n` runs, and the range that its next instruction writes overlaps or touches the range
+-- that the first call wrote, or one of them is empty.
 abbrev pub follows : DeviceValue → ℕ → Called → Bool
-follows d n called = may_follow d n called && runs_at d n
+follows d n called = raises d called.signal && is_beside called.written (slice_get d.threads n)
 
 -- ---- a call
 
@@ -85,60 +75,34 @@ pub record Outcome : Type 0 where
   pub left : Setup
   pub called : Called
 
--- nothing was done
-abbrev pub nothing : Called
-nothing = record { written = range_at 0 0; signal = None }
-
 -- a call that does nothing
 abbrev pub idle : Setup → Outcome
-idle s = record { left = s; called = nothing }
+idle s = record { left = s; called = record { written = range_at 0 0; signal = None } }
 
 -- the channel of a thread, with the memory and the flags that it sees
 abbrev pub machine_in : Setup → Thread → Machine
 machine_in s t = machine t.channel s.image (flags_of (visible_events s.device))
 
--- the machine after this number of steps
-abbrev pub machine_after : MarkList → Setup → Thread → ℕ → Machine
-machine_after marks s t k = after_steps marks (machine_in s t) k
-
 -- the number of steps in a call of thread `t` of at most `most`
 abbrev pub steps_in : MarkList → ℕ → Thread → Setup → ℕ
 steps_in marks most t s = taken_in (more_after marks (machine_in s t)) most
-
--- the machine after them, the answer of the last one, and the event whose flag that set, if any
-abbrev pub machine_left : MarkList → ℕ → Thread → Setup → Machine
-machine_left marks most t s = machine_after marks s t (steps_in marks most t s)
-
-abbrev pub last_in : MarkList → ℕ → Thread → Setup → Option ChanTurn
-last_in marks most t s = last_of marks (machine_in s t) (steps_in marks most t s)
-
-abbrev pub signal_in : MarkList → ℕ → Thread → Setup → Option ℕ
-signal_in marks most t s = signal_after marks (machine_in s t) (steps_in marks most t s)
-
--- the thread after the call
-abbrev pub thread_left : MarkList → ℕ → Thread → Setup → Thread
-thread_left marks most t s =
-    let moved : Thread = record t { channel = (machine_left marks most t s).channel } in
-    answered s.device.config.events moved (last_in marks most t s) (signal_in marks most t s)
 
 -- A call of channel `n`, which is thread `t`, that executes at most `most` steps of the thread's program. A burst that
 -- meets one of these marks fails.
 abbrev pub stepped : MarkList → ℕ → ℕ → Thread → Setup → Outcome
 stepped marks n most t s =
-    let to = machine_left marks most t s in
-    let written = written_after marks (machine_in s t) (steps_in marks most t s) in
-    record {
-      left = record {
-        device = with_thread n (thread_left marks most t s) (with_flags (number_of to.flags) s.device);
-        image = to.image;
-      };
-      called = record { written = written; signal = signal_in marks most t s };
-    }
+    let k = steps_in marks most t s in
+    let to = after_steps marks (machine_in s t) k in
+    let signal = signal_after marks (machine_in s t) k in
+    let moved : Thread = record t { channel = to.channel } in
+    let thread = answered s.device.config.events moved (last_of marks (machine_in s t) k) signal in
+    let device = with_thread n thread (with_flags (number_of to.flags) s.device) in
+    let called : Called = record { written = written_after marks (machine_in s t) k; signal = signal } in
+    record { left = record { device = device; image = to.image }; called = called }
 
--- `stepped` for a thread that the device has
+-- `stepped`, or `idle` if there is no thread
 abbrev pub called : MarkList → ℕ → ℕ → Option Thread → Setup → Outcome
-called marks n most None s = idle s
-called marks n most (Some t) s = stepped marks n most t s
+called marks n most thread s = option_map_or (λ t. stepped marks n most t s) thread (idle s)
 
 -- a call of channel `n`, if it is made
 abbrev pub called_if : Bool → MarkList → ℕ → ℕ → Setup → Outcome
@@ -150,22 +114,14 @@ called_if made marks n most s = if made then called marks n most (slice_get s.de
 abbrev pub lines_differ : DeviceValue → DeviceValue → Bool
 lines_differ d e = not (irqs d == irqs e && flag (irq_abort d) == flag (irq_abort e))
 
--- the first call of a turn of at most `most` steps, if channel `n` runs
-abbrev pub first_call : MarkList → ℕ → ℕ → Setup → Outcome
-first_call marks n most s = called_if (begins s.device n most) marks n most s
-
--- one more step after the first call, if it may follow
-abbrev pub second_call : MarkList → ℕ → Outcome → Outcome
-second_call marks n first = called_if (follows first.left.device n first.called) marks n 1 first.left
-
 -- What a turn of channel `n` leaves and reports: a call of at most `most` steps, if it runs. If the call's last step
 -- raised an interrupt, one more step is taken, which mostly is the program's DMAEND, since a driver's interrupt handler
 -- expects its channel to be stopped. A store apart from the range that the call wrote is left to the next turn, so that
 -- one range has all that was written.
 abbrev pub turned : MarkList → ℕ → ℕ → Setup → Setup × Turn
 turned marks n most s =
-    let first = first_call marks n most s in
-    let second = second_call marks n first in
+    let first = called_if (begins s.device n most) marks n most s in
+    let second = called_if (follows first.left.device n first.called) marks n 1 first.left in
     let turn : Turn = record {
       written = joined first.called.written second.called.written;
       lines_changed = lines_differ s.device second.left.device;

@@ -4,32 +4,24 @@ ghost use Rattle.std.specs.Prelude.{◌≡◌, ◌↔◌, ◌<◌, ◌^◌, IsSo
 ghost use Rattle.dma_mem.specs.Regions.{pieces_of};
 ghost use Rattle.dma_device.specs.Device.{csr, program_at};
 ghost use Rattle.dma_device.specs.declared.thread.Status.{Status};
-ghost use Rattle.dma_device.specs.Thread.{IsSound, answer, answered, can_step, fault_bit, is_before_wait, is_faulting, is_signalled, is_stopped, killed, failed, moved, reset_thread, runs, started, status_bits, waited, waits_for};
+ghost use Rattle.dma_device.specs.Thread.{IsSound, answer, answered, can_step, is_before_wait, is_faulting, is_signalled, is_stopped, killed, failed, moved, reset_thread, runs, started, status_bits, waited, waits_for};
 
 use crate::config::BusWidth;
 use dma_chan::bus::Bus;
 use dma_chan::channel::Channel;
-use dma_chan::turn::{ChanTurn, FaultKind};
+use dma_chan::turn::ChanTurn;
 use dma_insn::insn::{Event, Insn};
 use dma_mem::regions::Region;
 use std::alloc::{AllocError, Global};
 
-/// Faults by their bits in FTRD and FTR (DMA-330 manual, fault type registers).
+/// Faults by their bits in FTRD and FTR (DMA-330 manual, fault type registers). Those of a channel's instructions have
+/// the bits of `FaultKind::bit`.
 pub const UNDEF_INSTR: u32 = 1 << 0;
 
 pub const OPERAND_INVALID: u32 = 1 << 1;
 
 pub const DMAGO_ERR: u32 = 1 << 4;
 
-pub const MFIFO_ERR: u32 = 1 << 12;
-
-pub const ST_DATA_UNAVAILABLE: u32 = 1 << 13;
-
-pub const INSTR_FETCH_ERR: u32 = 1 << 16;
-
-pub const DATA_WRITE_ERR: u32 = 1 << 17;
-
-pub const DATA_READ_ERR: u32 = 1 << 18;
 /// The instruction came from the debug registers.
 pub const DBG_INSTR: u32 = 1 << 30;
 
@@ -59,21 +51,6 @@ pub struct Thread {
     pub base: u32,
     /// CPC: the address of its next instruction.
     pub pc: u32,
-}
-
-// Returns the bit of a channel's fault in FTR.
-fn fault_bit(kind: FaultKind) -> u32
-    ensures { result ≡ fault_bit kind }
-{
-    match kind {
-        FaultKind::UndefInstr => UNDEF_INSTR,
-        FaultKind::OperandInvalid => OPERAND_INVALID,
-        FaultKind::MfifoErr => MFIFO_ERR,
-        FaultKind::StDataUnavailable => ST_DATA_UNAVAILABLE,
-        FaultKind::InstrFetchErr => INSTR_FETCH_ERR,
-        FaultKind::DataWriteErr => DATA_WRITE_ERR,
-        FaultKind::DataReadErr => DATA_READ_ERR,
-    }
 }
 
 // Returns whether an instruction is a DMAWFE of this event.
@@ -270,7 +247,7 @@ impl Thread {
             ChanTurn::Moved => self.go_on(events, signal),
             ChanTurn::Waiting(event) => self.wait(events, event),
             ChanTurn::Ended => self.status = Status::Stopped,
-            ChanTurn::Fault(kind) => self.fail(fault_bit(kind)),
+            ChanTurn::Fault(kind) => self.fail(1 << kind.bit()),
         }
     }
 

@@ -12,9 +12,9 @@ use Rattle.dma_engine.specs.declared.outcome.TransResult.{TransResult}
 use Rattle.dma_engine.specs.declared.outcome.TransResult.TheVariants.{Aborted}
 use Rattle.dma_engine.specs.Object.{Object, ChannelState, Allows, after, channel, empty_channel, with_channel, used, finished, last_cookie, aborted, IsBase, FrontIs, outcome_of, front_of, with_flag, with_front_laid}
 use Rattle.dma_engine.specs.History.{object_after, IsLegal}
-use Rattle.dma_engine.specs.Ticks.{Board, board_after, board_of, counts, counts_of, no_counts, ticks_of, added_up, status_by, status_of}
+use Rattle.dma_engine.specs.Ticks.{Board, Counts, board_after, board_of, counts, counts_of, no_counts, ticks_of, added_up, status_of}
 use Rattle.dma_engine.specs.declared.queue.Queue.{Queue}
-use Rattle.dma_engine.specs.Answer.{status_in}
+use Rattle.dma_engine.specs.Answer.{status_by, status_in}
 use Rattle.dma_engine.specs.View.{View, object_of}
 use Rattle.dma_engine.specs.inner.Holds.{Holds, Parts, view_of}
 use Rattle.dma_engine.proofs.Queues.{HoldsAt, front_where}
@@ -170,7 +170,7 @@ queue_small {p} {ch} at =
 pub status_by_board : (v : View) (ch cookie : ℕ) → AreCounted v.base → IsLegal v.base v.history → status_in v ch cookie ≡ status_of (board_after (board_of v.base) (ticks_of v.history)) ch cookie
 status_by_board v ch cookie counted legal =
     let is = board_is v.base v.history counted legal in
-    ap (λ x. status_by x cookie) (sym (counts_at (object_of v) ch))
+    ap (λ (x : Counts). status_by x.used x.finished cookie) (sym (counts_at (object_of v) ch))
     ∙ ap (λ b. status_of b ch cookie) (sym is)
 
 pub counted_at : (p : Parts) → Holds p → (ch : ℕ) → IsCounted (channel (object_of (view_of p)) ch)

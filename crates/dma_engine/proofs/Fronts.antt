@@ -2,6 +2,7 @@
 use Rattle.std.proofs.Common.{◌≡◌, ◌≢◌, ℕ, ◌+◌, ◌-◌, ◌<◌, ◌≤◌, List, [], ◌∷◌, take, drop, Option, Some, None, Bool, true, false, ◌&&◌, ◌||◌, zero, suc, refl, ap, sym, ◌∙◌, subst, arith, inl, inr}
 use Rattle.std.specs.Prelude.{is_some, nat_lt, ◌==◌, IfSome, IsSome, MatchOption}
 use Rattle.std.specs.List.{list_any}
+use Rattle.std.specs.Option.{option_map_or}
 use Rattle.std.proofs.lemmas.Bool.{cases_lt, eq-eqb, eqb-true, ne_eqb, lt-ltb, ltb-false, false≢true, true≢false, and_right}
 use Rattle.dma_insn.specs.declared.insn.Insn.TheVariants.{End, Sev, Wfe}
 use Rattle.dma_mem.specs.Marking.{MarkList, meets_mark}
@@ -17,8 +18,8 @@ use Rattle.dma_engine.specs.declared.outcome.TransResult.{TransResult}
 use Rattle.dma_engine.specs.declared.outcome.TransResult.TheVariants.{NoError, ReadFailed, WriteFailed, Aborted}
 use Rattle.dma_engine.specs.declared.queue.Queue.{Queue}
 use Rattle.dma_engine.specs.Object.{ChannelState, Allows, CanHaveStored, channel, front, issued_front, finished}
-use Rattle.dma_engine.specs.View.{View, Agrees, IsSound, channels, object_of, running_in, schedule_at, runs, ChannelSchedule, size}
-use Rattle.dma_engine.specs.Answer.{done_by, done_on}
+use Rattle.dma_engine.specs.View.{View, RunningTransfer, Agrees, IsSound, channels, object_of, running_in, schedule_at, runs, ChannelSchedule, size}
+use Rattle.dma_engine.specs.Answer.{done_on}
 use Rattle.dma_engine.specs.inner.Due.{Finishes}
 use Rattle.dma_engine.specs.inner.Holds.{Parts, view_of, IsRun}
 use Rattle.dma_chan.specs.Channel.{ChannelValue}
@@ -27,6 +28,10 @@ use Rattle.dma_chan.specs.Programs.{ProgramValue}
 use Rattle.dma_engine.proofs.Queues.{HoldsAt, front_where, runs_at, runs_front, taken_some}
 use Rattle.dma_engine.proofs.TransferRules.{ruled_front}
 use Rattle.dma_engine.specs.declared.turn.Turn.TheVariants.{Finished}
+
+-- how many bytes a running transfer has stored, or 0 if nothing runs
+abbrev pub done_by : Option RunningTransfer → ℕ
+done_by found = option_map_or (λ r. stored_after r.transfer r.taken) found 0
 
 -- ---- truth values and marks
 

@@ -24,7 +24,7 @@ use Rattle.dma_engine.specs.Object.{ChannelState, channel, front, issued_front, 
 use Rattle.dma_engine.specs.View.{View, ChannelSchedule, RunningTransfer, IsSound, runs, running_in, object_of, size, channels, memory_shown}
 use Rattle.dma_engine.specs.Turn.{front_cookie, first_conflicting, start_turn, with_entry, with_step, with_taken, turn, Stepped}
 use Rattle.dma_engine.specs.inner.Accesses.{named}
-use Rattle.dma_engine.specs.Answer.{CallAnswers, is_started, done_on, done_by, terminated}
+use Rattle.dma_engine.specs.Answer.{CallAnswers, is_started, done_on, terminated}
 use Rattle.dma_engine.specs.inner.Due.{MayStart, Finishes, IsDue, front_with_cookie}
 use Rattle.dma_engine.specs.declared.access.Ranges.{Ranges}
 use Rattle.dma_engine.specs.inner.Ranges.{AreOfRunning, HasRangesOf}
@@ -48,7 +48,7 @@ use Rattle.dma_mem.specs.Meeting.{IsFree}
 use Rattle.dma_engine.specs.declared.outcome.TransResult.TheVariants.{Aborted}
 use Rattle.dma_engine.proofs.QueueCalls.{shown_both}
 use Rattle.dma_engine.proofs.WhatRuns.{running_same, below, above}
-use Rattle.dma_engine.proofs.Fronts.{Runs, running}
+use Rattle.dma_engine.proofs.Fronts.{Runs, done_by, running}
 
 -- ---- the front that starts
 

@@ -1,6 +1,6 @@
 -- The answer to each call.
 use Rattle.std.specs.Prelude.{◌≡◌, ◌≤◌, ◌⊎◌, ℕ, ◌+◌, ◌-◌, if◌then◌else◌, ◌==◌, ◌||◌, Bool, true, false, nat_lt, nat_le, not, is_none, Option, Some, None, Result, Ok, Err, List, [], ◌∷◌, ◌++◌, length, take, drop, slice_get, slice_set, find}
-use Rattle.std.specs.Option.{option_map}
+use Rattle.std.specs.Option.{option_map, option_map_or}
 use Rattle.dma_mem.specs.Limits.{last_event}
 use Rattle.dma_mem.specs.Places.{Descriptor, end_of_addresses, touches, writes, lies_below}
 use Rattle.dma_mem.specs.declared.segment.Segment.{Segment}
@@ -12,16 +12,16 @@ use Rattle.dma_mem.specs.declared.call.Call.TheVariants.{Write, Read, Submit, Is
 use Rattle.dma_engine.specs.declared.call.Reply.{Reply}
 use Rattle.dma_engine.specs.declared.call.Reply.TheVariants.{Done, Bytes, Cookie, Count, Turned, State, Result as Resulted, Refused}
 use Rattle.dma_engine.specs.declared.turn.Status.{Status as EngineStatus}
+use Rattle.dma_engine.specs.declared.turn.Status.TheVariants.{Unknown, InProgress, Complete}
 use Rattle.dma_engine.specs.declared.turn.Turn.{Turn}
 use Rattle.dma_engine.specs.declared.turn.Turn.TheVariants.{Started}
 use Rattle.dma_engine.specs.declared.fault.EngineFault.{EngineFault}
 use Rattle.dma_engine.specs.declared.fault.EngineFault.TheVariants.{OutOfMemoryRange, Busy, Running, NoChannel, CookiesSpent, BadEvent, BadRange, NoMemory}
 use Rattle.dma_engine.specs.declared.fault.SubmitFault.{SubmitFault}
 use Rattle.dma_engine.specs.declared.outcome.Outcome.{Outcome}
-use Rattle.dma_engine.specs.Object.{Object, base_from, channel, used, unfinished, last_cookie}
+use Rattle.dma_engine.specs.Object.{Object, base_from, channel, used, finished, unfinished, last_cookie}
 use Rattle.dma_chan.specs.Traffic.{stored_after}
 use Rattle.dma_engine.specs.View.{View, RunningTransfer, object_of, schedule_at, size, channels, idle, runs, running}
-use Rattle.dma_engine.specs.Ticks.{counts_of, status_by}
 use Rattle.dma_engine.specs.Turn.{with_entry, turn}
 
 -- ---- the first cause of a refusal, if any
@@ -32,8 +32,7 @@ cause holds fault others = if holds then Some fault else others
 
 -- the fault that names a running transfer by its channel and cookie, if any
 abbrev pub busy : Option RunningTransfer → Option EngineFault
-busy None = None
-busy (Some r) = Some (Busy r.ch r.cookie)
+busy found = option_map (λ r. Busy r.ch r.cookie) found
 
 -- the first running transfer, from the lowest channel on, that satisfies a test
 abbrev pub first_running : View → (Descriptor → Bool) → Option RunningTransfer
@@ -89,17 +88,11 @@ checkpointed v = record v { base = base_from (object_of v); history = [] }
 
 -- the view with a channel's pause set or ended
 abbrev pub with_pause : View → ℕ → Bool → View
-with_pause v ch paused =
-    record v { schedule = slice_set v.schedule ch (record (schedule_at v ch) { paused = paused }) }
-
--- how many bytes a running transfer has stored, or 0 if nothing runs
-abbrev pub done_by : Option RunningTransfer → ℕ
-done_by None = 0
-done_by (Some r) = stored_after r.transfer r.taken
+with_pause v ch paused = record v { schedule = slice_set v.schedule ch (record (schedule_at v ch) { paused = paused }) }
 
 -- how many bytes the front of a channel has stored, or 0 if nothing runs on it
 abbrev pub done_on : View → ℕ → ℕ
-done_on v ch = done_by (runs (object_of v) v.schedule ch)
+done_on v ch = option_map_or (λ r. stored_after r.transfer r.taken) (runs (object_of v) v.schedule ch) 0
 
 -- the view after a terminate: all unfinished cookies are aborted, and the channel neither runs nor is paused
 abbrev pub terminated : View → ℕ → View
@@ -108,9 +101,16 @@ terminated v ch =
       schedule = slice_set v.schedule ch idle;
     }
 
+-- The status of a cookie (profile) of a channel that has given `used` cookies and finished `finished`: Unknown for 0 and
+-- above `used`, else Complete up to `finished`, else InProgress.
+abbrev pub status_by : ℕ → ℕ → ℕ → EngineStatus
+status_by used finished cookie =
+    if cookie == 0 || nat_lt used cookie then Unknown
+    else (if nat_le cookie finished then Complete else InProgress)
+
 -- the status of a cookie
 abbrev pub status_in : View → ℕ → ℕ → EngineStatus
-status_in v ch cookie = status_by (counts_of (channel (object_of v) ch)) cookie
+status_in v ch cookie = let c = channel (object_of v) ch in status_by (used c) (finished c) cookie
 
 -- how a cookie finished, or None if it hasn't finished or is forgotten
 abbrev pub result_of : Object → ℕ → ℕ → Option Outcome
@@ -146,8 +146,7 @@ submit_reply (Err refused) = Refused refused.fault
 
 -- the answer to a call with this fault, if any: a refusal doesn't change the view
 abbrev pub unless : Option EngineFault → View → Reply × View → Reply × View
-unless (Some fault) v accepted = (Refused fault, v)
-unless None v accepted = accepted
+unless found v accepted = option_map_or (λ fault. (Refused fault, v)) found accepted
 
 -- The answer to a call when memory doesn't run out, and the view after it. An accepted call adds its entry to the end
 -- of the history, or none; a checkpoint empties the history.
@@ -164,8 +163,7 @@ answer v (Issue ch) =
     unless (channel_fault v ch) v (Count (used c - c.issued), with_entry v (Issued ch))
 answer v (Pause ch) = unless (channel_fault v ch) v (Done, with_pause v ch true)
 answer v (Resume ch) = unless (channel_fault v ch) v (Done, with_pause v ch false)
-answer v (Terminate ch) =
-    unless (channel_fault v ch) v (Count (unfinished (channel (object_of v) ch)), terminated v ch)
+answer v (Terminate ch) = unless (channel_fault v ch) v (Count (unfinished (channel (object_of v) ch)), terminated v ch)
 answer v (Step ch) = (reply_of Turned (turn v ch).0, (turn v ch).1)
 answer v (Status ch cookie) = (State (status_in v ch cookie), v)
 answer v (ResultOf ch cookie) = (Resulted (result_of (object_of v) ch cookie), v)
@@ -239,7 +237,4 @@ Remembers old new =
 -- the replies to calls in order, and the view after them, when memory doesn't run out
 abbrev pub answers : View → List Call → List Reply × View
 answers v [] = ([], v)
-answers v (call ∷ calls) =
-    let first = answer v call in
-    let rest = answers first.1 calls in
-    (first.0 ∷ rest.0, rest.1)
+answers v (call ∷ calls) = let rest = answers (answer v call).1 calls in ((answer v call).0 ∷ rest.0, rest.1)

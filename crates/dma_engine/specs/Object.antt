@@ -222,8 +222,7 @@ after o (Signalled (Channel ch) event) =
 after o (Signalled Host event) = with_flag o event true
 after o (Finished ch result done) =
     with_channel (with_front_laid o ch done) ch (with_outcome (channel o ch) result done)
-after o (Terminated ch done count) =
-    with_channel (with_front_laid o ch done) ch (with_all_aborted (channel o ch) done)
+after o (Terminated ch done count) = with_channel (with_front_laid o ch done) ch (with_all_aborted (channel o ch) done)
 after o (Marked kind segment) = record o { marks = o.marks ++ (kind, segment) ∷ [] }
 after o Unmarked = record o { marks = [] }
 

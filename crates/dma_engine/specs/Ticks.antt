@@ -1,9 +1,9 @@
 -- The changes that readers of the status see.
-use Rattle.std.specs.Prelude.{ℕ, ◌+◌, if◌then◌else◌, ◌==◌, ◌||◌, nat_lt, nat_le, min, List, [], ◌∷◌, map, slice_index_or, slice_set}
+use Rattle.std.specs.Prelude.{ℕ, ◌+◌, min, List, [], ◌∷◌, map, slice_index_or, slice_set}
 use Rattle.dma_engine.specs.declared.entry.Entry.{Entry}
 use Rattle.dma_engine.specs.declared.entry.Entry.TheVariants.{Submitted as EntrySubmitted, Finished as EntryFinished, Terminated}
 use Rattle.dma_engine.specs.declared.turn.Status.{Status}
-use Rattle.dma_engine.specs.declared.turn.Status.TheVariants.{Unknown, InProgress, Complete}
+use Rattle.dma_engine.specs.Answer.{status_by}
 use Rattle.dma_engine.specs.Object.{Object, ChannelState, used, finished}
 
 -- A channel gave a cookie, or `count` of its cookies finished.
@@ -47,8 +47,7 @@ added_up n by = min (n + by) 4294967295
 
 -- the board after one tick
 abbrev pub ticked : Board → Tick → Board
-ticked board (Submitted ch) =
-    slice_set board ch (record (counts board ch) { used = added_up (counts board ch).used 1 })
+ticked board (Submitted ch) = slice_set board ch (record (counts board ch) { used = added_up (counts board ch).used 1 })
 ticked board (Finished ch count) =
     slice_set board ch (record (counts board ch) { finished = added_up (counts board ch).finished count })
 
@@ -65,13 +64,6 @@ counts_of c = record { used = used c; finished = finished c }
 abbrev pub board_of : Object → Board
 board_of o = map counts_of o.channels
 
--- The status of a cookie (profile) of a channel with these counts: Unknown if it is 0 or above the cookies that were
--- given, Complete if it is finished, else InProgress.
-abbrev pub status_by : Counts → ℕ → Status
-status_by c cookie =
-    if cookie == 0 || nat_lt c.used cookie then Unknown
-    else (if nat_le cookie c.finished then Complete else InProgress)
-
 -- the status of a cookie by a board
 abbrev pub status_of : Board → ℕ → ℕ → Status
-status_of board ch cookie = status_by (counts board ch) cookie
+status_of board ch cookie = status_by (counts board ch).used (counts board ch).finished cookie

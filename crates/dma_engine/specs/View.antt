@@ -137,8 +137,7 @@ new_fault bytes many =
 
 -- the view of a new engine
 abbrev pub new_view : ℕ → ℕ → View
-new_view bytes many =
-    record { base = opening bytes many; history = []; steps = 0; schedule = replicate many idle }
+new_view bytes many = record { base = opening bytes many; history = []; steps = 0; schedule = replicate many idle }
 
 -- A view is sound: its base can be one, with the size and the number of channels of an engine that can be made; the
 -- history is legal from it; and the schedule fits the object after it.

@@ -63,11 +63,11 @@ pub enum Status {
 }
 
 impl Status {
-    ghost use Rattle.dma_engine.specs.Ticks.{status_by};
+    ghost use Rattle.dma_engine.specs.Answer.{status_by};
 
     /// Returns the status of a cookie of a channel that has given and finished this many.
     pub fn of(used: u32, finished: u32, cookie: u32) -> Status
-        ensures { result ≡ status_by (record { used = used; finished = finished }) cookie }
+        ensures { result ≡ status_by used finished cookie }
     {
         if cookie == 0 || used < cookie {
             Status::Unknown

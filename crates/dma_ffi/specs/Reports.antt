@@ -26,8 +26,7 @@ conflict_of _ before = before
 
 -- a report of `taken` steps with this turn number; all other fields are 0
 abbrev pub did : ℕ → ℕ → DmaReport
-did taken turn =
-    record { taken = taken; turn = turn; channel = 0; cookie = 0; event = 0; result = 0; residue = 0 }
+did taken turn = record { taken = taken; turn = turn; channel = 0; cookie = 0; event = 0; result = 0; residue = 0 }
 
 -- the report of `taken` steps and of the turn of the last one, if any; fields that don't belong to this turn are 0
 abbrev pub report_of : ℕ → Option Turn → DmaReport

@@ -159,9 +159,7 @@ code_of (replied reply) = reply_code reply
 code_of (unfit fault) = transfer_code fault
 code_of no_kind = bad_kind
 code_of (known (runs None)) = not_running
-code_of (known (runs (Some running))) = ok_code
-code_of (stepped taken last) = ok_code
-code_of (known (numbered number)) = ok_code
+code_of _ = ok_code
 
 -- What a call writes: the values of its output arguments before and after the call.
 pub data Written : Type 0 where

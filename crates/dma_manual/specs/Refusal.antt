@@ -11,7 +11,7 @@ use Rattle.dma_manual.specs.declared.hexadecimal.Notation.TheVariants.{Pairs, Wo
 abbrev pub pair_message : ℕ → List ℕ
 pair_message b =
     if is_digit b
-    then codes " is a third digit after 0x: --hex reads one byte for each number, --words 32-bit words; an address has at least four digits and a colon\n"
+    then codes " is a third digit: a byte has two, an address at least four and a colon; --words reads 32-bit words\n"
     else codes " is not a hexadecimal digit here\n"
 
 -- What is wrong with a byte of a text of words. A digit is refused only behind a whole word, a gap only within one.
@@ -24,7 +24,7 @@ word_message b =
 -- what is wrong with a byte of a text; a colon ends an address, a vertical bar and a full stop are of a dump's text
 abbrev pub byte_message : Notation → ℕ → List ℕ
 byte_message notation b =
-    if b == 58 then codes " is a colon that follows no address: an address begins its line and has at least four digits\n" else (
+    if b == 58 then codes " ends no address: an address begins its line and has at least four digits\n" else (
     if b == 124 || b == 46 then codes " looks like part of a dump's text column: remove that column\n"
     else in_notation notation b)
   where

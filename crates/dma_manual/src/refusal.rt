@@ -14,7 +14,7 @@ fn pair_message(byte: u8) -> &'static str
     ensures { result.now ≡ pair_message byte }
 {
     if is_digit(byte) {
-        " is a third digit after 0x: --hex reads one byte for each number, --words 32-bit words; an address has at least four digits and a colon\n"
+        " is a third digit: a byte has two, an address at least four and a colon; --words reads 32-bit words\n"
     } else {
         " is not a hexadecimal digit here\n"
     }
@@ -38,7 +38,7 @@ fn byte_message(notation: Notation, byte: u8) -> &'static str
     ensures { result.now ≡ byte_message notation byte }
 {
     if byte == b':' {
-        return " is a colon that follows no address: an address begins its line and has at least four digits\n";
+        return " ends no address: an address begins its line and has at least four digits\n";
     }
     if matches!(byte, b'|' | b'.') {
         return " looks like part of a dump's text column: remove that column\n";

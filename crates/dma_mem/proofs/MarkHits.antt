@@ -26,11 +26,11 @@ list_any_of p xs a i h = list_any_at p xs i.0 a i.1 (ap p i.2 ∙ h)
 -- ---- segments
 
 -- an address is among those of a segment where it lies in it
-pub in_segment : (a : ℕ) (s : Segment) → Contains (range_of s) a → lies_in a s ≡ true
-in_segment a s i = let w = range_in s.addr s.len a i in rw (le-leb s.addr a w.0) (lt-ltb a (s.addr + s.len) w.1)
+pub lies_in_from_contains : (a : ℕ) (s : Segment) → Contains (range_of s) a → lies_in a s ≡ true
+lies_in_from_contains a s i = let w = range_in s.addr s.len a i in rw (le-leb s.addr a w.0) (lt-ltb a (s.addr + s.len) w.1)
 
-pub segment_in : (a : ℕ) (s : Segment) → lies_in a s ≡ true → Contains (range_of s) a
-segment_in a s h = let w = and_parts (nat_le s.addr a) (nat_lt a (s.addr + s.len)) h in in_range s.addr s.len a (leb-true s.addr a w.0) (ltb-true a (s.addr + s.len) w.1)
+pub contains_from_lies_in : (a : ℕ) (s : Segment) → lies_in a s ≡ true → Contains (range_of s) a
+contains_from_lies_in a s h = let w = and_parts (nat_le s.addr a) (nat_lt a (s.addr + s.len)) h in in_range s.addr s.len a (leb-true s.addr a w.0) (ltb-true a (s.addr + s.len) w.1)
 
 -- ---- marks
 
@@ -43,12 +43,12 @@ hits_addresses kind marks s =
     let parts = and_parts _ _ m.4 in
     let w = shared_by _ _ parts.1 in
     list_any_of (is_marked kind marks) (range_of s) w.0 w.2
-    (list_any-from_Any (λ x. same_kind kind x.0 && lies_in w.0 x.1) marks (m.0, m.1, m.2, m.3, and_from _ _ parts.0 (in_segment w.0 m.1.1 w.1))))
+    (list_any-from_Any (λ x. same_kind kind x.0 && lies_in w.0 x.1) marks (m.0, m.1, m.2, m.3, and_from _ _ parts.0 (lies_in_from_contains w.0 m.1.1 w.1))))
     (λ h.
     let w = Any-from_list_any (is_marked kind marks) (range_of s) h in
     let m = Any-from_list_any (λ x. same_kind kind x.0 && lies_in w.1 x.1) marks w.4 in
     let parts = and_parts _ _ m.4 in
-    list_any-from_Any (λ m. same_kind kind m.0 && meets m.1 s) marks (m.0, m.1, m.2, m.3, and_from _ _ parts.0 (share_true _ _ w.1 (segment_in w.1 m.1.1 parts.1) (w.0, w.2, w.3))))
+    list_any-from_Any (λ m. same_kind kind m.0 && meets m.1 s) marks (m.0, m.1, m.2, m.3, and_from _ _ parts.0 (share_true _ _ w.1 (contains_from_lies_in w.1 m.1.1 parts.1) (w.0, w.2, w.3))))
 
 -- ---- ranges that have the addresses of marks
 
@@ -69,11 +69,11 @@ ranges_more kind marks old new s h o more = record {
       let is = is_marked_more kind kind marks s a ∙ ap (λ b. is_marked kind marks a || (b && lies_in a s)) (same_kind_refl kind) in (
         λ i. elim ((more a).0 i) [
           | inl before ↦ is ∙ ap (λ b. b || lies_in a s) ((h.same a).0 before)
-          | inr here ↦ is ∙ or_right (is_marked kind marks a) (lies_in a s) (in_segment a s here)
+          | inr here ↦ is ∙ or_right (is_marked kind marks a) (lies_in a s) (lies_in_from_contains a s here)
         ],
         λ m. elim (or_cases (is_marked kind marks a) (lies_in a s) (sym is ∙ m)) [
           | inl before ↦ (more a).1 (inl ((h.same a).1 before))
-          | inr here ↦ (more a).1 (inr (segment_in a s here))
+          | inr here ↦ (more a).1 (inr (contains_from_lies_in a s here))
         ],
       );
 }

@@ -16,7 +16,7 @@ use Rattle.dma_mem.specs.Refusals.{some_meet, meets_any, overlap_of, cause}
 use Rattle.std.specs.Bool.{then_some}
 use Rattle.dma_mem.specs.declared.transfer.TransferFault.TheVariants.{DestinationsMeet, SourceMeetsDestination}
 use Rattle.dma_mem.proofs.SharedPlaces.{ranges_apart, ranges_meet, share_false, shared_by, share_right, share_each}
-use Rattle.dma_mem.proofs.MarkHits.{in_segment, segment_in}
+use Rattle.dma_mem.proofs.MarkHits.{lies_in_from_contains, contains_from_lies_in}
 use Rattle.dma_mem.proofs.TransferRules.{All_from_none, meets_any_places}
 use Rattle.dma_mem.proofs.RangeSets.{nowhere, same_permuted}
 use Rattle.std.proofs.lemmas.List.Sums.{sum_by-cons, sum_by-le, get_or-le-sum_by}
@@ -54,7 +54,7 @@ few_have (s ∷ rest) a h =
     let both = sum_by-cons (has_it a) s rest in
     elim (cases_Bool (lies_in a s)) [
       | inl here ↦
-          let none : All (λ t. has_it a t ≤ 0) rest = λ k d l. rw (false_from_ne_true _ (λ e. share_false _ _ (All_from_none (meets s) rest parts.0 k d l) a (segment_in a s here) (segment_in a (get_or rest k d) e))) (omega arith) in
+          let none : All (λ t. has_it a t ≤ 0) rest = λ k d l. rw (false_from_ne_true _ (λ e. share_false _ _ (All_from_none (meets s) rest parts.0 k d l) a (contains_from_lies_in a s here) (contains_from_lies_in a (get_or rest k d) e))) (omega arith) in
           omega (arith, both, sum_by-le (has_it a) 0 rest none, ap {B = ℕ} (λ b. cond b 1 0) here)
       | inr out ↦ omega (arith, both, few_have rest a parts.1, ap {B = ℕ} (λ b. cond b 1 0) out)
     ]
@@ -65,8 +65,8 @@ none_meet_few (s ∷ rest) h =
     or_from _ _
     (list_any_none (meets s) rest (λ k d l. false_from_ne_true _ (λ e.
     let w = shared_by _ _ e in
-    let one = ap {B = ℕ} (λ b. cond b 1 0) (in_segment w.0 s w.1) in
-    let two = ap {B = ℕ} (λ b. cond b 1 0) (in_segment w.0 (get_or rest k d) w.2) in
+    let one = ap {B = ℕ} (λ b. cond b 1 0) (lies_in_from_contains w.0 s w.1) in
+    let two = ap {B = ℕ} (λ b. cond b 1 0) (lies_in_from_contains w.0 (get_or rest k d) w.2) in
     omega (arith, h w.0, sum_by-cons (has_it w.0) s rest, get_or-le-sum_by (has_it w.0) rest k d l, one, two))))
     (none_meet_few rest (λ a. omega (arith, h a, sum_by-cons (has_it a) s rest)))
 

@@ -13,8 +13,7 @@ MarkList = List (MarkKind × Segment)
 abbrev pub same_kind : MarkKind → MarkKind → Bool
 same_kind Reading Reading = true
 same_kind Writing Writing = true
-same_kind Reading Writing = false
-same_kind Writing Reading = false
+same_kind kind other = false
 
 -- whether an address lies in a segment
 abbrev pub lies_in : ℕ → Segment → Bool

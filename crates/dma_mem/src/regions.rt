@@ -108,8 +108,8 @@ fn bytes_from<'a>(regions: &'a [Region<'_>], addr: u32) -> &'a [u8]
     regions[index].rest_from(u64::from(addr))
 }
 
-/// Replaces the bytes of a list that has room for `most` by those from an address up to the first address that no
-/// region has, at most `most`. Each of them is copied once, and nothing is allocated.
+/// Replaces the bytes of a list by those from an address up to the first address that no region has, at most `most`.
+/// The list must have room for `most` bytes. Nothing is allocated, and each byte is copied once.
 pub fn copy_run(regions: &[Region<'_>], addr: u32, most: usize, bytes: &mut Vec<u8>)
     requires { most ≤ vec_capacity bytes.old }
     ensures run { bytes.new.items ≡ take most (run_from (pieces_of regions.now) addr) }

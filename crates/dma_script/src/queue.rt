@@ -57,7 +57,7 @@ impl Model for Statements {
     ghost invariant = { λ s. IsWhole s.lines.items s.bytes.items s.long.items };
 }
 
-/// Returns the line of a statement that needs no other list, or `None` for any other statement.
+/// Returns the line of a statement that needs nothing from `bytes` or `long`, or `None` for any other statement.
 #[inline(always)]
 fn short_line(statement: &Statement) -> Option<Line>
     ensures is { IfSome result (λ line. statements_in (line ∷ []) [] [] ≡ statement.now ∷ []) }
@@ -158,8 +158,8 @@ impl<'a> Model for Left<'a> {
     ghost invariant = { λ s. IsWhole s.lines.now (into_iter_items s.bytes) (into_iter_items s.long) };
 }
 
-/// Runs the statement of a line that needs no other list. Each kind of line calls the interpreter itself, so that only
-/// the code for this kind follows.
+/// Runs a line that needs nothing from `bytes` or `long`. Each arm calls the interpreter itself, so that the compiler
+/// inlines only what a line of this kind needs.
 #[inline(always)]
 fn run_short<I: Interpreter<Line = Statement>>(
     line: Line,

@@ -1,5 +1,5 @@
 -- What `explain` prints (profile).
-use Rattle.std.specs.Prelude.{◌≡◌, ℕ, ◌++◌, ◌<◌, ◌⊎◌, Bool, true, false, List, [], length, flat_map, slice_get, if◌then◌else◌, codes, decimal}
+use Rattle.std.specs.Prelude.{◌≡◌, ℕ, ◌-◌, ◌++◌, ◌<◌, ◌⊎◌, Bool, true, false, List, [], length, flat_map, slice_get, if◌then◌else◌, codes, decimal}
 use Rattle.dma_mem.specs.declared.segment.Segment.{Segment}
 use Rattle.dma_insn.specs.AssemblyText.{most_program_bytes}
 use Rattle.dma_chan.specs.declared.bus.Bus.{Bus}
@@ -10,7 +10,7 @@ use Rattle.dma_chan.specs.declared.explain.Repeated.{Repeated}
 use Rattle.dma_chan.specs.declared.explain.Sync.{Sync}
 use Rattle.dma_chan.specs.declared.explain.Sync.TheVariants.{Waits, Signals}
 use Rattle.dma_chan.specs.declared.explain.Unexplained.{Unexplained}
-use Rattle.dma_chan.specs.Explains.{Finds, Refuses, next_in, traced}
+use Rattle.dma_chan.specs.Explains.{Finds, Refuses, bursts_in, next_in, traced}
 use Rattle.dma_trace.specs.Front.{front_at}
 use Rattle.dma_trace.specs.Touches.{conflict_text, touches_in}
 use Rattle.dma_trace.specs.Words.{bytes_text, cause_text, count_text, line_feed, long_text, range_text, refusal_text}
@@ -57,10 +57,11 @@ unexplained_text bus program u =
     let why = cause_text u.cause first next u.steps (front_at x) ++ conflict_text u.cause u.addr touches in
     refusal_text why first next u.steps (front_at x) u.stored
 
--- `explain` prints what it finds of a program on a bus with a limit of instructions.
+-- `explain` prints what it finds of a program on a bus with a limit of instructions, with the counts of its bursts.
 pub record PrintsCopy (bus : Bus) (program : List ℕ) (most : ℕ) (printed : List ℕ) : Type 0 where
   pub explained : Explained
   pub finds : Finds bus program most explained
+  pub bursts : explained.bursts ≡ bursts_in bus program (explained.steps - 1)
   pub text : printed ≡ explained_text explained
 
 -- It prints why and where there is no copy.

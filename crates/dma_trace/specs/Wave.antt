@@ -13,7 +13,8 @@ use Rattle.dma_trace.specs.declared.front.Front.{Front}
 use Rattle.dma_trace.specs.declared.wave.Moment.{Moment}
 use Rattle.dma_trace.specs.Front.{registers_of}
 use Rattle.dma_trace.specs.Vcd.{signal_line}
-use Rattle.dma_trace.specs.Words.{fault_bit, line_feed}
+use Rattle.dma_chan.specs.Exec.{fault_bit}
+use Rattle.dma_trace.specs.Words.{line_feed}
 
 -- ---- values
 

@@ -14,7 +14,7 @@ use Rattle.dma_chan.specs.declared.turn.FaultKind.{FaultKind}
 use Rattle.dma_chan.specs.declared.turn.FaultKind.TheVariants.{UndefInstr, OperandInvalid, MfifoErr, StDataUnavailable, InstrFetchErr, DataWriteErr, DataReadErr}
 use Rattle.dma_chan.specs.Bursts.{burst_len}
 use Rattle.dma_chan.specs.Bus.{fits, widest_beat}
-use Rattle.dma_chan.specs.Exec.{destination_of, source_of}
+use Rattle.dma_chan.specs.Exec.{destination_of, fault_bit, source_of}
 use Rattle.dma_trace.specs.declared.front.Front.{Front}
 use Rattle.dma_trace.specs.declared.front.Span.{Span}
 use Rattle.dma_trace.specs.Front.{registers_of, span_at}
@@ -90,16 +90,6 @@ fault_name StDataUnavailable = codes "st_data_unavailable"
 fault_name InstrFetchErr = codes "instr_fetch_err"
 fault_name DataWriteErr = codes "data_write_err"
 fault_name DataReadErr = codes "data_read_err"
-
--- its bit in FTR (DMA-330 manual, fault type DMA channel registers)
-abbrev pub fault_bit : FaultKind → ℕ
-fault_bit UndefInstr = 0
-fault_bit OperandInvalid = 1
-fault_bit MfifoErr = 12
-fault_bit StDataUnavailable = 13
-fault_bit InstrFetchErr = 16
-fault_bit DataWriteErr = 17
-fault_bit DataReadErr = 18
 
 -- why a control word isn't accepted on a bus
 abbrev pub control_words : Bus → ℕ → List ℕ

@@ -10,7 +10,7 @@ ghost use Rattle.dma_trace.specs.Wave.{bursts_text, change_text, event_of, event
 use crate::front::Front;
 use crate::options::TraceOptions;
 use crate::vcd::SignalLine;
-use crate::words::{Point, fault_bit};
+use crate::words::Point;
 use dma_chan::channel::Channel;
 use dma_chan::turn::{ChanTurn, FaultKind};
 use dma_insn::insn::Insn;
@@ -41,7 +41,7 @@ fn ftr_of(answer: &Option<ChanTurn>) -> u32
     ensures { result ≡ ftr_of answer.now }
 {
     match *answer {
-        Some(ChanTurn::Fault(kind)) => 1 << fault_bit(kind),
+        Some(ChanTurn::Fault(kind)) => 1 << kind.bit(),
         _ => 0,
     }
 }

@@ -5,7 +5,7 @@ ghost use Rattle.std.specs.Prelude.{◌≡◌, ◌<◌, ◌++◌, OnOk, Result, 
 ghost use Rattle.std.specs.Option.{option_map};
 ghost use Rattle.dma_chan.specs.declared.turn.FaultKind.{FaultKind};
 ghost use Rattle.dma_text.specs.Text.{Begins};
-ghost use Rattle.dma_trace.specs.Words.{cause_text, chip_only_at, control_text, control_words, end_text, fault_bit, fault_name, fault_text, fault_words, fetch_words, front_text, long_text, next_text, operand_words, place_text, refused_words, state_text, undefined_words};
+ghost use Rattle.dma_trace.specs.Words.{cause_text, chip_only_at, control_text, control_words, end_text, fault_name, fault_text, fault_words, fetch_words, front_text, long_text, next_text, operand_words, place_text, refused_words, state_text, undefined_words};
 
 use crate::amounts::{Bytes, Instructions, Offset};
 use crate::front::Front;
@@ -139,22 +139,6 @@ fn fault_name(kind: FaultKind) -> &'static str
     }
 }
 
-/// Returns a fault's bit in FTR.
-pub fn fault_bit(kind: FaultKind) -> u32
-    ensures value { result ≡ fault_bit kind }
-    ensures range { fault_bit kind < 32 }
-{
-    match kind {
-        FaultKind::UndefInstr => 0,
-        FaultKind::OperandInvalid => 1,
-        FaultKind::MfifoErr => 12,
-        FaultKind::StDataUnavailable => 13,
-        FaultKind::InstrFetchErr => 16,
-        FaultKind::DataWriteErr => 17,
-        FaultKind::DataReadErr => 18,
-    }
-}
-
 // Appends why a control word isn't accepted.
 fn push_control(bus: Bus, bits: u32, out: &mut Vec<u8>) -> Result<(), AllocError>
     ensures ok { OnOk result (out.new.items ≡ out.old.items ++ control_words bus bits) }
@@ -264,7 +248,7 @@ impl Text for Failure<'_> {
     fn push(&self, out: &mut Vec<u8>) -> Result<(), AllocError> {
         (
             fault_name(self.kind),
-            (" (FTR bit ", fault_bit(self.kind)),
+            (" (FTR bit ", self.kind.bit()),
             "): ",
         )
             .push(out)?;

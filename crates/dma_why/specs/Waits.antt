@@ -1,6 +1,7 @@
 -- What the channels of an engine wait for.
 use Rattle.std.specs.Prelude.{ℕ, ◌+◌, ◌-◌, ◌==◌, ◌&&◌, ◌||◌, Bool, false, not, if◌then◌else◌, Option, Some, None, Result, Ok, List, length, map, slice_get}
 use Rattle.std.specs.List.{filter, flat_map, range_with_len}
+use Rattle.std.specs.Option.{option_and_then, option_map_or}
 use Rattle.dma_mem.specs.Places.{Descriptor}
 use Rattle.dma_engine.specs.declared.fault.EngineFault.{EngineFault}
 use Rattle.dma_engine.specs.declared.turn.Turn.{Turn}
@@ -13,15 +14,9 @@ use Rattle.dma_why.specs.declared.waits.Cookie.{Cookie}
 use Rattle.dma_why.specs.declared.waits.Wait.{Wait}
 use Rattle.dma_why.specs.declared.waits.Wait.TheVariants.{Front, Event}
 
--- whether this is the event that is signalled
-abbrev pub is_event : ℕ → Option ℕ → Bool
-is_event event None = false
-is_event event (Some signalled) = signalled == event
-
 -- whether a transfer, if any, signals an event
 abbrev pub signals : ℕ → Option Descriptor → Bool
-signals event None = false
-signals event (Some t) = is_event event t.signal
+signals event transfer = option_map_or (λ e. e == event) (option_and_then (λ t. t.signal) transfer) false
 
 -- Whether an unfinished cookie would signal an event: its channel isn't halted, its transfer signals the event, and it
 -- isn't a front that has signalled it already.

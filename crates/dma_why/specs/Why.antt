@@ -1,6 +1,6 @@
 -- What is printed of why each channel is where it is (profile).
 use Rattle.std.specs.Prelude.{ℕ, ◌+◌, ◌-◌, ◌==◌, ◌++◌, if◌then◌else◌, Option, Some, None, unwrap_or, Result, Ok, Err, List, [], ◌∷◌, codes, decimal, map, slice_get}
-use Rattle.std.specs.Option.{option_map, option_to_list}
+use Rattle.std.specs.Option.{option_map, option_map_or, option_to_list}
 use Rattle.std.specs.List.{flat_map, range_with_len}
 use Rattle.dma_mem.specs.Places.{Descriptor, destinations, size_of, sources}
 use Rattle.dma_text.specs.Digits.{hex_digits}
@@ -52,8 +52,7 @@ failed_at t _ done = None
 
 -- ` at 0xADDRESS`
 abbrev pub address_text : Option ℕ → List ℕ
-address_text None = []
-address_text (Some addr) = codes " at 0x" ++ hex_digits addr
+address_text found = option_map_or (λ addr. codes " at 0x" ++ hex_digits addr) found []
 
 -- `NAME residue N at 0xADDRESS`: how a cookie finished or will finish, and where it fails
 abbrev pub ending_text : Descriptor → TransResult → ℕ → List ℕ

@@ -4,7 +4,8 @@ use Rattle.std.specs.Prelude.{slice_set}
 use Rattle.std.proofs.lemmas.Grind.{common_steps}
 use Rattle.std.proofs.lemmas.Bool.{cases_eq, cases_lt}
 use Rattle.std.proofs.lemmas.List.{get_or-set_same, get_or-set_other, set_past}
-use Rattle.dma_engine.specs.Ticks.{Tick, Submitted, Finished, Board, Counts, board_after, counts, no_counts, status_by, ticked}
+use Rattle.dma_engine.specs.Ticks.{Tick, Submitted, Finished, Board, Counts, board_after, counts, no_counts, ticked}
+use Rattle.dma_engine.specs.Answer.{status_by}
 use Rattle.dma_engine.specs.declared.turn.Status.TheVariants.{Unknown, Complete}
 use Rattle.dma_work.specs.Laws.{AreCounts, StaysKnown, StaysComplete, ClosedIsComplete}
 use Rattle.dma_work.specs.Ticks.{StartsWith, board_from}
@@ -50,13 +51,13 @@ longer base front all ch h p =
 
 -- ---- a status by its counts
 
-known : (c : Counts) (k : ℕ) → 0 < k → k ≤ c.used → status_by c k ≢ Unknown
+known : (c : Counts) (k : ℕ) → 0 < k → k ≤ c.used → status_by c.used c.finished k ≢ Unknown
 known c k pos le is = absurd (grind (arith, common_steps, is))
 
-complete : (c d : Counts) (k : ℕ) → c.used ≤ d.used → c.finished ≤ d.finished → status_by c k ≡ Complete → status_by d k ≡ Complete
+complete : (c d : Counts) (k : ℕ) → c.used ≤ d.used → c.finished ≤ d.finished → status_by c.used c.finished k ≡ Complete → status_by d.used d.finished k ≡ Complete
 complete c d k more_used more_finished is = grind (arith, common_steps, is)
 
-closed : (c : Counts) (k : ℕ) → 0 < k → k ≤ c.used → k ≤ c.finished → status_by c k ≡ Complete
+closed : (c : Counts) (k : ℕ) → 0 < k → k ≤ c.used → k ≤ c.finished → status_by c.used c.finished k ≡ Complete
 closed c k pos le done = grind (arith, common_steps)
 
 -- ---- the laws

@@ -1,7 +1,8 @@
 //! What the program of a channel copies.
 
-ghost use Rattle.std.specs.Prelude.{IfErr, IfOk};
-ghost use Rattle.dma_device.specs.Explaining.{FailsFor, FindsFor};
+ghost use Rattle.std.specs.Prelude.{◌≡◌, ◌-◌, IfErr, IfOk, IsSomeAnd};
+ghost use Rattle.dma_chan.specs.Explains.{bursts_in};
+ghost use Rattle.dma_device.specs.Explaining.{FailsFor, FindsFor, bus_of, program_of};
 
 use crate::device::Device;
 use dma_chan::bus::Bus;
@@ -27,6 +28,8 @@ impl Device {
     /// any registers. An event that the device doesn't have is no reason to refuse a program: its DMAWFE or DMASEV fails.
     pub fn explain(&self, alloc: Global, n: u8, most: u32) -> Result<Explained, ExplainFault>
         ensures ok { IfOk result (λ x. FindsFor self.now n most x) }
+        ensures bursts { IfOk result (λ x. IsSomeAnd (program_of self.now n)
+            (λ p. x.bursts ≡ bursts_in (bus_of self.now) p.bytes (x.steps - 1))) }
         ensures err { IfErr result (λ fault. FailsFor self.now n most fault) }
     {
         let Some(thread) = self.threads.get(usize::from(n)) else {

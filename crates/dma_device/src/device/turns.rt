@@ -1,9 +1,9 @@
 //! Turns of channels.
 
-ghost use Rattle.std.specs.Prelude.{◌≡◌, ◌+◌, ◌^◌, ◌≤◌, ◌<◌, ◌&&◌, [], IsTrue, length, slice_get};
+ghost use Rattle.std.specs.Prelude.{◌≡◌, ◌+◌, ◌^◌, ◌≤◌, [], IsTrue, slice_get};
 ghost use Rattle.dma_mem.specs.Regions.{in_order, pieces_of};
 ghost use Rattle.dma_chan.specs.LentRegions.{AreKept, with_gaps_of};
-ghost use Rattle.dma_device.specs.Turns.{TakesTurn, called, called_if, is_beside, may_follow, nothing, outcome_of, raises, runs_at, setup_of, visible_events, with_flags};
+ghost use Rattle.dma_device.specs.Turns.{TakesTurn, begins, called, called_if, follows, is_beside, outcome_of, raises, runs_at, setup_of, visible_events, with_flags};
 
 use crate::device::Device;
 use dma_chan::lent::step_regions;
@@ -30,18 +30,6 @@ pub(crate) struct Called {
     pub signal: Option<Event>,
 }
 
-impl Called {
-    // Returns what a call that does nothing did.
-    fn nothing() -> Called
-        ensures { result ≡ nothing }
-    {
-        Called {
-            written: Segment { addr: 0, len: 0 },
-            signal: None,
-        }
-    }
-}
-
 impl Device {
     /// Takes a turn of channel `n` over these regions: at most `most` steps, until one ends, waits, fails or sets a
     /// flag, or before one that writes apart from the range written so far. If the last step raised an interrupt, it
@@ -53,32 +41,44 @@ impl Device {
     {
         let n = usize::from(n);
         let before = (self.irqs(), self.irq_abort());
-        let first = self.call_if(most > 0, n, most, regions);
-        let second = self.call_if(self.may_follow(n, first), n, 1, regions);
+        let first = self.call_if(self.begins(n, most), n, most, regions);
+        let second = self.call_if(self.follows(n, first), n, 1, regions);
         Turn {
             written: joined(first.written, second.written),
             lines_changed: before.0 != self.irqs() || before.1 != self.irq_abort(),
         }
     }
 
-    // Calls channel `n` if `wanted`, unless it doesn't run.
-    fn call_if(&mut self, wanted: bool, n: usize, most: u32, regions: &mut [Region<'_>]) -> Called
-        requires { IsTrue (in_order (pieces_of regions.old)) }
-        ensures calls { called_if (wanted && runs_at self.old n) (with_gaps_of regions.old []) n most
-            (setup_of self.old regions.old) ≡ outcome_of self.new regions.new result }
+    // Returns whether a turn of at most `most` steps begins with a call of channel `n`. If so, the channel runs.
+    fn begins(&self, n: usize, most: u32) -> bool
+        ensures value { result ≡ begins self.now n most }
+        ensures runs { IsTrue result → IsTrue (runs_at self.now n) }
+    {
+        most > 0 && self.runs(n)
+    }
+
+    // Calls channel `n` if `made`, and then it runs; else does nothing.
+    fn call_if(&mut self, made: bool, n: usize, most: u32, regions: &mut [Region<'_>]) -> Called
+        requires order { IsTrue (in_order (pieces_of regions.old)) }
+        requires runs { IsTrue made → IsTrue (runs_at self.old n) }
+        ensures calls { called_if made (with_gaps_of regions.old []) n most (setup_of self.old regions.old)
+            ≡ outcome_of self.new regions.new result }
         ensures kept { AreKept regions.new regions.old }
         ensures end { result.written.addr + result.written.len ≤ 2 ^ 32 }
     {
-        if !wanted || !self.runs(n) {
-            return Called::nothing();
+        if made {
+            self.call(n, most, regions)
+        } else {
+            Called {
+                written: Segment { addr: 0, len: 0 },
+                signal: None,
+            }
         }
-        self.call(n, most, regions)
     }
 
     // Returns whether the device has thread `n`, and it runs.
     fn runs(&self, n: usize) -> bool
-        ensures runs { result ≡ runs_at self.now n }
-        ensures within { IsTrue result → n < length self.now.threads }
+        ensures { result ≡ runs_at self.now n }
     {
         match self.threads.get(n) {
             Some(thread) => thread.runs(),
@@ -123,9 +123,10 @@ impl Device {
         self.interrupts |= known & self.inten;
     }
 
-    // Returns whether one more step may follow a call of channel `n`.
-    fn may_follow(&self, n: usize, called: Called) -> bool
-        ensures { result ≡ may_follow self.now n called }
+    // Returns whether one more step follows a call of channel `n`. If so, the channel runs.
+    fn follows(&self, n: usize, called: Called) -> bool
+        ensures value { result ≡ follows self.now n called }
+        ensures runs { IsTrue result → IsTrue (runs_at self.now n) }
     {
         self.raises(called.signal) && self.is_beside(n, called.written)
     }

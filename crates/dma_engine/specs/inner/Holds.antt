@@ -111,9 +111,9 @@ queue_forgotten q =
       outcomes = record { items = []; spare = 0 };
     }
 
--- A queue with these counts and indices has the cookies that were submitted to its channel: those before the base, and
--- those with these transfers. First come the transfers that the base has of the channel; the indices are those of the
--- Submitted entries of the others.
+-- A queue with these counts and indices has the cookies that its channel gave: `before` forgotten ones, then those with
+-- these transfers. First come the transfers that the base has of the channel, then those of the Submitted entries with
+-- these indices.
 pub record HasSubmitted (ch : ℕ) (kept : List Descriptor) (history : List Entry) (lost number : ℕ) (indices : List ℕ) (before : ℕ) (submitted : List Descriptor) : Type 0 where
   pub forgotten : lost ≡ before
   pub given : number ≡ before + length submitted

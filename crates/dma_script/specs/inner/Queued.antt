@@ -8,7 +8,7 @@ use Rattle.dma_script.specs.declared.queue.Line.TheVariants as lines
 use Rattle.dma_script.specs.declared.statements.Statement.{Statement}
 use Rattle.dma_script.specs.declared.statements.Statement.TheVariants as statements
 
--- the statement of a line that needs no other list; a step for any other line
+-- the statement of a line that needs nothing from `bytes` or `long`; else `Step 0 0`, which `statements_in` doesn't use
 abbrev pub short_of : Line → Statement
 short_of (lines.Read addr len) = statements.Call (calls.Read addr len)
 short_of (lines.Issue ch) = statements.Call (calls.Issue ch)
@@ -20,7 +20,7 @@ short_of (lines.Status ch cookie) = statements.Call (calls.Status ch cookie)
 short_of (lines.Result ch cookie) = statements.Call (calls.Result ch cookie)
 short_of _ = statements.Step 0 0
 
--- whether a line needs no other list
+-- whether a line needs nothing from `bytes` or `long`
 abbrev pub is_short : Line → Bool
 is_short (lines.Write addr) = false
 is_short lines.Long = false

@@ -4,11 +4,14 @@ use Rattle.dma_mem.specs.Places.{places}
 use Rattle.dma_chan.specs.declared.explain.Cause.TheVariants.{Fails, NoEnd}
 use Rattle.dma_chan.specs.Explains.{unrolled}
 use Rattle.dma_chan.specs.inner.Tracing.{Follows, trace_of}
-use Rattle.dma_chan.proofs.Explaining.{finds, follows_new, has_none, refuses, stops_here}
+use Rattle.dma_chan.proofs.Explaining.{counts_bursts, finds, follows_new, has_none, refuses, stops_here}
 use Rattle.dma_chan.proofs.explain.explain.Goals as goal
 
 pub returns-in-Ok-finish-clause-ok : goal.returns-in-Ok-finish-clause-ok
 returns-in-Ok-finish-clause-ok c = finds c.args.bus c.args.program.now c.loop-steps.steps (c.loop-steps.steps + 1) c.loop-steps.tracer c.in-Ok-finish.explained c.loop-steps.invariant.follows (ap Ok c.in-End.ensures ∙ c.in-Ok.ensures) (omega (arith, c.loop-steps-test.true, c.ranges.most.fits)) c.args.most c.loop-steps-test.true refl c.in-Ok-finish.ensures.ok
+
+pub returns-in-Ok-finish-clause-bursts : goal.returns-in-Ok-finish-clause-bursts
+returns-in-Ok-finish-clause-bursts c = counts_bursts c.args.bus c.args.program.now c.loop-steps.steps (c.loop-steps.steps + 1) c.loop-steps.tracer c.in-Ok-finish.explained c.loop-steps.invariant.follows refl c.in-Ok-finish.ensures.ok
 
 pub run-requires : goal.run-requires
 run-requires c = record {

@@ -1,5 +1,6 @@
-use Rattle.std.proofs.Common.{◌≡◌, ◌∙◌, ℕ, zero, suc, ◌+◌, ◌%◌, ◌^◌, ◌<◌, true, List, [], ◌∷◌, length, Some, ap, refl, rules, subst, sym, arith, true≢false}
+use Rattle.std.proofs.Common.{◌≡◌, ◌∙◌, ℕ, zero, suc, ◌+◌, ◌%◌, ◌^◌, ◌<◌, true, false, List, [], ◌∷◌, length, Some, ap, refl, rules, subst, sym, arith, true≢false}
 use Rattle.std.specs.Prelude.{slice_get}
+use Rattle.std.specs.Option.{option_map_or}
 use Rattle.std.proofs.lemmas.Option.{slice_get_read}
 use Rattle.dma_mem.specs.Flags.{flags_of}
 use Rattle.dma_chan.specs.declared.bus.Bus.TheVariants.{Chip}
@@ -8,8 +9,8 @@ use Rattle.dma_chan.specs.Channel.{ChannelValue}
 use Rattle.dma_chan.specs.Stepping.{Machine}
 use Rattle.dma_chan.proofs.BusKept.{steps_bus}
 use Rattle.dma_device.specs.Device.{DeviceValue, with_thread}
-use Rattle.dma_device.specs.Thread.{IsOn, IsSound, answered}
-use Rattle.dma_device.specs.Turns.{runs_at, runs_if, visible_events, with_flags}
+use Rattle.dma_device.specs.Thread.{IsOn, IsSound, answered, runs}
+use Rattle.dma_device.specs.Turns.{runs_at, visible_events, with_flags}
 use Rattle.dma_device.specs.declared.thread.Thread.{Thread}
 use Rattle.dma_device.specs.inner.Fields.{device_value}
 use Rattle.dma_device.proofs.Answered.{answer_channel}
@@ -39,7 +40,7 @@ invariant_of-self c =
     (record t { channel = channel }) c.step_regions-taken.result.signal steps refl))
 
 -- a thread that runs is one of the device's
-runs_within : (ts : List Thread) (n : ℕ) → runs_if (slice_get ts n) ≡ true → n < length ts
+runs_within : (ts : List Thread) (n : ℕ) → option_map_or runs (slice_get ts n) false ≡ true → n < length ts
 runs_within [] n on = absurd (true≢false (sym on))
 runs_within (t ∷ ts) zero on = omega arith
 runs_within (t ∷ ts) (suc n) on = omega (arith, runs_within ts n on)

@@ -12,13 +12,13 @@ use Rattle.dma_device.proofs.InOrder.{in_order_kept}
 use Rattle.dma_device.proofs.Writes.{second_beside}
 use Rattle.dma_device.proofs.device.Device.step.Goals as goal
 
-pub call_if-second-requires : goal.call_if-second-requires
-call_if-second-requires c = in_order_kept c.args.regions.now c.call_if-first.new.regions c.call_if-first.ensures.kept.places c.requires
+pub call_if-second-requires-clause-order : goal.call_if-second-requires-clause-order
+call_if-second-requires-clause-order c = in_order_kept c.args.regions.now c.call_if-first.new.regions c.call_if-first.ensures.kept.places c.requires
 
 pub joined-requires-clause-one : goal.joined-requires-clause-one
 joined-requires-clause-one c =
     let one = c.call_if-first in
-    subst (λ (o : Outcome). adjoins one.result.written o.called.written ≡ true) (rw c.may_follow.ensures at c.call_if-second.ensures.calls)
+    subst (λ (o : Outcome). adjoins one.result.written o.called.written ≡ true) (rw c.follows.ensures.value at c.call_if-second.ensures.calls)
     (second_beside (with_gaps_of one.new.regions []) c.from-n.result (outcome_of one.new.self one.new.regions one.result))
 
 -- whether the lines differ, by the first of them that does
@@ -36,7 +36,7 @@ returns-then-before-irqs c =
     let one = c.call_if-first in
     let two = c.call_if-second in
     let lines = other_lines c.args.self.now two.new.self c.irqs.result c.irqs-2.result c.irqs.ensures c.irqs-2.ensures c.if-before-irqs.true in
-    turn_is c.args.self.now one.new.self two.new.self c.args.regions.now one.new.regions two.new.regions c.args.n c.args.most one.result two.result c.joined.result (not (c.irqs.result == c.irqs-2.result)) (rw c.from-n.ensures at one.ensures.calls) one.ensures.kept (rw (c.may_follow.ensures, c.from-n.ensures) at two.ensures.calls) two.ensures.kept c.joined.ensures.range lines
+    turn_is c.args.self.now one.new.self two.new.self c.args.regions.now one.new.regions two.new.regions c.args.n c.args.most one.result two.result c.joined.result (not (c.irqs.result == c.irqs-2.result)) (rw (c.begins.ensures.value, c.from-n.ensures) at one.ensures.calls) one.ensures.kept (rw (c.follows.ensures.value, c.from-n.ensures) at two.ensures.calls) two.ensures.kept c.joined.ensures.range lines
 
 pub returns-else-before-irqs : goal.returns-else-before-irqs
 returns-else-before-irqs c =
@@ -45,4 +45,4 @@ returns-else-before-irqs c =
     let before = c.irq_abort in
     let after = c.irq_abort-else-before-irqs in
     let lines = same_lines c.args.self.now two.new.self c.irqs.result c.irqs-2.result before.result after.result c.irqs.ensures c.irqs-2.ensures c.if-before-irqs.false before.ensures after.ensures in
-    turn_is c.args.self.now one.new.self two.new.self c.args.regions.now one.new.regions two.new.regions c.args.n c.args.most one.result two.result c.joined.result (not (beq before.result after.result)) (rw c.from-n.ensures at one.ensures.calls) one.ensures.kept (rw (c.may_follow.ensures, c.from-n.ensures) at two.ensures.calls) two.ensures.kept c.joined.ensures.range lines
+    turn_is c.args.self.now one.new.self two.new.self c.args.regions.now one.new.regions two.new.regions c.args.n c.args.most one.result two.result c.joined.result (not (beq before.result after.result)) (rw (c.begins.ensures.value, c.from-n.ensures) at one.ensures.calls) one.ensures.kept (rw (c.follows.ensures.value, c.from-n.ensures) at two.ensures.calls) two.ensures.kept c.joined.ensures.range lines
