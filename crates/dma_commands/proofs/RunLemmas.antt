@@ -23,8 +23,8 @@ use Rattle.dma_script.specs.Interpreted.{ActsInTurn, PrintsLines, StopsAtALine}
 use Rattle.dma_script.specs.declared.statements.Statement.{Statement}
 use Rattle.dma_text.specs.Digits.{hex_digits, spaced_bytes}
 use Rattle.dma_commands.specs.Left.{lines_left}
-use Rattle.dma_commands.specs.Printed.{call_line, fault_text, transfer_fault_name, refused_line}
-use Rattle.dma_commands.specs.Run.{Answered, call_answer, copied, copied_after, is_in_use, line_answer, lines_answered, most_copy_steps, stepped_to_end, last_answer_line, one_line, unless_invalid}
+use Rattle.dma_commands.specs.Printed.{call_line, fault_text, refused_line, reply_text, transfer_fault_name}
+use Rattle.dma_commands.specs.Run.{Answered, call_answer, copied, copied_after, is_in_use, line_answer, lines_answered, most_copy_steps, stepped_to_end, one_line, unless_invalid}
 use Rattle.dma_commands.specs.inner.RunSteps.{RunsLine, read_at, read_in}
 use Rattle.dma_script.proofs.InterpretedLemmas.{printed_text_append}
 use Rattle.dma_engine.proofs.JoinedCalls.{answer_unless_no_memory}
@@ -83,13 +83,13 @@ refused_copy_runs {A = A} {E = E} start v w t fault (Ok a) out out' free is serv
 refused_copy_runs start v w t fault (Err e) out out' free is served prints kept = record { ok = tt; err = kept }
 
 -- a copy was submitted, issued and stepped through
-pub copy_runs : {A E : Type 0} (start : List ℕ) (v u x w : View) (t : Descriptor) (cookie : ℕ) (issued last : Reply) (result : Result A E) (out out' : List ℕ) → is_in_use v ≡ false → (Cookie cookie, u) ≡ answer v (SubmitCall 0 t) → (issued, x) ≡ answer u (IssueCall 0) → (last, w) ≡ stepped_to_end most_copy_steps x → OnOk result (out' ≡ out ++ text_of (last_answer_line start last ∷ [])) → OnErr result (out' ≡ out) → RunsLine (copied start v t) w result out out'
+pub copy_runs : {A E : Type 0} (start : List ℕ) (v u x w : View) (t : Descriptor) (cookie : ℕ) (issued last : Reply) (result : Result A E) (out out' : List ℕ) → is_in_use v ≡ false → (Cookie cookie, u) ≡ answer v (SubmitCall 0 t) → (issued, x) ≡ answer u (IssueCall 0) → (last, w) ≡ stepped_to_end most_copy_steps x → OnOk result (out' ≡ out ++ text_of ((start ++ reply_text last) ∷ [])) → OnErr result (out' ≡ out) → RunsLine (copied start v t) w result out out'
 copy_runs {A = A} {E = E} start v u x w t cookie issued last result out out' free submitted is steps prints kept =
     let through = steps ∙ ap (λ (a : Reply × View). stepped_to_end most_copy_steps a.1) is in
     rw free
     (subst (λ (a : Reply × View). RunsLine {A = A} {E = E} (copied_after start a) w result out out') submitted
-    (subst (λ (a : Reply × View). RunsLine {A = A} {E = E} (one_line (last_answer_line start a.0) a.1) w result out out') through
-    (printed_runs (one_line (last_answer_line start last) w) w result out out' (on_ok_weaker result (λ _. refl) prints) prints kept)))
+    (subst (λ (a : Reply × View). RunsLine {A = A} {E = E} (one_line (start ++ reply_text a.0) a.1) w result out out') through
+    (printed_runs (one_line (start ++ reply_text last) w) w result out out' (on_ok_weaker result (λ _. refl) prints) prints kept)))
 
 -- ---- the lines of a script, one after another
 

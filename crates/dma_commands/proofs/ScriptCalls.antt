@@ -14,7 +14,7 @@ use Rattle.dma_engine.specs.Answer.{answer, answers}
 use Rattle.dma_script.specs.declared.statements.Statement.{Statement}
 use Rattle.dma_script.specs.declared.statements.Statement.TheVariants as statements
 use Rattle.dma_commands.specs.Printed.{refused_line, reply_text}
-use Rattle.dma_commands.specs.Run.{Answered, call_answer, issued_and_stepped, copied, copied_after, is_in_use, is_refused, line_answer, lines_answered, most_copy_steps, start_of, steps_before_last, last_answer_line, one_line, unless_invalid}
+use Rattle.dma_commands.specs.Run.{Answered, call_answer, issued_and_stepped, copied, copied_after, is_in_use, is_refused, line_answer, lines_answered, most_copy_steps, start_of, steps_before_last, one_line, unless_invalid}
 use Rattle.dma_commands.specs.Transfers.{transfer_of}
 use Rattle.dma_commands.specs.Laws.{call_lines, calls_after, calls_in, calls_of, issue_and_step_calls, groups_from, if_valid, last_of, lines_from, rule_or, transfer_calls, transfer_lines, view_after}
 use Rattle.dma_engine.proofs.JoinedCalls.{answers_append_law}
@@ -40,7 +40,7 @@ with_first reply rest = (reply ∷ rest.0, rest.1)
 carried_is : (start : List ℕ) (v : View) (submitted : Reply) → issued_and_stepped start v ≡ through_made start (with_first submitted (answers v (issue_and_step_calls v)))
 carried_is start v submitted =
     let issued = answer v (calls.Issue 0) in
-    ap (λ (last : Reply × View). one_line (last_answer_line start last.0) last.1)
+    ap (λ (last : Reply × View). one_line (start ++ reply_text last.0) last.1)
     (last_step (steps_before_last most_copy_steps issued.1) issued.1 issued.0)
 
 after_is : (start : List ℕ) (s : Reply × View) (b : Bool) → (if b then one_line (reply_text s.0) s.1 else issued_and_stepped start s.1) ≡ through_made start (with_first s.0 (answers s.1 (if b then [] else issue_and_step_calls s.1)))

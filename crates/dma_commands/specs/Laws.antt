@@ -19,7 +19,7 @@ use Rattle.dma_script.specs.declared.statements.RunScript.{RunScript}
 use Rattle.dma_script.specs.declared.statements.Statement.{Statement}
 use Rattle.dma_script.specs.declared.statements.Statement.TheVariants as statements
 use Rattle.dma_commands.specs.Printed.{call_line, refused_line, reply_text, transfer_fault_name}
-use Rattle.dma_commands.specs.Run.{is_in_use, is_refused, line_answer, most_copy_steps, printed, start_of, step_lines, steps_before_last, last_answer_line, totals_of}
+use Rattle.dma_commands.specs.Run.{is_in_use, is_refused, line_answer, most_copy_steps, printed, start_of, step_lines, steps_before_last, totals_of}
 use Rattle.dma_commands.specs.Transfers.{transfer_of}
 
 -- ---- the calls of a line
@@ -85,7 +85,7 @@ last_of reply (next ∷ rest) = last_of next rest
 abbrev pub transfer_lines : List ℕ → List Reply → List (List ℕ)
 transfer_lines start [] = refused_line (codes "ChannelInUse") ∷ []
 transfer_lines start (submitted ∷ []) = reply_text submitted ∷ []
-transfer_lines start (submitted ∷ issued ∷ steps) = last_answer_line start (last_of issued steps) ∷ []
+transfer_lines start (submitted ∷ issued ∷ steps) = (start ++ reply_text (last_of issued steps)) ∷ []
 
 -- What a line prints, computed from the replies to its calls. `totals` makes no call and prints the counts of the view.
 abbrev pub lines_from : View → Statement → List Reply → List (List ℕ)

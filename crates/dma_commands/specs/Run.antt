@@ -46,8 +46,7 @@ unless_invalid found v answered = option_map_or (λ e. one_line (refused_line (t
 
 -- a submit line: checks the transfer's own rules, then makes the call
 abbrev pub submit_answer : View → ℕ → TransferLine → Answered
-submit_answer v ch line =
-    unless_invalid (refusal_of (transfer_of line)) v (call_answer v (calls.Submit ch (transfer_of line)))
+submit_answer v ch line = let t = transfer_of line in unless_invalid (refusal_of t) v (call_answer v (calls.Submit ch t))
 
 -- ---- step lines
 
@@ -74,8 +73,7 @@ step_lines ch texts = map (step_line ch) (runs_of texts)
 -- a step line: `count` steps of the channel, one after another
 abbrev pub step_answer : View → ℕ → ℕ → Answered
 step_answer v ch count =
-    let after = answers v (replicate count (calls.Step ch)) in
-    (step_lines ch (map reply_text after.0), after.1)
+    let after = answers v (replicate count (calls.Step ch)) in (step_lines ch (map reply_text after.0), after.1)
 
 -- ---- copy and fill lines
 
@@ -92,18 +90,15 @@ steps_before_last most v = taken_in (λ k. goes_on (answer (after_steps v 0 k) (
 abbrev pub stepped_to_end : ℕ → View → Reply × View
 stepped_to_end most v = answer (after_steps v 0 (steps_before_last most v)) (calls.Step 0)
 
--- `copy ANSWER` or `fill ANSWER`, where `start` is `copy ` or `fill `
-abbrev pub last_answer_line : List ℕ → Reply → List ℕ
-last_answer_line start reply = start ++ reply_text reply
-
 -- the limit for `stepped_to_end` in a copy or a fill; it cuts none of them off (`CopiesEnd`)
 abbrev pub most_copy_steps : ℕ
 most_copy_steps = 524288
 
--- Issues channel 0, steps it with `stepped_to_end`, and prints the last answer.
+-- Issues channel 0, steps it with `stepped_to_end`, and prints `copy ANSWER` or `fill ANSWER` with the last answer, where
+-- `start` is `copy ` or `fill `.
 abbrev pub issued_and_stepped : List ℕ → View → Answered
 issued_and_stepped start v =
-    let last = stepped_to_end most_copy_steps (answer v (calls.Issue 0)).1 in one_line (last_answer_line start last.0) last.1
+    let last = stepped_to_end most_copy_steps (answer v (calls.Issue 0)).1 in one_line (start ++ reply_text last.0) last.1
 
 -- whether a reply is a refusal
 abbrev pub is_refused : Reply → Bool

@@ -28,8 +28,7 @@ signals_later o event ch number =
 -- the unfinished cookies of a channel that would signal an event
 abbrev pub signallers_on : Object → ℕ → ℕ → List Cookie
 signallers_on o event ch =
-    let c = channel o ch in
-    map (λ number. record { ch = ch; number = number })
+    let c = channel o ch in map (λ number. record { ch = ch; number = number })
     (filter (signals_later o event ch) (range_with_len (finished c + 1) (unfinished c)))
 
 -- the unfinished cookies that would signal an event, by channels and then by numbers

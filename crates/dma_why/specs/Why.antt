@@ -37,8 +37,7 @@ transfer_or_none o ch cookie = unwrap_or (transfer_of o ch cookie) no_transfer
 -- `cookie N, D of S bytes`: the first unfinished cookie, issued or not, and how many of its bytes are stored
 abbrev pub front_text : View → ℕ → List ℕ
 front_text v ch =
-    let o = object_of v in
-    let cookie = finished (channel o ch) + 1 in
+    let o = object_of v in let cookie = finished (channel o ch) + 1 in
     if unfinished (channel o ch) == 0 then codes "nothing unfinished" else
     codes "cookie " ++ decimal cookie ++ codes ", " ++ decimal (done_on v ch) ++ codes " of "
     ++ decimal (size_of (transfer_or_none o ch cookie)) ++ codes " bytes"
@@ -131,8 +130,7 @@ circle_lines waits first = option_to_list (option_map (circle_line waits first) 
 -- Why each channel is where it is: the lines of each channel, then one for each circle.
 abbrev pub explanation : View → List (List ℕ)
 explanation v =
-    let all = range_with_len 0 (channels v) in
-    flat_map (channel_lines v) all ++ flat_map (circle_lines (waits_of v)) all
+    let all = range_with_len 0 (channels v) in flat_map (channel_lines v) all ++ flat_map (circle_lines (waits_of v)) all
 
 -- what is printed for a parsed script: the explanation of the view after it, or its first fault
 abbrev pub why_printed_of : Result RunScript Fault → Printed
