@@ -46,7 +46,7 @@ unless_invalid found v answered = option_map_or (λ e. one_line (refused_line (t
 
 -- a submit line: checks the transfer's own rules, then makes the call
 abbrev pub submit_answer : View → ℕ → TransferLine → Answered
-submit_answer v ch line = let t = transfer_of line in unless_invalid (refusal_of t) v (call_answer v (calls.Submit ch t))
+submit_answer v ch l = let t = transfer_of l in unless_invalid (refusal_of t) v (call_answer v (calls.Submit ch t))
 
 -- ---- step lines
 
@@ -94,8 +94,8 @@ stepped_to_end most v = answer (after_steps v 0 (steps_before_last most v)) (cal
 abbrev pub most_copy_steps : ℕ
 most_copy_steps = 524288
 
--- Issues channel 0, steps it with `stepped_to_end`, and prints `copy ANSWER` or `fill ANSWER` with the last answer, where
--- `start` is `copy ` or `fill `.
+-- Issues channel 0, steps it with `stepped_to_end`, and prints `start`, which is `copy ` or `fill `, and the last
+-- answer.
 abbrev pub issued_and_stepped : List ℕ → View → Answered
 issued_and_stepped start v =
     let last = stepped_to_end most_copy_steps (answer v (calls.Issue 0)).1 in one_line (start ++ reply_text last.0) last.1

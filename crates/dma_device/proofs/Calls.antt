@@ -36,7 +36,7 @@ thread_left marks most t s =
     let moved : Thread = record t { channel = (machine_left marks most t s).channel } in
     answered s.device.config.events moved (last_in marks most t s) (signal_in marks most t s)
 
--- what a call did that isn't made
+-- what a call that isn't made reports: nothing is written, and no flag is set
 abbrev pub nothing : Called
 nothing = record { written = range_at 0 0; signal = None }
 
@@ -105,7 +105,7 @@ called_is d e regions left n most t none events after channel flags taken found 
 
 -- ---- a turn
 
--- a thread that is found runs if the device's does
+-- if the device has thread `n`, `runs_at` says whether it runs
 pub runs_found : (d : DeviceValue) (n : ℕ) (t : Thread) → slice_get d.threads n ≡ Some t → runs_at d n ≡ runs t
 runs_found d n t found = ap (λ (o : Option Thread). option_map_or runs o false) found
 

@@ -60,14 +60,14 @@ Happen access answer before lent left count =
 abbrev pub Stays : (ℕ → Type 0) → ℕ → ℕ → Type 0
 Stays Ends i n = (j : ℕ) → i ≤ j → j < n → ¬ Ends j
 
--- an access before number n makes the fact hold, and no access between the two ends it
+-- an access before number n makes the fact hold, and no later access before number n ends it
 pub record Since (Makes Ends : ℕ → Type 0) (n : ℕ) : Type 0 where
   pub at : ℕ
   pub below : at < n
   pub makes : Makes at
   pub stays : Stays Ends (at + 1) n
 
--- The fact holds before access number n exactly if an earlier access makes it hold, and no access between the two ends
--- it; or if it holds before access number 0, and no access before number n ends it.
+-- The fact holds before access number n exactly if an earlier access made it hold and none has ended it since; or if it
+-- holds before access number 0, and no access before number n ends it.
 abbrev pub IsExact : (Holds Makes Ends : ℕ → Type 0) → ℕ → Type 0
 IsExact Holds Makes Ends n = Holds n ↔ (Since Makes Ends n ⊎ (Holds 0 × Stays Ends 0 n))

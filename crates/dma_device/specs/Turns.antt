@@ -48,7 +48,7 @@ is_beside range thread = option_map_or (λ t. runs t && adjoins range (store_ahe
 abbrev pub runs_at : DeviceValue → ℕ → Bool
 runs_at d n = option_map_or runs (slice_get d.threads n) false
 
--- whether the first call of a turn of at most `most` steps is made: channel `n` runs
+-- whether the first call of a turn of at most `most` steps is made: `most` isn't 0, and channel `n` runs
 abbrev pub begins : DeviceValue → ℕ → ℕ → Bool
 begins d n most = nat_lt 0 most && runs_at d n
 

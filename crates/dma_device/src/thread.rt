@@ -14,8 +14,8 @@ use dma_insn::insn::{Event, Insn};
 use dma_mem::regions::Region;
 use std::alloc::{AllocError, Global};
 
-/// Faults by their bits in FTRD and FTR (DMA-330 manual, fault type registers). Those of a channel's instructions have
-/// the bits of `FaultKind::bit`.
+/// Faults that the device itself finds, by their bits in FTRD and FTR (DMA-330 manual, fault type registers). For those
+/// that a step returns see `FaultKind::bit`.
 pub const UNDEF_INSTR: u32 = 1 << 0;
 
 pub const OPERAND_INVALID: u32 = 1 << 1;

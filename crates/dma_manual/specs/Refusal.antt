@@ -24,7 +24,8 @@ word_message b =
 -- what is wrong with a byte of a text; a colon ends an address, a vertical bar and a full stop are of a dump's text
 abbrev pub byte_message : Notation → ℕ → List ℕ
 byte_message notation b =
-    if b == 58 then codes " ends no address: an address begins its line and has at least four digits\n" else (
+    if b == 58
+    then codes " is a colon that ends no address: an address begins its line and has at least four digits\n" else (
     if b == 124 || b == 46 then codes " looks like part of a dump's text column: remove that column\n"
     else in_notation notation b)
   where

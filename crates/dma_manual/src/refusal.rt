@@ -38,7 +38,7 @@ fn byte_message(notation: Notation, byte: u8) -> &'static str
     ensures { result.now ≡ byte_message notation byte }
 {
     if byte == b':' {
-        return " ends no address: an address begins its line and has at least four digits\n";
+        return " is a colon that ends no address: an address begins its line and has at least four digits\n";
     }
     if matches!(byte, b'|' | b'.') {
         return " looks like part of a dump's text column: remove that column\n";

@@ -1,8 +1,8 @@
 //! What a program copies, and a trace of its instructions, as text.
 //!
 //! Proved: `explain::explain` prints the copy that `dma_chan::explain::explain` finds (`Finds`) and the counts of its
-//! bursts (`bursts_in`), or the cause and the place for which there is none (`Refuses`), with the registers there, and
-//! where a byte is stored twice or over a source, the lowest such address and the instructions that touch it first
+//! bursts (`bursts_in`) or, if there is no copy, the cause and the place (`Refuses`) with the registers there. If a byte
+//! is stored twice or over a source, it also prints the lowest such address and the instructions that touch it first
 //! (`touches_in`). `trace::trace` prints the lines of the steps of one channel over the lent regions, how the program
 //! ends, and the memory then, and writes the waveform of the run: a function of the program, the memory and the options
 //! (`Traces`, by `Stepping::after_steps` of `dma_chan`).

@@ -130,7 +130,7 @@ circle_lines waits first = option_to_list (option_map (circle_line waits first) 
 -- Why each channel is where it is: the lines of each channel, then one for each circle.
 abbrev pub explanation : View → List (List ℕ)
 explanation v =
-    let all = range_with_len 0 (channels v) in flat_map (channel_lines v) all ++ flat_map (circle_lines (waits_of v)) all
+    let cs = range_with_len 0 (channels v) in flat_map (channel_lines v) cs ++ flat_map (circle_lines (waits_of v)) cs
 
 -- what is printed for a parsed script: the explanation of the view after it, or its first fault
 abbrev pub why_printed_of : Result RunScript Fault → Printed

@@ -57,12 +57,12 @@ impl Device {
         most > 0 && self.runs(n)
     }
 
-    // Calls channel `n` if `made`, and then it runs; else does nothing.
+    // Calls channel `n` if `made`, else does nothing. If `made`, the channel must run.
     fn call_if(&mut self, made: bool, n: usize, most: u32, regions: &mut [Region<'_>]) -> Called
         requires order { IsTrue (in_order (pieces_of regions.old)) }
         requires runs { IsTrue made → IsTrue (runs_at self.old n) }
-        ensures calls { called_if made (with_gaps_of regions.old []) n most (setup_of self.old regions.old)
-            ≡ outcome_of self.new regions.new result }
+        ensures calls { called_if made (with_gaps_of regions.old []) n most
+            (setup_of self.old regions.old) ≡ outcome_of self.new regions.new result }
         ensures kept { AreKept regions.new regions.old }
         ensures end { result.written.addr + result.written.len ≤ 2 ^ 32 }
     {
@@ -123,7 +123,7 @@ impl Device {
         self.interrupts |= known & self.inten;
     }
 
-    // Returns whether one more step follows a call of channel `n`. If so, the channel runs.
+    // Returns whether one more step follows a call of channel `n` that did this. If so, the channel runs.
     fn follows(&self, n: usize, called: Called) -> bool
         ensures value { result ≡ follows self.now n called }
         ensures runs { IsTrue result → IsTrue (runs_at self.now n) }
