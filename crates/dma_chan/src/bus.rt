@@ -4,7 +4,7 @@ ghost use Rattle.std.specs.Prelude.{◌≡◌, ◌≤◌, ◌^◌};
 ghost use Rattle.dma_chan.specs.Bus.{bus_code, fits, widest_beat};
 
 /// The width of a chip's data bus.
-#[derive(Clone, Copy, Debug, PartialEq, Eq)]
+#[derive(Clone, Copy, PartialEq, Eq)]
 pub enum BusWidth {
     Bits32,
     Bits64,
@@ -37,7 +37,7 @@ impl BusWidth {
 }
 
 /// What a channel's data bus can do. No instruction changes it, and no save has it.
-#[derive(Clone, Copy, Debug, PartialEq, Eq)]
+#[derive(Clone, Copy, PartialEq, Eq)]
 pub enum Bus {
     /// Beats of up to 16 bytes, each whole at any address (profile). The engine's channels have this bus.
     Ideal,

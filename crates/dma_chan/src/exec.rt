@@ -23,7 +23,7 @@ use dma_mem::ram::Ram;
 /// The registers that instructions read and change: the offset of the next instruction in the program, the source and
 /// destination addresses, the control word, and the two loop counters, the manual's SAR, DAR, CCR, LC0 and LC1. Beside
 /// them the channel's bus, which no instruction changes.
-#[derive(Clone, Copy, PartialEq, Eq, Debug)]
+#[derive(Clone, Copy)]
 pub struct Registers {
     pub pc: u32,
     pub sar: u32,

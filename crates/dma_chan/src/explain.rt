@@ -25,7 +25,7 @@ use std::alloc::Global;
 
 /// A range of addresses that a program reads several times in a row: the `len` bytes from `addr` on, `times` times.
 #[repr(C)]
-#[derive(Clone, Copy, PartialEq, Eq, Debug)]
+#[derive(Clone, Copy)]
 pub struct Repeated {
     pub addr: u32,
     pub len: u32,
@@ -33,7 +33,7 @@ pub struct Repeated {
 }
 
 /// What an instruction does with an event.
-#[derive(Clone, Copy, PartialEq, Eq, Debug)]
+#[derive(Clone, Copy)]
 pub enum Sync {
     /// DMAWFE waits for the event.
     Waits(u8),
@@ -42,14 +42,14 @@ pub enum Sync {
 }
 
 /// A DMAWFE or DMASEV that a program executes, and how many bytes it has stored before.
-#[derive(Clone, Copy, PartialEq, Eq, Debug)]
+#[derive(Clone, Copy)]
 pub struct Happening {
     pub sync: Sync,
     pub stored: u64,
 }
 
 /// How many bursts a program executes.
-#[derive(Clone, Copy, PartialEq, Eq, Debug)]
+#[derive(Clone, Copy)]
 pub struct BurstCounts {
     /// How many DMALD.
     pub loads: u32,
@@ -64,7 +64,7 @@ pub struct BurstCounts {
 }
 
 /// What a program copies: byte number p of the sources' places to byte number p of the destinations'.
-#[derive(Debug, Drop)]
+#[derive(Drop)]
 pub struct Explained {
     pub src: Vec<Repeated>,
     pub dst: Vec<Segment>,
@@ -79,7 +79,7 @@ pub struct Explained {
 }
 
 /// Why no copy explains a program.
-#[derive(Clone, Copy, PartialEq, Eq, Debug)]
+#[derive(Clone, Copy, PartialEq, Eq)]
 pub enum Cause {
     /// The program has more than [`MAX_PROGRAM_BYTES`].
     TooLong,
@@ -111,7 +111,7 @@ pub enum Cause {
 
 /// Why no copy explains a program, and at which instruction. If the cause is `TooLong` or `NoMemory`, the other fields
 /// have no meaning.
-#[derive(Clone, Copy, PartialEq, Eq, Debug)]
+#[derive(Clone, Copy, PartialEq, Eq)]
 pub struct Unexplained {
     pub cause: Cause,
     /// The instruction's offset in the program.

@@ -11,7 +11,7 @@ use dma_insn::insn::Insn;
 use std::marker::Model;
 
 /// An instruction and the length of its encoding in bytes. Contracts see the instruction.
-#[derive(Clone, Copy, PartialEq, Eq, Debug)]
+#[derive(Clone, Copy)]
 pub struct Next {
     insn: Insn,
     len: u32,

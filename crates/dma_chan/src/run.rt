@@ -17,7 +17,7 @@ use std::alloc::Global;
 use thiserror::Error;
 
 /// How a program that was run alone ended.
-#[derive(Clone, Copy, PartialEq, Eq, Debug)]
+#[derive(Clone, Copy, PartialEq, Eq)]
 pub enum RunEnd {
     /// It executed DMAEND. `turns` is the number of instructions, including DMAEND.
     Ended { turns: u32 },

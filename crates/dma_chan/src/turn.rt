@@ -7,7 +7,7 @@ use dma_insn::insn::Event;
 
 /// The fault of an instruction. The names are the manual's, which writes them in lower case with underscores (PL330
 /// manual, fault type register).
-#[derive(Clone, Copy, PartialEq, Eq, Debug)]
+#[derive(Clone, Copy, PartialEq, Eq)]
 pub enum FaultKind {
     /// The first byte begins no instruction.
     UndefInstr,
@@ -44,7 +44,7 @@ impl FaultKind {
 }
 
 /// The result of a step.
-#[derive(Clone, Copy, PartialEq, Eq, Debug)]
+#[derive(Clone, Copy, PartialEq, Eq)]
 pub enum ChanTurn {
     /// The instruction was executed.
     Moved,

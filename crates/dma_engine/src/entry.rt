@@ -7,7 +7,7 @@ use dma_mem::segment::Segment;
 use dma_mem::transfer::Transfer;
 
 /// Who set the flag of an event.
-#[derive(Clone, Copy, Debug, PartialEq, Eq)]
+#[derive(Clone, Copy)]
 pub enum Signaller {
     /// The front of this channel, by its DMASEV.
     Channel(u8),

@@ -40,7 +40,7 @@ pub enum Turn {
 }
 
 /// The result of consecutive steps of a channel.
-#[derive(Clone, Copy, Debug, PartialEq, Eq)]
+#[derive(Clone, Copy)]
 pub struct Advanced {
     /// The cookie of the transfer that the first step started, if it started one.
     pub started: Option<u32>,

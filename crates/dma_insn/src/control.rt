@@ -21,7 +21,7 @@ pub enum ControlFault {
 }
 
 /// The number of bytes that one beat of a burst moves: the manual's burst size codes 0 to 4.
-#[derive(Clone, Copy, PartialEq, Eq, Debug)]
+#[derive(Clone, Copy, PartialEq, Eq)]
 pub enum BeatSize {
     One,
     Two,
@@ -70,7 +70,7 @@ impl BeatSize {
 }
 
 /// The number of beats of one burst, 1 to 16. A contract sees the number.
-#[derive(Clone, Copy, PartialEq, Eq, Debug)]
+#[derive(Clone, Copy, PartialEq, Eq)]
 pub struct Beats {
     count: u8,
 }
@@ -120,7 +120,7 @@ impl Beats {
 
 /// The protection or the cache field of one end, 0 to 7. It is kept and has no effect (profile). A contract sees the
 /// number.
-#[derive(Clone, Copy, PartialEq, Eq, Debug)]
+#[derive(Clone, Copy, PartialEq, Eq)]
 pub struct Attribute {
     code: u8,
 }
@@ -168,7 +168,7 @@ impl Attribute {
 }
 
 /// The fields of a control word for one end, the source or the destination.
-#[derive(Clone, Copy, PartialEq, Eq, Debug)]
+#[derive(Clone, Copy, PartialEq, Eq)]
 pub struct BurstEnd {
     /// Whether the address grows by a burst's bytes; if not, each beat uses the same address.
     pub increments: bool,
@@ -228,7 +228,7 @@ impl BurstEnd {
 }
 
 /// The fields of a control word: how a load reads the source, and how a store writes the destination.
-#[derive(Clone, Copy, PartialEq, Eq, Debug)]
+#[derive(Clone, Copy, PartialEq, Eq)]
 pub struct Control {
     pub src: BurstEnd,
     pub dst: BurstEnd,
@@ -275,7 +275,7 @@ impl Control {
 }
 
 /// A valid control word: no size is reserved, the endian swap size is 0, and bit 31 is clear. A contract sees the word.
-#[derive(Clone, Copy, PartialEq, Eq, Debug)]
+#[derive(Clone, Copy, PartialEq, Eq)]
 pub struct ControlWord {
     bits: u32,
 }

@@ -5,7 +5,7 @@ ghost use Rattle.std.specs.Prelude.{◌≡◌, ℕ, ◌<◌, ◌≤◌, ◌↔�
 use std::marker::Model;
 
 /// A register that DMAMOV sets: the source address, the control word, the destination address.
-#[derive(Clone, Copy, PartialEq, Eq, Debug)]
+#[derive(Clone, Copy, PartialEq, Eq)]
 pub enum Reg {
     Sar,
     Ccr,
@@ -13,14 +13,14 @@ pub enum Reg {
 }
 
 /// One of a channel's two loop counters, the manual's LC0 and LC1.
-#[derive(Clone, Copy, PartialEq, Eq, Debug)]
+#[derive(Clone, Copy, PartialEq, Eq)]
 pub enum Counter {
     Lc0,
     Lc1,
 }
 
 /// The number of an event, 0 to 31. A contract sees the number.
-#[derive(Clone, Copy, PartialEq, Eq, Debug)]
+#[derive(Clone, Copy, PartialEq, Eq)]
 pub struct Event {
     number: u8,
 }
@@ -66,7 +66,7 @@ impl Event {
 }
 
 /// The number of times that the body of a loop runs, 1 to 256. A contract sees the number.
-#[derive(Clone, Copy, PartialEq, Eq, Debug)]
+#[derive(Clone, Copy, PartialEq, Eq)]
 pub struct Times {
     count: u16,
 }
@@ -114,7 +114,7 @@ impl Times {
 
 /// A channel instruction (PL330 manual, instruction chapter). The field `back` of `LpEnd` is the number of bytes from
 /// the start of the loop's body to the instruction's own address.
-#[derive(Clone, Copy, PartialEq, Eq, Debug)]
+#[derive(Clone, Copy, PartialEq, Eq)]
 pub enum Insn {
     /// DMAMOV
     Mov(Reg, u32),

@@ -6,7 +6,7 @@ use crate::segment::Segment;
 use crate::transfer::Transfer;
 
 /// A call on an engine. Each variant calls the method of the same name.
-#[derive(Debug, Drop)]
+#[derive(Drop)]
 pub enum Call {
     /// `write`
     Write { addr: u32, bytes: Bytes },

@@ -8,7 +8,7 @@ use std::marker::Model;
 
 /// A flag for each event from 0 to 31 (PL330 manual, DMASEV and DMAWFE). Contracts see them as a list of 32 truth
 /// values.
-#[derive(Debug, Drop)]
+#[derive(Drop)]
 pub struct Events {
     bits: u32,
 }

@@ -14,7 +14,7 @@ use std::slice;
 const INLINE_BYTES: usize = 22;
 
 /// Where the bytes of a list are.
-#[derive(Debug, Drop)]
+#[derive(Drop)]
 enum StoredBytes {
     /// In the value: the first `len` of `bytes`.
     Few { len: u8, bytes: [u8; INLINE_BYTES] },
@@ -23,7 +23,7 @@ enum StoredBytes {
 }
 
 /// A list of bytes.
-#[derive(Debug, Drop)]
+#[derive(Drop)]
 pub struct Bytes {
     stored: StoredBytes,
 }
@@ -106,7 +106,7 @@ impl Bytes {
 }
 
 /// Where the segments of a list are.
-#[derive(Debug, Drop)]
+#[derive(Drop)]
 enum StoredSegments {
     /// The list is empty.
     Empty,
@@ -117,7 +117,7 @@ enum StoredSegments {
 }
 
 /// A list of segments.
-#[derive(Debug, Drop)]
+#[derive(Drop)]
 pub struct Segments {
     alloc: Global,
     stored: StoredSegments,

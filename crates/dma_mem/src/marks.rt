@@ -21,7 +21,7 @@ pub enum MarkKind {
 /// Segments at which bursts fail (profile). Contracts see the marks in the order in which they were added.
 ///
 /// Beside the list it keeps the marked addresses of each kind as ordered ranges, for a binary search.
-#[derive(Debug, Drop)]
+#[derive(Drop)]
 pub struct Marks {
     list: Vec<(MarkKind, Segment)>,
     reading: Vec<Segment>,

@@ -37,7 +37,7 @@ pub enum MemFault {
 /// touched until something is written to the chunk; a fill with 0 and a copy from a chunk that isn't made leave them
 /// untouched. The first page of each 4 MiB also takes 6 KiB, for the list of their 256 chunks. Flags take a byte or two
 /// for each page up to the last one that is made.
-#[derive(Debug, Drop)]
+#[derive(Drop)]
 pub struct Memory {
     size: u32,
     table: Table,

@@ -6,7 +6,7 @@ use std::alloc::{AllocError, Global};
 use std::marker::Model;
 
 /// A flag for each page, by number. The list is as long as it had to be so far, and no flag past its end is set.
-#[derive(Debug, Drop)]
+#[derive(Drop)]
 pub(crate) struct PageFlags {
     flags: Vec<bool>,
 }

@@ -14,7 +14,7 @@ use std::alloc::{AllocError, Global};
 use std::marker::Model;
 
 // The ranges of a set. A single one is kept in the value, so a set of one segment allocates nothing.
-#[derive(Debug, Drop)]
+#[derive(Drop)]
 enum Kept {
     One(Segment),
     Many(Vec<Segment>),
@@ -34,7 +34,7 @@ impl Kept {
 
 /// A set of addresses, each at most 4,294,967,294. Contracts see it as ranges in rising order, of which no two meet or
 /// touch.
-#[derive(Debug, Drop)]
+#[derive(Drop)]
 pub struct RangeSet {
     kept: Kept,
 }

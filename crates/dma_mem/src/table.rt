@@ -62,7 +62,7 @@ fn add_zeros(bytes: &mut Vec<u8>)
 
 // A chunk: 16,384 bytes if it is made, otherwise none. The list of a new chunk has memory for the bytes but is empty,
 // so that this memory isn't touched. The first `put` or `copy_apart`, or `fill` with another byte than 0, adds them.
-#[derive(Debug, Drop)]
+#[derive(Drop)]
 struct Chunk {
     bytes: Vec<u8>,
 }
@@ -146,7 +146,7 @@ impl Chunk {
 }
 
 // 256 chunks with consecutive numbers. The list is empty until one of them is first made.
-#[derive(Debug, Drop)]
+#[derive(Drop)]
 struct Group {
     chunks: Vec<Chunk>,
 }
@@ -262,7 +262,7 @@ fn no_groups(alloc: Global, count: usize) -> Result<Vec<Group>, AllocError>
 }
 
 /// A table of chunks, by number. Contracts see the bytes of each chunk, none if it isn't made.
-#[derive(Debug, Drop)]
+#[derive(Drop)]
 pub(crate) struct Table {
     groups: Vec<Group>,
 }

@@ -46,7 +46,7 @@ pub enum TransferFault {
 
 // Where a transfer reads: the places of a list, or the one place of a fill. The one-byte segment of a fill is kept in
 // the variant, so that a fill allocates nothing for it.
-#[derive(Debug, Drop)]
+#[derive(Drop)]
 enum SourceSegments {
     List(Segments),
     Place(Segment),
@@ -86,7 +86,7 @@ impl SourceSegments {
 /// The places of a list are the addresses of its segments in rising order, segment after segment. Position p of the
 /// sources is copied to position p of the destinations. A fill has one source byte, which is copied to every
 /// destination.
-#[derive(Debug, Drop)]
+#[derive(Drop)]
 pub struct Transfer {
     src: SourceSegments,
     dst: Segments,

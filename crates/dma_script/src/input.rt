@@ -55,7 +55,7 @@ impl Source for Stdin {
 }
 
 /// Why the input was not read.
-#[derive(Clone, Copy, Debug, PartialEq, Eq, Drop)]
+#[derive(Clone, Copy, Debug, PartialEq, Eq)]
 pub enum InputError {
     /// A read failed.
     Failed,

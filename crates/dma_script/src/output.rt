@@ -40,7 +40,7 @@ impl Sink for Stderr {
 }
 
 /// A write failed, or took no byte.
-#[derive(Clone, Copy, Debug, PartialEq, Eq, Drop)]
+#[derive(Clone, Copy, Debug, PartialEq, Eq)]
 pub struct OutputFailed;
 
 /// Writes all of the text by plain writes. Fails at the first write that fails or takes no byte, and makes no further

@@ -19,7 +19,7 @@ const BYTES_PER_LINE: usize = 9;
 const BYTES_PER_LONG_LINE: usize = 40;
 
 /// A statement as it is kept, or where it is kept.
-#[derive(Clone, Copy, Debug, PartialEq, Eq, Drop)]
+#[derive(Clone, Copy)]
 enum Line {
     /// A `write` line, whose bytes come next in `bytes`.
     Write { addr: u32 },
@@ -36,7 +36,7 @@ enum Line {
 }
 
 /// Statements in the order of their lines. Contracts see a list of statements.
-#[derive(Debug, Drop)]
+#[derive(Drop)]
 pub struct Statements {
     lines: Vec<Line>,
     // The bytes of the `write` lines.

@@ -21,7 +21,7 @@ pub const MAX_JOBS: usize = 16;
 pub const LAST_CHANNEL: u32 = dma_mem::limits::LAST_CHANNEL as u32;
 
 /// A line `job FIRST LAST TURNS`: what one worker does.
-#[derive(Clone, Copy, Debug, PartialEq, Eq, Drop)]
+#[derive(Clone, Copy)]
 pub struct JobLine {
     /// The lowest channel that it steps.
     pub first: u8,
@@ -35,7 +35,7 @@ pub struct JobLine {
 pub type Jobs = List<JobLine>;
 
 /// A race script.
-#[derive(Debug, Drop)]
+#[derive(Drop)]
 pub struct RaceScript {
     /// The memory line, and the lines between it and `go` except the jobs.
     pub before: RunScript,
@@ -46,7 +46,7 @@ pub struct RaceScript {
 }
 
 /// The word that begins a line of a race script.
-#[derive(Clone, Copy, Debug, PartialEq, Eq, Drop)]
+#[derive(Clone, Copy)]
 pub(crate) enum RaceKeyword {
     /// The first word of a line of a run script.
     Line(Keyword),

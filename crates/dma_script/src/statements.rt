@@ -21,7 +21,7 @@ use std::alloc::Global;
 use std::marker::Model;
 
 /// The word that begins a line.
-#[derive(Clone, Copy, Debug, PartialEq, Eq, Drop)]
+#[derive(Clone, Copy)]
 pub enum Keyword {
     /// `memory SIZE CHANNELS`
     Memory,
@@ -62,7 +62,7 @@ pub enum Keyword {
 }
 
 /// A line of a run script after its first. `ch` is the number of a channel.
-#[derive(Debug, Drop)]
+#[derive(Drop)]
 pub enum Statement {
     /// Makes one call: for a line that was read, any but `submit` and `step`, which have variants of their own.
     Call(Call),
@@ -77,7 +77,7 @@ pub enum Statement {
 }
 
 /// A run script: its memory line, and the lines after that.
-#[derive(Debug, Drop)]
+#[derive(Drop)]
 pub struct RunScript {
     /// The size of the memory, 1 to [`MAX_SIZE`] bytes.
     pub size: u32,

@@ -12,7 +12,7 @@ use dma_mem::lists::Segments;
 use std::alloc::{AllocError, Global};
 
 /// Where the bytes of a transfer come from.
-#[derive(Debug, Drop)]
+#[derive(Drop)]
 pub enum Origin {
     /// The places of a list, one byte each.
     List(Segments),
@@ -22,7 +22,7 @@ pub enum Origin {
 
 /// `LIST to LIST [wait E] [signal E]` or `fill ADDR to LIST [wait E] [signal E]`: a transfer whose rules weren't
 /// tested.
-#[derive(Debug, Drop)]
+#[derive(Drop)]
 pub struct TransferLine {
     /// Where the bytes come from.
     pub src: Origin,
@@ -49,7 +49,7 @@ impl TransferLine {
 }
 
 /// A plan script, which is one line.
-#[derive(Debug, Drop)]
+#[derive(Drop)]
 pub struct PlanLine {
     /// The number of the line, from 1.
     pub line: usize,

@@ -67,11 +67,17 @@ impl Counts {
     pub fn at_base(engine: &Engine) -> Counts
         ensures { result ≡ base_of engine.now.view }
     {
-        let at = |ch: u8| -> ChannelCounts
-            ensures { result ≡ counts (board_of engine.entry.now.view.base) ch }
-        { ChannelCounts::at_base(engine, ch) };
         Counts {
-            channels: [at(0), at(1), at(2), at(3), at(4), at(5), at(6), at(7)],
+            channels: [
+                ChannelCounts::at_base(engine, 0),
+                ChannelCounts::at_base(engine, 1),
+                ChannelCounts::at_base(engine, 2),
+                ChannelCounts::at_base(engine, 3),
+                ChannelCounts::at_base(engine, 4),
+                ChannelCounts::at_base(engine, 5),
+                ChannelCounts::at_base(engine, 6),
+                ChannelCounts::at_base(engine, 7),
+            ],
         }
     }
 

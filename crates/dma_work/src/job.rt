@@ -6,7 +6,7 @@ ghost use Rattle.dma_mem.specs.Limits.{last_channel};
 use dma_mem::limits::LAST_CHANNEL;
 
 /// The channels that a worker steps in rotation, and its number of turns.
-#[derive(Clone, Copy, Debug)]
+#[derive(Clone, Copy)]
 pub struct Job {
     /// The first channel.
     pub first: u8,

@@ -13,7 +13,7 @@ use std::marker::{Model, PhantomData};
 use std::sync::{Mutex, MutexGuard, Wait};
 
 /// What was done through a desk.
-#[derive(Clone, Copy, Debug, Default, PartialEq, Eq)]
+#[derive(Clone, Copy, Default, PartialEq, Eq)]
 pub struct Totals {
     /// The number of steps that executed an instruction or finished a cookie.
     pub steps: u64,
@@ -148,7 +148,7 @@ pub trait Gate: Sync {
 }
 
 /// A gate that never waits.
-#[derive(Clone, Copy, Debug)]
+#[derive(Clone, Copy)]
 pub struct NoGate;
 
 impl Gate for NoGate {

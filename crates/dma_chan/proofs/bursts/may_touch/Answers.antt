@@ -1,7 +1,8 @@
 use Rattle.std.proofs.Common.{sym, arith, ◌<◌}
+use Rattle.std.proofs.lemmas.Grind.{common_steps}
 use Rattle.dma_mem.proofs.GapMarks.{barred_gaps}
 use Rattle.dma_chan.specs.Bursts.{span_of}
-use Rattle.dma_chan.proofs.BurstReach.{reaches_gap}
+use Rattle.dma_chan.proofs.BurstReach.{reaches_clear, reaches_gap}
 use Rattle.dma_chan.proofs.bursts.may_touch.Goals as goal
 
 pub returns-then-clear-span-clause-exact : goal.returns-then-clear-span-clause-exact
@@ -16,3 +17,15 @@ returns-then-end-size-clause-lie g c = λ hit. record {
   clear = barred_gaps c.args.kind (g.M.Ram.loan c.args.memory.now) c.args.burst.addr (span_of c.args.burst)
       (λ a low high. c.clear.ensures.none a (omega (arith, low, c.span-span.ensures.addr)) (omega (arith, high, c.span-span.ensures.addr, c.span-span.ensures.len)));
 }
+
+pub returns-then-clear-span-clause-lie : goal.returns-then-clear-span-clause-lie
+returns-then-clear-span-clause-lie g c = grind (arith, common_steps)
+
+pub returns-else-end-size-clause-lie : goal.returns-else-end-size-clause-lie
+returns-else-end-size-clause-lie g c = grind (arith, common_steps)
+
+pub returns-else-end-size-clause-exact : goal.returns-else-end-size-clause-exact
+returns-else-end-size-clause-exact g c = grind (arith, reaches_clear)
+
+pub returns-then-end-size-clause-exact : goal.returns-then-end-size-clause-exact
+returns-then-end-size-clause-exact g c = grind (arith, reaches_clear)

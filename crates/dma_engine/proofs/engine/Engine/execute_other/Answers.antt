@@ -1,4 +1,5 @@
 use Rattle.std.proofs.Common.{◌∙◌, arith, refl, sym, inl, inr}
+use Rattle.std.proofs.lemmas.Grind.{common_steps}
 use Rattle.dma_engine.specs.inner.Due.{IsNext}
 use Rattle.dma_engine.specs.inner.Inside.{parts_of}
 use Rattle.dma_engine.proofs.Instructions.{can_execute, failed, moved_answers, moves_or_fails, the_step, went_on}
@@ -58,3 +59,12 @@ returns-in-Moved-clause-fails c = tt
 
 pub returns-in-Moved-clause-still : goal.returns-in-Moved-clause-still
 returns-in-Moved-clause-still c = λ some. absurd cc
+
+pub invariant_of-self-in-Fault : goal.invariant_of-self-in-Fault
+invariant_of-self-in-Fault c = grind (arith, common_steps)
+
+pub returns-in-Fault-clause-moved : goal.returns-in-Fault-clause-moved
+returns-in-Fault-clause-moved c = grind (arith, common_steps)
+
+pub returns-in-Fault-clause-still : goal.returns-in-Fault-clause-still
+returns-in-Fault-clause-still c = grind (arith, common_steps)

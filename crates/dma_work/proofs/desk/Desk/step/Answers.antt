@@ -1,3 +1,4 @@
+use Rattle.std.proofs.lemmas.Grind.{common_steps}
 use Rattle.std.proofs.Common.{refl, sym, subst, arith}
 use Rattle.dma_engine.specs.View.{EngineState}
 use Rattle.dma_work.specs.Desk.{stepped_book}
@@ -27,3 +28,30 @@ count-requires-clause-finished g c = omega (arith, (kept g c.before.before).coun
 
 pub invariant_of-self : goal.invariant_of-self
 invariant_of-self g c = rw c.count.ensures (kept g c.before.before.before.before.before.before)
+
+pub step-answer-requires-clause-ends : goal.step-answer-requires-clause-ends
+step-answer-requires-clause-ends g c = grind (arith, common_steps)
+
+pub step-answer-requires-clause-pending : goal.step-answer-requires-clause-pending
+step-answer-requires-clause-pending g c = grind (arith, common_steps)
+
+pub step-answer-requires-clause-shown : goal.step-answer-requires-clause-shown
+step-answer-requires-clause-shown g c = grind (arith, common_steps)
+
+pub count-requires-clause-steps : goal.count-requires-clause-steps
+count-requires-clause-steps g c = grind (arith, common_steps)
+
+pub count-requires-2 : goal.count-requires-2
+count-requires-2 g c = grind (arith, common_steps)
+
+pub returns-clause-answer : goal.returns-clause-answer
+returns-clause-answer g c = grind (arith, common_steps)
+
+pub returns-clause-book : goal.returns-clause-book
+returns-clause-book g c = grind (arith, common_steps)
+
+pub returns-clause-before : goal.returns-clause-before
+returns-clause-before g c = grind (arith, common_steps)
+
+pub returns-clause-tally : goal.returns-clause-tally
+returns-clause-tally g c = grind (arith, common_steps)

@@ -1,3 +1,4 @@
+use Rattle.std.proofs.lemmas.Grind.{common_steps}
 use Rattle.std.proofs.Common.{◌∙◌, ap, arith, refl, sym}
 use Rattle.dma_mem.specs.declared.call.Call.TheVariants.{Submit}
 use Rattle.dma_engine.specs.declared.call.Reply.TheVariants.{Cookie}
@@ -39,3 +40,24 @@ invariant_of-self-2 g c = kept g c.before
 pub returns-clause-ticket : goal.returns-clause-ticket
 returns-clause-ticket g c =
     c.new-ticket.ensures ∙ ap (λ (x : SnapshotState). x.ticks) c.publish.ensures.snapshot ∙ ap (λ (x : EditionState). x.ticks) (kept g c.before).shown
+
+pub publish-requires-clause-pending : goal.publish-requires-clause-pending
+publish-requires-clause-pending g c = grind (arith, common_steps)
+
+pub publish-requires-clause-few : goal.publish-requires-clause-few
+publish-requires-clause-few g c = grind (arith, common_steps)
+
+pub returns-in-Err-clause-book : goal.returns-in-Err-clause-book
+returns-in-Err-clause-book g c = grind (arith, common_steps)
+
+pub returns-then-is_err-clause-err : goal.returns-then-is_err-clause-err
+returns-then-is_err-clause-err g c = grind (arith, common_steps)
+
+pub returns-then-is_err-clause-book : goal.returns-then-is_err-clause-book
+returns-then-is_err-clause-book g c = grind (arith, common_steps)
+
+pub returns-clause-ok : goal.returns-clause-ok
+returns-clause-ok g c = grind (arith, common_steps)
+
+pub returns-clause-book : goal.returns-clause-book
+returns-clause-book g c = grind (arith, common_steps)

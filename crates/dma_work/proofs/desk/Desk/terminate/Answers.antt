@@ -1,3 +1,4 @@
+use Rattle.std.proofs.lemmas.Grind.{common_steps}
 use Rattle.std.proofs.Common.{◌≡◌, ◌+◌, ◌∙◌, ap, arith, refl, sym}
 use Rattle.dma_mem.specs.declared.call.Call.TheVariants.{Terminate}
 use Rattle.dma_engine.specs.declared.call.Reply.TheVariants.{Count}
@@ -54,3 +55,39 @@ invariant_of-self-2 g c = kept g c.before
 pub returns-clause-ticket : goal.returns-clause-ticket
 returns-clause-ticket g c =
     c.new-last.ensures ∙ ap (λ (x : SnapshotState). x.ticks) c.publish.ensures.snapshot ∙ ap (λ (x : EditionState). x.ticks) (kept g c.before).shown
+
+pub publish-requires-clause-pending : goal.publish-requires-clause-pending
+publish-requires-clause-pending g c = grind (arith, common_steps)
+
+pub publish-requires-clause-few : goal.publish-requires-clause-few
+publish-requires-clause-few g c = grind (arith, common_steps)
+
+pub returns-in_err-make_room-clause-err : goal.returns-in_err-make_room-clause-err
+returns-in_err-make_room-clause-err g c = grind (arith, common_steps)
+
+pub returns-in_err-make_room-clause-same : goal.returns-in_err-make_room-clause-same
+returns-in_err-make_room-clause-same g c = grind (arith, common_steps)
+
+pub returns-in_err-make_room-clause-before : goal.returns-in_err-make_room-clause-before
+returns-in_err-make_room-clause-before g c = grind (arith, common_steps)
+
+pub returns-then-not-ready-clause-err : goal.returns-then-not-ready-clause-err
+returns-then-not-ready-clause-err g c = grind (arith, common_steps)
+
+pub returns-then-not-ready-clause-same : goal.returns-then-not-ready-clause-same
+returns-then-not-ready-clause-same g c = grind (arith, common_steps)
+
+pub returns-then-not-ready-clause-before : goal.returns-then-not-ready-clause-before
+returns-then-not-ready-clause-before g c = grind (arith, common_steps)
+
+pub returns-clause-ok : goal.returns-clause-ok
+returns-clause-ok g c = grind (arith, common_steps)
+
+pub returns-clause-through : goal.returns-clause-through
+returns-clause-through g c = grind (arith, common_steps)
+
+pub returns-clause-book : goal.returns-clause-book
+returns-clause-book g c = grind (arith, common_steps)
+
+pub returns-clause-before : goal.returns-clause-before
+returns-clause-before g c = grind (arith, common_steps)

@@ -1,4 +1,5 @@
-use Rattle.std.proofs.Common.{◌≡◌, ◌∙◌, ◌++◌, ap, true}
+use Rattle.std.proofs.lemmas.Grind.{common_steps}
+use Rattle.std.proofs.Common.{◌≡◌, ◌∙◌, ◌++◌, ap, true, arith}
 use Rattle.dma_engine.specs.Ticks.{Finished, ticks_of}
 use Rattle.dma_engine.specs.Turn.{ends, turn}
 use Rattle.dma_engine.specs.View.{View}
@@ -17,3 +18,21 @@ publish-requires-clause-acted g c =
     let h = c.in-Ok.ensures.answer in
     let more = (steps_add m w ch (Ok c.in-Ok.turn) h).ticks ∙ ap (λ l. ticks_of m.history ++ l) (ended m w ch c.in-Ok.turn over h) in
     acted_next c.args.self.now c.ready.new.self c.args.engine.now.view m w _ c.new-tick.result (Finished ch 1) same more c.new-tick.ensures (c.ready.ensures.ready c.if-not-ready.false) c.requires.shown
+
+pub publish-requires-clause-pending : goal.publish-requires-clause-pending
+publish-requires-clause-pending g c = grind (arith, common_steps)
+
+pub publish-requires-clause-few : goal.publish-requires-clause-few
+publish-requires-clause-few g c = grind (arith, common_steps)
+
+pub returns-then-is_err-clause-answer : goal.returns-then-is_err-clause-answer
+returns-then-is_err-clause-answer g c = grind (arith, common_steps)
+
+pub returns-then-is_err-clause-published : goal.returns-then-is_err-clause-published
+returns-then-is_err-clause-published g c = grind (arith, common_steps)
+
+pub returns-clause-answer : goal.returns-clause-answer
+returns-clause-answer g c = grind (arith, common_steps)
+
+pub returns-clause-published : goal.returns-clause-published
+returns-clause-published g c = grind (arith, common_steps)

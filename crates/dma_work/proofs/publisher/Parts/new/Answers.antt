@@ -1,0 +1,9 @@
+use Rattle.std.proofs.Common.{◌≡◌, subst}
+use Rattle.std.specs.List.{All}
+use Rattle.dma_work.specs.Known.{Known, knows}
+use Rattle.dma_work.proofs.publisher.Parts.new.Goals as goal
+
+pub returns-in-Ok-clause-readers : goal.returns-in-Ok-clause-readers
+returns-in-Ok-clause-readers g c =
+    let shown = c.in-Ok.publisher.shown in
+    subst (λ ticks. All (λ (s : Known). s ≡ knows shown.base shown.log ticks) c.in-Ok.readers.items) c.in-Ok.ensures.shown.1 c.in-Ok.ensures.readers
