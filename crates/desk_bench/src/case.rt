@@ -9,7 +9,7 @@ use std::alloc::Global;
 const MIB: u32 = 0x10_0000;
 
 /// Readers that request statuses, and workers that step copies at the same time.
-#[derive(Clone, Copy, Debug)]
+#[derive(Clone, Copy)]
 pub struct Case {
     /// The number of readers, at most two.
     pub readers: u32,

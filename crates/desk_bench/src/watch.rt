@@ -4,7 +4,7 @@ use std::rt::Clock;
 use std::time::{CpuClock, Duration, Instant};
 
 /// How long something took.
-#[derive(Clone, Copy, Debug, Default)]
+#[derive(Clone, Copy, Default)]
 pub struct Times {
     /// The elapsed time of the clock.
     pub took: Duration,
@@ -13,7 +13,7 @@ pub struct Times {
 }
 
 /// What was done, and how long it took.
-#[derive(Clone, Copy, Debug)]
+#[derive(Clone, Copy)]
 pub struct Measured {
     /// How long the requests took.
     pub asked: Times,

@@ -37,7 +37,7 @@ pub struct Call<'a> {
 }
 
 /// Why a subcommand's options give no call.
-#[derive(Debug, Drop)]
+#[derive(Drop)]
 enum Wrong<'a> {
     /// The value of an option has the wrong form or range.
     Value {

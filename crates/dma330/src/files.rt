@@ -18,7 +18,7 @@ const WRONG_USE: u8 = 2;
 const STANDARD_INPUT: &str = "<stdin>";
 
 /// Why a call has no answer.
-#[derive(Debug, Drop)]
+#[derive(Drop)]
 pub enum Failure<'a> {
     /// Out of memory.
     NoMemory,

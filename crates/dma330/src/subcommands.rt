@@ -72,6 +72,19 @@ fn command<'a>(
         .args(args)
 }
 
+/// Returns these arguments with one more behind them.
+fn with<'a>(mut args: Vec<Arg<'a>>, arg: Arg<'a>) -> Result<Vec<Arg<'a>>, AllocError> {
+    args.push(arg)?;
+    Ok(args)
+}
+
+/// Returns these arguments with those that say how a program in bytes is spelled.
+fn with_program<'a>(alloc: Global, args: Vec<Arg<'a>>) -> Result<Vec<Arg<'a>>, AllocError> {
+    let words = words(alloc)?;
+    let args = with(args, hex(alloc))?;
+    with(args, words)
+}
+
 /// Returns the command of `dis`.
 fn dis<'a>(alloc: Global) -> Result<Command<'a>, AllocError> {
     let about = "Prints a program's instructions in the manual's syntax, with addresses and bytes";
@@ -82,8 +95,8 @@ fn dis<'a>(alloc: Global) -> Result<Command<'a>, AllocError> {
         "ADDRESS",
         "Address of the first byte [default: 0]",
     );
-    let args = [at, hex(alloc), words(alloc)?, file(alloc, PROGRAM)];
-    let args = Vec::from_array(alloc, args)?;
+    let args = with_program(alloc, with(Vec::new(alloc), at)?)?;
+    let args = with(args, file(alloc, PROGRAM))?;
     command(alloc, "dis", about, example, args)
 }
 
@@ -103,52 +116,38 @@ fn explain<'a>(alloc: Global) -> Result<Command<'a>, AllocError> {
     let about =
         "Prints what a program copies in every memory, or the first thing that is wrong with it";
     let example = "Example:\n  dma330 explain --hex --bus 64 examples/linux.hex";
-    let most = option(
-        alloc,
-        "most",
-        "N",
-        "Give up after N instructions [default: 10000000]",
-    );
-    let args = [
-        hex(alloc),
-        words(alloc)?,
-        bus(alloc),
-        most,
-        file(alloc, PROGRAM),
-    ];
-    let args = Vec::from_array(alloc, args)?;
+    let most = "Give up after N instructions [default: 10000000]";
+    let args = with(with_program(alloc, Vec::new(alloc))?, bus(alloc))?;
+    let args = with(args, option(alloc, "most", "N", most))?;
+    let args = with(args, file(alloc, PROGRAM))?;
     command(alloc, "explain", about, example, args)
 }
 
-/// Returns the options of `trace` for RAM and events.
-fn machine_options<'a>(alloc: Global) -> Result<Vec<Arg<'a>>, AllocError> {
+/// Returns these arguments with the options of `trace` for RAM and events.
+fn with_machine<'a>(alloc: Global, args: Vec<Arg<'a>>) -> Result<Vec<Arg<'a>>, AllocError> {
     let ram = "RAM: 0, or the bytes of FILE and then 0";
     let fail = "Let loads and stores here fail";
     let event = "Set the flag of event N, 0 to 31, at the start";
     let limit = "Stop after N instructions [default: 1000000]";
-    let args = [
-        options(alloc, "ram", "ADDRESS+LENGTH[=FILE]", ram).required(true),
-        options(alloc, "fail", "ADDRESS+LENGTH", fail),
-        options(alloc, "event", "N", event),
-        option(alloc, "limit", "N", limit),
-    ];
-    Ok(Vec::from_array(alloc, args)?)
+    let ram = options(alloc, "ram", "ADDRESS+LENGTH[=FILE]", ram).required(true);
+    let args = with(args, ram)?;
+    let args = with(args, options(alloc, "fail", "ADDRESS+LENGTH", fail))?;
+    let args = with(args, options(alloc, "event", "N", event))?;
+    with(args, option(alloc, "limit", "N", limit))
 }
 
-/// Returns the options of `trace` for what is printed.
-fn printing_options<'a>(alloc: Global) -> Result<Vec<Arg<'a>>, AllocError> {
+/// Returns these arguments with the options of `trace` for what is printed.
+fn with_printing<'a>(alloc: Global, args: Vec<Arg<'a>>) -> Result<Vec<Arg<'a>>, AllocError> {
     let from = "Print from instruction N on, counted from 1 [default: 1]";
     let count = "Print at most N instructions [default: all]";
     let dump = "Print these bytes after the end";
     let vcd = "Write the waveform of the whole run, up to --limit, as a Value Change Dump";
-    let args = [
-        option(alloc, "from", "N", from),
-        option(alloc, "count", "N", count),
-        flag(alloc, "quiet", "Print no instruction, only the end"),
-        options(alloc, "dump", "ADDRESS+LENGTH", dump),
-        option(alloc, "vcd", "FILE", vcd),
-    ];
-    Ok(Vec::from_array(alloc, args)?)
+    let quiet = "Print no instruction, only the end";
+    let args = with(args, option(alloc, "from", "N", from))?;
+    let args = with(args, option(alloc, "count", "N", count))?;
+    let args = with(args, flag(alloc, "quiet", quiet))?;
+    let args = with(args, options(alloc, "dump", "ADDRESS+LENGTH", dump))?;
+    with(args, option(alloc, "vcd", "FILE", vcd))
 }
 
 /// Returns the command of `trace`.
@@ -156,11 +155,10 @@ fn trace<'a>(alloc: Global) -> Result<Command<'a>, AllocError> {
     let about = "Executes a program over RAM, and prints a line for each instruction";
     let example = "Example:\n  dma330 trace --hex --ram 0x10000000+0x2000 --quiet \
         --dump 0x10001000+16 examples/linux.hex";
-    let args = [hex(alloc), words(alloc)?, bus(alloc), file(alloc, PROGRAM)];
-    let args = Vec::from_array(alloc, args)?;
-    command(alloc, "trace", about, example, args)?
-        .args(machine_options(alloc)?)?
-        .args(printing_options(alloc)?)
+    let args = with(with_program(alloc, Vec::new(alloc))?, bus(alloc))?;
+    let args = with(args, file(alloc, PROGRAM))?;
+    let args = with_printing(alloc, with_machine(alloc, args)?)?;
+    command(alloc, "trace", about, example, args)
 }
 
 /// Returns the command of `race`.
@@ -214,12 +212,9 @@ pub fn subcommand<'a>(alloc: Global, name: &str) -> Result<Command<'a>, AllocErr
 /// Returns the subcommands, in the order of the help.
 fn subcommands<'a>(alloc: Global) -> Result<Vec<Command<'a>>, AllocError> {
     let mut commands = Vec::new(alloc);
-    commands.push(dis(alloc)?)?;
-    commands.push(asm(alloc)?)?;
-    commands.push(explain(alloc)?)?;
-    commands.push(trace(alloc)?)?;
-    commands.push(race(alloc)?)?;
-    commands.push(why(alloc)?)?;
+    for name in ["dis", "asm", "explain", "trace", "race", "why"] {
+        commands.push(subcommand(alloc, name)?)?;
+    }
     Ok(commands)
 }
 

@@ -3,7 +3,7 @@ use dma_mem::segment::Segment;
 use dma_seeds::seeds::SeedRange;
 
 /// RAM of a trace: a range of addresses, and the file whose bytes it begins with, if any.
-#[derive(Clone, Copy, Debug)]
+#[derive(Clone, Copy)]
 pub struct RamRange<'a> {
     pub range: Segment,
     pub file: Option<&'a str>,

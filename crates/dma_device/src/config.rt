@@ -18,7 +18,7 @@ pub const MAX_BUFFER: u32 = 256;
 
 /// The revision of the controller, for instance r1p2. Linux's driver puts barriers between loads and stores only for
 /// r0p0.
-#[derive(Clone, Copy, Debug, PartialEq, Eq)]
+#[derive(Clone, Copy, PartialEq, Eq)]
 pub enum Revision {
     R0p0,
     R1p0,
@@ -42,7 +42,7 @@ impl Revision {
 }
 
 /// The choices of a chip's designer. A guest's driver reads them in CR0 to CRD and in periph_id_2.
-#[derive(Clone, Copy, Debug, PartialEq, Eq)]
+#[derive(Clone, Copy)]
 pub struct Config {
     /// The number of channels, 1 to 8.
     pub channels: u8,

@@ -22,7 +22,7 @@ mod saving;
 pub mod turns;
 
 /// The manager thread.
-#[derive(Clone, Copy, Debug, PartialEq, Eq)]
+#[derive(Clone, Copy)]
 pub struct Manager {
     /// Whether it is faulting; else it is stopped.
     pub is_faulting: bool,

@@ -28,7 +28,7 @@ pub const DBG_INSTR: u32 = 1 << 30;
 pub const LOCKUP_ERR: u32 = 1 << 31;
 
 /// The status of a channel thread.
-#[derive(Clone, Copy, Debug, PartialEq, Eq)]
+#[derive(Clone, Copy, PartialEq, Eq)]
 pub enum Status {
     Stopped,
     Executing,

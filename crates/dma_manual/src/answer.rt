@@ -10,7 +10,7 @@ use dma_text::text::{Text, print};
 use std::alloc::{AllocError, Global};
 
 /// What a call prints.
-#[derive(Debug, Drop)]
+#[derive(Drop)]
 pub struct Answer {
     /// To standard output.
     pub out: Vec<u8>,

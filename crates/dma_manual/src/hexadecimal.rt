@@ -7,7 +7,7 @@ use dma_text::digits::digit_value;
 use std::alloc::{AllocError, Global};
 
 /// How a text spells bytes: by numbers of one size.
-#[derive(Clone, Copy, Debug, PartialEq, Eq)]
+#[derive(Clone, Copy)]
 pub enum Notation {
     /// Each byte by two digits.
     Pairs,
@@ -16,7 +16,7 @@ pub enum Notation {
 }
 
 /// What the last byte of a text was a part of.
-#[derive(Clone, Copy, Debug, PartialEq, Eq)]
+#[derive(Clone, Copy)]
 pub enum Reading {
     /// A gap.
     Between,

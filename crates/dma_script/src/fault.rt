@@ -6,7 +6,7 @@ use std::alloc::AllocError;
 
 /// Why a line is refused (profile), in the order in which the causes are tested. Each cause is tested over all words of
 /// the line, from the left, before the next one. `Number` and `Hex` are tested together.
-#[derive(Clone, Copy, Debug, PartialEq, Eq)]
+#[derive(Clone, Copy, PartialEq, Eq)]
 pub enum Cause {
     /// A byte is not printable ASCII, a space or a tab.
     Byte,
@@ -53,7 +53,7 @@ impl Cause {
 }
 
 /// The first fault of a script.
-#[derive(Clone, Copy, Debug, PartialEq, Eq)]
+#[derive(Clone, Copy, PartialEq, Eq)]
 pub struct Fault {
     /// The number of the line, from 1; 0 if the script has no line, or a race script has no `go`.
     pub line: usize,
@@ -73,7 +73,7 @@ impl Text for Fault {
 }
 
 /// Why something was not read.
-#[derive(Clone, Copy, Debug, PartialEq, Eq, Drop)]
+#[derive(Clone, Copy, PartialEq, Eq)]
 pub enum ReadError<F> {
     /// It has a fault.
     Fault(F),

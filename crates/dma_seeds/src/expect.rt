@@ -18,7 +18,7 @@ use std::alloc::{AllocError, Global};
 use std::marker::Model;
 
 /// An `expect` line that fails.
-#[derive(Debug, Drop)]
+#[derive(Drop)]
 pub struct Missed {
     /// The seed.
     pub seed: u64,
@@ -31,7 +31,7 @@ pub struct Missed {
 }
 
 /// Whether a race script is good.
-#[derive(Debug, Drop)]
+#[derive(Drop)]
 pub enum Verdict {
     /// It has no fault, and its `expect` lines hold.
     Holds,

@@ -13,7 +13,7 @@ use dma_text::text::{Text, print};
 use std::alloc::AllocError;
 
 /// An output of a race, from the line of `go` on.
-#[derive(Debug, Drop)]
+#[derive(Drop)]
 pub struct Output {
     /// The output.
     pub text: Bytes,

@@ -84,7 +84,7 @@ fn run_measured(
 }
 
 /// What the turns of a race did.
-#[derive(Clone, Copy, Debug, PartialEq, Eq, Drop)]
+#[derive(Clone, Copy)]
 struct Totals {
     /// How many turns executed an instruction or finished a cookie.
     steps: u64,

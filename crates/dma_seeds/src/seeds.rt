@@ -18,7 +18,7 @@ use dma_text::progress::Progress;
 use std::alloc::{AllocError, Global};
 
 /// The seeds from a first one to a last one.
-#[derive(Clone, Copy, Debug, PartialEq, Eq, Drop)]
+#[derive(Clone, Copy)]
 pub struct SeedRange {
     /// The first seed.
     pub first: u32,
@@ -27,7 +27,7 @@ pub struct SeedRange {
 }
 
 /// The verdict on a race script for a range of seeds.
-#[derive(Debug, Drop)]
+#[derive(Drop)]
 pub struct SeedsVerdict {
     /// The verdict for the first seed for which it isn't good, else `Holds`.
     pub first: Verdict,

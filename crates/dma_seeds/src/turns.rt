@@ -11,7 +11,7 @@ use std::alloc::{AllocError, Global};
 use std::marker::Model;
 
 /// A turn of a race: the number of the job that takes it, from 0, and the channel that it steps.
-#[derive(Clone, Copy, Debug, PartialEq, Eq, Drop)]
+#[derive(Clone, Copy)]
 pub struct RaceTurn {
     /// The number of the job, from 0.
     pub job: usize,
@@ -20,7 +20,7 @@ pub struct RaceTurn {
 }
 
 /// The turns that a job has left.
-#[derive(Clone, Copy, Debug, PartialEq, Eq, Drop)]
+#[derive(Clone, Copy)]
 pub struct TurnsLeft {
     /// The first channel of the job's rotation.
     pub first: u8,

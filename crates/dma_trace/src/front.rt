@@ -20,7 +20,7 @@ const DESTINATION: u32 = 14;
 
 /// The registers of a channel, the manual's SAR, DAR, CCR, LC0 and LC1, with the offset of its next instruction, its
 /// bus, and how many bytes its buffer holds.
-#[derive(Clone, Copy, Debug)]
+#[derive(Clone, Copy)]
 pub struct Front {
     pub pc: u32,
     pub sar: u32,
@@ -33,7 +33,7 @@ pub struct Front {
 }
 
 /// The `len` addresses from `addr` on, which a burst touches `times` times, and how far it moves its address.
-#[derive(Clone, Copy, Debug)]
+#[derive(Clone, Copy)]
 pub struct Span {
     pub addr: u32,
     pub len: u32,

@@ -12,14 +12,14 @@ use dma_text::text::{Address, Text};
 use std::alloc::AllocError;
 
 /// An instruction that loads or stores the address: its number, counted from 1, and its offset.
-#[derive(Clone, Copy, Debug)]
+#[derive(Clone, Copy)]
 pub struct Access {
     pub number: u32,
     pub pc: u32,
 }
 
 /// The first load of an address, and its first two stores.
-#[derive(Clone, Copy, Debug)]
+#[derive(Clone, Copy)]
 pub struct Touches {
     pub load: Option<Access>,
     pub store: Option<Access>,

@@ -8,7 +8,7 @@ use dma_engine::{Engine, EngineFault, Turn};
 use std::alloc::{AllocError, Global};
 
 /// A cookie of a channel.
-#[derive(Clone, Copy, Debug, PartialEq, Eq, Drop)]
+#[derive(Clone, Copy)]
 pub struct Cookie {
     /// The channel.
     pub ch: u8,
@@ -17,7 +17,7 @@ pub struct Cookie {
 }
 
 /// What a channel waits for.
-#[derive(Clone, Copy, Debug, PartialEq, Eq, Drop)]
+#[derive(Clone, Copy)]
 pub enum Wait {
     /// Its front can't start before this front of another channel has ended.
     Front(Cookie),

@@ -19,7 +19,7 @@ use std::thread::Threads;
 pub const WRONG_ARGUMENTS: u8 = 2;
 
 /// A command.
-#[derive(Clone, Copy, Debug, PartialEq, Eq, Drop)]
+#[derive(Clone, Copy, PartialEq, Eq)]
 pub enum Subcommand {
     /// `asm`
     Asm,

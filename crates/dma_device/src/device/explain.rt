@@ -10,7 +10,7 @@ use dma_chan::explain::{Explained, Unexplained, explain};
 use std::alloc::Global;
 
 /// Why a device finds no copy that explains a channel's program.
-#[derive(Clone, Copy, Debug, PartialEq, Eq)]
+#[derive(Clone, Copy, PartialEq, Eq)]
 pub enum ExplainFault {
     /// The device doesn't have the channel.
     NoChannel,

@@ -14,7 +14,7 @@ use dma_mem::regions::Region;
 use dma_mem::segment::Segment;
 
 /// What a turn did.
-#[derive(Clone, Copy, Debug, PartialEq, Eq)]
+#[derive(Clone, Copy)]
 pub struct Turn {
     /// The range that it wrote. Each address in it was written, and no other was.
     pub written: Segment,

@@ -1,3 +1,4 @@
+use Rattle.std.proofs.lemmas.Grind.{common_steps}
 use Rattle.std.proofs.Common.{arith, sym, ◌∙◌}
 use Rattle.dma_text.proofs.Begun.{begins_more, begins_same}
 use Rattle.dma_manual.proofs.Listings.{listed_step}
@@ -59,3 +60,27 @@ returns-clause-out_begins c = c.loop-rest.invariant.begins
 
 pub returns-clause-err_begins : goal.returns-clause-err_begins
 returns-clause-err_begins c = begins_same _ _ c.loop-rest.invariant.err
+
+pub returns-in-Err-clause-out : goal.returns-in-Err-clause-out
+returns-in-Err-clause-out c = grind (arith, common_steps)
+
+pub returns-in-Err-clause-err : goal.returns-in-Err-clause-err
+returns-in-Err-clause-err c = grind (arith, common_steps)
+
+pub returns-in-Err-clause-whole : goal.returns-in-Err-clause-whole
+returns-in-Err-clause-whole c = grind (arith, common_steps)
+
+pub returns-then-is_end-clause-err : goal.returns-then-is_end-clause-err
+returns-then-is_end-clause-err c = grind (arith, common_steps)
+
+pub returns-then-is_end-clause-whole : goal.returns-then-is_end-clause-whole
+returns-then-is_end-clause-whole c = grind (arith, common_steps)
+
+pub returns-clause-out : goal.returns-clause-out
+returns-clause-out c = grind (arith, common_steps)
+
+pub returns-clause-err : goal.returns-clause-err
+returns-clause-err c = grind (arith, common_steps)
+
+pub returns-clause-whole : goal.returns-clause-whole
+returns-clause-whole c = grind (arith, common_steps)
