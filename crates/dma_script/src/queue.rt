@@ -217,17 +217,15 @@ impl Left<'_> {
         };
         self.lines = rest;
         match *line {
-            Line::Write { addr } => match self.bytes.next() {
-                Some(bytes) => Some(interpreter.interpret(
-                    Statement::Call(Call::Write { addr, bytes }),
-                    out,
-                )),
-                None => unreachable!(),
-            },
-            Line::Long => match self.long.next() {
-                Some(long) => Some(interpreter.interpret(long, out)),
-                None => unreachable!(),
-            },
+            Line::Write { addr } => {
+                let bytes = self.bytes.next().unwrap();
+                let write = Statement::Call(Call::Write { addr, bytes });
+                Some(interpreter.interpret(write, out))
+            }
+            Line::Long => {
+                let long = self.long.next().unwrap();
+                Some(interpreter.interpret(long, out))
+            }
             short => Some(run_short(short, interpreter, out)),
         }
     }
