@@ -6,6 +6,8 @@ import re
 FUNCTION = re.compile(r'^( *)(?:pub(?:\([a-z]+\))? )?(const )?(?:unsafe )?(?:extern "C" )?fn (\w+)', re.M)
 IMPL = re.compile(r"^(?:unsafe )?impl(?:<[^{}]*?>)? (?:([^{}]*?) for )?([^{}]*?)(?: where[^{}]*)?\s*\{", re.M)
 TYPE = re.compile(r"^ *(?:pub(?:\([a-z]+\))? )?(?:struct|enum|union) (\w+)", re.M)
+# In the names of other impls, generic ones, the prover has more words.
+PLAIN_TRAIT, PLAIN_TYPE = re.compile(r"[A-Z]\w*|From<[A-Z]\w*>"), re.compile(r"[A-Z]\w*(<('\w+(, )?)+>)?")
 # A proof that is left open: with --allow-holes the prover takes a function that has it by its contract.
 HOLE = """use Rattle.{crate}.proofs.{path}.Statement.{{statement}}
 
@@ -45,12 +47,11 @@ class Function:
         return any(("::" + self.path).endswith("::" + it) for it in paths)
 
     def proof(self, types):
-        """Returns the path of its proof from the crate, or None if it isn't known. `types` has the files of each type."""
+        """Returns the path of its proof from the crate, or None if it isn't known. `types` has each type's files."""
         if not self.impl:
             return self.path.replace("::", ".")
         trait, of = self.impl
-        # (the name of an impl of another generic trait or type has more words)
-        if trait and not (re.fullmatch(r"[A-Z]\w*|From<[A-Z]\w*>", trait) and re.fullmatch(r"[A-Z]\w*(<('\w+(, )?)+>)?", of)):
+        if trait and not (PLAIN_TRAIT.fullmatch(trait) and PLAIN_TYPE.fullmatch(of)):
             return None
         homes = [] if trait else types.get(re.match(r"\w+", of)[0], [])
         home = self.file if self.file in homes or not homes else homes[0]
@@ -102,8 +103,9 @@ def without_bodies(text, chosen):
 
 
 def leave_bodies_out(folder, crate, kept):
-    """Leaves out the bodies of a crate's functions, and lets holes be their proofs, but for those with the paths `kept`,
-    constant ones, and those whose proof has an unknown path. A check with --allow-holes then takes them by contract."""
+    """Leaves out the bodies of a crate's functions, and makes their proofs holes, except of those with the paths `kept`,
+    of constant ones, and of those whose proof has an unknown path. A check with --allow-holes takes them by contract.
+    """
     sources = {os.path.relpath(it, folder): read(it) for it in files_below(os.path.join(folder, "src"), ".rt")}
     types = {}
     for file, text in sources.items():
