@@ -1,4 +1,5 @@
-use Rattle.std.proofs.Common.{◌++◌, List, ap, ◌∙◌}
+use Rattle.std.proofs.lemmas.Grind.{common_steps}
+use Rattle.std.proofs.Common.{arith, ◌++◌, List, ap, ◌∙◌}
 use Rattle.std.specs.Prelude.{flat_map}
 use Rattle.dma_mem.specs.declared.segment.Segment.{Segment}
 use Rattle.dma_mem.specs.Regions.{pieces_of}
@@ -12,3 +13,60 @@ returns-clause-ok g c =
     let left = c.run.new.regions in
     let dumped = c.in_ok-push_dumps.ensures.ok ∙ ap (λ (xs : List Segment). c.run.new.out.items ++ flat_map (dump_text (pieces_of left)) xs) c.deref.ensures.value in
     shows c.args.options.now c.args.program.now first left c.in_ok-good.good c.args.out.now.items c.args.err.now.items c.args.wave.now.items c.run.new.out.items c.push_dumps.new.out.items c.run.new.err.items c.run.new.wave.items c.if-program-gt-MAX_PROGRAM_BYTES.false c.in_ok-good.ensures.places (in_order_kept first left c.in_ok-good.ensures.places c.requires.order) c.in_ok-good.ensures.ok dumped
+
+pub returns-in_err-push-clause-ok : goal.returns-in_err-push-clause-ok
+returns-in_err-push-clause-ok c = grind (arith, common_steps)
+
+pub returns-in_err-push-clause-begins : goal.returns-in_err-push-clause-begins
+returns-in_err-push-clause-begins c = grind (arith, common_steps)
+
+pub returns-in_err-push-clause-begins_err : goal.returns-in_err-push-clause-begins_err
+returns-in_err-push-clause-begins_err c = grind (arith, common_steps)
+
+pub returns-in_err-push-clause-begins_wave : goal.returns-in_err-push-clause-begins_wave
+returns-in_err-push-clause-begins_wave c = grind (arith, common_steps)
+
+pub returns-then-program-gt-MAX_PROGRAM_BYTES-clause-ok : goal.returns-then-program-gt-MAX_PROGRAM_BYTES-clause-ok
+returns-then-program-gt-MAX_PROGRAM_BYTES-clause-ok c = grind (arith, common_steps)
+
+pub returns-then-program-gt-MAX_PROGRAM_BYTES-clause-begins : goal.returns-then-program-gt-MAX_PROGRAM_BYTES-clause-begins
+returns-then-program-gt-MAX_PROGRAM_BYTES-clause-begins c = grind (arith, common_steps)
+
+pub returns-then-program-gt-MAX_PROGRAM_BYTES-clause-begins_err : goal.returns-then-program-gt-MAX_PROGRAM_BYTES-clause-begins_err
+returns-then-program-gt-MAX_PROGRAM_BYTES-clause-begins_err c = grind (arith, common_steps)
+
+pub returns-then-program-gt-MAX_PROGRAM_BYTES-clause-begins_wave : goal.returns-then-program-gt-MAX_PROGRAM_BYTES-clause-begins_wave
+returns-then-program-gt-MAX_PROGRAM_BYTES-clause-begins_wave c = grind (arith, common_steps)
+
+pub returns-in_err-good-clause-ok : goal.returns-in_err-good-clause-ok
+returns-in_err-good-clause-ok c = grind (arith, common_steps)
+
+pub returns-in_err-good-clause-begins : goal.returns-in_err-good-clause-begins
+returns-in_err-good-clause-begins c = grind (arith, common_steps)
+
+pub returns-in_err-good-clause-begins_err : goal.returns-in_err-good-clause-begins_err
+returns-in_err-good-clause-begins_err c = grind (arith, common_steps)
+
+pub returns-in_err-good-clause-begins_wave : goal.returns-in_err-good-clause-begins_wave
+returns-in_err-good-clause-begins_wave c = grind (arith, common_steps)
+
+pub returns-in_err-push_dumps-clause-ok : goal.returns-in_err-push_dumps-clause-ok
+returns-in_err-push_dumps-clause-ok c = grind (arith, common_steps)
+
+pub returns-in_err-push_dumps-clause-begins : goal.returns-in_err-push_dumps-clause-begins
+returns-in_err-push_dumps-clause-begins c = grind (arith, common_steps)
+
+pub returns-in_err-push_dumps-clause-begins_err : goal.returns-in_err-push_dumps-clause-begins_err
+returns-in_err-push_dumps-clause-begins_err c = grind (arith, common_steps)
+
+pub returns-in_err-push_dumps-clause-begins_wave : goal.returns-in_err-push_dumps-clause-begins_wave
+returns-in_err-push_dumps-clause-begins_wave c = grind (arith, common_steps)
+
+pub returns-clause-begins : goal.returns-clause-begins
+returns-clause-begins c = grind (arith, common_steps)
+
+pub returns-clause-begins_err : goal.returns-clause-begins_err
+returns-clause-begins_err c = grind (arith, common_steps)
+
+pub returns-clause-begins_wave : goal.returns-clause-begins_wave
+returns-clause-begins_wave c = grind (arith, common_steps)
