@@ -99,10 +99,10 @@ pub fn push_race_message(alloc: Global, script: &[u8], out: &mut Vec<u8>) -> Res
     ensures begins { Begins out.new.items out.old.items }
 {
     let kept = without_expects(alloc, script)?;
-    match read_race_script(alloc, &kept) {
-        Ok(_) => Ok(()),
-        Err(ScriptError::NoMemory) => Err(AllocError),
-        Err(ScriptError::Fault(fault)) => push_fault(script, fault, out),
+    match read_race_script(alloc, &kept).err() {
+        None => Ok(()),
+        Some(ScriptError::NoMemory) => Err(AllocError),
+        Some(ScriptError::Fault(fault)) => push_fault(script, fault, out),
     }
 }
 
@@ -112,9 +112,9 @@ pub fn push_run_message(alloc: Global, script: &[u8], out: &mut Vec<u8>) -> Resu
     ensures ok { OnOk result (out.new.items ≡ out.old.items ++ run_message script.now) }
     ensures begins { Begins out.new.items out.old.items }
 {
-    match read_run_script(alloc, script) {
-        Ok(_) => Ok(()),
-        Err(ScriptError::NoMemory) => Err(AllocError),
-        Err(ScriptError::Fault(fault)) => push_fault(script, fault, out),
+    match read_run_script(alloc, script).err() {
+        None => Ok(()),
+        Some(ScriptError::NoMemory) => Err(AllocError),
+        Some(ScriptError::Fault(fault)) => push_fault(script, fault, out),
     }
 }

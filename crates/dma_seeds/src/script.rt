@@ -90,12 +90,11 @@ pub fn script_of_seed(
     ensures err { OnErr result (out.new.items ≡ out.old.items) }
 {
     let kept = without_expects(alloc, script)?;
-    let race = match read_race_script(alloc, &kept) {
-        Ok(race) => race,
+    let text = match read_race_script(alloc, &kept) {
+        Ok(race) => script_of_jobs(alloc, &kept, race.jobs.as_slice(), seed)?,
         Err(ScriptError::NoMemory) => return Err(AllocError),
         Err(_) => return Ok(false),
     };
-    let text = script_of_jobs(alloc, &kept, race.jobs.as_slice(), seed)?;
     out.extend_from_slice(&text)?;
     Ok(true)
 }

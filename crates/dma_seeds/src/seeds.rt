@@ -152,14 +152,14 @@ fn print_outputs_of<P: Progress>(
     ensures text { OnOk result (out.new.items ≡ out.old.items ++ seeds_printed script.now seeds) }
     ensures good { IfOk result (λ good. good ≡ is_ok (race_script_of script.now)) }
 {
-    match read_race_script(alloc, script) {
-        Ok(_) => {
+    match read_race_script(alloc, script).err() {
+        None => {
             let outputs = outputs_of(alloc, script, seeds, progress)?;
             print_seeds(seeds, &outputs, out)?;
             Ok(true)
         }
-        Err(ScriptError::NoMemory) => Err(AllocError),
-        Err(error) => {
+        Some(ScriptError::NoMemory) => Err(AllocError),
+        Some(error) => {
             print_line(out, &error)?;
             Ok(false)
         }
