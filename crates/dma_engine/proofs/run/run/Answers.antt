@@ -1,3 +1,4 @@
+use Rattle.std.proofs.lemmas.Grind.{common_steps}
 use Rattle.std.proofs.Common.{◌≡◌, ◌+◌, ◌∙◌, ◌++◌, ◌∷◌, [], ap, sym, take, arith}
 use Rattle.std.proofs.lemmas.List.{take_more, take_all}
 use Rattle.dma_engine.proofs.CallLists.{AreAnswers_push, chain_extends}
@@ -33,3 +34,30 @@ returns-clause-kept c = λ none. kept c.args.engine.now.view c.loop-call.engine.
 pub returns-clause-remembers : goal.returns-clause-remembers
 returns-clause-remembers c =
     chain_remembers c.args.engine.now.view c.loop-call.engine.view (take c.loop-call.call-index c.args.calls.now) c.loop-call.replies.items c.loop-call.invariant.answers
+
+pub returns-in_err-replies-clause-remembers : goal.returns-in_err-replies-clause-remembers
+returns-in_err-replies-clause-remembers c = grind (arith, common_steps)
+
+pub returns-in_err-replies-clause-sound : goal.returns-in_err-replies-clause-sound
+returns-in_err-replies-clause-sound c = grind (arith, common_steps)
+
+pub returns-in_err-replies-clause-memory : goal.returns-in_err-replies-clause-memory
+returns-in_err-replies-clause-memory c = grind (arith, common_steps)
+
+pub loop-call-init : goal.loop-call-init
+loop-call-init c = grind (arith, common_steps)
+
+pub returns-clause-sound : goal.returns-clause-sound
+returns-clause-sound c = c.loop-call.invariant.sound
+
+pub returns-clause-memory : goal.returns-clause-memory
+returns-clause-memory c = c.loop-call.invariant.memory
+
+pub returns-in_err-replies-clause-refused : goal.returns-in_err-replies-clause-refused
+returns-in_err-replies-clause-refused c = grind (arith, common_steps)
+
+pub returns-clause-answers : goal.returns-clause-answers
+returns-clause-answers c = grind (arith, common_steps)
+
+pub returns-clause-views : goal.returns-clause-views
+returns-clause-views c = grind (arith, common_steps)

@@ -1,3 +1,4 @@
+use Rattle.std.proofs.lemmas.Grind.{common_steps}
 use Rattle.std.proofs.Common.{◌<◌, ◌∙◌, sym, arith, length}
 use Rattle.dma_chan.proofs.LayerLaws.{ahead_is}
 use Rattle.dma_engine.specs.inner.Due.{IsNext}
@@ -23,3 +24,21 @@ returns-clause-due c =
     let r = running (holds_at p c.self.invariant c.args.ch q less (rw c.from-index.ensures at c.index-queue.ensures)) (sym c.if-not-is_loaded.ensures) in
     let next = ahead_member r c.in-Ok.next c.next.result c.next.ensures c.in-Ok.is in
     rw (← c.self.view_is) (make_due (IsNext c.in-Ok.next) (sym c.if-is_paused.ensures) (omega (arith, c.if-self-ge18446744073709551615.false)) r next)
+
+pub returns-then-index-len-clause-none : goal.returns-then-index-len-clause-none
+returns-then-index-len-clause-none c = grind (arith, common_steps)
+
+pub returns-then-index-len-clause-no_end : goal.returns-then-index-len-clause-no_end
+returns-then-index-len-clause-no_end c = grind (arith, common_steps)
+
+pub returns-then-is_halted-clause-none : goal.returns-then-is_halted-clause-none
+returns-then-is_halted-clause-none c = grind (arith, common_steps)
+
+pub returns-then-is_halted-clause-no_end : goal.returns-then-is_halted-clause-no_end
+returns-then-is_halted-clause-no_end c = grind (arith, common_steps)
+
+pub returns-clause-none : goal.returns-clause-none
+returns-clause-none c = grind (arith, common_steps)
+
+pub returns-clause-no_end : goal.returns-clause-no_end
+returns-clause-no_end c = grind (arith, common_steps)

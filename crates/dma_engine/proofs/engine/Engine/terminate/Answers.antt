@@ -1,3 +1,4 @@
+use Rattle.std.proofs.lemmas.Grind.{common_steps}
 use Rattle.std.proofs.Common.{◌≡◌, ◌∙◌, ap, arith, refl}
 use Rattle.std.specs.Prelude.{slice_set}
 use Rattle.std.proofs.lemmas.List.{set-get_or}
@@ -91,3 +92,24 @@ returns-in_err-terminate-clause-answer c =
 
 pub returns-clause-room : goal.returns-clause-room
 returns-clause-room c = λ _. tt
+
+pub returns-in_err-index-clause-answer : goal.returns-in_err-index-clause-answer
+returns-in_err-index-clause-answer c = grind (arith, common_steps)
+
+pub returns-in_err-terminate-clause-room : goal.returns-in_err-terminate-clause-room
+returns-in_err-terminate-clause-room c = grind (arith, common_steps)
+
+pub returns-in_err-index-clause-room : goal.returns-in_err-index-clause-room
+returns-in_err-index-clause-room c = grind (arith, common_steps)
+
+pub returns-in_err-index-clause-kept : goal.returns-in_err-index-clause-kept
+returns-in_err-index-clause-kept c = grind (arith, common_steps)
+
+pub returns-in_err-reserve-clause-kept : goal.returns-in_err-reserve-clause-kept
+returns-in_err-reserve-clause-kept c = grind (arith, common_steps)
+
+pub returns-in_err-terminate-clause-kept : goal.returns-in_err-terminate-clause-kept
+returns-in_err-terminate-clause-kept c = grind (arith, common_steps)
+
+pub returns-clause-kept : goal.returns-clause-kept
+returns-clause-kept c = grind (arith, common_steps)
