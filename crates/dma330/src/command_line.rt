@@ -2,7 +2,7 @@
 use crate::subcommands::{dma330, subcommand};
 use crate::values::{RamRange, number, ram_range, range, seed_range};
 use clap::error::ErrorKind;
-use clap::{ArgMatches, Error};
+use clap::{ArgMatches, Command, Error};
 use dma_chan::bus::{Bus, BusWidth};
 use dma_manual::hexadecimal::Notation;
 use dma_mem::segment::Segment;
@@ -61,6 +61,17 @@ impl<T: Drop> From<AllocFailed<T>> for Wrong<'_> {
     }
 }
 
+/// Returns an error with the usage of a command.
+fn error_of(mut command: Command<'_>, kind: ErrorKind, message: &str) -> Result<Error, AllocError> {
+    command.error(kind, message)
+}
+
+/// Returns a subcommand by its name in the usage.
+fn named_subcommand<'a>(alloc: Global, name: &str) -> Result<Command<'a>, AllocError> {
+    let usage = format!(in alloc; "dma330 {name}")?;
+    subcommand(alloc, name)?.bin_name(usage.as_str())
+}
+
 impl Wrong<'_> {
     /// Returns the error of a subcommand, with its usage.
     fn error(&self, alloc: Global, name: &str) -> Result<Error, AllocError> {
@@ -68,10 +79,11 @@ impl Wrong<'_> {
             return Err(AllocError);
         };
         let message = format!(in alloc; "invalid value '{word}' for '--{id}': {wanted}")?;
-        let usage = format!(in alloc; "dma330 {name}")?;
-        subcommand(alloc, name)?
-            .bin_name(usage.as_str())?
-            .error(ErrorKind::ValueValidation, message.as_str())
+        error_of(
+            named_subcommand(alloc, name)?,
+            ErrorKind::ValueValidation,
+            message.as_str(),
+        )
     }
 }
 
@@ -223,15 +235,21 @@ fn call_of_subcommand<'a>(
     })
 }
 
-/// Returns the call that the words of a command line ask for. Fails with a mistake in the words, or with the text of
-/// `--help` or `--version`.
-pub fn call_of<'a>(alloc: Global, words: &'a [String]) -> Result<Call<'a>, Error> {
-    let matches = dma330(alloc)?.try_get_matches_from(words)?;
+/// Returns the call that these matches ask for.
+fn call_of_matches<'a>(alloc: Global, matches: &ArgMatches<'a>) -> Result<Call<'a>, Error> {
     let Some((name, matches)) = matches.subcommand() else {
-        return Err(dma330(alloc)?.error(ErrorKind::MissingSubcommand, "no command is given")?);
+        let message = "no command is given";
+        return Err(error_of(dma330(alloc)?, ErrorKind::MissingSubcommand, message)?);
     };
     match call_of_subcommand(alloc, name, matches) {
         Ok(call) => Ok(call),
         Err(wrong) => Err(wrong.error(alloc, name)?),
     }
+}
+
+/// Returns the call that the words of a command line ask for. Fails with a mistake in the words, or with the text of
+/// `--help` or `--version`.
+pub fn call_of<'a>(alloc: Global, words: &'a [String]) -> Result<Call<'a>, Error> {
+    let matches = dma330(alloc)?.try_get_matches_from(words)?;
+    call_of_matches(alloc, &matches)
 }

@@ -5,208 +5,326 @@ use std::alloc::{AllocError, Global};
 /// The version of the program, the same as that of the library for C.
 const VERSION: &str = "1.5.0";
 
-/// The help of the argument that names a program in bytes.
-const PROGRAM: &str = "The program; standard input if it is - or missing";
-
-/// Returns the argument that names the file that is read.
-fn file<'a>(alloc: Global, what: &'a str) -> Arg<'a> {
-    Arg::new(alloc, "file").value_name("FILE").help(what)
+/// How an argument is given.
+#[derive(Clone, Copy)]
+enum Form {
+    /// As a word without an option: the file that is read.
+    File,
+    /// As an option without a value.
+    Flag,
+    /// As an option with a value of this name.
+    Value(&'static str),
+    /// As an option with a value of this name, which may be given several times.
+    Values(&'static str),
 }
 
-/// Returns an option with a value.
-fn option<'a>(alloc: Global, name: &'a str, value: &'a str, what: &'a str) -> Arg<'a> {
-    Arg::new(alloc, name)
-        .long(name)
-        .value_name(value)
-        .help(what)
+/// What else holds for an argument.
+#[derive(Clone, Copy)]
+enum Rule {
+    None,
+    /// It has to be given.
+    Required,
+    /// It has this letter too.
+    Letter(char),
+    /// It isn't given together with the option of this name.
+    Without(&'static str),
+    /// Its value is one of these, and the second if it isn't given.
+    OneOf(&'static [&'static str], &'static str),
 }
 
-/// Returns an option with a value that may be given several times.
-fn options<'a>(alloc: Global, name: &'a str, value: &'a str, what: &'a str) -> Arg<'a> {
-    Arg::new(alloc, name)
-        .long(name)
-        .value_name(value)
-        .action(ArgAction::Append)
-        .help(what)
+/// An argument of a subcommand, with its help.
+#[derive(Clone, Copy)]
+struct Argument {
+    name: &'static str,
+    form: Form,
+    rule: Rule,
+    what: &'static str,
 }
 
-/// Returns an option without a value.
-fn flag<'a>(alloc: Global, name: &'a str, what: &'a str) -> Arg<'a> {
-    Arg::new(alloc, name)
-        .long(name)
-        .action(ArgAction::SetTrue)
-        .help(what)
+/// The usage of a subcommand, with its help.
+#[derive(Clone, Copy)]
+struct Usage {
+    name: &'static str,
+    about: &'static str,
+    example: &'static str,
+    arguments: &'static [Argument],
 }
 
-/// Returns the option for bytes in hexadecimal text.
-fn hex<'a>(alloc: Global) -> Arg<'a> {
-    let what = "FILE is text: pairs of hexadecimal digits, and comments after #";
-    flag(alloc, "hex", what)
+/// The file of a program in bytes.
+const PROGRAM: Argument = Argument {
+    name: "file",
+    form: Form::File,
+    rule: Rule::None,
+    what: "The program; standard input if it is - or missing",
+};
+
+/// The file of a text.
+const TEXT: Argument = Argument {
+    name: "file",
+    form: Form::File,
+    rule: Rule::None,
+    what: "The text; standard input if it is - or missing",
+};
+
+/// The file of a script.
+const SCRIPT: Argument = Argument {
+    name: "file",
+    form: Form::File,
+    rule: Rule::None,
+    what: "The script; standard input if it is - or missing",
+};
+
+/// Bytes in hexadecimal text.
+const HEX: Argument = Argument {
+    name: "hex",
+    form: Form::Flag,
+    rule: Rule::None,
+    what: "FILE is text: pairs of hexadecimal digits, and comments after #",
+};
+
+/// Words in hexadecimal text.
+const WORDS: Argument = Argument {
+    name: "words",
+    form: Form::Flag,
+    rule: Rule::Without("hex"),
+    what: "FILE is text: 32-bit words of eight hexadecimal digits, as debuggers print them",
+};
+
+/// The bus.
+const BUS: Argument = Argument {
+    name: "bus",
+    form: Form::Value("BITS"),
+    rule: Rule::OneOf(&["32", "64", "128", "ideal"], "128"),
+    what: "Width of the data bus; ideal: each beat whole at any address, as in dmasim",
+};
+
+static DIS: Usage = Usage {
+    name: "dis",
+    about: "Prints a program's instructions in the manual's syntax, with addresses and bytes",
+    example: "Example:\n  dma330 dis --hex --at 0x3000 examples/linux.hex",
+    arguments: &[
+        Argument {
+            name: "at",
+            form: Form::Value("ADDRESS"),
+            rule: Rule::None,
+            what: "Address of the first byte [default: 0]",
+        },
+        HEX,
+        WORDS,
+        PROGRAM,
+    ],
+};
+
+static ASM: Usage = Usage {
+    name: "asm",
+    about: "Assembles a program from the manual's syntax",
+    example: "Example:\n  dma330 asm -o program.bin examples/nested.dmas",
+    arguments: &[
+        Argument {
+            name: "output",
+            form: Form::Value("FILE"),
+            rule: Rule::Letter('o'),
+            what: "Write the bytes to FILE, in place of hexadecimal text",
+        },
+        TEXT,
+    ],
+};
+
+static EXPLAIN: Usage = Usage {
+    name: "explain",
+    about: "Prints what a program copies in every memory, or the first thing that is wrong with it",
+    example: "Example:\n  dma330 explain --hex --bus 64 examples/linux.hex",
+    arguments: &[
+        HEX,
+        WORDS,
+        BUS,
+        Argument {
+            name: "most",
+            form: Form::Value("N"),
+            rule: Rule::None,
+            what: "Give up after N instructions [default: 10000000]",
+        },
+        PROGRAM,
+    ],
+};
+
+static TRACE: Usage = Usage {
+    name: "trace",
+    about: "Executes a program over RAM, and prints a line for each instruction",
+    example: "Example:\n  dma330 trace --hex --ram 0x10000000+0x2000 --quiet \
+        --dump 0x10001000+16 examples/linux.hex",
+    arguments: &[
+        HEX,
+        WORDS,
+        BUS,
+        PROGRAM,
+        Argument {
+            name: "ram",
+            form: Form::Values("ADDRESS+LENGTH[=FILE]"),
+            rule: Rule::Required,
+            what: "RAM: 0, or the bytes of FILE and then 0",
+        },
+        Argument {
+            name: "fail",
+            form: Form::Values("ADDRESS+LENGTH"),
+            rule: Rule::None,
+            what: "Let loads and stores here fail",
+        },
+        Argument {
+            name: "event",
+            form: Form::Values("N"),
+            rule: Rule::None,
+            what: "Set the flag of event N, 0 to 31, at the start",
+        },
+        Argument {
+            name: "limit",
+            form: Form::Value("N"),
+            rule: Rule::None,
+            what: "Stop after N instructions [default: 1000000]",
+        },
+        Argument {
+            name: "from",
+            form: Form::Value("N"),
+            rule: Rule::None,
+            what: "Print from instruction N on, counted from 1 [default: 1]",
+        },
+        Argument {
+            name: "count",
+            form: Form::Value("N"),
+            rule: Rule::None,
+            what: "Print at most N instructions [default: all]",
+        },
+        Argument {
+            name: "quiet",
+            form: Form::Flag,
+            rule: Rule::None,
+            what: "Print no instruction, only the end",
+        },
+        Argument {
+            name: "dump",
+            form: Form::Values("ADDRESS+LENGTH"),
+            rule: Rule::None,
+            what: "Print these bytes after the end",
+        },
+        Argument {
+            name: "vcd",
+            form: Form::Value("FILE"),
+            rule: Rule::None,
+            what: "Write the waveform of the whole run, up to --limit, as a Value Change Dump",
+        },
+    ],
+};
+
+static RACE: Usage = Usage {
+    name: "race",
+    about: "Executes a script of dmasim race in one thread, with its turns in the order of a seed",
+    example: "A line `expect TEXT` of the script compares TEXT with a line that the race prints.\n\n\
+        Examples:\n  dma330 race --seed 7 --script seven.dma examples/race.dma\n  \
+        dmasim run < seven.dma\n  dma330 race --seeds 0-999 examples/conflict.dma",
+    arguments: &[
+        Argument {
+            name: "seed",
+            form: Form::Value("N"),
+            rule: Rule::None,
+            what: "What the order is drawn from",
+        },
+        Argument {
+            name: "seeds",
+            form: Form::Value("FIRST-LAST"),
+            rule: Rule::Without("script"),
+            what: "Take each of these seeds, and print which outputs they give",
+        },
+        Argument {
+            name: "script",
+            form: Form::Value("FILE"),
+            rule: Rule::None,
+            what: "Write the same as a script of dmasim run, with the turns as step lines",
+        },
+        SCRIPT,
+    ],
+};
+
+static WHY: Usage = Usage {
+    name: "why",
+    about: "Executes a script of dmasim run, and prints why each channel is where it is",
+    example: "Example:\n  dma330 why examples/circle.dma",
+    arguments: &[SCRIPT],
+};
+
+/// Returns an argument as its form and its help have it.
+fn plain_arg<'a>(alloc: Global, argument: &Argument) -> Arg<'a> {
+    let name = argument.name;
+    let arg = Arg::new(alloc, name).help(argument.what);
+    match argument.form {
+        Form::File => arg.value_name("FILE"),
+        Form::Flag => arg.long(name).action(ArgAction::SetTrue),
+        Form::Value(value) => arg.long(name).value_name(value),
+        Form::Values(value) => arg.long(name).value_name(value).action(ArgAction::Append),
+    }
 }
 
-/// Returns the option for words in hexadecimal text.
-fn words<'a>(alloc: Global) -> Result<Arg<'a>, AllocError> {
-    let what = "FILE is text: 32-bit words of eight hexadecimal digits, as debuggers print them";
-    flag(alloc, "words", what).conflicts_with("hex")
+/// Returns an argument as clap has it.
+fn arg_of<'a>(alloc: Global, argument: &Argument) -> Result<Arg<'a>, AllocError> {
+    let arg = plain_arg(alloc, argument);
+    if let Rule::Without(other) = argument.rule {
+        return arg.conflicts_with(other);
+    }
+    Ok(match argument.rule {
+        Rule::None | Rule::Without(_) => arg,
+        Rule::Required => arg.required(true),
+        Rule::Letter(letter) => arg.short(letter),
+        Rule::OneOf(values, default) => arg.value_parser(values).default_value(default),
+    })
 }
 
-/// Returns the option for the bus.
-fn bus<'a>(alloc: Global) -> Arg<'a> {
-    let what = "Width of the data bus; ideal: each beat whole at any address, as in dmasim";
-    option(alloc, "bus", "BITS", what)
-        .value_parser(["32", "64", "128", "ideal"].as_slice())
-        .default_value("128")
-}
-
-/// Returns a command with these arguments.
-fn command<'a>(
-    alloc: Global,
-    name: &'a str,
-    about: &'a str,
-    example: &'a str,
-    args: Vec<Arg<'a>>,
-) -> Result<Command<'a>, AllocError> {
-    Command::new(alloc, name)
-        .about(about)
-        .after_help(example)
-        .args(args)
-}
-
-/// Returns these arguments with one more behind them.
-fn with<'a>(mut args: Vec<Arg<'a>>, arg: Arg<'a>) -> Result<Vec<Arg<'a>>, AllocError> {
-    args.push(arg)?;
+/// Returns the arguments of a usage.
+fn args_of<'a>(alloc: Global, usage: &Usage) -> Result<Vec<Arg<'a>>, AllocError> {
+    let mut args = Vec::new(alloc);
+    for argument in usage.arguments {
+        args.push(arg_of(alloc, argument)?)?;
+    }
     Ok(args)
 }
 
-/// Returns these arguments with those that say how a program in bytes is spelled.
-fn with_program<'a>(alloc: Global, args: Vec<Arg<'a>>) -> Result<Vec<Arg<'a>>, AllocError> {
-    let words = words(alloc)?;
-    let args = with(args, hex(alloc))?;
-    with(args, words)
+/// Returns the command of a usage, without groups.
+fn plain_command<'a>(alloc: Global, usage: &Usage) -> Result<Command<'a>, AllocError> {
+    let args = args_of(alloc, usage)?;
+    Command::new(alloc, usage.name)
+        .about(usage.about)
+        .after_help(usage.example)
+        .args(args)
 }
 
-/// Returns the command of `dis`.
-fn dis<'a>(alloc: Global) -> Result<Command<'a>, AllocError> {
-    let about = "Prints a program's instructions in the manual's syntax, with addresses and bytes";
-    let example = "Example:\n  dma330 dis --hex --at 0x3000 examples/linux.hex";
-    let at = option(
-        alloc,
-        "at",
-        "ADDRESS",
-        "Address of the first byte [default: 0]",
-    );
-    let args = with_program(alloc, with(Vec::new(alloc), at)?)?;
-    let args = with(args, file(alloc, PROGRAM))?;
-    command(alloc, "dis", about, example, args)
+/// Returns the group of the options of `race` of which one has to be given.
+fn order<'a>(alloc: Global) -> Result<ArgGroup<'a>, AllocError> {
+    let order = ArgGroup::new(alloc, "order").required(true);
+    order.arg("seed")?.arg("seeds")
 }
 
-/// Returns the command of `asm`.
-fn asm<'a>(alloc: Global) -> Result<Command<'a>, AllocError> {
-    let about = "Assembles a program from the manual's syntax";
-    let example = "Example:\n  dma330 asm -o program.bin examples/nested.dmas";
-    let what = "Write the bytes to FILE, in place of hexadecimal text";
-    let output = option(alloc, "output", "FILE", what).short('o');
-    let text = file(alloc, "The text; standard input if it is - or missing");
-    let args = Vec::from_array(alloc, [output, text])?;
-    command(alloc, "asm", about, example, args)
+/// Returns the command of a usage.
+fn command_of<'a>(alloc: Global, usage: &Usage) -> Result<Command<'a>, AllocError> {
+    if usage.name != "race" {
+        return plain_command(alloc, usage);
+    }
+    let order = order(alloc)?;
+    plain_command(alloc, usage)?.group(order)
 }
 
-/// Returns the command of `explain`.
-fn explain<'a>(alloc: Global) -> Result<Command<'a>, AllocError> {
-    let about =
-        "Prints what a program copies in every memory, or the first thing that is wrong with it";
-    let example = "Example:\n  dma330 explain --hex --bus 64 examples/linux.hex";
-    let most = "Give up after N instructions [default: 10000000]";
-    let args = with(with_program(alloc, Vec::new(alloc))?, bus(alloc))?;
-    let args = with(args, option(alloc, "most", "N", most))?;
-    let args = with(args, file(alloc, PROGRAM))?;
-    command(alloc, "explain", about, example, args)
-}
-
-/// Returns these arguments with the options of `trace` for RAM and events.
-fn with_machine<'a>(alloc: Global, args: Vec<Arg<'a>>) -> Result<Vec<Arg<'a>>, AllocError> {
-    let ram = "RAM: 0, or the bytes of FILE and then 0";
-    let fail = "Let loads and stores here fail";
-    let event = "Set the flag of event N, 0 to 31, at the start";
-    let limit = "Stop after N instructions [default: 1000000]";
-    let ram = options(alloc, "ram", "ADDRESS+LENGTH[=FILE]", ram).required(true);
-    let args = with(args, ram)?;
-    let args = with(args, options(alloc, "fail", "ADDRESS+LENGTH", fail))?;
-    let args = with(args, options(alloc, "event", "N", event))?;
-    with(args, option(alloc, "limit", "N", limit))
-}
-
-/// Returns these arguments with the options of `trace` for what is printed.
-fn with_printing<'a>(alloc: Global, args: Vec<Arg<'a>>) -> Result<Vec<Arg<'a>>, AllocError> {
-    let from = "Print from instruction N on, counted from 1 [default: 1]";
-    let count = "Print at most N instructions [default: all]";
-    let dump = "Print these bytes after the end";
-    let vcd = "Write the waveform of the whole run, up to --limit, as a Value Change Dump";
-    let quiet = "Print no instruction, only the end";
-    let args = with(args, option(alloc, "from", "N", from))?;
-    let args = with(args, option(alloc, "count", "N", count))?;
-    let args = with(args, flag(alloc, "quiet", quiet))?;
-    let args = with(args, options(alloc, "dump", "ADDRESS+LENGTH", dump))?;
-    with(args, option(alloc, "vcd", "FILE", vcd))
-}
-
-/// Returns the command of `trace`.
-fn trace<'a>(alloc: Global) -> Result<Command<'a>, AllocError> {
-    let about = "Executes a program over RAM, and prints a line for each instruction";
-    let example = "Example:\n  dma330 trace --hex --ram 0x10000000+0x2000 --quiet \
-        --dump 0x10001000+16 examples/linux.hex";
-    let args = with(with_program(alloc, Vec::new(alloc))?, bus(alloc))?;
-    let args = with(args, file(alloc, PROGRAM))?;
-    let args = with_printing(alloc, with_machine(alloc, args)?)?;
-    command(alloc, "trace", about, example, args)
-}
-
-/// Returns the command of `race`.
-fn race<'a>(alloc: Global) -> Result<Command<'a>, AllocError> {
-    let about =
-        "Executes a script of dmasim race in one thread, with its turns in the order of a seed";
-    let example =
-        "A line `expect TEXT` of the script compares TEXT with a line that the race prints.\n\n\
-        Examples:\n  dma330 race --seed 7 --script seven.dma examples/race.dma\n  \
-        dmasim run < seven.dma\n  dma330 race --seeds 0-999 examples/conflict.dma";
-    let what = "Take each of these seeds, and print which outputs they give";
-    let seeds = option(alloc, "seeds", "FIRST-LAST", what).conflicts_with("script")?;
-    let seed = option(alloc, "seed", "N", "What the order is drawn from");
-    let what = "Write the same as a script of dmasim run, with the turns as step lines";
-    let script = option(alloc, "script", "FILE", what);
-    let text = file(alloc, "The script; standard input if it is - or missing");
-    let args = Vec::from_array(alloc, [seed, seeds, script, text])?;
-    let order = ArgGroup::new(alloc, "order")
-        .arg("seed")?
-        .arg("seeds")?
-        .required(true);
-    command(alloc, "race", about, example, args)?.group(order)
-}
-
-/// Returns the command of `why`.
-fn why<'a>(alloc: Global) -> Result<Command<'a>, AllocError> {
-    let about = "Executes a script of dmasim run, and prints why each channel is where it is";
-    let example = "Example:\n  dma330 why examples/circle.dma";
-    let text = file(alloc, "The script; standard input if it is - or missing");
-    command(
-        alloc,
-        "why",
-        about,
-        example,
-        Vec::from_array(alloc, [text])?,
-    )
+/// Returns the usage of the subcommand of this name, or that of `trace` for any other name.
+fn usage_of(name: &str) -> &'static Usage {
+    match name {
+        "dis" => &DIS,
+        "asm" => &ASM,
+        "explain" => &EXPLAIN,
+        "race" => &RACE,
+        "why" => &WHY,
+        _ => &TRACE,
+    }
 }
 
 /// Returns the subcommand of this name, or `trace` for any other name.
 pub fn subcommand<'a>(alloc: Global, name: &str) -> Result<Command<'a>, AllocError> {
-    match name {
-        "dis" => dis(alloc),
-        "asm" => asm(alloc),
-        "explain" => explain(alloc),
-        "race" => race(alloc),
-        "why" => why(alloc),
-        _ => trace(alloc),
-    }
+    command_of(alloc, usage_of(name))
 }
 
 /// Returns the subcommands, in the order of the help.
@@ -218,11 +336,9 @@ fn subcommands<'a>(alloc: Global) -> Result<Vec<Command<'a>>, AllocError> {
     Ok(commands)
 }
 
-/// Returns the command of the program.
-pub fn dma330<'a>(alloc: Global) -> Result<Command<'a>, AllocError> {
-    let subcommands = subcommands(alloc)?;
+/// Returns the command of the program, without subcommands.
+fn without_subcommands<'a>(alloc: Global) -> Result<Command<'a>, AllocError> {
     Command::new(alloc, "dma330")
-        .bin_name("dma330")?
         .version(VERSION)
         .about("A workbench for channel programs of the ARM DMA-330 (PL330)")
         .after_help(
@@ -230,5 +346,11 @@ pub fn dma330<'a>(alloc: Global) -> Result<Command<'a>, AllocError> {
              Status: 0, 1 for a fault of the input, 2 for wrong use, 3 if out of memory.",
         )
         .subcommand_required(true)
-        .subcommands(subcommands)
+        .bin_name("dma330")
+}
+
+/// Returns the command of the program.
+pub fn dma330<'a>(alloc: Global) -> Result<Command<'a>, AllocError> {
+    let subcommands = subcommands(alloc)?;
+    without_subcommands(alloc)?.subcommands(subcommands)
 }
