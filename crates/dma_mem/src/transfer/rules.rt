@@ -86,12 +86,12 @@ fn overlap(src: &[Segment], dst: &[Segment]) -> Option<TransferFault>
 fn is_bad_event(event: Option<u8>) -> bool
     ensures { result ≡ is_bad_event event }
 {
-    event.is_some_and(|e| e > LAST_EVENT)
+    matches!(event, Some(e) if e > LAST_EVENT)
 }
 
 // Whether the two lists of a transfer must have the same number of bytes. Those of a copy must; a fill copies one byte
 // to any number of destinations.
-#[derive(Clone, Copy, PartialEq, Eq)]
+#[derive(Clone, Copy)]
 pub(crate) enum Totals {
     Same,
     Any,
@@ -128,7 +128,7 @@ pub(crate) fn checked_len(
         return Err(TransferFault::SegmentWraps);
     }
     let len = total(dst);
-    if totals == Totals::Same && total(src) != len {
+    if matches!(totals, Totals::Same) && total(src) != len {
         return Err(TransferFault::TotalsDiffer);
     }
     if len > u64::from(MAX_TRANSFER_BYTES) {
