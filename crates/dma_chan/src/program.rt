@@ -50,7 +50,9 @@ impl Program {
         if bytes.len() > MAX_PROGRAM_BYTES {
             return Err(ProgramFault::ProgramTooLong);
         }
-        let bytes = Vec::from_slice(alloc, bytes).map_err(|_| ProgramFault::NoMemory)?;
+        let Ok(bytes) = Vec::from_slice(alloc, bytes) else {
+            return Err(ProgramFault::NoMemory);
+        };
         Ok(Program::of_vec(bytes, None))
     }
 

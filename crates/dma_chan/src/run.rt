@@ -125,6 +125,8 @@ pub fn run_program<M: Ram>(
     ensures loan { M.loan memory.new ≡ M.loan memory.old }
 {
     let program = program_of(alloc, bytes)?;
-    let mut channel = Channel::new(alloc).map_err(|_| RunFault::NoMemory)?;
+    let Ok(mut channel) = Channel::new(alloc) else {
+        return Err(RunFault::NoMemory);
+    };
     run_on(&mut channel, program, &Marks::new(alloc), memory, limit)
 }
