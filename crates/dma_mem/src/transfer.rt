@@ -137,10 +137,7 @@ fn copied(alloc: Global, list: &[Segment]) -> Result<Segments, TransferFault>
     ensures { MatchResult result (λ copy. copy ≡ list.now)
         (λ fault. fault ≡ TransferFault.NoMemory) }
 {
-    let Ok(copy) = Segments::from_slice(alloc, list) else {
-        return Err(TransferFault::NoMemory);
-    };
-    Ok(copy)
+    Segments::from_slice(alloc, list).map_err(|_| TransferFault::NoMemory)
 }
 
 impl Transfer {
