@@ -3,7 +3,7 @@ use crate::command_line::Call;
 use crate::meter::Meter;
 use crate::replies::answer;
 use crate::values::RamRange;
-use dma_manual::answer::{Answer, deliver};
+use dma_manual::answer::deliver;
 use dma_mem::regions::{Region, are_in_order};
 use dma_script::command::{FAULT, OUT_OF_MEMORY};
 use dma_script::output::OutputFailed;
@@ -130,23 +130,15 @@ fn regions_of<'a>(
     Ok(regions)
 }
 
-/// Returns the bytes of these ranges of RAM.
-fn memory_of<'a>(rt: &HostRuntime, ram: &[RamRange<'a>]) -> Result<Vec<Vec<u8>>, Failure<'a>> {
+/// Runs a call, and returns its exit status.
+pub fn run<'a>(rt: &HostRuntime, call: &Call<'a>) -> Result<u8, Failure<'a>> {
+    let input = input_of(rt, call)?;
     let mut memory = Vec::new(rt.alloc());
-    for range in ram {
-        memory.push(bytes_of(rt, range)?)?;
+    for ram in &call.ram {
+        memory.push(bytes_of(rt, ram)?)?;
     }
-    Ok(memory)
-}
-
-/// Returns the answer to a call for its input over its RAM, and shows progress meanwhile.
-fn answer_over<'a>(
-    rt: &HostRuntime,
-    call: &Call<'a>,
-    input: &[u8],
-    regions: &mut [Region<'_>],
-) -> Result<Answer, Failure<'a>> {
-    if !are_in_order(regions) {
+    let mut regions = regions_of(rt.alloc(), &call.ram, &mut memory)?;
+    if !are_in_order(&regions) {
         return Err(Failure::Ram);
     }
     let name = call.input.unwrap_or(STANDARD_INPUT);
@@ -156,37 +148,19 @@ fn answer_over<'a>(
         &call.request,
         call.notation,
         name,
-        input,
-        regions,
+        &input,
+        &mut regions,
         &mut meter,
     );
     meter.clear();
-    Ok(answer?)
-}
-
-/// Reads the files of a call, and returns its answer.
-fn answer_of<'a>(rt: &HostRuntime, call: &Call<'a>) -> Result<Answer, Failure<'a>> {
-    let input = input_of(rt, call)?;
-    let mut memory = memory_of(rt, &call.ram)?;
-    let mut regions = regions_of(rt.alloc(), &call.ram, &mut memory)?;
-    answer_over(rt, call, &input, &mut regions)
-}
-
-/// Writes the answer to a call, and returns the exit status.
-fn write_answer<'a>(rt: &HostRuntime, call: &Call<'a>, answer: &Answer) -> Result<u8, Failure<'a>> {
+    let answer = answer?;
     if let Some(path) = call.output
         && answer.writes_file()
     {
         fs::write(rt, path, answer.file.as_slice()).map_err(|error| Failure::of(path, error))?;
     }
-    match deliver(answer, &mut rt.stdout(), &mut rt.stderr()) {
+    match deliver(&answer, &mut rt.stdout(), &mut rt.stderr()) {
         Ok(status) => Ok(status),
         Err(OutputFailed) => Err(Failure::Output),
     }
-}
-
-/// Runs a call, and returns its exit status.
-pub fn run<'a>(rt: &HostRuntime, call: &Call<'a>) -> Result<u8, Failure<'a>> {
-    let answer = answer_of(rt, call)?;
-    write_answer(rt, call, &answer)
 }
