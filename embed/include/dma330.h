@@ -285,7 +285,8 @@ enum dma330_cause {
     DMA330_CAUSE_BYTES_LEFT = 12,         /* at DMAEND loaded bytes aren't stored */
     DMA330_CAUSE_STORES_TWICE = 13,       /* at DMAEND a byte was stored twice */
     DMA330_CAUSE_STORES_SOURCE = 14,      /* at DMAEND a byte was stored at an address that was read */
-    DMA330_CAUSE_NO_END = 15              /* no DMAEND is among the first `most` instructions */
+    DMA330_CAUSE_NO_END = 15,             /* no DMAEND is among the first `most` instructions */
+    DMA330_CAUSE_STORES_ZEROS = 16        /* a DMASTZ, which stores zeros and no bytes that were loaded */
 };
 
 /* The status of a channel, bits 3:0 of CSR (manual, channel status registers). A device of this library has those whose
@@ -438,7 +439,7 @@ DMA330_INLINE const char *dma330_cause_name(uint32_t cause)
         DMA330_NAMED_CAUSE(MFIFO_ERR) DMA330_NAMED_CAUSE(ST_DATA_UNAVAILABLE) DMA330_NAMED_CAUSE(INSTR_FETCH_ERR)
         DMA330_NAMED_CAUSE(LOADS_PAST) DMA330_NAMED_CAUSE(STORES_PAST) DMA330_NAMED_CAUSE(STORES_FIXED)
         DMA330_NAMED_CAUSE(DROPS_BYTES) DMA330_NAMED_CAUSE(BYTES_LEFT) DMA330_NAMED_CAUSE(STORES_TWICE)
-        DMA330_NAMED_CAUSE(STORES_SOURCE) DMA330_NAMED_CAUSE(NO_END)
+        DMA330_NAMED_CAUSE(STORES_SOURCE) DMA330_NAMED_CAUSE(NO_END) DMA330_NAMED_CAUSE(STORES_ZEROS)
     default: return "?";
     }
 }

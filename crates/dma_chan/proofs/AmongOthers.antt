@@ -2,8 +2,8 @@
 use Rattle.std.proofs.Common.{◌≡◌, ℕ, zero, suc, ◌+◌, ◌≤◌, ◌<◌, true, List, length, get_or, refl, sym, ap, ◌∙◌, subst, arith, length-append, inl, inr, Bool, None, Result, Ok, ◌≢◌, ◌⊎◌, [], append-nil, Option, Some}
 use Rattle.std.specs.Prelude.{IsSomeAnd, nat_eq}
 use Rattle.std.proofs.lemmas.Bool.{and_parts, cases_Bool, cases_lt, eq-eqb, eqb-true, true≢false}
-use Rattle.dma_insn.specs.declared.insn.Insn.{Insn}
-use Rattle.dma_insn.specs.declared.insn.Insn.TheVariants.{St, End, Wfe}
+use Rattle.dma_insn.specs.declared.chip.ChipInsn.{ChipInsn}
+use Rattle.dma_insn.specs.declared.chip.ChipInsn.TheVariants.{St, End, Wfe}
 use Rattle.dma_mem.proofs.TransferRules.{source_in}
 use Rattle.dma_mem.specs.Places.{Descriptor, all_below, size_of, lies_below, destinations, moves}
 use Rattle.dma_mem.specs.Image.{laid}
@@ -95,7 +95,7 @@ pub record IsDone (t : Descriptor) (first : List ℕ) (u : Machine) : Type 0 whe
   pub all : (a : ℕ) → Touches t a → get_or u.image a 0 ≡ get_or (laid first t (size_of t)) a 0
 
 -- how many bytes an instruction stores
-stored_insn : (i : Insn) (x : Trace) → Can i x → length (after_insn i x).stores ≡ length x.stores + stored_by (Ok i) x.registers
+stored_insn : (i : ChipInsn) (x : Trace) → Can i x → length (after_insn i x).stores ≡ length x.stores + stored_by (Ok i) x.registers
 stored_insn St x c = let b = destination_of x.registers in omega (arith, length-append x.stores (touched b), length_up b c.1)
 stored_insn i x c = omega arith
 
@@ -107,16 +107,16 @@ module _ (bus : Bus) (program : List ℕ) (t : Descriptor) (n : ℕ) (marks : Ma
   After k u Ended = IsDone t first (after_step marks u)
   After k u (Fault kind) = ¬ Misses marks t
 
-  waits_at : (k : ℕ) (i : Insn) (x : ℕ) → k < n → next_in program (traced bus program k) ≡ Ok i → (v : Bool) × (i ≡ Wfe x v) → IsWait bus program n x
+  waits_at : (k : ℕ) (i : ChipInsn) (x : ℕ) → k < n → next_in program (traced bus program k) ≡ Ok i → (v : Bool) × (i ≡ Wfe x v) → IsWait bus program n x
   waits_at k i x less next a =
-      record { step = k; within = less; invalid = a.0; waits = next ∙ ap (λ (j : Insn). Ok j) a.1 }
+      record { step = k; within = less; invalid = a.0; waits = next ∙ ap (λ (j : ChipInsn). Ok j) a.1 }
 
-  to : (k : ℕ) (u : Machine) (i : Insn) (turn : ChanTurn) → answer_at marks u ≡ turn → Among bus program t n first k u.image u.channel → k < n → next_in program (traced bus program k) ≡ Ok i → Can i (traced bus program k) → Answers t first marks i (traced bus program (suc k)) (turn, (step_of marks u.channel u.image u.flags).1) → After k u turn
+  to : (k : ℕ) (u : Machine) (i : ChipInsn) (turn : ChanTurn) → answer_at marks u ≡ turn → Among bus program t n first k u.image u.channel → k < n → next_in program (traced bus program k) ≡ Ok i → Can i (traced bus program k) → Answers t first marks i (traced bus program (suc k)) (turn, (step_of marks u.channel u.image u.flags).1) → After k u turn
   to k u i Moved e w less next go a =
       let c = u.channel in
       let ahead = ahead_at bus program k i c w.begins w.mirrors.registers_are next in
       let count : stored_by (ahead_of c) c.registers ≡ stored_by (Ok i) (traced bus program k).registers =
-      ap (λ (r : Result Insn FaultKind). stored_by r c.registers) ahead ∙ ap (stored_by (Ok i)) w.mirrors.registers_are in
+      ap (λ (r : Result ChipInsn FaultKind). stored_by r c.registers) ahead ∙ ap (stored_by (Ok i)) w.mirrors.registers_are in
       let more : length (traced bus program (suc k)).stores ≡ length (traced bus program k).stores + stored_by (Ok i) (traced bus program k).registers =
       ap (λ (y : Trace). length y.stores) (traced_next bus program t n h k i next) ∙ stored_insn i (traced bus program k) go in
       subst (Among bus program t n first (suc k) (after_step marks u).image) (sym (turned marks u Moved e)) (record {
@@ -130,7 +130,7 @@ module _ (bus : Bus) (program : List ℕ) (t : Descriptor) (n : ℕ) (marks : Ma
   to k u i Ended e w less next go a = absurd a
   to k u i (Fault kind) e w less next go a = a
 
-  answers_at : (k : ℕ) (u : Machine) (i : Insn) → Among bus program t n first k u.image u.channel → k < n → next_in program (traced bus program k) ≡ Ok i → Can i (traced bus program k) → Answers t first marks i (traced bus program (suc k)) (step_of marks u.channel u.image u.flags)
+  answers_at : (k : ℕ) (u : Machine) (i : ChipInsn) → Among bus program t n first k u.image u.channel → k < n → next_in program (traced bus program k) ≡ Ok i → Can i (traced bus program k) → Answers t first marks i (traced bus program (suc k)) (step_of marks u.channel u.image u.flags)
   answers_at k u i w less next go =
       let c = u.channel in
       let x = traced bus program k in
@@ -148,7 +148,7 @@ module _ (bus : Bus) (program : List ℕ) (t : Descriptor) (n : ℕ) (marks : Ma
   Before Ended = ⊥
   Before (Fault kind) = ¬ Misses marks t
 
-  went : (k : ℕ) (i : Insn) (x : Trace) (turn : ChanTurn) (s : State) → k < n → next_in program (traced bus program k) ≡ Ok i → Answers t first marks i x (turn, s) → Before turn
+  went : (k : ℕ) (i : ChipInsn) (x : Trace) (turn : ChanTurn) (s : State) → k < n → next_in program (traced bus program k) ≡ Ok i → Answers t first marks i x (turn, s) → Before turn
   went k i x Moved s less next a = tt
   went k i x (Waiting e) s less next a = waits_at k i e less next a
   went k i x turn s less next a = a

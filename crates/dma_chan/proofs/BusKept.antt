@@ -1,6 +1,6 @@
 -- No step changes a channel's bus.
 use Rattle.std.proofs.Common.{◌≡◌, ℕ, zero, suc, Result, refl, ◌∙◌}
-use Rattle.dma_insn.specs.declared.insn.Insn.{Insn}
+use Rattle.dma_insn.specs.declared.chip.ChipInsn.{ChipInsn}
 use Rattle.dma_mem.specs.Marking.{MarkList}
 use Rattle.dma_chan.specs.declared.turn.ChanTurn.{ChanTurn}
 use Rattle.dma_chan.specs.declared.turn.ChanTurn.TheVariants.{Moved}
@@ -14,11 +14,11 @@ use Rattle.dma_chan.proofs.MembersByNumber.{bus_moved}
 abbrev Keeps : State → ChanTurn × State → Type 0
 Keeps s x = x.1.registers.bus ≡ s.registers.bus
 
-fetched_bus : (marks : MarkList) (next : Result Insn FaultKind) (s : State) → Keeps s (exec_fetched marks next s)
+fetched_bus : (marks : MarkList) (next : Result ChipInsn FaultKind) (s : State) → Keeps s (exec_fetched marks next s)
 fetched_bus marks next s =
     fetched_cases (Keeps s) marks next s (λ _. refl) (λ i _ _.
     let same = bus_moved i s.registers in
-    record { moves = same; loads = same; stores = λ _ _. same; sets = λ _ _. same; takes = λ _ _ _. same; waits = λ _ _ _ _. refl; ends = refl })
+    record { moves = same; loads = same; stores = λ _ _. same; zeros = λ _. same; sets = λ _ _. same; takes = λ _ _ _. same; waits = λ _ _ _ _. refl; ends = refl })
 
 turn_bus : (turn : ChanTurn) (s : State) (n : ℕ) (c : ChannelValue) → s.registers.bus ≡ c.registers.bus → (after_turn turn s n c).registers.bus ≡ c.registers.bus
 turn_bus Moved s n c same = same

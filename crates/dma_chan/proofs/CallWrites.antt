@@ -4,8 +4,8 @@ use Rattle.std.specs.Prelude.{IsSomeAnd}
 use Rattle.std.specs.List.{Contains}
 use Rattle.std.proofs.lemmas.Bool.{cases_lt}
 use Rattle.std.proofs.lemmas.List.Elements.{Contains-append_left, Contains-append_right}
-use Rattle.dma_insn.specs.declared.insn.Insn.{Insn}
-use Rattle.dma_insn.specs.declared.insn.Insn.TheVariants.{Ld, St, End}
+use Rattle.dma_insn.specs.declared.chip.ChipInsn.{ChipInsn}
+use Rattle.dma_insn.specs.declared.chip.ChipInsn.TheVariants.{Ld, St, End, StoreZeros}
 use Rattle.dma_mem.specs.Places.{Descriptor, destinations}
 use Rattle.dma_mem.specs.Marking.{MarkList}
 use Rattle.dma_chan.specs.declared.bus.Bus.{Bus}
@@ -17,7 +17,7 @@ use Rattle.dma_chan.specs.Bursts.{touched}
 use Rattle.dma_chan.specs.Exec.{State, act, destination_of, exec_fetched, moved}
 use Rattle.dma_chan.specs.Channel.{ChannelValue, ahead_of, bytes_of_program, state_of, step_of, after_turn, stored_by}
 use Rattle.dma_chan.specs.Explains.{Executes, Explains, GoesOn, IsIn, StartsWith, Trace, after_fetch, after_insn, next_in, traced}
-use Rattle.dma_chan.specs.Next.{next_of}
+use Rattle.dma_chan.specs.Next.{next_on}
 use Rattle.dma_chan.specs.NextWrites.{written_by, written_next}
 use Rattle.dma_chan.specs.Programs.{ProgramValue}
 use Rattle.dma_chan.specs.Stepping.{Machine, answer_at, after_step, after_steps, goes_on_after, written_after}
@@ -40,12 +40,13 @@ call_writes_no_other marks s most taken last after h = kept_outside marks s afte
 abbrev Leads : Registers → ChanTurn × State → Type 0
 Leads r x = x.0 ≡ Moved → x.1.registers ≡ r
 
-pub act_leads : (marks : MarkList) (i : Insn) (s : State) → Leads (moved i s.registers) (act marks i s)
+pub act_leads : (marks : MarkList) (i : ChipInsn) (s : State) → Leads (moved i s.registers) (act marks i s)
 act_leads marks i s =
     act_cases (Leads (moved i s.registers)) marks i s (λ _ e. absurd (cc)) (λ _. record {
       moves = λ e. refl;
       loads = λ e. refl;
       stores = λ _ _ e. refl;
+      zeros = λ _ e. refl;
       sets = λ _ _ e. refl;
       takes = λ _ _ _ e. refl;
       waits = λ _ _ _ _ e. absurd (cc);
@@ -56,39 +57,40 @@ act_leads marks i s =
 
 -- the instruction after k others: it goes on, or it is DMAEND after all n
 pub data Nexts (bus : Bus) (program : List ℕ) (t : Descriptor) (n k : ℕ) : Type 0 where
-  Goes : (i : Insn) → k < n → next_in program (traced bus program k) ≡ Ok i → Can i (traced bus program k) → Nexts bus program t n k
+  Goes : (i : ChipInsn) → k < n → next_in program (traced bus program k) ≡ Ok i → Can i (traced bus program k) → Nexts bus program t n k
   Ends : k ≡ n → next_in program (traced bus program k) ≡ Ok End → Nexts bus program t n k
 
-next_alike : (program : List ℕ) (o : Option ProgramValue) (pc : ℕ) (i : Insn) → IsSomeAnd o (λ p. StartsWith p program) → next_of program pc ≡ Ok i → next_of (bytes_of_program o) pc ≡ Ok i
-next_alike program None pc i b h = absurd b
-next_alike program (Some p) pc i b h = ap (λ (xs : List ℕ). next_of xs pc) b.1 ∙ next_longer program b.0 pc i h
+next_alike : (bus : Bus) (program : List ℕ) (o : Option ProgramValue) (pc : ℕ) (i : ChipInsn) → IsSomeAnd o (λ p. StartsWith p program) → next_on bus program pc ≡ Ok i → next_on bus (bytes_of_program o) pc ≡ Ok i
+next_alike bus program None pc i b h = absurd b
+next_alike bus program (Some p) pc i b h = ap (λ (xs : List ℕ). next_on bus xs pc) b.1 ∙ next_longer bus program b.0 pc i h
 
 -- the next instruction of a channel whose program begins with these bytes
-pub ahead_at : (bus : Bus) (program : List ℕ) (k : ℕ) (i : Insn) (c : ChannelValue) → IsSomeAnd c.program (λ p. StartsWith p program) → c.registers ≡ (traced bus program k).registers → next_in program (traced bus program k) ≡ Ok i → ahead_of c ≡ Ok i
-ahead_at bus program k i c begins at next = next_alike program c.program c.registers.pc i begins (ap (λ (r : Registers). next_of program r.pc) at ∙ next)
+pub ahead_at : (bus : Bus) (program : List ℕ) (k : ℕ) (i : ChipInsn) (c : ChannelValue) → IsSomeAnd c.program (λ p. StartsWith p program) → c.registers ≡ (traced bus program k).registers → next_in program (traced bus program k) ≡ Ok i → ahead_of c ≡ Ok i
+ahead_at bus program k i c begins at next = next_alike c.registers.bus program c.program c.registers.pc i begins (ap (λ (r : Registers). next_on r.bus program r.pc) at ∙ next)
 
 -- the channel after a step, by its answer
 pub turned : (marks : MarkList) (u : Machine) (turn : ChanTurn) → answer_at marks u ≡ turn → (after_step marks u).channel ≡ after_turn turn (step_of marks u.channel u.image u.flags).1 (stored_by (ahead_of u.channel) u.channel.registers) u.channel
 turned marks u turn e = ap (λ (v : ChanTurn). after_turn v (step_of marks u.channel u.image u.flags).1 (stored_by (ahead_of u.channel) u.channel.registers) u.channel) e
 
 -- one step
-pub does_next : (marks : MarkList) (i : Insn) (u : Machine) → ahead_of u.channel ≡ Ok i → step_of marks u.channel u.image u.flags ≡ act marks i (state_of u.channel u.image u.flags)
+pub does_next : (marks : MarkList) (i : ChipInsn) (u : Machine) → ahead_of u.channel ≡ Ok i → step_of marks u.channel u.image u.flags ≡ act marks i (state_of u.channel u.image u.flags)
 does_next marks i u ahead = ap (λ r. exec_fetched marks r (state_of u.channel u.image u.flags)) ahead
 
 -- DMAEND doesn't move
 pub ends_then : (marks : MarkList) (u : Machine) → ahead_of u.channel ≡ Ok End → answer_at marks u ≡ Ended
 ends_then marks u ahead = ap (λ (x : ChanTurn × State). x.0) (does_next marks End u ahead)
 
-registers_after : (i : Insn) (x : Trace) → (after_insn i x).registers ≡ moved i x.registers
+registers_after : (i : ChipInsn) (x : Trace) → (after_insn i x).registers ≡ moved i x.registers
 registers_after Ld x = refl
 registers_after i x = refl
 
-none_written : (i : Insn) (r : Registers) (a : ℕ) → i ≢ St → ¬ Contains (written_by (Ok i) r) a
-none_written St r a ne w = ne refl
-none_written i r a ne w = omega (arith, w.1)
+none_written : (i : ChipInsn) (r : Registers) (a : ℕ) → i ≢ St → i ≢ StoreZeros → ¬ Contains (written_by (Ok i) r) a
+none_written St r a ne other w = ne refl
+none_written StoreZeros r a ne other w = other refl
+none_written i r a ne other w = omega (arith, w.1)
 
 module _ (bus : Bus) (program : List ℕ) (t : Descriptor) (n : ℕ) (h : Explains bus program t n) where
-  fetched : (k : ℕ) → k < n → (r : Result Insn FaultKind) → next_in program (traced bus program k) ≡ r → GoesOn r (traced bus program k) → Nexts bus program t n k
+  fetched : (k : ℕ) → k < n → (r : Result ChipInsn FaultKind) → next_in program (traced bus program k) ≡ r → GoesOn r (traced bus program k) → Nexts bus program t n k
   fetched k l (Ok i) e go = Goes i l e (can_next i (traced bus program k) (few_at bus program k (λ j m. h.goes j (omega arith))) go)
   fetched k l (Err kind) e go = absurd (let bad = go.1 in cc)
 
@@ -105,23 +107,32 @@ module _ (bus : Bus) (program : List ℕ) (t : Descriptor) (n : ℕ) (h : Explai
       let g = grows_to bus program k n l in
       record { loads_rest = g.more_loads; stores_rest = g.more_stores; loads = sym h.loads ∙ g.loads; stores = sym h.stores ∙ g.stores }
 
-  pub traced_next : (k : ℕ) (i : Insn) → next_in program (traced bus program k) ≡ Ok i → traced bus program (suc k) ≡ after_insn i (traced bus program k)
-  traced_next k i e = ap (λ (r : Result Insn FaultKind). after_fetch r (traced bus program k)) e
+  pub traced_next : (k : ℕ) (i : ChipInsn) → next_in program (traced bus program k) ≡ Ok i → traced bus program (suc k) ≡ after_insn i (traced bus program k)
+  traced_next k i e = ap (λ (r : Result ChipInsn FaultKind). after_fetch r (traced bus program k)) e
 
   -- its next instruction writes only destinations
-  next_writes : (k : ℕ) (c : ChannelValue) (a : ℕ) (i : Insn) → c.registers ≡ (traced bus program k).registers → ahead_of c ≡ Ok i → i ≡ End ⊎ ((k < n) × (next_in program (traced bus program k) ≡ Ok i)) → Contains (written_next c) a → Contains (destinations t) a
+  -- no DMASTZ goes on
+  not_zeros : (k : ℕ) (i : ChipInsn) → i ≡ End ⊎ ((k < n) × (next_in program (traced bus program k) ≡ Ok i)) → i ≢ StoreZeros
+  not_zeros k i (inl over) e = let bad : End ≡ StoreZeros = sym over ∙ e in cc
+  not_zeros k i (inr less) e =
+      let x = traced bus program k in
+      let go : GoesOn (Ok StoreZeros) x = subst (λ (r : Result ChipInsn FaultKind). GoesOn r x) (less.1 ∙ ap (λ (j : ChipInsn). Ok j) e) (h.goes k less.0) in
+      let bad = go.1 in
+      cc
+
+  next_writes : (k : ℕ) (c : ChannelValue) (a : ℕ) (i : ChipInsn) → c.registers ≡ (traced bus program k).registers → ahead_of c ≡ Ok i → i ≡ End ⊎ ((k < n) × (next_in program (traced bus program k) ≡ Ok i)) → Contains (written_next c) a → Contains (destinations t) a
   next_writes k c a i at ahead how w =
       let x = traced bus program k in
-      let here : written_next c ≡ written_by (Ok i) x.registers = ap (λ (r : Result Insn FaultKind). written_by r c.registers) ahead ∙ ap (written_by (Ok i)) at in
+      let here : written_next c ≡ written_by (Ok i) x.registers = ap (λ (r : Result ChipInsn FaultKind). written_by r c.registers) ahead ∙ ap (written_by (Ok i)) at in
       let j : Contains (written_by (Ok i) x.registers) a = subst (λ (xs : List ℕ). Contains xs a) here w in
       elim (is_store i) [
-        | inr ne ↦ absurd (none_written i x.registers a ne j)
+        | inr ne ↦ absurd (none_written i x.registers a ne (not_zeros k i how) j)
         | inl e ↦ elim how [
           | inl over ↦ absurd (let bad : End ≡ St = sym over ∙ e in cc)
           | inr less ↦
               let part = inside (suc k) (omega (arith, less.0)) in
-              let is_next : (traced bus program (suc k)).stores ≡ x.stores ++ touched (destination_of x.registers) = ap (λ (y : Trace). y.stores) (traced_next k i less.1 ∙ ap (λ (q : Insn). after_insn q x) e) in
-              let mine : Contains (touched (destination_of x.registers)) a = subst (λ (q : Insn). Contains (written_by (Ok q) x.registers) a) e j in
+              let is_next : (traced bus program (suc k)).stores ≡ x.stores ++ touched (destination_of x.registers) = ap (λ (y : Trace). y.stores) (traced_next k i less.1 ∙ ap (λ (q : ChipInsn). after_insn q x) e) in
+              let mine : Contains (touched (destination_of x.registers)) a = subst (λ (q : ChipInsn). Contains (written_by (Ok q) x.registers) a) e j in
               subst (λ (xs : List ℕ). Contains xs a) (sym part.stores)
               (Contains-append_left (traced bus program (suc k)).stores part.stores_rest a
               (subst (λ (xs : List ℕ). Contains xs a) (sym is_next) (Contains-append_right x.stores (touched (destination_of x.registers)) a mine)))

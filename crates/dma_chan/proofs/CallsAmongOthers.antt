@@ -4,8 +4,8 @@ use Rattle.std.specs.Prelude.{IsSome}
 use Rattle.std.specs.List.{Contains}
 use Rattle.std.proofs.lemmas.Bool.{false≢true, false_from_ne_true}
 use Rattle.std.proofs.lemmas.List.Folds.{Any-from_list_any}
-use Rattle.dma_insn.specs.declared.insn.Insn.{Insn}
-use Rattle.dma_insn.specs.declared.insn.Insn.TheVariants.{End, Sev}
+use Rattle.dma_insn.specs.declared.chip.ChipInsn.{ChipInsn}
+use Rattle.dma_insn.specs.declared.chip.ChipInsn.TheVariants.{End, Sev}
 use Rattle.dma_mem.specs.Places.{Descriptor, size_of}
 use Rattle.dma_mem.specs.Image.{laid}
 use Rattle.dma_mem.specs.Marking.{MarkList, is_marked, meets_mark}
@@ -50,7 +50,7 @@ pub not_none : (o : Option ProgramValue) → IsSome o → o ≡ None → ⊥
 not_none o some e = let bad = e in let w = some in grind arith
 
 -- only a DMASEV signals
-is_signal : (next : Result Insn FaultKind) (e : ℕ) → signal_of next ≡ Some e → next ≡ Ok (Sev e)
+is_signal : (next : Result ChipInsn FaultKind) (e : ℕ) → signal_of next ≡ Some e → next ≡ Ok (Sev e)
 is_signal (Ok (Sev d)) e h = let same : d ≡ e = cc in ap (λ (k : ℕ). Ok (Sev k)) same
 is_signal next e h = absurd (cc)
 
@@ -79,7 +79,7 @@ module _ (bus : Bus) (program : List ℕ) (t : Descriptor) (n : ℕ) (marks : Ma
   after k u turn e w = after_next bus program t n marks first h low k u turn e w
 
   -- the next instruction is the program's
-  pub next_ahead : (k : ℕ) (u : Machine) (r : Result Insn FaultKind) → Among bus program t n first k u.image u.channel → next_in program (traced bus program k) ≡ r → ahead_of u.channel ≡ r
+  pub next_ahead : (k : ℕ) (u : Machine) (r : Result ChipInsn FaultKind) → Among bus program t n first k u.image u.channel → next_in program (traced bus program k) ≡ r → ahead_of u.channel ≡ r
   next_ahead k u r w e = by (nexts bus program t n h k w.within)
     where
       by : Nexts bus program t n k → ahead_of u.channel ≡ r
@@ -156,8 +156,8 @@ module _ (bus : Bus) (program : List ℕ) (t : Descriptor) (n : ℕ) (marks : Ma
       let is : i ≡ Sev e = let same = sym (ahead_at bus program k i u.channel w.begins w.mirrors.registers_are next) ∙ sev in cc in
       let moves : answer_at marks u ≡ Moved = ap (λ (x : ChanTurn × State). x.0) (does_next marks (Sev e) u sev) in
       let later = moved_on k u w moves in
-      let same : (traced bus program (suc k)).stores ≡ (traced bus program k).stores = ap (λ (x : Trace). x.stores) (traced_next bus program t n h k i next ∙ ap (λ (j : Insn). after_insn j (traced bus program k)) is) in
-      record { step = k; within = less; signals = next ∙ ap (λ (j : Insn). Ok j) is; after = sym (later.stored ∙ ap length same) }
+      let same : (traced bus program (suc k)).stores ≡ (traced bus program k).stores = ap (λ (x : Trace). x.stores) (traced_next bus program t n h k i next ∙ ap (λ (j : ChipInsn). after_insn j (traced bus program k)) is) in
+      record { step = k; within = less; signals = next ∙ ap (λ (j : ChipInsn). Ok j) is; after = sym (later.stored ∙ ap length same) }
 
   pub signalled : (s v : Machine) (most taken : ℕ) (last : Option ChanTurn) (e : ℕ) → Runs bus program t n first s → TakesSteps marks s most taken last v → signal_after marks s taken ≡ Some e → IsSignal bus program n e v.channel.stored
   signalled s v most zero last e r steps signal = absurd (cc)

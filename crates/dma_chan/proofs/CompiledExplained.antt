@@ -5,8 +5,8 @@ use Rattle.std.proofs.lemmas.Bool.{cases_lt, le-ltb}
 use Rattle.std.proofs.lemmas.List.{length-take-le, take_all}
 use Rattle.std.proofs.Math.Seq.{take-add}
 use Rattle.dma_insn.specs.declared.insn.Reg.TheVariants.{Sar, Dar, Ccr}
-use Rattle.dma_insn.specs.declared.insn.Insn.{Insn}
-use Rattle.dma_insn.specs.declared.insn.Insn.TheVariants.{Mov, Ld, St, End, LpEnd, Sev, Wfe}
+use Rattle.dma_insn.specs.declared.chip.ChipInsn.{ChipInsn}
+use Rattle.dma_insn.specs.declared.chip.ChipInsn.TheVariants.{Mov, Ld, St, End, LpEnd, Sev, Wfe, StoreZeros, AddHalfword, LoopAgain}
 use Rattle.dma_mem.specs.Places.{Descriptor, sources, destinations, size_of}
 use Rattle.dma_mem.specs.Rules.{IsTransfer}
 use Rattle.dma_chan.specs.declared.bus.Bus.{Bus}
@@ -20,6 +20,7 @@ use Rattle.dma_chan.specs.Compiled.{compiled, compiled_on, cost, cost_on, member
 use Rattle.dma_chan.specs.Exec.{buffer_size, start_on, counter_of, source_of, destination_of, moved}
 use Rattle.dma_chan.specs.Explains.{CompiledEvents, CompiledExplained, CompiledOnBus, GoesOn, Trace, held, passes, stop_of, stop_of_insn, stop_of_mov, after_fetch, after_insn, next_in, traced, untraced}
 use Rattle.dma_chan.specs.Next.{next_of}
+use Rattle.dma_chan.proofs.NextFits.{next_widens}
 use Rattle.dma_chan.specs.Tree.{bytes_of}
 use Rattle.dma_chan.specs.Traffic.{read_len, write_len}
 use Rattle.dma_chan.specs.inner.At.{moved_by}
@@ -48,7 +49,7 @@ module _ (bus : Bus) (src dst : List ℕ) (p : Progress) (x : Trace) (w : Traces
   all_stores = ap length w.stores ∙ length-take-le p.stored dst w.in_dst
 
   -- an instruction that moves no byte
-  same_insn : (i : Insn) → Traces src dst (record p { registers = moved i p.registers }) (record { registers = moved i x.registers; loads = x.loads; stores = x.stores })
+  same_insn : (i : ChipInsn) → Traces src dst (record p { registers = moved i p.registers }) (record { registers = moved i x.registers; loads = x.loads; stores = x.stores })
   same_insn i = record { registers = ap (moved i) w.registers; loads = w.loads; stores = w.stores; in_src = w.in_src; in_dst = w.in_dst }
 
   load : CarriesOne bus src dst Ld p → Traces src dst (advanced Ld p) (after_insn Ld x)
@@ -84,7 +85,7 @@ module _ (bus : Bus) (src dst : List ℕ) (p : Progress) (x : Trace) (w : Traces
         in_dst = c.whole;
       }
 
-  advances : (i : Insn) → CarriesOne bus src dst i p → Traces src dst (advanced i p) (after_insn i x)
+  advances : (i : ChipInsn) → CarriesOne bus src dst i p → Traces src dst (advanced i p) (after_insn i x)
   advances Ld c = load c
   advances St c = store c
   advances i c = same_insn i
@@ -94,7 +95,7 @@ module _ (bus : Bus) (src dst : List ℕ) (p : Progress) (loads stores : List �
   abbrev here : Trace
   here = record { registers = p.registers; loads = loads; stores = stores }
 
-  passes_on : (i : Insn) → i ≢ End → CarriesOne bus src dst i p → CanJump i p.registers → stop_of_insn i here ≡ None
+  passes_on : (i : ChipInsn) → i ≢ End → CarriesOne bus src dst i p → CanJump i p.registers → stop_of_insn i here ≡ None
   passes_on Ld ne c j =
       let b = source_of p.registers in
       let len : burst_len b ≡ read_len p.registers.ccr = aligned_len p.registers.bus 0 p.registers.sar p.registers.ccr c.aligned in
@@ -114,6 +115,9 @@ module _ (bus : Bus) (src dst : List ℕ) (p : Progress) (loads stores : List �
       let n = counter_of d p.registers in
       passed (nat_lt 0 n && nat_lt p.registers.pc back) (Fails InstrFetchErr) None (cannot_jump n p.registers.pc back j) refl
   passes_on End ne c j = absurd (ne refl)
+  passes_on StoreZeros ne c j = absurd c
+  passes_on (AddHalfword a half negative) ne c j = absurd c
+  passes_on (LoopAgain counter back) ne c j = absurd c
   passes_on i ne c j = refl
 
 module _ (bus : Bus) (t : Descriptor) (h : IsTransfer t) where
@@ -130,9 +134,10 @@ module _ (bus : Bus) (t : Descriptor) (h : IsTransfer t) where
 
   pub next : (k : ℕ) → k < cost_on bus t → TracesAt k → next_in program (traced bus program k) ≡ Ok (member_on bus t k)
   next k l w =
-      ap (λ (r : Registers). next_of program r.pc) (w.registers ∙ registers_on bus t k)
+      next_widens (traced bus program k).registers.bus program (traced bus program k).registers.pc (member_on bus t k)
+      (ap (λ (r : Registers). next_of program r.pc) (w.registers ∙ registers_on bus t k)
       ∙ ap (λ (xs : List ℕ). next_of xs (moved_by (take k (members_on bus t)) (start_on bus)).pc) bytes_are
-      ∙ (fetches_on bus t k h l).next
+      ∙ (fetches_on bus t k h l).next)
 
   pub along : (k : ℕ) → k < cost_on bus t → TracesAt k
   along zero l = subst (λ (p : Progress). Traces (sources t) (destinations t) p (untraced bus)) (sym (begin_on bus t)) (record { registers = refl; loads = refl; stores = refl; in_src = omega arith; in_dst = omega arith })
@@ -174,14 +179,14 @@ module _ (bus : Bus) (t : Descriptor) (h : IsTransfer t) where
       )
 
   -- the first instruction waits, and the last before DMAEND signals
-  pub is_member : (k : ℕ) (i : Insn) → k < cost_on bus t → next_in program (traced bus program k) ≡ Ok i → member_on bus t k ≡ i
+  pub is_member : (k : ℕ) (i : ChipInsn) → k < cost_on bus t → next_in program (traced bus program k) ≡ Ok i → member_on bus t k ≡ i
   is_member k i l e = let same : Ok (member_on bus t k) ≡ Ok i = sym (fetched k l) ∙ e in cc
 
   signalled : (k e : ℕ) → k + 2 ≡ cost_on bus t → member_on bus t k ≡ Sev e → length (traced bus program k).stores ≡ size_of t
   signalled k e last is =
       let next_last : k + 1 ≡ cost_on bus t - 1 = omega (arith, last) in
       let still : (at_on bus t (k + 1)).stored ≡ (at_on bus t k).stored =
-      ap (λ (p : Progress). p.stored) (next_on bus t k (omega (arith, last))) ∙ ap (λ (i : Insn). (advanced i (at_on bus t k)).stored) is in
+      ap (λ (p : Progress). p.stored) (next_on bus t k (omega (arith, last))) ∙ ap (λ (i : ChipInsn). (advanced i (at_on bus t k)).stored) is in
       stored_at k (omega (arith, last)) ∙ sym still ∙ ap (λ (n : ℕ). (at_on bus t n).stored) next_last ∙ all_stored bus t h
 
 pub compiled_on_bus : CompiledOnBus
@@ -192,7 +197,7 @@ compiled_on_bus bus t h =
     let stored = all_stored bus t h in
     record {
       goes = λ k l. goes bus t h k (omega arith);
-      ends = fetched bus t h last (omega arith) ∙ ap (λ (i : Insn). Ok i) (end_last bus t h);
+      ends = fetched bus t h last (omega arith) ∙ ap (λ (i : ChipInsn). Ok i) (end_last bus t h);
       loads = w.loads ∙ take_all _ (sources t) (omega (arith, stored, h.same_length));
       stores = w.stores ∙ take_all _ (destinations t) (omega (arith, stored));
       few = let low = cost_below bus t h in omega arith;
@@ -214,7 +219,7 @@ compiled_events bus t h = record {
       let is = subst (λ (o : Option ℕ). IfSome o (λ v. member_on bus t 0 ≡ Wfe v false)) known (wait_first bus t) in
       let some = some_on bus t in
       elim (cases_lt 1 (cost_on bus t)) [
-        | inl more ↦ record { step = 0; within = omega arith; invalid = false; waits = fetched bus t h 0 (omega arith) ∙ ap (λ (i : Insn). Ok i) is }
+        | inl more ↦ record { step = 0; within = omega arith; invalid = false; waits = fetched bus t h 0 (omega arith) ∙ ap (λ (i : ChipInsn). Ok i) is }
         | inr one ↦
             let zero_last : cost_on bus t - 1 ≡ 0 = omega arith in
             let bad : End ≡ Wfe e false = sym (end_last bus t h) ∙ ap (member_on bus t) zero_last ∙ is in
@@ -225,7 +230,7 @@ compiled_events bus t h = record {
       record {
         step = cost_on bus t - 2;
         within = omega (arith, last.0);
-        signals = fetched bus t h (cost_on bus t - 2) (omega (arith, last.0)) ∙ ap (λ (i : Insn). Ok i) last.1;
+        signals = fetched bus t h (cost_on bus t - 2) (omega (arith, last.0)) ∙ ap (λ (i : ChipInsn). Ok i) last.1;
         after = signalled bus t h (cost_on bus t - 2) e (omega (arith, last.0)) last.1;
       };
 }

@@ -4,8 +4,8 @@ use Rattle.std.specs.Prelude.{◌==◌, if◌then◌else◌, nat_lt, not}
 use Rattle.std.proofs.lemmas.Bool.{le-ltb, lt-ltb, ltb-false, cases_lt, true≢false}
 use Rattle.std.proofs.lemmas.Bool.Decides.{nat_tests}
 use Rattle.std.proofs.lemmas.List.FromFn.{length-range_with_len}
-use Rattle.dma_insn.specs.declared.insn.Insn.{Insn}
-use Rattle.dma_insn.specs.declared.insn.Insn.TheVariants.{Mov, Ld, St, End, LpEnd}
+use Rattle.dma_insn.specs.declared.chip.ChipInsn.{ChipInsn}
+use Rattle.dma_insn.specs.declared.chip.ChipInsn.TheVariants.{Mov, Ld, St, End, LpEnd, StoreZeros, LoopAgain}
 use Rattle.dma_insn.specs.declared.insn.Reg.TheVariants.{Ccr}
 use Rattle.dma_mem.specs.Places.{end_of_addresses}
 use Rattle.dma_chan.specs.declared.bursts.Burst.{Burst}
@@ -39,7 +39,7 @@ pub no_jump : (n pc back : ℕ) → (nat_lt 0 n && nat_lt pc back) ≡ false →
 no_jump n pc back e some = grind (arith, nat_tests)
 
 -- DMAMOV while the buffer is empty
-pub mov_empty : (i : Insn) (x : Trace) → held x ≡ 0 → stop_of_mov i x ≡ None
+pub mov_empty : (i : ChipInsn) (x : Trace) → held x ≡ 0 → stop_of_mov i x ≡ None
 mov_empty i x e =
     let r = x.registers in
     let dropped = drops r.bus (destination_of r) (destination_of (moved i r)) in
@@ -60,7 +60,7 @@ ends_low b low = le-ltb end_of_addresses (b.addr + span_of b) low
 pub length_up : (b : Burst) → b.increments ≡ true → length (touched b) ≡ burst_len b
 length_up b e = ap length (touched_up b e) ∙ length-range_with_len b.addr (burst_len b)
 
-abbrev pub Can : Insn → Trace → Type 0
+abbrev pub Can : ChipInsn → Trace → Type 0
 Can Ld x = length x.loads + burst_len (source_of x.registers) ≤ length x.stores + buffer_size
 Can St x =
     (length x.stores + burst_len (destination_of x.registers) ≤ length x.loads)
@@ -68,13 +68,15 @@ Can St x =
 Can (Mov Ccr w) x = accepts x.registers.bus w ≡ true
 Can (LpEnd c back) x = 0 < counter_of c x.registers → back ≤ x.registers.pc
 Can End x = ⊥
+Can StoreZeros x = ⊥
+Can (LoopAgain counter back) x = back ≤ x.registers.pc
 Can i x = Unit {0}
 
 -- no more is stored than loaded
 abbrev pub Few : Trace → Type 0
 Few x = length x.stores ≤ length x.loads
 
-pub can : (i : Insn) (x : Trace) → Few x → i ≢ End → stop_of_insn i x ≡ None → Can i x
+pub can : (i : ChipInsn) (x : Trace) → Few x → i ≢ End → stop_of_insn i x ≡ None → Can i x
 can Ld x few ne e =
     let b = source_of x.registers in
     let room = none_first (nat_lt buffer_size (held x + burst_len b)) (Fails MfifoErr) _ e in
@@ -91,17 +93,19 @@ can (Mov Ccr w) x few ne e = (none_second (accepts x.registers.bus w) (Fails Ope
 can (LpEnd c back) x few ne e =
     no_jump (counter_of c x.registers) x.registers.pc back (none_first (nat_lt 0 (counter_of c x.registers) && nat_lt x.registers.pc back) (Fails InstrFetchErr) None e).0
 can End x few ne e = absurd (ne refl)
+can StoreZeros x few ne e = absurd (cc)
+can (LoopAgain counter back) x few ne e = ltb-false x.registers.pc back (none_first (nat_lt x.registers.pc back) (Fails InstrFetchErr) None e).0
 can i x few ne e = tt
 
-few_insn : (i : Insn) (x : Trace) → Few x → Can i x → Few (after_insn i x)
+few_insn : (i : ChipInsn) (x : Trace) → Few x → Can i x → Few (after_insn i x)
 few_insn Ld x few c = omega (arith, few, length-append x.loads (touched (source_of x.registers)))
 few_insn St x few c = let b = destination_of x.registers in omega (arith, c.0, length-append x.stores (touched b), length_up b c.1)
 few_insn i x few c = few
 
-pub can_next : (i : Insn) (x : Trace) → Few x → GoesOn (Ok i) x → Can i x
-can_next i x few go = can i x few (λ e. go.0 (ap (λ (j : Insn). Ok j) e)) go.1
+pub can_next : (i : ChipInsn) (x : Trace) → Few x → GoesOn (Ok i) x → Can i x
+can_next i x few go = can i x few (λ e. go.0 (ap (λ (j : ChipInsn). Ok j) e)) go.1
 
-few_next : (r : Result Insn FaultKind) (x : Trace) → Few x → GoesOn r x → Few (after_fetch r x)
+few_next : (r : Result ChipInsn FaultKind) (x : Trace) → Few x → GoesOn r x → Few (after_fetch r x)
 few_next (Ok i) x few go = few_insn i x few (can_next i x few go)
 few_next (Err kind) x few go = absurd (let bad = go.1 in cc)
 

@@ -1,13 +1,14 @@
 -- A run without memory is the same on each bus, but for the bus, if its bursts begin at multiples of their beats'
 -- sizes.
-use Rattle.std.proofs.Common.{◌≡◌, ℕ, zero, suc, ◌+◌, ◌≤◌, Bool, true, cond, List, ◌++◌, Some, None, Result, Ok, Err, refl, sym, ap, ◌∙◌, subst, arith}
+use Rattle.std.proofs.Common.{◌≡◌, ℕ, zero, suc, ◌+◌, ◌≤◌, ◌<◌, Bool, true, cond, List, ◌++◌, Some, None, Result, Ok, Err, refl, sym, ap, ◌∙◌, subst, arith}
 use Rattle.std.proofs.lemmas.Bool.{and_from, and_parts}
 use Rattle.dma_insn.specs.ControlWord.{is_control}
 use Rattle.dma_insn.specs.declared.insn.Counter.{Counter}
 use Rattle.dma_insn.specs.declared.insn.Counter.TheVariants.{Lc0, Lc1}
 use Rattle.dma_insn.specs.declared.insn.Reg.TheVariants.{Sar, Dar, Ccr}
-use Rattle.dma_insn.specs.declared.insn.Insn.{Insn}
-use Rattle.dma_insn.specs.declared.insn.Insn.TheVariants.{Mov, Ld, St, Lp, LpEnd}
+use Rattle.dma_insn.specs.declared.chip.ChipInsn.{ChipInsn}
+use Rattle.dma_insn.specs.declared.chip.Address.TheVariants.{Source, Destination}
+use Rattle.dma_insn.specs.declared.chip.ChipInsn.TheVariants.{Mov, Ld, St, Lp, LpEnd, StoreZeros, AddHalfword, End}
 use Rattle.std.specs.Prelude.{nat_lt}
 use Rattle.dma_chan.specs.declared.bus.Bus.{Bus}
 use Rattle.dma_chan.specs.declared.bus.Bus.TheVariants.{Ideal}
@@ -21,7 +22,24 @@ use Rattle.dma_chan.specs.Bursts.{IsAligned, advance, burst_len, touched}
 use Rattle.dma_chan.specs.Exec.{buffer_size, destination_of, looped, past, source_of, wrapped}
 use Rattle.dma_chan.specs.Explains.{ExplainedOnBus, GoesOn, IsAlignedTo, MovesAligned, SetsEmpty, Trace, after_fetch, after_insn, fits_bus, held, next_in, passes, stop_of_insn, stop_of_mov, traced}
 use Rattle.dma_chan.proofs.ControlWords.{same_burst}
+use Rattle.dma_chan.specs.Next.{next_on}
+use Rattle.dma_chan.proofs.NextFits.{next_widens}
+use Rattle.dma_chan.proofs.MembersByNumber.{bus_moved}
 use Rattle.dma_chan.proofs.GoingOn.{mov_empty, none_second}
+
+-- a run stays on its bus
+insn_bus : (i : ChipInsn) (x : Trace) → (after_insn i x).registers.bus ≡ x.registers.bus
+insn_bus Ld x = refl
+insn_bus St x = refl
+insn_bus i x = bus_moved i x.registers
+
+fetch_bus : (r : Result ChipInsn FaultKind) (x : Trace) → (after_fetch r x).registers.bus ≡ x.registers.bus
+fetch_bus (Ok i) x = insn_bus i x
+fetch_bus (Err kind) x = refl
+
+pub traced_bus : (bus : Bus) (program : List ℕ) (n : ℕ) → (traced bus program n).registers.bus ≡ bus
+traced_bus bus program zero = refl
+traced_bus bus program (suc n) = let x = traced bus program n in fetch_bus (next_in program x) x ∙ traced_bus bus program n
 
 module _ (bus : Bus) where
   -- the registers, and a run, on the bus
@@ -42,7 +60,7 @@ module _ (bus : Bus) where
   destination_on : (r : Registers) → IsAligned (destination_of r) → destination_of (registers_on r) ≡ destination_of r
   destination_on r aligned = sym (same_burst r.bus bus 14 r.dar r.ccr aligned)
 
-  insn_on : (i : Insn) (x : Trace) → MovesAligned (Ok i) x.registers → after_insn i (trace_on x) ≡ trace_on (after_insn i x)
+  insn_on : (i : ChipInsn) (x : Trace) → MovesAligned (Ok i) x.registers → after_insn i (trace_on x) ≡ trace_on (after_insn i x)
   insn_on (LpEnd Lc0 back) x a =
       ap (λ (r : Registers). record x { registers = r }) (looped_on x.registers.lc0 Lc0 back x.registers)
   insn_on (LpEnd Lc1 back) x a =
@@ -53,26 +71,40 @@ module _ (bus : Bus) where
   insn_on St x a =
       let r = registers_on x.registers in
       ap (λ (b : Burst). record { registers = past St (record r { dar = wrapped (r.dar + advance b) }); loads = x.loads; stores = x.stores ++ touched b }) (destination_on x.registers a)
+  insn_on StoreZeros x a =
+      let r = registers_on x.registers in
+      ap (λ (b : Burst). record { registers = past StoreZeros (record r { dar = wrapped (r.dar + advance b) }); loads = x.loads; stores = x.stores }) (destination_on x.registers a)
+  insn_on (AddHalfword Source half negative) x a = refl
   insn_on (Mov Sar v) x a = refl
   insn_on (Lp Lc0 n) x a = refl
   insn_on i x a = refl
 
-  fetch_on : (r : Result Insn FaultKind) (x : Trace) → MovesAligned r x.registers → after_fetch r (trace_on x) ≡ trace_on (after_fetch r x)
-  fetch_on (Ok i) x a = insn_on i x a
-  fetch_on (Err kind) x a = refl
+  -- an instruction that is fetched on the ideal bus is fetched on the bus
+  next_same : (program : List ℕ) (x : Trace) (i : ChipInsn) → x.registers.bus ≡ Ideal → next_in program x ≡ Ok i → next_in program (trace_on x) ≡ Ok i
+  next_same program x i ideal next =
+      next_widens bus program x.registers.pc i (ap (λ (b : Bus). next_on b program x.registers.pc) (sym ideal) ∙ next)
 
-  pub traced_on : (program : List ℕ) (n : ℕ) → IsAlignedTo program n → traced bus program n ≡ trace_on (traced Ideal program n)
-  traced_on program zero a = refl
-  traced_on program (suc n) a =
+  -- each of the first n instructions is fetched on the ideal bus
+  abbrev AreFetched : List ℕ → ℕ → Type 0
+  AreFetched program n = (k : ℕ) → k < n → GoesOn (next_in program (traced Ideal program k)) (traced Ideal program k)
+
+  fetch_on : (program : List ℕ) (r : Result ChipInsn FaultKind) (x : Trace) → x.registers.bus ≡ Ideal → next_in program x ≡ r → GoesOn r x → MovesAligned r x.registers → after_fetch (next_in program (trace_on x)) (trace_on x) ≡ trace_on (after_fetch r x)
+  fetch_on program (Ok i) x ideal next go a = ap (λ r. after_fetch r (trace_on x)) (next_same program x i ideal next) ∙ insn_on i x a
+  fetch_on program (Err kind) x ideal next go a = absurd (let bad = go.1 in cc)
+
+  pub traced_on : (program : List ℕ) (n : ℕ) → AreFetched program n → IsAlignedTo program n → traced bus program n ≡ trace_on (traced Ideal program n)
+  traced_on program zero goes a = refl
+  traced_on program (suc n) goes a =
       let x = traced Ideal program n in
-      ap (λ (y : Trace). after_fetch (next_in program y) y) (traced_on program n (λ k l. a k (omega arith)))
-      ∙ fetch_on (next_in program x) x (a n (omega arith))
+      ap (λ (y : Trace). after_fetch (next_in program y) y) (traced_on program n (λ k l. goes k (omega arith)) (λ k l. a k (omega arith)))
+      ∙ fetch_on program (next_in program x) x (traced_bus Ideal program n) refl (goes n (omega arith)) (a n (omega arith))
 
-  goes_on : (i : Insn) (x : Trace) → fits_bus bus (Ok i) ≡ true → MovesAligned (Ok i) x.registers → SetsEmpty (Ok i) (held x) → stop_of_insn i x ≡ None → stop_of_insn i (trace_on x) ≡ None
+  goes_on : (i : ChipInsn) (x : Trace) → fits_bus bus (Ok i) ≡ true → MovesAligned (Ok i) x.registers → SetsEmpty (Ok i) (held x) → stop_of_insn i x ≡ None → stop_of_insn i (trace_on x) ≡ None
   goes_on (Mov Ccr v) x f a d g =
       let valid = (and_parts (fits x.registers.bus v) (is_control v) (none_second (accepts x.registers.bus v) (Fails OperandInvalid) _ g).0).1 in
       ap (λ (b : Bool). cond b (stop_of_mov (Mov Ccr v) (trace_on x)) (Some (Fails OperandInvalid))) (and_from (fits bus v) (is_control v) f valid) ∙ mov_empty (Mov Ccr v) (trace_on x) d
   goes_on (Mov Sar v) x f a d g = refl
+  goes_on (AddHalfword Destination half negative) x f a d g = mov_empty (AddHalfword Destination half negative) (trace_on x) d
   goes_on (Mov Dar v) x f a d g = mov_empty (Mov Dar v) (trace_on x) d
   goes_on Ld x f a d g =
       subst (λ (b : Burst). cond (nat_lt buffer_size (held x + burst_len b)) (Some (Fails MfifoErr)) (cond (passes b) (Some LoadsPast) None) ≡ None) (sym (source_on x.registers a)) g
@@ -81,21 +113,22 @@ module _ (bus : Bus) where
   goes_on (LpEnd Lc0 back) x f a d g = g
   goes_on i x f a d g = g
 
-  goes_next : (r : Result Insn FaultKind) (x : Trace) → fits_bus bus r ≡ true → MovesAligned r x.registers → SetsEmpty r (held x) → GoesOn r x → GoesOn r (trace_on x)
-  goes_next (Ok i) x f a d g = (g.0, goes_on i x f a d g.1)
-  goes_next (Err kind) x f a d g = absurd (let bad = g.1 in cc)
+  goes_next : (program : List ℕ) (r : Result ChipInsn FaultKind) (x : Trace) → x.registers.bus ≡ Ideal → next_in program x ≡ r → fits_bus bus r ≡ true → MovesAligned r x.registers → SetsEmpty r (held x) → GoesOn r x → GoesOn (next_in program (trace_on x)) (trace_on x)
+  goes_next program (Ok i) x ideal next f a d g =
+      subst (λ r. GoesOn r (trace_on x)) (sym (next_same program x i ideal next)) (g.0, goes_on i x f a d g.1)
+  goes_next program (Err kind) x ideal next f a d g = absurd (let bad = g.1 in cc)
 
 pub explained_on_bus : ExplainedOnBus
 explained_on_bus bus program t n h fit aligned keeps =
     let same : (k : ℕ) → k ≤ n → traced bus program k ≡ trace_on bus (traced Ideal program k) =
-    λ k l. traced_on bus program k (λ j less. aligned j (omega arith)) in
+    λ k l. traced_on bus program k (λ j less. h.goes j (omega arith)) (λ j less. aligned j (omega arith)) in
     let last = same n (omega arith) in
     record {
       goes = λ k l.
           let x = traced Ideal program k in
           subst (λ (y : Trace). GoesOn (next_in program y) y) (sym (same k (omega arith)))
-          (goes_next bus (next_in program x) x (fit k l) (aligned k l) (keeps k l) (h.goes k l));
-      ends = ap (λ (y : Trace). next_in program y) last ∙ h.ends;
+          (goes_next bus program (next_in program x) x (traced_bus Ideal program k) refl (fit k l) (aligned k l) (keeps k l) (h.goes k l));
+      ends = ap (λ (y : Trace). next_in program y) last ∙ next_same bus program (traced Ideal program n) End (traced_bus Ideal program n) h.ends;
       loads = ap (λ (y : Trace). y.loads) last ∙ h.loads;
       stores = ap (λ (y : Trace). y.stores) last ∙ h.stores;
       few = h.few;

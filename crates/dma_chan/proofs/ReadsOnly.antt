@@ -6,8 +6,8 @@ use Rattle.std.specs.Map.{lookup}
 use Rattle.std.proofs.lemmas.Bool.{cases_lt}
 use Rattle.std.proofs.lemmas.List.{get_or_past}
 use Rattle.std.proofs.lemmas.List.Elements.{Contains-append_left, Contains-append_right}
-use Rattle.dma_insn.specs.declared.insn.Insn.{Insn}
-use Rattle.dma_insn.specs.declared.insn.Insn.TheVariants.{Mov, Ld, St, End, LpEnd, Sev, Wfe}
+use Rattle.dma_insn.specs.declared.chip.ChipInsn.{ChipInsn}
+use Rattle.dma_insn.specs.declared.chip.ChipInsn.TheVariants.{Mov, Ld, St, End, LpEnd, Sev, Wfe, StoreZeros, LoopAgain}
 use Rattle.dma_insn.specs.declared.insn.Reg.TheVariants.{Ccr}
 use Rattle.dma_mem.specs.Image.{put}
 use Rattle.dma_mem.specs.Places.{Descriptor, sources}
@@ -20,7 +20,7 @@ use Rattle.dma_chan.specs.declared.exec.Registers.{Registers}
 use Rattle.dma_chan.specs.declared.turn.ChanTurn.{ChanTurn}
 use Rattle.dma_chan.specs.declared.turn.ChanTurn.TheVariants.{Moved}
 use Rattle.dma_chan.specs.declared.turn.FaultKind.{FaultKind}
-use Rattle.dma_chan.specs.Bursts.{burst_len, touched, writes_of, reaches}
+use Rattle.dma_chan.specs.Bursts.{burst_len, touched, writes_of, zeros_of, reaches}
 use Rattle.dma_chan.specs.Bus.{accepts}
 use Rattle.dma_chan.specs.Exec.{State, act, buffer_size, counter_of, destination_of, exec_fetched, read_at, source_of, state}
 use Rattle.dma_chan.specs.Channel.{ChannelValue, after_turn, ahead_of, step_of, stored_by}
@@ -51,7 +51,7 @@ either : (b : Bool) (x y : List ℕ) (p q r s : ChanTurn × State) → Alike x y
 either true x y p q r s h k = h
 either false x y p q r s h k = k
 
-act_alike : (marks : MarkList) (i : Insn) (r : Registers) (buffer x y : List ℕ) (flags : List Bool) → AgreeAt (read_by (Ok i) r) x y → Alike x y (act marks i (state r buffer x flags)) (act marks i (state r buffer y flags))
+act_alike : (marks : MarkList) (i : ChipInsn) (r : Registers) (buffer x y : List ℕ) (flags : List Bool) → AgreeAt (read_by (Ok i) r) x y → Alike x y (act marks i (state r buffer x flags)) (act marks i (state r buffer y flags))
 act_alike marks (Mov Ccr v) r buffer x y flags h = either (accepts r.bus v) x y _ _ _ _ (same _ _ buffer flags x y) (same _ _ buffer flags x y)
 act_alike marks Ld r buffer x y flags h =
     let places = touched (source_of r) in
@@ -66,12 +66,19 @@ act_alike marks St r buffer x y flags h =
     (either (reaches Writing marks (length y) (touched b)) x y _ _ _ _
     (record { turn = refl; registers = refl; buffer = refl; flags = refl; writes = writes_of b (take (burst_len b) buffer); first = refl; second = refl })
     (same _ _ buffer flags x y)))
+act_alike marks StoreZeros r buffer x y flags h =
+    let b = destination_of r in
+    rw h.size
+    (either (reaches Writing marks (length y) (touched b)) x y _ _ _ _
+    (record { turn = refl; registers = refl; buffer = refl; flags = refl; writes = zeros_of b; first = refl; second = refl })
+    (same _ _ buffer flags x y))
+act_alike marks (LoopAgain counter back) r buffer x y flags h = either (nat_lt r.pc back) x y _ _ _ _ (same _ _ buffer flags x y) (same _ _ buffer flags x y)
 act_alike marks (LpEnd c back) r buffer x y flags h = either (nat_lt 0 (counter_of c r) && nat_lt r.pc back) x y _ _ _ _ (same _ _ buffer flags x y) (same _ _ buffer flags x y)
 act_alike marks (Sev e) r buffer x y flags h = same _ _ buffer _ x y
 act_alike marks (Wfe e v) r buffer x y flags h = either (slice_index_or flags e false) x y _ _ _ _ (same _ _ buffer _ x y) (same _ _ buffer flags x y)
 act_alike marks i r buffer x y flags h = same _ _ buffer flags x y
 
-fetched_alike : (marks : MarkList) (next : Result Insn FaultKind) (r : Registers) (buffer x y : List ℕ) (flags : List Bool) → AgreeAt (read_by next r) x y → Alike x y (exec_fetched marks next (state r buffer x flags)) (exec_fetched marks next (state r buffer y flags))
+fetched_alike : (marks : MarkList) (next : Result ChipInsn FaultKind) (r : Registers) (buffer x y : List ℕ) (flags : List Bool) → AgreeAt (read_by next r) x y → Alike x y (exec_fetched marks next (state r buffer x flags)) (exec_fetched marks next (state r buffer y flags))
 fetched_alike marks (Ok i) r buffer x y flags h = act_alike marks i r buffer x y flags h
 fetched_alike marks (Err kind) r buffer x y flags h = same _ _ buffer flags x y
 
@@ -98,10 +105,10 @@ reads_no_other marks c x y flags h =
 
 module _ (bus : Bus) (program : List ℕ) (t : Descriptor) (n : ℕ) (h : Explains bus program t n) where
   -- what a channel reads by an instruction of the program
-  reads_at : (k : ℕ) (c : ChannelValue) (a : ℕ) (i : Insn) → IsIn bus program n k c → next_in program (traced bus program k) ≡ Ok i → Contains (read_next c) a → Contains (read_by (Ok i) (traced bus program k).registers) a
+  reads_at : (k : ℕ) (c : ChannelValue) (a : ℕ) (i : ChipInsn) → IsIn bus program n k c → next_in program (traced bus program k) ≡ Ok i → Contains (read_next c) a → Contains (read_by (Ok i) (traced bus program k).registers) a
   reads_at k c a i w next j =
       let here : read_next c ≡ read_by (Ok i) (traced bus program k).registers =
-      ap (λ (r : Result Insn FaultKind). read_by r c.registers) (ahead_at bus program k i c w.begins w.registers next) ∙ ap (read_by (Ok i)) w.registers in
+      ap (λ (r : Result ChipInsn FaultKind). read_by r c.registers) (ahead_at bus program k i c w.begins w.registers next) ∙ ap (read_by (Ok i)) w.registers in
       subst (λ (xs : List ℕ). Contains xs a) here j
 
   load_in : (k : ℕ) (a : ℕ) → k < n → next_in program (traced bus program k) ≡ Ok Ld → Contains (touched (source_of (traced bus program k).registers)) a → Contains (sources t) a
@@ -113,7 +120,7 @@ module _ (bus : Bus) (program : List ℕ) (t : Descriptor) (n : ℕ) (h : Explai
       (Contains-append_left (traced bus program (suc k)).loads part.loads_rest a
       (subst (λ (xs : List ℕ). Contains xs a) (sym is_next) (Contains-append_right x.loads (touched (source_of x.registers)) a i)))
 
-  insn_reads : (k a : ℕ) (i : Insn) → k < n → next_in program (traced bus program k) ≡ Ok i → Contains (read_by (Ok i) (traced bus program k).registers) a → Contains (sources t) a
+  insn_reads : (k a : ℕ) (i : ChipInsn) → k < n → next_in program (traced bus program k) ≡ Ok i → Contains (read_by (Ok i) (traced bus program k).registers) a → Contains (sources t) a
   insn_reads k a Ld less next j = load_in k a less next j
   insn_reads k a i less next j = absurd (omega (arith, j.1))
 

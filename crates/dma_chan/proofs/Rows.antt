@@ -7,7 +7,7 @@ use Rattle.dma_mem.proofs.TransferRules.{size_of_some}
 use Rattle.dma_insn.specs.AssemblyText.{most_program_bytes}
 use Rattle.dma_insn.specs.ControlWord.{control_of, end_at, is_control}
 use Rattle.dma_insn.specs.declared.assembler.TheConstants.{MAX_PROGRAM_BYTES}
-use Rattle.dma_insn.specs.declared.insn.Insn.TheVariants.{Ld}
+use Rattle.dma_insn.specs.declared.chip.ChipInsn.TheVariants.{Ld}
 use Rattle.dma_chan.specs.declared.bursts.TheConstants.{BUFFER_SIZE}
 use Rattle.dma_chan.specs.declared.bus.Bus.{Bus}
 use Rattle.dma_chan.specs.declared.bus.Bus.TheVariants.{Ideal, Chip}

@@ -8,8 +8,8 @@ use Rattle.std.proofs.lemmas.List.{map-append, drop-append-le, take_at, drop_at,
 use Rattle.std.proofs.lemmas.List.Elements.{Contains-append_left, Contains-append_right}
 use Rattle.std.proofs.Math.Seq.{take-add}
 use Rattle.dma_insn.specs.declared.insn.Reg.TheVariants.{Ccr}
-use Rattle.dma_insn.specs.declared.insn.Insn.{Insn}
-use Rattle.dma_insn.specs.declared.insn.Insn.TheVariants.{Mov, Ld, St, End, LpEnd, Sev, Wfe}
+use Rattle.dma_insn.specs.declared.chip.ChipInsn.{ChipInsn}
+use Rattle.dma_insn.specs.declared.chip.ChipInsn.TheVariants.{Mov, Ld, St, End, LpEnd, Sev, Wfe, StoreZeros, LoopAgain}
 use Rattle.dma_mem.specs.Image.{put, after_moves, carried, laid}
 use Rattle.dma_mem.specs.Places.{Descriptor, Apart, sources, destinations, moves}
 use Rattle.dma_mem.specs.Marking.{MarkList}
@@ -44,12 +44,12 @@ pub record Grows (x y : Trace) : Type 0 where
 grows_none : (x y : Trace) → y.loads ≡ x.loads → y.stores ≡ x.stores → Grows x y
 grows_none x y e f = record { more_loads = []; more_stores = []; loads = e ∙ sym (append-nil x.loads); stores = f ∙ sym (append-nil x.stores) }
 
-pub grows_insn : (i : Insn) (x : Trace) → Grows x (after_insn i x)
+pub grows_insn : (i : ChipInsn) (x : Trace) → Grows x (after_insn i x)
 grows_insn Ld x = record { more_loads = touched (source_of x.registers); more_stores = []; loads = refl; stores = sym (append-nil x.stores) }
 grows_insn St x = record { more_loads = []; more_stores = touched (destination_of x.registers); loads = sym (append-nil x.loads); stores = refl }
 grows_insn i x = grows_none x (after_insn i x) refl refl
 
-grows_fetch : (r : Result Insn FaultKind) (x : Trace) → Grows x (after_fetch r x)
+grows_fetch : (r : Result ChipInsn FaultKind) (x : Trace) → Grows x (after_fetch r x)
 grows_fetch (Ok i) x = grows_insn i x
 grows_fetch (Err kind) x = grows_none x x refl refl
 
@@ -132,7 +132,7 @@ pub record Inside (t : Descriptor) (x : Trace) : Type 0 where
   pub stores : destinations t ≡ x.stores ++ stores_rest
 
 -- what each answer of an instruction that goes on says
-abbrev pub Answers : Descriptor → List ℕ → MarkList → Insn → Trace → ChanTurn × State → Type 0
+abbrev pub Answers : Descriptor → List ℕ → MarkList → ChipInsn → Trace → ChanTurn × State → Type 0
 Answers t first marks i x (Moved, s) = Mirrors t first x s.registers s.buffer s.image
 Answers t first marks i x (Waiting e, s) = (v : Bool) × (i ≡ Wfe e v)
 Answers t first marks i x (Ended, s) = ⊥
@@ -146,7 +146,7 @@ module _ (t : Descriptor) (first : List ℕ) (marks : MarkList) (copy : IsCopy t
   held = ap length m.buffer_is ∙ length-drop (length x.stores) (read_at first x.loads) ∙ ap (λ (n : ℕ). n - length x.stores) (length-map x.loads (slice_index first))
 
   -- an instruction that moves no byte
-  quiet : (i : Insn) (r : Registers) (new : List Bool) → Answers t first marks i (record { registers = r; loads = x.loads; stores = x.stores }) (Moved, state r buffer image new)
+  quiet : (i : ChipInsn) (r : Registers) (new : List Bool) → Answers t first marks i (record { registers = r; loads = x.loads; stores = x.stores }) (Moved, state r buffer image new)
   quiet i r new = record { registers_are = refl; buffer_is = m.buffer_is; few = m.few; same = m.same; fits = m.fits }
 
   load_answers : Inside t (after_insn Ld x) → Can Ld x → Answers t first marks Ld (after_insn Ld x) (act marks Ld here)
@@ -213,12 +213,14 @@ module _ (t : Descriptor) (first : List ℕ) (marks : MarkList) (copy : IsCopy t
         fits = λ a touches. omega (arith, m.fits a touches, length_put image (writes_of b (take n buffer)));
       }) (λ e misses. true≢false (sym (reaches_all Writing marks (length image) new (λ a i. m.fits a (inr (is_in a i))) (λ a i. misses.writes a (is_in a i))) ∙ e)))
 
-  pub answers : (i : Insn) → Inside t (after_insn i x) → Inside t x → Can i x → Answers t first marks i (after_insn i x) (act marks i here)
+  pub answers : (i : ChipInsn) → Inside t (after_insn i x) → Inside t x → Can i x → Answers t first marks i (after_insn i x) (act marks i here)
   answers Ld part before c = load_answers part c
   answers St part before c = store_answers part before c
   answers (Mov Ccr v) part before c = rw c (quiet (Mov Ccr v) (moved (Mov Ccr v) x.registers) flags)
   answers (LpEnd k back) part before c = rw (cannot_jump (counter_of k x.registers) x.registers.pc back (λ n. c (omega (arith, n)))) (quiet (LpEnd k back) (moved (LpEnd k back) x.registers) flags)
   answers End part before c = absurd c
+  answers StoreZeros part before c = absurd c
+  answers (LoopAgain counter back) part before c = rw (le-ltb x.registers.pc back c) (quiet (LoopAgain counter back) (moved (LoopAgain counter back) x.registers) flags)
   answers (Sev e) part before c = quiet (Sev e) (moved (Sev e) x.registers) (slice_set flags e true)
   answers (Wfe e v) part before c = cond_both (slice_index_or flags e false) _ _ (Answers t first marks (Wfe e v) (after_insn (Wfe e v) x)) (λ set. quiet (Wfe e v) (moved (Wfe e v) x.registers) (slice_set flags e false)) (λ clear. (v, refl))
   answers i part before c = quiet i (moved i x.registers) flags

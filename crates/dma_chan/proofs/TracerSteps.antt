@@ -7,8 +7,10 @@ use Rattle.std.proofs.lemmas.Bool.{cases_Bool, le-ltb, not-false, not-true}
 use Rattle.dma_insn.specs.declared.insn.Counter.{Counter}
 use Rattle.dma_insn.specs.declared.insn.Reg.{Reg}
 use Rattle.dma_insn.specs.declared.insn.Reg.TheVariants.{Sar, Dar, Ccr}
-use Rattle.dma_insn.specs.declared.insn.Insn.{Insn}
-use Rattle.dma_insn.specs.declared.insn.Insn.TheVariants.{Mov, Ld, St, Lp, LpEnd, Sev, Wfe}
+use Rattle.dma_insn.specs.declared.chip.ChipInsn.{ChipInsn}
+use Rattle.dma_insn.specs.declared.chip.Address.{Address}
+use Rattle.dma_insn.specs.declared.chip.Address.TheVariants.{Source, Destination}
+use Rattle.dma_insn.specs.declared.chip.ChipInsn.TheVariants.{Mov, Ld, St, Lp, LpEnd, Sev, Wfe, AddHalfword, LoopAgain}
 use Rattle.dma_mem.specs.declared.segment.Segment.{Segment}
 use Rattle.dma_mem.specs.Places.{end_of_addresses, places, range_of}
 use Rattle.dma_chan.specs.Bus.{accepts}
@@ -37,26 +39,26 @@ use Rattle.dma_chan.proofs.LowestPlaces.{one_read, rounds_read}
 
 -- ---- instructions that change only registers
 
-abbrev IsQuiet : Insn → Type 0
+abbrev IsQuiet : ChipInsn → Type 0
 IsQuiet Ld = ⊥
 IsQuiet St = ⊥
 IsQuiet (Wfe e v) = ⊥
 IsQuiet (Sev e) = ⊥
 IsQuiet i = Unit {0}
 
-quiet_events : (i : Insn) (n : ℕ) → IsQuiet i → happening_of (Ok i) n ≡ []
+quiet_events : (i : ChipInsn) (n : ℕ) → IsQuiet i → happening_of (Ok i) n ≡ []
 quiet_events Ld n q = absurd q
 quiet_events St n q = absurd q
 quiet_events (Wfe e v) n q = absurd q
 quiet_events (Sev e) n q = absurd q
 quiet_events i n q = refl
 
-quiet_trace : (i : Insn) (z : Trace) → IsQuiet i → record { registers = moved i z.registers; loads = z.loads; stores = z.stores } ≡ after_insn i z
+quiet_trace : (i : ChipInsn) (z : Trace) → IsQuiet i → record { registers = moved i z.registers; loads = z.loads; stores = z.stores } ≡ after_insn i z
 quiet_trace Ld z q = absurd q
 quiet_trace St z q = absurd q
 quiet_trace i z q = refl
 
-quiet_advances : (i : Insn) (x : Tracer) (after : Registers) → IsQuiet i → IsTracer x → after ≡ moved i x.registers → stop_of_insn i (trace_of x) ≡ None → Advances i x (record x { registers = after })
+quiet_advances : (i : ChipInsn) (x : Tracer) (after : Registers) → IsQuiet i → IsTracer x → after ≡ moved i x.registers → stop_of_insn i (trace_of x) ≡ None → Advances i x (record x { registers = after })
 quiet_advances i x after q h to goes = record {
   tracer = record { few = h.few; held = h.held; room = h.room; stored = h.stored; src = h.src; dst = h.dst };
   goes = goes;
@@ -76,7 +78,7 @@ NoFault turn = (kind : FaultKind) → turn ≢ Fault kind
 abbrev pub FaultIs : ChanTurn → Cause → Type 0
 FaultIs turn cause = (kind : FaultKind) × (turn ≡ Fault kind) × (cause ≡ Fails kind)
 
-sets_to : (i : Insn) (r after : Registers) (turn : ChanTurn) → SetsRegisters i r turn after → turn ≡ Moved → after ≡ moved i r
+sets_to : (i : ChipInsn) (r after : Registers) (turn : ChanTurn) → SetsRegisters i r turn after → turn ≡ Moved → after ≡ moved i r
 sets_to i r after turn sets moves =
     let same = sets [] [] [] [] in
     sym (ap (λ (x : ChanTurn × State). x.1.registers) same) ∙ act_leads [] i (state r [] [] []) (ap (λ (x : ChanTurn × State). x.0) same ∙ moves)
@@ -110,8 +112,20 @@ turn_not true x y = refl
 turn_not false x y = refl
 
 -- the answer of an instruction that sets registers
-turn_of : (i : Insn) (r after : Registers) (turn : ChanTurn) → SetsRegisters i r turn after → (act [] i (state r [] [] [])).0 ≡ turn
+turn_of : (i : ChipInsn) (r after : Registers) (turn : ChanTurn) → SetsRegisters i r turn after → (act [] i (state r [] [] [])).0 ≡ turn
 turn_of i r after turn sets = ap (λ (x : ChanTurn × State). x.0) (sets [] [] [] [])
+
+-- no store changes by a DMAADDH or DMAADNH of SAR
+add_stop : (a : Address) (half : ℕ) (negative : Bool) (z : Trace) → stop_of_insn (AddHalfword a half negative) z ≡ stop_of_mov (AddHalfword a half negative) z
+add_stop Source half negative z =
+    let b = destination_of z.registers in
+    let same : (nat_lt 0 (held z) && drops z.registers.bus b b) ≡ false = ap (λ (d : Bool). nat_lt 0 (held z) && d) (drops_same z.registers.bus b) ∙ no_test (nat_lt 0 (held z)) in
+    sym (passed (nat_lt 0 (held z) && drops z.registers.bus b b) DropsBytes None same refl)
+  where
+    no_test : (b : Bool) → (b && false) ≡ false
+    no_test true = refl
+    no_test false = refl
+add_stop Destination half negative z = refl
 
 -- DMAMOV
 mov_moves : (reg : Reg) (v : ℕ) (r after : Registers) (turn : ChanTurn) → SetsRegisters (Mov reg v) r turn after → NoFault turn → turn ≡ Moved
@@ -161,16 +175,42 @@ module _ (reg : Reg) (v : ℕ) (x : Tracer) (after : Registers) (turn : ChanTurn
   set_drops none drop =
       mov_accepted reg v (trace_of x) after turn sets none ∙ ap (λ (b : Bool). cond b (Some DropsBytes) None) (tested true none drop)
 
+-- DMAADDH and DMAADNH
+module _ (a : Address) (half : ℕ) (negative : Bool) (x : Tracer) (after : Registers) (turn : ChanTurn) (h : IsTracer x) (sets : SetsRegisters (AddHalfword a half negative) x.registers turn after) where
+  abbrev adds : ChipInsn
+  adds = AddHalfword a half negative
+
+  add_moves : turn ≡ Moved
+  add_moves = sym (turn_of adds x.registers after turn sets)
+
+  pub add_never_fails : (kind : FaultKind) → turn ≡ Fault kind → ⊥
+  add_never_fails kind e = let bad : Moved ≡ Fault kind = sym add_moves ∙ e in cc
+
+  add_to : after ≡ moved adds x.registers
+  add_to = sets_to adds x.registers after turn sets add_moves
+
+  abbrev AddDropped : ℕ → Registers → Bool
+  AddDropped n r = nat_lt 0 n && drops x.registers.bus (destination_of x.registers) (destination_of r)
+
+  add_tested : (b : Bool) → AddDropped x.held after ≡ b → AddDropped (held (trace_of x)) (moved adds x.registers) ≡ b
+  add_tested b e = ap (λ (n : ℕ). AddDropped n (moved adds x.registers)) (sym h.held) ∙ ap (AddDropped x.held) (sym add_to) ∙ e
+
+  pub add_advances : AddDropped x.held after ≡ false → Advances adds x (record x { registers = after })
+  add_advances keeps = quiet_advances adds x after tt h add_to (add_stop a half negative (trace_of x) ∙ passed (AddDropped (held (trace_of x)) (moved adds x.registers)) DropsBytes None (add_tested false keeps) refl)
+
+  pub add_drops : AddDropped x.held after ≡ true → stop_of_insn adds (trace_of x) ≡ Some DropsBytes
+  add_drops drop = add_stop a half negative (trace_of x) ∙ ap (λ (b : Bool). cond b (Some DropsBytes) None) (add_tested true drop)
+
 -- DMALP and DMALPEND
 module _ {X : Type 0} (done : Result X Cause) (x : Tracer) (after : Registers) (turn : ChanTurn) (h : IsTracer x) where
-  answered : (i : Insn) → IsQuiet i → SetsRegisters i x.registers turn after → (NoFault turn → (turn ≡ Moved) × (stop_of_insn i (trace_of x) ≡ None)) → OnOk done (NoFault turn) → OnOk done (Advances i x (record x { registers = after }))
+  answered : (i : ChipInsn) → IsQuiet i → SetsRegisters i x.registers turn after → (NoFault turn → (turn ≡ Moved) × (stop_of_insn i (trace_of x) ≡ None)) → OnOk done (NoFault turn) → OnOk done (Advances i x (record x { registers = after }))
   answered i q sets moves none = by done none
     where
       by : (r : Result X Cause) → OnOk r (NoFault turn) → OnOk r (Advances i x (record x { registers = after }))
       by (Ok y) ok = let w = moves ok in quiet_advances i x after q h (sets_to i x.registers after turn sets w.0) w.1
       by (Err cause) ok = tt
 
-  refused : (i : Insn) → ((cause : Cause) → FaultIs turn cause → stop_of_insn i (trace_of x) ≡ Some cause) → IfErr done (λ cause. FaultIs turn cause) → IfErr done (λ cause. Stops i x cause)
+  refused : (i : ChipInsn) → ((cause : Cause) → FaultIs turn cause → stop_of_insn i (trace_of x) ≡ Some cause) → IfErr done (λ cause. FaultIs turn cause) → IfErr done (λ cause. Stops i x cause)
   refused i stops fault = by done fault
     where
       by : (r : Result X Cause) → IfErr r (λ cause. FaultIs turn cause) → IfErr r (λ cause. Stops i x cause)
@@ -183,6 +223,29 @@ module _ {X : Type 0} (done : Result X Cause) (x : Tracer) (after : Registers) (
   pub lp_stops : (c : Counter) (n : ℕ) → SetsRegisters (Lp c n) x.registers turn after → IfErr done (λ cause. FaultIs turn cause) → IfErr done (λ cause. Stops (Lp c n) x cause)
   lp_stops c n sets fault =
       refused (Lp c n) (λ cause f. absurd (let bad : Moved ≡ Fault f.0 = turn_of (Lp c n) x.registers after turn sets ∙ f.1 in cc)) fault
+
+  module _ (counter : Counter) (back : ℕ) (sets : SetsRegisters (LoopAgain counter back) x.registers turn after) where
+    abbrev early : Bool
+    early = nat_lt x.registers.pc back
+
+    again_is : turn_if (not early) (Moved, record (state x.registers [] [] []) { registers = moved (LoopAgain counter back) x.registers }) (Fault InstrFetchErr, state x.registers [] [] []) ≡ turn
+    again_is = turn_not early _ _ ∙ turn_of (LoopAgain counter back) x.registers after turn sets
+
+    again_moves : NoFault turn → (turn ≡ Moved) × (stop_of_insn (LoopAgain counter back) (trace_of x) ≡ None)
+    again_moves none =
+        let w = moves_if (not early) InstrFetchErr turn _ _ again_is none in
+        (w.1, passed early (Fails InstrFetchErr) None (not-true early w.0) refl)
+
+    again_fails : (cause : Cause) → FaultIs turn cause → stop_of_insn (LoopAgain counter back) (trace_of x) ≡ Some cause
+    again_fails cause f =
+        let w = fails_if (not early) InstrFetchErr turn _ _ again_is cause f in
+        ap (λ (b : Bool). cond b (Some (Fails InstrFetchErr)) None) (not-false early w.0) ∙ ap (λ (k : Cause). Some k) (sym w.1)
+
+    pub again_advances : OnOk done (NoFault turn) → OnOk done (Advances (LoopAgain counter back) x (record x { registers = after }))
+    again_advances none = answered (LoopAgain counter back) tt sets again_moves none
+
+    pub again_stops : IfErr done (λ cause. FaultIs turn cause) → IfErr done (λ cause. Stops (LoopAgain counter back) x cause)
+    again_stops fault = refused (LoopAgain counter back) again_fails fault
 
   module _ (c : Counter) (back : ℕ) (sets : SetsRegisters (LpEnd c back) x.registers turn after) where
     abbrev before : Bool
@@ -210,19 +273,19 @@ module _ {X : Type 0} (done : Result X Cause) (x : Tracer) (after : Registers) (
 -- ---- DMAWFE and DMASEV
 
 -- an instruction is one of them
-record Syncs (i : Insn) (z : Trace) : Type 0 where
+record Syncs (i : ChipInsn) (z : Trace) : Type 0 where
   goes : stop_of_insn i z ≡ None
   trace : record { registers = past i z.registers; loads = z.loads; stores = z.stores } ≡ after_insn i z
 
-abbrev pub Happens : Insn → Sync → Type 0
+abbrev pub Happens : ChipInsn → Sync → Type 0
 Happens i s = (stored : ℕ) → happening_of (Ok i) stored ≡ record { sync = s; stored = stored } ∷ []
 
-syncs : (i : Insn) (s : Sync) (z : Trace) → Happens i s → Syncs i z
+syncs : (i : ChipInsn) (s : Sync) (z : Trace) → Happens i s → Syncs i z
 syncs (Wfe e v) s z h = record { goes = refl; trace = refl }
 syncs (Sev e) s z h = record { goes = refl; trace = refl }
 syncs i s z h = absurd (let bad : [] ≡ record { sync = s; stored = 0 } ∷ [] = h 0 in cc)
 
-pub happen_advances : (i : Insn) (s : Sync) (x y : Tracer) → IsTracer x → Happens i s → y.registers ≡ past i x.registers → y.held ≡ x.held → y.stored ≡ x.stored → y.src ≡ x.src → y.dst ≡ x.dst → y.events.items ≡ x.events.items ++ record { sync = s; stored = x.stored } ∷ [] → Advances i x y
+pub happen_advances : (i : ChipInsn) (s : Sync) (x y : Tracer) → IsTracer x → Happens i s → y.registers ≡ past i x.registers → y.held ≡ x.held → y.stored ≡ x.stored → y.src ≡ x.src → y.dst ≡ x.dst → y.events.items ≡ x.events.items ++ record { sync = s; stored = x.stored } ∷ [] → Advances i x y
 happen_advances i s x y h is registers held_same stored src dst events =
     let w = syncs i s (trace_of x) is in
     let loads = ap (λ v. places (unrolled v.items)) src in

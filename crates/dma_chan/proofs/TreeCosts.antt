@@ -2,8 +2,8 @@
 use Rattle.std.proofs.Common.{◌≡◌, ℕ, zero, suc, ◌+◌, ◌*◌, ◌/◌, ◌%◌, ◌^◌, ◌≤◌, List, [], ◌∷◌, length, map, Bool, Option, Some, None, refl, ap, ◌∙◌, arith, length-append}
 use Rattle.std.proofs.Math.Nat.{div-mul-le_self}
 use Rattle.dma_insn.specs.declared.insn.Counter.TheVariants.{Lc0, Lc1}
-use Rattle.dma_insn.specs.declared.insn.Insn.{Insn}
-use Rattle.dma_insn.specs.declared.insn.Insn.TheVariants.{LpEnd}
+use Rattle.dma_insn.specs.declared.chip.ChipInsn.{ChipInsn}
+use Rattle.dma_insn.specs.declared.chip.ChipInsn.TheVariants.{LpEnd}
 use Rattle.dma_mem.specs.Places.{Descriptor}
 use Rattle.dma_chan.specs.declared.bus.Bus.{Bus}
 use Rattle.dma_chan.specs.declared.bus.Bus.TheVariants.{Ideal}
@@ -23,7 +23,7 @@ counted (Then a b) = counted a + counted b
 counted Nothing = 0
 counted (Repeat c n t) = 1 + n * (counted t + 1)
 
-length_times : (n : ℕ) (is : List Insn) → length (times n is) ≡ n * length is
+length_times : (n : ℕ) (is : List ChipInsn) → length (times n is) ≡ n * length is
 length_times zero is = omega arith
 length_times (suc n) is = length-append is (times n is) ∙ ap (λ (k : ℕ). length is + k) (length_times n is) ∙ omega arith
 

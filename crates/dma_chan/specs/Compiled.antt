@@ -4,8 +4,8 @@ use Rattle.std.specs.List.{flat_map}
 use Rattle.std.specs.Option.{option_map_or}
 use Rattle.dma_insn.specs.declared.insn.Reg.TheVariants.{Sar, Ccr, Dar}
 use Rattle.dma_insn.specs.declared.insn.Counter.TheVariants.{Lc0, Lc1}
-use Rattle.dma_insn.specs.declared.insn.Insn.{Insn}
-use Rattle.dma_insn.specs.declared.insn.Insn.TheVariants.{Mov, Ld, St, Rmb, Wmb, End, Sev, Wfe}
+use Rattle.dma_insn.specs.declared.chip.ChipInsn.{ChipInsn}
+use Rattle.dma_insn.specs.declared.chip.ChipInsn.TheVariants.{Mov, Ld, St, Rmb, Wmb, End, Sev, Wfe}
 use Rattle.dma_mem.specs.declared.segment.Segment.{Segment}
 use Rattle.dma_mem.specs.Places.{Descriptor}
 use Rattle.dma_chan.specs.declared.bus.Bus.{Bus}
@@ -127,7 +127,7 @@ tree_on bus t =
     ∷ One End ∷ [])
 
 -- the instructions that a transfer's program for a bus executes, in order
-unfoldable pub members_on : Bus → Descriptor → List Insn
+unfoldable pub members_on : Bus → Descriptor → List ChipInsn
 members_on bus t = unrolled (tree_on bus t)
 
 -- how many instructions a transfer's program for a bus executes
@@ -141,7 +141,7 @@ compiled_on bus t = record { bytes = bytes_of (tree_on bus t); cost = Some (cost
 -- ---- on the ideal bus, which is that of the engine's channels
 
 -- the instructions that a transfer's program executes, in order
-unfoldable pub members : Descriptor → List Insn
+unfoldable pub members : Descriptor → List ChipInsn
 unfolding members_on
 members t = members_on Ideal t
 

@@ -1,8 +1,8 @@
 -- The addresses that a channel's instructions read, and that nothing else in the memory has any effect on them.
 use Rattle.std.specs.Prelude.{◌≡◌, ◌⊎◌, ℕ, ◌<◌, ◌≤◌, Bool, List, [], length, slice_index, Option, Result, Ok}
 use Rattle.std.specs.List.{Contains}
-use Rattle.dma_insn.specs.declared.insn.Insn.{Insn}
-use Rattle.dma_insn.specs.declared.insn.Insn.TheVariants.{Ld}
+use Rattle.dma_insn.specs.declared.chip.ChipInsn.{ChipInsn}
+use Rattle.dma_insn.specs.declared.chip.ChipInsn.TheVariants.{Ld}
 use Rattle.dma_mem.specs.Image.{put}
 use Rattle.dma_mem.specs.Marking.{MarkList}
 use Rattle.dma_mem.specs.Places.{Descriptor, sources}
@@ -18,7 +18,7 @@ use Rattle.dma_chan.specs.Stepping.{Machine, TakesSteps, after_steps}
 
 -- the addresses that an instruction reads: those of its burst for a DMALD, and none for any other instruction or a
 -- fault of fetching
-abbrev pub read_by : Result Insn FaultKind → Registers → List ℕ
+abbrev pub read_by : Result ChipInsn FaultKind → Registers → List ℕ
 read_by (Ok Ld) r = touched (source_of r)
 read_by next r = []
 

@@ -1,7 +1,7 @@
 //! The compiler: turns a transfer into the program that copies it.
 
 ghost use Rattle.std.specs.Prelude.{ℕ, Bool, ◌≡◌, ◌+◌, ◌-◌, ◌*◌, ◌≤◌, ◌<◌, ◌^◌, ◌++◌, length, IfOk, IfSome, OnOk, map, All, not};
-ghost use Rattle.dma_insn.specs.Spelling.{spelling};
+ghost use Rattle.dma_insn.specs.Chip.{spelling};
 ghost use Rattle.dma_insn.specs.ControlWord.{beat_bytes};
 ghost use Rattle.dma_chan.specs.Tree.{bytes_of, in_order, Repeat};
 ghost use Rattle.dma_chan.specs.inner.Compiling.{Appends, word_of};
@@ -15,9 +15,9 @@ use crate::bus::Bus;
 use crate::compile::counts::cost_on;
 use crate::pieces::{Piece, pieces_of};
 use crate::program::Program;
-use dma_insn::codec::encode;
+use dma_insn::chip::{ChipInsn, encode_chip};
 use dma_insn::control::{Attribute, BeatSize, Beats, BurstEnd, Control};
-use dma_insn::insn::{Counter, Event, Insn, Reg, Times};
+use dma_insn::insn::{Counter, Event, Reg, Times};
 use dma_mem::transfer::Transfer;
 use std::alloc::{AllocError, Global};
 use thiserror::Error;
@@ -89,7 +89,7 @@ fn code_of(
     push_wait(&mut code, transfer.wait())?;
     push_pieces(&mut code, bus, pieces)?;
     push_signal(&mut code, transfer.signal())?;
-    push(&mut code, Insn::End)?;
+    push(&mut code, ChipInsn::End)?;
     Ok(code)
 }
 
@@ -112,7 +112,7 @@ fn push_wait(code: &mut Vec<u8>, wait: Option<u8>) -> Result<(), AllocError>
         return Ok(());
     };
     let (event, invalid) = (Event::of_number(number), false);
-    push(code, Insn::Wfe { event, invalid })
+    push(code, ChipInsn::Wfe { event, invalid })
 }
 
 // Appends the signal, if the transfer has one.
@@ -123,7 +123,7 @@ fn push_signal(code: &mut Vec<u8>, signal: Option<u8>) -> Result<(), AllocError>
     let Some(number) = signal else {
         return Ok(());
     };
-    push(code, Insn::Sev(Event::of_number(number)))
+    push(code, ChipInsn::Sev(Event::of_number(number)))
 }
 
 // Appends the code of the pieces, in order.
@@ -147,8 +147,8 @@ fn push_piece(code: &mut Vec<u8>, bus: Bus, piece: Piece) -> Result<(), AllocErr
         size: beat_of(bus, piece),
         source_rises: !piece.fill,
     };
-    push(code, Insn::Mov(Reg::Sar, piece.src))?;
-    push(code, Insn::Mov(Reg::Dar, piece.dst))?;
+    push(code, ChipInsn::Mov(Reg::Sar, piece.src))?;
+    push(code, ChipInsn::Mov(Reg::Dar, piece.dst))?;
     push_parts(code, beat, piece.len)?;
     Ok(())
 }
@@ -182,7 +182,7 @@ fn push_whole_bursts(code: &mut Vec<u8>, beat: Beat, count: u32) -> Result<(), A
     if count == 0 {
         return Ok(());
     }
-    push(code, Insn::Mov(Reg::Ccr, control_word(beat, 16)))?;
+    push(code, ChipInsn::Mov(Reg::Ccr, control_word(beat, 16)))?;
     push_bursts(code, count)
 }
 
@@ -207,9 +207,9 @@ fn push_nested_loop(code: &mut Vec<u8>, turns: u16) -> Result<(), AllocError>
     }
     let times = Times::of_number(turns);
     let counter = Counter::Lc0;
-    push(code, Insn::Lp { counter, times })?;
+    push(code, ChipInsn::Lp { counter, times })?;
     push_loop(code, 256)?;
-    push(code, Insn::LpEnd { counter, back: 8 })
+    push(code, ChipInsn::LpEnd { counter, back: 8 })
 }
 
 // Appends a loop of `rest` bursts, or nothing if `rest` is 0.
@@ -234,9 +234,9 @@ fn push_loop(code: &mut Vec<u8>, turns: u16) -> Result<(), AllocError>
 {
     let times = Times::of_number(turns);
     let counter = Counter::Lc1;
-    push(code, Insn::Lp { counter, times })?;
+    push(code, ChipInsn::Lp { counter, times })?;
     push_body(code)?;
-    push(code, Insn::LpEnd { counter, back: 4 })
+    push(code, ChipInsn::LpEnd { counter, back: 4 })
 }
 
 // Appends one burst of this number of beats under its control word, or nothing if the number is 0.
@@ -249,7 +249,7 @@ fn push_burst(code: &mut Vec<u8>, beat: Beat, beats: u32) -> Result<(), AllocErr
     if beats == 0 {
         return Ok(());
     }
-    push(code, Insn::Mov(Reg::Ccr, control_word(beat, beats)))?;
+    push(code, ChipInsn::Mov(Reg::Ccr, control_word(beat, beats)))?;
     push_body(code)
 }
 
@@ -257,19 +257,19 @@ fn push_burst(code: &mut Vec<u8>, beat: Beat, beats: u32) -> Result<(), AllocErr
 fn push_body(code: &mut Vec<u8>) -> Result<(), AllocError>
     ensures ok { OnOk result (Appends code.old.items code.new.items body) }
 {
-    push(code, Insn::Ld)?;
-    push(code, Insn::Rmb)?;
-    push(code, Insn::St)?;
-    push(code, Insn::Wmb)
+    push(code, ChipInsn::Ld)?;
+    push(code, ChipInsn::Rmb)?;
+    push(code, ChipInsn::St)?;
+    push(code, ChipInsn::Wmb)
 }
 
 // Appends an instruction's bytes.
 #[inline(always)]
-fn push(code: &mut Vec<u8>, insn: Insn) -> Result<(), AllocError>
+fn push(code: &mut Vec<u8>, insn: ChipInsn) -> Result<(), AllocError>
     ensures ok { OnOk result (code.new.items ≡ code.old.items ++ spelling insn) }
 {
     let mut bytes = [0; 6];
-    let len = encode(insn, &mut bytes);
+    let len = encode_chip(insn, &mut bytes);
     code.extend_from_slice(&bytes[..len])?;
     Ok(())
 }

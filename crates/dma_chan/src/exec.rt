@@ -2,20 +2,21 @@
 
 ghost use Rattle.std.specs.Prelude.{◌≡◌, ◌+◌, ◌-◌, ◌≤◌, ◌<◌, IsTrue, IsNone, length, Ok};
 ghost use Rattle.dma_insn.specs.AssemblyText.{most_program_bytes};
-ghost use Rattle.dma_insn.specs.Spelling.{spelling};
-ghost use Rattle.dma_insn.specs.declared.insn.Insn.TheVariants.{Mov, Lp, LpEnd, Sev, Wfe};
-ghost use Rattle.dma_chan.specs.Exec.{buffer_size, counter_of, act, state};
+ghost use Rattle.dma_insn.specs.Chip.{spelling};
+ghost use Rattle.dma_insn.specs.declared.chip.ChipInsn.TheVariants.{Mov, Lp, LpEnd, Sev, Wfe, AddHalfword, LoopAgain};
+ghost use Rattle.dma_chan.specs.Exec.{addend, buffer_size, counter_of, act, state};
 ghost use Rattle.dma_chan.specs.inner.Acts.{FaultsAt, FaultsWith, SetsFlags, SetsRegisters};
 ghost use Rattle.dma_chan.specs.Ready.{is_ready};
 ghost use Rattle.dma_mem.specs.Lent.{with_gaps};
 
-use crate::bursts::{load_burst, load_fault, store_burst, store_fault};
+use crate::bursts::{load_burst, load_fault, store_burst, store_fault, zero_burst, zero_fault};
 use crate::bus::Bus;
 use crate::next::Next;
 use crate::turn::{ChanTurn, FaultKind};
 use circular_buffer::HeapCircularBuffer;
+use dma_insn::chip::{Address, ChipInsn};
 use dma_insn::control::ControlWord;
-use dma_insn::insn::{Counter, Event, Insn, Reg, Times};
+use dma_insn::insn::{Counter, Event, Reg, Times};
 use dma_mem::events::Events;
 use dma_mem::marks::Marks;
 use dma_mem::ram::Ram;
@@ -154,6 +155,63 @@ pub(crate) fn end_loop(counter: Counter, back: u8, registers: &mut Registers) ->
     ChanTurn::Moved
 }
 
+// Returns the number that DMAADDH or DMAADNH adds.
+fn addend(negative: bool, half: u16) -> u32
+    ensures { result ≡ addend negative half }
+{
+    if negative {
+        u32::from(half) + 0xffff_0000
+    } else {
+        u32::from(half)
+    }
+}
+
+// Executes DMAADDH or DMAADNH.
+pub(crate) fn add_halfword(
+    address: Address,
+    half: u16,
+    negative: bool,
+    registers: &mut Registers,
+) -> ChanTurn
+    requires pc { registers.old.pc + 3 ≤ most_program_bytes }
+    ensures exact { SetsRegisters (AddHalfword address half negative) registers.old result
+        registers.new }
+    ensures pc { registers.new.pc ≤ registers.old.pc + 3 }
+{
+    let number = addend(negative, half);
+    match address {
+        Address::Source => registers.sar = registers.sar.wrapping_add(number),
+        Address::Destination => registers.dar = registers.dar.wrapping_add(number),
+    }
+    registers.pc += 3;
+    ChanTurn::Moved
+}
+
+// Returns the fault of the DMALPEND of a loop that DMALPFE begins: `InstrFetchErr` if it jumps to before the program's
+// start, else `None`.
+fn again_fault(back: u8, registers: &Registers) -> Option<FaultKind>
+    ensures fault { (counter : Counter) → FaultsAt (LoopAgain counter back) registers.now result }
+    ensures within { IsNone result → back ≤ registers.now.pc }
+{
+    if registers.pc < u32::from(back) {
+        return Some(FaultKind::InstrFetchErr);
+    }
+    None
+}
+
+// Executes the DMALPEND of a loop that DMALPFE begins.
+pub(crate) fn loop_again(back: u8, registers: &mut Registers) -> ChanTurn
+    ensures exact { (counter : Counter)
+        → SetsRegisters (LoopAgain counter back) registers.old result registers.new }
+    ensures pc { registers.new.pc ≤ registers.old.pc }
+{
+    if registers.pc < u32::from(back) {
+        return ChanTurn::Fault(FaultKind::InstrFetchErr);
+    }
+    registers.pc -= u32::from(back);
+    ChanTurn::Moved
+}
+
 // Executes DMASEV.
 fn signal(event: Event, registers: &mut Registers, events: &mut Events) -> ChanTurn
     requires pc { registers.old.pc + 2 ≤ most_program_bytes }
@@ -225,24 +283,31 @@ impl Executor {
         ensures loan { M.loan memory.new ≡ M.loan memory.old }
     {
         match next.insn() {
-            Insn::Mov(reg, value) => set_register(reg, value, next.len(), &mut self.registers),
-            Insn::Ld => load_burst(self, memory, marks),
-            Insn::St => store_burst(self, memory, marks),
-            Insn::Rmb => go_on(&mut self.registers),
-            Insn::Wmb => go_on(&mut self.registers),
-            Insn::Nop => go_on(&mut self.registers),
-            Insn::Lp { counter, times } => begin_loop(counter, times, &mut self.registers),
-            Insn::LpEnd { counter, back } => end_loop(counter, back, &mut self.registers),
-            Insn::Sev(event) => signal(event, &mut self.registers, events),
-            Insn::Wfe { event, invalid } => wait(event, invalid, &mut self.registers, events),
-            Insn::End => ChanTurn::Ended,
+            ChipInsn::Mov(reg, value) => set_register(reg, value, next.len(), &mut self.registers),
+            ChipInsn::Ld => load_burst(self, memory, marks),
+            ChipInsn::St => store_burst(self, memory, marks),
+            ChipInsn::Rmb => go_on(&mut self.registers),
+            ChipInsn::Wmb => go_on(&mut self.registers),
+            ChipInsn::Nop => go_on(&mut self.registers),
+            ChipInsn::Lp { counter, times } => begin_loop(counter, times, &mut self.registers),
+            ChipInsn::LpEnd { counter, back } => end_loop(counter, back, &mut self.registers),
+            ChipInsn::Sev(event) => signal(event, &mut self.registers, events),
+            ChipInsn::Wfe { event, invalid } => wait(event, invalid, &mut self.registers, events),
+            ChipInsn::End => ChanTurn::Ended,
+            ChipInsn::StoreZeros => zero_burst(self, memory, marks),
+            ChipInsn::AddHalfword {
+                address,
+                half,
+                negative,
+            } => add_halfword(address, half, negative, &mut self.registers),
+            ChipInsn::LoopAgain { back, .. } => loop_again(back, &mut self.registers),
         }
     }
 }
 
 // Returns the fault that an instruction would return, or `None`. Nothing is executed.
 pub(crate) fn fault_of<M: Ram>(
-    insn: Insn,
+    insn: ChipInsn,
     executor: &Executor,
     memory: &M,
     marks: &Marks,
@@ -252,16 +317,19 @@ pub(crate) fn fault_of<M: Ram>(
         executor.now.buffer.items (M.paged memory.now).image result }
 {
     match insn {
-        Insn::Mov(reg, value) => set_fault(reg, value, &executor.registers),
-        Insn::Ld => load_fault(executor, memory, marks),
-        Insn::St => store_fault(executor, memory, marks),
-        Insn::LpEnd { counter, back } => jump_fault(counter, back, &executor.registers),
-        Insn::Rmb => None,
-        Insn::Wmb => None,
-        Insn::Nop => None,
-        Insn::Lp { .. } => None,
-        Insn::Sev(_) => None,
-        Insn::Wfe { .. } => None,
-        Insn::End => None,
+        ChipInsn::Mov(reg, value) => set_fault(reg, value, &executor.registers),
+        ChipInsn::Ld => load_fault(executor, memory, marks),
+        ChipInsn::St => store_fault(executor, memory, marks),
+        ChipInsn::LpEnd { counter, back } => jump_fault(counter, back, &executor.registers),
+        ChipInsn::Rmb => None,
+        ChipInsn::Wmb => None,
+        ChipInsn::Nop => None,
+        ChipInsn::Lp { .. } => None,
+        ChipInsn::Sev(_) => None,
+        ChipInsn::Wfe { .. } => None,
+        ChipInsn::End => None,
+        ChipInsn::StoreZeros => zero_fault(executor, memory, marks),
+        ChipInsn::AddHalfword { .. } => None,
+        ChipInsn::LoopAgain { back, .. } => again_fault(back, &executor.registers),
     }
 }

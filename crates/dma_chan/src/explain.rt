@@ -2,7 +2,7 @@
 
 ghost use Rattle.std.specs.Prelude.{◌≡◌, ◌≢◌, ◌-◌, ◌<◌, ◌↔◌, IfErr, IfOk, IsErrAnd, length};
 ghost use Rattle.dma_insn.specs.AssemblyText.{most_program_bytes};
-ghost use Rattle.dma_insn.specs.declared.insn.Insn.TheVariants.{End};
+ghost use Rattle.dma_insn.specs.declared.chip.ChipInsn.TheVariants.{End};
 ghost use Rattle.dma_mem.specs.Places.{places};
 ghost use Rattle.dma_chan.specs.Explains.{Finds, HasAddress, Refuses, bursts_in, unrolled};
 ghost use Rattle.dma_chan.specs.inner.Tracing.{IsCopied, IsTracer, Stops};
@@ -19,7 +19,7 @@ use crate::explain::tracer::Tracer;
 use crate::next::Next;
 use crate::program::MAX_PROGRAM_BYTES;
 use crate::turn::FaultKind;
-use dma_insn::insn::Insn;
+use dma_insn::chip::ChipInsn;
 use dma_mem::segment::Segment;
 use std::alloc::Global;
 
@@ -93,7 +93,9 @@ pub enum Cause {
     StoresPast,
     /// A store's address doesn't increment.
     StoresFixed,
-    /// Only on a chip's bus: a DMAMOV DAR or DMAMOV CCR after which a chip drops the bytes that are loaded and not
+    /// Only on a chip's bus: a DMASTZ, which stores zeros and no bytes that were loaded.
+    StoresZeros,
+    /// Only on a chip's bus: a DMAMOV, DMAADDH or DMAADNH of DAR, or a DMAMOV CCR, after which a chip drops the bytes that are loaded and not
     /// stored: it moves the destination to other byte lanes of the bus, or changes whether it rises, or the size of
     /// beats that don't rise (DMA-330 manual, updating DMA channel control registers during a DMA cycle).
     DropsBytes,
@@ -202,14 +204,14 @@ pub fn explain(alloc: Global, bus: Bus, program: &[u8], most: u32) -> Result<Exp
             addr: 0,
             stored: tracer.stored,
         };
-        let next = match Next::at(program, pc) {
+        let next = match Next::on(tracer.registers.bus, program, pc) {
             Ok(next) => next,
             Err(kind) => {
                 let cause = Cause::Fails(kind);
                 return Err(Unexplained { cause, ..here });
             }
         };
-        if let Insn::End = next.insn() {
+        if let ChipInsn::End = next.insn() {
             return match finish(alloc, tracer, steps + 1) {
                 Ok(explained) => Ok(explained),
                 Err(stop) => Err(Unexplained {

@@ -1,29 +1,30 @@
 //! The instruction at an offset of a program.
 
-ghost use Rattle.std.specs.Prelude.{◌≡◌, ◌≤◌, length};
+ghost use Rattle.std.specs.Prelude.{◌≡◌, ◌≤◌, ◌<◌, length, IfOk};
 ghost use Rattle.dma_insn.specs.AssemblyText.{most_program_bytes};
-ghost use Rattle.dma_insn.specs.Spelling.{spelling};
-ghost use Rattle.dma_chan.specs.Next.{fetch_fault, next_of};
+ghost use Rattle.dma_insn.specs.Chip.{IsSpelledAt, spelling};
+ghost use Rattle.dma_chan.specs.Next.{decoded_on, fetch_fault, next_of, next_on};
 
+use crate::bus::Bus;
 use crate::turn::FaultKind;
-use dma_insn::codec::{DecodeFault, decode};
-use dma_insn::insn::Insn;
+use dma_insn::chip::{ChipInsn, decode_chip, decode_core};
+use dma_insn::codec::DecodeFault;
 use std::marker::Model;
 
 /// An instruction and the length of its encoding in bytes. Contracts see the instruction.
 #[derive(Clone, Copy)]
 pub struct Next {
-    insn: Insn,
+    insn: ChipInsn,
     len: u32,
 }
 
 impl Model for Next {
     ghost use Rattle.std.specs.Prelude.{◌≡◌, length};
     ghost use Rattle.std.proofs.Common.{ap, sym};
-    ghost use Rattle.dma_insn.specs.declared.insn.Insn.{Insn};
-    ghost use Rattle.dma_insn.specs.Spelling.{spelling};
+    ghost use Rattle.dma_insn.specs.declared.chip.ChipInsn.{ChipInsn};
+    ghost use Rattle.dma_insn.specs.Chip.{spelling};
 
-    ghost Value = { Insn };
+    ghost Value = { ChipInsn };
 
     ghost view = { λ n. n.insn };
 
@@ -45,15 +46,28 @@ fn fetch_fault(fault: DecodeFault) -> FaultKind
     }
 }
 
+// Decodes the instruction at the front of `bytes` in the grammar of a channel on this bus.
+#[inline(always)]
+fn decode_on(bus: Bus, bytes: &[u8]) -> Result<(ChipInsn, usize), DecodeFault>
+    ensures exact { result ≡ decoded_on bus bytes.now }
+    ensures found { IfOk result (λ found. IsSpelledAt bytes.now found.0 found.1) }
+    ensures within { IfOk result (λ found. (0 < found.1) × (found.1 ≤ length bytes.now)) }
+{
+    match bus {
+        Bus::Ideal => decode_core(bytes),
+        Bus::Chip(_) => decode_chip(bytes),
+    }
+}
+
 impl Next {
-    // Returns the instruction at an offset of a program, or the fault of fetching it.
+    // Returns the instruction at an offset of a program for a channel on a bus, or the fault of fetching it.
     #[inline(always)]
-    pub(crate) fn at(program: &[u8], pc: u32) -> Result<Next, FaultKind>
+    pub(crate) fn on(bus: Bus, program: &[u8], pc: u32) -> Result<Next, FaultKind>
         requires offset { pc ≤ length program.now }
         requires limit { length program.now ≤ most_program_bytes }
-        ensures { result ≡ next_of program.now pc }
+        ensures { result ≡ next_on bus program.now pc }
     {
-        match decode(&program[pc as usize..]) {
+        match decode_on(bus, &program[pc as usize..]) {
             Ok((insn, len)) => Ok(Next {
                 insn,
                 len: len as u32,
@@ -62,8 +76,18 @@ impl Next {
         }
     }
 
+    // Returns the same in the grammar of the model alone.
+    #[inline(always)]
+    pub(crate) fn at(program: &[u8], pc: u32) -> Result<Next, FaultKind>
+        requires offset { pc ≤ length program.now }
+        requires limit { length program.now ≤ most_program_bytes }
+        ensures { result ≡ next_of program.now pc }
+    {
+        Next::on(Bus::Ideal, program, pc)
+    }
+
     /// Returns the instruction.
-    pub fn insn(self) -> Insn
+    pub fn insn(self) -> ChipInsn
         ensures { result ≡ self }
     {
         self.insn

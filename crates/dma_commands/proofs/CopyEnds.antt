@@ -3,8 +3,8 @@ use Rattle.std.proofs.Common.{◌≡◌, ◌≢◌, ◌⊎◌, ℕ, ◌+◌, ◌
 use Rattle.std.specs.Prelude.{slice_get, slice_index_or, nat_le, nat_lt, not, ◌==◌, ◌||◌}
 use Rattle.std.proofs.lemmas.Bool.{cases_lt, cond_both, false≢true, leb-false, lt-leb, ltb-false}
 use Rattle.std.proofs.lemmas.List.{length-set, get_or-set_same, get_or_past}
-use Rattle.dma_insn.specs.declared.insn.Insn.{Insn}
-use Rattle.dma_insn.specs.declared.insn.Insn.TheVariants.{Ld, St, End, Sev, Wfe}
+use Rattle.dma_insn.specs.declared.chip.ChipInsn.{ChipInsn}
+use Rattle.dma_insn.specs.declared.chip.ChipInsn.TheVariants.{Ld, St, End, Sev, Wfe}
 use Rattle.dma_mem.specs.Places.{Descriptor, lies_below}
 use Rattle.dma_mem.specs.Rules.{IsTransfer}
 use Rattle.dma_mem.specs.declared.marks.MarkKind.TheVariants.{Reading, Writing}
@@ -74,7 +74,7 @@ signalled_front v event = ap (λ o. issued_front (channel o 0)) (entry_is v (Sig
 
 -- ---- one step
 
-insn_goes : (v : View) (t : Descriptor) (k : ℕ) → At v t k → (i : Insn) → (i ≢ End → k + 1 < cost t) → GoesOn t k (insn_turn v 0 t k i)
+insn_goes : (v : View) (t : Descriptor) (k : ℕ) → At v t k → (i : ChipInsn) → (i ≢ End → k + 1 < cost t) → GoesOn t k (insn_turn v 0 t k i)
 insn_goes v t k at (Wfe event invalid) less =
     cond_both {A = Stepped} (is_set (object_of v) event) _ _ (GoesOn t k)
     (λ _. moved_on_law (with_entry v (Passed 0 event)) t k at.there (passed_front v event ∙ at.front) (less (λ e. absurd cc)))

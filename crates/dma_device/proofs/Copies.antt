@@ -178,7 +178,12 @@ module _ (c : Copying) (n : ℕ) where
   Fine th = is_faulting th ≡ false
 
   steps_fine : (k : Call) → (k.made ≡ true → 0 < k.most) → Fit k.before.device k.marks → Steps c n (Unit {0}) Fine (Unit {0}) Fine k
-  steps_fine k some fit = grind (arith, call_fine)
+  steps_fine k some fit = record {
+    rests_over = λ none o. o;
+    rests = λ off none th found g fine. fine;
+    ends = λ th g fine sent ended. tt;
+    goes = λ made th found g fine sent goes. call_fine k th (some made) fit g;
+  }
 
   turn_fine : (d : DeviceValue) (regions : List Region) (most : ℕ) (e : DeviceValue) (left : List Region) (turn : Turn) → TakesTurn d regions n most e left turn → Fit d (marks_in regions) → Has c n (Unit {0}) Fine (setup_of d regions) → Has c n (Unit {0}) Fine (setup_of e left)
   turn_fine d regions most e left turn x fit g =

@@ -1,5 +1,5 @@
 -- What sets and takes events.
-use Rattle.std.proofs.Common.{◌≡◌, ◌∙◌, ◌⊎◌, ℕ, suc, ◌+◌, ◌-◌, ◌%◌, ◌^◌, ◌<◌, Bool, true, false, List, get_or, Option, Some, ap, sym, subst, arith, inl, inr, true≢false}
+use Rattle.std.proofs.Common.{◌≡◌, ◌∙◌, ◌⊎◌, ℕ, zero, suc, ◌+◌, ◌-◌, ◌%◌, ◌^◌, ◌<◌, Bool, true, false, List, get_or, Option, Some, None, ap, sym, subst, arith, inl, inr, true≢false}
 use Rattle.std.specs.Prelude.{◌↔◌, max, min, slice_get}
 use Rattle.std.specs.Int.{bit_at}
 use Rattle.std.proofs.lemmas.Bool.{cases_Bool, cases_eq, eq-eqb, ne_eqb}
@@ -12,7 +12,8 @@ use Rattle.dma_mem.specs.declared.regions.Region.{Region}
 use Rattle.dma_mem.proofs.FlagBits.{get_or_flags_of}
 use Rattle.dma_chan.specs.declared.turn.ChanTurn.{ChanTurn}
 use Rattle.dma_chan.specs.declared.turn.ChanTurn.TheVariants.{Waiting}
-use Rattle.dma_chan.specs.Stepping.{Machine, TakesSteps, goes_on_after}
+use Rattle.dma_chan.specs.Exec.{ChangesNothing}
+use Rattle.dma_chan.specs.Stepping.{Machine, TakesSteps, goes_on_after, after_step, after_steps, answer_at}
 use Rattle.dma_chan.proofs.StepsTaken.{steps_move}
 use Rattle.dma_chan.proofs.SteppedOver.{is_still}
 use Rattle.dma_device.specs.declared.device.turns.Turn.{Turn}
@@ -107,7 +108,13 @@ answer_waits events th last signal k is = grind arith
 
 -- a call whose last step waits leaves the flag clear
 last_unset : (marks : MarkList) (s v : Machine) (most taken : ℕ) (last : Option ChanTurn) (k : ℕ) → TakesSteps marks s most taken last v → last ≡ Some (Waiting k) → IsClear k v.flags
-last_unset marks s v most taken last k h1 h2 = grind (arith, is_still, waits_at)
+last_unset marks s v most zero last k x is = let bad : Some (Waiting k) ≡ None = sym is ∙ x.answer in absurd (cc)
+last_unset marks s v most (suc j) last k x is =
+    let u = after_steps marks s j in
+    let same : Some (answer_at marks u) ≡ Some (Waiting k) = sym x.answer ∙ is in
+    let waits : answer_at marks u ≡ Waiting k = cc in
+    let still : after_step marks u ≡ u = is_still marks u (subst ChangesNothing (sym waits) tt) in
+    ap (λ (m : Machine). get_or m.flags k false) (x.ends_at ∙ still) ∙ (waits_at marks u k waits).1.1
 
 call_unset : (marks : MarkList) (most : ℕ) (t : Thread) (s : Setup) (k : ℕ) → HasLine s.device k → (thread_left marks most t s).status ≡ WaitingForEvent k → bit_at (with_flags (number_of (machine_left marks most t s).flags) s.device).events k ≡ 1 → IsHigh s.device.inten k
 call_unset marks most t s k has is high =

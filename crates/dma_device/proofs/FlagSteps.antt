@@ -3,8 +3,8 @@ use Rattle.std.proofs.Common.{◌≡◌, ◌≢◌, ◌∙◌, ◌⊎◌, ℕ, z
 use Rattle.std.specs.Prelude.{◌↔◌}
 use Rattle.std.proofs.lemmas.Bool.{cases_Bool, cases_eq}
 use Rattle.std.proofs.lemmas.List.{get_or-set_other, get_or-set_same, length-set}
-use Rattle.dma_insn.specs.declared.insn.Insn.{Insn}
-use Rattle.dma_insn.specs.declared.insn.Insn.TheVariants.{Sev, Wfe}
+use Rattle.dma_insn.specs.declared.chip.ChipInsn.{ChipInsn}
+use Rattle.dma_insn.specs.declared.chip.ChipInsn.TheVariants.{Sev, Wfe}
 use Rattle.dma_mem.specs.Marking.{MarkList}
 use Rattle.dma_chan.specs.Channel.{ahead_of, state_of}
 use Rattle.dma_chan.specs.Exec.{State, act, exec_fetched}
@@ -17,11 +17,11 @@ use Rattle.dma_chan.proofs.StepsTaken.{steps_move}
 use Rattle.dma_chan.proofs.SteppedOver.{went_before}
 
 -- what holds of flags, and still holds once a DMASEV set one or a DMAWFE cleared one
-act_flags : (P : List Bool → Type 0) (marks : MarkList) (i : Insn) (s : State) → P s.flags → ((e : ℕ) → i ≡ Sev e → P (set s.flags e true)) → ((e : ℕ) (v : Bool) → i ≡ Wfe e v → P (set s.flags e false)) → P (act marks i s).1.flags
+act_flags : (P : List Bool → Type 0) (marks : MarkList) (i : ChipInsn) (s : State) → P s.flags → ((e : ℕ) → i ≡ Sev e → P (set s.flags e true)) → ((e : ℕ) (v : Bool) → i ≡ Wfe e v → P (set s.flags e false)) → P (act marks i s).1.flags
 act_flags P marks i s h sets clears = grind (arith, act_cases)
 
 -- steps keep the number of flags
-fetched_length : (marks : MarkList) (next : Result Insn FaultKind) (s : State) → length (exec_fetched marks next s).1.flags ≡ length s.flags
+fetched_length : (marks : MarkList) (next : Result ChipInsn FaultKind) (s : State) → length (exec_fetched marks next s).1.flags ≡ length s.flags
 fetched_length marks next s = grind (arith, act_flags, length-set)
 
 pub steps_flags : (marks : MarkList) (s : Machine) (k : ℕ) → length (after_steps marks s k).flags ≡ length s.flags
@@ -40,19 +40,19 @@ cleared (x ∷ xs) zero zero h = refl
 cleared (x ∷ xs) (suc e) (suc k) h = cleared xs e k h
 cleared xs e k h = h
 
-act_clear : (marks : MarkList) (i : Insn) (s : State) (k : ℕ) → IsClear k s.flags → signal_of (Ok i) ≢ Some k → IsClear k (act marks i s).1.flags
+act_clear : (marks : MarkList) (i : ChipInsn) (s : State) (k : ℕ) → IsClear k s.flags → signal_of (Ok i) ≢ Some k → IsClear k (act marks i s).1.flags
 act_clear marks i s k h other = grind (arith, act_flags, cleared, get_or-set_other)
 
-step_clear : (marks : MarkList) (next : Result Insn FaultKind) (s : State) (k : ℕ) → IsClear k s.flags → signal_of next ≢ Some k → IsClear k (exec_fetched marks next s).1.flags
+step_clear : (marks : MarkList) (next : Result ChipInsn FaultKind) (s : State) (k : ℕ) → IsClear k s.flags → signal_of next ≢ Some k → IsClear k (exec_fetched marks next s).1.flags
 step_clear marks (Ok i) s k h other = act_clear marks i s k h other
 step_clear marks (Err kind) s k h other = h
 
 -- an instruction that signals an event sets its flag
-insn_sets : (marks : MarkList) (i : Insn) (s : State) (k : ℕ) → signal_of (Ok i) ≡ Some k → (act marks i s).1.flags ≡ set s.flags k true
+insn_sets : (marks : MarkList) (i : ChipInsn) (s : State) (k : ℕ) → signal_of (Ok i) ≡ Some k → (act marks i s).1.flags ≡ set s.flags k true
 insn_sets marks (Sev e) s k is = let same : e ≡ k = cc in ap (λ (j : ℕ). set s.flags j true) same
 insn_sets marks i s k is = absurd (cc)
 
-step_sets : (marks : MarkList) (next : Result Insn FaultKind) (s : State) (k : ℕ) → signal_of next ≡ Some k → (exec_fetched marks next s).1.flags ≡ set s.flags k true
+step_sets : (marks : MarkList) (next : Result ChipInsn FaultKind) (s : State) (k : ℕ) → signal_of next ≡ Some k → (exec_fetched marks next s).1.flags ≡ set s.flags k true
 step_sets marks (Ok i) s k is = insn_sets marks i s k is
 step_sets marks (Err kind) s k is = absurd (cc)
 
@@ -76,11 +76,11 @@ set_false (x ∷ xs) (suc k) = set_false xs k
 set_false xs k = refl
 
 -- a set flag stays set, unless a DMAWFE takes it
-act_keeps : (marks : MarkList) (i : Insn) (s : State) (k : ℕ) → Is k s.flags → ((v : Bool) → i ≡ Wfe k v → (act marks i s).0 ≢ Moved) → Is k (act marks i s).1.flags
+act_keeps : (marks : MarkList) (i : ChipInsn) (s : State) (k : ℕ) → Is k s.flags → ((v : Bool) → i ≡ Wfe k v → (act marks i s).0 ≢ Moved) → Is k (act marks i s).1.flags
 act_keeps marks i s k h none = grind (arith, act_flags, get_or-set_other, set_true)
 
-step_keeps : (marks : MarkList) (next : Result Insn FaultKind) (s : State) (k : ℕ) → Is k s.flags → ((v : Bool) → next ≡ Ok (Wfe k v) → (exec_fetched marks next s).0 ≢ Moved) → Is k (exec_fetched marks next s).1.flags
-step_keeps marks (Ok i) s k h none = act_keeps marks i s k h (λ v is. none v (ap (λ (j : Insn). Ok j) is))
+step_keeps : (marks : MarkList) (next : Result ChipInsn FaultKind) (s : State) (k : ℕ) → Is k s.flags → ((v : Bool) → next ≡ Ok (Wfe k v) → (exec_fetched marks next s).0 ≢ Moved) → Is k (exec_fetched marks next s).1.flags
+step_keeps marks (Ok i) s k h none = act_keeps marks i s k h (λ v is. none v (ap (λ (j : ChipInsn). Ok j) is))
 step_keeps marks (Err kind) s k h none = h
 
 -- a DMAWFE that passes found its flag set, and clears it
@@ -88,10 +88,10 @@ wfe_takes : (marks : MarkList) (s : State) (k : ℕ) (v b : Bool) → get_or s.f
 wfe_takes marks s k v true is moved = (is, rw is (set_false s.flags k))
 wfe_takes marks s k v false is moved = absurd (let waits : Waiting k ≡ Moved = rw is at moved in cc)
 
-step_takes : (marks : MarkList) (next : Result Insn FaultKind) (s : State) (k : ℕ) (v : Bool) → next ≡ Ok (Wfe k v) → (exec_fetched marks next s).0 ≡ Moved → Is k s.flags × IsClear k (exec_fetched marks next s).1.flags
+step_takes : (marks : MarkList) (next : Result ChipInsn FaultKind) (s : State) (k : ℕ) (v : Bool) → next ≡ Ok (Wfe k v) → (exec_fetched marks next s).0 ≡ Moved → Is k s.flags × IsClear k (exec_fetched marks next s).1.flags
 step_takes marks next s k v is moved =
-    subst (λ (x : Result Insn FaultKind). Is k s.flags × IsClear k (exec_fetched marks x s).1.flags) (sym is)
-    (wfe_takes marks s k v (get_or s.flags k false) refl (ap (λ (x : Result Insn FaultKind). (exec_fetched marks x s).0) (sym is) ∙ moved))
+    subst (λ (x : Result ChipInsn FaultKind). Is k s.flags × IsClear k (exec_fetched marks x s).1.flags) (sym is)
+    (wfe_takes marks s k v (get_or s.flags k false) refl (ap (λ (x : Result ChipInsn FaultKind). (exec_fetched marks x s).0) (sym is) ∙ moved))
 
 -- ---- the steps of a call
 
@@ -174,10 +174,10 @@ module _ (marks : MarkList) (s : Machine) (k : ℕ) where
 -- ---- a step that waits
 
 -- a wait is a DMAWFE of an event whose flag is clear
-abbrev Waits : Result Insn FaultKind → List Bool → ChanTurn × State → Type 0
+abbrev Waits : Result ChipInsn FaultKind → List Bool → ChanTurn × State → Type 0
 Waits next flags x = (e : ℕ) → x.0 ≡ Waiting e → (v : Bool) × ((next ≡ Ok (Wfe e v)) × (get_or flags e false ≡ false))
 
-step_waits : (marks : MarkList) (next : Result Insn FaultKind) (s : State) → Waits next s.flags (exec_fetched marks next s)
+step_waits : (marks : MarkList) (next : Result ChipInsn FaultKind) (s : State) → Waits next s.flags (exec_fetched marks next s)
 step_waits marks next s = grind (arith, fetched_cases)
 
 pub waits_at : (marks : MarkList) (u : Machine) (e : ℕ) → answer_at marks u ≡ Waiting e → (v : Bool) × ((ahead_of u.channel ≡ Ok (Wfe e v)) × (get_or u.flags e false ≡ false))

@@ -5,8 +5,8 @@ use Rattle.std.specs.Int.{bit_at}
 use Rattle.std.proofs.lemmas.Bool.{cases_eq, lt-ltb}
 use Rattle.std.proofs.lemmas.Nat.Bits.{bit_at-lt}
 use Rattle.dma_insn.specs.ControlWord.{flag}
-use Rattle.dma_insn.specs.declared.insn.Insn.{Insn}
-use Rattle.dma_insn.specs.declared.insn.Insn.TheVariants.{End, Sev, Wfe}
+use Rattle.dma_insn.specs.declared.chip.ChipInsn.{ChipInsn}
+use Rattle.dma_insn.specs.declared.chip.ChipInsn.TheVariants.{End, Sev, Wfe}
 use Rattle.dma_mem.specs.Flags.{flags_of}
 use Rattle.dma_mem.specs.Marking.{MarkList}
 use Rattle.dma_mem.specs.Places.{Descriptor}
@@ -47,7 +47,7 @@ use Rattle.dma_device.proofs.Interrupts.{seen_bit, turn_raises}
 -- ---- a call of a channel with a program that copies
 
 -- what a program executes before its DMAEND
-before_end : (bus : Bus) (program : List ℕ) (t : Descriptor) (n : ℕ) → Explains bus program t n → (k : ℕ) (i : Insn) → k ≤ n → i ≢ End → next_in program (traced bus program k) ≡ Ok i → k < n
+before_end : (bus : Bus) (program : List ℕ) (t : Descriptor) (n : ℕ) → Explains bus program t n → (k : ℕ) (i : ChipInsn) → k ≤ n → i ≢ End → next_in program (traced bus program k) ≡ Ok i → k < n
 before_end bus program t n h k i within other next = grind arith
 
 module _ (bus : Bus) (program : List ℕ) (t : Descriptor) (count : ℕ) (marks : MarkList) (first : List ℕ) (h : Explains bus program t count) (low : Fits t (length first)) where

@@ -12,7 +12,7 @@ use Rattle.std.specs.Vec.{with_item, with_items}
 use Rattle.std.proofs.lemmas.Nat.{and_le_l, and_le_r, pow_pos}
 use Rattle.dma_mem.specs.Marking.{MarkList}
 use Rattle.dma_chan.specs.Channel.{ChannelValue, after_turn, ahead_of, last_count, state_of, step_of, stored_by}
-use Rattle.dma_chan.specs.Exec.{State, exec_fetched, moved as moved_registers}
+use Rattle.dma_chan.specs.Exec.{State, exec_fetched, moved as moved_registers, ChangesNothing}
 use Rattle.dma_chan.specs.declared.bus.BusWidth.{BusWidth}
 use Rattle.dma_chan.specs.Programs.{ProgramValue}
 use Rattle.dma_chan.specs.Stepping.{Machine, TakesSteps, after_step, after_steps, answer_at, goes_on_after}
@@ -20,7 +20,7 @@ use Rattle.dma_chan.specs.declared.turn.ChanTurn.{ChanTurn}
 use Rattle.dma_chan.specs.declared.turn.ChanTurn.TheVariants.{Moved, Waiting, Fault}
 use Rattle.dma_chan.specs.declared.turn.FaultKind.TheVariants.{InstrFetchErr}
 use Rattle.dma_chan.proofs.StepsTaken.{steps_counted, steps_move}
-use Rattle.dma_chan.proofs.SteppedOver.{was_moved, went_before}
+use Rattle.dma_chan.proofs.SteppedOver.{was_moved, went_before, is_still}
 use Rattle.dma_device.specs.Config.{is_valid}
 use Rattle.dma_device.specs.declared.config.Config.{Config}
 use Rattle.dma_device.specs.declared.device.Device.TheInside.{Inside}
@@ -28,10 +28,10 @@ use Rattle.dma_device.specs.declared.device.Manager.{Manager}
 use Rattle.dma_device.specs.Device.{DeviceValue, with_thread}
 use Rattle.dma_device.specs.Idle.{IsSoundDevice}
 use Rattle.dma_device.specs.inner.Fields.{AreOn, IsDevice, device_value}
-use Rattle.dma_device.specs.Thread.{IsOn, IsSound, answer, answered, failed, is_before_wait, moved, operand_invalid, reset_thread}
+use Rattle.dma_device.specs.Thread.{IsOn, IsSound, answer, answered, failed, is_before_wait, moved, operand_invalid, reset_thread, waits_for}
 use Rattle.dma_device.specs.declared.thread.Status.TheVariants.{WaitingForEvent}
 use Rattle.dma_device.specs.declared.thread.Thread.{Thread}
-use Rattle.dma_insn.specs.declared.insn.Insn.{Insn}
+use Rattle.dma_insn.specs.declared.chip.ChipInsn.{ChipInsn}
 use Rattle.dma_chan.specs.declared.bus.Bus.{Bus}
 use Rattle.dma_chan.specs.declared.bus.Bus.TheVariants.{Chip}
 use Rattle.dma_chan.specs.declared.bus.BusWidth.TheVariants.{Bits32}
@@ -59,10 +59,10 @@ abbrev Keeps : State → ChanTurn × State → Type 0
 Keeps s x = fits s.registers.bus s.registers.ccr ≡ true → fits s.registers.bus x.1.registers.ccr ≡ true
 
 -- DMAMOV sets CCR to a word that is accepted.
-moved_fits : (i : Insn) (r : Registers) → IsAccepted i r → fits r.bus r.ccr ≡ true → fits r.bus (moved_registers i r).ccr ≡ true
+moved_fits : (i : ChipInsn) (r : Registers) → IsAccepted i r → fits r.bus r.ccr ≡ true → fits r.bus (moved_registers i r).ccr ≡ true
 moved_fits i r h1 h2 = grind (arith, ccr_looped)
 
-fetched_fits : (marks : MarkList) (next : Result Insn FaultKind) (s : State) → Keeps s (exec_fetched marks next s)
+fetched_fits : (marks : MarkList) (next : Result ChipInsn FaultKind) (s : State) → Keeps s (exec_fetched marks next s)
 fetched_fits marks next s = grind (arith, fetched_cases, moved_fits)
 
 turn_fits : (bus : Bus) (turn : ChanTurn) (s : State) (n : ℕ) (c : ChannelValue) → fits bus s.registers.ccr ≡ true → fits bus c.registers.ccr ≡ true → fits bus (after_turn turn s n c).registers.ccr ≡ true
@@ -115,7 +115,13 @@ unloaded_fails marks s none = grind (arith, drop_all)
 
 -- a thread whose call's last step waits is before the DMAWFE
 waits_before : (marks : MarkList) (u : Machine) (t : Thread) (e : ℕ) → answer_at marks u ≡ Waiting e → t.channel ≡ (after_step marks u).channel → u.channel.taken < last_count → t.pc ≡ (t.base + t.channel.registers.pc) % 2 ^ 32 → is_before_wait e t ≡ true
-waits_before marks u t e waits is counts pc = grind (arith, eq-eqb, lt-ltb, waits_at)
+waits_before marks u t e waits is counts pc =
+    let w = waits_at marks u e waits in
+    let still : after_step marks u ≡ u = is_still marks u (subst ChangesNothing (sym waits) tt) in
+    let same : t.channel ≡ u.channel = is ∙ ap (λ (m : Machine). m.channel) still in
+    let next : waits_for e (ahead_of t.channel) ≡ true = ap (λ (c : ChannelValue). waits_for e (ahead_of c)) same ∙ ap (waits_for e) w.1.0 ∙ eq-eqb e e refl in
+    let few : nat_lt t.channel.taken last_count ≡ true = lt-ltb t.channel.taken last_count (omega (arith, counts, ap (λ (c : ChannelValue). c.taken) same)) in
+    rw (next, few) (eq-eqb t.pc ((t.base + t.channel.registers.pc) % 2 ^ 32) pc)
 
 -- A thread is sound after a call of its channel, by whether that has a program.
 by_program : (marks : MarkList) (s v : Machine) (most taken events : ℕ) (last : Option ChanTurn) (t : Thread) (signal : Option ℕ) (o : Option ProgramValue) → s.channel.program ≡ o → TakesSteps marks s most taken last v → t.channel ≡ v.channel → IsSound events (answered events t last signal)

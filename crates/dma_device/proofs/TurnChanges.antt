@@ -4,8 +4,8 @@ use Rattle.std.specs.Prelude.{nat_eq, nat_lt, slice_get}
 use Rattle.std.specs.Int.{bit_at}
 use Rattle.std.proofs.lemmas.Bool.{and_parts, lt-ltb}
 use borrow.Author.Tests.{ltb-true}
-use Rattle.dma_insn.specs.declared.insn.Insn.{Insn}
-use Rattle.dma_insn.specs.declared.insn.Insn.TheVariants.{Sev}
+use Rattle.dma_insn.specs.declared.chip.ChipInsn.{ChipInsn}
+use Rattle.dma_insn.specs.declared.chip.ChipInsn.TheVariants.{Sev}
 use Rattle.dma_mem.specs.Flags.{flags_of}
 use Rattle.dma_mem.specs.Marking.{MarkList}
 use Rattle.dma_mem.proofs.FlagBits.{get_or_flags_of}
@@ -55,7 +55,7 @@ all_rise marks s (suc j) moved = omega (arith, all_rise marks s j moved, step_co
 
 -- ---- a step that doesn't move sets no flag
 
-silent : (marks : MarkList) (next : Result Insn FaultKind) (s : State) → (exec_fetched marks next s).0 ≢ Moved → signal_of next ≡ None
+silent : (marks : MarkList) (next : Result ChipInsn FaultKind) (s : State) → (exec_fetched marks next s).0 ≢ Moved → signal_of next ≡ None
 silent marks (Ok (Sev e)) s other = absurd (other refl)
 silent marks next s other = refl
 

@@ -1,16 +1,16 @@
 -- A call of a thread that waits by its status, for an event that it doesn't see, does nothing.
-use Rattle.std.proofs.Common.{◌≡◌, ◌∙◌, ℕ, zero, suc, ◌+◌, ◌%◌, ◌^◌, ◌<◌, ◌≤◌, Bool, true, false, ◌&&◌, List, get_or, map, Option, Some, None, Result, Ok, ap, refl, sym, subst, arith, inl, inr, true≢false, bit_and, bit_or, w32}
-use Rattle.std.specs.Prelude.{nat_eq, slice_get}
+use Rattle.std.proofs.Common.{is_some, ◌≡◌, ◌∙◌, ℕ, zero, suc, ◌+◌, ◌%◌, ◌^◌, ◌<◌, ◌≤◌, Bool, true, false, ◌&&◌, List, get_or, map, Option, Some, None, Result, Ok, ap, refl, sym, subst, arith, inl, inr, true≢false, bit_and, bit_or, w32}
+use Rattle.std.specs.Prelude.{nat_eq, nat_lt, slice_get}
 use Rattle.std.specs.Int.{bit_at, bit_not}
 use Rattle.std.specs.List.{list_any}
 use borrow.Author.Tests.{ltb-true}
 use Rattle.std.proofs.Math.Pow.{pow_mono}
-use Rattle.std.proofs.lemmas.Bool.{cases_lt, eq-eqb, eqb-true, lt-ltb}
+use Rattle.std.proofs.lemmas.Bool.{cases_lt, eq-eqb, eqb-true, lt-ltb, and_parts}
 use Rattle.std.proofs.lemmas.Nat.{and_le_l, or_lt}
 use Rattle.std.proofs.lemmas.Nat.Bits.{bit_at-lt, bit_at_above, bit_at_and, bit_at_not, bit_at_ones, bit_at_or, same_from_bits_below}
 use Rattle.dma_insn.specs.ControlWord.{flag}
-use Rattle.dma_insn.specs.declared.insn.Insn.{Insn}
-use Rattle.dma_insn.specs.declared.insn.Insn.TheVariants.{Wfe}
+use Rattle.dma_insn.specs.declared.chip.ChipInsn.{ChipInsn}
+use Rattle.dma_insn.specs.declared.chip.ChipInsn.TheVariants.{Wfe}
 use Rattle.dma_mem.specs.Marking.{MarkList}
 use Rattle.dma_mem.specs.Regions.{image_of, pieces_of, read_only_of}
 use Rattle.dma_mem.specs.declared.regions.Region.{Region}
@@ -53,12 +53,28 @@ pub record Waits (events flags : ℕ) (t : Thread) : Type 0 where
   pub few : t.channel.taken < last_count
   pub here : t.pc ≡ (t.base + t.channel.registers.pc) % 2 ^ 32
 
-is_wfe : (next : Result Insn FaultKind) (e : ℕ) → waits_for e next ≡ true → (v : Bool) × (next ≡ Ok (Wfe e v))
+is_wfe : (next : Result ChipInsn FaultKind) (e : ℕ) → waits_for e next ≡ true → (v : Bool) × (next ≡ Ok (Wfe e v))
 is_wfe (Ok (Wfe k v)) e is = let same : k ≡ e = eqb-true k e is in (v, ap (λ (j : ℕ). Ok (Wfe j v)) same)
 is_wfe next e is = absurd (true≢false (sym is))
 
 waits_by : (events flags : ℕ) (t : Thread) (s : Status) → t.status ≡ s → has_status events t s ≡ true → is_signalled flags s ≡ false → Waits events flags t
-waits_by events flags t s h1 h2 h3 = grind (arith, eqb-true, is_wfe, ltb-true)
+waits_by events flags t (WaitingForEvent e) h1 h2 h3 =
+    let loaded = and_parts (is_some t.channel.program) _ h2 in
+    let known = and_parts (nat_lt e events) _ loaded.1 in
+    let before = and_parts (waits_for e (ahead_of t.channel)) _ known.1 in
+    let counts = and_parts (nat_lt t.channel.taken last_count) _ before.1 in
+    let w = is_wfe (ahead_of t.channel) e before.0 in
+    record {
+      event = e;
+      invalid = w.0;
+      status = h1;
+      clear = h3;
+      known = ltb-true e events known.0;
+      next = w.1;
+      few = ltb-true t.channel.taken last_count counts.0;
+      here = eqb-true t.pc ((t.base + t.channel.registers.pc) % 2 ^ 32) counts.1;
+    }
+waits_by events flags t s h1 h2 h3 = absurd (true≢false h3)
 
 -- a thread that runs and can't step waits
 pub idle_waits : (events flags : ℕ) (t : Thread) → IsSound events t → runs t ≡ true → can_step flags t ≡ false → Waits events flags t

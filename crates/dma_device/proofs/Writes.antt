@@ -19,8 +19,8 @@ use Rattle.dma_device.specs.CallSteps.{first_in, marks_in, second_in}
 use Rattle.dma_device.specs.Writes.{CallWrote, TurnWritesEach, TurnWritesInRegions}
 use Rattle.std.specs.List.{Contains, list_all, list_any}
 use borrow.Author.Tests.{ltb-true}
-use Rattle.dma_insn.specs.declared.insn.Insn.{Insn}
-use Rattle.dma_insn.specs.declared.insn.Insn.TheVariants.{St}
+use Rattle.dma_insn.specs.declared.chip.ChipInsn.{ChipInsn}
+use Rattle.dma_insn.specs.declared.chip.ChipInsn.TheVariants.{St, StoreZeros}
 use Rattle.dma_mem.specs.Lent.{lies_in_any, stores_at}
 use Rattle.dma_mem.specs.Regions.{Piece, bytes_above, end_of, gaps_above, gaps_of, has, image_of, in_order, pieces_of, read_only_of, rises_from}
 use Rattle.dma_mem.specs.declared.marks.MarkKind.TheVariants.{Writing}
@@ -122,8 +122,12 @@ reached marks size xs a all i = all_at (fits marks size) xs i.0 a all i.1 i.2
 store_reaches : (marks : MarkList) (s : State) → (act marks St s).0 ≡ Moved → reaches Writing marks (length s.image) (touched (destination_of s.registers)) ≡ true
 store_reaches marks s moved = grind arith
 
-step_reaches : (marks : MarkList) (next : Result Insn FaultKind) (s : State) (a : ℕ) → (exec_fetched marks next s).0 ≡ Moved → Contains (written_by next s.registers) a → fits marks (length s.image) a ≡ true
+zeros_reach : (marks : MarkList) (s : State) → (act marks StoreZeros s).0 ≡ Moved → reaches Writing marks (length s.image) (touched (destination_of s.registers)) ≡ true
+zeros_reach marks s moved = grind arith
+
+step_reaches : (marks : MarkList) (next : Result ChipInsn FaultKind) (s : State) (a : ℕ) → (exec_fetched marks next s).0 ≡ Moved → Contains (written_by next s.registers) a → fits marks (length s.image) a ≡ true
 step_reaches marks (Ok St) s a moved i = reached marks (length s.image) (touched (destination_of s.registers)) a (store_reaches marks s moved) i
+step_reaches marks (Ok StoreZeros) s a moved i = reached marks (length s.image) (touched (destination_of s.registers)) a (zeros_reach marks s moved) i
 step_reaches marks next s a moved i = absurd (omega (arith, i.1))
 
 wrote_fits : (marks : MarkList) (s : Machine) (n a : ℕ) → Wrote marks s n a → fits marks (length s.image) a ≡ true

@@ -1,6 +1,6 @@
 -- Events are neither lost nor invented: what sets them, and what takes them.
 use Rattle.std.specs.Prelude.{◌≡◌, ℕ, ◌<◌, ◌≤◌, Bool, true, List, Some, Ok, slice_get}
-use Rattle.dma_insn.specs.declared.insn.Insn.TheVariants.{Wfe}
+use Rattle.dma_insn.specs.declared.chip.ChipInsn.TheVariants.{Wfe}
 use Rattle.dma_mem.specs.Marking.{MarkList}
 use Rattle.dma_mem.specs.declared.regions.Region.{Region}
 use Rattle.dma_chan.specs.Channel.{ahead_of}

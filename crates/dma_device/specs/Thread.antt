@@ -1,8 +1,8 @@
 -- A channel thread: its status and its fault, and what a call of its channel makes of them.
 use Rattle.std.specs.Prelude.{◌≡◌, ℕ, ◌+◌, ◌-◌, ◌*◌, ◌%◌, ◌^◌, Bool, true, false, not, ◌&&◌, ◌==◌, nat_lt, List, Option, Some, None, Result, Ok, is_some, if◌then◌else◌}
 use Rattle.std.specs.Int.{bit_at}
-use Rattle.dma_insn.specs.declared.insn.Insn.{Insn}
-use Rattle.dma_insn.specs.declared.insn.Insn.TheVariants.{Wfe}
+use Rattle.dma_insn.specs.declared.chip.ChipInsn.{ChipInsn}
+use Rattle.dma_insn.specs.declared.chip.ChipInsn.TheVariants.{Wfe}
 use Rattle.dma_chan.specs.declared.bus.BusWidth.{BusWidth}
 use Rattle.dma_chan.specs.declared.bus.Bus.TheVariants.{Chip}
 use Rattle.dma_chan.specs.Bus.{fits}
@@ -63,7 +63,7 @@ abbrev pub runs : Thread → Bool
 runs t = is_some t.channel.program && not (is_faulting t)
 
 -- whether an instruction is a DMAWFE of this event
-abbrev pub waits_for : ℕ → Result Insn FaultKind → Bool
+abbrev pub waits_for : ℕ → Result ChipInsn FaultKind → Bool
 waits_for e (Ok (Wfe k invalid)) = k == e
 waits_for e next = false
 

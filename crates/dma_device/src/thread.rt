@@ -10,7 +10,8 @@ use crate::config::BusWidth;
 use dma_chan::bus::Bus;
 use dma_chan::channel::Channel;
 use dma_chan::turn::ChanTurn;
-use dma_insn::insn::{Event, Insn};
+use dma_insn::chip::ChipInsn;
+use dma_insn::insn::Event;
 use dma_mem::regions::Region;
 use std::alloc::{AllocError, Global};
 
@@ -54,11 +55,11 @@ pub struct Thread {
 }
 
 // Returns whether an instruction is a DMAWFE of this event.
-fn waits_for(insn: Insn, event: Event) -> bool
+fn waits_for(insn: ChipInsn, event: Event) -> bool
     ensures { result ≡ waits_for event (Ok insn) }
 {
     match insn {
-        Insn::Wfe { event: next, .. } => next.number() == event.number(),
+        ChipInsn::Wfe { event: next, .. } => next.number() == event.number(),
         _ => false,
     }
 }

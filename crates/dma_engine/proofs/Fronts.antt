@@ -4,7 +4,7 @@ use Rattle.std.specs.Prelude.{is_some, nat_lt, ◌==◌, IfSome, IsSome, MatchOp
 use Rattle.std.specs.List.{list_any}
 use Rattle.std.specs.Option.{option_map_or}
 use Rattle.std.proofs.lemmas.Bool.{cases_lt, eq-eqb, eqb-true, ne_eqb, lt-ltb, ltb-false, false≢true, true≢false, and_right}
-use Rattle.dma_insn.specs.declared.insn.Insn.TheVariants.{End, Sev, Wfe}
+use Rattle.dma_insn.specs.declared.chip.ChipInsn.TheVariants.{End, Sev, Wfe}
 use Rattle.dma_mem.specs.Marking.{MarkList, meets_mark}
 use Rattle.dma_mem.specs.declared.marks.MarkKind.{MarkKind}
 use Rattle.dma_mem.specs.declared.marks.MarkKind.TheVariants.{Reading, Writing}

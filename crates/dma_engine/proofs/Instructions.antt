@@ -2,7 +2,7 @@
 use Rattle.std.proofs.Common.{◌≡◌, ◌≢◌, ℕ, ◌+◌, ◌<◌, List, ◌∷◌, ◌++◌, length, map, Option, Some, None, Bool, true, refl, ap, sym, ◌∙◌, subst, arith, [], drop, false, inl, inr, ◌⊎◌}
 use Rattle.std.specs.Prelude.{slice_index_or, slice_set, is_some, IfSome, IsSomeAnd, slice_index, Ok}
 use Rattle.std.specs.Option.{option_to_list}
-use Rattle.dma_insn.specs.declared.insn.Insn.TheVariants.{Sev, Wfe, St, Ld, End}
+use Rattle.dma_insn.specs.declared.chip.ChipInsn.TheVariants.{Sev, Wfe, St, Ld, End}
 use Rattle.dma_mem.specs.Image.{over, put, moves_of}
 use Rattle.dma_mem.specs.Places.{Descriptor, Apart, moves, sources, destinations, lies_below, is_free_of}
 use Rattle.dma_chan.specs.Channel.{ChannelValue, stepped, ahead_of}
@@ -19,7 +19,7 @@ use Rattle.std.specs.Map.{keys_of}
 use Rattle.std.proofs.lemmas.Bool.{cases_Bool}
 use Rattle.std.proofs.lemmas.List.{map-append, get_or_default}
 use Rattle.std.proofs.lemmas.List.Elements.{Contains-append_cases, Contains-append_left, Contains-append_right, All-head, All-tail, All-map, All-weaker, All-append, All-cons}
-use Rattle.dma_insn.specs.declared.insn.Insn.{Insn}
+use Rattle.dma_insn.specs.declared.chip.ChipInsn.{ChipInsn}
 use Rattle.dma_mem.specs.Pages.{Paged}
 use Rattle.dma_mem.specs.Meeting.{IsFree}
 use Rattle.dma_mem.specs.declared.marks.MarkKind.TheVariants.{Writing, Reading}
@@ -81,13 +81,13 @@ abbrev pub moved_on : Parts → ℕ → Queue → List ℕ → List Bool → Lis
 moved_on p ch q memory flags history = changed p ch (record q { channel = machine_after p q }) memory flags history (p.steps + 1)
 
 -- what a channel's machine requires to execute an instruction
-pub record CanExecute (q : Queue) (i : Insn) (m : Paged) : Type 0 where
+pub record CanExecute (q : Queue) (i : ChipInsn) (m : Paged) : Type 0 where
   pub next : ahead_of q.channel ≡ Ok i
   pub loaded : is_some q.channel.program ≡ true
   pub count : q.channel.taken < 4294967295
   pub ready : ready_of q.channel m ≡ true
 
-pub can_execute : {p : Parts} {ch : ℕ} {q : Queue} (i : Insn) (m : Paged) → Due p ch q (IsNext i) → m.made ≡ p.made → CanExecute q i m
+pub can_execute : {p : Parts} {ch : ℕ} {q : Queue} (i : ChipInsn) (m : Paged) → Due p ch q (IsNext i) → m.made ≡ p.made → CanExecute q i m
 can_execute {p} {ch} {q} i m d same =
     let r = d.it in
     let prepared : OnPages p.made (destinations r.transfer) = subst (IsPrepared p.made) r.runs_is (r.at.holds.prepared ch) in
@@ -348,7 +348,7 @@ went_on {p} {ch} {q} d moved = by (member t n) refl d.holds where
     turn_is = turns clear;
   }
 
-  by : (i : Insn) → member t n ≡ i → IsOther i → WentOn p ch q d.it
+  by : (i : ChipInsn) → member t n ≡ i → IsOther i → WentOn p ch q d.it
   by (Wfe e v) is o = absurd o
   by (Sev e) is o = absurd o
   by End is o = absurd o

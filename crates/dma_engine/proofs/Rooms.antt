@@ -4,8 +4,8 @@ use Rattle.std.specs.Prelude.{slice_get, slice_index, slice_index_or, slice_set,
 use Rattle.std.proofs.lemmas.Bool.{cases_eq, cases_lt, le-ltb, lt-ltb, cond_both}
 use Rattle.std.proofs.lemmas.Option.{slice_get-get_or}
 use Rattle.std.proofs.lemmas.List.{get_or-drop, get_or-map, get_or-append-add, get_or_append_left, map-set, get_or-set_same, get_or-set_other, length-drop, length-map, take-append-drop}
-use Rattle.dma_insn.specs.declared.insn.Insn.{Insn}
-use Rattle.dma_insn.specs.declared.insn.Insn.TheVariants.{Ld, St, End, Wfe}
+use Rattle.dma_insn.specs.declared.chip.ChipInsn.{ChipInsn}
+use Rattle.dma_insn.specs.declared.chip.ChipInsn.TheVariants.{Ld, St, End, Wfe}
 use Rattle.dma_mem.specs.Places.{Descriptor}
 use Rattle.dma_mem.specs.declared.marks.MarkKind.TheVariants.{Reading, Writing}
 use Rattle.dma_chan.specs.Exec.{fault_in}
@@ -130,7 +130,7 @@ by_mark_law true v ch n t how kind m w = refl
 by_mark_law false v ch n t how kind m w = refl
 
 -- an instruction that isn't the end finishes the front where the channel fails at it
-pub ends_insn : (v : View) (ch n : ℕ) (t : Descriptor) (m : Shared) (i : Insn) → i ≢ End → ends (insn_turn v ch t n i).0 ≡ is_some (fault_in (effect_of i (read_places t n) (written_places t n) (object_of v).marks m).0)
+pub ends_insn : (v : View) (ch n : ℕ) (t : Descriptor) (m : Shared) (i : ChipInsn) → i ≢ End → ends (insn_turn v ch t n i).0 ≡ is_some (fault_in (effect_of i (read_places t n) (written_places t n) (object_of v).marks m).0)
 ends_insn v ch n t m End h = absurd (h refl)
 ends_insn v ch n t m Ld h = by_mark_law (meets_mark Reading (object_of v).marks (read_places t n)) v ch n t ReadFailed DataReadErr m m
 ends_insn v ch n t m St h = by_mark_law (meets_mark Writing (object_of v).marks (written_places t n)) v ch n t WriteFailed DataWriteErr m _

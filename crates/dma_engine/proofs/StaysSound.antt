@@ -16,8 +16,8 @@ use Rattle.std.specs.Option.{option_map}
 use Rattle.std.proofs.lemmas.Bool.{eq-eqb, eqb-false, leb-false, lt-ltb, ltb-false, ne_eqb, or_parts, and_right, cond_both, cases_lt, true_from_ne_false, not-false}
 use Rattle.std.proofs.lemmas.List.Elements.{All-head, All-tail}
 use Rattle.std.proofs.lemmas.Option.{slice_get-get_or}
-use Rattle.dma_insn.specs.declared.insn.Insn.{Insn}
-use Rattle.dma_insn.specs.declared.insn.Insn.TheVariants.{Ld, St, End, Sev, Wfe}
+use Rattle.dma_insn.specs.declared.chip.ChipInsn.{ChipInsn}
+use Rattle.dma_insn.specs.declared.chip.ChipInsn.TheVariants.{Ld, St, End, Sev, Wfe}
 use Rattle.dma_mem.specs.Marking.{meets_mark}
 use Rattle.dma_mem.specs.declared.marks.MarkKind.TheVariants.{Reading, Writing}
 use Rattle.dma_mem.specs.declared.segment.Segment.{Segment}
@@ -392,10 +392,10 @@ abbrev IsSoundStep : Stepped → Type 0
 IsSoundStep x = IsSound x.1
 
 -- a known instruction that neither waits, signals nor ends
-known_sound : (v : View) (ch n : ℕ) (t : Descriptor) (i : Insn) → Runs v ch n t → member t n ≡ i → ((k : ℕ) (b : Bool) → i ≢ Wfe k b) → ((k : ℕ) → i ≢ Sev k) → i ≢ End → IsSound (next_moved v ch n).1
+known_sound : (v : View) (ch n : ℕ) (t : Descriptor) (i : ChipInsn) → Runs v ch n t → member t n ≡ i → ((k : ℕ) (b : Bool) → i ≢ Wfe k b) → ((k : ℕ) → i ≢ Sev k) → i ≢ End → IsSound (next_moved v ch n).1
 known_sound v ch n t i r is a b c = plain_sound v ch n t r (λ k x e. a k x (sym is ∙ e)) (λ k e. b k (sym is ∙ e)) (λ e. c (sym is ∙ e))
 
-insn_sound : (v : View) (ch n : ℕ) (t : Descriptor) (i : Insn) → Runs v ch n t → member t n ≡ i → IsSound (insn_turn v ch t n i).1
+insn_sound : (v : View) (ch n : ℕ) (t : Descriptor) (i : ChipInsn) → Runs v ch n t → member t n ≡ i → IsSound (insn_turn v ch t n i).1
 insn_sound v ch n t (Wfe event invalid) r is =
     cond_both {A = Stepped} (is_set (object_of v) event) (next_moved (with_entry v (Passed ch event)) ch n) (Ok (Waiting event), v) IsSoundStep
     (λ set. pass_sound v ch n event t invalid r is set) (λ _. r.sound)

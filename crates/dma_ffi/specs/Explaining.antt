@@ -7,7 +7,7 @@ use Rattle.dma_chan.specs.declared.bus.Bus.{Bus}
 use Rattle.dma_chan.specs.declared.bus.Bus.TheVariants.{Chip, Ideal}
 use Rattle.dma_chan.specs.declared.bus.BusWidth.{BusWidth}
 use Rattle.dma_chan.specs.declared.explain.Cause.{Cause}
-use Rattle.dma_chan.specs.declared.explain.Cause.TheVariants.{TooLong, Fails, LoadsPast, StoresPast, StoresFixed, DropsBytes, BytesLeft, StoresTwice, StoresSource, NoEnd, NoMemory}
+use Rattle.dma_chan.specs.declared.explain.Cause.TheVariants.{TooLong, Fails, LoadsPast, StoresPast, StoresFixed, DropsBytes, BytesLeft, StoresTwice, StoresSource, NoEnd, NoMemory, StoresZeros}
 use Rattle.dma_chan.specs.declared.explain.Explained.{Explained}
 use Rattle.dma_chan.specs.declared.explain.Happening.{Happening}
 use Rattle.dma_chan.specs.declared.explain.Repeated.{Repeated}
@@ -46,6 +46,7 @@ cause_number BytesLeft = 12
 cause_number StoresTwice = 13
 cause_number StoresSource = 14
 cause_number NoEnd = 15
+cause_number StoresZeros = 16
 
 -- ---- what is written
 

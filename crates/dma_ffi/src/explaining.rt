@@ -64,6 +64,7 @@ fn number_of_cause(cause: Cause) -> u32
         Cause::StoresTwice => 13,
         Cause::StoresSource => 14,
         Cause::NoEnd => 15,
+        Cause::StoresZeros => 16,
     }
 }
 

@@ -1,4 +1,5 @@
 pub mod Laws
+pub mod ChipLaws
 pub mod ControlLaws
 mod TextLines
 mod Numbers

@@ -1,5 +1,6 @@
 pub mod Spelling
 pub mod Decoding
+pub mod Chip
 pub mod ControlWord
 pub mod AssemblyText
 pub mod LineReading

@@ -11,6 +11,7 @@
 #![tactic(auto)]
 
 pub mod assembler;
+pub mod chip;
 pub mod codec;
 pub mod control;
 pub mod disassembler;

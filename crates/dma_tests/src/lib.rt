@@ -6,6 +6,8 @@
 #[cfg(test)]
 mod blocks;
 #[cfg(test)]
+mod chip;
+#[cfg(test)]
 mod desk_refused;
 #[cfg(test)]
 mod engine_refused;

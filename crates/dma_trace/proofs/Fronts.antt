@@ -2,8 +2,8 @@
 use Rattle.std.proofs.Common.{◌≡◌, ℕ, suc, ◌+◌, ◌≤◌, List, ◌++◌, length, Option, Some, None, Result, Ok, Err, refl, sym, ap, subst, ◌∙◌, arith, length-append}
 use Rattle.std.specs.Prelude.{nat_lt, slice_get}
 use Rattle.std.proofs.lemmas.Bool.{ltb-false}
-use Rattle.dma_insn.specs.declared.insn.Insn.{Insn}
-use Rattle.dma_insn.specs.declared.insn.Insn.TheVariants.{Ld, St}
+use Rattle.dma_insn.specs.declared.chip.ChipInsn.{ChipInsn}
+use Rattle.dma_insn.specs.declared.chip.ChipInsn.TheVariants.{Ld, St}
 use Rattle.dma_chan.specs.declared.bus.Bus.{Bus}
 use Rattle.dma_chan.specs.declared.exec.Registers.{Registers}
 use Rattle.dma_chan.specs.declared.explain.Cause.TheVariants.{Fails}
@@ -13,7 +13,7 @@ use Rattle.dma_chan.specs.declared.turn.FaultKind.TheVariants.{MfifoErr, StDataU
 use Rattle.dma_chan.specs.Bursts.{burst_len, touched}
 use Rattle.dma_chan.specs.Exec.{buffer_size, destination_of, moved, source_of}
 use Rattle.dma_chan.specs.Explains.{GoesOn, Trace, after_fetch, after_insn, held, next_in, stop_of, stop_of_insn, traced, untraced}
-use Rattle.dma_chan.specs.Next.{next_of}
+use Rattle.dma_chan.specs.Next.{next_on}
 use Rattle.dma_chan.proofs.ControlWords.{moves_some}
 use Rattle.dma_chan.proofs.GoingOn.{none_first}
 use Rattle.dma_chan.proofs.TracerSteps.{length_touched}
@@ -40,13 +40,13 @@ stores_long r = length_touched (destination_of r) (moves_some r.bus 14 r.dar r.c
 
 -- ---- one instruction
 
-pub record Follows (i : Insn) (x : Trace) : Type 0 where
+pub record Follows (i : ChipInsn) (x : Trace) : Type 0 where
   pub registers : (after_insn i x).registers ≡ moved i x.registers
   pub more : held (after_insn i x) ≡ held_after i x.registers (held x)
   pub room : held_after i x.registers (held x) ≤ buffer_size
   pub within : Within (after_insn i x)
 
-same : (i : Insn) (x : Trace) → Within x → after_insn i x ≡ record { registers = moved i x.registers; loads = x.loads; stores = x.stores } → held_after i x.registers (held x) ≡ held x → Follows i x
+same : (i : ChipInsn) (x : Trace) → Within x → after_insn i x ≡ record { registers = moved i x.registers; loads = x.loads; stores = x.stores } → held_after i x.registers (held x) ≡ held x → Follows i x
 same i x w to kept =
     let loads : length (after_insn i x).loads ≡ length x.loads = ap (λ (y : Trace). length y.loads) to in
     let stores : length (after_insn i x).stores ≡ length x.stores = ap (λ (y : Trace). length y.stores) to in
@@ -83,7 +83,7 @@ follows_store x w e =
       within = record { few = omega (arith, grown, w.few, enough); room = omega (arith, grown, w.room, w.few) };
     }
 
-pub follows : (i : Insn) (x : Trace) → Within x → stop_of_insn i x ≡ None → Follows i x
+pub follows : (i : ChipInsn) (x : Trace) → Within x → stop_of_insn i x ≡ None → Follows i x
 follows Ld x w e = follows_load x w e
 follows St x w e = follows_store x w e
 follows i x w e = same i x w refl refl
@@ -91,8 +91,8 @@ follows i x w e = same i x w refl refl
 -- ---- in a program
 
 -- the next instruction of a front, if the program goes on
-pub next_here : (bus : Bus) (program : List ℕ) (n : ℕ) (f : Front) (r : Result Insn FaultKind) → f ≡ front_at (traced bus program n) → r ≡ next_of program f.pc → next_in program (traced bus program n) ≡ r
-next_here bus program n f r at is = ap (λ (g : Front). next_of program g.pc) (sym at) ∙ sym is
+pub next_here : (bus : Bus) (program : List ℕ) (n : ℕ) (f : Front) (r : Result ChipInsn FaultKind) → f ≡ front_at (traced bus program n) → r ≡ next_on f.bus program f.pc → next_in program (traced bus program n) ≡ r
+next_here bus program n f r at is = ap (λ (g : Front). next_on g.bus program g.pc) (sym at) ∙ sym is
 
 -- an instruction that goes on was fetched
 pub never : (bus : Bus) (program : List ℕ) (n : ℕ) (kind : FaultKind) → next_in program (traced bus program n) ≡ Err kind → GoesOn (next_in program (traced bus program n)) (traced bus program n) → ⊥
@@ -100,11 +100,11 @@ never bus program n kind next goes =
     let stop : Some (Fails kind) ≡ None = sym (ap (λ r. stop_of r (traced bus program n)) next) ∙ goes.1 in
     cc
 
-pub follows_here : (bus : Bus) (program : List ℕ) (n : ℕ) (i : Insn) → next_in program (traced bus program n) ≡ Ok i → GoesOn (next_in program (traced bus program n)) (traced bus program n) → Within (traced bus program n) → Follows i (traced bus program n)
+pub follows_here : (bus : Bus) (program : List ℕ) (n : ℕ) (i : ChipInsn) → next_in program (traced bus program n) ≡ Ok i → GoesOn (next_in program (traced bus program n)) (traced bus program n) → Within (traced bus program n) → Follows i (traced bus program n)
 follows_here bus program n i next goes w = follows i (traced bus program n) w (sym (ap (λ r. stop_of r (traced bus program n)) next) ∙ goes.1)
 
 -- the run after one more instruction
-pub traced_on : (bus : Bus) (program : List ℕ) (n : ℕ) (i : Insn) → next_in program (traced bus program n) ≡ Ok i → traced bus program (n + 1) ≡ after_insn i (traced bus program n)
+pub traced_on : (bus : Bus) (program : List ℕ) (n : ℕ) (i : ChipInsn) → next_in program (traced bus program n) ≡ Ok i → traced bus program (n + 1) ≡ after_insn i (traced bus program n)
 traced_on bus program n i next =
     let number : n + 1 ≡ suc n = omega arith in
     ap (traced bus program) number ∙ ap (λ r. after_fetch r (traced bus program n)) next
@@ -113,7 +113,7 @@ pub front_same : (f : Front) (r : Registers) (n : ℕ) → registers_of f ≡ r 
 front_same f r n e h = ap (λ (q : Registers). front_of q f.held) e ∙ ap (front_of r) h
 
 -- the front after it
-pub front_on : (bus : Bus) (program : List ℕ) (n : ℕ) (f g : Front) (i : Insn) → f ≡ front_at (traced bus program n) → next_in program (traced bus program n) ≡ Ok i → Follows i (traced bus program n) → registers_of g ≡ moved i (registers_of f) → g.held ≡ held_after i (registers_of f) f.held → g ≡ front_at (traced bus program (n + 1))
+pub front_on : (bus : Bus) (program : List ℕ) (n : ℕ) (f g : Front) (i : ChipInsn) → f ≡ front_at (traced bus program n) → next_in program (traced bus program n) ≡ Ok i → Follows i (traced bus program n) → registers_of g ≡ moved i (registers_of f) → g.held ≡ held_after i (registers_of f) f.held → g ≡ front_at (traced bus program (n + 1))
 front_on bus program n f g i at next w registers more =
     let x = traced bus program n in
     let to = traced_on bus program n i next in
@@ -124,21 +124,21 @@ front_on bus program n f g i at next w registers more =
     (more ∙ ap (λ (r : Registers). held_after i r f.held) before ∙ ap (held_after i x.registers) held_before ∙ sym w.more)
     ∙ ap front_at (sym to)
 
-pub within_on : (bus : Bus) (program : List ℕ) (n : ℕ) (i : Insn) → next_in program (traced bus program n) ≡ Ok i → Follows i (traced bus program n) → Within (traced bus program (n + 1))
+pub within_on : (bus : Bus) (program : List ℕ) (n : ℕ) (i : ChipInsn) → next_in program (traced bus program n) ≡ Ok i → Follows i (traced bus program n) → Within (traced bus program (n + 1))
 within_on bus program n i next w = subst Within (sym (traced_on bus program n i next)) w.within
 
-pub room_here : (bus : Bus) (program : List ℕ) (n : ℕ) (f : Front) (i : Insn) → f ≡ front_at (traced bus program n) → Follows i (traced bus program n) → held_after i (registers_of f) f.held ≤ buffer_size
+pub room_here : (bus : Bus) (program : List ℕ) (n : ℕ) (f : Front) (i : ChipInsn) → f ≡ front_at (traced bus program n) → Follows i (traced bus program n) → held_after i (registers_of f) f.held ≤ buffer_size
 room_here bus program n f i at w =
     rw at w.room
 
 -- the loads and stores of an address, with one more instruction
-pub touches_on : (bus : Bus) (program : List ℕ) (a n : ℕ) (f : Front) (i : Insn) (t u : Touches) → f ≡ front_at (traced bus program n) → next_in program (traced bus program n) ≡ Ok i → t ≡ touches_in bus program a n → u ≡ after_touch i a (n + 1) f t → u ≡ touches_in bus program a (n + 1)
+pub touches_on : (bus : Bus) (program : List ℕ) (a n : ℕ) (f : Front) (i : ChipInsn) (t u : Touches) → f ≡ front_at (traced bus program n) → next_in program (traced bus program n) ≡ Ok i → t ≡ touches_in bus program a n → u ≡ after_touch i a (n + 1) f t → u ≡ touches_in bus program a (n + 1)
 touches_on bus program a n f i t u at next is to =
     let number : n + 1 ≡ suc n = omega arith in
     let more : after_next (next_in program (traced bus program n)) a (n + 1) f t ≡ u = rw next (sym to) in
     let all : u ≡ touches_in bus program a (suc n) = sym more ∙ rw (at, is) refl in all ∙ ap (touches_in bus program a) (sym number)
 
 -- what is printed of a program that is refused
-pub cause_printed : (bus : Bus) (program : List ℕ) (u : Unexplained) (f : Front) (first : Option ℕ) (next : Result Insn FaultKind) (t : Touches) → f ≡ front_at (traced bus program u.steps) → first ≡ slice_get program f.pc → next ≡ next_of program f.pc → t ≡ touches_in bus program u.addr u.steps → refusal_text (cause_text u.cause first next u.steps f ++ conflict_text u.cause u.addr t) first next u.steps f u.stored ≡ unexplained_text bus program u
+pub cause_printed : (bus : Bus) (program : List ℕ) (u : Unexplained) (f : Front) (first : Option ℕ) (next : Result ChipInsn FaultKind) (t : Touches) → f ≡ front_at (traced bus program u.steps) → first ≡ slice_get program f.pc → next ≡ next_on f.bus program f.pc → t ≡ touches_in bus program u.addr u.steps → refusal_text (cause_text u.cause first next u.steps f ++ conflict_text u.cause u.addr t) first next u.steps f u.stored ≡ unexplained_text bus program u
 cause_printed bus program u f first next t at byte is touches =
     rw (touches, byte, ← next_here bus program u.steps f next at is, at) refl

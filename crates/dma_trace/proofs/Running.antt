@@ -2,8 +2,8 @@
 use Rattle.std.proofs.Common.{◌≡◌, ◌≢◌, ℕ, suc, ◌+◌, ◌-◌, ◌<◌, ◌≤◌, Bool, true, false, ◌&&◌, List, [], ◌∷◌, ◌++◌, length, map, Option, Some, None, Result, Ok, refl, sym, ap, subst, ◌∙◌, arith, inl, inr, append_assoc, append-nil}
 use Rattle.std.specs.Prelude.{IsOk, flat_map, nat_le, nat_lt, slice_get}
 use Rattle.std.proofs.lemmas.Bool.{cases_lt, le-ltb, lt-ltb}
-use Rattle.dma_insn.specs.Spelling.{spelling}
-use Rattle.dma_insn.specs.declared.insn.Insn.{Insn}
+use Rattle.dma_insn.specs.Chip.{spelling}
+use Rattle.dma_insn.specs.declared.chip.ChipInsn.{ChipInsn}
 use Rattle.dma_mem.specs.Flags.{flags_of}
 use Rattle.dma_mem.specs.Lent.{marks_at, stores_at}
 use Rattle.dma_mem.specs.Marking.{MarkList}
@@ -65,7 +65,7 @@ pub record Took (marks : MarkList) (c d : ChannelValue) (rs left : List Region) 
   pub to : machine_over d left after ≡ after_step marks (machine_over c rs flags)
 
 -- a line was printed of the step from one front to the next
-pub record Step (o : TraceOptions) (n : ℕ) (i : Insn) (c : ChannelValue) (rs left : List Region) (front next : Front) (mid new : List ℕ) : Type 0 where
+pub record Step (o : TraceOptions) (n : ℕ) (i : ChipInsn) (c : ChannelValue) (rs left : List Region) (front next : Front) (mid new : List ℕ) : Type 0 where
   pub ahead : ahead_of c ≡ Ok i
   pub places : map segment_of left ≡ map segment_of rs
   pub read_only : read_only_of left ≡ read_only_of rs
@@ -79,7 +79,7 @@ module _ {o : TraceOptions} {marks : MarkList} {first : List Region} {s : Machin
   abbrev u : Machine
   u = after_steps marks s n
 
-  ahead_there : {r : Result Insn FaultKind} → r ≡ ahead_of c → r ≡ ahead_of u.channel
+  ahead_there : {r : Result ChipInsn FaultKind} → r ≡ ahead_of c → r ≡ ahead_of u.channel
   ahead_there e = e ∙ ap (λ (m : Machine). ahead_of m.channel) w.at
 
   -- a step does the same by the marks over the regions before the run
@@ -92,17 +92,17 @@ module _ {o : TraceOptions} {marks : MarkList} {first : List Region} {s : Machin
       }
 
   -- the moment in the waveform
-  pub moment_there : {r : Result Insn FaultKind} → r ≡ ahead_of c → executing n r front ≡ moment_in n u
+  pub moment_there : {r : Result ChipInsn FaultKind} → r ≡ ahead_of c → executing n r front ≡ moment_in n u
   moment_there e = rw (ahead_there e, w.front_is) refl
 
   -- the end that is printed is that of the run
-  end_same : {turn : Option ChanTurn} {r : Result Insn FaultKind} {steps stored : ℕ} → turn ≡ last_answer marks s o.limit n → steps ≡ n → r ≡ ahead_of c → stored ≡ c.stored → end_of turn (slice_get (code_of s.channel) front.pc) r steps front stored ≡ end_after o marks s n
+  end_same : {turn : Option ChanTurn} {r : Result ChipInsn FaultKind} {steps stored : ℕ} → turn ≡ last_answer marks s o.limit n → steps ≡ n → r ≡ ahead_of c → stored ≡ c.stored → end_of turn (slice_get (code_of s.channel) front.pc) r steps front stored ≡ end_after o marks s n
   end_same is number ahead bytes =
       let code : code_of s.channel ≡ code_of u.channel = sym (ap bytes_of_program w.program) ∙ ap (λ (m : Machine). code_of m.channel) w.at in
       rw (is, number, ahead_there ahead, bytes ∙ ap (λ (m : Machine). m.channel.stored) w.at, code, w.front_is) refl
 
   -- The run ends with this answer. Nothing was appended to `err` before.
-  finish : {turn : Option ChanTurn} {r : Result Insn FaultKind} {steps stored : ℕ} {good : Bool} (after : List ℕ) {err now wave mid_wave new_out new_err new_wave : List ℕ} → turn ≡ last_answer marks s o.limit n → steps ≡ n → r ≡ ahead_of c → stored ≡ c.stored → StopsAfter marks s o.limit n → after ≡ (after_steps marks s (tried o.limit n)).image → now ≡ err → Ends (end_of turn (slice_get (code_of s.channel) front.pc) r steps front stored) good mid now new_out new_err → Waves o marks s n wave mid_wave → new_wave ≡ mid_wave ++ if_wave o (last_text (executing steps r front) turn) → Runs o marks (map segment_of first) s good after old err wave new_out new_err new_wave
+  finish : {turn : Option ChanTurn} {r : Result ChipInsn FaultKind} {steps stored : ℕ} {good : Bool} (after : List ℕ) {err now wave mid_wave new_out new_err new_wave : List ℕ} → turn ≡ last_answer marks s o.limit n → steps ≡ n → r ≡ ahead_of c → stored ≡ c.stored → StopsAfter marks s o.limit n → after ≡ (after_steps marks s (tried o.limit n)).image → now ≡ err → Ends (end_of turn (slice_get (code_of s.channel) front.pc) r steps front stored) good mid now new_out new_err → Waves o marks s n wave mid_wave → new_wave ≡ mid_wave ++ if_wave o (last_text (executing steps r front) turn) → Runs o marks (map segment_of first) s good after old err wave new_out new_err new_wave
   finish {turn} {r} {steps} {stored} {good} after {err} is number ahead bytes run memory clean e waves waved =
       let end = end_of turn (slice_get (code_of s.channel) front.pc) r steps front stored in
       let same : end ≡ end_after o marks s n = end_same is number ahead bytes in
@@ -117,7 +117,7 @@ module _ {o : TraceOptions} {marks : MarkList} {first : List Region} {s : Machin
       }
 
   -- the limit is reached
-  pub ends : {r : Result Insn FaultKind} {stored : ℕ} {good : Bool} {err now wave mid_wave new_out new_err new_wave : List ℕ} → n ≡ o.limit → r ≡ ahead_of c → stored ≡ c.stored → now ≡ err → Ends (end_of None (slice_get (code_of s.channel) front.pc) r o.limit front stored) good mid now new_out new_err → Waves o marks s n wave mid_wave → new_wave ≡ mid_wave ++ if_wave o (last_text (executing o.limit r front) None) → Runs o marks (map segment_of first) s good (image_of (pieces_of rs)) old err wave new_out new_err new_wave
+  pub ends : {r : Result ChipInsn FaultKind} {stored : ℕ} {good : Bool} {err now wave mid_wave new_out new_err new_wave : List ℕ} → n ≡ o.limit → r ≡ ahead_of c → stored ≡ c.stored → now ≡ err → Ends (end_of None (slice_get (code_of s.channel) front.pc) r o.limit front stored) good mid now new_out new_err → Waves o marks s n wave mid_wave → new_wave ≡ mid_wave ++ if_wave o (last_text (executing o.limit r front) None) → Runs o marks (map segment_of first) s good (image_of (pieces_of rs)) old err wave new_out new_err new_wave
   ends limit ahead bytes clean e waves waved =
       let test : nat_lt n o.limit ≡ false = le-ltb n o.limit (omega (arith, limit)) in
       finish (image_of (pieces_of rs)) (rw test refl) (sym limit) ahead bytes
@@ -136,16 +136,16 @@ module _ {o : TraceOptions} {marks : MarkList} {first : List Region} {s : Machin
   to_there : machine_over d left after ≡ after_step marks v
   to_there = t.to ∙ ap (after_step marks) w.at
 
-  pub fetched : {r : Result Insn FaultKind} → r ≡ ahead_of c → turn ≡ Moved → IsOk r
+  pub fetched : {r : Result ChipInsn FaultKind} → r ≡ ahead_of c → turn ≡ Moved → IsOk r
   fetched ahead moves = fetched_there marks v _ (ahead_there w ahead) (sym answer_there ∙ moves)
 
-  pub moves_there : {i : Insn} → ahead_of c ≡ Ok i → turn ≡ Moved → Moves i v.channel (after_step marks v).channel
+  pub moves_there : {i : ChipInsn} → ahead_of c ≡ Ok i → turn ≡ Moved → Moves i v.channel (after_step marks v).channel
   moves_there ahead moves =
       let held : front.held ≡ length v.channel.buffer = ap (λ (f : Front). f.held) w.front_is in
       moves_on marks v _ (sym (ahead_there w (sym ahead))) (sym answer_there ∙ moves) (omega (arith, held, w.room))
 
   -- the program stays loaded
-  pub program_there : {i : Insn} → ahead_of c ≡ Ok i → turn ≡ Moved → d.program ≡ s.channel.program
+  pub program_there : {i : ChipInsn} → ahead_of c ≡ Ok i → turn ≡ Moved → d.program ≡ s.channel.program
   program_there ahead moves =
       ap (λ (m : Machine). m.channel.program) to_there
       ∙ (moves_there ahead moves).program
@@ -153,14 +153,14 @@ module _ {o : TraceOptions} {marks : MarkList} {first : List Region} {s : Machin
       ∙ w.program
 
   -- the front has room for the instruction, which lies in the program
-  pub front_there : {i : Insn} → ahead_of c ≡ Ok i → turn ≡ Moved → length (code_of s.channel) ≤ most_program_bytes → (front.pc + length (spelling i) ≤ most_program_bytes) × (held_after i (registers_of front) front.held ≤ buffer_size)
+  pub front_there : {i : ChipInsn} → ahead_of c ≡ Ok i → turn ≡ Moved → length (code_of s.channel) ≤ most_program_bytes → (front.pc + length (spelling i) ≤ most_program_bytes) × (held_after i (registers_of front) front.held ≤ buffer_size)
   front_there ahead moves long =
       let pc : front.pc ≡ c.registers.pc = ap (λ (f : Front). f.pc) w.front_is ∙ sym (ap (λ (m : Machine). m.channel.registers.pc) w.at) in (
         omega (arith, pc, pc_fits _ c _ (ap bytes_of_program w.program) ahead, long),
         room_moves marks v _ front (moves_there ahead moves) w.front_is,
       )
 
-  pub goes_on : {i : Insn} {next : Front} {new : List ℕ} → turn ≡ Moved → Step o n i c rs left front next mid new → Goes o marks first s (n + 1) d left after next old new
+  pub goes_on : {i : ChipInsn} {next : Front} {new : List ℕ} → turn ≡ Moved → Step o n i c rs left front next mid new → Goes o marks first s (n + 1) d left after next old new
   goes_on {i} {next} moves x =
       let number : n + 1 ≡ suc n = omega arith in
       let m = moves_there x.ahead moves in
@@ -195,7 +195,7 @@ module _ {o : TraceOptions} {marks : MarkList} {first : List Region} {s : Machin
       }
 
   -- the step doesn't move
-  pub stops : {r : Result Insn FaultKind} {stored : ℕ} {good : Bool} {err now wave mid_wave new_out new_err new_wave : List ℕ} → n < o.limit → turn ≢ Moved → r ≡ ahead_of c → stored ≡ c.stored → now ≡ err → Ends (end_of (Some turn) (slice_get (code_of s.channel) front.pc) r n front stored) good mid now new_out new_err → Waves o marks s n wave mid_wave → new_wave ≡ mid_wave ++ if_wave o (last_text (executing n r front) (Some turn)) → Runs o marks (map segment_of first) s good (image_of (pieces_of left)) old err wave new_out new_err new_wave
+  pub stops : {r : Result ChipInsn FaultKind} {stored : ℕ} {good : Bool} {err now wave mid_wave new_out new_err new_wave : List ℕ} → n < o.limit → turn ≢ Moved → r ≡ ahead_of c → stored ≡ c.stored → now ≡ err → Ends (end_of (Some turn) (slice_get (code_of s.channel) front.pc) r n front stored) good mid now new_out new_err → Waves o marks s n wave mid_wave → new_wave ≡ mid_wave ++ if_wave o (last_text (executing n r front) (Some turn)) → Runs o marks (map segment_of first) s good (image_of (pieces_of left)) old err wave new_out new_err new_wave
   stops less other ahead bytes clean e waves waved =
       let test : nat_lt n o.limit ≡ true = lt-ltb n o.limit less in
       finish w (image_of (pieces_of left)) (rw test (ap Some answer_there)) refl ahead bytes

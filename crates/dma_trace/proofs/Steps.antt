@@ -4,8 +4,8 @@ use Rattle.std.specs.Prelude.{IfOk, IsOk, IsSome, OnOk, nat_lt, slice_index_or}
 use Rattle.std.proofs.Math.Seq.{take-append_seam, drop-append_seam, drop-drop}
 use Rattle.std.proofs.lemmas.Bool.{cases_lt, cond_both, ltb-false}
 use Rattle.std.proofs.lemmas.List.{drop_all, length-drop, length-map, length-replicate}
-use Rattle.dma_insn.specs.declared.insn.Insn.{Insn}
-use Rattle.dma_insn.specs.declared.insn.Insn.TheVariants.{Mov, Ld, St, End, LpEnd, Wfe}
+use Rattle.dma_insn.specs.declared.chip.ChipInsn.{ChipInsn}
+use Rattle.dma_insn.specs.declared.chip.ChipInsn.TheVariants.{Mov, Ld, St, End, LpEnd, Wfe, StoreZeros, LoopAgain}
 use Rattle.dma_insn.specs.declared.insn.Reg.TheVariants.{Ccr}
 use Rattle.dma_mem.specs.Marking.{MarkList}
 use Rattle.dma_mem.specs.Regions.{Piece, bytes_above, end_of, image_of, in_order, piece_of, pieces_of, rises_from}
@@ -21,8 +21,10 @@ use Rattle.dma_chan.specs.Bus.{accepts}
 use Rattle.dma_chan.specs.Channel.{ChannelValue, after_turn, ahead_of, code_of, last_count, state_of, step_of, stored_by}
 use Rattle.dma_chan.specs.Exec.{State, act, buffer_size, counter_of, destination_of, exec_fetched, moved, read_at, source_of}
 use Rattle.dma_chan.specs.LentRegions.{segment_of}
-use Rattle.dma_insn.specs.Spelling.{spelling}
-use Rattle.dma_chan.specs.Next.{next_of}
+use Rattle.dma_insn.specs.Chip.{spelling}
+use Rattle.dma_chan.specs.declared.bus.Bus.{Bus}
+use Rattle.dma_chan.specs.declared.bus.Bus.TheVariants.{Ideal}
+use Rattle.dma_chan.specs.Next.{next_on}
 use Rattle.dma_chan.proofs.NextFits.{next_fits}
 use Rattle.dma_chan.proofs.StepsTaken.{steps_few, steps_stop}
 use Rattle.dma_chan.specs.Stepping.{Machine, TakesSteps, after_step, after_steps, answer_at, goes_on_after}
@@ -61,7 +63,7 @@ some_last marks s taken last after t less = some_if last (λ e. never_none marks
 -- ---- an instruction that is executed
 
 -- the registers and the buffer after it
-pub record Acts (i : Insn) (s t : State) : Type 0 where
+pub record Acts (i : ChipInsn) (s t : State) : Type 0 where
   pub registers : t.registers ≡ moved i s.registers
   pub more : length t.buffer ≡ held_after i s.registers (length s.buffer)
   pub room : length t.buffer ≤ 256
@@ -72,7 +74,7 @@ by_test P b x y e f g = cond_both {A = ChanTurn × State} b x y (λ z. z.0 ≡ M
 not_fault : (kind : FaultKind) (X : Type 0) → Fault kind ≡ Moved → X
 not_fault kind X e = absurd (cc)
 
-act_moved : (marks : MarkList) (i : Insn) (s : State) → (act marks i s).0 ≡ Moved → length s.buffer ≤ 256 → Acts i s (act marks i s).1
+act_moved : (marks : MarkList) (i : ChipInsn) (s : State) → (act marks i s).0 ≡ Moved → length s.buffer ≤ 256 → Acts i s (act marks i s).1
 act_moved marks (Mov Ccr v) s e r =
     by_test (Acts (Mov Ccr v) s) (accepts s.registers.bus v) _ _ e
     (λ t m. record { registers = refl; more = refl; room = r })
@@ -104,6 +106,14 @@ act_moved marks (LpEnd c back) s e r =
     by_test (Acts (LpEnd c back) s) (nat_lt 0 (counter_of c s.registers) && nat_lt s.registers.pc back) _ _ e
     (λ t m. not_fault _ _ m)
     (λ t m. record { registers = refl; more = refl; room = r })
+act_moved marks StoreZeros s e r =
+    by_test (Acts StoreZeros s) (reaches Writing marks (length s.image) (touched (destination_of s.registers))) _ _ e
+    (λ t m. record { registers = refl; more = refl; room = r })
+    (λ t m. not_fault _ _ m)
+act_moved marks (LoopAgain counter back) s e r =
+    by_test (Acts (LoopAgain counter back) s) (nat_lt s.registers.pc back) _ _ e
+    (λ t m. not_fault _ _ m)
+    (λ t m. record { registers = refl; more = refl; room = r })
 act_moved marks (Wfe n v) s e r =
     by_test (Acts (Wfe n v) s) (slice_index_or s.flags n false) _ _ e
     (λ t m. record { registers = refl; more = refl; room = r })
@@ -112,14 +122,14 @@ act_moved marks End s e r = absurd (let w : Ended ≡ Moved = e in cc)
 act_moved marks i s e r = record { registers = refl; more = refl; room = r }
 
 -- the same of a channel
-pub record Moves (i : Insn) (c d : ChannelValue) : Type 0 where
+pub record Moves (i : ChipInsn) (c d : ChannelValue) : Type 0 where
   pub registers : d.registers ≡ moved i c.registers
   pub more : length d.buffer ≡ held_after i c.registers (length c.buffer)
   pub room : length d.buffer ≤ 256
   pub program : d.program ≡ c.program
   pub taken : d.taken ≡ c.taken + 1
 
-turned : (turn : ChanTurn) (i : Insn) (s : State) (n : ℕ) (c : ChannelValue) (t : State) → turn ≡ Moved → s.registers ≡ c.registers → s.buffer ≡ c.buffer → Acts i s t → Moves i c (after_turn turn t n c)
+turned : (turn : ChanTurn) (i : ChipInsn) (s : State) (n : ℕ) (c : ChannelValue) (t : State) → turn ≡ Moved → s.registers ≡ c.registers → s.buffer ≡ c.buffer → Acts i s t → Moves i c (after_turn turn t n c)
 turned Moved i s n c t e registers buffer a = record {
   registers = a.registers ∙ ap (moved i) registers;
   more = a.more ∙ ap (λ (r : Registers). held_after i r (length s.buffer)) registers ∙ ap (λ (xs : List ℕ). held_after i c.registers (length xs)) buffer;
@@ -131,7 +141,7 @@ turned Ended i s n c t e registers buffer a = absurd (cc)
 turned (Waiting w) i s n c t e registers buffer a = absurd (cc)
 turned (Fault kind) i s n c t e registers buffer a = absurd (cc)
 
-pub moves_on : (marks : MarkList) (u : Machine) (i : Insn) → ahead_of u.channel ≡ Ok i → answer_at marks u ≡ Moved → length u.channel.buffer ≤ 256 → Moves i u.channel (after_step marks u).channel
+pub moves_on : (marks : MarkList) (u : Machine) (i : ChipInsn) → ahead_of u.channel ≡ Ok i → answer_at marks u ≡ Moved → length u.channel.buffer ≤ 256 → Moves i u.channel (after_step marks u).channel
 moves_on marks u i next e room =
     let c = u.channel in
     let s = state_of c u.image u.flags in
@@ -141,7 +151,7 @@ moves_on marks u i next e room =
     turned x.0 i s (stored_by (ahead_of c) c.registers) c x.1 e refl refl (subst (λ (t : State). Acts i s t) (sym (ap (λ (y : ChanTurn × State). y.1) same)) a)
 
 -- the front after it
-pub front_moves : (marks : MarkList) (u : Machine) (i : Insn) (f g : Front) → Moves i u.channel (after_step marks u).channel → f ≡ front_in u → registers_of g ≡ moved i (registers_of f) → g.held ≡ held_after i (registers_of f) f.held → g ≡ front_in (after_step marks u)
+pub front_moves : (marks : MarkList) (u : Machine) (i : ChipInsn) (f g : Front) → Moves i u.channel (after_step marks u).channel → f ≡ front_in u → registers_of g ≡ moved i (registers_of f) → g.held ≡ held_after i (registers_of f) f.held → g ≡ front_in (after_step marks u)
 front_moves marks u i f g w at registers more =
     let c = u.channel in
     let d = (after_step marks u).channel in
@@ -152,31 +162,36 @@ front_moves marks u i f g w at registers more =
     (more ∙ ap (λ (r : Registers). held_after i r f.held) before ∙ ap (held_after i c.registers) held ∙ sym w.more)
 
 -- the buffer has room for what an instruction loads, if it is executed
-pub room_moves : (marks : MarkList) (u : Machine) (i : Insn) (f : Front) → Moves i u.channel (after_step marks u).channel → f ≡ front_in u → held_after i (registers_of f) f.held ≤ buffer_size
+pub room_moves : (marks : MarkList) (u : Machine) (i : ChipInsn) (f : Front) → Moves i u.channel (after_step marks u).channel → f ≡ front_in u → held_after i (registers_of f) f.held ≤ buffer_size
 room_moves marks u i f w at =
     rw at (omega (arith, w.more, w.room))
 
 -- an instruction lies in its program
-pub pc_within : (program : List ℕ) (pc : ℕ) (i : Insn) → next_of program pc ≡ Ok i → pc ≤ length program
-pc_within program pc i e = elim (cases_lt (length program) pc) [
-  | inl past ↦ absurd (let none : next_of program pc ≡ next_of [] 0 = ap (λ (xs : List ℕ). next_of xs 0) (drop_all pc program (omega (arith, past))) in let no : Ok i ≡ next_of [] 0 = sym e ∙ none in cc)
+no_next : (bus : Bus) (i : ChipInsn) → Ok i ≡ next_on bus [] 0 → ⊥
+no_next Ideal i e = cc
+no_next bus i e = cc
+
+pub pc_within : (bus : Bus) (program : List ℕ) (pc : ℕ) (i : ChipInsn) → next_on bus program pc ≡ Ok i → pc ≤ length program
+pc_within bus program pc i e = elim (cases_lt (length program) pc) [
+  | inl past ↦ absurd (let none : next_on bus program pc ≡ next_on bus [] 0 = ap (λ (xs : List ℕ). next_on bus xs 0) (drop_all pc program (omega (arith, past))) in no_next bus i (sym e ∙ none))
   | inr le ↦ le
 ]
 
 -- an instruction that is executed was fetched
-is_fetched : (marks : MarkList) (r : Result Insn FaultKind) (s : State) → (exec_fetched marks r s).0 ≡ Moved → IsOk r
+is_fetched : (marks : MarkList) (r : Result ChipInsn FaultKind) (s : State) → (exec_fetched marks r s).0 ≡ Moved → IsOk r
 is_fetched marks (Ok i) s e = refl
 is_fetched marks (Err kind) s e = not_fault kind _ e
 
-pub fetched_there : (marks : MarkList) (u : Machine) (r : Result Insn FaultKind) → r ≡ ahead_of u.channel → answer_at marks u ≡ Moved → IsOk r
+pub fetched_there : (marks : MarkList) (u : Machine) (r : Result ChipInsn FaultKind) → r ≡ ahead_of u.channel → answer_at marks u ≡ Moved → IsOk r
 fetched_there marks u r is e =
     let s = state_of u.channel u.image u.flags in
-    is_fetched marks r s (ap (λ (q : Result Insn FaultKind). (exec_fetched marks q s).0) is ∙ e)
+    is_fetched marks r s (ap (λ (q : Result ChipInsn FaultKind). (exec_fetched marks q s).0) is ∙ e)
 
-pub pc_fits : (program : List ℕ) (c : ChannelValue) (i : Insn) → code_of c ≡ program → ahead_of c ≡ Ok i → c.registers.pc + length (spelling i) ≤ length program
+pub pc_fits : (program : List ℕ) (c : ChannelValue) (i : ChipInsn) → code_of c ≡ program → ahead_of c ≡ Ok i → c.registers.pc + length (spelling i) ≤ length program
 pc_fits program c i code next =
-    let e : next_of program c.registers.pc ≡ Ok i = sym (ap (λ (xs : List ℕ). next_of xs c.registers.pc) code) ∙ next in
-    next_fits program c.registers.pc i (pc_within program c.registers.pc i e) e
+    let bus = c.registers.bus in
+    let e : next_on bus program c.registers.pc ≡ Ok i = sym (ap (λ (xs : List ℕ). next_on bus xs c.registers.pc) code) ∙ next in
+    next_fits bus program c.registers.pc i (pc_within bus program c.registers.pc i e) e
 
 -- what holds of each result that isn't an error
 pub on_ok : {E : Type 0} (r : Result Bool E) (P Q : Bool → Type 0) (R : Type 0) → ((b : Bool) → P b → R → Q b) → IfOk r P → OnOk r R → IfOk r Q

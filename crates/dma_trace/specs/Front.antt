@@ -1,7 +1,7 @@
 -- The registers of a channel with the number of bytes in its buffer.
 use Rattle.std.specs.Prelude.{ℕ, ◌+◌, ◌-◌, if◌then◌else◌}
-use Rattle.dma_insn.specs.declared.insn.Insn.{Insn}
-use Rattle.dma_insn.specs.declared.insn.Insn.TheVariants.{Ld, St}
+use Rattle.dma_insn.specs.declared.chip.ChipInsn.{ChipInsn}
+use Rattle.dma_insn.specs.declared.chip.ChipInsn.TheVariants.{Ld, St}
 use Rattle.dma_chan.specs.declared.bursts.Burst.{Burst}
 use Rattle.dma_chan.specs.declared.exec.Registers.{Registers}
 use Rattle.dma_chan.specs.Bursts.{advance, burst_len, span_of}
@@ -25,7 +25,7 @@ abbrev pub front_at : Trace → Front
 front_at x = front_of x.registers (held x)
 
 -- how many bytes are in the buffer after an instruction, if n were in it before
-abbrev pub held_after : Insn → Registers → ℕ → ℕ
+abbrev pub held_after : ChipInsn → Registers → ℕ → ℕ
 held_after Ld r n = n + burst_len (source_of r)
 held_after St r n = n - burst_len (destination_of r)
 held_after i r n = n

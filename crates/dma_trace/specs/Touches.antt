@@ -2,8 +2,8 @@
 use Rattle.std.specs.Prelude.{ℕ, zero, suc, ◌+◌, ◌-◌, ◌++◌, ◌&&◌, nat_le, nat_lt, Bool, List, [], Option, Some, None, Result, Ok, Err, if◌then◌else◌, codes, decimal}
 use Rattle.std.specs.Option.{option_and, option_or}
 use Rattle.dma_text.specs.Digits.{hex_digits}
-use Rattle.dma_insn.specs.declared.insn.Insn.{Insn}
-use Rattle.dma_insn.specs.declared.insn.Insn.TheVariants.{Ld, St}
+use Rattle.dma_insn.specs.declared.chip.ChipInsn.{ChipInsn}
+use Rattle.dma_insn.specs.declared.chip.ChipInsn.TheVariants.{Ld, St}
 use Rattle.dma_chan.specs.declared.bus.Bus.{Bus}
 use Rattle.dma_chan.specs.declared.explain.Cause.{Cause}
 use Rattle.dma_chan.specs.declared.explain.Cause.TheVariants.{StoresTwice, StoresSource}
@@ -37,7 +37,7 @@ with_store access t = record t {
 }
 
 -- Adds instruction number n, by the registers before it.
-abbrev pub after_touch : Insn → ℕ → ℕ → Front → Touches → Touches
+abbrev pub after_touch : ChipInsn → ℕ → ℕ → Front → Touches → Touches
 after_touch Ld a n f t =
     if has_addr (span_at (source_of (registers_of f))) a then with_load (record { number = n; pc = f.pc }) t else t
 after_touch St a n f t =
@@ -46,7 +46,7 @@ after_touch St a n f t =
 after_touch i a n f t = t
 
 -- Adds an instruction that was fetched. A fault adds nothing.
-abbrev pub after_next : Result Insn FaultKind → ℕ → ℕ → Front → Touches → Touches
+abbrev pub after_next : Result ChipInsn FaultKind → ℕ → ℕ → Front → Touches → Touches
 after_next (Ok i) a n f t = after_touch i a n f t
 after_next (Err kind) a n f t = t
 

@@ -2,10 +2,9 @@
 use Rattle.std.specs.Prelude.{◌≡◌, ◌≢◌, ℕ, zero, suc, ◌+◌, ◌-◌, ◌*◌, ◌/◌, ◌%◌, ◌^◌, ◌==◌, ◌<◌, ◌≤◌, ◌++◌, ◌&&◌, ◌⊎◌, nat_le, nat_lt, min, Bool, true, false, List, [], length, map, take, drop, flat_map, slice_get, Option, Some, None, Result, Ok, Err, if◌then◌else◌, codes, decimal}
 use Rattle.std.specs.List.{range_with_len}
 use Rattle.dma_text.specs.Digits.{hex_digits, spaced_bytes}
-use Rattle.dma_insn.specs.declared.insn.Insn.{Insn}
-use Rattle.dma_insn.specs.declared.insn.Insn.TheVariants.{Ld, St}
+use Rattle.dma_insn.specs.declared.chip.ChipInsn.{ChipInsn}
+use Rattle.dma_insn.specs.declared.chip.ChipInsn.TheVariants.{Ld, St}
 use Rattle.dma_insn.specs.AssemblyText.{most_program_bytes}
-use Rattle.dma_manual.specs.ManualText.{manual_text}
 use Rattle.dma_mem.specs.declared.segment.Segment.{Segment}
 use Rattle.dma_mem.specs.Flags.{flags_of}
 use Rattle.dma_mem.specs.Marking.{MarkList}
@@ -26,7 +25,7 @@ use Rattle.dma_trace.specs.declared.options.TraceOptions.{TraceOptions}
 use Rattle.dma_trace.specs.declared.wave.Moment.{Moment}
 use Rattle.dma_trace.specs.Front.{front_of, registers_of, span_at}
 use Rattle.dma_trace.specs.Wave.{change_text, executing, first_text, last_text}
-use Rattle.dma_trace.specs.Words.{cause_text, count_text, fault_text, front_text, line_feed, long_text, offset_text, refusal_text, span_text}
+use Rattle.dma_trace.specs.Words.{cause_text, count_text, fault_text, front_text, line_feed, long_text, offset_text, refusal_text, span_text, chip_text}
 
 -- ---- memory
 
@@ -41,7 +40,7 @@ burst_text verb s pieces =
     verb ++ span_text s ++ (codes ":" ++ spaced_bytes bytes ++ (if nat_lt 16 s.len then codes " .." else []))
 
 -- Prints what an instruction loads or stores, by the registers before it and the memory after it.
-unfoldable pub moves_text : Insn → Front → List Piece → List ℕ
+unfoldable pub moves_text : ChipInsn → Front → List Piece → List ℕ
 moves_text Ld f pieces = burst_text (codes "; loaded ") (span_at (source_of (registers_of f))) pieces
 moves_text St f pieces = burst_text (codes "; stored ") (span_at (destination_of (registers_of f))) pieces
 moves_text i f pieces = []
@@ -49,12 +48,12 @@ moves_text i f pieces = []
 -- ---- lines
 
 -- Prints an instruction's number and offset, its text, and the registers after it.
-unfoldable pub step_text : ℕ → Insn → ℕ → Front → List ℕ
+unfoldable pub step_text : ℕ → ChipInsn → ℕ → Front → List ℕ
 step_text n i pc after =
-    (decimal n ++ codes " " ++ offset_text pc) ++ (codes " " ++ manual_text i) ++ (codes "; " ++ front_text after)
+    (decimal n ++ codes " " ++ offset_text pc) ++ (codes " " ++ chip_text i) ++ (codes "; " ++ front_text after)
 
 -- Prints the line of instruction number n: the same, and what the instruction loads or stores.
-abbrev pub line_text : ℕ → Insn → Front → Front → List Piece → List ℕ
+abbrev pub line_text : ℕ → ChipInsn → Front → Front → List Piece → List ℕ
 line_text n i before after pieces = step_text n i before.pc after ++ moves_text i before pieces ++ line_feed
 
 -- Returns the registers of a machine's channel, and how many bytes its buffer holds.
@@ -66,7 +65,7 @@ abbrev pub is_shown : TraceOptions → ℕ → Bool
 is_shown o n = nat_le o.from n && nat_lt (n - o.from) o.count
 
 -- Prints the line of an instruction that was fetched, if the options ask for it.
-unfoldable pub shown_line : TraceOptions → ℕ → Result Insn FaultKind → Front → Front → List Piece → List ℕ
+unfoldable pub shown_line : TraceOptions → ℕ → Result ChipInsn FaultKind → Front → Front → List Piece → List ℕ
 shown_line o n (Ok i) before after pieces = if is_shown o n then line_text n i before after pieces else []
 shown_line o n (Err kind) before after pieces = []
 
@@ -90,13 +89,13 @@ pub record End : Type 0 where
   pub wrong : List ℕ
 
 -- The trace fails at an instruction, after n others, which stored this number of bytes.
-abbrev pub refused : List ℕ → Option ℕ → Result Insn FaultKind → ℕ → Front → ℕ → End
+abbrev pub refused : List ℕ → Option ℕ → Result ChipInsn FaultKind → ℕ → Front → ℕ → End
 refused why first next n f stored =
     record { succeeds = false; says = []; wrong = refusal_text why first next n f stored }
 
 -- Returns the end by the answer of the last step, after n steps that moved and stored this number of bytes. The answer is
 -- None at the limit of steps.
-abbrev pub end_of : Option ChanTurn → Option ℕ → Result Insn FaultKind → ℕ → Front → ℕ → End
+abbrev pub end_of : Option ChanTurn → Option ℕ → Result ChipInsn FaultKind → ℕ → Front → ℕ → End
 end_of (Some Ended) first next n f stored =
     record { succeeds = true; says = codes "ended after " ++ count_text (n + 1) ++ line_feed; wrong = [] }
 end_of (Some (Waiting e)) first next n f stored = record {

@@ -2,8 +2,8 @@
 -- number n, counted from 0, is executed from time n to time n + 1. At the limit the signals of the next instruction,
 -- which isn't executed, follow.
 use Rattle.std.specs.Prelude.{ℕ, ◌+◌, ◌^◌, ◌++◌, Bool, true, false, List, Option, Some, None, Result, Ok, codes, decimal}
-use Rattle.dma_insn.specs.declared.insn.Insn.{Insn}
-use Rattle.dma_insn.specs.declared.insn.Insn.TheVariants.{Ld, St, Sev, Wfe}
+use Rattle.dma_insn.specs.declared.chip.ChipInsn.{ChipInsn}
+use Rattle.dma_insn.specs.declared.chip.ChipInsn.TheVariants.{Ld, St, Sev, Wfe}
 use Rattle.dma_chan.specs.declared.turn.ChanTurn.{ChanTurn}
 use Rattle.dma_chan.specs.declared.turn.ChanTurn.TheVariants.{Moved, Waiting, Ended, Fault}
 use Rattle.dma_chan.specs.declared.turn.FaultKind.{FaultKind}
@@ -19,7 +19,7 @@ use Rattle.dma_trace.specs.Words.{line_feed}
 -- ---- values
 
 -- a channel that executes its next instruction, after n others, with these registers
-abbrev pub executing : ℕ → Result Insn FaultKind → Front → Moment
+abbrev pub executing : ℕ → Result ChipInsn FaultKind → Front → Moment
 executing n next f = record { at = record { ahead = next; steps = n; front = f }; answer = None }
 
 -- the channel status of CSR (DMA-330 manual, channel status registers), by the answer of the last step
@@ -36,27 +36,27 @@ ftr_of (Some (Fault kind)) = 2 ^ fault_bit kind
 ftr_of answer = 0
 
 -- 1 at a DMALD
-abbrev pub load_bit : Result Insn FaultKind → ℕ
+abbrev pub load_bit : Result ChipInsn FaultKind → ℕ
 load_bit (Ok Ld) = 1
 load_bit next = 0
 
 -- 1 at a DMAST
-abbrev pub store_bit : Result Insn FaultKind → ℕ
+abbrev pub store_bit : Result ChipInsn FaultKind → ℕ
 store_bit (Ok St) = 1
 store_bit next = 0
 
 -- 1 at a DMASEV
-abbrev pub signal_bit : Result Insn FaultKind → ℕ
+abbrev pub signal_bit : Result ChipInsn FaultKind → ℕ
 signal_bit (Ok (Sev e)) = 1
 signal_bit next = 0
 
 -- 1 at a DMAWFE
-abbrev pub wait_bit : Result Insn FaultKind → ℕ
+abbrev pub wait_bit : Result ChipInsn FaultKind → ℕ
 wait_bit (Ok (Wfe e invalid)) = 1
 wait_bit next = 0
 
 -- the event of a DMASEV or DMAWFE, else 0
-abbrev pub event_of : Result Insn FaultKind → ℕ
+abbrev pub event_of : Result ChipInsn FaultKind → ℕ
 event_of (Ok (Sev e)) = e
 event_of (Ok (Wfe e invalid)) = e
 event_of next = 0

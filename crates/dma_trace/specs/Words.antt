@@ -1,9 +1,12 @@
 -- The words of explanations and traces (profile).
-use Rattle.std.specs.Prelude.{ℕ, ◌+◌, ◌*◌, ◌/◌, ◌%◌, ◌^◌, ◌==◌, ◌++◌, List, [], ◌∷◌, Option, Some, None, Result, Ok, Err, if◌then◌else◌, codes, decimal}
+use Rattle.std.specs.Prelude.{ℕ, false, true, Bool, ◌+◌, ◌*◌, ◌/◌, ◌%◌, ◌^◌, ◌==◌, ◌++◌, List, [], ◌∷◌, Option, Some, None, Result, Ok, Err, if◌then◌else◌, codes, decimal}
 use Rattle.std.specs.Option.{option_and_then}
 use Rattle.dma_text.specs.Digits.{hex_digits, hex_pair}
-use Rattle.dma_insn.specs.declared.insn.Insn.{Insn}
-use Rattle.dma_insn.specs.declared.insn.Insn.TheVariants.{Mov}
+use Rattle.dma_insn.specs.declared.chip.ChipInsn.{ChipInsn}
+use Rattle.dma_insn.specs.declared.insn.Insn.TheVariants as core
+use Rattle.dma_insn.specs.declared.chip.Address.{Address}
+use Rattle.dma_insn.specs.declared.chip.Address.TheVariants.{Source, Destination}
+use Rattle.dma_insn.specs.declared.chip.ChipInsn.TheVariants.{Mov, Ld, St, Rmb, Wmb, Nop, End, Lp, LpEnd, Sev, Wfe, StoreZeros, AddHalfword, LoopAgain}
 use Rattle.dma_insn.specs.ControlWord.{field}
 use Rattle.dma_manual.specs.ChipOnly.{chip_only_name}
 use Rattle.dma_manual.specs.ManualText.{manual_text}
@@ -74,9 +77,36 @@ abbrev pub absent_text : Option (List ℕ) → List ℕ
 absent_text (Some name) = name
 absent_text None = codes "no instruction"
 
+-- the name of an address register
+abbrev pub address_text : Address → List ℕ
+address_text Source = codes "SAR"
+address_text Destination = codes "DAR"
+
+-- the mnemonic of DMAADDH or DMAADNH
+abbrev pub add_text : Bool → List ℕ
+add_text false = codes "DMAADDH "
+add_text true = codes "DMAADNH "
+
+-- an instruction of a chip in the manual's syntax. The DMALPEND of a loop for ever has its jump back as a number.
+unfoldable pub chip_text : ChipInsn → List ℕ
+chip_text End = manual_text core.End
+chip_text Ld = manual_text core.Ld
+chip_text St = manual_text core.St
+chip_text Rmb = manual_text core.Rmb
+chip_text Wmb = manual_text core.Wmb
+chip_text Nop = manual_text core.Nop
+chip_text (Lp c n) = manual_text (core.Lp c n)
+chip_text (LpEnd c b) = manual_text (core.LpEnd c b)
+chip_text (Sev e) = manual_text (core.Sev e)
+chip_text (Wfe e v) = manual_text (core.Wfe e v)
+chip_text (Mov r v) = manual_text (core.Mov r v)
+chip_text StoreZeros = codes "DMASTZ"
+chip_text (AddHalfword a half negative) = add_text negative ++ (address_text a ++ codes ", ") ++ decimal half
+chip_text (LoopAgain counter back) = codes "DMALPEND for ever, back " ++ decimal back
+
 -- the next instruction
-abbrev pub next_text : Option ℕ → Result Insn FaultKind → List ℕ
-next_text first (Ok i) = manual_text i
+abbrev pub next_text : Option ℕ → Result ChipInsn FaultKind → List ℕ
+next_text first (Ok i) = chip_text i
 next_text first (Err kind) = absent_text (chip_only_at first)
 
 -- ---- faults
@@ -98,17 +128,17 @@ control_words bus w =
     else codes "a beat is wider than the bus, which has " ++ bytes_text (widest_beat bus)
 
 -- why an instruction that was decoded has a refused operand
-abbrev pub operand_words : Insn → Bus → List ℕ
+abbrev pub operand_words : ChipInsn → Bus → List ℕ
 operand_words (Mov reg w) bus = control_words bus w
 operand_words i bus = codes "a field is outside its range"
 
 -- why an operand is refused
-abbrev pub refused_words : Result Insn FaultKind → Front → List ℕ
+abbrev pub refused_words : Result ChipInsn FaultKind → Front → List ℕ
 refused_words (Ok i) f = operand_words i f.bus
 refused_words (Err kind) f = codes "a field is outside its range"
 
 -- why no instruction is fetched
-abbrev pub fetch_words : Result Insn FaultKind → List ℕ
+abbrev pub fetch_words : Result ChipInsn FaultKind → List ℕ
 fetch_words (Ok i) = codes "it jumps to before the program's start"
 fetch_words (Err kind) = codes "the program has no whole instruction here"
 
@@ -118,7 +148,7 @@ undefined_words (Some name) = codes "an instruction of the chip that no channel 
 undefined_words None = codes "no instruction begins with this byte"
 
 -- What is wrong with an instruction that fails, by the registers and the buffer before it
-unfoldable pub fault_words : FaultKind → Option ℕ → Result Insn FaultKind → Front → List ℕ
+unfoldable pub fault_words : FaultKind → Option ℕ → Result ChipInsn FaultKind → Front → List ℕ
 fault_words UndefInstr first next f = undefined_words (chip_only_at first)
 fault_words OperandInvalid first next f = refused_words next f
 fault_words MfifoErr first next f =
@@ -132,19 +162,20 @@ fault_words DataWriteErr first next f = codes "it can't store " ++ span_text (sp
 fault_words DataReadErr first next f = codes "it can't load " ++ span_text (span_at (source_of (registers_of f)))
 
 -- the same after the fault's name and bit
-unfoldable pub fault_text : FaultKind → Option ℕ → Result Insn FaultKind → Front → List ℕ
+unfoldable pub fault_text : FaultKind → Option ℕ → Result ChipInsn FaultKind → Front → List ℕ
 fault_text kind first next f =
     fault_name kind ++ (codes " (FTR bit " ++ decimal (fault_bit kind)) ++ (codes "): " ++ fault_words kind first next f)
 
 -- ---- causes
 
 -- why an instruction is part of no copy, by the registers and the buffer before it, after this number of others
-unfoldable pub cause_text : Cause → Option ℕ → Result Insn FaultKind → ℕ → Front → List ℕ
+unfoldable pub cause_text : Cause → Option ℕ → Result ChipInsn FaultKind → ℕ → Front → List ℕ
 cause_text causes.TooLong first next n f = codes "the program has more than 8192 bytes"
 cause_text (causes.Fails kind) first next n f = fault_text kind first next f
 cause_text causes.LoadsPast first next n f = codes "the load ends above 2^32: " ++ span_text (span_at (source_of (registers_of f)))
 cause_text causes.StoresPast first next n f = codes "the store ends above 2^32: " ++ span_text (span_at (destination_of (registers_of f)))
 cause_text causes.StoresFixed first next n f = codes "the destination is fixed: each beat overwrites the one before"
+cause_text causes.StoresZeros first next n f = codes "it stores zeros, and nothing that was loaded"
 cause_text causes.DropsBytes first next n f = codes "a chip drops what the buffer holds: " ++ bytes_text f.held
 cause_text causes.BytesLeft first next n f = codes "left over in the buffer: " ++ bytes_text f.held
 cause_text causes.StoresTwice first next n f = codes "a byte is stored twice"
@@ -155,7 +186,7 @@ cause_text causes.NoMemory first next n f = codes "out of memory"
 -- ---- refusals
 
 -- ` offset 0x000C: DMAST (instruction 17): `, for an instruction after n others
-unfoldable pub place_text : Option ℕ → Result Insn FaultKind → ℕ → ℕ → List ℕ
+unfoldable pub place_text : Option ℕ → Result ChipInsn FaultKind → ℕ → ℕ → List ℕ
 place_text first next pc n =
     codes " offset " ++ offset_text pc ++ (codes ": " ++ next_text first next) ++ (codes " (instruction " ++ decimal (n + 1) ++ codes "): ")
 
@@ -166,7 +197,7 @@ state_text f stored =
 
 -- The lines of an instruction that is refused after n others: where it is and why, then the registers before it, and
 -- how many bytes were stored before it.
-abbrev pub refusal_text : List ℕ → Option ℕ → Result Insn FaultKind → ℕ → Front → ℕ → List ℕ
+abbrev pub refusal_text : List ℕ → Option ℕ → Result ChipInsn FaultKind → ℕ → Front → ℕ → List ℕ
 refusal_text why first next n f stored = place_text first next f.pc n ++ why ++ state_text f stored
 
 -- the line of a program that is too long

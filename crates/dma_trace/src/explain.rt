@@ -4,7 +4,7 @@
 ghost use Rattle.std.specs.Prelude.{◌≡◌, ◌<◌, ◌≤◌, ◌++◌, ℕ, OnOk, OnErr, IfOk, flat_map, length};
 ghost use Rattle.dma_insn.specs.AssemblyText.{most_program_bytes};
 ghost use Rattle.dma_chan.specs.Explains.{GoesOn, next_in, traced};
-ghost use Rattle.dma_chan.specs.Next.{next_of};
+ghost use Rattle.dma_chan.specs.Next.{next_on};
 ghost use Rattle.dma_text.specs.Text.{Begins};
 ghost use Rattle.dma_trace.specs.Explained.{Appends, bursts_text, unexplained_text, destination_line, event_line, explained_text, source_line};
 ghost use Rattle.dma_trace.specs.Front.{front_at};
@@ -19,8 +19,8 @@ use dma_chan::bus::Bus;
 use dma_chan::explain as runs;
 use dma_chan::explain::{BurstCounts, Cause, Explained, Happening, Repeated, Sync, Unexplained};
 use dma_chan::turn::FaultKind;
-use dma_insn::codec::{DecodeFault, decode};
-use dma_insn::insn::Insn;
+use dma_insn::chip::{ChipInsn, decode_chip, decode_core};
+use dma_insn::codec::DecodeFault;
 use dma_mem::segment::Segment;
 use dma_text::progress::Progress;
 use dma_text::text::{Text, print};
@@ -164,14 +164,19 @@ impl Text for Copies<'_> {
 }
 
 // Returns the next instruction of a program, or the fault of fetching it.
-fn ahead(program: &[u8], pc: u32) -> Result<Insn, FaultKind>
-    ensures value { result ≡ next_of program.now pc }
+fn ahead(bus: Bus, program: &[u8], pc: u32) -> Result<ChipInsn, FaultKind>
+    ensures value { result ≡ next_on bus program.now pc }
     ensures within { OnOk result (pc ≤ length program.now) }
 {
     if pc as usize > program.len() {
         return Err(FaultKind::InstrFetchErr);
     }
-    match decode(&program[pc as usize..]) {
+    let bytes = &program[pc as usize..];
+    let found = match bus {
+        Bus::Ideal => decode_core(bytes),
+        Bus::Chip(_) => decode_chip(bytes),
+    };
+    match found {
         Ok((insn, _)) => Ok(insn),
         Err(DecodeFault::Cut) => Err(FaultKind::InstrFetchErr),
         Err(DecodeFault::Unknown(_)) => Err(FaultKind::UndefInstr),
@@ -198,7 +203,7 @@ fn reached<P: Progress>(
     let mut touches = Touches::none();
     for done in 0..steps {
         report(progress, done);
-        let Ok(insn) = ahead(program, front.pc) else {
+        let Ok(insn) = ahead(front.bus, program, front.pc) else {
             unreachable!()
         };
         touches.add(&insn, addr, done + 1, &front);
@@ -225,7 +230,7 @@ fn print_cause<P: Progress>(
     let (front, touches) = reached(program, bus, found.steps, found.addr, progress);
     let first = first_byte(program, front.pc);
     let at = Point {
-        ahead: ahead(program, front.pc),
+        ahead: ahead(front.bus, program, front.pc),
         steps: found.steps,
         front,
     };

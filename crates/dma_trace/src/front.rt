@@ -2,15 +2,16 @@
 
 ghost use Rattle.std.specs.Prelude.{◌≡◌, ◌+◌, ◌-◌, ◌*◌, ◌≤◌, length};
 ghost use Rattle.dma_insn.specs.AssemblyText.{most_program_bytes};
-ghost use Rattle.dma_insn.specs.Spelling.{spelling};
-ghost use Rattle.dma_insn.specs.declared.insn.Insn.TheVariants.{Ld, Lp, LpEnd, Mov, St};
+ghost use Rattle.dma_insn.specs.Chip.{spelling};
+ghost use Rattle.dma_insn.specs.declared.chip.ChipInsn.TheVariants.{Ld, Lp, LpEnd, Mov, St, StoreZeros, AddHalfword};
 ghost use Rattle.dma_chan.specs.Bursts.{burst_at, burst_len};
 ghost use Rattle.dma_chan.specs.Exec.{buffer_size, counter_of, destination_of, moved, source_of, start_on, with_counter};
 ghost use Rattle.dma_trace.specs.Touches.{has_addr};
 ghost use Rattle.dma_trace.specs.Front.{front_of, held_after, registers_of, span_at};
 
 use dma_chan::bus::Bus;
-use dma_insn::insn::{Counter, Insn, Reg, Times};
+use dma_insn::chip::{Address, ChipInsn};
+use dma_insn::insn::{Counter, Reg, Times};
 
 /// The lowest bit of the source's fields in the control word (DMA-330 manual, channel control registers).
 const SOURCE: u32 = 0;
@@ -216,23 +217,57 @@ impl Front {
         self.pc += 1;
     }
 
+    // Executes DMASTZ.
+    fn zero(&mut self)
+        requires pc { self.old.pc + 1 ≤ most_program_bytes }
+        ensures registers { registers_of self.new ≡ moved StoreZeros (registers_of self.old) }
+        ensures held { self.new.held ≡ self.old.held }
+    {
+        let stores = self.stores();
+        self.dar = self.dar.wrapping_add(stores.advance);
+        self.pc += 1;
+    }
+
+    // Executes DMAADDH or DMAADNH.
+    fn add(&mut self, address: Address, half: u16, negative: bool)
+        requires { self.old.pc + 3 ≤ most_program_bytes }
+        ensures registers { registers_of self.new
+            ≡ moved (AddHalfword address half negative) (registers_of self.old) }
+        ensures held { self.new.held ≡ self.old.held }
+    {
+        let high = if negative { 0xffff_0000 } else { 0 };
+        let number = u32::from(half) + high;
+        match address {
+            Address::Source => self.sar = self.sar.wrapping_add(number),
+            Address::Destination => self.dar = self.dar.wrapping_add(number),
+        }
+        self.pc += 3;
+    }
+
     /// Executes an instruction without memory: the registers and the number of bytes in the buffer become those after
     /// it. DMAEND changes nothing.
-    pub fn advance(&mut self, insn: Insn)
+    pub fn advance(&mut self, insn: ChipInsn)
         requires pc { self.old.pc + length (spelling insn) ≤ most_program_bytes }
         requires room { held_after insn (registers_of self.old) self.old.held ≤ buffer_size }
         ensures registers { registers_of self.new ≡ moved insn (registers_of self.old) }
         ensures held { self.new.held ≡ held_after insn (registers_of self.old) self.old.held }
     {
         match insn {
-            Insn::Mov(reg, value) => self.set(reg, value),
-            Insn::Ld => self.load(),
-            Insn::St => self.store(),
-            Insn::Lp { counter, times } => self.begin_loop(counter, times),
-            Insn::LpEnd { counter, back } => self.end_loop(counter, back),
-            Insn::Sev(_) | Insn::Wfe { .. } => self.pc += 2,
-            Insn::Rmb | Insn::Wmb | Insn::Nop => self.pc += 1,
-            Insn::End => {}
+            ChipInsn::Mov(reg, value) => self.set(reg, value),
+            ChipInsn::Ld => self.load(),
+            ChipInsn::St => self.store(),
+            ChipInsn::Lp { counter, times } => self.begin_loop(counter, times),
+            ChipInsn::LpEnd { counter, back } => self.end_loop(counter, back),
+            ChipInsn::Sev(_) | ChipInsn::Wfe { .. } => self.pc += 2,
+            ChipInsn::Rmb | ChipInsn::Wmb | ChipInsn::Nop => self.pc += 1,
+            ChipInsn::End => {}
+            ChipInsn::StoreZeros => self.zero(),
+            ChipInsn::AddHalfword {
+                address,
+                half,
+                negative,
+            } => self.add(address, half, negative),
+            ChipInsn::LoopAgain { back, .. } => self.pc = self.pc.saturating_sub(u32::from(back)),
         }
     }
 }

@@ -9,9 +9,8 @@ ghost use Rattle.dma_trace.specs.Traced.{burst_text, dump_text, line_text, moves
 use crate::amounts::Offset;
 use crate::front::{Front, Span};
 use crate::options::TraceOptions;
-use crate::words::Point;
-use dma_insn::insn::Insn;
-use dma_manual::manual::Manual;
+use crate::words::{ChipManual, Point};
+use dma_insn::chip::ChipInsn;
 use dma_mem::regions::{Region, copy_run};
 use dma_mem::segment::Segment;
 use dma_text::text::{Address, SpacedBytes, Text};
@@ -57,7 +56,7 @@ fn push_burst(
 #[tactic(auto, using(dma_text::proofs::Begun::begins_same, dma_text::proofs::Begun::begins_appended, dma_text::proofs::Begun::begins_more), unfolding(crate::specs::Traced::moves_text))]
 fn push_moves(
     alloc: Global,
-    insn: &Insn,
+    insn: &ChipInsn,
     before: &Front,
     regions: &[Region<'_>],
     out: &mut Vec<u8>,
@@ -67,8 +66,8 @@ fn push_moves(
     ensures begins { Begins out.new.items out.old.items }
 {
     match *insn {
-        Insn::Ld => push_burst(alloc, "; loaded ", before.loads(), regions, out),
-        Insn::St => push_burst(alloc, "; stored ", before.stores(), regions, out),
+        ChipInsn::Ld => push_burst(alloc, "; loaded ", before.loads(), regions, out),
+        ChipInsn::St => push_burst(alloc, "; stored ", before.stores(), regions, out),
         _ => Ok(()),
     }
 }
@@ -77,7 +76,7 @@ fn push_moves(
 #[derive(Drop)]
 struct Step<'a> {
     number: u64,
-    insn: &'a Insn,
+    insn: &'a ChipInsn,
     pc: u32,
     after: &'a Front,
 }
@@ -88,7 +87,7 @@ impl Text for Step<'_> {
     #[tactic(auto, unfolding(crate::specs::Traced::step_text))]
     fn push(&self, out: &mut Vec<u8>) -> Result<(), AllocError> {
         let place = (self.number, " ", Offset(self.pc));
-        (place, (" ", Manual(*self.insn)), ("; ", *self.after)).push(out)
+        (place, (" ", ChipManual(*self.insn)), ("; ", *self.after)).push(out)
     }
 }
 
@@ -96,7 +95,7 @@ impl Text for Step<'_> {
 fn push_line<'a>(
     alloc: Global,
     number: u64,
-    insn: &'a Insn,
+    insn: &'a ChipInsn,
     before: &Front,
     after: &'a Front,
     regions: &[Region<'_>],

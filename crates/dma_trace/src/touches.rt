@@ -7,7 +7,7 @@ ghost use Rattle.dma_trace.specs.Touches.{access_text, after_touch, conflict_tex
 use crate::amounts::Offset;
 use crate::front::Front;
 use dma_chan::explain::Cause;
-use dma_insn::insn::Insn;
+use dma_insn::chip::ChipInsn;
 use dma_text::text::{Address, Text};
 use std::alloc::AllocError;
 
@@ -54,7 +54,7 @@ impl Touches {
     }
 
     /// Adds an instruction with this number, by the registers before it.
-    pub fn add(&mut self, insn: &Insn, addr: u32, number: u32, before: &Front)
+    pub fn add(&mut self, insn: &ChipInsn, addr: u32, number: u32, before: &Front)
         ensures { self.new ≡ after_touch insn.now addr number before.now self.old }
     {
         let access = Access {
@@ -62,12 +62,12 @@ impl Touches {
             pc: before.pc,
         };
         match *insn {
-            Insn::Ld => {
+            ChipInsn::Ld => {
                 if before.loads().has(addr) {
                     self.add_load(access);
                 }
             }
-            Insn::St => {
+            ChipInsn::St => {
                 if before.stores().has(addr) {
                     self.add_store(access);
                 }

@@ -25,7 +25,7 @@ use dma_chan::explain::Cause;
 use dma_chan::lent::step_regions;
 use dma_chan::program::MAX_PROGRAM_BYTES;
 use dma_chan::turn::ChanTurn;
-use dma_insn::insn::Insn;
+use dma_insn::chip::ChipInsn;
 use dma_mem::events::Events;
 use dma_mem::marks::{MarkKind, Marks};
 use dma_mem::regions::Region;
@@ -69,7 +69,7 @@ fn failing_marks(alloc: Global, failing: &[Segment]) -> Result<Marks, AllocError
 }
 
 // Returns an instruction that was fetched.
-fn insn_of(at: &Point) -> Insn
+fn insn_of(at: &Point) -> ChipInsn
     requires { IsOk at.now.ahead }
     ensures { at.now.ahead ≡ Ok result }
 {

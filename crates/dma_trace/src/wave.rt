@@ -13,7 +13,7 @@ use crate::vcd::SignalLine;
 use crate::words::Point;
 use dma_chan::channel::Channel;
 use dma_chan::turn::{ChanTurn, FaultKind};
-use dma_insn::insn::Insn;
+use dma_insn::chip::ChipInsn;
 use dma_text::text::Text;
 use std::alloc::AllocError;
 
@@ -47,52 +47,52 @@ fn ftr_of(answer: &Option<ChanTurn>) -> u32
 }
 
 // Returns 1 at a DMALD, else 0.
-fn load_bit(ahead: &Result<Insn, FaultKind>) -> u32
+fn load_bit(ahead: &Result<ChipInsn, FaultKind>) -> u32
     ensures { result ≡ load_bit ahead.now }
 {
     match *ahead {
-        Ok(Insn::Ld) => 1,
+        Ok(ChipInsn::Ld) => 1,
         _ => 0,
     }
 }
 
 // Returns 1 at a DMAST, else 0.
-fn store_bit(ahead: &Result<Insn, FaultKind>) -> u32
+fn store_bit(ahead: &Result<ChipInsn, FaultKind>) -> u32
     ensures { result ≡ store_bit ahead.now }
 {
     match *ahead {
-        Ok(Insn::St) => 1,
+        Ok(ChipInsn::St) => 1,
         _ => 0,
     }
 }
 
 // Returns 1 at a DMASEV, else 0.
-fn signal_bit(ahead: &Result<Insn, FaultKind>) -> u32
+fn signal_bit(ahead: &Result<ChipInsn, FaultKind>) -> u32
     ensures { result ≡ signal_bit ahead.now }
 {
     match *ahead {
-        Ok(Insn::Sev(_)) => 1,
+        Ok(ChipInsn::Sev(_)) => 1,
         _ => 0,
     }
 }
 
 // Returns 1 at a DMAWFE, else 0.
-fn wait_bit(ahead: &Result<Insn, FaultKind>) -> u32
+fn wait_bit(ahead: &Result<ChipInsn, FaultKind>) -> u32
     ensures { result ≡ wait_bit ahead.now }
 {
     match *ahead {
-        Ok(Insn::Wfe { .. }) => 1,
+        Ok(ChipInsn::Wfe { .. }) => 1,
         _ => 0,
     }
 }
 
 // Returns the event of a DMASEV or DMAWFE, else 0.
-fn event_of(ahead: &Result<Insn, FaultKind>) -> u32
+fn event_of(ahead: &Result<ChipInsn, FaultKind>) -> u32
     ensures { result ≡ event_of ahead.now }
 {
     match *ahead {
-        Ok(Insn::Sev(event)) => u32::from(event.number()),
-        Ok(Insn::Wfe { event, .. }) => u32::from(event.number()),
+        Ok(ChipInsn::Sev(event)) => u32::from(event.number()),
+        Ok(ChipInsn::Wfe { event, .. }) => u32::from(event.number()),
         _ => 0,
     }
 }

@@ -5,13 +5,14 @@ ghost use Rattle.std.specs.Prelude.{◌≡◌, ◌<◌, ◌++◌, OnOk, Result, 
 ghost use Rattle.std.specs.Option.{option_map};
 ghost use Rattle.dma_chan.specs.declared.turn.FaultKind.{FaultKind};
 ghost use Rattle.dma_text.specs.Text.{Begins};
-ghost use Rattle.dma_trace.specs.Words.{cause_text, chip_only_at, control_text, control_words, end_text, fault_name, fault_text, fault_words, fetch_words, front_text, long_text, next_text, operand_words, place_text, refused_words, state_text, undefined_words};
+ghost use Rattle.dma_trace.specs.Words.{add_text, address_text, cause_text, chip_text, chip_only_at, control_text, control_words, end_text, fault_name, fault_text, fault_words, fetch_words, front_text, long_text, next_text, operand_words, place_text, refused_words, state_text, undefined_words};
 
 use crate::amounts::{Bytes, Instructions, Offset};
 use crate::front::Front;
 use dma_chan::bus::Bus;
 use dma_chan::explain::Cause;
 use dma_chan::turn::FaultKind;
+use dma_insn::chip::{self, ChipInsn};
 use dma_insn::insn::Insn;
 use dma_manual::chip_only::chip_only_name;
 use dma_manual::manual::Manual;
@@ -83,7 +84,7 @@ impl Text for Front {
 #[derive(Clone, Copy)]
 pub struct Point {
     /// The instruction, or the fault of fetching it.
-    pub ahead: Result<Insn, FaultKind>,
+    pub ahead: Result<ChipInsn, FaultKind>,
     /// How many instructions were executed before it.
     pub steps: u32,
     /// The registers.
@@ -104,10 +105,64 @@ fn chip_only_at(first: Option<u8>) -> Option<&'static str>
     chip_only_name(first?)
 }
 
+// Returns the name of an address register.
+fn address_text(address: chip::Address) -> &'static str
+    ensures { result.now ≡ address_text address }
+{
+    match address {
+        chip::Address::Source => "SAR",
+        chip::Address::Destination => "DAR",
+    }
+}
+
+// Returns the mnemonic of DMAADDH or DMAADNH.
+fn add_text(negative: bool) -> &'static str
+    ensures { result.now ≡ add_text negative }
+{
+    if negative { "DMAADNH " } else { "DMAADDH " }
+}
+
+/// An instruction of a chip in the manual's syntax.
+#[derive(Clone, Copy)]
+pub struct ChipManual(pub ChipInsn);
+
+impl Text for ChipManual {
+    ghost text = { λ m. chip_text m.0 };
+
+    #[tactic(auto, unfolding(crate::specs::Words::chip_text))]
+    fn push(&self, out: &mut Vec<u8>) -> Result<(), AllocError> {
+        match self.0 {
+            ChipInsn::End => Manual(Insn::End).push(out),
+            ChipInsn::Ld => Manual(Insn::Ld).push(out),
+            ChipInsn::St => Manual(Insn::St).push(out),
+            ChipInsn::Rmb => Manual(Insn::Rmb).push(out),
+            ChipInsn::Wmb => Manual(Insn::Wmb).push(out),
+            ChipInsn::Nop => Manual(Insn::Nop).push(out),
+            ChipInsn::Lp { counter, times } => Manual(Insn::Lp { counter, times }).push(out),
+            ChipInsn::LpEnd { counter, back } => Manual(Insn::LpEnd { counter, back }).push(out),
+            ChipInsn::Sev(event) => Manual(Insn::Sev(event)).push(out),
+            ChipInsn::Wfe { event, invalid } => Manual(Insn::Wfe { event, invalid }).push(out),
+            ChipInsn::Mov(reg, value) => Manual(Insn::Mov(reg, value)).push(out),
+            ChipInsn::StoreZeros => "DMASTZ".push(out),
+            ChipInsn::AddHalfword {
+                address,
+                half,
+                negative,
+            } => (
+                add_text(negative),
+                (address_text(address), ", "),
+                u64::from(half),
+            )
+                .push(out),
+            ChipInsn::LoopAgain { back, .. } => ("DMALPEND for ever, back ", back).push(out),
+        }
+    }
+}
+
 /// The next instruction, or that there is none, with its first byte.
 #[derive(Drop)]
 struct Ahead<'a> {
-    next: &'a Result<Insn, FaultKind>,
+    next: &'a Result<ChipInsn, FaultKind>,
     first: Option<u8>,
 }
 
@@ -116,7 +171,7 @@ impl Text for Ahead<'_> {
 
     fn push(&self, out: &mut Vec<u8>) -> Result<(), AllocError> {
         match *self.next {
-            Ok(insn) => Manual(insn).push(out),
+            Ok(insn) => ChipManual(insn).push(out),
             Err(_) => chip_only_at(self.first)
                 .unwrap_or("no instruction")
                 .push(out),
@@ -152,12 +207,12 @@ fn push_control(bus: Bus, bits: u32, out: &mut Vec<u8>) -> Result<(), AllocError
 }
 
 // Appends why an instruction that was decoded has a refused operand.
-fn push_operand(bus: Bus, insn: Insn, out: &mut Vec<u8>) -> Result<(), AllocError>
+fn push_operand(bus: Bus, insn: ChipInsn, out: &mut Vec<u8>) -> Result<(), AllocError>
     ensures ok { OnOk result (out.new.items ≡ out.old.items ++ operand_words insn bus) }
     ensures begins { Begins out.new.items out.old.items }
 {
     match insn {
-        Insn::Mov(_, bits) => push_control(bus, bits, out),
+        ChipInsn::Mov(_, bits) => push_control(bus, bits, out),
         _ => "a field is outside its range".push(out),
     }
 }
@@ -175,7 +230,7 @@ fn push_refused(at: &Point, out: &mut Vec<u8>) -> Result<(), AllocError>
 }
 
 // Returns why no instruction is fetched.
-fn fetch_words(ahead: &Result<Insn, FaultKind>) -> &'static str
+fn fetch_words(ahead: &Result<ChipInsn, FaultKind>) -> &'static str
     ensures { result.now ≡ fetch_words ahead.now }
 {
     match ahead {
@@ -282,6 +337,7 @@ impl Text for Why<'_> {
             Cause::StoresFixed => {
                 "the destination is fixed: each beat overwrites the one before".push(out)
             }
+            Cause::StoresZeros => "it stores zeros, and nothing that was loaded".push(out),
             Cause::DropsBytes => ("a chip drops what the buffer holds: ", held).push(out),
             Cause::BytesLeft => ("left over in the buffer: ", held).push(out),
             Cause::StoresTwice => "a byte is stored twice".push(out),

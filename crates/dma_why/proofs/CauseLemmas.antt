@@ -2,8 +2,8 @@
 use Rattle.std.proofs.Common.{◌≡◌, ℕ, ◌<◌, Option, Some, None, false, refl, arith, inl, inr, ◌⊎◌}
 use Rattle.std.specs.Prelude.{◌==◌, nat_le, Result, Ok}
 use Rattle.std.proofs.lemmas.Bool.{cond_both, lt-leb, ne_eqb}
-use Rattle.dma_insn.specs.declared.insn.Insn.{Insn}
-use Rattle.dma_insn.specs.declared.insn.Insn.TheVariants.{Ld, St, Wfe}
+use Rattle.dma_insn.specs.declared.chip.ChipInsn.{ChipInsn}
+use Rattle.dma_insn.specs.declared.chip.ChipInsn.TheVariants.{Ld, St, Wfe}
 use Rattle.dma_mem.specs.Places.{Descriptor}
 use Rattle.dma_mem.specs.Marking.{meets_mark}
 use Rattle.dma_mem.specs.declared.marks.MarkKind.TheVariants.{Reading, Writing}
@@ -29,7 +29,7 @@ start_cause : (v : View) (ch : ℕ) (x : Option RunningTransfer) → Caused (sta
 start_cause v ch None h = absurd h
 start_cause v ch (Some r) h = inl (r.ch, r.cookie, refl)
 
-insn_cause : (v : View) (ch n : ℕ) (t : Descriptor) (i : Insn) → Caused (insn_turn v ch t n i)
+insn_cause : (v : View) (ch n : ℕ) (t : Descriptor) (i : ChipInsn) → Caused (insn_turn v ch t n i)
 insn_cause v ch n t Ld =
     cond_both {A = Stepped} (meets_mark Reading (object_of v).marks (read_places t n)) _ _ Caused (λ _ h. absurd h) (λ _ h. absurd h)
 insn_cause v ch n t St =

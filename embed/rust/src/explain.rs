@@ -115,10 +115,12 @@ pub enum Cause {
     StoresSource,
     /// No DMAEND is among the first `most` instructions.
     NoEnd,
+    /// A DMASTZ stores zeros, and no bytes that were loaded. Not for [`Bus::Channel`].
+    StoresZeros,
 }
 
 // The numbers of dma330.h.
-const CAUSES: [(u32, Cause); 13] = [
+const CAUSES: [(u32, Cause); 14] = [
     (1, Cause::UndefInstr),
     (2, Cause::OperandInvalid),
     (3, Cause::MfifoErr),
@@ -132,6 +134,7 @@ const CAUSES: [(u32, Cause); 13] = [
     (13, Cause::StoresTwice),
     (14, Cause::StoresSource),
     (15, Cause::NoEnd),
+    (16, Cause::StoresZeros),
 ];
 
 impl Cause {
@@ -157,6 +160,7 @@ impl fmt::Display for Cause {
             Cause::StoresTwice => "a byte was stored twice",
             Cause::StoresSource => "a byte was stored at an address that was read",
             Cause::NoEnd => "no DMAEND is among the instructions that were allowed",
+            Cause::StoresZeros => "a DMASTZ stores zeros, and no bytes that were loaded",
         })
     }
 }

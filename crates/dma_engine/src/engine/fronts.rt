@@ -7,7 +7,7 @@ ghost use Rattle.dma_engine.specs.Object.{channel};
 ghost use Rattle.dma_engine.specs.View.{object_of};
 
 use crate::engine::Engine;
-use dma_insn::insn::Insn;
+use dma_insn::chip::ChipInsn;
 use dma_mem::transfer::Transfer;
 
 impl Engine {
@@ -39,7 +39,7 @@ impl Engine {
         let Ok(next) = queue.channel.next() else {
             unreachable!();
         };
-        let Insn::End = next.insn() else {
+        let ChipInsn::End = next.insn() else {
             return false;
         };
         // A front that signals does it right before its end.

@@ -12,7 +12,7 @@ use crate::fault::EngineFault;
 use crate::outcome::TransResult;
 use crate::turn::Turn;
 use dma_chan::next::Next;
-use dma_insn::insn::Insn;
+use dma_insn::chip::ChipInsn;
 
 impl Engine {
     /// Returns the result of the next [`Engine::step`] of a channel if memory doesn't run out. Nothing changes.
@@ -35,9 +35,9 @@ impl Engine {
             return Err(EngineFault::StepsSpent);
         };
         match next.insn() {
-            Insn::Wfe { event, .. } => Ok(self.next_wait(ch, event.number())),
-            Insn::Sev(_) => Ok(Turn::Moved),
-            Insn::End => Ok(self.next_finish(ch, TransResult::NoError)),
+            ChipInsn::Wfe { event, .. } => Ok(self.next_wait(ch, event.number())),
+            ChipInsn::Sev(_) => Ok(Turn::Moved),
+            ChipInsn::End => Ok(self.next_finish(ch, TransResult::NoError)),
             _ => match self.next_failure(ch, next) {
                 None => Ok(Turn::Moved),
                 Some(how) => Ok(self.next_finish(ch, how)),

@@ -1,4 +1,4 @@
-use Rattle.dma_insn.specs.declared.insn.Insn.TheVariants.{Ld}
+use Rattle.dma_insn.specs.declared.chip.ChipInsn.TheVariants.{Ld}
 use Rattle.dma_mem.specs.Lent.{with_gaps}
 use Rattle.dma_chan.proofs.ActCases.{faulted}
 use Rattle.dma_chan.proofs.bursts.load_burst.Goals as goal

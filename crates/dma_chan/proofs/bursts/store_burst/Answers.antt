@@ -1,4 +1,4 @@
-use Rattle.dma_insn.specs.declared.insn.Insn.TheVariants.{St}
+use Rattle.dma_insn.specs.declared.chip.ChipInsn.TheVariants.{St}
 use Rattle.dma_mem.specs.Lent.{with_gaps}
 use Rattle.dma_chan.proofs.ActCases.{faulted}
 use Rattle.dma_chan.proofs.bursts.store_burst.Goals as goal

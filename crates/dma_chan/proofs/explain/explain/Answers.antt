@@ -1,10 +1,10 @@
-use Rattle.std.proofs.Common.{◌≡◌, ℕ, ◌+◌, arith, inr, refl, ap, subst, ◌∙◌, Ok, Err}
-use Rattle.dma_insn.specs.declared.insn.Insn.TheVariants.{End}
+use Rattle.std.proofs.Common.{◌≡◌, ℕ, ◌+◌, arith, inr, refl, ap, sym, subst, ◌∙◌, Ok, Err, Some}
+use Rattle.dma_insn.specs.declared.chip.ChipInsn.TheVariants.{End}
 use Rattle.dma_mem.specs.Places.{places}
-use Rattle.dma_chan.specs.declared.explain.Cause.TheVariants.{Fails, NoEnd}
+use Rattle.dma_chan.specs.declared.explain.Cause.TheVariants.{Fails, NoEnd, NoMemory, TooLong}
 use Rattle.dma_chan.specs.Explains.{unrolled}
 use Rattle.dma_chan.specs.inner.Tracing.{Follows, trace_of}
-use Rattle.dma_chan.proofs.Explaining.{counts_bursts, finds, follows_new, has_none, refuses, stops_here}
+use Rattle.dma_chan.proofs.Explaining.{counts_bursts, finds, follows_new, has_none, never_long, refuses, stops_here}
 use Rattle.dma_chan.proofs.explain.explain.Goals as goal
 
 pub returns-in-Ok-finish-clause-ok : goal.returns-in-Ok-finish-clause-ok
@@ -76,3 +76,12 @@ returns-clause-err c = λ _ _.
     let all : now.steps ≡ c.args.most = omega (arith, now.invariant.few, c.loop-steps-test.false) in
     let follows = subst (λ (n : ℕ). Follows c.args.bus c.args.program.now n now.tracer) all now.invariant.follows in
     refuses c.args.bus c.args.program.now c.args.most c.args.most now.tracer NoEnd 0 follows (inr (refl, refl)) refl
+
+pub returns-in-Err-run-clause-long : goal.returns-in-Err-run-clause-long
+returns-in-Err-run-clause-long c = (
+  λ long.
+      let cause = c.in-Err-run.cause in
+      let stop = c.in-Err-run.ensures.err (λ memory. let bad : TooLong ≡ NoMemory = sym long ∙ memory in cc) in
+      absurd (never_long c.in-Ok.next (trace_of c.loop-steps.tracer) (λ e. c.in_default.not-End (c.insn.ensures ∙ e)) (stop ∙ ap Some long)),
+  λ big. absurd (omega (arith, big, c.if-program-gt-MAX_PROGRAM_BYTES.false)),
+)

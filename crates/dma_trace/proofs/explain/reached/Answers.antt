@@ -5,7 +5,7 @@ use Rattle.dma_trace.proofs.explain.reached.Goals as goal
 
 pub advance-requires-clause-pc : goal.advance-requires-clause-pc
 advance-requires-clause-pc g c =
-    omega (arith, c.requires.long, next_fits c.args.program.now c.loop-done.front.pc c.in-Ok.insn c.in-Ok.ensures.within (sym c.in-Ok.ensures.value))
+    omega (arith, c.requires.long, next_fits c.loop-done.front.bus c.args.program.now c.loop-done.front.pc c.in-Ok.insn c.in-Ok.ensures.within (sym c.in-Ok.ensures.value))
 
 pub advance-requires-clause-room : goal.advance-requires-clause-room
 advance-requires-clause-room g c =

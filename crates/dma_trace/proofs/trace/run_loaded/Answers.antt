@@ -1,6 +1,6 @@
 use Rattle.std.proofs.Common.{◌≡◌, ◌+◌, ◌++◌, Result, IsSome, refl, sym, ap, subst, ◌∙◌, arith}
 use Rattle.dma_text.proofs.Begun.{begins_appended, begins_more, begins_same}
-use Rattle.dma_insn.specs.declared.insn.Insn.{Insn}
+use Rattle.dma_insn.specs.declared.chip.ChipInsn.{ChipInsn}
 use Rattle.dma_mem.specs.Regions.{image_of, pieces_of}
 use Rattle.dma_chan.specs.declared.turn.FaultKind.{FaultKind}
 use Rattle.dma_chan.specs.Channel.{ChannelValue, ahead_of}
@@ -81,7 +81,7 @@ loop-steps-preserved g c =
       order = in_order_kept first c.step-turn.new.regions (turn.places ∙ w.places) c.requires.order;
       registers = c.advance.ensures.registers;
       more = c.advance.ensures.held;
-      text = c.in_ok-push_step.ensures.ok ∙ ap (λ (r : Result Insn FaultKind). now.out.items ++ shown_line o (now.steps + 1) r now.front front (pieces_of c.step-turn.new.regions)) c.insn_of.ensures;
+      text = c.in_ok-push_step.ensures.ok ∙ ap (λ (r : Result ChipInsn FaultKind). now.out.items ++ shown_line o (now.steps + 1) r now.front front (pieces_of c.step-turn.new.regions)) c.insn_of.ensures;
     }) in
     record {
       goes = next;

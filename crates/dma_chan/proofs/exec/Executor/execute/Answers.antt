@@ -15,3 +15,9 @@ returns-in-Sev-clause-exact g c = rw (← c.insn.ensures, c.in-Sev.is) (c.signal
 
 pub returns-in-Wfe-clause-exact : goal.returns-in-Wfe-clause-exact
 returns-in-Wfe-clause-exact g c = rw (← c.insn.ensures, c.in-Wfe.is) (c.wait.ensures.exact (with_gaps (g.M.Ram.loan c.args.memory.now) c.args.marks.now) c.args.self.now.buffer.items (g.M.Ram.paged c.args.memory.now).image)
+
+pub returns-in-AddHalfword-clause-exact : goal.returns-in-AddHalfword-clause-exact
+returns-in-AddHalfword-clause-exact g c = rw (← c.insn.ensures, c.in-AddHalfword.is) (c.add_halfword.ensures.exact (with_gaps (g.M.Ram.loan c.args.memory.now) c.args.marks.now) c.args.self.now.buffer.items (g.M.Ram.paged c.args.memory.now).image c.args.events.now)
+
+pub returns-in-LoopAgain-clause-exact : goal.returns-in-LoopAgain-clause-exact
+returns-in-LoopAgain-clause-exact g c = rw (← c.insn.ensures, c.in-LoopAgain.is) (c.loop_again.ensures.exact c.in-LoopAgain.counter (with_gaps (g.M.Ram.loan c.args.memory.now) c.args.marks.now) c.args.self.now.buffer.items (g.M.Ram.paged c.args.memory.now).image c.args.events.now)

@@ -1,6 +1,6 @@
 use Rattle.std.proofs.Common.{rules, ◌≢◌, ◌∙◌, ap, sym}
 use Rattle.std.specs.Prelude.{is_some}
-use Rattle.dma_insn.specs.declared.insn.Insn.TheVariants.{End}
+use Rattle.dma_insn.specs.declared.chip.ChipInsn.TheVariants.{End}
 use Rattle.dma_chan.specs.Exec.{fault_in}
 use Rattle.dma_chan.specs.Layer.{effect_of}
 use Rattle.dma_chan.specs.Traffic.{member, read_places, written_places}

@@ -1,6 +1,6 @@
 use Rattle.std.proofs.Common.{arith}
 use Rattle.std.proofs.lemmas.Grind.{common_steps}
-use Rattle.dma_chan.proofs.next.Next.at.Goals as goal
+use Rattle.dma_chan.proofs.next.Next.on.Goals as goal
 
 pub returns-in-Err : goal.returns-in-Err
 returns-in-Err c = grind (arith, common_steps)

@@ -1,0 +1,159 @@
+-- The instructions of a chip's channels: those of the model, and the bytes of four more (PL330 manual, instruction
+-- chapter).
+use Rattle.std.specs.Prelude.{◌≡◌, ℕ, ◌+◌, ◌-◌, ◌*◌, ◌^◌, ◌<◌, ◌≤◌, ◌==◌, Bool, true, false, List, [], ◌∷◌, ◌++◌, length, take, drop, slice_index, nat_lt, if◌then◌else◌, Result, Ok, Err}
+use Rattle.byteorder.specs.Endian.{little_bytes, little_number}
+use Rattle.dma_insn.specs.declared.chip.ChipInsn.{ChipInsn}
+use Rattle.dma_insn.specs.declared.chip.ChipInsn.TheVariants.{Mov, Ld, St, Rmb, Wmb, Nop, End, Lp, LpEnd, Sev, Wfe, StoreZeros, AddHalfword, LoopAgain}
+use Rattle.dma_insn.specs.declared.chip.Address.{Address}
+use Rattle.dma_insn.specs.declared.chip.Address.TheVariants.{Source, Destination}
+use Rattle.dma_insn.specs.declared.insn.Insn.{Insn}
+use Rattle.dma_insn.specs.declared.insn.Counter.{Counter}
+use Rattle.dma_insn.specs.declared.insn.Counter.TheVariants.{Lc0, Lc1}
+use Rattle.dma_insn.specs.declared.insn.Insn.TheVariants.{Mov as CoreMov, Ld as CoreLd, St as CoreSt, Rmb as CoreRmb, Wmb as CoreWmb, Nop as CoreNop, End as CoreEnd, Lp as CoreLp, LpEnd as CoreLpEnd, Sev as CoreSev, Wfe as CoreWfe}
+use Rattle.dma_insn.specs.declared.codec.DecodeFault.{DecodeFault}
+use Rattle.dma_insn.specs.declared.codec.DecodeFault.TheVariants.{Cut, Unknown, BadField}
+use Rattle.dma_insn.specs.Spelling.{register_byte, loop_byte, loop_end_byte, invalid_bits}
+use Rattle.dma_insn.specs.Decoding.{Decoded as CoreDecoded, decoded as core_decoded}
+
+-- an instruction of the model as one of a chip
+abbrev pub widened : Insn → ChipInsn
+widened CoreEnd = End
+widened CoreLd = Ld
+widened CoreSt = St
+widened CoreRmb = Rmb
+widened CoreWmb = Wmb
+widened CoreNop = Nop
+widened (CoreLp c n) = Lp c n
+widened (CoreLpEnd c b) = LpEnd c b
+widened (CoreSev e) = Sev e
+widened (CoreWfe e v) = Wfe e v
+widened (CoreMov r v) = Mov r v
+
+-- the first byte of DMAADDH, or of DMAADNH, by its register
+abbrev pub add_byte : Address → Bool → ℕ
+add_byte Source false = 0x54
+add_byte Destination false = 0x56
+add_byte Source true = 0x5c
+add_byte Destination true = 0x5e
+
+-- the first byte of the DMALPEND of a loop that DMALPFE begins, by its bit lc
+abbrev pub again_byte : Counter → ℕ
+again_byte Lc0 = 0x28
+again_byte Lc1 = 0x2c
+
+-- The bytes of an instruction of a chip: those of the model have the same bytes. DMASTZ has one byte. DMAADDH and
+-- DMAADNH have the number in two bytes after the first, the lower first. The DMALPEND of a loop that DMALPFE begins has
+-- the jump back in its second byte.
+abbrev pub spelling : ChipInsn → List ℕ
+spelling End = 0x00 ∷ []
+spelling Ld = 0x04 ∷ []
+spelling St = 0x08 ∷ []
+spelling Rmb = 0x12 ∷ []
+spelling Wmb = 0x13 ∷ []
+spelling Nop = 0x18 ∷ []
+spelling (Lp c n) = loop_byte c ∷ (n - 1) ∷ []
+spelling (LpEnd c b) = loop_end_byte c ∷ b ∷ []
+spelling (Sev e) = 0x34 ∷ (e * 8) ∷ []
+spelling (Wfe e v) = 0x36 ∷ (e * 8 + invalid_bits v) ∷ []
+spelling (Mov r v) = 0xbc ∷ register_byte r ∷ little_bytes 4 v
+spelling StoreZeros = 0x0c ∷ []
+spelling (AddHalfword a h n) = add_byte a n ∷ little_bytes 2 h
+spelling (LoopAgain c b) = again_byte c ∷ b ∷ []
+
+-- The ranges of the fields. The type `ChipInsn` guarantees them.
+abbrev pub HasRanges : ChipInsn → Type 0
+HasRanges End = Unit {0}
+HasRanges Ld = Unit {0}
+HasRanges St = Unit {0}
+HasRanges Rmb = Unit {0}
+HasRanges Wmb = Unit {0}
+HasRanges Nop = Unit {0}
+HasRanges (Lp c n) = (1 ≤ n) × (n ≤ 256)
+HasRanges (LpEnd c b) = b < 256
+HasRanges (Sev e) = e < 32
+HasRanges (Wfe e v) = e < 32
+HasRanges (Mov r v) = v < 2 ^ 32
+HasRanges StoreZeros = Unit {0}
+HasRanges (AddHalfword a h n) = h < 2 ^ 16
+HasRanges (LoopAgain c b) = b < 256
+
+-- an instruction is one of the model's
+abbrev pub IsCore : ChipInsn → Type 0
+IsCore StoreZeros = ⊥
+IsCore (AddHalfword a h n) = ⊥
+IsCore (LoopAgain c b) = ⊥
+IsCore i = Unit {0}
+
+-- An instruction is one of the model's, with its ranges.
+abbrev pub HasCoreRanges : ChipInsn → Type 0
+HasCoreRanges StoreZeros = ⊥
+HasCoreRanges (AddHalfword a h n) = ⊥
+HasCoreRanges (LoopAgain c b) = ⊥
+HasCoreRanges i = HasRanges i
+
+-- The first n bytes are the encoding of the instruction i, which is in range.
+pub record IsSpelledAt (bytes : List ℕ) (i : ChipInsn) (n : ℕ) : Type 0 where
+  pub in_range : HasRanges i
+  pub count_is : n ≡ length (spelling i)
+  pub bytes_are : take n bytes ≡ spelling i
+
+-- The encoding of the instruction i, which is in range, begins with this byte.
+pub record BeginsWith (i : ChipInsn) (byte : ℕ) : Type 0 where
+  pub in_range : HasRanges i
+  pub tail : List ℕ
+  pub bytes_are : spelling i ≡ byte ∷ tail
+
+-- Why bytes that begin with no instruction of a chip are refused: in the order of the model's grammar
+-- (`Spelling.IsRefusedFor`).
+abbrev pub IsRefusedFor : List ℕ → DecodeFault → Type 0
+IsRefusedFor [] Cut = Unit {0}
+IsRefusedFor [] (Unknown b) = ⊥
+IsRefusedFor [] BadField = ⊥
+IsRefusedFor (first ∷ rest) (Unknown b) = (b ≡ first) × ((i : ChipInsn) → BeginsWith i first → ⊥)
+IsRefusedFor (first ∷ rest) Cut = (i : ChipInsn) × BeginsWith i first × (length (first ∷ rest) < length (spelling i))
+IsRefusedFor (first ∷ rest) BadField = (i : ChipInsn) × BeginsWith i first × (length (spelling i) ≤ length (first ∷ rest))
+
+-- ---- decoding
+
+-- an instruction of a chip and its length in bytes, or a fault
+abbrev pub Decoded : Type 0
+Decoded = Result (ChipInsn × ℕ) DecodeFault
+
+-- the model's instruction at the front, as one of a chip
+abbrev pub widely : CoreDecoded → Decoded
+widely (Ok x) = Ok (widened x.0, x.1)
+widely (Err fault) = Err fault
+
+-- the instruction at the front of the bytes in the model's grammar
+abbrev pub decoded_core : List ℕ → Decoded
+decoded_core bytes = widely (core_decoded bytes)
+
+-- DMAADDH or DMAADNH of a register
+abbrev pub added_by : Address → Bool → List ℕ → Decoded
+added_by a n bytes =
+    if nat_lt (length bytes) 3 then Err Cut else Ok (AddHalfword a (little_number 2 (drop 1 bytes)) n, 3)
+
+-- the DMALPEND of a loop that DMALPFE begins
+abbrev pub again_by : Counter → List ℕ → Decoded
+again_by c bytes = if nat_lt (length bytes) 2 then Err Cut else Ok (LoopAgain c (slice_index bytes 1), 2)
+
+-- an instruction that only a chip has, by its first byte and all bytes
+abbrev pub beyond_core : ℕ → List ℕ → Decoded
+beyond_core b bytes =
+    if b == 0x0c then Ok (StoreZeros, 1) else (
+    if b == 0x28 then again_by Lc0 bytes else (
+    if b == 0x2c then again_by Lc1 bytes else (
+    if b == 0x54 then added_by Source false bytes else (
+    if b == 0x56 then added_by Destination false bytes else (
+    if b == 0x5c then added_by Source true bytes else (
+    if b == 0x5e then added_by Destination true bytes else Err (Unknown b)))))))
+
+-- where the model's grammar has no instruction with the first byte, a chip may have one
+abbrev pub or_beyond : List ℕ → CoreDecoded → Decoded
+or_beyond bytes (Ok x) = Ok (widened x.0, x.1)
+or_beyond bytes (Err (Unknown b)) = beyond_core b bytes
+or_beyond bytes (Err fault) = Err fault
+
+-- the instruction at the front of the bytes in a chip's grammar
+abbrev pub decoded : List ℕ → Decoded
+decoded bytes = or_beyond bytes (core_decoded bytes)
