@@ -12,10 +12,24 @@ static uint32_t length_of(uint8_t first)
     switch (first) {
     case 0xBC:
         return 6;
-    case 0x20: case 0x22: case 0x34: case 0x36: case 0x38: case 0x3C:
+    case 0x54: case 0x56: case 0x5C: case 0x5E:
+        return 3;
+    case 0x20: case 0x22: case 0x28: case 0x2C: case 0x34: case 0x36: case 0x38: case 0x3C:
         return 2;
     default:
         return 1;
+    }
+}
+
+/* Returns the name of an instruction of a chip's bus that dma330_disassemble doesn't have, by its first byte, or NULL. */
+static const char *chip_name(uint8_t first)
+{
+    switch (first) {
+    case 0x0C: return "DMASTZ";
+    case 0x28: case 0x2C: return "DMALPEND of a DMALPFE";
+    case 0x54: case 0x56: return "DMAADDH";
+    case 0x5C: case 0x5E: return "DMAADNH";
+    default: return NULL;
     }
 }
 
@@ -30,6 +44,8 @@ const char *text_of_instruction(uint32_t channel, uint32_t addr, char text[TEXT]
     len = length_of(program->bytes[at]);
     if (at + len > program->len)
         return "cut off";
+    if (chip_name(program->bytes[at]) != NULL)
+        return chip_name(program->bytes[at]);
     if (dma330_disassemble(program->bytes + at, len, text, TEXT - 1, &length, &place) != DMA330_OK)
         return "no instruction";
     text[length > 0 ? length - 1 : 0] = '\0'; /* without the line feed */

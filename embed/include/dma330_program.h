@@ -41,6 +41,17 @@
 #define DMA330_DMAWFE(event) 0x36, ((unsigned char)((event) << 3))
 #define DMA330_DMAWFE_INVALID(event) 0x36, ((unsigned char)((event) << 3 | 2))
 
+/* A device's instructions, which the controller and channels alone don't have. The first stores a burst of zeros at DAR. The
+ * next two add a number, 0 to 65,535, to an address. The two after them add a number with ones above its 16 bits, so that
+ * 0xFFF0 subtracts 16. The last repeats for ever the `length` bytes before it, 0 to 255: the manual's DMALPFE, which has no
+ * bytes, is at their start. */
+#define DMA330_DMASTZ 0x0C
+#define DMA330_DMAADDH_SAR(number) 0x54, DMA330_BYTE(number, 0), DMA330_BYTE(number, 1)
+#define DMA330_DMAADDH_DAR(number) 0x56, DMA330_BYTE(number, 0), DMA330_BYTE(number, 1)
+#define DMA330_DMAADNH_SAR(number) 0x5C, DMA330_BYTE(number, 0), DMA330_BYTE(number, 1)
+#define DMA330_DMAADNH_DAR(number) 0x5E, DMA330_BYTE(number, 0), DMA330_BYTE(number, 1)
+#define DMA330_DMALPEND_FOREVER(length) 0x28, ((unsigned char)(length))
+
 /* ---- control words ---- */
 
 /* The control word of bursts of 1 to 16 beats of 1, 2, 4, 8 or 16 bytes, for loads (src) and for stores (dst). `rises`

@@ -293,7 +293,6 @@ static const struct {
      {MOVE(TO_SAR, LOW), MOVE(TO_DAR, NEXT_END - 120), MOVE(TO_CCR, BURSTS_OF(3)), DMALD, DMAST}},
     {"no instruction", 1 << 0, 1, {DMANOP, 0xFF}},
     {"DMAKILL in a program", 1 << 0, 0, {DMAKILL}},
-    {"DMASTZ", 1 << 0, 0, {0x0C}},
     {"a swap", 1 << 1, 0, {MOVE(TO_CCR, 1 << 28)}},
     {"a reserved size", 1 << 1, 0, {MOVE(TO_CCR, 5 << 1)}},
     {"no register", 1 << 1, 0, {MOVE(3, 0)}},

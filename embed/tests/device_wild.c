@@ -53,7 +53,7 @@ static uint32_t put_loop(uint32_t at, uint32_t times)
 static uint32_t put_anything(uint32_t at, uint32_t *seed)
 {
     static const uint8_t of_one[] = {DMALD, DMAST, DMARMB, DMAWMB};
-    uint32_t kind = any(seed, 24), n = any(seed, 0x10000), bit = n >> 15, event = n % 4 == 0 ? n % 33 : 0;
+    uint32_t kind = any(seed, 27), n = any(seed, 0x10000), bit = n >> 15, event = n % 4 == 0 ? n % 33 : 0;
 
     switch (kind) {
     case 0: case 1: return put_move(&m, at, TO_SAR, any_address(seed));
@@ -66,6 +66,9 @@ static uint32_t put_anything(uint32_t at, uint32_t *seed)
     case 12: case 13: return put(&m, put_two(&m, put(&m, at, DMALD), DMASEV, event << 3), DMAST);
     case 14: return put_two(&m, at, n % 8 == 0 ? DMAWFE : DMASEV, event << 3);
     case 15: return put(&m, at, n % 8 == 0 ? DMAEND : n % 8 == 1 ? n >> 8 : DMANOP);
+    case 20: case 21: return put(&m, at, DMASTZ);
+    case 22: return put(&m, put_two(&m, at, DMAADDH | bit << 1 | (n & 1) << 3, n >> 4), n >> 8);
+    case 23: return n % 8 == 0 ? put_two(&m, at, DMALPEND_FE | (n & 16) >> 2, n >> 8 & 31) : at;
     case 16: case 17: case 18: case 19: return put(&m, at, n % 4 == 0 ? of_one[kind - 16] : DMANOP);
     default: return put(&m, put(&m, at, DMALD), DMAST);
     }

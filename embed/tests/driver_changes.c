@@ -61,7 +61,7 @@ static uint32_t any(uint32_t *seed, uint32_t below)
 static void change_byte(uint8_t *byte, uint32_t *seed)
 {
     static const uint8_t likely[] = {DMAEND, DMALD, DMAST, DMARMB, DMAWMB, DMANOP, DMALP, DMALP | 2, DMASEV, DMAWFE,
-                                     DMALPEND, DMALPEND | 4, DMAMOV, 1, 2, 0xFF};
+                                     DMALPEND, DMALPEND | 4, DMAMOV, 1, 2, 0xFF, DMASTZ, DMALPEND_FE, DMAADDH, DMAADNH};
 
     switch (any(seed, 4)) {
     case 0: *byte = (uint8_t)any(seed, 256); break;
@@ -80,12 +80,12 @@ static void change(uint8_t *bytes, uint32_t len, uint32_t *seed)
 
 /* How many changed programs are explained, how many have each cause, and how many copies have too many ranges or bytes
  * to be run. */
-static unsigned long causes[DMA330_CAUSE_NO_END + 1], too_large;
+static unsigned long causes[DMA330_CAUSE_STORES_ZEROS + 1], too_large;
 
 /* A program that isn't explained has a cause. The original's memory is lent. */
 static void check_cause(const program *p, uint32_t bus, const explained *original, uint32_t n)
 {
-    bool is_cause = e.cause > DMA330_CAUSE_NONE && e.cause <= DMA330_CAUSE_NO_END;
+    bool is_cause = e.cause > DMA330_CAUSE_NONE && e.cause <= DMA330_CAUSE_STORES_ZEROS;
     uint32_t place;
 
     check(e.code == DMA330_UNEXPLAINED && is_cause && strcmp(dma330_cause_name(e.cause), "?") != 0, "a cause", n);
@@ -142,7 +142,7 @@ void check_seeds(uint32_t first, uint32_t last)
 
 void print_causes(void)
 {
-    for (uint32_t n = 0; n <= DMA330_CAUSE_NO_END; n++)
+    for (uint32_t n = 0; n <= DMA330_CAUSE_STORES_ZEROS; n++)
         if (causes[n] > 0)
             printf("%8lu %s\n", causes[n], n == 0 ? "explained" : dma330_cause_name(n));
     printf("%8lu explained, but not run: too many ranges or bytes\n", too_large);

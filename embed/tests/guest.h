@@ -67,8 +67,9 @@ bool is_ram_wanted(const machine *m);
 
 /* ---- programs ---- */
 
-enum { DMAEND = 0x00, DMAKILL = 0x01, DMALD = 0x04, DMAST = 0x08, DMARMB = 0x12, DMAWMB = 0x13, DMANOP = 0x18, DMALP = 0x20,
-       DMASEV = 0x34, DMAWFE = 0x36, DMALPEND = 0x38, DMAGO = 0xA0, DMAMOV = 0xBC };
+enum { DMAEND = 0x00, DMAKILL = 0x01, DMALD = 0x04, DMAST = 0x08, DMASTZ = 0x0C, DMARMB = 0x12, DMAWMB = 0x13, DMANOP = 0x18,
+       DMALP = 0x20, DMALPEND_FE = 0x28, DMASEV = 0x34, DMAWFE = 0x36, DMALPEND = 0x38, DMAADDH = 0x54, DMAADNH = 0x5C,
+       DMAGO = 0xA0, DMAMOV = 0xBC };
 enum { TO_SAR = 0, TO_CCR = 1, TO_DAR = 2 };
 
 /* In CCR: bursts of 16 beats of 2 to the power of `size` bytes, at addresses that rise. */

@@ -1,6 +1,6 @@
 /* Checks the macros of dma330_program.h: each instruction against the bytes that dma330_assemble writes for its text,
  * for all operands; control words against those in the programs of dma330_plan and dma330_plan_fill, whose form is in
- * docs/FORMATS.md; other words against the fields of the manual, worked out by hand. */
+ * docs/FORMATS.md; other words, and instructions that it doesn't assemble, against the manual, worked out by hand. */
 #include "dma330.h"
 #include "dma330_program.h"
 
@@ -66,6 +66,19 @@ static void instructions_with_operands(void)
     }
 }
 
+static void instructions_of_a_device(void)
+{
+    static const uint8_t found[] = {
+        DMA330_DMASTZ, DMA330_DMAADDH_SAR(0x1234), DMA330_DMAADDH_DAR(0xFFFF), DMA330_DMAADNH_SAR(0xFFF0),
+        DMA330_DMAADNH_DAR(0), DMA330_DMALPEND_FOREVER(255)
+    };
+    static const uint8_t wanted[] = {
+        0x0C, 0x54, 0x34, 0x12, 0x56, 0xFF, 0xFF, 0x5C, 0xF0, 0xFF, 0x5E, 0x00, 0x00, 0x28, 0xFF
+    };
+
+    check(sizeof found == sizeof wanted && memcmp(found, wanted, sizeof wanted) == 0, "a device's instructions", 0);
+}
+
 /* Returns the first control word of a program that begins with DMAMOVs. */
 static unsigned long control_of(const uint8_t *program, size_t len)
 {
@@ -111,6 +124,7 @@ int main(void)
 {
     plain_instructions();
     instructions_with_operands();
+    instructions_of_a_device();
     for (uint32_t bytes = 1; bytes <= 16; bytes *= 2)
         for (uint32_t beats = 1; beats <= 16; beats++)
             planned_words(bytes, beats);

@@ -251,7 +251,7 @@ spelling_some (AddHalfword a h n) = omega arith
 spelling_some (LoopAgain c b) = omega arith
 
 -- An instruction that is encoded at the front has at least one byte, and not more than there are.
-spelled_within : (bytes : List ℕ) (i : ChipInsn) (n : ℕ) → IsSpelledAt bytes i n → (0 < n) × (n ≤ length bytes)
+pub spelled_within : (bytes : List ℕ) (i : ChipInsn) (n : ℕ) → IsSpelledAt bytes i n → (0 < n) × (n ≤ length bytes)
 spelled_within bytes i n h =
     let some = spelling_some i in
     let count = h.count_is in

@@ -12,7 +12,7 @@ use Rattle.dma_insn.specs.declared.control.BurstEnd.{BurstEnd}
 use Rattle.dma_insn.specs.declared.control.Control.{Control}
 use Rattle.dma_insn.specs.declared.control.ControlFault.{ControlFault}
 use Rattle.dma_insn.specs.declared.insn.Reg.TheVariants.{Ccr}
-use Rattle.dma_insn.specs.declared.insn.Insn.TheVariants.{Mov}
+use Rattle.dma_insn.specs.declared.chip.ChipInsn.TheVariants.{Mov}
 use Rattle.dma_manual.specs.declared.manual.Side.{Side}
 use Rattle.dma_manual.specs.declared.manual.Side.TheVariants.{Source, Destination}
 use Rattle.dma_manual.specs.declared.fields.EndFields.{EndFields}

@@ -1,18 +1,20 @@
 -- What a line of a text adds to what is read.
 use Rattle.std.proofs.Common.{◌≡◌, ℕ, ◌+◌, ◌≤◌, ◌||◌, List, [], ◌∷◌, ◌++◌, length, refl, Option, Some, None, Result, Ok}
 use Rattle.std.proofs.lemmas.Bool.{le-leb}
-use Rattle.dma_insn.specs.Spelling.{spelling}
+use Rattle.dma_insn.specs.Chip.{spelling}
 use Rattle.dma_insn.specs.AssemblyText.{most_program_bytes, text_lines}
 use Rattle.dma_insn.specs.declared.insn.Counter.{Counter}
 use Rattle.dma_insn.specs.declared.insn.Counter.TheVariants.{Lc0, Lc1}
-use Rattle.dma_insn.specs.declared.insn.Insn.{Insn}
-use Rattle.dma_insn.specs.declared.insn.Insn.TheVariants.{Lp, LpEnd}
+use Rattle.dma_insn.specs.declared.chip.ChipInsn.{ChipInsn}
+use Rattle.dma_insn.specs.declared.chip.ChipInsn.TheVariants.{Lp, LpEnd, LoopAgain}
 use Rattle.dma_manual.specs.Listing.{is_end}
 use Rattle.dma_manual.specs.Words.{code_of, next_of}
 use Rattle.dma_manual.specs.Statements.{statement_at}
-use Rattle.dma_manual.specs.Assembled.{Read, after_statement, assembled, empty, ended_loop, first_stray, is_closed_by, jump_of, label_in, place_of, slot, take_line, take_lines, with_bytes, with_loop, with_statement}
+use Rattle.dma_manual.specs.Assembled.{Read, after_statement, assembled, empty, ended_loop, first_stray, is_closed_by, is_free_or_closed, jump_of, label_in, place_of, slot, take_line, take_lines, with_bytes, with_loop, with_statement}
 use Rattle.dma_manual.specs.declared.assembler.Located.{Located}
 use Rattle.dma_manual.specs.declared.assembler.Place.{Place}
+use Rattle.dma_manual.specs.declared.loops.LoopKind.{LoopKind}
+use Rattle.dma_manual.specs.declared.loops.LoopKind.TheVariants.{Counted, Endless}
 use Rattle.dma_manual.specs.declared.loops.Loops.{Loops}
 use Rattle.dma_manual.specs.declared.loops.Open.{Open}
 use Rattle.dma_manual.specs.declared.statements.End.{End as LoopTo}
@@ -25,11 +27,12 @@ use Rattle.dma_manual.proofs.InsnTexts.{statement_of}
 
 -- No loop has to be ended.
 abbrev pub Quiet : Loops → Type 0
-Quiet loops = (ended_loop loops.lc0 ≡ Ok tt) × (ended_loop loops.lc1 ≡ Ok tt)
+Quiet loops = (ended_loop loops.lc0 ≡ Ok tt) × (ended_loop loops.lc1 ≡ Ok tt) × (ended_loop loops.endless ≡ Ok tt)
 
-quiet_with : (loops : Loops) (c : Counter) (loop : Option Open) → ended_loop loop ≡ Ok tt → Quiet loops → Quiet (with_loop loops c loop)
-quiet_with loops Lc0 loop h q = (h, q.1)
-quiet_with loops Lc1 loop h q = (q.0, h)
+quiet_with : (loops : Loops) (kind : LoopKind) (loop : Option Open) → ended_loop loop ≡ Ok tt → Quiet loops → Quiet (with_loop loops kind loop)
+quiet_with loops (Counted Lc0) loop h q = (h, q.1, q.2)
+quiet_with loops (Counted Lc1) loop h q = (q.0, h, q.2)
+quiet_with loops Endless loop h q = (q.0, q.1, h)
 
 -- The result is what was read with more bytes.
 pub record Grown (r : Read) (bytes : List ℕ) (result : Result Read Located) : Type 0 where
@@ -42,7 +45,7 @@ pub record Grown (r : Read) (bytes : List ℕ) (result : Result Read Located) : 
 bytes_fit : (code bytes : List ℕ) (place : Place) → length code + length bytes ≤ most_program_bytes → with_bytes code bytes place ≡ Ok (code ++ bytes)
 bytes_fit code bytes place fits = rw (le-leb (length code + length bytes) most_program_bytes fits) refl
 
-plain_grown : (r : Read) (i : Insn) (place : Place) → length r.code + length (spelling i) ≤ most_program_bytes → Quiet r.loops → Grown r (spelling i) (after_statement r (says.Plain i) place)
+plain_grown : (r : Read) (i : ChipInsn) (place : Place) → length r.code + length (spelling i) ≤ most_program_bytes → Quiet r.loops → Grown r (spelling i) (after_statement r (says.Plain i) place)
 plain_grown r i place fits q =
     record { next = record r { code = r.code ++ spelling i; stops = r.stops || is_end i }; is = rw (bytes_fit r.code (spelling i) place fits) refl; code = refl; labels = refl; quiet = q }
 
@@ -52,31 +55,47 @@ loop_grown r c n place fits q =
     let code = r.code ++ spelling (Lp c n) in
     let loop = Some (record { start = length code; unnamed = None }) in
     record {
-      next = record r { code = code; loops = with_loop r.loops c loop };
+      next = record r { code = code; loops = with_loop r.loops (Counted c) loop };
       is = rw (bytes_fit r.code (spelling (Lp c n)) place fits) refl;
       code = refl;
       labels = refl;
-      quiet = quiet_with r.loops c loop refl q;
+      quiet = quiet_with r.loops (Counted c) loop refl q;
     }
 
-pub end_grown : (r : Read) (c : Counter) (b : ℕ) (end : LoopTo) (place : Place) → jump_of r.loops (length r.code) end place ≡ Ok (c, b)
+pub end_grown : (r : Read) (c : Counter) (b : ℕ) (end : LoopTo) (place : Place) → jump_of r.loops (length r.code) end place ≡ Ok (Counted c, b)
     → length r.code + length (spelling (LpEnd c b)) ≤ most_program_bytes → Quiet r.loops → Grown r (spelling (LpEnd c b)) (after_statement r (says.LoopEnd end) place)
 end_grown r c b end place jump fits q =
     record {
       next = record r {
         code = r.code ++ spelling (LpEnd c b);
-        loops = with_loop r.loops c None;
-        stray = first_stray r.stray (is_closed_by (slot r.loops c) (length r.code) b) place;
+        loops = with_loop r.loops (Counted c) None;
+        stray = first_stray r.stray (is_closed_by (slot r.loops (Counted c)) (length r.code) b) place;
       };
       is = rw (jump, bytes_fit r.code (spelling (LpEnd c b)) place fits) refl;
       code = refl;
       labels = refl;
-      quiet = quiet_with r.loops c None refl q;
+      quiet = quiet_with r.loops (Counted c) None refl q;
     }
 
-pub insn_grown : (r : Read) (i : Insn) (place : Place) → length r.code + length (spelling i) ≤ most_program_bytes → Quiet r.loops → Grown r (spelling i) (after_statement r (statement_of i) place)
+again_grown : (r : Read) (c : Counter) (b : ℕ) (place : Place) → length r.code + length (spelling (LoopAgain c b)) ≤ most_program_bytes → Quiet r.loops
+    → Grown r (spelling (LoopAgain c b)) (after_statement r (says.LoopAgain c b) place)
+again_grown r c b place fits q =
+    record {
+      next = record r {
+        code = r.code ++ spelling (LoopAgain c b);
+        loops = with_loop r.loops Endless None;
+        stray = first_stray r.stray (is_free_or_closed r.loops.endless (length r.code) b) place;
+      };
+      is = rw (bytes_fit r.code (spelling (LoopAgain c b)) place fits) refl;
+      code = refl;
+      labels = refl;
+      quiet = quiet_with r.loops Endless None refl q;
+    }
+
+pub insn_grown : (r : Read) (i : ChipInsn) (place : Place) → length r.code + length (spelling i) ≤ most_program_bytes → Quiet r.loops → Grown r (spelling i) (after_statement r (statement_of i) place)
 insn_grown r (Lp c n) place fits q = loop_grown r c n place fits q
 insn_grown r (LpEnd c b) place fits q = end_grown r c b (ends.Back c b) place refl fits q
+insn_grown r (LoopAgain c b) place fits q = again_grown r c b place fits q
 insn_grown r i place fits q = plain_grown r i place fits q
 
 -- a line that says a statement
@@ -98,4 +117,4 @@ unfolding take_lines
 lines_done r n = refl
 
 pub read_whole : (text : List ℕ) (r : Read) → take_lines empty 0 (text_lines text) ≡ Ok r → Quiet r.loops → assembled text ≡ Ok r.code
-read_whole text r is q = rw (is, q.0, q.1) refl
+read_whole text r is q = rw (is, q.0, q.1, q.2) refl

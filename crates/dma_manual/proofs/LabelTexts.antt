@@ -11,7 +11,7 @@ use Rattle.dma_manual.specs.Statements.{Label, label_of}
 use Rattle.dma_manual.specs.Listing.{label_name}
 use Rattle.dma_manual.specs.Assembled.{Read, label_by, label_in, take_line, with_statement}
 use Rattle.dma_manual.proofs.Cuts.{all_append, code_all, is_inline, next_word}
-use Rattle.dma_manual.proofs.Numerals.{pair_words, pairs_read, plain}
+use Rattle.dma_manual.proofs.Numerals.{four_words, pairs_read, plain}
 
 abbrev pub label_word : ℕ → List ℕ
 label_word o = plain (label_name o)
@@ -77,14 +77,6 @@ label_none o p (l ∷ ls) later small h =
 label_shape : (a b c d : ℕ) → list_all is_word_byte (a ∷ b ∷ c ∷ d ∷ []) ≡ true
     → label_in (108 ∷ 111 ∷ 111 ∷ 112 ∷ 95 ∷ a ∷ b ∷ c ∷ d ∷ 58 ∷ []) ≡ Some (108 ∷ 111 ∷ 111 ∷ 112 ∷ 95 ∷ a ∷ b ∷ c ∷ d ∷ [], [])
 label_shape a b c d h = ap label_by (next_word (108 ∷ 111 ∷ 111 ∷ 112 ∷ 95 ∷ a ∷ b ∷ c ∷ d ∷ 58 ∷ []) [] refl h refl)
-
-four_words : (o : ℕ) → (list_all is_word_byte (plain (hex_pair (o / 256 % 256) ++ hex_pair (o % 256))) ≡ true) × (list_all is_inline (hex_pair (o / 256 % 256) ++ hex_pair (o % 256)) ≡ true)
-four_words o =
-    let high = pair_words (o / 256 % 256) (omega arith) in
-    let low = pair_words (o % 256) (omega arith) in (
-      all_append is_word_byte (plain (hex_pair (o / 256 % 256))) (plain (hex_pair (o % 256))) high.0 low.0,
-      all_append is_inline (hex_pair (o / 256 % 256)) (hex_pair (o % 256)) high.1 low.1,
-    )
 
 pub label_words : (o : ℕ) → list_all is_word_byte (label_word o) ≡ true
 label_words o = (four_words o).0

@@ -4,15 +4,14 @@ use Rattle.std.specs.List.{list_all, list_any}
 use Rattle.std.proofs.lemmas.Bool.{and_parts, and_from, le-leb, lt-ltb, leb-true, eqb-true}
 use Rattle.std.proofs.lemmas.List.{map-append}
 use Rattle.dma_text.specs.Digits.{hex_digits, spaced_bytes}
-use Rattle.dma_insn.specs.Spelling.{HasRanges, spelling}
-use Rattle.dma_insn.specs.AssemblyText.{joined, most_program_bytes, text_lines}
+use Rattle.dma_insn.specs.Chip.{HasRanges, spelling}
+use Rattle.dma_insn.specs.AssemblyText.{most_program_bytes, text_lines}
 use Rattle.std.specs.Option.{option_map}
-use Rattle.dma_insn.proofs.Laws.{spelling_some}
-use Rattle.dma_insn.specs.Disassembly.{AllInRange}
+use Rattle.dma_insn.proofs.ChipLaws.{spelling_some}
 use Rattle.dma_insn.specs.declared.insn.Counter.{Counter}
 use Rattle.dma_insn.specs.declared.insn.Counter.TheVariants.{Lc0, Lc1}
-use Rattle.dma_insn.specs.declared.insn.Insn.{Insn}
-use Rattle.dma_insn.specs.declared.insn.Insn.TheVariants.{Lp, LpEnd}
+use Rattle.dma_insn.specs.declared.chip.ChipInsn.{ChipInsn}
+use Rattle.dma_insn.specs.declared.chip.ChipInsn.TheVariants.{Lp, LpEnd}
 use Rattle.dma_manual.specs.ManualText.{counter_name, manual_text}
 use Rattle.dma_manual.specs.Words.{code_of, next_of, plain_byte}
 use Rattle.dma_manual.specs.Statements.{Label, label_of}
@@ -20,6 +19,8 @@ use Rattle.dma_manual.specs.Listing.{Ending, follow, stop, blanks_behind, follow
 use Rattle.dma_manual.specs.Assembled.{Read, after_statement, empty, jump_of as jump_from, place_of, take_line, take_lines, with_statement}
 use Rattle.dma_manual.specs.Laws.{ListingsAssemble, shown}
 use Rattle.dma_manual.specs.declared.assembler.Place.{Place}
+use Rattle.dma_manual.specs.declared.loops.LoopKind.{LoopKind}
+use Rattle.dma_manual.specs.declared.loops.LoopKind.TheVariants.{Counted}
 use Rattle.dma_manual.specs.declared.loops.Loops.{Loops}
 use Rattle.dma_manual.specs.declared.statements.End.TheVariants as ends
 use Rattle.dma_manual.specs.declared.statements.Statement.{Statement}
@@ -30,7 +31,7 @@ use Rattle.dma_manual.proofs.Said.{Says, end_label, says_end, says_spaced}
 use Rattle.dma_manual.proofs.InsnTexts.{insn_inline, insn_says, statement_of}
 use Rattle.dma_manual.proofs.Growth.{Grown, Quiet, end_grown, insn_grown, lines_step, read_whole, says_line}
 use Rattle.dma_manual.proofs.LabelTexts.{are_labels, label_found, label_inline, label_taken, label_word, label_words, labels_later, named_at}
-use Rattle.dma_manual.proofs.ListedLines.{lines_of, listed_lines}
+use Rattle.dma_manual.proofs.ListedLines.{AllInRange, joined, lines_of, listed_lines}
 
 -- What is read when the instruction at an offset follows.
 record IsAt (r : Read) (labels : List ℕ) (o : ℕ) : Type 0 where
@@ -40,13 +41,13 @@ record IsAt (r : Read) (labels : List ℕ) (o : ℕ) : Type 0 where
   quiet : Quiet r.loops
 
 -- The statement of an instruction in a listing, and what it adds.
-record IsSaid (r : Read) (i : Insn) (text : List ℕ) : Type 0 where
+record IsSaid (r : Read) (i : ChipInsn) (text : List ℕ) : Type 0 where
   statement : Statement
   says : (tail : List ℕ) → list_all is_space tail ≡ true → Says r.labels (plain text ++ tail) statement
   inline : list_all is_inline text ≡ true
   grown : (place : Place) → Grown r (spelling i) (after_statement r statement place)
 
-text_said : (r : Read) (i : Insn) → HasRanges i → length r.code + length (spelling i) ≤ most_program_bytes → Quiet r.loops → IsSaid r i (manual_text i)
+text_said : (r : Read) (i : ChipInsn) → HasRanges i → length r.code + length (spelling i) ≤ most_program_bytes → Quiet r.loops → IsSaid r i (manual_text i)
 text_said r i h fits q = record {
   statement = statement_of i;
   says = λ tail spaces. insn_says r.labels i tail h spaces;
@@ -61,15 +62,15 @@ end_text c o = codes "DMALPEND " ++ counter_name c ++ codes ", " ++ label_name o
 end_says : (labels : List Label) (c : Counter) (o : ℕ) (tail : List ℕ) → label_of labels (label_word o) ≡ Some o → list_all is_space tail ≡ true
     → Says labels (plain (end_text c o) ++ tail) (says.LoopEnd (ends.To c o))
 end_says labels Lc0 o tail found spaces =
-    says_end labels tail spaces Lc0 (codes "lc0") (label_word o) (ends.To Lc0 o) refl refl refl refl (label_words o) (end_label labels Lc0 (label_word o) tail o refl found)
+    says_end labels tail spaces Lc0 (codes "lc0") (label_word o) (ends.To Lc0 o) refl refl refl refl refl (label_words o) (end_label labels Lc0 (label_word o) tail o refl found)
 end_says labels Lc1 o tail found spaces =
-    says_end labels tail spaces Lc1 (codes "lc1") (label_word o) (ends.To Lc1 o) refl refl refl refl (label_words o) (end_label labels Lc1 (label_word o) tail o refl found)
+    says_end labels tail spaces Lc1 (codes "lc1") (label_word o) (ends.To Lc1 o) refl refl refl refl refl (label_words o) (end_label labels Lc1 (label_word o) tail o refl found)
 
 end_inline : (c : Counter) (o : ℕ) → list_all is_inline (end_text c o) ≡ true
 end_inline Lc0 o = label_inline o
 end_inline Lc1 o = label_inline o
 
-jump_to : (loops : Loops) (c : Counter) (here start back : ℕ) (place : Place) → start ≤ here → here - start ≡ back → back ≤ 255 → jump_from loops here (ends.To c start) place ≡ Ok (c, back)
+jump_to : (loops : Loops) (c : Counter) (here start back : ℕ) (place : Place) → start ≤ here → here - start ≡ back → back ≤ 255 → jump_from loops here (ends.To c start) place ≡ Ok (Counted c, back)
 jump_to loops c here start back place before is small = rw (is, le-leb start here before, le-leb back 255 small) refl
 
 end_said : (r : Read) (labels : List ℕ) (o : ℕ) (c : Counter) (b : ℕ) → IsAt r labels o → b < 256 → b ≤ o → list_any (λ l. l == (o - b)) labels ≡ true
@@ -93,7 +94,7 @@ end_by r labels o c b true true within any at small below fits = end_said r labe
 end_by r labels o c b true false within any at small below fits = text_said r (LpEnd c b) small fits at.quiet
 end_by r labels o c b false u within any at small below fits = text_said r (LpEnd c b) small fits at.quiet
 
-insn_said : (r : Read) (labels : List ℕ) (o : ℕ) (i : Insn) → IsAt r labels o → HasRanges i → o < 65536 → length r.code + length (spelling i) ≤ most_program_bytes
+insn_said : (r : Read) (labels : List ℕ) (o : ℕ) (i : ChipInsn) → IsAt r labels o → HasRanges i → o < 65536 → length r.code + length (spelling i) ≤ most_program_bytes
     → IsSaid r i (statement_text (jump_of labels o i) i)
 insn_said r labels o (LpEnd c b) at h below fits = end_by r labels o c b (nat_le b o) (list_any (λ l. l == (o - b)) labels) refl refl at h below fits
 insn_said r labels o i at h below fits = text_said r i h fits at.quiet
@@ -144,17 +145,17 @@ front_inline text h =
     all_append is_inline (codes "    " ++ text) (gap_behind (length (codes "    " ++ text))) (all_append is_inline (codes "    ") text refl h) (spaces_inline (gap_behind (length (codes "    " ++ text))) (gap_is (length (codes "    " ++ text))))
 
 -- The line of an instruction adds its bytes.
-abbrev words_of : ℕ → List ℕ → ℕ → Insn → List ℕ
+abbrev words_of : ℕ → List ℕ → ℕ → ChipInsn → List ℕ
 words_of at labels o i = spaced_bytes (spelling i) ++ target_text (target_of labels at o i)
 
-abbrev comment_of : ℕ → List ℕ → ℕ → Insn → List ℕ
+abbrev comment_of : ℕ → List ℕ → ℕ → ChipInsn → List ℕ
 comment_of at labels o i = 32 ∷ (hex_digits ((at + o) % 2 ^ 32) ++ 32 ∷ words_of at labels o i)
 
 target_feed : (target : Option ℕ) → list_all no_feed (target_text target) ≡ true
 target_feed None = refl
 target_feed (Some address) = all_append no_feed (codes ", jumps to 0x") (hex_digits address) refl (hex_feed address)
 
-comment_feed : (at : ℕ) (labels : List ℕ) (o : ℕ) (i : Insn) → list_all no_feed (comment_of at labels o i) ≡ true
+comment_feed : (at : ℕ) (labels : List ℕ) (o : ℕ) (i : ChipInsn) → list_all no_feed (comment_of at labels o i) ≡ true
 comment_feed at labels o i =
     all_append no_feed (hex_digits ((at + o) % 2 ^ 32)) (32 ∷ words_of at labels o i) (hex_feed ((at + o) % 2 ^ 32))
     (all_append no_feed (spaced_bytes (spelling i)) (target_text (target_of labels at o i)) (spaced_feed (spelling i)) (target_feed (target_of labels at o i)))
@@ -166,7 +167,7 @@ record ReadsLine (r : Read) (n : ℕ) (text more bytes : List ℕ) : Type 0 wher
   labels : next.labels ≡ r.labels
   quiet : Quiet next.loops
 
-line_read : (r : Read) (n at : ℕ) (labels : List ℕ) (o : ℕ) (i : Insn) (more : List ℕ) → IsSaid r i (statement_text (jump_of labels o i) i) → ReadsLine r n (line_text at labels o i) more (spelling i)
+line_read : (r : Read) (n at : ℕ) (labels : List ℕ) (o : ℕ) (i : ChipInsn) (more : List ℕ) → IsSaid r i (statement_text (jump_of labels o i) i) → ReadsLine r n (line_text at labels o i) more (spelling i)
 line_read r n at labels o i more h =
     let text = statement_text (jump_of labels o i) i in
     let front = code_front text in
@@ -196,7 +197,7 @@ record ReadsLabel (r : Read) (n : ℕ) (labels : List ℕ) (o : ℕ) (text more 
   code : next.code ≡ r.code
   at : IsAt next labels o
 
-label_behind_by : (i : Insn) (o : ℕ) → o < 65536 → (label_behind i o ≡ None) ⊎ (label_behind i o ≡ Some o)
+label_behind_by : (i : ChipInsn) (o : ℕ) → o < 65536 → (label_behind i o ≡ None) ⊎ (label_behind i o ≡ Some o)
 label_behind_by (Lp c n) o small = inr (rw (lt-ltb o 65536 small) refl)
 label_behind_by _ o small = inl refl
 
@@ -237,7 +238,7 @@ record ReadsLines (r : Read) (n : ℕ) (text more bytes : List ℕ) : Type 0 whe
   code : next.code ≡ r.code ++ bytes
   quiet : Quiet next.loops
 
-lines_read : (insns : List Insn) (r : Read) (n at : ℕ) (labels : List ℕ) (o : ℕ) (more : List ℕ) → AllInRange insns → IsAt r labels o → o + length (joined insns) ≤ most_program_bytes
+lines_read : (insns : List ChipInsn) (r : Read) (n at : ℕ) (labels : List ℕ) (o : ℕ) (more : List ℕ) → AllInRange insns → IsAt r labels o → o + length (joined insns) ≤ most_program_bytes
     → ReadsLines r n (lines_of at labels o insns) more (joined insns)
 lines_read [] r n at labels o more range here fits =
     record { next = r; number = n; is = refl; code = sym (append-nil r.code); quiet = here.quiet }
@@ -292,7 +293,7 @@ listings_assemble at program bytes fits =
     let l = listed at program in
     let h = listed_lines (length program) at [] 0 program program (omega arith) bytes (omega arith) in
     let size = h.end_is in
-    let start : IsAt empty [] 0 = record { here = refl; labels_are = refl; before = refl; quiet = (refl, refl) } in
+    let start : IsAt empty [] 0 = record { here = refl; labels_are = refl; before = refl; quiet = (refl, refl, refl) } in
     let read = lines_read h.insns empty 0 at [] 0 (rest_text l.ending) h.in_range start (omega arith) in
     let taken : take_lines empty 0 (text_lines (l.text ++ rest_text l.ending)) ≡ Ok read.next =
     ap (λ (t : List ℕ). take_lines empty 0 (text_lines (t ++ rest_text l.ending))) h.text_is ∙ read.is ∙ rest_read read.next read.number l.ending in

@@ -1,8 +1,8 @@
 -- The listing of bytes, by their first instruction.
 use Rattle.std.proofs.Common.{◌≡◌, ℕ, ◌+◌, ◌-◌, ◌<◌, ◌≤◌, false, List, [], ◌∷◌, ◌++◌, length, drop, Result, Ok, Err, suc, zero, refl, ap, sym, ◌∙◌, arith, cond, append_assoc, length-append}
 use Rattle.std.specs.Prelude.{OnOk}
-use Rattle.dma_insn.specs.declared.insn.Insn.{Insn}
-use Rattle.dma_insn.specs.Decoding.{decoded}
+use Rattle.dma_insn.specs.declared.chip.ChipInsn.{ChipInsn}
+use Rattle.dma_insn.specs.Chip.{decoded}
 use Rattle.dma_manual.specs.Listing.{Listing, follow, with_text, line_text, is_end, label_text, label_behind, more_labels, listed_from}
 
 -- bytes that are skipped are only counted
@@ -15,13 +15,13 @@ listed_from_skipped at labels o (suc k) (x ∷ xs) h =
     listed_from_skipped at labels (o + 1) k xs (omega arith) ∙ ap (λ p. listed_from at labels p 0 (drop k xs)) e
 
 -- the listing of bytes that begin with an instruction of n bytes
-abbrev pub listed_first : ℕ → List ℕ → ℕ → Insn → ℕ → List ℕ → Listing
+abbrev pub listed_first : ℕ → List ℕ → ℕ → ChipInsn → ℕ → List ℕ → Listing
 listed_first at labels o i n xs =
     with_text (line_text at labels o i)
     (cond (is_end i) (record { text = []; ending = follow (length xs - n) })
     (with_text (label_text (label_behind i (o + n))) (listed_from at (more_labels labels (label_behind i (o + n))) (o + n) 0 (drop n xs))))
 
-pub listed_from_first : (at : ℕ) (labels : List ℕ) (o n : ℕ) (xs : List ℕ) (i : Insn) → decoded xs ≡ Ok (i, n) → 0 < n → n ≤ length xs
+pub listed_from_first : (at : ℕ) (labels : List ℕ) (o n : ℕ) (xs : List ℕ) (i : ChipInsn) → decoded xs ≡ Ok (i, n) → 0 < n → n ≤ length xs
     → listed_from at labels o 0 xs ≡ listed_first at labels o i n xs
 listed_from_first at labels o zero xs i is some within = absurd (omega arith)
 listed_from_first at labels o (suc n) [] i is some within = absurd (omega arith)
@@ -34,7 +34,7 @@ listed_from_first at labels o (suc n) (x ∷ xs) i is some within =
     rw is (ap (λ (l : Listing). with_text (line_text at labels o i) (cond (is_end i) (record { text = []; ending = follow (length (x ∷ xs) - suc n) }) (with_text (label_text (label_behind i (o + suc n))) l))) rest)
 
 -- the lines of an instruction that is not DMAEND
-pub listed_step : (at : ℕ) (labels : List ℕ) (o n : ℕ) (xs : List ℕ) (i : Insn) (out one two after more : List ℕ)
+pub listed_step : (at : ℕ) (labels : List ℕ) (o n : ℕ) (xs : List ℕ) (i : ChipInsn) (out one two after more : List ℕ)
     → decoded xs ≡ Ok (i, n) → 0 < n → n ≤ length xs → is_end i ≡ false → (shown : List ℕ) → shown ≡ labels → one ≡ out ++ line_text at shown o i
     → two ≡ one ++ label_text (label_behind i (o + n)) → more ≡ more_labels labels (label_behind i (o + n)) → after ≡ drop n xs
     → (two ++ (listed_from at more (o + n) 0 after).text ≡ out ++ (listed_from at labels o 0 xs).text)

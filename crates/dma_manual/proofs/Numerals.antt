@@ -8,7 +8,7 @@ use Rattle.std.proofs.lemmas.Bool.{and_parts, and_from, cases_lt, cond_both, lt-
 use Rattle.dma_text.specs.Digits.{hex_digits, hex_pair, spaced_bytes}
 use Rattle.dma_manual.specs.Words.{is_word_byte, plain_byte}
 use Rattle.dma_manual.specs.Operands.{digits_from, digits_in, number_of}
-use Rattle.dma_manual.proofs.Cuts.{is_inline, no_feed, has_bytes}
+use Rattle.dma_manual.proofs.Cuts.{all_append, is_inline, no_feed, has_bytes}
 
 -- a printed text as the assembler takes it: in lower case, with spaces in place of commas
 abbrev pub plain : List ℕ → List ℕ
@@ -111,11 +111,20 @@ places_words v (w ∷ weights) =
 pub hex_words : (v : ℕ) → (list_all is_word_byte (plain (hex_digits v)) ≡ true) × (list_all is_inline (hex_digits v) ≡ true)
 hex_words v = places_words v (0x10000000 ∷ 0x1000000 ∷ 0x100000 ∷ 0x10000 ∷ 0x1000 ∷ 0x100 ∷ 0x10 ∷ 0x1 ∷ [])
 
-pub pair_words : (b : ℕ) → b < 256 → (list_all is_word_byte (plain (hex_pair b)) ≡ true) × (list_all is_inline (hex_pair b) ≡ true)
+pair_words : (b : ℕ) → b < 256 → (list_all is_word_byte (plain (hex_pair b)) ≡ true) × (list_all is_inline (hex_pair b) ≡ true)
 pair_words b small =
     let high = glyph_word (b / 16) (omega arith) in
     let low = glyph_word (b % 16) (omega arith) in
     (and_from _ _ high.0 (and_from _ _ low.0 refl), and_from _ _ high.1 (and_from _ _ low.1 refl))
+
+-- the same of two bytes
+pub four_words : (o : ℕ) → (list_all is_word_byte (plain (hex_pair (o / 256 % 256) ++ hex_pair (o % 256))) ≡ true) × (list_all is_inline (hex_pair (o / 256 % 256) ++ hex_pair (o % 256)) ≡ true)
+four_words o =
+    let high = pair_words (o / 256 % 256) (omega arith) in
+    let low = pair_words (o % 256) (omega arith) in (
+      all_append is_word_byte (plain (hex_pair (o / 256 % 256))) (plain (hex_pair (o % 256))) high.0 low.0,
+      all_append is_inline (hex_pair (o / 256 % 256)) (hex_pair (o % 256)) high.1 low.1,
+    )
 
 -- two bytes, each in two digits
 pub pairs_read : (o : ℕ) → o < 65536 → digits_in 16 (plain (hex_pair (o / 256 % 256) ++ hex_pair (o % 256))) ≡ Some o

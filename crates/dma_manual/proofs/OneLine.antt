@@ -2,11 +2,11 @@
 use Rattle.std.proofs.Common.{◌≡◌, ℕ, ◌≤◌, true, false, List, [], ◌∷◌, length, refl, ap, ◌∙◌, subst, Ok, arith, append-nil}
 use Rattle.std.specs.List.{list_all}
 use Rattle.std.proofs.lemmas.Bool.{false≢true}
-use Rattle.dma_insn.specs.Spelling.{spelling}
+use Rattle.dma_insn.specs.Chip.{spelling}
 use Rattle.dma_insn.specs.AssemblyText.{most_program_bytes, text_lines}
 use Rattle.dma_insn.specs.declared.insn.Reg.TheVariants.{Sar}
-use Rattle.dma_insn.specs.declared.insn.Insn.{Insn}
-use Rattle.dma_insn.specs.declared.insn.Insn.TheVariants.{Mov, End, Wfe}
+use Rattle.dma_insn.specs.declared.chip.ChipInsn.{ChipInsn}
+use Rattle.dma_insn.specs.declared.chip.ChipInsn.TheVariants.{Mov, End, Wfe, AddHalfword}
 use Rattle.dma_manual.specs.ManualText.{manual_text}
 use Rattle.dma_manual.specs.Words.{code_of, next_of}
 use Rattle.dma_manual.specs.Assembled.{empty, place_of, take_line, take_lines}
@@ -21,12 +21,14 @@ one_line : (text : List ℕ) → has_bytes text ≡ true → list_all no_feed te
 one_line [] some h = absurd (false≢true some)
 one_line (b ∷ text) some h = line_alone b text h
 
-text_some : (i : Insn) → has_bytes (manual_text i) ≡ true
+text_some : (i : ChipInsn) → has_bytes (manual_text i) ≡ true
 text_some (Wfe e false) = refl
 text_some (Mov Sar v) = refl
+text_some (AddHalfword a m false) = refl
+text_some (AddHalfword a m true) = refl
 text_some _ = refl
 
-spelling_le : (i : Insn) → length (spelling i) ≤ most_program_bytes
+spelling_le : (i : ChipInsn) → length (spelling i) ≤ most_program_bytes
 spelling_le End = omega arith
 spelling_le _ = omega arith
 
@@ -37,7 +39,7 @@ texts_assemble i h =
     let fits = spelling_le i in
     let line : text_lines text ≡ text ∷ [] = one_line text (text_some i) (inline_no_feed text inline) in
     let said : Says [] (plain text) (statement_of i) = subst (λ (l : List ℕ). Says [] l (statement_of i)) (append-nil (plain text)) (insn_says [] i [] h refl) in
-    let g = insn_grown empty i (place_of 1 (length (plain text)) (next_of (plain text))) (omega arith) (refl, refl) in
+    let g = insn_grown empty i (place_of 1 (length (plain text)) (next_of (plain text))) (omega arith) (refl, refl, refl) in
     let took : take_line empty 1 (plain (code_of text)) ≡ Ok g.next =
     ap (λ (l : List ℕ). take_line empty 1 (plain l)) (code_all text inline) ∙ says_line empty 1 (plain text) (statement_of i) said ∙ g.is in
     let read : take_lines empty 0 (text_lines text) ≡ Ok g.next = ap (take_lines empty 0) line ∙ lines_step empty g.next 0 text [] took ∙ lines_done g.next 1 in

@@ -4,22 +4,25 @@ use Rattle.std.specs.Prelude.{nat_eq}
 use Rattle.std.specs.List.{list_all, starts_with}
 use Rattle.std.proofs.lemmas.Bool.{le-leb}
 use Rattle.dma_text.specs.Digits.{hex_digits}
+use Rattle.dma_manual.specs.ManualText.{half_digits}
 use Rattle.dma_insn.specs.declared.insn.Reg.{Reg}
 use Rattle.dma_insn.specs.declared.insn.Reg.TheVariants.{Ccr}
 use Rattle.dma_insn.specs.declared.insn.Counter.{Counter}
-use Rattle.dma_insn.specs.declared.insn.Insn.{Insn}
-use Rattle.dma_insn.specs.declared.insn.Insn.TheVariants.{Mov, Sev, Wfe}
+use Rattle.dma_insn.specs.declared.chip.ChipInsn.{ChipInsn}
+use Rattle.dma_insn.specs.declared.chip.ChipInsn.TheVariants.{Mov, Sev, Wfe, AddHalfword}
+use Rattle.dma_insn.specs.declared.chip.Address.{Address}
+use Rattle.dma_insn.specs.declared.insn.Counter.TheVariants.{Lc0, Lc1}
 use Rattle.dma_manual.specs.Words.{is_word_byte, next_of}
 use Rattle.dma_manual.specs.Operands.{event_at, number_of}
 use Rattle.dma_manual.specs.Fields.{fields_at}
-use Rattle.dma_manual.specs.Statements.{Label, address_line, by_name, control_line, counter_of, end_at, event_line, is_numeral, label_of, loop_end_line, loop_line, set_by, set_line, statement_at, statement_by, wait_flag, wait_line}
+use Rattle.dma_manual.specs.Statements.{Label, add_line, address_line, address_of as register_of, again_by, again_line, by_name, control_line, counter_of, end_at, event_line, is_numeral, label_of, loop_end_line, loop_line, set_by, set_line, statement_at, statement_by, wait_flag, wait_line}
 use Rattle.dma_manual.specs.Assembled.{label_by, label_in}
 use Rattle.dma_manual.specs.declared.statements.End.{End as LoopTo}
 use Rattle.dma_manual.specs.declared.statements.End.TheVariants as ends
 use Rattle.dma_manual.specs.declared.statements.Statement.{Statement}
 use Rattle.dma_manual.specs.declared.statements.Statement.TheVariants as says
-use Rattle.dma_manual.proofs.Cuts.{gap_spaces, has_bytes, is_gap, is_space, next_none, next_space, next_word}
-use Rattle.dma_manual.proofs.Numerals.{decimal_read, hex_read, hex_words, plain}
+use Rattle.dma_manual.proofs.Cuts.{gap_spaces, has_bytes, is_gap, is_inline, is_space, next_none, next_space, next_word}
+use Rattle.dma_manual.proofs.Numerals.{decimal_read, four_words, hex_read, hex_words, pairs_read, plain}
 
 -- The line has no label and says the statement.
 pub record Says (labels : List Label) (line : List ℕ) (s : Statement) : Type 0 where
@@ -46,9 +49,9 @@ pub loop_of : (c : Counter) (name rest a b u w : List ℕ) (n : ℕ) → next_of
     → number_of w ≡ Some n → 1 ≤ n → n ≤ 256 → next_of b ≡ None → loop_line name rest ≡ Ok (says.Loop (Some c) n)
 loop_of c name rest a b u w n p q r s low high t = rw (p, q, r, s, le-leb 1 n low, le-leb n 256 high, t) refl
 
-pub loop_end_of : (labels : List Label) (c : Counter) (rest a b u w : List ℕ) (end : LoopTo) → next_of rest ≡ Some (u, a) → counter_of u ≡ Some c
+pub loop_end_of : (labels : List Label) (c : Counter) (rest a b u w : List ℕ) (end : LoopTo) → next_of rest ≡ Some (u, a) → starts_with nat_eq u (codes "-") ≡ false → counter_of u ≡ Some c
     → next_of a ≡ Some (w, b) → end_at labels c w b ≡ Ok end → next_of b ≡ None → loop_end_line labels rest ≡ Ok (says.LoopEnd end)
-loop_end_of labels c rest a b u w end p q r s t = rw (p, q, r, s, t) refl
+loop_end_of labels c rest a b u w end p bare q r s t = rw (p, bare, q, r, s, t) refl
 
 end_back : (labels : List Label) (c : Counter) (digits rest : List ℕ) (b : ℕ) → number_of digits ≡ Some b → b ≤ 255 → end_at labels c (45 ∷ digits) rest ≡ Ok (ends.Back c b)
 end_back labels c digits rest b h small = rw (h, le-leb 0 b (omega arith), le-leb b 255 small) refl
@@ -85,6 +88,24 @@ pub control_fields : (name rest w b : List ℕ) (v : ℕ) → next_of rest ≡ S
     → control_line name rest ≡ Ok (says.Plain (Mov Ccr v))
 control_fields name rest w b v p n q = rw (p, n, q) refl
 
+-- a number of 16 bits in four digits
+pub half_inline : (half : ℕ) → list_all is_inline (half_digits half) ≡ true
+half_inline half = (four_words half).1
+
+half_read : (half : ℕ) → half < 2 ^ 16 → number_of (48 ∷ 120 ∷ plain (half_digits half)) ≡ Some half
+half_read half small = pairs_read half (omega arith)
+
+add_of : (negative : Bool) (a : Address) (name rest u after w b : List ℕ) (half : ℕ) → next_of rest ≡ Some (u, after) → register_of u ≡ Some a
+    → next_of after ≡ Some (w, b) → number_of w ≡ Some half → half ≤ 0xffff → next_of b ≡ None → add_line negative name rest ≡ Ok (says.Plain (AddHalfword a half negative))
+add_of negative a name rest u after w b half p q r s small t = rw (p, q, r, s, le-leb 0 half (omega arith), le-leb half 0xffff small, t) refl
+
+again_of : (labels : List Label) (rest digits b : List ℕ) (c : Counter) (back : ℕ) → next_of rest ≡ Some (45 ∷ digits, b) → number_of digits ≡ Some back → back ≤ 255
+    → again_by (next_of b) ≡ Ok c → loop_end_line labels rest ≡ Ok (says.LoopAgain c back)
+again_of labels rest digits b c back p q small r = rw (p, q, le-leb 0 back (omega arith), le-leb back 255 small, r) refl
+
+again_flag_of : (rest tail : List ℕ) → next_of rest ≡ Some (codes "lc1", tail) → next_of tail ≡ None → again_by (next_of rest) ≡ Ok Lc1
+again_flag_of rest tail p q = rw (p, q) refl
+
 -- DMAMOV with a register and what follows it
 pub says_set : (labels : List Label) (reg rest : List ℕ) (s : Statement) → has_bytes reg ≡ true → list_all is_word_byte reg ≡ true → is_gap rest ≡ true → set_by reg rest ≡ Ok s
     → Says labels (codes "dmamov " ++ (reg ++ rest)) s
@@ -95,7 +116,7 @@ says_set labels reg rest s some word gap said =
 
 -- Each kind of instruction, in front of spaces.
 module _ (labels : List Label) (tail : List ℕ) (spaces : list_all is_space tail ≡ true) where
-  pub says_bare : (name : List ℕ) (i : Insn) → has_bytes name ≡ true → list_all is_word_byte name ≡ true → label_by (Some (name, tail)) ≡ None
+  pub says_bare : (name : List ℕ) (i : ChipInsn) → has_bytes name ≡ true → list_all is_word_byte name ≡ true → label_by (Some (name, tail)) ≡ None
       → (next_of tail ≡ None → by_name labels name tail ≡ Ok (says.Plain i)) → Says labels (name ++ tail) (says.Plain i)
   says_bare name i some word unlabelled said = named labels name tail (says.Plain i) some word (gap_spaces tail spaces) unlabelled (said (next_none tail spaces))
 
@@ -116,22 +137,22 @@ module _ (labels : List Label) (tail : List ℕ) (spaces : list_all is_space tai
       (loop_said c (codes "dmalp") counter n some word is low high)
 
   -- the last word of a DMALPEND
-  pub says_end : (c : Counter) (counter w : List ℕ) (end : LoopTo) → has_bytes counter ≡ true → list_all is_word_byte counter ≡ true → counter_of counter ≡ Some c
+  pub says_end : (c : Counter) (counter w : List ℕ) (end : LoopTo) → has_bytes counter ≡ true → list_all is_word_byte counter ≡ true → starts_with nat_eq counter (codes "-") ≡ false → counter_of counter ≡ Some c
       → has_bytes w ≡ true → list_all is_word_byte w ≡ true → end_at labels c w tail ≡ Ok end
       → Says labels (codes "dmalpend " ++ (counter ++ 32 ∷ 32 ∷ (w ++ tail))) (says.LoopEnd end)
   unfolding by_name
-  says_end c counter w end some word is some_w word_w to =
+  says_end c counter w end some word bare is some_w word_w to =
       let last = w ++ tail in
       named labels (codes "dmalpend") (32 ∷ (counter ++ 32 ∷ 32 ∷ last)) (says.LoopEnd end) refl refl refl refl
       (loop_end_of labels c (32 ∷ (counter ++ 32 ∷ 32 ∷ last)) (32 ∷ 32 ∷ last) tail counter w end
-      (next_space (counter ++ 32 ∷ 32 ∷ last) ∙ next_word counter (32 ∷ 32 ∷ last) some word refl) is
+      (next_space (counter ++ 32 ∷ 32 ∷ last) ∙ next_word counter (32 ∷ 32 ∷ last) some word refl) bare is
       (next_space (32 ∷ last) ∙ next_space last ∙ next_word w tail some_w word_w (gap_spaces tail spaces)) to (next_none tail spaces))
 
-  pub says_back : (c : Counter) (counter : List ℕ) (b : ℕ) → has_bytes counter ≡ true → list_all is_word_byte counter ≡ true → counter_of counter ≡ Some c
+  pub says_back : (c : Counter) (counter : List ℕ) (b : ℕ) → has_bytes counter ≡ true → list_all is_word_byte counter ≡ true → starts_with nat_eq counter (codes "-") ≡ false → counter_of counter ≡ Some c
       → b ≤ 255 → Says labels (codes "dmalpend " ++ (counter ++ 32 ∷ 32 ∷ 45 ∷ (plain (decimal b) ++ tail))) (says.LoopEnd (ends.Back c b))
-  says_back c counter b some word is small =
+  says_back c counter b some word bare is small =
       let r = decimal_read b (omega arith) in
-      says_end c counter (45 ∷ plain (decimal b)) (ends.Back c b) some word is refl r.word (end_back labels c (plain (decimal b)) tail b r.value small)
+      says_end c counter (45 ∷ plain (decimal b)) (ends.Back c b) some word bare is refl r.word (end_back labels c (plain (decimal b)) tail b r.value small)
 
   pub says_signal : (e : ℕ) → e ≤ 31 → Says labels (codes "dmasev e" ++ (plain (decimal e) ++ tail)) (says.Plain (Sev e))
   unfolding by_name
@@ -160,6 +181,47 @@ module _ (labels : List Label) (tail : List ℕ) (spaces : list_all is_space tai
       let last = codes "invalid" ++ tail in
       wait_said e true (32 ∷ 32 ∷ last) small refl
       (flag_of (32 ∷ 32 ∷ last) tail (next_space (32 ∷ last) ∙ next_space last ∙ next_word (codes "invalid") tail refl refl (gap_spaces tail spaces)) (next_none tail spaces))
+
+  add_said : (negative : Bool) (a : Address) (name register : List ℕ) (half : ℕ) → half < 2 ^ 16 → has_bytes register ≡ true → list_all is_word_byte register ≡ true
+      → register_of register ≡ Some a → add_line negative name (32 ∷ (register ++ 32 ∷ 32 ∷ 48 ∷ 120 ∷ (plain (half_digits half) ++ tail))) ≡ Ok (says.Plain (AddHalfword a half negative))
+  add_said negative a name register half small some word is =
+      let w = 48 ∷ 120 ∷ plain (half_digits half) in
+      add_of negative a name (32 ∷ (register ++ 32 ∷ 32 ∷ (w ++ tail))) register (32 ∷ 32 ∷ (w ++ tail)) w tail half
+      (next_space (register ++ 32 ∷ 32 ∷ (w ++ tail)) ∙ next_word register (32 ∷ 32 ∷ (w ++ tail)) some word refl) is
+      (next_space (32 ∷ (w ++ tail)) ∙ next_space (w ++ tail) ∙ next_word w tail refl (four_words half).0 (gap_spaces tail spaces))
+      (half_read half small) (omega arith) (next_none tail spaces)
+
+  pub says_add : (a : Address) (register : List ℕ) (half : ℕ) → half < 2 ^ 16 → has_bytes register ≡ true → list_all is_word_byte register ≡ true → register_of register ≡ Some a
+      → Says labels (codes "dmaaddh " ++ (register ++ 32 ∷ 32 ∷ 48 ∷ 120 ∷ (plain (half_digits half) ++ tail))) (says.Plain (AddHalfword a half false))
+  unfolding by_name
+  says_add a register half small some word is =
+      named labels (codes "dmaaddh") (32 ∷ (register ++ 32 ∷ 32 ∷ 48 ∷ 120 ∷ (plain (half_digits half) ++ tail))) (says.Plain (AddHalfword a half false)) refl refl refl refl
+      (add_said false a (codes "dmaaddh") register half small some word is)
+
+  pub says_subtract : (a : Address) (register : List ℕ) (half : ℕ) → half < 2 ^ 16 → has_bytes register ≡ true → list_all is_word_byte register ≡ true → register_of register ≡ Some a
+      → Says labels (codes "dmaadnh " ++ (register ++ 32 ∷ 32 ∷ 48 ∷ 120 ∷ (plain (half_digits half) ++ tail))) (says.Plain (AddHalfword a half true))
+  unfolding by_name
+  says_subtract a register half small some word is =
+      named labels (codes "dmaadnh") (32 ∷ (register ++ 32 ∷ 32 ∷ 48 ∷ 120 ∷ (plain (half_digits half) ++ tail))) (says.Plain (AddHalfword a half true)) refl refl refl refl
+      (add_said true a (codes "dmaadnh") register half small some word is)
+
+  again_said : (c : Counter) (back : ℕ) (rest : List ℕ) → back ≤ 255 → is_gap rest ≡ true → again_by (next_of rest) ≡ Ok c
+      → Says labels (codes "dmalpend -" ++ (plain (decimal back) ++ rest)) (says.LoopAgain c back)
+  unfolding by_name
+  again_said c back rest small gap flag =
+      let r = decimal_read back (omega arith) in
+      let w = 45 ∷ plain (decimal back) in
+      named labels (codes "dmalpend") (32 ∷ (w ++ rest)) (says.LoopAgain c back) refl refl refl refl
+      (again_of labels (32 ∷ (w ++ rest)) (plain (decimal back)) rest c back (next_space (w ++ rest) ∙ next_word w rest refl r.word gap) r.value small flag)
+
+  pub says_again : (back : ℕ) → back ≤ 255 → Says labels (codes "dmalpend -" ++ (plain (decimal back) ++ tail)) (says.LoopAgain Lc0 back)
+  says_again back small = again_said Lc0 back tail small (gap_spaces tail spaces) (rw (next_none tail spaces) refl)
+
+  pub says_again_flag : (back : ℕ) → back ≤ 255 → Says labels (codes "dmalpend -" ++ (plain (decimal back) ++ (codes "  lc1" ++ tail))) (says.LoopAgain Lc1 back)
+  says_again_flag back small =
+      let last = codes "lc1" ++ tail in
+      again_said Lc1 back (32 ∷ 32 ∷ last) small refl
+      (again_flag_of (32 ∷ 32 ∷ last) tail (next_space (32 ∷ last) ∙ next_space last ∙ next_word (codes "lc1") tail refl refl (gap_spaces tail spaces)) (next_none tail spaces))
 
   -- a number in hexadecimal digits
   number_next : (v : ℕ) → next_of (32 ∷ 32 ∷ 48 ∷ 120 ∷ (plain (hex_digits v) ++ tail)) ≡ Some (48 ∷ 120 ∷ plain (hex_digits v), tail)

@@ -2,10 +2,11 @@
 use Rattle.std.specs.Prelude.{◌≡◌, ℕ, ◌+◌, ◌-◌, Bool, true, false, ◌==◌, ◌&&◌, ◌||◌, if◌then◌else◌, List, [], ◌∷◌, ◌++◌, length, take, map, slice_index, nat_le, nat_lt, Option, Some, None, is_some, Result, Ok, Err, ok_or}
 use Rattle.dma_insn.specs.LineReading.{◌>>=◌}
 use Rattle.dma_insn.specs.AssemblyText.{most_program_bytes, text_lines}
-use Rattle.dma_insn.specs.Spelling.{spelling}
+use Rattle.dma_insn.specs.Chip.{spelling}
 use Rattle.dma_insn.specs.declared.insn.Counter.{Counter}
 use Rattle.dma_insn.specs.declared.insn.Counter.TheVariants.{Lc0, Lc1}
-use Rattle.dma_insn.specs.declared.insn.Insn.TheVariants.{Lp, LpEnd}
+use Rattle.dma_insn.specs.declared.chip.ChipInsn.{ChipInsn}
+use Rattle.dma_insn.specs.declared.chip.ChipInsn.TheVariants.{Lp, LpEnd, LoopAgain}
 use Rattle.dma_manual.specs.Listing.{is_end}
 use Rattle.dma_manual.specs.Words.{code_of, next_of, plain_byte}
 use Rattle.dma_manual.specs.Statements.{Label, label_of, label_view, statement_at}
@@ -16,6 +17,8 @@ use Rattle.dma_manual.specs.declared.assembler.Place.{Place}
 use Rattle.dma_manual.specs.declared.assembler.Stop.{Stop}
 use Rattle.dma_manual.specs.declared.assembler.Stop.TheVariants.{NoMemory, At}
 use Rattle.dma_manual.specs.declared.draft.Draft.{Draft}
+use Rattle.dma_manual.specs.declared.loops.LoopKind.{LoopKind}
+use Rattle.dma_manual.specs.declared.loops.LoopKind.TheVariants.{Counted, Endless}
 use Rattle.dma_manual.specs.declared.loops.Loops.{Loops}
 use Rattle.dma_manual.specs.declared.loops.Open.{Open}
 use Rattle.dma_manual.specs.declared.statements.End.{End as LoopTo}
@@ -46,7 +49,7 @@ abbrev pub empty : Read
 empty = record {
   code = [];
   labels = [];
-  loops = record { lc0 = None; lc1 = None };
+  loops = record { lc0 = None; lc1 = None; endless = None };
   stops = false;
   stray = None;
 }
@@ -69,15 +72,17 @@ with_bytes code bytes place =
     if nat_le (length code + length bytes) most_program_bytes then Ok (code ++ bytes)
     else Err (record { place = place; cause = causes.TooLong })
 
--- the open loop of a counter
-abbrev pub slot : Loops → Counter → Option Open
-slot loops Lc0 = loops.lc0
-slot loops Lc1 = loops.lc1
+-- the open loop of a kind
+abbrev pub slot : Loops → LoopKind → Option Open
+slot loops (Counted Lc0) = loops.lc0
+slot loops (Counted Lc1) = loops.lc1
+slot loops Endless = loops.endless
 
--- the open loops, with the loop of this counter replaced
-abbrev pub with_loop : Loops → Counter → Option Open → Loops
-with_loop loops Lc0 loop = record { lc0 = loop; lc1 = loops.lc1 }
-with_loop loops Lc1 loop = record { lc0 = loops.lc0; lc1 = loop }
+-- the open loops, with the loop of this kind replaced
+abbrev pub with_loop : Loops → LoopKind → Option Open → Loops
+with_loop loops (Counted Lc0) loop = record loops { lc0 = loop }
+with_loop loops (Counted Lc1) loop = record loops { lc1 = loop }
+with_loop loops Endless loop = record loops { endless = loop }
 
 -- the first counter without an open loop
 abbrev pub free_of : Option Open → Option Open → Option Counter
@@ -88,15 +93,22 @@ free_of (Some a) (Some b) = None
 abbrev pub free_counter : Loops → Option Counter
 free_counter loops = free_of loops.lc0 loops.lc1
 
--- the counter and the start of the open loop that begins last
-abbrev pub innermost_of : Option Open → Option Open → Option (Counter × ℕ)
+-- the counter and the start of the open loop with a counter that begins last
+abbrev pub innermost_of : Option Open → Option Open → Option (LoopKind × ℕ)
 innermost_of None None = None
-innermost_of (Some a) None = Some (Lc0, a.start)
-innermost_of None (Some b) = Some (Lc1, b.start)
-innermost_of (Some a) (Some b) = if nat_lt a.start b.start then Some (Lc1, b.start) else Some (Lc0, a.start)
+innermost_of (Some a) None = Some (Counted Lc0, a.start)
+innermost_of None (Some b) = Some (Counted Lc1, b.start)
+innermost_of (Some a) (Some b) = if nat_lt a.start b.start then Some (Counted Lc1, b.start) else Some (Counted Lc0, a.start)
 
-abbrev pub innermost : Loops → Option (Counter × ℕ)
-innermost loops = innermost_of loops.lc0 loops.lc1
+-- The kind and the start of the open loop that begins last. A DMALPFE has no bytes, so a loop with the same start begins
+-- before it.
+abbrev pub or_endless : Option Open → Option (LoopKind × ℕ) → Option (LoopKind × ℕ)
+or_endless None counted = counted
+or_endless (Some e) None = Some (Endless, e.start)
+or_endless (Some e) (Some counted) = if nat_lt e.start counted.1 then Some counted else Some (Endless, e.start)
+
+abbrev pub innermost : Loops → Option (LoopKind × ℕ)
+innermost loops = or_endless loops.endless (innermost_of loops.lc0 loops.lc1)
 
 -- the counter of a DMALP, and its place if the counter has to be found
 abbrev pub found_counter : Option Counter → Place → Result (Counter × Option Place) Located
@@ -113,27 +125,38 @@ back_to here start place =
     if nat_le start here && nat_le (here - start) 255 then Ok (here - start)
     else Err (record { place = place; cause = causes.Far })
 
--- the counter of a DMALPEND at an offset, and the length of its jump
-abbrev pub jump_of : Loops → ℕ → LoopTo → Place → Result (Counter × ℕ) Located
+-- the kind of loop that a DMALPEND at an offset ends, and the length of its jump
+abbrev pub jump_of : Loops → ℕ → LoopTo → Place → Result (LoopKind × ℕ) Located
 jump_of loops here ends.Innermost place = do
   l ← ok_or (innermost loops) (record { place = place; cause = causes.NoLoop })
   back ← back_to here l.1 place
   Ok (l.0, back)
 jump_of loops here (ends.Of counter) place = do
-  loop ← ok_or (slot loops counter) (record { place = place; cause = causes.NoLoop })
+  loop ← ok_or (slot loops (Counted counter)) (record { place = place; cause = causes.NoLoop })
   back ← back_to here loop.start place
-  Ok (counter, back)
+  Ok (Counted counter, back)
 jump_of loops here (ends.To counter start) place = do
   back ← back_to here start place
-  Ok (counter, back)
-jump_of loops here (ends.Back counter back) place = Ok (counter, back)
+  Ok (Counted counter, back)
+jump_of loops here (ends.Back counter back) place = Ok (Counted counter, back)
+
+-- the DMALPEND that ends a loop of a kind
+abbrev pub end_of : LoopKind → ℕ → ChipInsn
+end_of (Counted counter) back = LpEnd counter back
+end_of Endless back = LoopAgain Lc0 back
 
 -- What the lines say if a DMALP follows them: its loop is open.
 abbrev pub begun : Read → Option Counter → ℕ → Place → Result Read Located
 begun r counter times place = do
   c ← chosen r.loops counter place
   code ← with_bytes r.code (spelling (Lp c.0 times)) place
-  Ok (record r { code = code; loops = with_loop r.loops c.0 (Some (record { start = length code; unnamed = c.1 })) })
+  Ok (record r { code = code; loops = with_loop r.loops (Counted c.0) (Some (record { start = length code; unnamed = c.1 })) })
+
+-- What the lines say if a DMALPFE follows them: its loop is open. Fails with `Nested` within another such loop.
+abbrev pub begun_endless : Read → Place → Result Read Located
+begun_endless r place =
+    if is_some r.loops.endless then Err (record { place = place; cause = causes.Nested })
+    else Ok (record r { loops = record r.loops { endless = Some (record { start = length r.code; unnamed = Some place }) } })
 
 -- whether a jump of this many bytes back from an offset leads to the start of an open loop
 abbrev pub is_closed_by : Option Open → ℕ → ℕ → Bool
@@ -147,15 +170,30 @@ first_stray (Some first) closes place = Some first
 first_stray None true place = None
 first_stray None false place = Some place
 
--- What the lines say if a DMALPEND follows them: it ends the open loop of its counter.
+-- What the lines say if a DMALPEND follows them: it ends the open loop of its kind.
 abbrev pub ended : Read → LoopTo → Place → Result Read Located
 ended r end place = do
   jump ← jump_of r.loops (length r.code) end place
-  code ← with_bytes r.code (spelling (LpEnd jump.0 jump.1)) place
+  code ← with_bytes r.code (spelling (end_of jump.0 jump.1)) place
   Ok (record r {
     code = code;
     loops = with_loop r.loops jump.0 None;
     stray = first_stray r.stray (is_closed_by (slot r.loops jump.0) (length r.code) jump.1) place;
+  })
+
+-- whether a jump of this many bytes back from an offset leads to the start of the open loop, if there is one
+abbrev pub is_free_or_closed : Option Open → ℕ → ℕ → Bool
+is_free_or_closed None here back = true
+is_free_or_closed (Some loop) here back = is_closed_by (Some loop) here back
+
+-- What the lines say if the DMALPEND of a DMALPFE with this jump follows them: it ends such a loop, if one is open.
+abbrev pub ended_again : Read → Counter → ℕ → Place → Result Read Located
+ended_again r counter back place = do
+  code ← with_bytes r.code (spelling (LoopAgain counter back)) place
+  Ok (record r {
+    code = code;
+    loops = with_loop r.loops Endless None;
+    stray = first_stray r.stray (is_free_or_closed r.loops.endless (length r.code) back) place;
   })
 
 -- What the lines say if more bytes follow them; `stops` is whether these are DMAEND.
@@ -171,6 +209,8 @@ after_statement r (says.Plain i) place = with_code r (spelling i) (is_end i) pla
 after_statement r (says.Byte b) place = with_code r (b ∷ []) (b == 0) place
 after_statement r (says.Loop counter times) place = begun r counter times place
 after_statement r (says.LoopEnd end) place = ended r end place
+after_statement r says.Endless place = begun_endless r place
+after_statement r (says.LoopAgain counter back) place = ended_again r counter back place
 
 -- the result, with the place in line n added to its fault
 abbrev pub placed : {A : Type 0} → ℕ → ℕ → Result A Fault → Result A Located
@@ -215,7 +255,7 @@ take_lines r n (line ∷ lines) = do
   next ← take_line r (n + 1) (map plain_byte (code_of line))
   take_lines next (n + 1) lines
 
--- succeeds if each loop whose counter was found is ended
+-- succeeds if each loop of DMALPFE, or whose counter was found, is ended
 abbrev pub ended_by : Option Place → Result (Unit {0}) Located
 ended_by None = Ok tt
 ended_by (Some place) = Err (record { place = place; cause = causes.Open })
@@ -227,7 +267,8 @@ ended_loop (Some loop) = ended_by loop.unnamed
 abbrev pub unclosed : Loops → Result (Unit {0}) Located
 unclosed loops = do
   first ← ended_loop loops.lc0
-  ended_loop loops.lc1
+  second ← ended_loop loops.lc1
+  ended_loop loops.endless
 
 -- what a text says, or the place and the cause of its first fault
 abbrev pub read_text : List ℕ → Result Read Located

@@ -1,10 +1,10 @@
--- The instructions of a DMA-330 that no channel of the model executes (ARM DDI 0424, instruction set).
+-- The instructions of a DMA-330 that some channel doesn't execute (ARM DDI 0424, instruction set).
 use Rattle.std.specs.Prelude.{ℕ, Bool, ◌==◌, ◌||◌, if◌then◌else◌, List, codes, Option, Some, None}
 use Rattle.std.specs.Str.{bytes_eq}
 
--- The name of the instruction that begins with this byte, if only the chip executes it. S and B are for single and for
--- burst requests of a peripheral, of which the model has none; DMALPFE begins a loop without a counter; DMAGO and
--- DMAKILL are for the chip's manager.
+-- The name of the instruction that begins with this byte, if no channel executes it, or none on the ideal bus: DMASTZ,
+-- DMAADDH, DMAADNH and the DMALPEND of a DMALPFE. S and B are for single and for burst requests of a peripheral, of which
+-- the model has none; DMAGO and DMAKILL are for the chip's manager.
 abbrev pub chip_only_name : ℕ → Option (List ℕ)
 chip_only_name b =
     if b == 0x01 then Some (codes "DMAKILL") else (
@@ -28,12 +28,11 @@ chip_only_name b =
     if b == 0x5c || b == 0x5e then Some (codes "DMAADNH") else (
     if b == 0xa0 || b == 0xa2 then Some (codes "DMAGO") else None)))))))))))))))))))
 
--- whether a word in lower case is the name of such an instruction, or the directive DMALPFE
+-- whether a word in lower case is the name of an instruction that no channel executes
 abbrev pub is_chip_only : List ℕ → Bool
 is_chip_only name =
-    bytes_eq name (codes "dmaaddh") || bytes_eq name (codes "dmaadnh") || bytes_eq name (codes "dmaflushp")
-    || bytes_eq name (codes "dmago") || bytes_eq name (codes "dmakill") || bytes_eq name (codes "dmalds")
-    || bytes_eq name (codes "dmaldb") || bytes_eq name (codes "dmaldps") || bytes_eq name (codes "dmaldpb")
-    || bytes_eq name (codes "dmalpends") || bytes_eq name (codes "dmalpendb") || bytes_eq name (codes "dmalpfe")
+    bytes_eq name (codes "dmaflushp") || bytes_eq name (codes "dmago") || bytes_eq name (codes "dmakill")
+    || bytes_eq name (codes "dmalds") || bytes_eq name (codes "dmaldb") || bytes_eq name (codes "dmaldps")
+    || bytes_eq name (codes "dmaldpb") || bytes_eq name (codes "dmalpends") || bytes_eq name (codes "dmalpendb")
     || bytes_eq name (codes "dmasts") || bytes_eq name (codes "dmastb") || bytes_eq name (codes "dmastps")
-    || bytes_eq name (codes "dmastpb") || bytes_eq name (codes "dmastz") || bytes_eq name (codes "dmawfp")
+    || bytes_eq name (codes "dmastpb") || bytes_eq name (codes "dmawfp")

@@ -29,6 +29,8 @@ missing_message operand.Byte = codes "lacks a byte, 0 to 255"
 missing_message operand.Register = codes "lacks a register, SAR, CCR or DAR"
 missing_message operand.Address = codes "lacks an address"
 missing_message operand.Fields = codes "lacks fields or a number"
+missing_message operand.AddressRegister = codes "lacks a register, SAR or DAR"
+missing_message operand.Halfword = codes "lacks a number, 0 to 65535"
 
 -- which words a field of an end can be
 abbrev pub field_message : Side → Field → List ℕ
@@ -56,6 +58,8 @@ message causes.Event = codes "is not an event, e0 to e31"
 message causes.Byte = codes "is not 0 to 255"
 message causes.Value = codes "has more than 32 bits"
 message causes.Register = codes "is not SAR, CCR or DAR"
+message causes.AddressRegister = codes "is not SAR or DAR"
+message causes.Halfword = codes "is not 0 to 65535"
 message causes.Counter = codes "is not lc0 or lc1"
 message causes.Field = codes "is no field of a control word: SB, SS, SA, SP, SC, DB, DS, DA, DP, DC or ES"
 message (causes.FieldValue side which) = field_message side which
@@ -64,6 +68,7 @@ message causes.Twice = codes "is given twice"
 message causes.Label = codes "is no label before this line"
 message causes.NoLoop = codes "ends no open loop"
 message causes.NoCounter = codes "is within two loops already"
+message causes.Nested = codes "is within a loop of DMALPFE already"
 message causes.Open = codes "has no DMALPEND"
 message causes.TooLong = codes "makes the program longer than 8192 bytes"
 

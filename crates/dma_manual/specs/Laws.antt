@@ -1,7 +1,7 @@
 -- What the assembler makes of the texts of instructions and of programs.
 use Rattle.std.specs.Prelude.{◌≡◌, ℕ, ◌-◌, ◌<◌, ◌≤◌, ◌++◌, List, length, take, slice_index, Ok}
-use Rattle.dma_insn.specs.Spelling.{HasRanges, spelling}
-use Rattle.dma_insn.specs.declared.insn.Insn.{Insn}
+use Rattle.dma_insn.specs.Chip.{HasRanges, spelling}
+use Rattle.dma_insn.specs.declared.chip.ChipInsn.{ChipInsn}
 use Rattle.dma_insn.specs.AssemblyText.{most_program_bytes}
 use Rattle.dma_manual.specs.Listing.{Ending, follow, stop, listed, rest_text}
 use Rattle.dma_manual.specs.ManualText.{manual_text}
@@ -9,7 +9,7 @@ use Rattle.dma_manual.specs.Assembled.{assembled}
 
 -- The text of each instruction assembles to the instruction's bytes.
 abbrev pub TextsAssemble : Type 0
-TextsAssemble = (i : Insn) → HasRanges i → assembled (manual_text i) ≡ Ok (spelling i)
+TextsAssemble = (i : ChipInsn) → HasRanges i → assembled (manual_text i) ≡ Ok (spelling i)
 
 -- The number of bytes that a listing shows: all but those that follow DMAEND, or those before what is no instruction.
 abbrev pub shown : List ℕ → Ending → ℕ

@@ -3,13 +3,12 @@ use Rattle.std.specs.Prelude.{ℕ, ◌+◌, ◌-◌, ◌/◌, ◌%◌, ◌^◌, 
 use Rattle.std.specs.List.{list_any}
 use Rattle.std.specs.Option.{option_map}
 use Rattle.dma_text.specs.Digits.{hex_digits, hex_pair, spaced_bytes}
-use Rattle.dma_insn.specs.Spelling.{spelling}
-use Rattle.dma_insn.specs.Decoding.{Decoded, decoded}
+use Rattle.dma_insn.specs.Chip.{Decoded, decoded, spelling}
 use Rattle.dma_insn.specs.declared.codec.DecodeFault.{DecodeFault}
 use Rattle.dma_insn.specs.declared.codec.DecodeFault.TheVariants.{Cut, Unknown, BadField}
 use Rattle.dma_insn.specs.declared.insn.Counter.{Counter}
-use Rattle.dma_insn.specs.declared.insn.Insn.{Insn}
-use Rattle.dma_insn.specs.declared.insn.Insn.TheVariants.{Mov, Ld, St, Rmb, Wmb, Nop, End, Lp, LpEnd, Sev, Wfe}
+use Rattle.dma_insn.specs.declared.chip.ChipInsn.{ChipInsn}
+use Rattle.dma_insn.specs.declared.chip.ChipInsn.TheVariants.{Mov, Ld, St, Rmb, Wmb, Nop, End, Lp, LpEnd, Sev, Wfe, StoreZeros, AddHalfword, LoopAgain}
 use Rattle.dma_manual.specs.ChipOnly.{chip_only_name}
 use Rattle.dma_manual.specs.ManualText.{counter_name, manual_text}
 
@@ -18,7 +17,7 @@ abbrev pub label_name : ℕ → List ℕ
 label_name o = codes "loop_" ++ hex_pair (o / 256 % 256) ++ hex_pair (o % 256)
 
 -- the label behind an instruction that ends at an offset: behind each DMALP, if four digits are enough
-abbrev pub label_behind : Insn → ℕ → Option ℕ
+abbrev pub label_behind : ChipInsn → ℕ → Option ℕ
 label_behind (Lp c n) o = if nat_lt o 65536 then Some o else None
 label_behind End o = None
 label_behind Ld o = None
@@ -30,13 +29,16 @@ label_behind (LpEnd c b) o = None
 label_behind (Sev e) o = None
 label_behind (Wfe e v) o = None
 label_behind (Mov r v) o = None
+label_behind StoreZeros o = None
+label_behind (AddHalfword a half negative) o = None
+label_behind (LoopAgain c b) o = None
 
 -- the label that is `back` bytes before the offset o, if it is one of the labels
 abbrev pub label_before : List ℕ → ℕ → ℕ → Option ℕ
 label_before labels o back = if nat_le back o && list_any (λ l. l == (o - back)) labels then Some (o - back) else None
 
 -- the counter and the label of a DMALPEND at the offset o that jumps to one of the labels
-abbrev pub jump_of : List ℕ → ℕ → Insn → Option (Counter × ℕ)
+abbrev pub jump_of : List ℕ → ℕ → ChipInsn → Option (Counter × ℕ)
 jump_of labels o (LpEnd c b) = option_map (λ label. (c, label)) (label_before labels o b)
 jump_of labels o (Lp c n) = None
 jump_of labels o End = None
@@ -48,9 +50,12 @@ jump_of labels o Nop = None
 jump_of labels o (Sev e) = None
 jump_of labels o (Wfe e v) = None
 jump_of labels o (Mov r v) = None
+jump_of labels o StoreZeros = None
+jump_of labels o (AddHalfword a half negative) = None
+jump_of labels o (LoopAgain c b) = None
 
 -- an instruction, with the label to which it jumps, if there is one
-abbrev pub statement_text : Option (Counter × ℕ) → Insn → List ℕ
+abbrev pub statement_text : Option (Counter × ℕ) → ChipInsn → List ℕ
 statement_text (Some jump) i = codes "DMALPEND " ++ counter_name jump.0 ++ codes ", " ++ label_name jump.1
 statement_text None i = manual_text i
 
@@ -59,7 +64,7 @@ abbrev pub blanks_behind : ℕ → List ℕ
 blanks_behind width = drop (min width 43) (replicate 43 32)
 
 -- an instruction at the offset o, with spaces before it
-abbrev pub indented : List ℕ → ℕ → Insn → List ℕ
+abbrev pub indented : List ℕ → ℕ → ChipInsn → List ℕ
 indented labels o i = codes "    " ++ statement_text (jump_of labels o i) i
 
 -- the address to which a DMALPEND at an address jumps, if that is no label
@@ -68,8 +73,9 @@ target_by (Some label) here back = None
 target_by None here back = Some ((here + 2 ^ 32 - back) % 2 ^ 32)
 
 -- the address to which an instruction at the offset o jumps, if it is a DMALPEND that jumps to no label
-abbrev pub target_of : List ℕ → ℕ → ℕ → Insn → Option ℕ
+abbrev pub target_of : List ℕ → ℕ → ℕ → ChipInsn → Option ℕ
 target_of labels at o (LpEnd c b) = target_by (label_before labels o b) ((at + o) % 2 ^ 32) b
+target_of labels at o (LoopAgain c b) = target_by None ((at + o) % 2 ^ 32) b
 target_of labels at o _ = None
 
 -- how such an address is printed, behind the bytes of the DMALPEND
@@ -85,7 +91,7 @@ comment_text width at o bytes target =
     ++ (spaced_bytes bytes ++ target_text target ++ codes "\n"))
 
 -- the line of an instruction at the offset o
-abbrev pub line_text : ℕ → List ℕ → ℕ → Insn → List ℕ
+abbrev pub line_text : ℕ → List ℕ → ℕ → ChipInsn → List ℕ
 line_text at labels o i =
     indented labels o i ++ comment_text (length (indented labels o i)) at o (spelling i) (target_of labels at o i)
 
@@ -100,7 +106,7 @@ more_labels labels (Some label) = labels ++ label ∷ []
 more_labels labels None = labels
 
 -- whether an instruction is DMAEND
-abbrev pub is_end : Insn → Bool
+abbrev pub is_end : ChipInsn → Bool
 is_end End = true
 is_end Ld = false
 is_end St = false
@@ -112,6 +118,9 @@ is_end (LpEnd c b) = false
 is_end (Sev e) = false
 is_end (Wfe e v) = false
 is_end (Mov r v) = false
+is_end StoreZeros = false
+is_end (AddHalfword a half negative) = false
+is_end (LoopAgain c b) = false
 
 -- How a listing ends: n bytes follow DMAEND or nothing is left, or at an offset these bytes are no instruction.
 pub data Ending : Type 0 where
@@ -156,12 +165,12 @@ abbrev pub rest_text : Ending → List ℕ
 rest_text (follow n) = if n == 0 then [] else (codes "; " ++ decimal n ++ follow_words n ++ codes "\n")
 rest_text (stop o fault bytes) = []
 
--- what is wrong with a byte that begins no instruction of the model, by the name of the chip's instruction
+-- what is wrong with a byte that begins no instruction that a channel executes, by the name of the chip's instruction
 abbrev pub unknown_text : Option (List ℕ) → List ℕ
 unknown_text (Some name) = name ++ codes " is an instruction of the chip that no channel of this model executes:"
 unknown_text None = codes "no instruction begins with"
 
--- why bytes don't begin with an instruction of the model
+-- why bytes don't begin with an instruction that a channel executes
 abbrev pub cause_text : DecodeFault → List ℕ
 cause_text Cut = codes "the bytes end within an instruction:"
 cause_text (Unknown byte) = unknown_text (chip_only_name byte)

@@ -1,6 +1,6 @@
 -- An instruction in the syntax of the DMA-330's manual (ARM DDI 0424, instruction set and assembler directives).
 use Rattle.std.specs.Prelude.{ℕ, ◌+◌, ◌*◌, ◌/◌, ◌%◌, Bool, true, false, ◌==◌, if◌then◌else◌, List, [], ◌++◌, codes, decimal, Result, Ok, Err}
-use Rattle.dma_text.specs.Digits.{hex_digits}
+use Rattle.dma_text.specs.Digits.{hex_digits, hex_pair}
 use Rattle.dma_insn.specs.ControlWord.{beat_bytes, control_of}
 use Rattle.dma_insn.specs.declared.control.BurstEnd.{BurstEnd}
 use Rattle.dma_insn.specs.declared.control.Control.{Control}
@@ -8,8 +8,10 @@ use Rattle.dma_insn.specs.declared.control.ControlFault.{ControlFault}
 use Rattle.dma_insn.specs.declared.insn.Counter.{Counter}
 use Rattle.dma_insn.specs.declared.insn.Counter.TheVariants.{Lc0, Lc1}
 use Rattle.dma_insn.specs.declared.insn.Reg.TheVariants.{Sar, Ccr, Dar}
-use Rattle.dma_insn.specs.declared.insn.Insn.{Insn}
-use Rattle.dma_insn.specs.declared.insn.Insn.TheVariants.{Mov, Ld, St, Rmb, Wmb, Nop, End, Lp, LpEnd, Sev, Wfe}
+use Rattle.dma_insn.specs.declared.chip.ChipInsn.{ChipInsn}
+use Rattle.dma_insn.specs.declared.chip.ChipInsn.TheVariants.{Mov, Ld, St, Rmb, Wmb, Nop, End, Lp, LpEnd, Sev, Wfe, StoreZeros, AddHalfword, LoopAgain}
+use Rattle.dma_insn.specs.declared.chip.Address.{Address}
+use Rattle.dma_insn.specs.declared.chip.Address.TheVariants as address
 use Rattle.dma_manual.specs.declared.manual.Side.{Side}
 use Rattle.dma_manual.specs.declared.manual.Side.TheVariants.{Source, Destination}
 
@@ -58,8 +60,27 @@ control_text_of word (Err fault) = codes " 0x" ++ hex_digits word
 abbrev pub control_text : ℕ → List ℕ
 control_text word = control_text_of word (control_of word)
 
+-- the name of an address register
+abbrev pub address_name : Address → List ℕ
+address_name address.Source = codes "SAR"
+address_name address.Destination = codes "DAR"
+
+-- the name of DMAADDH, or of DMAADNH
+abbrev pub add_name : Bool → List ℕ
+add_name false = codes "DMAADDH "
+add_name true = codes "DMAADNH "
+
+-- a number of 16 bits in four hexadecimal digits
+abbrev pub half_digits : ℕ → List ℕ
+half_digits half = hex_pair (half / 256 % 256) ++ hex_pair (half % 256)
+
+-- what follows the jump of the DMALPEND of a DMALPFE: `lc1` if its bit lc is set, which has no effect
+abbrev pub again_flag : Counter → List ℕ
+again_flag Lc0 = []
+again_flag Lc1 = codes ", lc1"
+
 -- the line of an instruction, without label, comment or line feed
-abbrev pub manual_text : Insn → List ℕ
+abbrev pub manual_text : ChipInsn → List ℕ
 manual_text End = codes "DMAEND"
 manual_text Ld = codes "DMALD"
 manual_text St = codes "DMAST"
@@ -74,3 +95,6 @@ manual_text (Wfe e true) = codes "DMAWFE e" ++ decimal e ++ codes ", invalid"
 manual_text (Mov Sar v) = codes "DMAMOV SAR, 0x" ++ hex_digits v
 manual_text (Mov Dar v) = codes "DMAMOV DAR, 0x" ++ hex_digits v
 manual_text (Mov Ccr v) = codes "DMAMOV CCR," ++ control_text v
+manual_text StoreZeros = codes "DMASTZ"
+manual_text (AddHalfword a half negative) = add_name negative ++ address_name a ++ codes ", 0x" ++ half_digits half
+manual_text (LoopAgain c b) = codes "DMALPEND -" ++ decimal b ++ again_flag c

@@ -7,8 +7,10 @@ use Rattle.dma_insn.specs.declared.insn.Reg.{Reg}
 use Rattle.dma_insn.specs.declared.insn.Reg.TheVariants.{Sar, Ccr, Dar}
 use Rattle.dma_insn.specs.declared.insn.Counter.{Counter}
 use Rattle.dma_insn.specs.declared.insn.Counter.TheVariants.{Lc0, Lc1}
-use Rattle.dma_insn.specs.declared.insn.Insn.{Insn}
-use Rattle.dma_insn.specs.declared.insn.Insn.TheVariants.{Mov, Ld, St, Rmb, Wmb, Nop, End, Sev, Wfe}
+use Rattle.dma_insn.specs.declared.chip.ChipInsn.{ChipInsn}
+use Rattle.dma_insn.specs.declared.chip.ChipInsn.TheVariants.{Mov, Ld, St, Rmb, Wmb, Nop, End, Sev, Wfe, StoreZeros, AddHalfword}
+use Rattle.dma_insn.specs.declared.chip.Address.{Address}
+use Rattle.dma_insn.specs.declared.chip.Address.TheVariants.{Source, Destination}
 use Rattle.dma_manual.specs.ChipOnly.{is_chip_only}
 use Rattle.dma_manual.specs.Words.{next_of}
 use Rattle.dma_manual.specs.Operands.{event_at, fault_at, no_more, number_at, word_after}
@@ -35,7 +37,7 @@ label_of [] name = None
 label_of (l ∷ labels) name = if bytes_eq l.0 name then Some l.1 else label_of labels name
 
 -- an instruction without operands
-abbrev pub bare : Insn → List ℕ → Result Statement Fault
+abbrev pub bare : ChipInsn → List ℕ → Result Statement Fault
 bare i rest = do
   done ← no_more rest
   Ok (says.Plain i)
@@ -78,12 +80,25 @@ loop_end_to labels counter (Some w) = do
   done ← no_more w.1
   Ok (says.LoopEnd end)
 
--- the words after DMALPEND: none, or a counter and what follows it
+-- what follows the jump of the DMALPEND of a DMALPFE: nothing, or `lc1`, with which its bit lc is set
+abbrev pub again_by : Option (List ℕ × List ℕ) → Result Counter Fault
+again_by None = Ok Lc0
+again_by (Some w) =
+    if bytes_eq w.0 (codes "lc1") then (no_more w.1 >>= λ done. Ok Lc1) else Err (fault_at causes.Extra w.0 w.1)
+
+-- the words after DMALPEND that begin with the number of bytes after a minus
+abbrev pub again_line : List ℕ → List ℕ → Result Statement Fault
+again_line word rest = do
+  back ← number_at causes.Far 0 255 (drop 1 word) word rest
+  counter ← again_by (next_of rest)
+  Ok (says.LoopAgain counter back)
+
+-- the words after DMALPEND: none, or a jump, or a counter and what follows it
 abbrev pub loop_end_by : List Label → Option (List ℕ × List ℕ) → Result Statement Fault
 loop_end_by labels None = Ok (says.LoopEnd ends.Innermost)
-loop_end_by labels (Some w) = do
-  counter ← ok_or (counter_of w.0) (fault_at causes.Counter w.0 w.1)
-  loop_end_to labels counter (next_of w.1)
+loop_end_by labels (Some w) =
+    if starts_with nat_eq w.0 (codes "-") then again_line w.0 w.1
+    else (ok_or (counter_of w.0) (fault_at causes.Counter w.0 w.1) >>= λ counter. loop_end_to labels counter (next_of w.1))
 
 abbrev pub loop_end_line : List Label → List ℕ → Result Statement Fault
 loop_end_line labels rest = loop_end_by labels (next_of rest)
@@ -157,7 +172,28 @@ set_line name rest = do
   w ← word_after rest (fault_at (causes.Missing operand.Register) name rest)
   set_by w.0 w.1
 
--- the fault of a word that names no instruction of the model
+-- the address register that a word names
+abbrev pub address_of : List ℕ → Option Address
+address_of word =
+    if bytes_eq word (codes "sar") then Some Source else (if bytes_eq word (codes "dar") then Some Destination else None)
+
+-- the words after DMAADDH or DMAADNH: SAR or DAR, and a number of 16 bits
+abbrev pub add_line : Bool → List ℕ → List ℕ → Result Statement Fault
+add_line negative name rest = do
+  w ← word_after rest (fault_at (causes.Missing operand.AddressRegister) name rest)
+  address ← ok_or (address_of w.0) (fault_at causes.AddressRegister w.0 w.1)
+  n ← word_after w.1 (fault_at (causes.Missing operand.Halfword) w.0 w.1)
+  half ← number_at causes.Halfword 0 0xffff n.0 n.0 n.1
+  done ← no_more n.1
+  Ok (says.Plain (AddHalfword address half negative))
+
+-- no word after DMALPFE
+abbrev pub endless_line : List ℕ → Result Statement Fault
+endless_line rest = do
+  done ← no_more rest
+  Ok says.Endless
+
+-- the fault of a word that names no instruction
 abbrev pub no_name : List ℕ → List ℕ → Fault
 no_name name rest = fault_at (if is_chip_only name then causes.NotExecuted else causes.Name) name rest
 
@@ -175,7 +211,11 @@ by_name labels name rest =
     if bytes_eq name (codes "dmasev") then event_line name rest else (
     if bytes_eq name (codes "dmawfe") then wait_line name rest else (
     if bytes_eq name (codes "dmamov") then set_line name rest else (
-    if bytes_eq name (codes "dcb") then byte_line name rest else Err (no_name name rest))))))))))))
+    if bytes_eq name (codes "dmastz") then bare StoreZeros rest else (
+    if bytes_eq name (codes "dmaaddh") then add_line false name rest else (
+    if bytes_eq name (codes "dmaadnh") then add_line true name rest else (
+    if bytes_eq name (codes "dmalpfe") then endless_line rest else (
+    if bytes_eq name (codes "dcb") then byte_line name rest else Err (no_name name rest))))))))))))))))
 
 -- what the words after a label say
 abbrev pub statement_by : List Label → Option (List ℕ × List ℕ) → Result Statement Fault

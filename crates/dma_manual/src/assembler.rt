@@ -23,6 +23,8 @@ pub enum Operand {
     Register,
     Address,
     Fields,
+    AddressRegister,
+    Halfword,
 }
 
 /// A field of one end of a control word.
@@ -49,6 +51,8 @@ pub enum AsmCause {
     Byte,
     Value,
     Register,
+    AddressRegister,
+    Halfword,
     Counter,
     /// It begins with the name of no field.
     Field,
@@ -59,6 +63,7 @@ pub enum AsmCause {
     Label,
     NoLoop,
     NoCounter,
+    Nested,
     Open,
     TooLong,
 }

@@ -1,4 +1,4 @@
-//! The instructions of a DMA-330 that no channel of the model executes (ARM DDI 0424, instruction set).
+//! The instructions of a DMA-330 that some channel doesn't execute (ARM DDI 0424, instruction set).
 
 ghost use Rattle.std.specs.Prelude.{◌≡◌};
 ghost use Rattle.std.specs.Option.{option_map};
@@ -6,7 +6,7 @@ ghost use Rattle.dma_manual.specs.ChipOnly.{chip_only_name, is_chip_only};
 
 use dma_text::bytes::is_text;
 
-/// Returns the name of the instruction that begins with this byte, if only the chip executes it.
+/// Returns the name of the instruction that begins with this byte, if no channel executes it, or none on the ideal bus.
 pub fn chip_only_name(first: u8) -> Option<&'static str>
     ensures { option_map (λ name. name.now) result ≡ chip_only_name first }
 {
@@ -35,14 +35,11 @@ pub fn chip_only_name(first: u8) -> Option<&'static str>
     }
 }
 
-/// Returns whether a word in lower case is the name of an instruction that only the chip executes, or DMALPFE, which
-/// begins a loop without a counter.
+/// Returns whether a word in lower case is the name of an instruction that no channel executes.
 pub fn is_chip_only(name: &[u8]) -> bool
     ensures { result ≡ is_chip_only name.now }
 {
-    is_text(name, b"dmaaddh")
-        || is_text(name, b"dmaadnh")
-        || is_text(name, b"dmaflushp")
+    is_text(name, b"dmaflushp")
         || is_text(name, b"dmago")
         || is_text(name, b"dmakill")
         || is_text(name, b"dmalds")
@@ -51,11 +48,9 @@ pub fn is_chip_only(name: &[u8]) -> bool
         || is_text(name, b"dmaldpb")
         || is_text(name, b"dmalpends")
         || is_text(name, b"dmalpendb")
-        || is_text(name, b"dmalpfe")
         || is_text(name, b"dmasts")
         || is_text(name, b"dmastb")
         || is_text(name, b"dmastps")
         || is_text(name, b"dmastpb")
-        || is_text(name, b"dmastz")
         || is_text(name, b"dmawfp")
 }

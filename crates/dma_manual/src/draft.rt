@@ -1,21 +1,21 @@
 //! The program so far, while a text is assembled.
 
 ghost use Rattle.std.specs.Prelude.{◌≡◌, ◌==◌, ◌++◌, ◌+◌, ◌-◌, ◌≤◌, ◌<◌, [], ◌∷◌, length, map, Option, MatchOption, Some, None};
-ghost use Rattle.dma_insn.specs.Spelling.{spelling};
+ghost use Rattle.dma_insn.specs.Chip.{spelling};
 ghost use Rattle.dma_insn.specs.LineReading.{ResultIs};
 ghost use Rattle.dma_manual.specs.Words.{next_of};
-ghost use Rattle.dma_manual.specs.Assembled.{ResultOr, after_statement, begun, draft_view, empty, ended, first_stray, label_in, located, place_of, place_at, take_line, unclosed, with_bytes, with_code, with_label, with_statement};
+ghost use Rattle.dma_manual.specs.Assembled.{ResultOr, after_statement, begun, begun_endless, draft_view, empty, ended, ended_again, first_stray, label_in, located, place_of, place_at, take_line, unclosed, with_bytes, with_code, with_label, with_statement};
 ghost use Rattle.dma_manual.specs.Listing.{is_end};
 ghost use Rattle.dma_manual.specs.Statements.{label_view};
 
 use crate::assembler::{AsmCause, Fault, Located, Place, Stop};
 use crate::listing::is_end;
-use crate::loops::{Loops, Open, chosen, jump_of};
+use crate::loops::{LoopKind, Loops, Open, chosen, jump_of};
 use crate::statements::{End, Named, Statement, label_of, statement_at};
 use crate::words::next_word;
 use dma_insn::assembler::MAX_PROGRAM_BYTES;
-use dma_insn::codec::encode;
-use dma_insn::insn::{Counter, Insn, Times};
+use dma_insn::chip::{ChipInsn, encode_chip};
+use dma_insn::insn::{Counter, Times};
 use std::alloc::Global;
 
 /// The program so far.
@@ -41,13 +41,14 @@ impl Draft {
             loops: Loops {
                 lc0: None,
                 lc1: None,
+                endless: None,
             },
             stops: false,
             stray: None,
         }
     }
 
-    /// Succeeds if each loop whose counter was found is ended.
+    /// Succeeds if each loop of DMALPFE, or whose counter was found, is ended.
     pub fn closed(&self) -> Result<(), Located>
         ensures { result ≡ unclosed self.now.loops }
     {
@@ -102,12 +103,12 @@ fn push_bytes(code: &mut Vec<u8>, bytes: &[u8], place: Place) -> Result<(), Stop
 }
 
 // Appends an instruction to the program. Fails if it gets too long.
-fn push_insn(code: &mut Vec<u8>, insn: Insn, place: Place) -> Result<(), Stop>
+fn push_insn(code: &mut Vec<u8>, insn: ChipInsn, place: Place) -> Result<(), Stop>
     ensures { ResultOr (λ _. code.new.items) result
         (with_bytes code.old.items (spelling insn) place) }
 {
     let mut bytes = [0; 6];
-    let len = encode(insn, &mut bytes);
+    let len = encode_chip(insn, &mut bytes);
     push_bytes(code, &bytes[..len], place)
 }
 
@@ -122,12 +123,12 @@ fn begin_loop(
         (begun (draft_view draft.old) counter times place) }
 {
     let (counter, unnamed) = chosen(&draft.loops, counter, place)?;
-    push_insn(&mut draft.code, Insn::Lp { counter, times }, place)?;
+    push_insn(&mut draft.code, ChipInsn::Lp { counter, times }, place)?;
     let open = Open {
         start: draft.code.len(),
         unnamed,
     };
-    draft.loops = draft.loops.with(counter, Some(open));
+    draft.loops = draft.loops.with(LoopKind::Counted(counter), Some(open));
     Ok(())
 }
 
@@ -149,16 +150,51 @@ fn end_loop(draft: &mut Draft, end: End, place: Place) -> Result<(), Stop>
         (ended (draft_view draft.old) end place) }
 {
     let here = draft.code.len();
-    let (counter, back) = jump_of(&draft.loops, here, end, place)?;
-    let closes = draft.loops.is_closed_by(counter, here, back);
-    push_insn(&mut draft.code, Insn::LpEnd { counter, back }, place)?;
-    draft.loops = draft.loops.with(counter, None);
+    let (kind, back) = jump_of(&draft.loops, here, end, place)?;
+    let closes = draft.loops.is_closed_by(kind, here, back);
+    push_insn(&mut draft.code, kind.end(back), place)?;
+    draft.loops = draft.loops.with(kind, None);
+    draft.stray = first_stray(draft.stray, closes, place);
+    Ok(())
+}
+
+// Opens the loop of a DMALPFE, which has no bytes.
+fn begin_endless(draft: &mut Draft, place: Place) -> Result<(), Stop>
+    ensures { ResultOr (λ _. draft_view draft.new) result
+        (begun_endless (draft_view draft.old) place) }
+{
+    if draft.loops.endless.is_some() {
+        return Err(Stop::At(Located {
+            place,
+            cause: AsmCause::Nested,
+        }));
+    }
+    let open = Open {
+        start: draft.code.len(),
+        unnamed: Some(place),
+    };
+    draft.loops = draft.loops.with(LoopKind::Endless, Some(open));
+    Ok(())
+}
+
+// Appends the DMALPEND of a DMALPFE that has its jump, and closes such a loop.
+fn end_endless(draft: &mut Draft, counter: Counter, back: u8, place: Place) -> Result<(), Stop>
+    ensures { ResultOr (λ _. draft_view draft.new) result
+        (ended_again (draft_view draft.old) counter back place) }
+{
+    let closes = draft.loops.is_free_or_closed_by(draft.code.len(), back);
+    push_insn(
+        &mut draft.code,
+        ChipInsn::LoopAgain { counter, back },
+        place,
+    )?;
+    draft.loops = draft.loops.with(LoopKind::Endless, None);
     draft.stray = first_stray(draft.stray, closes, place);
     Ok(())
 }
 
 // Appends an instruction that is no DMALP or DMALPEND.
-fn push_plain(draft: &mut Draft, insn: Insn, place: Place) -> Result<(), Stop>
+fn push_plain(draft: &mut Draft, insn: ChipInsn, place: Place) -> Result<(), Stop>
     ensures { ResultOr (λ _. draft_view draft.new) result
         (with_code (draft_view draft.old) (spelling insn) (is_end insn) place) }
 {
@@ -188,6 +224,8 @@ fn push_statement(draft: &mut Draft, statement: Statement, place: Place) -> Resu
         Statement::Byte(byte) => push_byte(draft, byte, place),
         Statement::Loop { counter, times } => begin_loop(draft, counter, times, place),
         Statement::LoopEnd(end) => end_loop(draft, end, place),
+        Statement::Endless => begin_endless(draft, place),
+        Statement::LoopAgain { counter, back } => end_endless(draft, counter, back, place),
     }
 }
 

@@ -91,6 +91,8 @@ fn message(cause: AsmCause) -> &'static str
         AsmCause::Byte => "is not 0 to 255",
         AsmCause::Value => "has more than 32 bits",
         AsmCause::Register => "is not SAR, CCR or DAR",
+        AsmCause::AddressRegister => "is not SAR or DAR",
+        AsmCause::Halfword => "is not 0 to 65535",
         AsmCause::Counter => "is not lc0 or lc1",
         AsmCause::Field =>
             "is no field of a control word: SB, SS, SA, SP, SC, DB, DS, DA, DP, DC or ES",
@@ -100,6 +102,7 @@ fn message(cause: AsmCause) -> &'static str
         AsmCause::Label => "is no label before this line",
         AsmCause::NoLoop => "ends no open loop",
         AsmCause::NoCounter => "is within two loops already",
+        AsmCause::Nested => "is within a loop of DMALPFE already",
         AsmCause::Open => "has no DMALPEND",
         AsmCause::TooLong => "makes the program longer than 8192 bytes",
     }
@@ -116,6 +119,8 @@ fn missing_message(operand: Operand) -> &'static str
         Operand::Register => "lacks a register, SAR, CCR or DAR",
         Operand::Address => "lacks an address",
         Operand::Fields => "lacks fields or a number",
+        Operand::AddressRegister => "lacks a register, SAR or DAR",
+        Operand::Halfword => "lacks a number, 0 to 65535",
     }
 }
 

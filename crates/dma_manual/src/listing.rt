@@ -2,14 +2,15 @@
 
 ghost use Rattle.std.specs.Prelude.{◌≡◌, ◌++◌, ◌+◌, ◌-◌, ◌%◌, ◌<◌, ◌^◌, OnOk, OnErr, IfOk, ◌==◌};
 ghost use Rattle.std.specs.List.{list_any};
-ghost use Rattle.dma_insn.specs.Spelling.{spelling};
+ghost use Rattle.dma_insn.specs.Chip.{spelling};
 ghost use Rattle.dma_manual.specs.Listing.{blanks_behind, comment_text, follow, follow_words, indented, stop, cause_text, is_end, is_whole, jump_of, label_before, label_behind, label_name, label_text, line_text, listed, more_labels, rest_text, statement_text, stop_text, target_by, target_of, target_text};
 ghost use Rattle.dma_text.specs.Text.{Begins};
 
 use crate::chip_only::chip_only_name;
 use crate::manual::{Manual, counter_name};
-use dma_insn::codec::{DecodeFault, decode};
-use dma_insn::insn::{Counter, Insn};
+use dma_insn::chip::{ChipInsn, decode_chip};
+use dma_insn::codec::DecodeFault;
+use dma_insn::insn::Counter;
 use dma_text::text::{Address, HexByte, SpacedBytes, Text};
 use std::alloc::{AllocError, Global};
 
@@ -61,7 +62,7 @@ fn list(
     let mut offset = 0usize;
     let mut rest = program;
     while !rest.is_empty() {
-        match decode(rest) {
+        match decode_chip(rest) {
             Ok((insn, count)) => {
                 let (code, after) = rest.split_at(count);
                 push_line(out, &labels, at, offset, &insn, code)?;
@@ -97,21 +98,21 @@ impl Text for Label {
 }
 
 /// Returns whether an instruction is DMAEND.
-pub fn is_end(insn: &Insn) -> bool
+pub fn is_end(insn: &ChipInsn) -> bool
     ensures { result ≡ is_end insn.now }
 {
     match *insn {
-        Insn::End => true,
+        ChipInsn::End => true,
         _ => false,
     }
 }
 
 // Returns the label behind an instruction that ends at an offset.
-fn label_behind(insn: &Insn, offset: usize) -> Option<usize>
+fn label_behind(insn: &ChipInsn, offset: usize) -> Option<usize>
     ensures { result ≡ label_behind insn.now offset }
 {
     match *insn {
-        Insn::Lp { .. } if offset < 65_536 => Some(offset),
+        ChipInsn::Lp { .. } if offset < 65_536 => Some(offset),
         _ => None,
     }
 }
@@ -127,11 +128,11 @@ fn label_before(labels: &[usize], offset: usize, back: usize) -> Option<usize>
 }
 
 // Returns the counter and the label of a DMALPEND that jumps to one of the labels.
-fn jump_of(labels: &[usize], offset: usize, insn: &Insn) -> Option<(Counter, usize)>
+fn jump_of(labels: &[usize], offset: usize, insn: &ChipInsn) -> Option<(Counter, usize)>
     ensures { result ≡ jump_of labels.now offset insn.now }
 {
     match *insn {
-        Insn::LpEnd { counter, back } => {
+        ChipInsn::LpEnd { counter, back } => {
             let label = label_before(labels, offset, usize::from(back))?;
             Some((counter, label))
         }
@@ -151,7 +152,7 @@ fn push_statement(
     out: &mut Vec<u8>,
     labels: &[usize],
     offset: usize,
-    insn: &Insn,
+    insn: &ChipInsn,
 ) -> Result<(), AllocError>
     ensures ok { OnOk result
         (out.new.items ≡ out.old.items ++ statement_text (jump_of labels.now offset insn.now) insn.now) }
@@ -182,7 +183,7 @@ fn push_indented(
     out: &mut Vec<u8>,
     labels: &[usize],
     offset: usize,
-    insn: &Insn,
+    insn: &ChipInsn,
 ) -> Result<(), AllocError>
     ensures ok { OnOk result
         (out.new.items ≡ out.old.items ++ indented labels.now offset insn.now) }
@@ -210,14 +211,15 @@ fn target_by(label: Option<usize>, here: u32, back: u8) -> Option<u32>
 }
 
 // Returns the address to which an instruction jumps, if it is a DMALPEND that jumps to no label.
-fn target_of(labels: &[usize], at: u32, offset: usize, insn: &Insn) -> Option<u32>
+fn target_of(labels: &[usize], at: u32, offset: usize, insn: &ChipInsn) -> Option<u32>
     ensures { result ≡ target_of labels.now at offset insn.now }
 {
     match *insn {
-        Insn::LpEnd { back, .. } => {
+        ChipInsn::LpEnd { back, .. } => {
             let label = label_before(labels, offset, usize::from(back));
             target_by(label, address_of(at, offset), back)
         }
+        ChipInsn::LoopAgain { back, .. } => target_by(None, address_of(at, offset), back),
         _ => None,
     }
 }
@@ -269,7 +271,7 @@ fn push_line(
     labels: &[usize],
     at: u32,
     offset: usize,
-    insn: &Insn,
+    insn: &ChipInsn,
     code: &[u8],
 ) -> Result<(), AllocError>
     requires { code.now ≡ spelling insn.now }
@@ -286,7 +288,7 @@ fn push_line(
 fn push_label(
     out: &mut Vec<u8>,
     labels: &mut Vec<usize>,
-    insn: &Insn,
+    insn: &ChipInsn,
     offset: usize,
 ) -> Result<(), AllocError>
     ensures ok { OnOk result (out.new.items ≡ out.old.items ++ label_text (label_behind insn.now offset)) }
@@ -322,7 +324,7 @@ fn push_rest(out: &mut Vec<u8>, count: usize) -> Result<(), AllocError>
     ("; ", count, follow_words(count), "\n").push(out)
 }
 
-/// Why bytes don't begin with an instruction of the model.
+/// Why bytes don't begin with an instruction that a channel executes.
 #[derive(Drop)]
 struct Cause(DecodeFault);
 

@@ -1,10 +1,11 @@
 //! The open loops, while a text is assembled.
 
 ghost use Rattle.std.specs.Prelude.{◌≡◌, ◌-◌, ◌≤◌};
-ghost use Rattle.dma_manual.specs.Assembled.{back_to, chosen, free_counter, innermost, is_closed_by, jump_of, slot, unclosed, with_loop};
+ghost use Rattle.dma_manual.specs.Assembled.{back_to, chosen, end_of, free_counter, innermost, innermost_of, is_closed_by, is_free_or_closed, jump_of, slot, unclosed, with_loop};
 
 use crate::assembler::{AsmCause, Located, Place};
 use crate::statements::End;
+use dma_insn::chip::ChipInsn;
 use dma_insn::insn::Counter;
 
 /// A loop that no DMALPEND has ended yet.
@@ -12,40 +13,70 @@ use dma_insn::insn::Counter;
 pub struct Open {
     /// The offset of the loop's body.
     pub start: usize,
-    /// The place of a DMALP without a counter, whose loop has to be ended.
+    /// The place of a DMALPFE, or of a DMALP without a counter, whose loop has to be ended.
     pub unnamed: Option<Place>,
 }
 
-/// The open loops by their counters.
+/// How often a loop runs.
+#[derive(Clone, Copy)]
+pub enum LoopKind {
+    /// As often as this counter says: a loop of DMALP.
+    Counted(Counter),
+    /// For ever: a loop of DMALPFE.
+    Endless,
+}
+
+impl LoopKind {
+    /// Returns the DMALPEND that ends such a loop.
+    pub fn end(self, back: u8) -> ChipInsn
+        ensures { result ≡ end_of self back }
+    {
+        match self {
+            LoopKind::Counted(counter) => ChipInsn::LpEnd { counter, back },
+            LoopKind::Endless => ChipInsn::LoopAgain {
+                counter: Counter::Lc0,
+                back,
+            },
+        }
+    }
+}
+
+/// The open loops: one of each kind.
 #[derive(Clone, Copy)]
 pub struct Loops {
     pub lc0: Option<Open>,
     pub lc1: Option<Open>,
+    pub endless: Option<Open>,
 }
 
 impl Loops {
-    // Returns the open loop of a counter.
-    fn slot(&self, counter: Counter) -> Option<Open>
-        ensures { result ≡ slot self.now counter }
+    // Returns the open loop of a kind.
+    fn slot(&self, kind: LoopKind) -> Option<Open>
+        ensures { result ≡ slot self.now kind }
     {
-        match counter {
-            Counter::Lc0 => self.lc0,
-            Counter::Lc1 => self.lc1,
+        match kind {
+            LoopKind::Counted(Counter::Lc0) => self.lc0,
+            LoopKind::Counted(Counter::Lc1) => self.lc1,
+            LoopKind::Endless => self.endless,
         }
     }
 
-    /// Returns the loops with this one in place of the counter's.
-    pub fn with(&self, counter: Counter, started: Option<Open>) -> Loops
-        ensures { result ≡ with_loop self.now counter started }
+    /// Returns the loops with this one in place of that of its kind.
+    pub fn with(self, kind: LoopKind, started: Option<Open>) -> Loops
+        ensures { result ≡ with_loop self kind started }
     {
-        match counter {
-            Counter::Lc0 => Loops {
+        match kind {
+            LoopKind::Counted(Counter::Lc0) => Loops {
                 lc0: started,
-                lc1: self.lc1,
+                ..self
             },
-            Counter::Lc1 => Loops {
-                lc0: self.lc0,
+            LoopKind::Counted(Counter::Lc1) => Loops {
                 lc1: started,
+                ..self
+            },
+            LoopKind::Endless => Loops {
+                endless: started,
+                ..self
             },
         }
     }
@@ -61,36 +92,56 @@ impl Loops {
         }
     }
 
-    // Returns the counter and the start of the open loop that begins last.
-    fn innermost(&self) -> Option<(Counter, usize)>
-        ensures { result ≡ innermost self.now }
+    // Returns the counter and the start of the open loop with a counter that begins last.
+    fn innermost_counted(&self) -> Option<(LoopKind, usize)>
+        ensures { result ≡ innermost_of self.now.lc0 self.now.lc1 }
     {
         match (self.lc0, self.lc1) {
             (None, None) => None,
-            (Some(a), None) => Some((Counter::Lc0, a.start)),
-            (None, Some(b)) => Some((Counter::Lc1, b.start)),
+            (Some(a), None) => Some((LoopKind::Counted(Counter::Lc0), a.start)),
+            (None, Some(b)) => Some((LoopKind::Counted(Counter::Lc1), b.start)),
             (Some(a), Some(b)) => {
                 if a.start < b.start {
-                    Some((Counter::Lc1, b.start))
+                    Some((LoopKind::Counted(Counter::Lc1), b.start))
                 } else {
-                    Some((Counter::Lc0, a.start))
+                    Some((LoopKind::Counted(Counter::Lc0), a.start))
                 }
             }
         }
     }
 
-    /// Returns whether a jump of this many bytes back from an offset leads to the start of the counter's open loop.
-    pub fn is_closed_by(&self, counter: Counter, here: usize, back: u8) -> bool
-        ensures { result ≡ is_closed_by (slot self.now counter) here back }
+    // Returns the kind and the start of the open loop that begins last.
+    fn innermost(&self) -> Option<(LoopKind, usize)>
+        ensures { result ≡ innermost self.now }
+    {
+        let Some(endless) = self.endless else {
+            return self.innermost_counted();
+        };
+        match self.innermost_counted() {
+            Some((kind, start)) if endless.start < start => Some((kind, start)),
+            _ => Some((LoopKind::Endless, endless.start)),
+        }
+    }
+
+    /// Returns whether a jump of this many bytes back from an offset leads to the start of the open loop of a kind.
+    pub fn is_closed_by(&self, kind: LoopKind, here: usize, back: u8) -> bool
+        ensures { result ≡ is_closed_by (slot self.now kind) here back }
     {
         let back = usize::from(back);
-        match self.slot(counter) {
+        match self.slot(kind) {
             Some(open) => back <= here && here - back == open.start,
             None => false,
         }
     }
 
-    /// Succeeds if each loop whose counter was found is ended.
+    /// Returns whether no loop of DMALPFE is open, or such a jump leads to its start.
+    pub fn is_free_or_closed_by(&self, here: usize, back: u8) -> bool
+        ensures { result ≡ is_free_or_closed self.now.endless here back }
+    {
+        self.endless.is_none() || self.is_closed_by(LoopKind::Endless, here, back)
+    }
+
+    /// Succeeds if each loop of DMALPFE, or whose counter was found, is ended.
     pub fn closed(&self) -> Result<(), Located>
         ensures { result ≡ unclosed self.now }
     {
@@ -112,6 +163,18 @@ impl Loops {
                 ..
             },
         ) = self.lc1
+        {
+            return Err(Located {
+                place,
+                cause: AsmCause::Open,
+            });
+        }
+        if let Some(
+            Open {
+                unnamed: Some(place),
+                ..
+            },
+        ) = self.endless
         {
             return Err(Located {
                 place,
@@ -156,8 +219,13 @@ fn back_to(here: usize, start: usize, place: Place) -> Result<u8, Located>
     }
 }
 
-/// Returns the counter of a DMALPEND at an offset, and the length of its jump.
-pub fn jump_of(loops: &Loops, here: usize, end: End, place: Place) -> Result<(Counter, u8), Located>
+/// Returns the kind of loop that a DMALPEND at an offset ends, and the length of its jump.
+pub fn jump_of(
+    loops: &Loops,
+    here: usize,
+    end: End,
+    place: Place,
+) -> Result<(LoopKind, u8), Located>
     ensures { result ≡ jump_of loops.now here end place }
 {
     let missing = Located {
@@ -166,14 +234,15 @@ pub fn jump_of(loops: &Loops, here: usize, end: End, place: Place) -> Result<(Co
     };
     match end {
         End::Innermost => {
-            let (counter, start) = loops.innermost().ok_or(missing)?;
-            Ok((counter, back_to(here, start, place)?))
+            let (kind, start) = loops.innermost().ok_or(missing)?;
+            Ok((kind, back_to(here, start, place)?))
         }
         End::Of(counter) => {
-            let open = loops.slot(counter).ok_or(missing)?;
-            Ok((counter, back_to(here, open.start, place)?))
+            let kind = LoopKind::Counted(counter);
+            let open = loops.slot(kind).ok_or(missing)?;
+            Ok((kind, back_to(here, open.start, place)?))
         }
-        End::To(counter, start) => Ok((counter, back_to(here, start, place)?)),
-        End::Back(counter, back) => Ok((counter, back)),
+        End::To(counter, start) => Ok((LoopKind::Counted(counter), back_to(here, start, place)?)),
+        End::Back(counter, back) => Ok((LoopKind::Counted(counter), back)),
     }
 }

@@ -2,31 +2,32 @@
 
 ghost use Rattle.std.specs.Prelude.{◌≡◌, ◌++◌, ◌<◌, OnOk};
 ghost use Rattle.dma_insn.specs.ControlWord.{beat_bytes};
-ghost use Rattle.dma_manual.specs.ManualText.{cache_signals, control_text, counter_name, end_text, field_text, flag_text, letter, manual_text};
+ghost use Rattle.dma_manual.specs.ManualText.{add_name, address_name, again_flag, cache_signals, control_text, counter_name, end_text, field_text, flag_text, half_digits, letter, manual_text};
 ghost use Rattle.dma_text.specs.Text.{Begins};
 
+use dma_insn::chip::{self, ChipInsn};
 use dma_insn::control::{BurstEnd, Control};
-use dma_insn::insn::{Counter, Insn, Reg};
-use dma_text::text::{Address, Text};
+use dma_insn::insn::{Counter, Reg};
+use dma_text::text::{Address, HexByte, Text};
 use std::alloc::AllocError;
 
 /// An instruction in the manual's syntax, as `DMALP lc0, 16`, without a label or a line feed. The jump of DMALPEND is
-/// its length in bytes, as `DMALPEND lc0, -12`.
+/// its length in bytes, as `DMALPEND lc0, -12`, or `DMALPEND -12` for a loop of DMALPFE.
 #[derive(Clone, Copy)]
-pub struct Manual(pub Insn);
+pub struct Manual(pub ChipInsn);
 
 impl Text for Manual {
     ghost text = { λ m. manual_text m.0 };
 
     fn push(&self, out: &mut Vec<u8>) -> Result<(), AllocError> {
         match self.0 {
-            Insn::End => "DMAEND".push(out),
-            Insn::Ld => "DMALD".push(out),
-            Insn::St => "DMAST".push(out),
-            Insn::Rmb => "DMARMB".push(out),
-            Insn::Wmb => "DMAWMB".push(out),
-            Insn::Nop => "DMANOP".push(out),
-            Insn::Lp { counter, times } => {
+            ChipInsn::End => "DMAEND".push(out),
+            ChipInsn::Ld => "DMALD".push(out),
+            ChipInsn::St => "DMAST".push(out),
+            ChipInsn::Rmb => "DMARMB".push(out),
+            ChipInsn::Wmb => "DMAWMB".push(out),
+            ChipInsn::Nop => "DMANOP".push(out),
+            ChipInsn::Lp { counter, times } => {
                 (
                     "DMALP ",
                     counter_name(counter),
@@ -35,17 +36,29 @@ impl Text for Manual {
                 )
                     .push(out)
             }
-            Insn::LpEnd { counter, back } => {
+            ChipInsn::LpEnd { counter, back } => {
                 ("DMALPEND ", counter_name(counter), ", -", back).push(out)
             }
-            Insn::Sev(event) => ("DMASEV e", event.number()).push(out),
-            Insn::Wfe { event, invalid } => {
+            ChipInsn::Sev(event) => ("DMASEV e", event.number()).push(out),
+            ChipInsn::Wfe { event, invalid } => {
                 let flag = if invalid { ", invalid" } else { "" };
                 ("DMAWFE e", event.number(), flag).push(out)
             }
-            Insn::Mov(Reg::Sar, addr) => ("DMAMOV SAR, 0x", Address(addr)).push(out),
-            Insn::Mov(Reg::Dar, addr) => ("DMAMOV DAR, 0x", Address(addr)).push(out),
-            Insn::Mov(Reg::Ccr, word) => ("DMAMOV CCR,", ControlText(word)).push(out),
+            ChipInsn::Mov(Reg::Sar, addr) => ("DMAMOV SAR, 0x", Address(addr)).push(out),
+            ChipInsn::Mov(Reg::Dar, addr) => ("DMAMOV DAR, 0x", Address(addr)).push(out),
+            ChipInsn::Mov(Reg::Ccr, word) => ("DMAMOV CCR,", ControlText(word)).push(out),
+            ChipInsn::StoreZeros => "DMASTZ".push(out),
+            ChipInsn::AddHalfword {
+                address,
+                half,
+                negative,
+            } => {
+                let number = (", 0x", HalfDigits(half));
+                (add_name(negative), address_name(address), number).push(out)
+            }
+            ChipInsn::LoopAgain { counter, back } => {
+                ("DMALPEND -", back, again_flag(counter)).push(out)
+            }
         }
     }
 }
@@ -57,6 +70,50 @@ pub fn counter_name(counter: Counter) -> &'static str
     match counter {
         Counter::Lc0 => "lc0",
         Counter::Lc1 => "lc1",
+    }
+}
+
+// Returns the name of an address register.
+fn address_name(address: chip::Address) -> &'static str
+    ensures { result.now ≡ address_name address }
+{
+    match address {
+        chip::Address::Source => "SAR",
+        chip::Address::Destination => "DAR",
+    }
+}
+
+// Returns the name of DMAADDH, or of DMAADNH, with a space behind it.
+fn add_name(negative: bool) -> &'static str
+    ensures { result.now ≡ add_name negative }
+{
+    if negative { "DMAADNH " } else { "DMAADDH " }
+}
+
+// Returns what follows the jump of the DMALPEND of a DMALPFE: `lc1` if its bit lc is set.
+fn again_flag(counter: Counter) -> &'static str
+    ensures { result.now ≡ again_flag counter }
+{
+    match counter {
+        Counter::Lc0 => "",
+        Counter::Lc1 => ", lc1",
+    }
+}
+
+// A number of 16 bits in four hexadecimal digits.
+#[derive(Clone, Copy)]
+struct HalfDigits(u16);
+
+impl Text for HalfDigits {
+    ghost text = { λ half. half_digits half.0 };
+
+    fn push(&self, out: &mut Vec<u8>) -> Result<(), AllocError> {
+        let HalfDigits(half) = *self;
+        (
+            HexByte((half / 256 % 256) as u8),
+            HexByte((half % 256) as u8),
+        )
+            .push(out)
     }
 }
 

@@ -1,7 +1,7 @@
 //! Reads one line of assembly text.
 
-ghost use Rattle.std.specs.Prelude.{◌≡◌, map};
-ghost use Rattle.dma_manual.specs.Statements.{bare, by_name, address_line, byte_line, control_line, counter_of, end_at, event_line, label_of, label_view, loop_end_line, loop_end_to, loop_line, no_name, set_line, set_value, statement_at, times_line, wait_flag, wait_line};
+ghost use Rattle.std.specs.Prelude.{◌≡◌, drop, map};
+ghost use Rattle.dma_manual.specs.Statements.{add_line, address_of, again_by, again_line, bare, by_name, address_line, byte_line, control_line, counter_of, end_at, endless_line, event_line, label_of, label_view, loop_end_line, loop_end_to, loop_line, no_name, set_line, set_value, statement_at, times_line, wait_flag, wait_line};
 ghost use Rattle.dma_manual.specs.Words.{next_of};
 
 use crate::assembler::{AsmCause, Fault, Operand};
@@ -9,7 +9,8 @@ use crate::chip_only::is_chip_only;
 use crate::fields::fields_at;
 use crate::operands::{event_at, fault_at, no_more, number_at, word_after};
 use crate::words::next_word;
-use dma_insn::insn::{Counter, Event, Insn, Reg, Times};
+use dma_insn::chip::{Address, ChipInsn};
+use dma_insn::insn::{Counter, Event, Reg, Times};
 use dma_text::bytes::is_text;
 
 /// A label, and the offset of what follows it.
@@ -37,13 +38,20 @@ pub enum End {
 pub enum Statement {
     Nothing,
     /// An instruction that needs nothing of the lines before it.
-    Plain(Insn),
+    Plain(ChipInsn),
     Byte(u8),
     Loop {
         counter: Option<Counter>,
         times: Times,
     },
     LoopEnd(End),
+    /// A DMALPFE.
+    Endless,
+    /// The DMALPEND of a DMALPFE with the length of its jump.
+    LoopAgain {
+        counter: Counter,
+        back: u8,
+    },
 }
 
 /// Returns the offset of a label, or `None` if no label has this name.
@@ -59,7 +67,7 @@ pub fn label_of(labels: &[Named], name: &[u8]) -> Option<usize>
 }
 
 // Returns a statement without operands.
-fn bare(insn: Insn, rest: &[u8]) -> Result<Statement, Fault>
+fn bare(insn: ChipInsn, rest: &[u8]) -> Result<Statement, Fault>
     ensures { result ≡ bare insn rest.now }
 {
     no_more(rest)?;
@@ -136,16 +144,46 @@ fn loop_end_to(labels: &[Named], counter: Counter, rest: &[u8]) -> Result<Statem
     }
 }
 
-// Reads the words after DMALPEND: none, a counter, or a counter and where it jumps to.
+// Reads what follows the jump of the DMALPEND of a DMALPFE: nothing, or `lc1`, with which its bit lc is set.
+fn again_counter(rest: &[u8]) -> Result<Counter, Fault>
+    ensures { result ≡ again_by (next_of rest.now) }
+{
+    let Some((word, rest)) = next_word(rest) else {
+        return Ok(Counter::Lc0);
+    };
+    if !is_text(word, b"lc1") {
+        return Err(fault_at(AsmCause::Extra, word, rest));
+    }
+    no_more(rest)?;
+    Ok(Counter::Lc1)
+}
+
+// Reads the words after DMALPEND that begin with the number of bytes after a minus.
+fn again_line(digits: &[u8], word: &[u8], rest: &[u8]) -> Result<Statement, Fault>
+    requires { digits.now ≡ drop 1 word.now }
+    ensures { result ≡ again_line word.now rest.now }
+{
+    let back = number_at(AsmCause::Far, 0, 255, digits, word, rest)?;
+    let counter = again_counter(rest)?;
+    Ok(Statement::LoopAgain {
+        counter,
+        back: back as u8,
+    })
+}
+
+// Reads the words after DMALPEND: none, a jump, a counter, or a counter and where it jumps to.
 fn loop_end_line(labels: &[Named], rest: &[u8]) -> Result<Statement, Fault>
     ensures { result ≡ loop_end_line (map label_view labels.now) rest.now }
 {
     match next_word(rest) {
         None => Ok(Statement::LoopEnd(End::Innermost)),
-        Some((word, after)) => {
-            let counter = counter_of(word).ok_or(fault_at(AsmCause::Counter, word, after))?;
-            loop_end_to(labels, counter, after)
-        }
+        Some((word, after)) => match word {
+            [b'-', digits @ ..] => again_line(digits, word, after),
+            _ => {
+                let counter = counter_of(word).ok_or(fault_at(AsmCause::Counter, word, after))?;
+                loop_end_to(labels, counter, after)
+            }
+        },
     }
 }
 
@@ -159,7 +197,7 @@ fn event_line(name: &[u8], rest: &[u8]) -> Result<Statement, Fault>
     )?;
     let event = event_at(word, rest)?;
     no_more(rest)?;
-    Ok(Statement::Plain(Insn::Sev(Event::of_number(event as u8))))
+    Ok(Statement::Plain(ChipInsn::Sev(Event::of_number(event as u8))))
 }
 
 // Returns whether the last word of a line is `invalid`; no word is left if not.
@@ -186,7 +224,7 @@ fn wait_line(name: &[u8], rest: &[u8]) -> Result<Statement, Fault>
     )?;
     let number = event_at(word, rest)?;
     let invalid = wait_flag(rest)?;
-    Ok(Statement::Plain(Insn::Wfe {
+    Ok(Statement::Plain(ChipInsn::Wfe {
         event: Event::of_number(number as u8),
         invalid,
     }))
@@ -208,7 +246,7 @@ fn set_value(reg: Reg, word: &[u8], rest: &[u8]) -> Result<Statement, Fault>
 {
     let value = number_at(AsmCause::Value, 0, 0xffff_ffff, word, word, rest)?;
     no_more(rest)?;
-    Ok(Statement::Plain(Insn::Mov(reg, value as u32)))
+    Ok(Statement::Plain(ChipInsn::Mov(reg, value as u32)))
 }
 
 // Reads the words after DMAMOV CCR: a value, or fields.
@@ -221,7 +259,7 @@ fn control_line(name: &[u8], rest: &[u8]) -> Result<Statement, Fault>
     )?;
     match word {
         [b'0'..=b'9', ..] => set_value(Reg::Ccr, word, after),
-        _ => Ok(Statement::Plain(Insn::Mov(Reg::Ccr, fields_at(rest)?))),
+        _ => Ok(Statement::Plain(ChipInsn::Mov(Reg::Ccr, fields_at(rest)?))),
     }
 }
 
@@ -255,7 +293,50 @@ fn set_line(name: &[u8], rest: &[u8]) -> Result<Statement, Fault>
     }
 }
 
-// Returns the fault of a word that names no instruction of the model.
+// Returns the address register that a word names.
+fn address_of(word: &[u8]) -> Option<Address>
+    ensures { result ≡ address_of word.now }
+{
+    if is_text(word, b"sar") {
+        Some(Address::Source)
+    } else if is_text(word, b"dar") {
+        Some(Address::Destination)
+    } else {
+        None
+    }
+}
+
+// Reads the words after DMAADDH or DMAADNH: SAR or DAR, and a number of 16 bits.
+fn add_line(negative: bool, name: &[u8], rest: &[u8]) -> Result<Statement, Fault>
+    ensures { result ≡ add_line negative name.now rest.now }
+{
+    let (register, rest) = word_after(
+        rest,
+        fault_at(AsmCause::Missing(Operand::AddressRegister), name, rest),
+    )?;
+    let address = address_of(register).ok_or(fault_at(AsmCause::AddressRegister, register, rest))?;
+    let (word, rest) = word_after(
+        rest,
+        fault_at(AsmCause::Missing(Operand::Halfword), register, rest),
+    )?;
+    let half = number_at(AsmCause::Halfword, 0, 0xffff, word, word, rest)?;
+    no_more(rest)?;
+    Ok(Statement::Plain(ChipInsn::AddHalfword {
+        address,
+        half: half as u16,
+        negative,
+    }))
+}
+
+// Reads that nothing follows DMALPFE.
+fn endless_line(rest: &[u8]) -> Result<Statement, Fault>
+    ensures { result ≡ endless_line rest.now }
+{
+    no_more(rest)?;
+    Ok(Statement::Endless)
+}
+
+// Returns the fault of a word that names no instruction.
 fn no_name(name: &[u8], rest: &[u8]) -> Fault
     ensures { result ≡ no_name name.now rest.now }
 {
@@ -273,17 +354,17 @@ fn by_name(labels: &[Named], name: &[u8], rest: &[u8]) -> Result<Statement, Faul
     ensures { result ≡ by_name (map label_view labels.now) name.now rest.now }
 {
     if is_text(name, b"dmaend") {
-        bare(Insn::End, rest)
+        bare(ChipInsn::End, rest)
     } else if is_text(name, b"dmald") {
-        bare(Insn::Ld, rest)
+        bare(ChipInsn::Ld, rest)
     } else if is_text(name, b"dmast") {
-        bare(Insn::St, rest)
+        bare(ChipInsn::St, rest)
     } else if is_text(name, b"dmarmb") {
-        bare(Insn::Rmb, rest)
+        bare(ChipInsn::Rmb, rest)
     } else if is_text(name, b"dmawmb") {
-        bare(Insn::Wmb, rest)
+        bare(ChipInsn::Wmb, rest)
     } else if is_text(name, b"dmanop") {
-        bare(Insn::Nop, rest)
+        bare(ChipInsn::Nop, rest)
     } else if is_text(name, b"dmalp") {
         loop_line(name, rest)
     } else if is_text(name, b"dmalpend") {
@@ -294,6 +375,14 @@ fn by_name(labels: &[Named], name: &[u8], rest: &[u8]) -> Result<Statement, Faul
         wait_line(name, rest)
     } else if is_text(name, b"dmamov") {
         set_line(name, rest)
+    } else if is_text(name, b"dmastz") {
+        bare(ChipInsn::StoreZeros, rest)
+    } else if is_text(name, b"dmaaddh") {
+        add_line(false, name, rest)
+    } else if is_text(name, b"dmaadnh") {
+        add_line(true, name, rest)
+    } else if is_text(name, b"dmalpfe") {
+        endless_line(rest)
     } else if is_text(name, b"dcb") {
         byte_line(name, rest)
     } else {

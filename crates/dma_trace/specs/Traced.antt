@@ -3,7 +3,7 @@ use Rattle.std.specs.Prelude.{◌≡◌, ◌≢◌, ℕ, zero, suc, ◌+◌, ◌
 use Rattle.std.specs.List.{range_with_len}
 use Rattle.dma_text.specs.Digits.{hex_digits, spaced_bytes}
 use Rattle.dma_insn.specs.declared.chip.ChipInsn.{ChipInsn}
-use Rattle.dma_insn.specs.declared.chip.ChipInsn.TheVariants.{Ld, St}
+use Rattle.dma_insn.specs.declared.chip.ChipInsn.TheVariants.{Ld, St, StoreZeros}
 use Rattle.dma_insn.specs.AssemblyText.{most_program_bytes}
 use Rattle.dma_mem.specs.declared.segment.Segment.{Segment}
 use Rattle.dma_mem.specs.Flags.{flags_of}
@@ -25,7 +25,8 @@ use Rattle.dma_trace.specs.declared.options.TraceOptions.{TraceOptions}
 use Rattle.dma_trace.specs.declared.wave.Moment.{Moment}
 use Rattle.dma_trace.specs.Front.{front_of, registers_of, span_at}
 use Rattle.dma_trace.specs.Wave.{change_text, executing, first_text, last_text}
-use Rattle.dma_trace.specs.Words.{cause_text, count_text, fault_text, front_text, line_feed, long_text, offset_text, refusal_text, span_text, chip_text}
+use Rattle.dma_trace.specs.Words.{cause_text, count_text, fault_text, front_text, line_feed, long_text, offset_text, refusal_text, span_text}
+use Rattle.dma_manual.specs.ManualText.{manual_text}
 
 -- ---- memory
 
@@ -43,6 +44,7 @@ burst_text verb s pieces =
 unfoldable pub moves_text : ChipInsn → Front → List Piece → List ℕ
 moves_text Ld f pieces = burst_text (codes "; loaded ") (span_at (source_of (registers_of f))) pieces
 moves_text St f pieces = burst_text (codes "; stored ") (span_at (destination_of (registers_of f))) pieces
+moves_text StoreZeros f pieces = burst_text (codes "; stored ") (span_at (destination_of (registers_of f))) pieces
 moves_text i f pieces = []
 
 -- ---- lines
@@ -50,7 +52,7 @@ moves_text i f pieces = []
 -- Prints an instruction's number and offset, its text, and the registers after it.
 unfoldable pub step_text : ℕ → ChipInsn → ℕ → Front → List ℕ
 step_text n i pc after =
-    (decimal n ++ codes " " ++ offset_text pc) ++ (codes " " ++ chip_text i) ++ (codes "; " ++ front_text after)
+    (decimal n ++ codes " " ++ offset_text pc) ++ (codes " " ++ manual_text i) ++ (codes "; " ++ front_text after)
 
 -- Prints the line of instruction number n: the same, and what the instruction loads or stores.
 abbrev pub line_text : ℕ → ChipInsn → Front → Front → List Piece → List ℕ

@@ -3,7 +3,7 @@
 -- which isn't executed, follow.
 use Rattle.std.specs.Prelude.{ℕ, ◌+◌, ◌^◌, ◌++◌, Bool, true, false, List, Option, Some, None, Result, Ok, codes, decimal}
 use Rattle.dma_insn.specs.declared.chip.ChipInsn.{ChipInsn}
-use Rattle.dma_insn.specs.declared.chip.ChipInsn.TheVariants.{Ld, St, Sev, Wfe}
+use Rattle.dma_insn.specs.declared.chip.ChipInsn.TheVariants.{Ld, St, Sev, StoreZeros, Wfe}
 use Rattle.dma_chan.specs.declared.turn.ChanTurn.{ChanTurn}
 use Rattle.dma_chan.specs.declared.turn.ChanTurn.TheVariants.{Moved, Waiting, Ended, Fault}
 use Rattle.dma_chan.specs.declared.turn.FaultKind.{FaultKind}
@@ -40,9 +40,10 @@ abbrev pub load_bit : Result ChipInsn FaultKind → ℕ
 load_bit (Ok Ld) = 1
 load_bit next = 0
 
--- 1 at a DMAST
+-- 1 at a DMAST or DMASTZ
 abbrev pub store_bit : Result ChipInsn FaultKind → ℕ
 store_bit (Ok St) = 1
+store_bit (Ok StoreZeros) = 1
 store_bit next = 0
 
 -- 1 at a DMASEV
@@ -65,7 +66,7 @@ event_of next = 0
 abbrev pub load_bytes : Front → ℕ
 load_bytes f = burst_len (source_of (registers_of f))
 
--- how many bytes a DMAST stores with these registers
+-- how many bytes a DMAST or DMASTZ stores with these registers
 abbrev pub store_bytes : Front → ℕ
 store_bytes f = burst_len (destination_of (registers_of f))
 

@@ -3,10 +3,7 @@ use Rattle.std.specs.Prelude.{ℕ, false, true, Bool, ◌+◌, ◌*◌, ◌/◌,
 use Rattle.std.specs.Option.{option_and_then}
 use Rattle.dma_text.specs.Digits.{hex_digits, hex_pair}
 use Rattle.dma_insn.specs.declared.chip.ChipInsn.{ChipInsn}
-use Rattle.dma_insn.specs.declared.insn.Insn.TheVariants as core
-use Rattle.dma_insn.specs.declared.chip.Address.{Address}
-use Rattle.dma_insn.specs.declared.chip.Address.TheVariants.{Source, Destination}
-use Rattle.dma_insn.specs.declared.chip.ChipInsn.TheVariants.{Mov, Ld, St, Rmb, Wmb, Nop, End, Lp, LpEnd, Sev, Wfe, StoreZeros, AddHalfword, LoopAgain}
+use Rattle.dma_insn.specs.declared.chip.ChipInsn.TheVariants.{Mov}
 use Rattle.dma_insn.specs.ControlWord.{field}
 use Rattle.dma_manual.specs.ChipOnly.{chip_only_name}
 use Rattle.dma_manual.specs.ManualText.{manual_text}
@@ -77,36 +74,9 @@ abbrev pub absent_text : Option (List ℕ) → List ℕ
 absent_text (Some name) = name
 absent_text None = codes "no instruction"
 
--- the name of an address register
-abbrev pub address_text : Address → List ℕ
-address_text Source = codes "SAR"
-address_text Destination = codes "DAR"
-
--- the mnemonic of DMAADDH or DMAADNH
-abbrev pub add_text : Bool → List ℕ
-add_text false = codes "DMAADDH "
-add_text true = codes "DMAADNH "
-
--- an instruction of a chip in the manual's syntax. The DMALPEND of a loop for ever has its jump back as a number.
-unfoldable pub chip_text : ChipInsn → List ℕ
-chip_text End = manual_text core.End
-chip_text Ld = manual_text core.Ld
-chip_text St = manual_text core.St
-chip_text Rmb = manual_text core.Rmb
-chip_text Wmb = manual_text core.Wmb
-chip_text Nop = manual_text core.Nop
-chip_text (Lp c n) = manual_text (core.Lp c n)
-chip_text (LpEnd c b) = manual_text (core.LpEnd c b)
-chip_text (Sev e) = manual_text (core.Sev e)
-chip_text (Wfe e v) = manual_text (core.Wfe e v)
-chip_text (Mov r v) = manual_text (core.Mov r v)
-chip_text StoreZeros = codes "DMASTZ"
-chip_text (AddHalfword a half negative) = add_text negative ++ (address_text a ++ codes ", ") ++ decimal half
-chip_text (LoopAgain counter back) = codes "DMALPEND for ever, back " ++ decimal back
-
 -- the next instruction
 abbrev pub next_text : Option ℕ → Result ChipInsn FaultKind → List ℕ
-next_text first (Ok i) = chip_text i
+next_text first (Ok i) = manual_text i
 next_text first (Err kind) = absent_text (chip_only_at first)
 
 -- ---- faults

@@ -9,8 +9,9 @@ ghost use Rattle.dma_trace.specs.Traced.{burst_text, dump_text, line_text, moves
 use crate::amounts::Offset;
 use crate::front::{Front, Span};
 use crate::options::TraceOptions;
-use crate::words::{ChipManual, Point};
+use crate::words::Point;
 use dma_insn::chip::ChipInsn;
+use dma_manual::manual::Manual;
 use dma_mem::regions::{Region, copy_run};
 use dma_mem::segment::Segment;
 use dma_text::text::{Address, SpacedBytes, Text};
@@ -67,7 +68,9 @@ fn push_moves(
 {
     match *insn {
         ChipInsn::Ld => push_burst(alloc, "; loaded ", before.loads(), regions, out),
-        ChipInsn::St => push_burst(alloc, "; stored ", before.stores(), regions, out),
+        ChipInsn::St | ChipInsn::StoreZeros => {
+            push_burst(alloc, "; stored ", before.stores(), regions, out)
+        }
         _ => Ok(()),
     }
 }
@@ -87,7 +90,7 @@ impl Text for Step<'_> {
     #[tactic(auto, unfolding(crate::specs::Traced::step_text))]
     fn push(&self, out: &mut Vec<u8>) -> Result<(), AllocError> {
         let place = (self.number, " ", Offset(self.pc));
-        (place, (" ", ChipManual(*self.insn)), ("; ", *self.after)).push(out)
+        (place, (" ", Manual(*self.insn)), ("; ", *self.after)).push(out)
     }
 }
 

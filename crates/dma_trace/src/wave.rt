@@ -56,12 +56,12 @@ fn load_bit(ahead: &Result<ChipInsn, FaultKind>) -> u32
     }
 }
 
-// Returns 1 at a DMAST, else 0.
+// Returns 1 at a DMAST or DMASTZ, else 0.
 fn store_bit(ahead: &Result<ChipInsn, FaultKind>) -> u32
     ensures { result ≡ store_bit ahead.now }
 {
     match *ahead {
-        Ok(ChipInsn::St) => 1,
+        Ok(ChipInsn::St) | Ok(ChipInsn::StoreZeros) => 1,
         _ => 0,
     }
 }

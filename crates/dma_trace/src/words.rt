@@ -5,15 +5,14 @@ ghost use Rattle.std.specs.Prelude.{◌≡◌, ◌<◌, ◌++◌, OnOk, Result, 
 ghost use Rattle.std.specs.Option.{option_map};
 ghost use Rattle.dma_chan.specs.declared.turn.FaultKind.{FaultKind};
 ghost use Rattle.dma_text.specs.Text.{Begins};
-ghost use Rattle.dma_trace.specs.Words.{add_text, address_text, cause_text, chip_text, chip_only_at, control_text, control_words, end_text, fault_name, fault_text, fault_words, fetch_words, front_text, long_text, next_text, operand_words, place_text, refused_words, state_text, undefined_words};
+ghost use Rattle.dma_trace.specs.Words.{cause_text, chip_only_at, control_text, control_words, end_text, fault_name, fault_text, fault_words, fetch_words, front_text, long_text, next_text, operand_words, place_text, refused_words, state_text, undefined_words};
 
 use crate::amounts::{Bytes, Instructions, Offset};
 use crate::front::Front;
 use dma_chan::bus::Bus;
 use dma_chan::explain::Cause;
 use dma_chan::turn::FaultKind;
-use dma_insn::chip::{self, ChipInsn};
-use dma_insn::insn::Insn;
+use dma_insn::chip::ChipInsn;
 use dma_manual::chip_only::chip_only_name;
 use dma_manual::manual::Manual;
 use dma_text::text::{Address, Text};
@@ -105,60 +104,6 @@ fn chip_only_at(first: Option<u8>) -> Option<&'static str>
     chip_only_name(first?)
 }
 
-// Returns the name of an address register.
-fn address_text(address: chip::Address) -> &'static str
-    ensures { result.now ≡ address_text address }
-{
-    match address {
-        chip::Address::Source => "SAR",
-        chip::Address::Destination => "DAR",
-    }
-}
-
-// Returns the mnemonic of DMAADDH or DMAADNH.
-fn add_text(negative: bool) -> &'static str
-    ensures { result.now ≡ add_text negative }
-{
-    if negative { "DMAADNH " } else { "DMAADDH " }
-}
-
-/// An instruction of a chip in the manual's syntax.
-#[derive(Clone, Copy)]
-pub struct ChipManual(pub ChipInsn);
-
-impl Text for ChipManual {
-    ghost text = { λ m. chip_text m.0 };
-
-    #[tactic(auto, unfolding(crate::specs::Words::chip_text))]
-    fn push(&self, out: &mut Vec<u8>) -> Result<(), AllocError> {
-        match self.0 {
-            ChipInsn::End => Manual(Insn::End).push(out),
-            ChipInsn::Ld => Manual(Insn::Ld).push(out),
-            ChipInsn::St => Manual(Insn::St).push(out),
-            ChipInsn::Rmb => Manual(Insn::Rmb).push(out),
-            ChipInsn::Wmb => Manual(Insn::Wmb).push(out),
-            ChipInsn::Nop => Manual(Insn::Nop).push(out),
-            ChipInsn::Lp { counter, times } => Manual(Insn::Lp { counter, times }).push(out),
-            ChipInsn::LpEnd { counter, back } => Manual(Insn::LpEnd { counter, back }).push(out),
-            ChipInsn::Sev(event) => Manual(Insn::Sev(event)).push(out),
-            ChipInsn::Wfe { event, invalid } => Manual(Insn::Wfe { event, invalid }).push(out),
-            ChipInsn::Mov(reg, value) => Manual(Insn::Mov(reg, value)).push(out),
-            ChipInsn::StoreZeros => "DMASTZ".push(out),
-            ChipInsn::AddHalfword {
-                address,
-                half,
-                negative,
-            } => (
-                add_text(negative),
-                (address_text(address), ", "),
-                u64::from(half),
-            )
-                .push(out),
-            ChipInsn::LoopAgain { back, .. } => ("DMALPEND for ever, back ", back).push(out),
-        }
-    }
-}
-
 /// The next instruction, or that there is none, with its first byte.
 #[derive(Drop)]
 struct Ahead<'a> {
@@ -171,7 +116,7 @@ impl Text for Ahead<'_> {
 
     fn push(&self, out: &mut Vec<u8>) -> Result<(), AllocError> {
         match *self.next {
-            Ok(insn) => ChipManual(insn).push(out),
+            Ok(insn) => Manual(insn).push(out),
             Err(_) => chip_only_at(self.first)
                 .unwrap_or("no instruction")
                 .push(out),

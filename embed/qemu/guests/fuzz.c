@@ -54,7 +54,7 @@ static uint8_t *draw_move(uint8_t *at)
 static void draw_program(uint8_t *at)
 {
     for (uint32_t count = draw() % 40; count; count--) {
-        switch (draw() % 13) {
+        switch (draw() % 16) {
         case 0:
         case 1:
             at = draw_move(at);
@@ -83,6 +83,16 @@ static void draw_program(uint8_t *at)
         case 11:
             if (draw() % 6 == 0)
                 at = op2(at, DMAWFE, draw() % 16 << 3);
+            break;
+        case 12:
+            at = op(at, DMASTZ);
+            break;
+        case 13: /* DMAADDH and DMAADNH, of SAR and of DAR */
+            at = op(op2(at, DMAADDH | (draw() & 10), draw()), draw());
+            break;
+        case 14:
+            if (draw() % 6 == 0)
+                at = op2(at, DMALPEND_FE | (draw() & 4), draw() % 12);
             break;
         default:
             if (draw() % 8 == 0)

@@ -75,8 +75,8 @@ __attribute__((noreturn)) static inline void end(void)
 /* ---- programs of the DMA-330 ---- */
 
 enum { SAR = 0, CCR = 1, DAR_ = 2 };
-enum { DMAEND = 0x00, DMALD = 0x04, DMAST = 0x08, DMALP_0 = 0x20, DMALP_1 = 0x22, DMASEV = 0x34, DMAWFE = 0x36,
-       DMALPEND_0 = 0x38, DMALPEND_1 = 0x3C };
+enum { DMAEND = 0x00, DMALD = 0x04, DMAST = 0x08, DMASTZ = 0x0C, DMALP_0 = 0x20, DMALP_1 = 0x22, DMALPEND_FE = 0x28,
+       DMASEV = 0x34, DMAWFE = 0x36, DMALPEND_0 = 0x38, DMALPEND_1 = 0x3C, DMAADDH = 0x54 };
 
 /* CCR for bursts of `beats` beats of 1 << size bytes; source and destination rise if their flag is 1. */
 #define CONTROL(size, beats, src_rises, dst_rises) \

@@ -2,7 +2,7 @@ use Rattle.dma_text.proofs.Begun.{begins_more}
 use Rattle.std.proofs.Common.{◌-◌, rules}
 use Rattle.dma_manual.specs.Listing.{comment_text, indented, target_of}
 use Rattle.dma_manual.proofs.Listings.{line_joined}
-use Rattle.dma_insn.specs.Spelling.{spelling}
+use Rattle.dma_insn.specs.Chip.{spelling}
 use Rattle.dma_manual.proofs.listing.push_line.Goals as goal
 
 pub returns-clause-ok : goal.returns-clause-ok
