@@ -31,9 +31,9 @@ extern "C" {
 /* The version, by numbers for #if, and as dma330_version writes it. CHANGES.md has the rule: a program for this version
  * works with all later ones of the same MAJOR. */
 #define DMA330_VERSION_MAJOR 1
-#define DMA330_VERSION_MINOR 5
+#define DMA330_VERSION_MINOR 6
 #define DMA330_VERSION_PATCH 0
-#define DMA330_VERSION "dilkwafam 1.5"
+#define DMA330_VERSION "dilkwafam 1.6"
 
 /* Room for what dma330_version writes in any version. */
 #define DMA330_MAX_VERSION 32
@@ -751,10 +751,12 @@ int32_t dma330_device_restore(dma330_device *device, const uint8_t *save, size_t
 
 /* ---- without a controller ----
  *
- * Programs have the instructions DMAMOV, DMALD, DMAST, DMALP with DMALPEND, DMARMB, DMAWMB, DMANOP, DMASEV, DMAWFE and DMAEND;
- * all others, and the conditional forms, fail with DMA330_UNDEF_INSTR. A text has one a line, without a space before it, in
- * capital letters and digits; a line that begins with # and an empty line are skipped. A DMALPEND names the counter and how
- * many bytes before it the loop begins. This text copies 1024 bytes as 4 bursts of 16 beats of 16 bytes:
+ * Programs have the instructions DMAMOV, DMALD, DMAST, DMALP with DMALPEND, DMARMB, DMAWMB, DMANOP, DMASEV, DMAWFE and DMAEND.
+ * On a device, and where `bus` is that of a device, they also have DMASTZ, DMAADDH, DMAADNH and the DMALPEND of a DMALPFE,
+ * which have no text here (dma330_program.h has their bytes). All others, and the conditional forms, fail with
+ * DMA330_UNDEF_INSTR. A text has one instruction a line, without a space before it, in capital letters and digits; a line that
+ * begins with # and an empty line are skipped. A DMALPEND names the counter and how many bytes before it the loop begins. This
+ * text copies 1024 bytes as 4 bursts of 16 beats of 16 bytes:
  *
  *     DMAMOV SAR 0x80001000
  *     DMAMOV DAR 0x80002000

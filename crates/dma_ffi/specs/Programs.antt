@@ -42,7 +42,7 @@ where_fits bytes buffer number before = if fits bytes buffer then number else be
 
 -- the version's text, ended by a zero byte
 abbrev pub version_text : List ℕ
-version_text = codes "dilkwafam 1.5" ++ 0 ∷ []
+version_text = codes "dilkwafam 1.6" ++ 0 ∷ []
 
 -- ---- texts and programs
 

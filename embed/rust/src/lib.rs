@@ -494,7 +494,7 @@ impl fmt::Debug for Controller {
 /// Returns the version of the library.
 ///
 /// ```
-/// assert_eq!(dma330::version(), "dilkwafam 1.5");
+/// assert_eq!(dma330::version(), "dilkwafam 1.6");
 /// ```
 pub fn version() -> String {
     let mut out = vec![0; 64];
