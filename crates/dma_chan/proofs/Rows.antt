@@ -1,22 +1,27 @@
 -- The limits, as numbers, and a program worked out: rows computed from the definitions, and the code's own constants.
 -- And what a law refuses.
-use Rattle.std.proofs.Common.{◌≡◌, ℕ, ◌+◌, ◌-◌, ◌*◌, ◌^◌, ◌≤◌, [], ◌∷◌, map, Some, None, true, false, refl, sym, ◌∙◌, arith, List, ◌++◌}
+use Rattle.std.proofs.Common.{◌≡◌, ℕ, ◌+◌, ◌-◌, ◌*◌, ◌^◌, ◌≤◌, [], ◌∷◌, map, Some, None, Ok, Err, true, false, refl, sym, ◌∙◌, arith, List, ◌++◌}
 use Rattle.dma_mem.specs.Places.{Descriptor, filling, size_of}
 use Rattle.dma_mem.specs.Rules.{IsTransfer}
 use Rattle.dma_mem.proofs.TransferRules.{size_of_some}
 use Rattle.dma_insn.specs.AssemblyText.{most_program_bytes}
 use Rattle.dma_insn.specs.ControlWord.{control_of, end_at, is_control}
 use Rattle.dma_insn.specs.declared.assembler.TheConstants.{MAX_PROGRAM_BYTES}
-use Rattle.dma_insn.specs.declared.chip.ChipInsn.TheVariants.{Ld}
+use Rattle.dma_insn.specs.Chip.{decoded, decoded_core}
+use Rattle.dma_insn.specs.declared.chip.Address.TheVariants.{Source, Destination}
+use Rattle.dma_insn.specs.declared.chip.ChipInsn.TheVariants.{Ld, StoreZeros, AddHalfword, LoopAgain}
+use Rattle.dma_insn.specs.declared.codec.DecodeFault.TheVariants.{Unknown}
+use Rattle.dma_insn.specs.declared.insn.Counter.TheVariants.{Lc0, Lc1}
 use Rattle.dma_chan.specs.declared.bursts.TheConstants.{BUFFER_SIZE}
 use Rattle.dma_chan.specs.declared.bus.Bus.{Bus}
 use Rattle.dma_chan.specs.declared.bus.Bus.TheVariants.{Ideal, Chip}
 use Rattle.dma_chan.specs.declared.bus.BusWidth.TheVariants.{Bits32, Bits64, Bits128}
-use Rattle.dma_chan.specs.Bursts.{burst_at, burst_len, touched}
+use Rattle.dma_mem.specs.Image.{put}
+use Rattle.dma_chan.specs.Bursts.{burst_at, burst_len, reaches, touched}
 use Rattle.dma_chan.specs.Bus.{accepts}
 use Rattle.dma_chan.specs.Changes.{Call, HasCopied}
 use Rattle.dma_chan.specs.Written.{adjoins, range_at}
-use Rattle.dma_chan.specs.Exec.{buffer_size, start, start_on, moved}
+use Rattle.dma_chan.specs.Exec.{act, buffer_size, start, start_on, state, moved}
 use Rattle.dma_chan.specs.Compiled.{beat_of, parts, members, cost, compiled, compiled_on, cost_on, most_compiled}
 use Rattle.dma_chan.specs.Traffic.{read_len, write_len}
 use Rattle.dma_chan.proofs.CompiledExplained.{compiled_events}
@@ -145,6 +150,30 @@ sixteen_on_64_bits = refl
 sixteen_on_128_bits : (compiled_on (Chip Bits128) sixteen).bytes ≡ under_word (9 ∷ 64 ∷ 2 ∷ 0 ∷ [])
 unfolding compiled_on parts beat_of
 sixteen_on_128_bits = refl
+
+-- ---- a chip's instructions, by their codes in the manual
+
+codes_on_a_chip : map decoded ((0x0c ∷ []) ∷ (0x54 ∷ 0x34 ∷ 0x12 ∷ []) ∷ (0x5e ∷ 0xf0 ∷ 0xff ∷ []) ∷ (0x28 ∷ 5 ∷ []) ∷ (0x2c ∷ 5 ∷ []) ∷ [])
+    ≡ Ok (StoreZeros, 1) ∷ Ok (AddHalfword Source 0x1234 false, 3) ∷ Ok (AddHalfword Destination 0xfff0 true, 3) ∷ Ok (LoopAgain Lc0 5, 2) ∷ Ok (LoopAgain Lc1 5, 2) ∷ []
+codes_on_a_chip = refl
+
+-- the model's grammar has none of them, and a chip's has no conditional form
+no_such_codes : map decoded_core ((0x0c ∷ []) ∷ (0x28 ∷ 5 ∷ []) ∷ []) ++ map decoded ((0x05 ∷ []) ∷ (0x39 ∷ 5 ∷ []) ∷ [])
+    ≡ Err (Unknown 0x0c) ∷ Err (Unknown 0x28) ∷ Err (Unknown 0x05) ∷ Err (Unknown 0x39) ∷ []
+no_such_codes = refl
+
+-- DMAADNH with 0xFFF0 subtracts 16, and after the last address comes 0
+sixteen_less : (moved (AddHalfword Destination 0xfff0 true) (record start { dar = 0x1000 })).dar ≡ 0xff0
+sixteen_less = refl
+
+one_more_than_the_last : (moved (AddHalfword Source 1 false) (record start { sar = 4294967295 })).sar ≡ 0
+one_more_than_the_last = refl
+
+-- a burst of a byte of zeros at address 1, of a memory of three bytes; the buffer keeps its byte
+zeros_at_1 : (act [] StoreZeros (state (record (start_on (Chip Bits32)) { dar = 1; ccr = 0x4000 }) (9 ∷ []) (5 ∷ 6 ∷ 7 ∷ []) [])).1
+    ≡ state (record (start_on (Chip Bits32)) { pc = 1; dar = 2; ccr = 0x4000 }) (9 ∷ []) (5 ∷ 0 ∷ 7 ∷ []) []
+unfolding burst_at reaches put
+zeros_at_1 = refl
 
 -- ---- what a law refuses
 
