@@ -39,7 +39,7 @@ pub step-answer-requires-clause-shown : goal.step-answer-requires-clause-shown
 step-answer-requires-clause-shown g c = grind (arith, common_steps)
 
 pub count-requires-clause-steps : goal.count-requires-clause-steps
-count-requires-clause-steps g c = grind (arith, common_steps)
+count-requires-clause-steps g c = omega (arith, (kept g c.before.before).counts.steps, c.facts.ensures.steps)
 
 pub count-requires-2 : goal.count-requires-2
 count-requires-2 g c = grind (arith, common_steps)
