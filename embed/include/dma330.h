@@ -720,11 +720,13 @@ int32_t dma330_device_write(dma330_device *device, uint32_t offset, uint32_t val
 int32_t dma330_device_step(dma330_device *device, uint8_t channel, uint32_t most, const dma330_region *regions,
                            size_t region_count, dma330_device_turn *turn) DMA330_NO_NULLS;
 
-/* Explains the program that a DMAGO loaded into a channel, as dma330_explain does on the device's bus: from its first
- * instruction on, wherever the channel is in it. A channel has a program from the DMAGO until the DMAEND or a DMAKILL, also
- * while it waits or is faulting. After a restore nothing is promised of
- * the channel's turns, since a save may have any registers. The explanation doesn't depend on the number of events: a device fails at an instruction
- * with an event that it doesn't have. Codes: NO_CHANNEL, NO_PROGRAM, NO_MEMORY, UNEXPLAINED, BUFFER_TOO_SMALL. */
+/* Explains the program that a DMAGO loaded into a channel, as dma330_explain_from does on the device's bus: from its
+ * first instruction on, wherever the channel is in it, with the registers that the channel has now. A DMAGO keeps the
+ * registers, so before the channel's first turn they are those with which the program begins. Later the answer is the
+ * same if the program sets each register before it uses it. A channel has a program from the DMAGO until the DMAEND or a
+ * DMAKILL, also while it waits or is faulting. After a restore nothing is promised of the channel's turns, since a save
+ * may have any registers. The explanation doesn't depend on the number of events: a device fails at an instruction with
+ * an event that it doesn't have. Codes: NO_CHANNEL, NO_PROGRAM, NO_MEMORY, UNEXPLAINED, BUFFER_TOO_SMALL. */
 int32_t dma330_device_explain(dma330_device *device, uint8_t channel, uint32_t most, dma330_repeated *src,
                               size_t src_room, dma330_segment *dst, size_t dst_room, dma330_happening *happenings,
                               size_t happenings_room, dma330_explanation *explanation) DMA330_NO_NULLS;
@@ -779,15 +781,16 @@ int32_t dma330_version(char *out, size_t room, size_t *len) DMA330_NO_NULLS;
 int32_t dma330_run_program(const uint8_t *program, size_t len, uint8_t *memory, size_t size, uint32_t limit,
                            dma330_run_end *end) DMA330_NO_NULLS;
 
-/* Explains a program: writes which bytes it reads (`src`) and where it stores them (`dst`), each list in the order of the
- * run, the events that it waits for and signals, and the numbers of all. Byte number p that it reads is byte number p
- * that it stores; no byte is stored twice, or where one is read. `bus` is 0 for a channel of this library, or 32, 64 or
- * 128 for one of a device. The call runs the program once, without a memory, for at most `most` instructions: their order
- * and addresses are the same in each memory. So a channel that runs the program copies these bytes, if the regions have
- * all these addresses, none that it writes is read-only, no mark lies there, and nobody else writes there meanwhile. If
- * UNEXPLAINED is returned, no copy explains the program in at most `most` instructions: the explanation has the cause,
- * the offset, and how many instructions come before it. For BUFFER_TOO_SMALL the explanation is that of DMA330_OK, so the numbers
- * are the room that is needed. Only DMA330_OK writes the lists, from their fronts.
+/* Explains a program that begins with SAR, DAR, CCR, LC0 and LC1 at 0, as in a channel of this library: writes which
+ * bytes it reads (`src`) and where it stores them (`dst`), each list in the order of the run, the events that it waits
+ * for and signals, and the numbers of all. Byte number p that it reads is byte number p that it stores; no byte is stored
+ * twice, or where one is read. `bus` is 0 for a channel of this library, or 32, 64 or 128 for one of a device. The call
+ * runs the program once, without a memory, for at most `most` instructions: their order and addresses are the same in
+ * each memory. So a channel that runs the program copies these bytes, if the regions have all these addresses, none that
+ * it writes is read-only, no mark lies there, and nobody else writes there meanwhile. If UNEXPLAINED is returned, no copy
+ * explains the program in at most `most` instructions: the explanation has the cause, the offset, and how many
+ * instructions come before it. For BUFFER_TOO_SMALL the explanation is that of DMA330_OK, so the numbers are the room
+ * that is needed. Only DMA330_OK writes the lists, from their fronts.
  *
  * `most` bounds what a program of somebody else can cost. The time is proportional to the executed instructions, and at
  * the end the ranges that are stored are sorted. The call allocates up to 16 bytes for each executed DMAWFE and DMASEV,
@@ -798,6 +801,14 @@ int32_t dma330_run_program(const uint8_t *program, size_t len, uint8_t *memory, 
 int32_t dma330_explain(const uint8_t *program, size_t len, uint32_t bus, uint32_t most, dma330_repeated *src,
                        size_t src_room, dma330_segment *dst, size_t dst_room, dma330_happening *happenings,
                        size_t happenings_room, dma330_explanation *explanation) DMA330_NO_NULLS;
+
+/* Explains in the same way a program that begins with the SAR, DAR, CCR, LC0 and LC1 of `start`, whose other members
+ * aren't read: so a device's channel runs it, whose registers keep their values over a DMAGO. Codes: those of
+ * dma330_explain, and BAD_CONFIG also for a CCR that no channel on the bus has. Since 1.6.0. */
+int32_t dma330_explain_from(const uint8_t *program, size_t len, uint32_t bus, const dma330_registers *start, uint32_t most,
+                            dma330_repeated *src, size_t src_room, dma330_segment *dst, size_t dst_room,
+                            dma330_happening *happenings, size_t happenings_room,
+                            dma330_explanation *explanation) DMA330_NO_NULLS;
 
 /* Writes the program of a copy, the one that dma330_channel_load_copy loads if `bus` is 0; else one for a device with a bus
  * of 32, 64 or 128 bits, which never moves a beat that is wider. DMA330_MAX_PROGRAM bytes are room for each program.

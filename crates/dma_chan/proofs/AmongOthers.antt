@@ -8,13 +8,12 @@ use Rattle.dma_mem.proofs.TransferRules.{source_in}
 use Rattle.dma_mem.specs.Places.{Descriptor, all_below, size_of, lies_below, destinations, moves}
 use Rattle.dma_mem.specs.Image.{laid}
 use Rattle.dma_mem.specs.Marking.{MarkList}
-use Rattle.dma_chan.specs.declared.bus.Bus.{Bus}
 use Rattle.dma_chan.specs.declared.exec.Registers.{Registers}
 use Rattle.dma_chan.specs.declared.turn.ChanTurn.{ChanTurn}
 use Rattle.dma_chan.specs.declared.turn.ChanTurn.TheVariants.{Moved, Waiting, Ended, Fault}
 use Rattle.dma_chan.specs.declared.turn.FaultKind.{FaultKind}
 use Rattle.dma_chan.specs.Bursts.{touched}
-use Rattle.dma_chan.specs.Exec.{State, destination_of, state, act, exec}
+use Rattle.dma_chan.specs.Exec.{State, destination_of, start_on, state, act, exec}
 use Rattle.dma_chan.specs.Channel.{ChannelValue, ahead_of, step_of, stepped, stored_by, bytes_of_program, loaded}
 use Rattle.dma_chan.specs.Explains.{Explains, IsIn, IsLoadedWith, IsWait, StartsWith, Trace, after_insn, next_in, traced}
 use Rattle.dma_chan.specs.Others.{Misses, Touches, CopiesAmongOthers}
@@ -56,20 +55,20 @@ Fits t size = (a : ℕ) → Touches t a → a < size
 
 -- Before instruction number k of the n before DMAEND: how far the channel is in the program, and at every address that
 -- the transfer touches the memory is the first one with the bytes stored so far laid over it.
-pub record Among (bus : Bus) (program : List ℕ) (t : Descriptor) (n : ℕ) (first : List ℕ) (k : ℕ) (image : List ℕ) (c : ChannelValue) : Type 0 where
+pub record Among (start : Registers) (program : List ℕ) (t : Descriptor) (n : ℕ) (first : List ℕ) (k : ℕ) (image : List ℕ) (c : ChannelValue) : Type 0 where
   pub begins : IsSomeAnd c.program (λ p. StartsWith p program)
   pub within : k ≤ n
   pub taken : c.taken ≡ k
-  pub stored : c.stored ≡ length (traced bus program k).stores
-  pub mirrors : Mirrors t first (traced bus program k) c.registers c.buffer image
+  pub stored : c.stored ≡ length (traced start program k).stores
+  pub mirrors : Mirrors t first (traced start program k) c.registers c.buffer image
 
-pub is_in : (bus : Bus) (program : List ℕ) (t : Descriptor) (n : ℕ) (first : List ℕ) (k : ℕ) (image : List ℕ) (c : ChannelValue) → Among bus program t n first k image c → IsIn bus program n k c
-is_in bus program t n first k image c w = record { begins = w.begins; within = w.within; registers = w.mirrors.registers_are }
+pub is_in : (start : Registers) (program : List ℕ) (t : Descriptor) (n : ℕ) (first : List ℕ) (k : ℕ) (image : List ℕ) (c : ChannelValue) → Among start program t n first k image c → IsIn start program n k c
+is_in start program t n first k image c w = record { begins = w.begins; within = w.within; registers = w.mirrors.registers_are }
 
 -- a channel into which the program was just loaded, over the first memory
-pub at_start : (bus : Bus) (program : List ℕ) (t : Descriptor) (n : ℕ) (first : List ℕ) (c : ChannelValue) → Fits t (length first) → IsLoadedWith bus program c → Among bus program t n first 0 first c
-at_start bus program t n first c low l =
-    subst (Among bus program t n first 0 first) (sym l.2) (record {
+pub at_start : (start : Registers) (program : List ℕ) (t : Descriptor) (n : ℕ) (first : List ℕ) (c : ChannelValue) → Fits t (length first) → IsLoadedWith start program c → Among start program t n first 0 first c
+at_start start program t n first c low l =
+    subst (Among start program t n first 0 first) (sym l.2) (record {
       begins = l.1;
       within = omega arith;
       taken = refl;
@@ -78,9 +77,9 @@ at_start bus program t n first c low l =
     })
 
 -- what others do
-pub kept : (bus : Bus) (program : List ℕ) (t : Descriptor) (n : ℕ) (first : List ℕ) (k : ℕ) (image other : List ℕ) (c d : ChannelValue) → Among bus program t n first k image c → d ≡ c → ((a : ℕ) → Touches t a → get_or other a 0 ≡ get_or image a 0) → Fits t (length other) → Among bus program t n first k other d
-kept bus program t n first k image other c d w same unchanged fits =
-    subst (Among bus program t n first k other) (sym same) (record {
+pub kept : (start : Registers) (program : List ℕ) (t : Descriptor) (n : ℕ) (first : List ℕ) (k : ℕ) (image other : List ℕ) (c d : ChannelValue) → Among start program t n first k image c → d ≡ c → ((a : ℕ) → Touches t a → get_or other a 0 ≡ get_or image a 0) → Fits t (length other) → Among start program t n first k other d
+kept start program t n first k image other c d w same unchanged fits =
+    subst (Among start program t n first k other) (sym same) (record {
       begins = w.begins;
       within = w.within;
       taken = w.taken;
@@ -99,27 +98,27 @@ stored_insn : (i : ChipInsn) (x : Trace) → Can i x → length (after_insn i x)
 stored_insn St x c = let b = destination_of x.registers in omega (arith, length-append x.stores (touched b), length_up b c.1)
 stored_insn i x c = omega arith
 
-module _ (bus : Bus) (program : List ℕ) (t : Descriptor) (n : ℕ) (marks : MarkList) (first : List ℕ) (h : Explains bus program t n) (low : Fits t (length first)) where
+module _ (start : Registers) (program : List ℕ) (t : Descriptor) (n : ℕ) (marks : MarkList) (first : List ℕ) (h : Explains start program t n) (low : Fits t (length first)) where
   -- what the answer of a step says
   abbrev pub After : ℕ → Machine → ChanTurn → Type 0
-  After k u Moved = Among bus program t n first (suc k) (after_step marks u).image (after_step marks u).channel
-  After k u (Waiting e) = IsWait bus program n e
+  After k u Moved = Among start program t n first (suc k) (after_step marks u).image (after_step marks u).channel
+  After k u (Waiting e) = IsWait start program n e
   After k u Ended = IsDone t first (after_step marks u)
   After k u (Fault kind) = ¬ Misses marks t
 
-  waits_at : (k : ℕ) (i : ChipInsn) (x : ℕ) → k < n → next_in program (traced bus program k) ≡ Ok i → (v : Bool) × (i ≡ Wfe x v) → IsWait bus program n x
+  waits_at : (k : ℕ) (i : ChipInsn) (x : ℕ) → k < n → next_in program (traced start program k) ≡ Ok i → (v : Bool) × (i ≡ Wfe x v) → IsWait start program n x
   waits_at k i x less next a =
       record { step = k; within = less; invalid = a.0; waits = next ∙ ap (λ (j : ChipInsn). Ok j) a.1 }
 
-  to : (k : ℕ) (u : Machine) (i : ChipInsn) (turn : ChanTurn) → answer_at marks u ≡ turn → Among bus program t n first k u.image u.channel → k < n → next_in program (traced bus program k) ≡ Ok i → Can i (traced bus program k) → Answers t first marks i (traced bus program (suc k)) (turn, (step_of marks u.channel u.image u.flags).1) → After k u turn
+  to : (k : ℕ) (u : Machine) (i : ChipInsn) (turn : ChanTurn) → answer_at marks u ≡ turn → Among start program t n first k u.image u.channel → k < n → next_in program (traced start program k) ≡ Ok i → Can i (traced start program k) → Answers t first marks i (traced start program (suc k)) (turn, (step_of marks u.channel u.image u.flags).1) → After k u turn
   to k u i Moved e w less next go a =
       let c = u.channel in
-      let ahead = ahead_at bus program k i c w.begins w.mirrors.registers_are next in
-      let count : stored_by (ahead_of c) c.registers ≡ stored_by (Ok i) (traced bus program k).registers =
+      let ahead = ahead_at start program k i c w.begins w.mirrors.registers_are next in
+      let count : stored_by (ahead_of c) c.registers ≡ stored_by (Ok i) (traced start program k).registers =
       ap (λ (r : Result ChipInsn FaultKind). stored_by r c.registers) ahead ∙ ap (stored_by (Ok i)) w.mirrors.registers_are in
-      let more : length (traced bus program (suc k)).stores ≡ length (traced bus program k).stores + stored_by (Ok i) (traced bus program k).registers =
-      ap (λ (y : Trace). length y.stores) (traced_next bus program t n h k i next) ∙ stored_insn i (traced bus program k) go in
-      subst (Among bus program t n first (suc k) (after_step marks u).image) (sym (turned marks u Moved e)) (record {
+      let more : length (traced start program (suc k)).stores ≡ length (traced start program k).stores + stored_by (Ok i) (traced start program k).registers =
+      ap (λ (y : Trace). length y.stores) (traced_next start program t n h k i next) ∙ stored_insn i (traced start program k) go in
+      subst (Among start program t n first (suc k) (after_step marks u).image) (sym (turned marks u Moved e)) (record {
         begins = w.begins;
         within = omega (arith, less);
         taken = omega (arith, w.taken);
@@ -130,49 +129,49 @@ module _ (bus : Bus) (program : List ℕ) (t : Descriptor) (n : ℕ) (marks : Ma
   to k u i Ended e w less next go a = absurd a
   to k u i (Fault kind) e w less next go a = a
 
-  answers_at : (k : ℕ) (u : Machine) (i : ChipInsn) → Among bus program t n first k u.image u.channel → k < n → next_in program (traced bus program k) ≡ Ok i → Can i (traced bus program k) → Answers t first marks i (traced bus program (suc k)) (step_of marks u.channel u.image u.flags)
+  answers_at : (k : ℕ) (u : Machine) (i : ChipInsn) → Among start program t n first k u.image u.channel → k < n → next_in program (traced start program k) ≡ Ok i → Can i (traced start program k) → Answers t first marks i (traced start program (suc k)) (step_of marks u.channel u.image u.flags)
   answers_at k u i w less next go =
       let c = u.channel in
-      let x = traced bus program k in
+      let x = traced start program k in
       let does : step_of marks c u.image u.flags ≡ act marks i (state x.registers c.buffer u.image u.flags) =
-      does_next marks i u (ahead_at bus program k i c w.begins w.mirrors.registers_are next) ∙ ap (λ (r : Registers). act marks i (state r c.buffer u.image u.flags)) w.mirrors.registers_are in
+      does_next marks i u (ahead_at start program k i c w.begins w.mirrors.registers_are next) ∙ ap (λ (r : Registers). act marks i (state r c.buffer u.image u.flags)) w.mirrors.registers_are in
       let m : Mirrors t first x x.registers c.buffer u.image = record { registers_are = refl; buffer_is = w.mirrors.buffer_is; few = w.mirrors.few; same = w.mirrors.same; fits = w.mirrors.fits } in
-      let same = traced_next bus program t n h k i next in
-      let all = answers t first marks h.copy low x c.buffer u.image u.flags m i (subst (Inside t) same (inside bus program t n h (suc k) (omega (arith, less)))) (inside bus program t n h k w.within) go in
+      let same = traced_next start program t n h k i next in
+      let all = answers t first marks h.copy low x c.buffer u.image u.flags m i (subst (Inside t) same (inside start program t n h (suc k) (omega (arith, less)))) (inside start program t n h k w.within) go in
       subst (λ (y : Trace). Answers t first marks i y (step_of marks c u.image u.flags)) (sym same) (subst (Answers t first marks i (after_insn i x)) (sym does) all)
 
   -- what the answer of a step before DMAEND says
   abbrev pub Before : ChanTurn → Type 0
   Before Moved = Unit {0}
-  Before (Waiting e) = IsWait bus program n e
+  Before (Waiting e) = IsWait start program n e
   Before Ended = ⊥
   Before (Fault kind) = ¬ Misses marks t
 
-  went : (k : ℕ) (i : ChipInsn) (x : Trace) (turn : ChanTurn) (s : State) → k < n → next_in program (traced bus program k) ≡ Ok i → Answers t first marks i x (turn, s) → Before turn
+  went : (k : ℕ) (i : ChipInsn) (x : Trace) (turn : ChanTurn) (s : State) → k < n → next_in program (traced start program k) ≡ Ok i → Answers t first marks i x (turn, s) → Before turn
   went k i x Moved s less next a = tt
   went k i x (Waiting e) s less next a = waits_at k i e less next a
   went k i x turn s less next a = a
 
-  before_by : (k : ℕ) (u : Machine) (turn : ChanTurn) → answer_at marks u ≡ turn → Among bus program t n first k u.image u.channel → k < n → Nexts bus program t n k → Before turn
+  before_by : (k : ℕ) (u : Machine) (turn : ChanTurn) → answer_at marks u ≡ turn → Among start program t n first k u.image u.channel → k < n → Nexts start program t n k → Before turn
   before_by k u turn e w l (Ends last next) = absurd (omega (arith, l, last))
   before_by k u turn e w l (Goes i less next go) =
       let s = (step_of marks u.channel u.image u.flags).1 in
-      went k i (traced bus program (suc k)) turn s less next (subst (λ (v : ChanTurn). Answers t first marks i (traced bus program (suc k)) (v, s)) e (answers_at k u i w less next go))
+      went k i (traced start program (suc k)) turn s less next (subst (λ (v : ChanTurn). Answers t first marks i (traced start program (suc k)) (v, s)) e (answers_at k u i w less next go))
 
-  pub goes_on_at : (k : ℕ) (u : Machine) (turn : ChanTurn) → answer_at marks u ≡ turn → Among bus program t n first k u.image u.channel → k < n → Before turn
-  goes_on_at k u turn e w l = before_by k u turn e w l (nexts bus program t n h k w.within)
+  pub goes_on_at : (k : ℕ) (u : Machine) (turn : ChanTurn) → answer_at marks u ≡ turn → Among start program t n first k u.image u.channel → k < n → Before turn
+  goes_on_at k u turn e w l = before_by k u turn e w l (nexts start program t n h k w.within)
 
-  by_next : (k : ℕ) (u : Machine) (turn : ChanTurn) → answer_at marks u ≡ turn → Among bus program t n first k u.image u.channel → Nexts bus program t n k → After k u turn
+  by_next : (k : ℕ) (u : Machine) (turn : ChanTurn) → answer_at marks u ≡ turn → Among start program t n first k u.image u.channel → Nexts start program t n k → After k u turn
   by_next k u turn e w (Goes i less next go) =
       let s = (step_of marks u.channel u.image u.flags).1 in
-      to k u i turn e w less next go (subst (λ (v : ChanTurn). Answers t first marks i (traced bus program (suc k)) (v, s)) e (answers_at k u i w less next go))
+      to k u i turn e w less next go (subst (λ (v : ChanTurn). Answers t first marks i (traced start program (suc k)) (v, s)) e (answers_at k u i w less next go))
   by_next k u turn e w (Ends last next) =
       let c = u.channel in
-      let ahead = ahead_at bus program k End c w.begins w.mirrors.registers_are next in
+      let ahead = ahead_at start program k End c w.begins w.mirrors.registers_are next in
       let does = does_next marks End u ahead in
       let over : turn ≡ Ended = sym e ∙ ends_then marks u ahead in
       let is_after = turned marks u Ended (ends_then marks u ahead) in
-      let count : length (traced bus program k).stores ≡ size_of t = ap (λ (j : ℕ). length (traced bus program j).stores) last ∙ ap length h.stores in
+      let count : length (traced start program k).stores ≡ size_of t = ap (λ (j : ℕ). length (traced start program j).stores) last ∙ ap length h.stores in
       subst (After k u) (sym over) (record {
         dropped = ap (λ (d : ChannelValue). d.program) is_after;
         stored = ap (λ (d : ChannelValue). d.stored) is_after ∙ w.stored ∙ count;
@@ -181,23 +180,23 @@ module _ (bus : Bus) (program : List ℕ) (t : Descriptor) (n : ℕ) (marks : Ma
             ∙ ap (λ (j : ℕ). get_or (laid first t j) a 0) count;
       })
 
-  pub after_next : (k : ℕ) (u : Machine) (turn : ChanTurn) → answer_at marks u ≡ turn → Among bus program t n first k u.image u.channel → After k u turn
-  after_next k u turn e w = by_next k u turn e w (nexts bus program t n h k w.within)
+  pub after_next : (k : ℕ) (u : Machine) (turn : ChanTurn) → answer_at marks u ≡ turn → Among start program t n first k u.image u.channel → After k u turn
+  after_next k u turn e w = by_next k u turn e w (nexts start program t n h k w.within)
 
 pub copies_among_others : CopiesAmongOthers
-copies_among_others bus program t n marks channel image flags h run a touches =
+copies_among_others start program t n marks channel image flags h run a touches =
     let w = along n (omega arith) in
     w.mirrors.same a touches ∙ ap (λ (k : ℕ). get_or (laid (image 0) t k) a 0) (ap length h.stores)
   where
-    along : (k : ℕ) → k ≤ n → Among bus program t n (image 0) k (image k) (channel k)
-    along zero l = at_start bus program t n (image 0) (channel 0) (λ b i. touched_below t (length (image 0)) b (run.below 0 l) i) run.begins
+    along : (k : ℕ) → k ≤ n → Among start program t n (image 0) k (image k) (channel k)
+    along zero l = at_start start program t n (image 0) (channel 0) (λ b i. touched_below t (length (image 0)) b (run.below 0 l) i) run.begins
     along (suc k) l =
         let u : Machine = record { channel = channel k; image = image k; flags = flags k } in
         let less : k < n = omega arith in
         let e : k + 1 ≡ suc k = omega arith in
         let w = along k (omega arith) in
-        let next = after_next bus program t n (marks k) (image 0) h (λ b i. touched_below t (length (image 0)) b (run.below 0 (omega arith)) i) k u Moved (run.moves k less) w in
-        kept bus program t n (image 0) (suc k) (after_step (marks k) u).image (image (suc k)) (after_step (marks k) u).channel (channel (suc k)) next
+        let next = after_next start program t n (marks k) (image 0) h (λ b i. touched_below t (length (image 0)) b (run.below 0 (omega arith)) i) k u Moved (run.moves k less) w in
+        kept start program t n (image 0) (suc k) (after_step (marks k) u).image (image (suc k)) (after_step (marks k) u).channel (channel (suc k)) next
         (subst (λ (j : ℕ). channel j ≡ stepped (marks k) (channel k) (image k) (flags k)) e (run.goes_on k less))
         (λ b i. subst (λ (j : ℕ). get_or (image j) b 0 ≡ get_or (step_of (marks k) (channel k) (image k) (flags k)).1.image b 0) e (run.unchanged k b less i))
         (λ b i. touched_below t (length (image (suc k))) b (run.below (suc k) l) i)
@@ -216,21 +215,21 @@ record Along (program : List ℕ) (t : Descriptor) (n : ℕ) (image : List ℕ) 
   has : channel.program ≡ Some (record { bytes = program; cost = None })
   registers : channel.registers ≡ s.registers
   buffer : channel.buffer ≡ s.buffer
-  among : Among Ideal program t n image k s.image channel
+  among : Among (start_on Ideal) program t n image k s.image channel
   others : (a : ℕ) → ¬ Contains (destinations t) a → get_or s.image a 0 ≡ get_or image a 0
   size : length s.image ≡ length image
 
 unmarked : (t : Descriptor) → Misses [] t
 unmarked t = record { reads = λ a i. refl; writes = λ a i. refl }
 
-module _ (program : List ℕ) (t : Descriptor) (n : ℕ) (image : List ℕ) (h : Explains Ideal program t n) (waits : (e : ℕ) → ¬ IsWait Ideal program n e) (low : Fits t (length image)) where
+module _ (program : List ℕ) (t : Descriptor) (n : ℕ) (image : List ℕ) (h : Explains (start_on Ideal) program t n) (waits : (e : ℕ) → ¬ IsWait (start_on Ideal) program n e) (low : Fits t (length image)) where
   first : Along program t n image 0 (opening image)
   first = record {
     channel = loaded (record { bytes = program; cost = None });
     has = refl;
     registers = refl;
     buffer = refl;
-    among = at_start Ideal program t n image (loaded (record { bytes = program; cost = None })) low (record { bytes = program; cost = None }, ([], sym (append-nil program)), refl);
+    among = at_start (start_on Ideal) program t n image (loaded (record { bytes = program; cost = None })) low (record { bytes = program; cost = None }, ([], sym (append-nil program)), refl);
     others = λ a off. refl;
     size = refl;
   }
@@ -251,9 +250,9 @@ module _ (program : List ℕ) (t : Descriptor) (n : ℕ) (image : List ℕ) (h :
     where
       by : (turn : ChanTurn) → answer_at [] (at k s w) ≡ turn → answer_at [] (at k s w) ≡ Moved
       by Moved e = e
-      by (Waiting x) e = absurd (waits x (goes_on_at Ideal program t n [] image h low k (at k s w) (Waiting x) e w.among l))
-      by Ended e = absurd (goes_on_at Ideal program t n [] image h low k (at k s w) Ended e w.among l)
-      by (Fault kind) e = absurd (goes_on_at Ideal program t n [] image h low k (at k s w) (Fault kind) e w.among l (unmarked t))
+      by (Waiting x) e = absurd (waits x (goes_on_at (start_on Ideal) program t n [] image h low k (at k s w) (Waiting x) e w.among l))
+      by Ended e = absurd (goes_on_at (start_on Ideal) program t n [] image h low k (at k s w) Ended e w.among l)
+      by (Fault kind) e = absurd (goes_on_at (start_on Ideal) program t n [] image h low k (at k s w) (Fault kind) e w.among l (unmarked t))
 
   next : (k : ℕ) (s : State) → k < n → Along program t n image k s → Along program t n image (suc k) (exec program [] s).1
   next k s l w =
@@ -269,10 +268,10 @@ module _ (program : List ℕ) (t : Descriptor) (n : ℕ) (image : List ℕ) (h :
         has = ap (λ (c : ChannelValue). c.program) is ∙ w.has;
         registers = ap (λ (c : ChannelValue). c.registers) is ∙ ap (λ (y : State). y.registers) same;
         buffer = ap (λ (c : ChannelValue). c.buffer) is ∙ ap (λ (y : State). y.buffer) same;
-        among = subst (λ (i : List ℕ). Among Ideal program t n image (suc k) i (after_step [] u).channel) images (after_next Ideal program t n [] image h low k u Moved goes w.among);
+        among = subst (λ (i : List ℕ). Among (start_on Ideal) program t n image (suc k) i (after_step [] u).channel) images (after_next (start_on Ideal) program t n [] image h low k u Moved goes w.among);
         others = λ a off.
             sym (ap (λ (i : List ℕ). get_or i a 0) images)
-            ∙ kept.bytes a (λ i. off (next_inside Ideal program t n h k w.channel a (is_in Ideal program t n image k s.image w.channel w.among) (nexts Ideal program t n h k w.among.within) i))
+            ∙ kept.bytes a (λ i. off (next_inside (start_on Ideal) program t n h k w.channel a (is_in (start_on Ideal) program t n image k s.image w.channel w.among) (nexts (start_on Ideal) program t n h k w.among.within) i))
             ∙ w.others a off;
         size = ap length (sym images) ∙ kept.size ∙ w.size;
       }
@@ -287,29 +286,29 @@ module _ (program : List ℕ) (t : Descriptor) (n : ℕ) (image : List ℕ) (h :
       let w = along k (omega arith) in
       ap (λ (y : ChanTurn × State). y.0) (sym (same_step k s w)) ∙ goes_at k s l w
 
-  over : Nexts Ideal program t n n → (w : Along program t n image n (state_after [] program (opening image) n)) → answer_at [] (at n (state_after [] program (opening image) n) w) ≡ Ended
+  over : Nexts (start_on Ideal) program t n n → (w : Along program t n image n (state_after [] program (opening image) n)) → answer_at [] (at n (state_after [] program (opening image) n) w) ≡ Ended
   over (Goes i less next go) w = absurd (omega (arith, less))
-  over (Ends e next) w = ends_then [] (at n (state_after [] program (opening image) n) w) (ahead_at Ideal program n End w.channel w.among.begins w.among.mirrors.registers_are next)
+  over (Ends e next) w = ends_then [] (at n (state_after [] program (opening image) n) w) (ahead_at (start_on Ideal) program n End w.channel w.among.begins w.among.mirrors.registers_are next)
 
   last : (turn_after [] program (opening image) n).0 ≡ Ended
   last =
       let s = state_after [] program (opening image) n in
       let w = along n (omega arith) in
-      ap (λ (y : ChanTurn × State). y.0) (sym (same_step n s w)) ∙ over (nexts Ideal program t n h n (omega arith)) w
+      ap (λ (y : ChanTurn × State). y.0) (sym (same_step n s w)) ∙ over (nexts (start_on Ideal) program t n h n (omega arith)) w
 
   last_image : (turn_after [] program (opening image) n).1.image ≡ laid image t (size_of t)
   last_image =
       let s = state_after [] program (opening image) n in
       let w = along n (omega arith) in
       let u = at n s w in
-      let done = after_next Ideal program t n [] image h low n u Ended (over (nexts Ideal program t n h n (omega arith)) w) w.among in
+      let done = after_next (start_on Ideal) program t n [] image h low n u Ended (over (nexts (start_on Ideal) program t n h n (omega arith)) w) w.among in
       let kept = writes_no_other [] w.channel s.image s.flags in
       let images : (step_of [] w.channel s.image s.flags).1.image ≡ (turn_after [] program (opening image) n).1.image = ap (λ (y : ChanTurn × State). y.1.image) (same_step n s w) in
       sym images
       ∙ ext_get_or 0 (step_of [] w.channel s.image s.flags).1.image (laid image t (size_of t)) (kept.size ∙ w.size ∙ sym (length_laid image t (size_of t))) (λ a l. elim (in_or_not (destinations t) a) [
         | inl i ↦ done.all a (inr i)
         | inr off ↦
-            kept.bytes a (λ i. off (next_inside Ideal program t n h n w.channel a (is_in Ideal program t n image n s.image w.channel w.among) (nexts Ideal program t n h n (omega arith)) i))
+            kept.bytes a (λ i. off (next_inside (start_on Ideal) program t n h n w.channel a (is_in (start_on Ideal) program t n image n s.image w.channel w.among) (nexts (start_on Ideal) program t n h n (omega arith)) i))
             ∙ w.others a off
             ∙ sym (get_or_after_moves_other image (moves t (size_of t)) a (λ i. off (moves_writes t (size_of t) a i)))
       ])

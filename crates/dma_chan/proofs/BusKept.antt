@@ -18,7 +18,7 @@ fetched_bus : (marks : MarkList) (next : Result ChipInsn FaultKind) (s : State) 
 fetched_bus marks next s =
     fetched_cases (Keeps s) marks next s (λ _. refl) (λ i _ _.
     let same = bus_moved i s.registers in
-    record { moves = same; loads = same; stores = λ _ _. same; zeros = λ _. same; sets = λ _ _. same; takes = λ _ _ _. same; waits = λ _ _ _ _. refl; ends = refl })
+    record { moves = same; keeps = same; loads = same; stores = λ _ _. same; zeros = λ _. same; sets = λ _ _. same; takes = λ _ _ _. same; waits = λ _ _ _ _. refl; ends = refl })
 
 turn_bus : (turn : ChanTurn) (s : State) (n : ℕ) (c : ChannelValue) → s.registers.bus ≡ c.registers.bus → (after_turn turn s n c).registers.bus ≡ c.registers.bus
 turn_bus Moved s n c same = same

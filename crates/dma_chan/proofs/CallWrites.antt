@@ -44,6 +44,7 @@ pub act_leads : (marks : MarkList) (i : ChipInsn) (s : State) → Leads (moved i
 act_leads marks i s =
     act_cases (Leads (moved i s.registers)) marks i s (λ _ e. absurd (cc)) (λ _. record {
       moves = λ e. refl;
+      keeps = λ e. refl;
       loads = λ e. refl;
       stores = λ _ _ e. refl;
       zeros = λ _ e. refl;
@@ -56,17 +57,17 @@ act_leads marks i s =
 -- ---- a channel that executes a program that copies
 
 -- the instruction after k others: it goes on, or it is DMAEND after all n
-pub data Nexts (bus : Bus) (program : List ℕ) (t : Descriptor) (n k : ℕ) : Type 0 where
-  Goes : (i : ChipInsn) → k < n → next_in program (traced bus program k) ≡ Ok i → Can i (traced bus program k) → Nexts bus program t n k
-  Ends : k ≡ n → next_in program (traced bus program k) ≡ Ok End → Nexts bus program t n k
+pub data Nexts (start : Registers) (program : List ℕ) (t : Descriptor) (n k : ℕ) : Type 0 where
+  Goes : (i : ChipInsn) → k < n → next_in program (traced start program k) ≡ Ok i → Can i (traced start program k) → Nexts start program t n k
+  Ends : k ≡ n → next_in program (traced start program k) ≡ Ok End → Nexts start program t n k
 
 next_alike : (bus : Bus) (program : List ℕ) (o : Option ProgramValue) (pc : ℕ) (i : ChipInsn) → IsSomeAnd o (λ p. StartsWith p program) → next_on bus program pc ≡ Ok i → next_on bus (bytes_of_program o) pc ≡ Ok i
 next_alike bus program None pc i b h = absurd b
 next_alike bus program (Some p) pc i b h = ap (λ (xs : List ℕ). next_on bus xs pc) b.1 ∙ next_longer bus program b.0 pc i h
 
 -- the next instruction of a channel whose program begins with these bytes
-pub ahead_at : (bus : Bus) (program : List ℕ) (k : ℕ) (i : ChipInsn) (c : ChannelValue) → IsSomeAnd c.program (λ p. StartsWith p program) → c.registers ≡ (traced bus program k).registers → next_in program (traced bus program k) ≡ Ok i → ahead_of c ≡ Ok i
-ahead_at bus program k i c begins at next = next_alike c.registers.bus program c.program c.registers.pc i begins (ap (λ (r : Registers). next_on r.bus program r.pc) at ∙ next)
+pub ahead_at : (start : Registers) (program : List ℕ) (k : ℕ) (i : ChipInsn) (c : ChannelValue) → IsSomeAnd c.program (λ p. StartsWith p program) → c.registers ≡ (traced start program k).registers → next_in program (traced start program k) ≡ Ok i → ahead_of c ≡ Ok i
+ahead_at start program k i c begins at next = next_alike c.registers.bus program c.program c.registers.pc i begins (ap (λ (r : Registers). next_on r.bus program r.pc) at ∙ next)
 
 -- the channel after a step, by its answer
 pub turned : (marks : MarkList) (u : Machine) (turn : ChanTurn) → answer_at marks u ≡ turn → (after_step marks u).channel ≡ after_turn turn (step_of marks u.channel u.image u.flags).1 (stored_by (ahead_of u.channel) u.channel.registers) u.channel
@@ -89,40 +90,40 @@ none_written St r a ne other w = ne refl
 none_written StoreZeros r a ne other w = other refl
 none_written i r a ne other w = omega (arith, w.1)
 
-module _ (bus : Bus) (program : List ℕ) (t : Descriptor) (n : ℕ) (h : Explains bus program t n) where
-  fetched : (k : ℕ) → k < n → (r : Result ChipInsn FaultKind) → next_in program (traced bus program k) ≡ r → GoesOn r (traced bus program k) → Nexts bus program t n k
-  fetched k l (Ok i) e go = Goes i l e (can_next i (traced bus program k) (few_at bus program k (λ j m. h.goes j (omega arith))) go)
+module _ (start : Registers) (program : List ℕ) (t : Descriptor) (n : ℕ) (h : Explains start program t n) where
+  fetched : (k : ℕ) → k < n → (r : Result ChipInsn FaultKind) → next_in program (traced start program k) ≡ r → GoesOn r (traced start program k) → Nexts start program t n k
+  fetched k l (Ok i) e go = Goes i l e (can_next i (traced start program k) (few_at start program k (λ j m. h.goes j (omega arith))) go)
   fetched k l (Err kind) e go = absurd (let bad = go.1 in cc)
 
-  pub nexts : (k : ℕ) → k ≤ n → Nexts bus program t n k
+  pub nexts : (k : ℕ) → k ≤ n → Nexts start program t n k
   nexts k l =
       elim (cases_lt k n) [
-        | inl less ↦ fetched k less (next_in program (traced bus program k)) refl (h.goes k less)
-        | inr ge ↦ let e : k ≡ n = omega arith in Ends e (ap (λ (j : ℕ). next_in program (traced bus program j)) e ∙ h.ends)
+        | inl less ↦ fetched k less (next_in program (traced start program k)) refl (h.goes k less)
+        | inr ge ↦ let e : k ≡ n = omega arith in Ends e (ap (λ (j : ℕ). next_in program (traced start program j)) e ∙ h.ends)
       ]
 
   -- what is read and written so far is a part of the copy
-  pub inside : (k : ℕ) → k ≤ n → Inside t (traced bus program k)
+  pub inside : (k : ℕ) → k ≤ n → Inside t (traced start program k)
   inside k l =
-      let g = grows_to bus program k n l in
+      let g = grows_to start program k n l in
       record { loads_rest = g.more_loads; stores_rest = g.more_stores; loads = sym h.loads ∙ g.loads; stores = sym h.stores ∙ g.stores }
 
-  pub traced_next : (k : ℕ) (i : ChipInsn) → next_in program (traced bus program k) ≡ Ok i → traced bus program (suc k) ≡ after_insn i (traced bus program k)
-  traced_next k i e = ap (λ (r : Result ChipInsn FaultKind). after_fetch r (traced bus program k)) e
+  pub traced_next : (k : ℕ) (i : ChipInsn) → next_in program (traced start program k) ≡ Ok i → traced start program (suc k) ≡ after_insn i (traced start program k)
+  traced_next k i e = ap (λ (r : Result ChipInsn FaultKind). after_fetch r (traced start program k)) e
 
   -- its next instruction writes only destinations
   -- no DMASTZ goes on
-  not_zeros : (k : ℕ) (i : ChipInsn) → i ≡ End ⊎ ((k < n) × (next_in program (traced bus program k) ≡ Ok i)) → i ≢ StoreZeros
+  not_zeros : (k : ℕ) (i : ChipInsn) → i ≡ End ⊎ ((k < n) × (next_in program (traced start program k) ≡ Ok i)) → i ≢ StoreZeros
   not_zeros k i (inl over) e = let bad : End ≡ StoreZeros = sym over ∙ e in cc
   not_zeros k i (inr less) e =
-      let x = traced bus program k in
+      let x = traced start program k in
       let go : GoesOn (Ok StoreZeros) x = subst (λ (r : Result ChipInsn FaultKind). GoesOn r x) (less.1 ∙ ap (λ (j : ChipInsn). Ok j) e) (h.goes k less.0) in
       let bad = go.1 in
       cc
 
-  next_writes : (k : ℕ) (c : ChannelValue) (a : ℕ) (i : ChipInsn) → c.registers ≡ (traced bus program k).registers → ahead_of c ≡ Ok i → i ≡ End ⊎ ((k < n) × (next_in program (traced bus program k) ≡ Ok i)) → Contains (written_next c) a → Contains (destinations t) a
+  next_writes : (k : ℕ) (c : ChannelValue) (a : ℕ) (i : ChipInsn) → c.registers ≡ (traced start program k).registers → ahead_of c ≡ Ok i → i ≡ End ⊎ ((k < n) × (next_in program (traced start program k) ≡ Ok i)) → Contains (written_next c) a → Contains (destinations t) a
   next_writes k c a i at ahead how w =
-      let x = traced bus program k in
+      let x = traced start program k in
       let here : written_next c ≡ written_by (Ok i) x.registers = ap (λ (r : Result ChipInsn FaultKind). written_by r c.registers) ahead ∙ ap (written_by (Ok i)) at in
       let j : Contains (written_by (Ok i) x.registers) a = subst (λ (xs : List ℕ). Contains xs a) here w in
       elim (is_store i) [
@@ -131,48 +132,48 @@ module _ (bus : Bus) (program : List ℕ) (t : Descriptor) (n : ℕ) (h : Explai
           | inl over ↦ absurd (let bad : End ≡ St = sym over ∙ e in cc)
           | inr less ↦
               let part = inside (suc k) (omega (arith, less.0)) in
-              let is_next : (traced bus program (suc k)).stores ≡ x.stores ++ touched (destination_of x.registers) = ap (λ (y : Trace). y.stores) (traced_next k i less.1 ∙ ap (λ (q : ChipInsn). after_insn q x) e) in
+              let is_next : (traced start program (suc k)).stores ≡ x.stores ++ touched (destination_of x.registers) = ap (λ (y : Trace). y.stores) (traced_next k i less.1 ∙ ap (λ (q : ChipInsn). after_insn q x) e) in
               let mine : Contains (touched (destination_of x.registers)) a = subst (λ (q : ChipInsn). Contains (written_by (Ok q) x.registers) a) e j in
               subst (λ (xs : List ℕ). Contains xs a) (sym part.stores)
-              (Contains-append_left (traced bus program (suc k)).stores part.stores_rest a
+              (Contains-append_left (traced start program (suc k)).stores part.stores_rest a
               (subst (λ (xs : List ℕ). Contains xs a) (sym is_next) (Contains-append_right x.stores (touched (destination_of x.registers)) a mine)))
         ]
       ]
 
-  pub next_inside : (k : ℕ) (c : ChannelValue) (a : ℕ) → IsIn bus program n k c → Nexts bus program t n k → Contains (written_next c) a → Contains (destinations t) a
-  next_inside k c a w (Goes i less next go) j = next_writes k c a i w.registers (ahead_at bus program k i c w.begins w.registers next) (inr (less, next)) j
-  next_inside k c a w (Ends e next) j = next_writes k c a End w.registers (ahead_at bus program k End c w.begins w.registers next) (inl refl) j
+  pub next_inside : (k : ℕ) (c : ChannelValue) (a : ℕ) → IsIn start program n k c → Nexts start program t n k → Contains (written_next c) a → Contains (destinations t) a
+  next_inside k c a w (Goes i less next go) j = next_writes k c a i w.registers (ahead_at start program k i c w.begins w.registers next) (inr (less, next)) j
+  next_inside k c a w (Ends e next) j = next_writes k c a End w.registers (ahead_at start program k End c w.begins w.registers next) (inl refl) j
 
-  moved_by_next : (marks : MarkList) (k : ℕ) (u : Machine) → IsIn bus program n k u.channel → Nexts bus program t n k → answer_at marks u ≡ Moved → IsIn bus program n (suc k) (after_step marks u).channel
+  moved_by_next : (marks : MarkList) (k : ℕ) (u : Machine) → IsIn start program n k u.channel → Nexts start program t n k → answer_at marks u ≡ Moved → IsIn start program n (suc k) (after_step marks u).channel
   moved_by_next marks k u w (Ends e next) moves =
-      let over = ends_then marks u (ahead_at bus program k End u.channel w.begins w.registers next) in
+      let over = ends_then marks u (ahead_at start program k End u.channel w.begins w.registers next) in
       let bad : Ended ≡ Moved = sym over ∙ moves in absurd (cc)
   moved_by_next marks k u w (Goes i less next go) moves =
       let c = u.channel in
       let x = step_of marks c u.image u.flags in
-      let does = does_next marks i u (ahead_at bus program k i c w.begins w.registers next) in
+      let does = does_next marks i u (ahead_at start program k i c w.begins w.registers next) in
       let new : x.1.registers ≡ moved i c.registers = ap (λ (y : ChanTurn × State). y.1.registers) does ∙ act_leads marks i (state_of c u.image u.flags) (sym (ap (λ (y : ChanTurn × State). y.0) does) ∙ moves) in
-      let there : moved i c.registers ≡ (traced bus program (suc k)).registers =
-      ap (moved i) w.registers ∙ sym (registers_after i (traced bus program k)) ∙ sym (ap (λ (y : Trace). y.registers) (traced_next k i next)) in
-      subst (IsIn bus program n (suc k)) (sym (turned marks u Moved moves)) (record { begins = w.begins; within = omega (arith, less); registers = new ∙ there })
+      let there : moved i c.registers ≡ (traced start program (suc k)).registers =
+      ap (moved i) w.registers ∙ sym (registers_after i (traced start program k)) ∙ sym (ap (λ (y : Trace). y.registers) (traced_next k i next)) in
+      subst (IsIn start program n (suc k)) (sym (turned marks u Moved moves)) (record { begins = w.begins; within = omega (arith, less); registers = new ∙ there })
 
-  moved_in : (marks : MarkList) (k : ℕ) (u : Machine) → IsIn bus program n k u.channel → answer_at marks u ≡ Moved → IsIn bus program n (suc k) (after_step marks u).channel
+  moved_in : (marks : MarkList) (k : ℕ) (u : Machine) → IsIn start program n k u.channel → answer_at marks u ≡ Moved → IsIn start program n (suc k) (after_step marks u).channel
   moved_in marks k u w moves = moved_by_next marks k u w (nexts k w.within) moves
 
-  after_one : (marks : MarkList) (k : ℕ) (u : Machine) (turn : ChanTurn) → IsIn bus program n k u.channel → answer_at marks u ≡ turn → Executes bus program n (after_step marks u).channel ⊎ ((after_step marks u).channel.program ≡ None)
+  after_one : (marks : MarkList) (k : ℕ) (u : Machine) (turn : ChanTurn) → IsIn start program n k u.channel → answer_at marks u ≡ turn → Executes start program n (after_step marks u).channel ⊎ ((after_step marks u).channel.program ≡ None)
   after_one marks k u Moved w e = inl (suc k, moved_in marks k u w e)
   after_one marks k u Ended w e = inr (ap (λ (c : ChannelValue). c.program) (turned marks u Ended e))
-  after_one marks k u turn w e = inl (k, subst (IsIn bus program n k) (sym (turned marks u turn e)) w)
+  after_one marks k u turn w e = inl (k, subst (IsIn start program n k) (sym (turned marks u turn e)) w)
 
   -- steps that all moved
-  pub many_in : (marks : MarkList) (s : Machine) (j : ℕ) → Executes bus program n s.channel → ((k : ℕ) → k < suc j → goes_on_after marks s k ≡ true) → Executes bus program n (after_steps marks s j).channel
+  pub many_in : (marks : MarkList) (s : Machine) (j : ℕ) → Executes start program n s.channel → ((k : ℕ) → k < suc j → goes_on_after marks s k ≡ true) → Executes start program n (after_steps marks s j).channel
   many_in marks s zero w moves = w
   many_in marks s (suc j) w moves =
       let u = after_steps marks s j in
       let v = many_in marks s j w (λ k l. moves k (omega arith)) in
       (suc v.0, moved_in marks v.0 u v.1 (was_moved (ahead_of u.channel) (answer_at marks u) (went_before marks s (suc j) (moves (suc j) (omega arith)))))
 
-  last_in : (marks : MarkList) (s : Machine) (taken : ℕ) → Executes bus program n s.channel → ((k : ℕ) → k < taken → goes_on_after marks s k ≡ true) → Executes bus program n (after_steps marks s taken).channel ⊎ ((after_steps marks s taken).channel.program ≡ None)
+  last_in : (marks : MarkList) (s : Machine) (taken : ℕ) → Executes start program n s.channel → ((k : ℕ) → k < taken → goes_on_after marks s k ≡ true) → Executes start program n (after_steps marks s taken).channel ⊎ ((after_steps marks s taken).channel.program ≡ None)
   last_in marks s zero w moves = inl w
   last_in marks s (suc j) w moves =
       let u = after_steps marks s j in
@@ -180,7 +181,7 @@ module _ (bus : Bus) (program : List ℕ) (t : Descriptor) (n : ℕ) (h : Explai
       after_one marks v.0 u (answer_at marks u) v.1 refl
 
 pub load_executes : LoadExecutes
-load_executes bus program n c l = (
+load_executes start program n c l = (
   0,
   record {
     begins = subst (λ (d : ChannelValue). IsSomeAnd d.program (λ p. StartsWith p program)) (sym l.2) l.1;
@@ -190,10 +191,10 @@ load_executes bus program n c l = (
 )
 
 pub call_stays_in : CallStaysIn
-call_stays_in bus program t n marks s most taken last after h w steps = record {
+call_stays_in start program t n marks s most taken last after h w steps = record {
   writes = λ a i.
       let by = writes_each marks s taken a (steps_move steps) i in
-      let v = many_in bus program t n h marks s by.0 w (λ k l. steps_move steps k (omega (arith, by.1))) in
-      next_inside bus program t n h v.0 (after_steps marks s by.0).channel a v.1 (nexts bus program t n h v.0 v.1.within) by.3;
-  channel = subst (λ (u : Machine). Executes bus program n u.channel ⊎ (u.channel.program ≡ None)) (sym steps.ends_at) (last_in bus program t n h marks s taken w (steps_move steps));
+      let v = many_in start program t n h marks s by.0 w (λ k l. steps_move steps k (omega (arith, by.1))) in
+      next_inside start program t n h v.0 (after_steps marks s by.0).channel a v.1 (nexts start program t n h v.0 v.1.within) by.3;
+  channel = subst (λ (u : Machine). Executes start program n u.channel ⊎ (u.channel.program ≡ None)) (sym steps.ends_at) (last_in start program t n h marks s taken w (steps_move steps));
 }

@@ -1,4 +1,4 @@
--- On each bus a transfer explains its program that was compiled for that bus, which has its events.
+-- From any registers and on each bus a transfer explains its program that was compiled for that bus, which has its events.
 use Rattle.std.proofs.Common.{◌≡◌, ℕ, zero, suc, ◌+◌, ◌-◌, ◌≤◌, ◌<◌, List, ◌++◌, length, take, refl, sym, ap, ◌∙◌, subst, arith, Ok, ◌≢◌, Bool, true, false, cond, ◌&&◌, Option, Some, None, inl, inr}
 use Rattle.std.specs.Prelude.{IfSome, nat_lt}
 use Rattle.std.proofs.lemmas.Bool.{cases_lt, le-ltb}
@@ -17,7 +17,7 @@ use Rattle.dma_chan.specs.declared.turn.FaultKind.TheVariants.{OperandInvalid, M
 use Rattle.dma_chan.specs.Bursts.{burst_len, touched}
 use Rattle.dma_chan.specs.Bus.{accepts}
 use Rattle.dma_chan.specs.Compiled.{compiled, compiled_on, cost, cost_on, members_on, tree_on}
-use Rattle.dma_chan.specs.Exec.{buffer_size, start_on, counter_of, source_of, destination_of, moved}
+use Rattle.dma_chan.specs.Exec.{begun, buffer_size, start_on, counter_of, source_of, destination_of, moved}
 use Rattle.dma_chan.specs.Explains.{CompiledEvents, CompiledExplained, CompiledOnBus, GoesOn, Trace, held, passes, stop_of, stop_of_insn, stop_of_mov, after_fetch, after_insn, next_in, traced, untraced}
 use Rattle.dma_chan.specs.Next.{next_of}
 use Rattle.dma_chan.proofs.NextFits.{next_widens}
@@ -120,117 +120,117 @@ module _ (bus : Bus) (src dst : List ℕ) (p : Progress) (loads stores : List �
   passes_on (LoopAgain counter back) ne c j = absurd c
   passes_on i ne c j = refl
 
-module _ (bus : Bus) (t : Descriptor) (h : IsTransfer t) where
+module _ (start : Registers) (t : Descriptor) (h : IsTransfer t) where
   abbrev pub program : List ℕ
-  program = (compiled_on bus t).bytes
+  program = (compiled_on start.bus t).bytes
 
-  bytes_are : program ≡ bytes_of (tree_on bus t)
+  bytes_are : program ≡ bytes_of (tree_on start.bus t)
   unfolding compiled_on
   bytes_are = refl
 
   -- how far the trace is
   abbrev pub TracesAt : ℕ → Type 0
-  TracesAt k = Traces (sources t) (destinations t) (at_on bus t k) (traced bus program k)
+  TracesAt k = Traces (sources t) (destinations t) (at_on start t k) (traced start program k)
 
-  pub next : (k : ℕ) → k < cost_on bus t → TracesAt k → next_in program (traced bus program k) ≡ Ok (member_on bus t k)
+  pub next : (k : ℕ) → k < cost_on start.bus t → TracesAt k → next_in program (traced start program k) ≡ Ok (member_on start.bus t k)
   next k l w =
-      next_widens (traced bus program k).registers.bus program (traced bus program k).registers.pc (member_on bus t k)
-      (ap (λ (r : Registers). next_of program r.pc) (w.registers ∙ registers_on bus t k)
-      ∙ ap (λ (xs : List ℕ). next_of xs (moved_by (take k (members_on bus t)) (start_on bus)).pc) bytes_are
-      ∙ (fetches_on bus t k h l).next)
+      next_widens (traced start program k).registers.bus program (traced start program k).registers.pc (member_on start.bus t k)
+      (ap (λ (r : Registers). next_of program r.pc) (w.registers ∙ registers_on start t k)
+      ∙ ap (λ (xs : List ℕ). next_of xs (moved_by (take k (members_on start.bus t)) (begun start)).pc) bytes_are
+      ∙ (fetches_on start t k h l).next)
 
-  pub along : (k : ℕ) → k < cost_on bus t → TracesAt k
-  along zero l = subst (λ (p : Progress). Traces (sources t) (destinations t) p (untraced bus)) (sym (begin_on bus t)) (record { registers = refl; loads = refl; stores = refl; in_src = omega arith; in_dst = omega arith })
+  pub along : (k : ℕ) → k < cost_on start.bus t → TracesAt k
+  along zero l = subst (λ (p : Progress). Traces (sources t) (destinations t) p (untraced start)) (sym (begin_on start t)) (record { registers = refl; loads = refl; stores = refl; in_src = omega arith; in_dst = omega arith })
   along (suc k) l =
-      let less : k < cost_on bus t = omega arith in
+      let less : k < cost_on start.bus t = omega arith in
       let w = along k less in
-      let i = member_on bus t k in
+      let i = member_on start.bus t k in
       let e : k + 1 ≡ suc k = omega arith in
-      let is : at_on bus t (suc k) ≡ advanced i (at_on bus t k) = ap (at_on bus t) (sym e) ∙ next_on bus t k less in
-      let to : traced bus program (suc k) ≡ after_insn i (traced bus program k) = ap (λ r. after_fetch r (traced bus program k)) (next k less w) in
-      subst (λ (p : Progress). Traces (sources t) (destinations t) p (traced bus program (suc k))) (sym is)
-      (subst (λ (x : Trace). Traces (sources t) (destinations t) (advanced i (at_on bus t k)) x) (sym to)
-      (advances bus (sources t) (destinations t) (at_on bus t k) (traced bus program k) w i (carries_on bus t k h less)))
+      let is : at_on start t (suc k) ≡ advanced i (at_on start t k) = ap (at_on start t) (sym e) ∙ next_on start t k less in
+      let to : traced start program (suc k) ≡ after_insn i (traced start program k) = ap (λ r. after_fetch r (traced start program k)) (next k less w) in
+      subst (λ (p : Progress). Traces (sources t) (destinations t) p (traced start program (suc k))) (sym is)
+      (subst (λ (x : Trace). Traces (sources t) (destinations t) (advanced i (at_on start t k)) x) (sym to)
+      (advances start.bus (sources t) (destinations t) (at_on start t k) (traced start program k) w i (carries_on start t k h less)))
 
-  stored_at : (k : ℕ) → k < cost_on bus t → length (traced bus program k).stores ≡ (at_on bus t k).stored
-  stored_at k l = all_stores bus (sources t) (destinations t) (at_on bus t k) (traced bus program k) (along k l)
+  stored_at : (k : ℕ) → k < cost_on start.bus t → length (traced start program k).stores ≡ (at_on start t k).stored
+  stored_at k l = all_stores start.bus (sources t) (destinations t) (at_on start t k) (traced start program k) (along k l)
 
-  held_at : (k : ℕ) → k < cost_on bus t → held (traced bus program k) ≡ (at_on bus t k).held
-  held_at k l = omega (arith, stored_at k l, all_loads bus (sources t) (destinations t) (at_on bus t k) (traced bus program k) (along k l))
+  held_at : (k : ℕ) → k < cost_on start.bus t → held (traced start program k) ≡ (at_on start t k).held
+  held_at k l = omega (arith, stored_at k l, all_loads start.bus (sources t) (destinations t) (at_on start t k) (traced start program k) (along k l))
 
-  pub fetched : (k : ℕ) → k < cost_on bus t → next_in program (traced bus program k) ≡ Ok (member_on bus t k)
+  pub fetched : (k : ℕ) → k < cost_on start.bus t → next_in program (traced start program k) ≡ Ok (member_on start.bus t k)
   fetched k l = next k l (along k l)
 
   -- each member but the last goes on
-  goes : (k : ℕ) → k + 1 < cost_on bus t → GoesOn (next_in program (traced bus program k)) (traced bus program k)
+  goes : (k : ℕ) → k + 1 < cost_on start.bus t → GoesOn (next_in program (traced start program k)) (traced start program k)
   goes k l =
-      let less : k < cost_on bus t = omega arith in
-      let x = traced bus program k in
+      let less : k < cost_on start.bus t = omega arith in
+      let x = traced start program k in
       let w = along k less in
-      let p = at_on bus t k in
-      let jump = subst (λ (r : Registers). CanJump (member_on bus t k) r) (sym (registers_on bus t k)) (fetches_on bus t k h less).jump in (
+      let p = at_on start t k in
+      let jump = subst (λ (r : Registers). CanJump (member_on start.bus t k) r) (sym (registers_on start t k)) (fetches_on start t k h less).jump in (
         λ over.
-            let ended : Ok (member_on bus t k) ≡ Ok End = sym (fetched k less) ∙ over in
-            let is : member_on bus t k ≡ End = cc in
-            omega (arith, end_only bus t k less is),
+            let ended : Ok (member_on start.bus t k) ≡ Ok End = sym (fetched k less) ∙ over in
+            let is : member_on start.bus t k ≡ End = cc in
+            omega (arith, end_only start.bus t k less is),
         subst (λ next. stop_of next x ≡ None) (sym (fetched k less))
-            (subst (λ (r : Registers). stop_of_insn (member_on bus t k) (record x { registers = r }) ≡ None) (sym w.registers)
-            (passes_on bus (sources t) (destinations t) p x.loads x.stores (held_at k less) (bus_on bus t k) (member_on bus t k) (λ e. let last = end_only bus t k less e in omega (arith, last)) (carries_on bus t k h less) jump)),
+            (subst (λ (r : Registers). stop_of_insn (member_on start.bus t k) (record x { registers = r }) ≡ None) (sym w.registers)
+            (passes_on start.bus (sources t) (destinations t) p x.loads x.stores (held_at k less) (bus_on start t k) (member_on start.bus t k) (λ e. let last = end_only start.bus t k less e in omega (arith, last)) (carries_on start t k h less) jump)),
       )
 
   -- the first instruction waits, and the last before DMAEND signals
-  pub is_member : (k : ℕ) (i : ChipInsn) → k < cost_on bus t → next_in program (traced bus program k) ≡ Ok i → member_on bus t k ≡ i
-  is_member k i l e = let same : Ok (member_on bus t k) ≡ Ok i = sym (fetched k l) ∙ e in cc
+  pub is_member : (k : ℕ) (i : ChipInsn) → k < cost_on start.bus t → next_in program (traced start program k) ≡ Ok i → member_on start.bus t k ≡ i
+  is_member k i l e = let same : Ok (member_on start.bus t k) ≡ Ok i = sym (fetched k l) ∙ e in cc
 
-  signalled : (k e : ℕ) → k + 2 ≡ cost_on bus t → member_on bus t k ≡ Sev e → length (traced bus program k).stores ≡ size_of t
+  signalled : (k e : ℕ) → k + 2 ≡ cost_on start.bus t → member_on start.bus t k ≡ Sev e → length (traced start program k).stores ≡ size_of t
   signalled k e last is =
-      let next_last : k + 1 ≡ cost_on bus t - 1 = omega (arith, last) in
-      let still : (at_on bus t (k + 1)).stored ≡ (at_on bus t k).stored =
-      ap (λ (p : Progress). p.stored) (next_on bus t k (omega (arith, last))) ∙ ap (λ (i : ChipInsn). (advanced i (at_on bus t k)).stored) is in
-      stored_at k (omega (arith, last)) ∙ sym still ∙ ap (λ (n : ℕ). (at_on bus t n).stored) next_last ∙ all_stored bus t h
+      let next_last : k + 1 ≡ cost_on start.bus t - 1 = omega (arith, last) in
+      let still : (at_on start t (k + 1)).stored ≡ (at_on start t k).stored =
+      ap (λ (p : Progress). p.stored) (next_on start t k (omega (arith, last))) ∙ ap (λ (i : ChipInsn). (advanced i (at_on start t k)).stored) is in
+      stored_at k (omega (arith, last)) ∙ sym still ∙ ap (λ (n : ℕ). (at_on start t n).stored) next_last ∙ all_stored start t h
 
 pub compiled_on_bus : CompiledOnBus
-compiled_on_bus bus t h =
-    let some = some_on bus t in
-    let last = cost_on bus t - 1 in
-    let w = along bus t h last (omega arith) in
-    let stored = all_stored bus t h in
+compiled_on_bus start t h =
+    let some = some_on start.bus t in
+    let last = cost_on start.bus t - 1 in
+    let w = along start t h last (omega arith) in
+    let stored = all_stored start t h in
     record {
-      goes = λ k l. goes bus t h k (omega arith);
-      ends = fetched bus t h last (omega arith) ∙ ap (λ (i : ChipInsn). Ok i) (end_last bus t h);
+      goes = λ k l. goes start t h k (omega arith);
+      ends = fetched start t h last (omega arith) ∙ ap (λ (i : ChipInsn). Ok i) (end_last start.bus t h);
       loads = w.loads ∙ take_all _ (sources t) (omega (arith, stored, h.same_length));
       stores = w.stores ∙ take_all _ (destinations t) (omega (arith, stored));
-      few = let low = cost_below bus t h in omega arith;
+      few = let low = cost_below start.bus t h in omega arith;
       copy = record { same_length = h.same_length; once = h.once; apart = h.apart };
     }
 
 pub compiled_explained : CompiledExplained
 unfolding compiled cost
-compiled_explained t h = compiled_on_bus Ideal t h
+compiled_explained t h = compiled_on_bus (start_on Ideal) t h
 
 pub compiled_events : CompiledEvents
-compiled_events bus t h = record {
-  waits = λ e w. wait_only bus t w.step e w.invalid (is_member bus t h w.step (Wfe e w.invalid) (let l = w.within in omega arith) w.waits);
+compiled_events start t h = record {
+  waits = λ e w. wait_only start.bus t w.step e w.invalid (is_member start t h w.step (Wfe e w.invalid) (let l = w.within in omega arith) w.waits);
   signals = λ e stored s.
-      let is = is_member bus t h s.step (Sev e) (let l = s.within in omega arith) s.signals in
-      let only = signal_only bus t s.step e is in
-      (only.1, sym s.after ∙ signalled bus t h s.step e only.0 is);
+      let is = is_member start t h s.step (Sev e) (let l = s.within in omega arith) s.signals in
+      let only = signal_only start.bus t s.step e is in
+      (only.1, sym s.after ∙ signalled start t h s.step e only.0 is);
   has_wait = λ e known.
-      let is = subst (λ (o : Option ℕ). IfSome o (λ v. member_on bus t 0 ≡ Wfe v false)) known (wait_first bus t) in
-      let some = some_on bus t in
-      elim (cases_lt 1 (cost_on bus t)) [
-        | inl more ↦ record { step = 0; within = omega arith; invalid = false; waits = fetched bus t h 0 (omega arith) ∙ ap (λ (i : ChipInsn). Ok i) is }
+      let is = subst (λ (o : Option ℕ). IfSome o (λ v. member_on start.bus t 0 ≡ Wfe v false)) known (wait_first start.bus t) in
+      let some = some_on start.bus t in
+      elim (cases_lt 1 (cost_on start.bus t)) [
+        | inl more ↦ record { step = 0; within = omega arith; invalid = false; waits = fetched start t h 0 (omega arith) ∙ ap (λ (i : ChipInsn). Ok i) is }
         | inr one ↦
-            let zero_last : cost_on bus t - 1 ≡ 0 = omega arith in
-            let bad : End ≡ Wfe e false = sym (end_last bus t h) ∙ ap (member_on bus t) zero_last ∙ is in
+            let zero_last : cost_on start.bus t - 1 ≡ 0 = omega arith in
+            let bad : End ≡ Wfe e false = sym (end_last start.bus t h) ∙ ap (member_on start.bus t) zero_last ∙ is in
             absurd (cc)
       ];
   has_signal = λ e known.
-      let last = subst (λ (o : Option ℕ). IfSome o (λ v. (2 ≤ cost_on bus t) × (member_on bus t (cost_on bus t - 2) ≡ Sev v))) known (signal_last bus t) in
+      let last = subst (λ (o : Option ℕ). IfSome o (λ v. (2 ≤ cost_on start.bus t) × (member_on start.bus t (cost_on start.bus t - 2) ≡ Sev v))) known (signal_last start.bus t) in
       record {
-        step = cost_on bus t - 2;
+        step = cost_on start.bus t - 2;
         within = omega (arith, last.0);
-        signals = fetched bus t h (cost_on bus t - 2) (omega (arith, last.0)) ∙ ap (λ (i : ChipInsn). Ok i) last.1;
-        after = signalled bus t h (cost_on bus t - 2) e (omega (arith, last.0)) last.1;
+        signals = fetched start t h (cost_on start.bus t - 2) (omega (arith, last.0)) ∙ ap (λ (i : ChipInsn). Ok i) last.1;
+        after = signalled start t h (cost_on start.bus t - 2) e (omega (arith, last.0)) last.1;
       };
 }

@@ -139,6 +139,11 @@ valid_word : (w c : ℕ) → w / 2 % 8 ≡ c → w / 2 ^ 15 % 8 ≡ c → w / 2 
 unfolding is_control control_of end_at
 valid_word w c a b d e h = let s = size_there c h in rw (a, b, s.1, d, e) refl
 
+-- CCR of a chip's channel after a reset
+pub reset_accepted : is_control 0x00800200 ≡ true
+unfolding is_control control_of end_at
+reset_accepted = refl
+
 -- a bus that is as wide as its beats accepts it
 accepted_by : (w c : ℕ) → w / 2 % 8 ≡ c → w / 2 ^ 15 % 8 ≡ c → is_control w ≡ true → (bus : Bus) → 2 ^ c ≤ widest_beat bus → accepts bus w ≡ true
 accepted_by w c a b valid Ideal h = valid

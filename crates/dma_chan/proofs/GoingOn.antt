@@ -1,24 +1,25 @@
 -- What it means that an instruction goes on.
-use Rattle.std.proofs.Common.{◌≡◌, ◌≢◌, ℕ, zero, suc, ◌+◌, ◌≤◌, ◌<◌, Bool, true, false, cond, ◌&&◌, ◌||◌, ◌%◌, ◌^◌, eq-eqb, List, length, Option, Some, None, Result, Ok, Err, refl, sym, ap, ◌∙◌, arith, inl, inr, length-append}
-use Rattle.std.specs.Prelude.{◌==◌, if◌then◌else◌, nat_lt, not}
-use Rattle.std.proofs.lemmas.Bool.{le-ltb, lt-ltb, ltb-false, cases_lt, true≢false}
+use Rattle.std.proofs.Common.{◌≡◌, ◌≢◌, ℕ, zero, suc, ◌+◌, ◌≤◌, ◌<◌, Bool, true, false, cond, ◌&&◌, List, length, Option, Some, None, Result, Ok, Err, refl, ap, ◌∙◌, arith, length-append}
+use Rattle.std.specs.Prelude.{nat_lt}
+use Rattle.std.proofs.lemmas.Bool.{le-ltb, ltb-false}
 use Rattle.std.proofs.lemmas.Bool.Decides.{nat_tests}
 use Rattle.std.proofs.lemmas.List.FromFn.{length-range_with_len}
 use Rattle.dma_insn.specs.declared.chip.ChipInsn.{ChipInsn}
-use Rattle.dma_insn.specs.declared.chip.ChipInsn.TheVariants.{Mov, Ld, St, End, LpEnd, StoreZeros, LoopAgain}
-use Rattle.dma_insn.specs.declared.insn.Reg.TheVariants.{Ccr}
+use Rattle.dma_insn.specs.declared.chip.ChipInsn.TheVariants.{Mov, Ld, St, End, LpEnd, StoreZeros, AddHalfword, LoopAgain}
+use Rattle.dma_insn.specs.declared.chip.Address.TheVariants.{Destination}
+use Rattle.dma_insn.specs.declared.insn.Reg.TheVariants.{Ccr, Dar}
 use Rattle.dma_mem.specs.Places.{end_of_addresses}
 use Rattle.dma_chan.specs.declared.bursts.Burst.{Burst}
 use Rattle.dma_chan.specs.declared.bus.Bus.{Bus}
-use Rattle.dma_chan.specs.declared.bus.Bus.TheVariants.{Chip, Ideal}
+use Rattle.dma_chan.specs.declared.exec.Registers.{Registers}
 use Rattle.dma_chan.specs.declared.explain.Cause.{Cause}
 use Rattle.dma_chan.specs.declared.explain.Cause.TheVariants.{Fails, StoresPast, StoresFixed, DropsBytes}
 use Rattle.dma_chan.specs.declared.turn.FaultKind.{FaultKind}
 use Rattle.dma_chan.specs.declared.turn.FaultKind.TheVariants.{OperandInvalid, MfifoErr, StDataUnavailable, InstrFetchErr}
-use Rattle.dma_chan.specs.Bursts.{burst_len, span_of, touched}
-use Rattle.dma_chan.specs.Bus.{accepts, bus_code}
+use Rattle.dma_chan.specs.Bursts.{burst_len, drops, span_of, touched}
+use Rattle.dma_chan.specs.Bus.{accepts}
 use Rattle.dma_chan.specs.Exec.{buffer_size, counter_of, destination_of, moved, source_of}
-use Rattle.dma_chan.specs.Explains.{GoesOn, Trace, after_fetch, after_insn, drops, held, next_in, passes, stop_of_insn, stop_of_mov, traced}
+use Rattle.dma_chan.specs.Explains.{GoesOn, Trace, after_fetch, after_insn, held, next_in, passes, stop_of_insn, stop_of_mov, traced}
 use Rattle.dma_chan.proofs.ControlWords.{touched_up}
 
 -- ---- tests in turn
@@ -38,17 +39,16 @@ passed b c o e f = ap (λ (x : Bool). cond x (Some c) o) e ∙ f
 pub no_jump : (n pc back : ℕ) → (nat_lt 0 n && nat_lt pc back) ≡ false → 0 < n → back ≤ pc
 no_jump n pc back e some = grind (arith, nat_tests)
 
+-- whether an instruction drops bytes that are held
+abbrev pub dropped : ChipInsn → Trace → Bool
+dropped i x =
+    let r = x.registers in nat_lt 0 (held x) && drops r.bus (destination_of r) (destination_of (moved i r))
+
 -- DMAMOV while the buffer is empty
 pub mov_empty : (i : ChipInsn) (x : Trace) → held x ≡ 0 → stop_of_mov i x ≡ None
 mov_empty i x e =
     let r = x.registers in
-    let dropped = drops r.bus (destination_of r) (destination_of (moved i r)) in
-    passed (nat_lt 0 (held x) && dropped) DropsBytes None (ap (λ (b : Bool). b && dropped) (le-ltb 0 (held x) (omega (arith, e)))) refl
-
--- a DMAMOV that doesn't change the next store
-pub drops_same : (bus : Bus) (b : Burst) → drops bus b b ≡ false
-drops_same Ideal b = refl
-drops_same (Chip width) b = grind (arith, nat_tests)
+    passed (dropped i x) DropsBytes None (ap (λ (b : Bool). b && drops r.bus (destination_of r) (destination_of (moved i r))) (le-ltb 0 (held x) (omega (arith, e)))) refl
 
 -- a burst that ends at or below the last address
 pub ends_low : (b : Burst) → b.addr + span_of b ≤ end_of_addresses → passes b ≡ false
@@ -65,7 +65,9 @@ Can Ld x = length x.loads + burst_len (source_of x.registers) ≤ length x.store
 Can St x =
     (length x.stores + burst_len (destination_of x.registers) ≤ length x.loads)
     × ((destination_of x.registers).increments ≡ true)
-Can (Mov Ccr w) x = accepts x.registers.bus w ≡ true
+Can (Mov Dar v) x = dropped (Mov Dar v) x ≡ false
+Can (Mov Ccr w) x = (accepts x.registers.bus w ≡ true) × (dropped (Mov Ccr w) x ≡ false)
+Can (AddHalfword Destination half negative) x = dropped (AddHalfword Destination half negative) x ≡ false
 Can (LpEnd c back) x = 0 < counter_of c x.registers → back ≤ x.registers.pc
 Can End x = ⊥
 Can StoreZeros x = ⊥
@@ -89,7 +91,12 @@ can St x few ne e =
       omega (arith, ltb-false (held x) (burst_len b) has.0, few),
       up.0,
     )
-can (Mov Ccr w) x few ne e = (none_second (accepts x.registers.bus w) (Fails OperandInvalid) _ e).0
+can (Mov Dar v) x few ne e = (none_first (dropped (Mov Dar v) x) DropsBytes None e).0
+can (Mov Ccr w) x few ne e =
+    let taken = none_second (accepts x.registers.bus w) (Fails OperandInvalid) _ e in
+    (taken.0, (none_first (dropped (Mov Ccr w) x) DropsBytes None taken.1).0)
+can (AddHalfword Destination half negative) x few ne e =
+    (none_first (dropped (AddHalfword Destination half negative) x) DropsBytes None e).0
 can (LpEnd c back) x few ne e =
     no_jump (counter_of c x.registers) x.registers.pc back (none_first (nat_lt 0 (counter_of c x.registers) && nat_lt x.registers.pc back) (Fails InstrFetchErr) None e).0
 can End x few ne e = absurd (ne refl)
@@ -109,8 +116,8 @@ few_next : (r : Result ChipInsn FaultKind) (x : Trace) → Few x → GoesOn r x 
 few_next (Ok i) x few go = few_insn i x few (can_next i x few go)
 few_next (Err kind) x few go = absurd (let bad = go.1 in cc)
 
-pub few_at : (bus : Bus) (program : List ℕ) (k : ℕ) → ((j : ℕ) → j < k → GoesOn (next_in program (traced bus program j)) (traced bus program j)) → Few (traced bus program k)
-few_at bus program zero goes = omega arith
-few_at bus program (suc k) goes =
-    let x = traced bus program k in
-    few_next (next_in program x) x (few_at bus program k (λ j l. goes j (omega arith))) (goes k (omega arith))
+pub few_at : (start : Registers) (program : List ℕ) (k : ℕ) → ((j : ℕ) → j < k → GoesOn (next_in program (traced start program j)) (traced start program j)) → Few (traced start program k)
+few_at start program zero goes = omega arith
+few_at start program (suc k) goes =
+    let x = traced start program k in
+    few_next (next_in program x) x (few_at start program k (λ j l. goes j (omega arith))) (goes k (omega arith))

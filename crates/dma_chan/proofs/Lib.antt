@@ -3,6 +3,7 @@ pub mod BurstReach
 pub mod BurstRounds
 pub mod NextFits
 pub mod ActCases
+pub mod KeptBytes
 pub mod RunAlone
 pub mod CutPlaces
 pub mod PieceCode
@@ -17,6 +18,8 @@ pub mod LayerLaws
 pub mod CopyAlone
 pub mod ReadyLaws
 pub mod BodyMoves
+pub mod ZeroBodies
+pub mod BlockRows
 pub mod BodyBlocks
 pub mod RoundCounts
 pub mod WrittenRanges

@@ -37,9 +37,9 @@ fetch_bus : (r : Result ChipInsn FaultKind) (x : Trace) → (after_fetch r x).re
 fetch_bus (Ok i) x = insn_bus i x
 fetch_bus (Err kind) x = refl
 
-pub traced_bus : (bus : Bus) (program : List ℕ) (n : ℕ) → (traced bus program n).registers.bus ≡ bus
-traced_bus bus program zero = refl
-traced_bus bus program (suc n) = let x = traced bus program n in fetch_bus (next_in program x) x ∙ traced_bus bus program n
+pub traced_bus : (start : Registers) (program : List ℕ) (n : ℕ) → (traced start program n).registers.bus ≡ start.bus
+traced_bus start program zero = refl
+traced_bus start program (suc n) = let x = traced start program n in fetch_bus (next_in program x) x ∙ traced_bus start program n
 
 module _ (bus : Bus) where
   -- the registers, and a run, on the bus
@@ -85,19 +85,19 @@ module _ (bus : Bus) where
       next_widens bus program x.registers.pc i (ap (λ (b : Bus). next_on b program x.registers.pc) (sym ideal) ∙ next)
 
   -- each of the first n instructions is fetched on the ideal bus
-  abbrev AreFetched : List ℕ → ℕ → Type 0
-  AreFetched program n = (k : ℕ) → k < n → GoesOn (next_in program (traced Ideal program k)) (traced Ideal program k)
+  abbrev AreFetched : Registers → List ℕ → ℕ → Type 0
+  AreFetched start program n = (k : ℕ) → k < n → GoesOn (next_in program (traced start program k)) (traced start program k)
 
   fetch_on : (program : List ℕ) (r : Result ChipInsn FaultKind) (x : Trace) → x.registers.bus ≡ Ideal → next_in program x ≡ r → GoesOn r x → MovesAligned r x.registers → after_fetch (next_in program (trace_on x)) (trace_on x) ≡ trace_on (after_fetch r x)
   fetch_on program (Ok i) x ideal next go a = ap (λ r. after_fetch r (trace_on x)) (next_same program x i ideal next) ∙ insn_on i x a
   fetch_on program (Err kind) x ideal next go a = absurd (let bad = go.1 in cc)
 
-  pub traced_on : (program : List ℕ) (n : ℕ) → AreFetched program n → IsAlignedTo program n → traced bus program n ≡ trace_on (traced Ideal program n)
-  traced_on program zero goes a = refl
-  traced_on program (suc n) goes a =
-      let x = traced Ideal program n in
-      ap (λ (y : Trace). after_fetch (next_in program y) y) (traced_on program n (λ k l. goes k (omega arith)) (λ k l. a k (omega arith)))
-      ∙ fetch_on program (next_in program x) x (traced_bus Ideal program n) refl (goes n (omega arith)) (a n (omega arith))
+  pub traced_on : (start : Registers) (program : List ℕ) (n : ℕ) → start.bus ≡ Ideal → AreFetched start program n → IsAlignedTo start program n → traced (record start { bus = bus }) program n ≡ trace_on (traced start program n)
+  traced_on start program zero ideal goes a = refl
+  traced_on start program (suc n) ideal goes a =
+      let x = traced start program n in
+      ap (λ (y : Trace). after_fetch (next_in program y) y) (traced_on start program n ideal (λ k l. goes k (omega arith)) (λ k l. a k (omega arith)))
+      ∙ fetch_on program (next_in program x) x (traced_bus start program n ∙ ideal) refl (goes n (omega arith)) (a n (omega arith))
 
   goes_on : (i : ChipInsn) (x : Trace) → fits_bus bus (Ok i) ≡ true → MovesAligned (Ok i) x.registers → SetsEmpty (Ok i) (held x) → stop_of_insn i x ≡ None → stop_of_insn i (trace_on x) ≡ None
   goes_on (Mov Ccr v) x f a d g =
@@ -119,16 +119,16 @@ module _ (bus : Bus) where
   goes_next program (Err kind) x ideal next f a d g = absurd (let bad = g.1 in cc)
 
 pub explained_on_bus : ExplainedOnBus
-explained_on_bus bus program t n h fit aligned keeps =
-    let same : (k : ℕ) → k ≤ n → traced bus program k ≡ trace_on bus (traced Ideal program k) =
-    λ k l. traced_on bus program k (λ j less. h.goes j (omega arith)) (λ j less. aligned j (omega arith)) in
+explained_on_bus start bus program t n ideal h fit aligned keeps =
+    let same : (k : ℕ) → k ≤ n → traced (record start { bus = bus }) program k ≡ trace_on bus (traced start program k) =
+    λ k l. traced_on bus start program k ideal (λ j less. h.goes j (omega arith)) (λ j less. aligned j (omega arith)) in
     let last = same n (omega arith) in
     record {
       goes = λ k l.
-          let x = traced Ideal program k in
+          let x = traced start program k in
           subst (λ (y : Trace). GoesOn (next_in program y) y) (sym (same k (omega arith)))
-          (goes_next bus program (next_in program x) x (traced_bus Ideal program k) refl (fit k l) (aligned k l) (keeps k l) (h.goes k l));
-      ends = ap (λ (y : Trace). next_in program y) last ∙ next_same bus program (traced Ideal program n) End (traced_bus Ideal program n) h.ends;
+          (goes_next bus program (next_in program x) x (traced_bus start program k ∙ ideal) refl (fit k l) (aligned k l) (keeps k l) (h.goes k l));
+      ends = ap (λ (y : Trace). next_in program y) last ∙ next_same bus program (traced start program n) End (traced_bus start program n ∙ ideal) h.ends;
       loads = ap (λ (y : Trace). y.loads) last ∙ h.loads;
       stores = ap (λ (y : Trace). y.stores) last ∙ h.stores;
       few = h.few;

@@ -178,9 +178,9 @@ zeros_at_1 = refl
 -- ---- what a law refuses
 
 -- A channel that reports a signal of a compiled program before it has stored anything breaks the law of copies.
-early_signal_is_refused : (bus : Bus) (t : Descriptor) (first memory : ℕ → ℕ) (call : Call) (e : ℕ) → IsTransfer t → call.signal ≡ Some e → call.left.channel.stored ≡ 0 → ¬ HasCopied bus (compiled_on bus t).bytes t (cost_on bus t - 1) first memory call
+early_signal_is_refused : (bus : Bus) (t : Descriptor) (first memory : ℕ → ℕ) (call : Call) (e : ℕ) → IsTransfer t → call.signal ≡ Some e → call.left.channel.stored ≡ 0 → ¬ HasCopied (start_on bus) (compiled_on bus t).bytes t (cost_on bus t - 1) first memory call
 early_signal_is_refused bus t first memory call e h signals none copied =
-    let at = (compiled_events bus t h).signals e call.left.channel.stored (copied.signals e signals) in
+    let at = (compiled_events (start_on bus) t h).signals e call.left.channel.stored (copied.signals e signals) in
     let all : 0 ≡ size_of t = sym none ∙ at.1 in
     let some : 1 ≤ size_of t = size_of_some t h in
     omega arith

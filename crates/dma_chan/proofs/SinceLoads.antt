@@ -8,7 +8,7 @@ use Rattle.std.proofs.lemmas.List.FromFn.{get_or-map-range_with_len, length-map-
 use Rattle.dma_mem.specs.declared.segment.Segment.{Segment}
 use Rattle.dma_mem.specs.Places.{Descriptor, destinations, sources}
 use Rattle.dma_mem.specs.Image.{laid}
-use Rattle.dma_chan.specs.declared.bus.Bus.{Bus}
+use Rattle.dma_chan.specs.declared.exec.Registers.{Registers}
 use Rattle.dma_chan.specs.declared.turn.ChanTurn.{ChanTurn}
 use Rattle.dma_chan.specs.declared.turn.ChanTurn.TheVariants.{Ended}
 use Rattle.dma_chan.specs.Channel.{ChannelValue}
@@ -34,35 +34,35 @@ first_agrees t k f g first memory h same left w = record {
   kept = λ a touches off. left a touches ∙ w.kept a touches off ∙ sym (same a touches);
 }
 
-module _ (bus : Bus) (program : List ℕ) (t : Descriptor) (n : ℕ) (first : List ℕ) (h : Explains bus program t n) (low : Fits t (length first)) where
+module _ (start : Registers) (program : List ℕ) (t : Descriptor) (n : ℕ) (first : List ℕ) (h : Explains start program t n) (low : Fits t (length first)) where
   abbrev IsLaid : Machine → Type 0
   IsLaid v = (a : ℕ) → Touches t a → get_or v.image a 0 ≡ get_or (laid first t v.channel.stored) a 0
 
-  runs_laid : (v : Machine) → Runs bus program t n first v → IsLaid v
+  runs_laid : (v : Machine) → Runs start program t n first v → IsLaid v
   runs_laid v r a touches = r.1.mirrors.same a touches ∙ ap (λ (k : ℕ). get_or (laid first t k) a 0) (sym r.1.stored)
 
-  leads_laid : (o : Option ChanTurn) (v : Machine) → Leads bus program t n first o v → IsLaid v
+  leads_laid : (o : Option ChanTurn) (v : Machine) → Leads start program t n first o v → IsLaid v
   leads_laid (Some Ended) v d = λ a touches. d.all a touches ∙ ap (λ (k : ℕ). get_or (laid first t k) a 0) (sym d.stored)
   leads_laid o v r = runs_laid v r
 
-  has_first : (o : Option ChanTurn) (v : Machine) → Leads bus program t n first o v → HasFirst t v.channel.stored (bytes_in first) (bytes_in v.image)
+  has_first : (o : Option ChanTurn) (v : Machine) → Leads start program t n first o v → HasFirst t v.channel.stored (bytes_in first) (bytes_in v.image)
   has_first o v r =
       let k = v.channel.stored in
       first_agrees t k (bytes_in first) (bytes_in (laid first t k)) (bytes_in first) (bytes_in v.image) h.copy (λ a touches. refl) (leads_laid o v r) (laid_by_fits t first k h.copy low)
 
-  pub leads : (c : Call) → Runs bus program t n first c.found → DoesCall c → Leads bus program t n first c.last c.left
-  leads c r does = call bus program t n c.marks first h low c.found c.left c.most c.taken c.last r does.steps
+  pub leads : (c : Call) → Runs start program t n first c.found → DoesCall c → Leads start program t n first c.last c.left
+  leads c r does = call start program t n c.marks first h low c.found c.left c.most c.taken c.last r does.steps
 
-  pub has_copied : (c : Call) → Runs bus program t n first c.found → DoesCall c → HasCopied bus program t n (bytes_in first) (bytes_in c.left.image) c
+  pub has_copied : (c : Call) → Runs start program t n first c.found → DoesCall c → HasCopied start program t n (bytes_in first) (bytes_in c.left.image) c
   has_copied c r does = record {
     bytes = has_first c.last c.left (leads c r does);
     writes = λ a i.
-        let stays = call_stays_in bus program t n c.marks c.found c.most c.taken c.last c.left h (r.0, is_in bus program t n first r.0 c.found.image c.found.channel r.1) does.steps in
+        let stays = call_stays_in start program t n c.marks c.found c.most c.taken c.last c.left h (r.0, is_in start program t n first r.0 c.found.image c.found.channel r.1) does.steps in
         stays.writes a (subst (λ (w : Segment). LiesIn w a) does.written i);
-    signals = λ e reported. signalled bus program t n c.marks first h low c.found c.left c.most c.taken c.last e r does.steps (sym does.signal ∙ reported);
-    ends = λ over. (subst (λ (o : Option ChanTurn). Leads bus program t n first o c.left) over (leads c r does)).stored;
-    waits = λ e is. call_waits bus program t n c.marks first h low c.found c.left c.most c.taken e c.last r does.steps is;
-    never_fails = λ kind none. call_fails bus program t n c.marks first h low c.found c.left c.most c.taken c.last kind none r does.steps;
+    signals = λ e reported. signalled start program t n c.marks first h low c.found c.left c.most c.taken c.last e r does.steps (sym does.signal ∙ reported);
+    ends = λ over. (subst (λ (o : Option ChanTurn). Leads start program t n first o c.left) over (leads c r does)).stored;
+    waits = λ e is. call_waits start program t n c.marks first h low c.found c.left c.most c.taken e c.last r does.steps is;
+    never_fails = λ kind none. call_fails start program t n c.marks first h low c.found c.left c.most c.taken c.last kind none r does.steps;
   }
 
 -- ---- since the load
@@ -71,7 +71,7 @@ module _ (bus : Bus) (program : List ℕ) (t : Descriptor) (n : ℕ) (first : Li
 abbrev imaged : ℕ → (ℕ → ℕ) → List ℕ
 imaged size memory = map memory (range_with_len 0 size)
 
-module _ (bus : Bus) (program : List ℕ) (t : Descriptor) (n : ℕ) (size : ℕ) (memory : ℕ → ℕ) (h : Explains bus program t n) (low : Fits t size) where
+module _ (start : Registers) (program : List ℕ) (t : Descriptor) (n : ℕ) (size : ℕ) (memory : ℕ → ℕ) (h : Explains start program t n) (low : Fits t size) where
   abbrev first : List ℕ
   first = imaged size memory
 
@@ -87,29 +87,29 @@ module _ (bus : Bus) (program : List ℕ) (t : Descriptor) (n : ℕ) (size : ℕ
 
   -- the channel is not finished, or it has ended
   abbrev Is : ℕ → System → Type 0
-  Is ch s = Runs bus program t n first (at_channel s ch) ⊎ ((s.channels ch).program ≡ None)
+  Is ch s = Runs start program t n first (at_channel s ch) ⊎ ((s.channels ch).program ≡ None)
 
   -- a change that does not touch the channel
   kept : (ch : ℕ) (s v : System) → v.channels ch ≡ s.channels ch → KeepsTouched t s v → Is ch s → Is ch v
   kept ch s v same keeps (inl r) =
-      inl (survived bus program t n first (at_channel s ch) (at_channel v ch) r same (λ a touches. shows v.memory a touches ∙ keeps a touches ∙ sym (shows s.memory a touches)) (within v.memory))
+      inl (survived start program t n first (at_channel s ch) (at_channel v ch) r same (λ a touches. shows v.memory a touches ∙ keeps a touches ∙ sym (shows s.memory a touches)) (within v.memory))
   kept ch s v same keeps (inr none) = inr (ap (λ (c : ChannelValue). c.program) same ∙ none)
 
   -- before a call on the channel
-  found : (c : Call) (s v : System) → TakesCall c s v → LendsAll t c → Is c.channel s → Runs bus program t n first c.found
+  found : (c : Call) (s v : System) → TakesCall c s v → LendsAll t c → Is c.channel s → Runs start program t n first c.found
   found c s v takes lent (inl r) =
-      survived bus program t n first (at_channel s c.channel) c.found r takes.finds_channel (λ a touches. takes.finds a (lent a touches) ∙ sym (shows s.memory a touches)) (λ a touches. takes.within a (lent a touches))
+      survived start program t n first (at_channel s c.channel) c.found r takes.finds_channel (λ a touches. takes.finds a (lent a touches) ∙ sym (shows s.memory a touches)) (λ a touches. takes.within a (lent a touches))
   found c s v takes lent (inr none) = absurd (not_none c.found.channel.program takes.does.is_loaded (ap (λ (d : ChannelValue). d.program) takes.finds_channel ∙ none))
 
   -- after the call
-  left : (c : Call) (s v : System) → TakesCall c s v → LendsAll t c → Runs bus program t n first c.left ⊎ (c.left.channel.program ≡ None) → Is c.channel v
+  left : (c : Call) (s v : System) → TakesCall c s v → LendsAll t c → Runs start program t n first c.left ⊎ (c.left.channel.program ≡ None) → Is c.channel v
   left c s v takes lent (inl r) =
-      inl (survived bus program t n first c.left (at_channel v c.channel) r takes.leaves_channel (λ a touches. shows v.memory a touches ∙ takes.leaves a (lent a touches)) (within v.memory))
+      inl (survived start program t n first c.left (at_channel v c.channel) r takes.leaves_channel (λ a touches. shows v.memory a touches ∙ takes.leaves a (lent a touches)) (within v.memory))
   left c s v takes lent (inr none) = inr (ap (λ (d : ChannelValue). d.program) takes.leaves_channel ∙ none)
 
   called : (c : Call) (s v : System) → TakesCall c s v → LendsAll t c → Is c.channel s → Is c.channel v
   called c s v takes lent i =
-      left c s v takes lent (either_way bus program t n first c.last c.left (leads bus program t n first h (within memory) c (found c s v takes lent i) takes.does))
+      left c s v takes lent (either_way start program t n first c.last c.left (leads start program t n first h (within memory) c (found c s v takes lent i) takes.does))
 
   changed : (ch : ℕ) (change : Change) (s v : System) → Does change s v → LeavesAlone t ch change s v → Is ch s → Is ch v
   changed ch (Sets other c) s v does alone i = elim (cases_eq other ch) [
@@ -122,9 +122,9 @@ module _ (bus : Bus) (program : List ℕ) (t : Descriptor) (n : ℕ) (size : ℕ
     | inr ne ↦ kept ch s v (takes.others ch (λ e. ne (sym e))) (alone.1 ne) i
   ]
 
-  copied : (c : Call) (s v : System) → TakesCall c s v → LendsAll t c → Is c.channel s → HasCopied bus program t n memory v.memory c
+  copied : (c : Call) (s v : System) → TakesCall c s v → LendsAll t c → Is c.channel s → HasCopied start program t n memory v.memory c
   copied c s v takes lent i =
-      let all = has_copied bus program t n first h (within memory) c (found c s v takes lent i) takes.does in
+      let all = has_copied start program t n first h (within memory) c (found c s v takes lent i) takes.does in
       record {
         bytes = first_agrees t c.left.channel.stored (bytes_in first) (bytes_in c.left.image) memory v.memory h.copy
             (λ a touches. sym (shows memory a touches)) (λ a touches. takes.leaves a (lent a touches)) all.bytes;
@@ -135,7 +135,7 @@ module _ (bus : Bus) (program : List ℕ) (t : Descriptor) (n : ℕ) (size : ℕ
         never_fails = all.never_fails;
       }
 
-module _ (bus : Bus) (program : List ℕ) (t : Descriptor) (n : ℕ) (changes : ℕ → Change) (states : ℕ → System) (load now : ℕ) (c : Call) (h : Explains bus program t n) (does : DoesAll changes states load (now + 1)) (since : SinceLoad bus program t changes states load now c (λ k. LeavesAlone t c.channel)) where
+module _ (start : Registers) (program : List ℕ) (t : Descriptor) (n : ℕ) (changes : ℕ → Change) (states : ℕ → System) (load now : ℕ) (c : Call) (h : Explains start program t n) (does : DoesAll changes states load (now + 1)) (since : SinceLoad start program t changes states load now c (λ k. LeavesAlone t c.channel)) where
   takes : TakesCall c (states now) (states (now + 1))
   takes = let later = since.later in subst (λ (x : Change). Does x (states now) (states (now + 1))) since.is_call (does now (omega arith) (omega arith))
 
@@ -147,24 +147,24 @@ module _ (bus : Bus) (program : List ℕ) (t : Descriptor) (n : ℕ) (changes : 
   low = λ a touches. takes.within a (since.lent a touches)
 
   abbrev Is_at : ℕ → Type 0
-  Is_at k = Is bus program t n size (states load).memory h low c.channel (states k)
+  Is_at k = Is start program t n size (states load).memory h low c.channel (states k)
 
   after_load : Is_at (load + 1)
   after_load =
       let later = since.later in
       let memory = (states load).memory in
       let d = subst (λ (x : Change). Does x (states load) (states (load + 1))) since.loads.2 (does load (omega arith) (omega arith)) in
-      let start = subst (IsLoadedWith bus program) (sym d.0) since.loads.1 in
+      let is_loaded = subst (IsLoadedWith start program) (sym d.0) since.loads.1 in
       let s = states (load + 1) in
-      kept bus program t n size memory h low c.channel (record s { memory = memory }) s refl (λ a touches. d.1.1 a)
-      (inl (at_first bus program t n (imaged size memory) (record { channel = s.channels c.channel; image = imaged size memory; flags = [] }) (within bus program t n size memory h low memory) start refl))
+      kept start program t n size memory h low c.channel (record s { memory = memory }) s refl (λ a touches. d.1.1 a)
+      (inl (at_first start program t n (imaged size memory) (record { channel = s.channels c.channel; image = imaged size memory; flags = [] }) (within start program t n size memory h low memory) is_loaded refl))
 
   along : (d : ℕ) → load + 1 + d ≤ now → Is_at (load + 1 + d)
   along zero l = let e : load + 1 ≡ load + 1 + zero = omega arith in subst Is_at e after_load
   along (suc d) l =
       let k = load + 1 + d in
       let e : k + 1 ≡ load + 1 + suc d = omega arith in
-      subst Is_at e (changed bus program t n size (states load).memory h low c.channel (changes k) (states k) (states (k + 1)) (does k (omega arith) (omega arith)) (since.spares k (omega arith) (omega arith)) (along d (omega arith)))
+      subst Is_at e (changed start program t n size (states load).memory h low c.channel (changes k) (states k) (states (k + 1)) (does k (omega arith) (omega arith)) (since.spares k (omega arith) (omega arith)) (along d (omega arith)))
 
   at_call : Is_at now
   at_call =
@@ -172,25 +172,25 @@ module _ (bus : Bus) (program : List ℕ) (t : Descriptor) (n : ℕ) (changes : 
       let e : load + 1 + (now - (load + 1)) ≡ now = omega arith in
       subst Is_at e (along (now - (load + 1)) (omega arith))
 
-  has_all : HasCopied bus program t n (states load).memory (states (now + 1)).memory c
-  has_all = copied bus program t n size (states load).memory h low c (states now) (states (now + 1)) takes since.lent at_call
+  has_all : HasCopied start program t n (states load).memory (states (now + 1)).memory c
+  has_all = copied start program t n size (states load).memory h low c (states now) (states (now + 1)) takes since.lent at_call
 
 pub copies_since_load : CopiesSinceLoad
-copies_since_load bus program t n changes states load now c h does since = has_all bus program t n changes states load now c h does since
+copies_since_load start program t n changes states load now c h does since = has_all start program t n changes states load now c h does since
 
 -- ---- among other transfers
 
 -- a channel that executes a transfer, if a call can be made on it
 abbrev Copies : Descriptor → ChannelValue → Type 0
-Copies t c = (bus : Bus) × (program : List ℕ) × (n : ℕ) × Explains bus program t n × Executes bus program n c
+Copies t c = (start : Registers) × (program : List ℕ) × (n : ℕ) × Explains start program t n × Executes start program n c
 
 executes : (t : Descriptor) (c : ChannelValue) → IsSome c.program → Holds (Some t) c → Copies t c
 executes t c some (inl none) = absurd (not_none c.program some none)
 executes t c some (inr w) = w
 
-still : (bus : Bus) (program : List ℕ) (t : Descriptor) (n : ℕ) (c : ChannelValue) → Explains bus program t n → Executes bus program n c ⊎ (c.program ≡ None) → Holds (Some t) c
-still bus program t n c h (inl w) = inr (bus, program, n, h, w)
-still bus program t n c h (inr none) = inl none
+still : (start : Registers) (program : List ℕ) (t : Descriptor) (n : ℕ) (c : ChannelValue) → Explains start program t n → Executes start program n c ⊎ (c.program ≡ None) → Holds (Some t) c
+still start program t n c h (inl w) = inr (start, program, n, h, w)
+still start program t n c h (inr none) = inl none
 
 module _ (c : Call) (s v : System) (takes : TakesCall c s v) where
   -- before the call the channel executes its transfer
@@ -259,8 +259,8 @@ module _ (own : ℕ → ℕ → Option Descriptor) (changes : ℕ → Change) (s
       subst (λ (j : ℕ). Holds (own j ch) ((states j).channels ch)) e (hold (k - from) (omega arith) ch)
 
 pub channels_copy : ChannelsCopy
-channels_copy bus program t n own changes states load now c h does have since =
-    copies_since_load bus program t n changes states load now c h does (record {
+channels_copy start program t n own changes states load now c h does have since =
+    copies_since_load start program t n changes states load now c h does (record {
       later = since.later;
       loads = since.loads;
       is_call = since.is_call;

@@ -7,9 +7,10 @@ use Rattle.std.proofs.lemmas.Bool.{cond_both, le-ltb, cases_lt, true≢false}
 use Rattle.std.proofs.lemmas.List.{map-append, drop-append-le, take_at, drop_at, drop-drop, length-drop, length-map, length-take-le, take-map, drop-map, take-append-le}
 use Rattle.std.proofs.lemmas.List.Elements.{Contains-append_left, Contains-append_right}
 use Rattle.std.proofs.Math.Seq.{take-add}
-use Rattle.dma_insn.specs.declared.insn.Reg.TheVariants.{Ccr}
+use Rattle.dma_insn.specs.declared.chip.Address.TheVariants.{Destination}
+use Rattle.dma_insn.specs.declared.insn.Reg.TheVariants.{Ccr, Dar}
 use Rattle.dma_insn.specs.declared.chip.ChipInsn.{ChipInsn}
-use Rattle.dma_insn.specs.declared.chip.ChipInsn.TheVariants.{Mov, Ld, St, End, LpEnd, Sev, Wfe, StoreZeros, LoopAgain}
+use Rattle.dma_insn.specs.declared.chip.ChipInsn.TheVariants.{Mov, Ld, St, End, LpEnd, Sev, Wfe, StoreZeros, AddHalfword, LoopAgain}
 use Rattle.dma_mem.specs.Image.{put, after_moves, carried, laid}
 use Rattle.dma_mem.specs.Places.{Descriptor, Apart, sources, destinations, moves}
 use Rattle.dma_mem.specs.Marking.{MarkList}
@@ -17,19 +18,19 @@ use Rattle.dma_mem.specs.declared.marks.MarkKind.TheVariants.{Reading, Writing}
 use Rattle.dma_mem.proofs.ImageOver.{after_moves_more, get_or_after_moves_other, length_after_moves}
 use Rattle.dma_mem.proofs.ImagePut.{get_or_put, length_put}
 use Rattle.dma_mem.proofs.OverTransfers.{keys_in, once_parts, moves_writes, drop_zip, take_zip, carried_zip}
-use Rattle.dma_chan.specs.declared.bus.Bus.{Bus}
 use Rattle.dma_chan.specs.declared.exec.Registers.{Registers}
 use Rattle.dma_chan.specs.declared.turn.ChanTurn.{ChanTurn}
 use Rattle.dma_chan.specs.declared.turn.ChanTurn.TheVariants.{Moved, Waiting, Ended, Fault}
 use Rattle.dma_chan.specs.declared.turn.FaultKind.{FaultKind}
 use Rattle.dma_chan.specs.Bursts.{burst_len, reaches, touched, writes_of}
-use Rattle.dma_chan.specs.Exec.{source_of, destination_of, counter_of, State, state, act, read_at, moved}
+use Rattle.dma_chan.specs.Exec.{source_of, destination_of, counter_of, State, state, act, read_at, moved, moves_keeping}
 use Rattle.dma_chan.specs.Others.{Misses, Touches}
 use Rattle.dma_chan.specs.Explains.{Trace, after_insn, after_fetch, next_in, traced, IsCopy}
 use Rattle.dma_chan.proofs.BurstReach.{reaches_all}
 use Rattle.dma_chan.proofs.BurstsInTurn.{left_up}
 use Rattle.dma_chan.proofs.ControlWords.{touched_up}
-use Rattle.dma_chan.proofs.GoingOn.{Can, length_up}
+use Rattle.dma_chan.proofs.GoingOn.{Can, dropped, length_up}
+use Rattle.dma_chan.proofs.KeptBytes.{kept_held}
 use Rattle.dma_chan.proofs.MemberActs.{cannot_jump}
 
 -- ---- the lists grow
@@ -61,16 +62,16 @@ grows_on x y z f g = record {
   stores = g.stores ∙ ap (λ (xs : List ℕ). xs ++ g.more_stores) f.stores ∙ append_assoc x.stores f.more_stores g.more_stores;
 }
 
-pub grows_to : (bus : Bus) (program : List ℕ) (k m : ℕ) → k ≤ m → Grows (traced bus program k) (traced bus program m)
-grows_to bus program k zero l =
+pub grows_to : (start : Registers) (program : List ℕ) (k m : ℕ) → k ≤ m → Grows (traced start program k) (traced start program m)
+grows_to start program k zero l =
     let e : k ≡ zero = omega arith in
-    grows_none (traced bus program k) (traced bus program zero) (ap (λ (j : ℕ). (traced bus program j).loads) (sym e)) (ap (λ (j : ℕ). (traced bus program j).stores) (sym e))
-grows_to bus program k (suc m) l =
+    grows_none (traced start program k) (traced start program zero) (ap (λ (j : ℕ). (traced start program j).loads) (sym e)) (ap (λ (j : ℕ). (traced start program j).stores) (sym e))
+grows_to start program k (suc m) l =
     elim (cases_lt m k) [
       | inl last ↦
           let e : k ≡ suc m = omega arith in
-          grows_none (traced bus program k) (traced bus program (suc m)) (ap (λ (j : ℕ). (traced bus program j).loads) (sym e)) (ap (λ (j : ℕ). (traced bus program j).stores) (sym e))
-      | inr le ↦ grows_on (traced bus program k) (traced bus program m) (traced bus program (suc m)) (grows_to bus program k m le) (grows_fetch (next_in program (traced bus program m)) (traced bus program m))
+          grows_none (traced start program k) (traced start program (suc m)) (ap (λ (j : ℕ). (traced start program j).loads) (sym e)) (ap (λ (j : ℕ). (traced start program j).stores) (sym e))
+      | inr le ↦ grows_on (traced start program k) (traced start program m) (traced start program (suc m)) (grows_to start program k m le) (grows_fetch (next_in program (traced start program m)) (traced start program m))
     ]
 
 -- ---- images that have the same bytes at some places
@@ -149,6 +150,10 @@ module _ (t : Descriptor) (first : List ℕ) (marks : MarkList) (copy : IsCopy t
   quiet : (i : ChipInsn) (r : Registers) (new : List Bool) → Answers t first marks i (record { registers = r; loads = x.loads; stores = x.stores }) (Moved, state r buffer image new)
   quiet i r new = record { registers_are = refl; buffer_is = m.buffer_is; few = m.few; same = m.same; fits = m.fits }
 
+  -- one that changes the next store and drops no byte
+  keeps : (i : ChipInsn) → dropped i x ≡ false → Answers t first marks i (record { registers = moved i x.registers; loads = x.loads; stores = x.stores }) (moves_keeping (moved i x.registers) here)
+  keeps i none = record { registers_are = refl; buffer_is = kept_held x.registers (moved i x.registers) buffer _ held none ∙ m.buffer_is; few = m.few; same = m.same; fits = m.fits }
+
   load_answers : Inside t (after_insn Ld x) → Can Ld x → Answers t first marks Ld (after_insn Ld x) (act marks Ld here)
   load_answers part c =
       let b = source_of x.registers in
@@ -216,7 +221,9 @@ module _ (t : Descriptor) (first : List ℕ) (marks : MarkList) (copy : IsCopy t
   pub answers : (i : ChipInsn) → Inside t (after_insn i x) → Inside t x → Can i x → Answers t first marks i (after_insn i x) (act marks i here)
   answers Ld part before c = load_answers part c
   answers St part before c = store_answers part before c
-  answers (Mov Ccr v) part before c = rw c (quiet (Mov Ccr v) (moved (Mov Ccr v) x.registers) flags)
+  answers (Mov Dar v) part before c = keeps (Mov Dar v) c
+  answers (Mov Ccr v) part before c = rw c.0 (keeps (Mov Ccr v) c.1)
+  answers (AddHalfword Destination half negative) part before c = keeps (AddHalfword Destination half negative) c
   answers (LpEnd k back) part before c = rw (cannot_jump (counter_of k x.registers) x.registers.pc back (λ n. c (omega (arith, n)))) (quiet (LpEnd k back) (moved (LpEnd k back) x.registers) flags)
   answers End part before c = absurd c
   answers StoreZeros part before c = absurd c

@@ -25,16 +25,17 @@ use Rattle.dma_chan.specs.declared.turn.ChanTurn.{ChanTurn}
 use Rattle.dma_chan.specs.declared.turn.ChanTurn.TheVariants.{Moved, Fault}
 use Rattle.dma_chan.specs.declared.turn.FaultKind.{FaultKind}
 use Rattle.dma_chan.specs.declared.turn.FaultKind.TheVariants.{InstrFetchErr, MfifoErr, OperandInvalid, StDataUnavailable}
-use Rattle.dma_chan.specs.Bursts.{advance, burst_len, span_of, touched}
+use Rattle.dma_chan.specs.Bursts.{advance, burst_len, drops, span_of, touched}
 use Rattle.dma_chan.specs.Exec.{State, act, buffer_size, source_of, destination_of, counter_of, moved, past, state, wrapped}
-use Rattle.dma_chan.specs.Explains.{IsRead, IsRun, Trace, after_insn, drops, happening_of, held, passes, stop_of_insn, stop_of_mov, unrolled}
-use Rattle.dma_chan.specs.inner.Acts.{SetsRegisters}
+use Rattle.dma_chan.specs.Explains.{IsRead, IsRun, Trace, after_insn, happening_of, held, passes, stop_of_insn, stop_of_mov, unrolled}
+use Rattle.dma_chan.specs.inner.Acts.{SetsKeeping, SetsRegisters}
 use Rattle.dma_chan.specs.inner.Spans.{MovesSome, rounds_of}
 use Rattle.dma_chan.specs.inner.Tracing.{Advances, IsTracer, Stops, trace_of}
 use Rattle.dma_chan.proofs.BurstReach.{touched_rounds}
 use Rattle.dma_chan.proofs.CallWrites.{act_leads}
 use Rattle.dma_chan.proofs.ControlWords.{advance_up}
-use Rattle.dma_chan.proofs.GoingOn.{drops_same, length_up, passed}
+use Rattle.dma_chan.proofs.GoingOn.{length_up, passed}
+use Rattle.dma_chan.proofs.KeptBytes.{drops_same, kept_none}
 use Rattle.dma_chan.proofs.LowestPlaces.{one_read, rounds_read}
 
 -- ---- instructions that change only registers
@@ -78,9 +79,15 @@ NoFault turn = (kind : FaultKind) → turn ≢ Fault kind
 abbrev pub FaultIs : ChanTurn → Cause → Type 0
 FaultIs turn cause = (kind : FaultKind) × (turn ≡ Fault kind) × (cause ≡ Fails kind)
 
-sets_to : (i : ChipInsn) (r after : Registers) (turn : ChanTurn) → SetsRegisters i r turn after → turn ≡ Moved → after ≡ moved i r
-sets_to i r after turn sets moves =
-    let same = sets [] [] [] [] in
+-- an instruction has this answer and sets the registers to `after`, in the state that has nothing else
+abbrev SetsAlone : ChipInsn → Registers → ChanTurn → Registers → Type 0
+SetsAlone i r turn after = act [] i (state r [] [] []) ≡ (turn, state after [] [] [])
+
+keeping_alone : (i : ChipInsn) (r after : Registers) (turn : ChanTurn) → SetsKeeping i r turn after → SetsAlone i r turn after
+keeping_alone i r after turn sets = sets [] [] [] [] ∙ ap (λ (xs : List ℕ). (turn, state after xs [] [])) (kept_none r after)
+
+sets_to : (i : ChipInsn) (r after : Registers) (turn : ChanTurn) → SetsAlone i r turn after → turn ≡ Moved → after ≡ moved i r
+sets_to i r after turn same moves =
     sym (ap (λ (x : ChanTurn × State). x.1.registers) same) ∙ act_leads [] i (state r [] [] []) (ap (λ (x : ChanTurn × State). x.0) same ∙ moves)
 
 -- the answer of one of two instructions
@@ -112,8 +119,8 @@ turn_not true x y = refl
 turn_not false x y = refl
 
 -- the answer of an instruction that sets registers
-turn_of : (i : ChipInsn) (r after : Registers) (turn : ChanTurn) → SetsRegisters i r turn after → (act [] i (state r [] [] [])).0 ≡ turn
-turn_of i r after turn sets = ap (λ (x : ChanTurn × State). x.0) (sets [] [] [] [])
+turn_of : (i : ChipInsn) (r after : Registers) (turn : ChanTurn) → SetsAlone i r turn after → (act [] i (state r [] [] [])).0 ≡ turn
+turn_of i r after turn sets = ap (λ (x : ChanTurn × State). x.0) sets
 
 -- no store changes by a DMAADDH or DMAADNH of SAR
 add_stop : (a : Address) (half : ℕ) (negative : Bool) (z : Trace) → stop_of_insn (AddHalfword a half negative) z ≡ stop_of_mov (AddHalfword a half negative) z
@@ -128,12 +135,12 @@ add_stop Source half negative z =
 add_stop Destination half negative z = refl
 
 -- DMAMOV
-mov_moves : (reg : Reg) (v : ℕ) (r after : Registers) (turn : ChanTurn) → SetsRegisters (Mov reg v) r turn after → NoFault turn → turn ≡ Moved
+mov_moves : (reg : Reg) (v : ℕ) (r after : Registers) (turn : ChanTurn) → SetsAlone (Mov reg v) r turn after → NoFault turn → turn ≡ Moved
 mov_moves Sar v r after turn sets none = sym (turn_of (Mov Sar v) r after turn sets)
 mov_moves Dar v r after turn sets none = sym (turn_of (Mov Dar v) r after turn sets)
 mov_moves Ccr v r after turn sets none = (moves_if (accepts r.bus v) OperandInvalid turn _ _ (turn_of (Mov Ccr v) r after turn sets) none).1
 
-mov_accepted : (reg : Reg) (v : ℕ) (z : Trace) (after : Registers) (turn : ChanTurn) → SetsRegisters (Mov reg v) z.registers turn after → NoFault turn → stop_of_insn (Mov reg v) z ≡ stop_of_mov (Mov reg v) z
+mov_accepted : (reg : Reg) (v : ℕ) (z : Trace) (after : Registers) (turn : ChanTurn) → SetsAlone (Mov reg v) z.registers turn after → NoFault turn → stop_of_insn (Mov reg v) z ≡ stop_of_mov (Mov reg v) z
 mov_accepted Sar v z after turn sets none =
     let b = destination_of z.registers in
     let same : (nat_lt 0 (held z) && drops z.registers.bus b b) ≡ false = ap (λ (d : Bool). nat_lt 0 (held z) && d) (drops_same z.registers.bus b) ∙ no_test (nat_lt 0 (held z)) in
@@ -146,19 +153,22 @@ mov_accepted Dar v z after turn sets none = refl
 mov_accepted Ccr v z after turn sets none =
     ap (λ (b : Bool). cond b (stop_of_mov (Mov Ccr v) z) (Some (Fails OperandInvalid))) (moves_if (accepts z.registers.bus v) OperandInvalid turn _ _ (turn_of (Mov Ccr v) z.registers after turn sets) none).0
 
-mov_fails : (reg : Reg) (v : ℕ) (z : Trace) (after : Registers) (turn : ChanTurn) → SetsRegisters (Mov reg v) z.registers turn after → (cause : Cause) → FaultIs turn cause → stop_of_insn (Mov reg v) z ≡ Some cause
+mov_fails : (reg : Reg) (v : ℕ) (z : Trace) (after : Registers) (turn : ChanTurn) → SetsAlone (Mov reg v) z.registers turn after → (cause : Cause) → FaultIs turn cause → stop_of_insn (Mov reg v) z ≡ Some cause
 mov_fails Sar v z after turn sets cause f = absurd (let bad : Moved ≡ Fault f.0 = turn_of (Mov Sar v) z.registers after turn sets ∙ f.1 in cc)
 mov_fails Dar v z after turn sets cause f = absurd (let bad : Moved ≡ Fault f.0 = turn_of (Mov Dar v) z.registers after turn sets ∙ f.1 in cc)
 mov_fails Ccr v z after turn sets cause f =
     let w = fails_if (accepts z.registers.bus v) OperandInvalid turn _ _ (turn_of (Mov Ccr v) z.registers after turn sets) cause f in
     ap (λ (b : Bool). cond b (stop_of_mov (Mov Ccr v) z) (Some (Fails OperandInvalid))) w.0 ∙ ap (λ (k : Cause). Some k) (sym w.1)
 
-module _ (reg : Reg) (v : ℕ) (x : Tracer) (after : Registers) (turn : ChanTurn) (h : IsTracer x) (sets : SetsRegisters (Mov reg v) x.registers turn after) where
+module _ (reg : Reg) (v : ℕ) (x : Tracer) (after : Registers) (turn : ChanTurn) (h : IsTracer x) (sets : SetsKeeping (Mov reg v) x.registers turn after) where
+  alone : SetsAlone (Mov reg v) x.registers turn after
+  alone = keeping_alone (Mov reg v) x.registers after turn sets
+
   pub set_fails : (kind : FaultKind) → turn ≡ Fault kind → stop_of_insn (Mov reg v) (trace_of x) ≡ Some (Fails kind)
-  set_fails kind e = mov_fails reg v (trace_of x) after turn sets (Fails kind) (kind, e, refl)
+  set_fails kind e = mov_fails reg v (trace_of x) after turn alone (Fails kind) (kind, e, refl)
 
   to : NoFault turn → after ≡ moved (Mov reg v) x.registers
-  to none = sets_to (Mov reg v) x.registers after turn sets (mov_moves reg v x.registers after turn sets none)
+  to none = sets_to (Mov reg v) x.registers after turn alone (mov_moves reg v x.registers after turn alone none)
 
   abbrev Dropped : ℕ → Registers → Bool
   Dropped n r = nat_lt 0 n && drops x.registers.bus (destination_of x.registers) (destination_of r)
@@ -169,25 +179,32 @@ module _ (reg : Reg) (v : ℕ) (x : Tracer) (after : Registers) (turn : ChanTurn
   pub set_advances : NoFault turn → Dropped x.held after ≡ false → Advances (Mov reg v) x (record x { registers = after })
   set_advances none keeps =
       quiet_advances (Mov reg v) x after tt h (to none)
-      (mov_accepted reg v (trace_of x) after turn sets none ∙ passed (Dropped (held (trace_of x)) (moved (Mov reg v) x.registers)) DropsBytes None (tested false none keeps) refl)
+      (mov_accepted reg v (trace_of x) after turn alone none ∙ passed (Dropped (held (trace_of x)) (moved (Mov reg v) x.registers)) DropsBytes None (tested false none keeps) refl)
 
   pub set_drops : NoFault turn → Dropped x.held after ≡ true → stop_of_insn (Mov reg v) (trace_of x) ≡ Some DropsBytes
   set_drops none drop =
-      mov_accepted reg v (trace_of x) after turn sets none ∙ ap (λ (b : Bool). cond b (Some DropsBytes) None) (tested true none drop)
+      mov_accepted reg v (trace_of x) after turn alone none ∙ ap (λ (b : Bool). cond b (Some DropsBytes) None) (tested true none drop)
 
 -- DMAADDH and DMAADNH
-module _ (a : Address) (half : ℕ) (negative : Bool) (x : Tracer) (after : Registers) (turn : ChanTurn) (h : IsTracer x) (sets : SetsRegisters (AddHalfword a half negative) x.registers turn after) where
+add_answer : (a : Address) (half : ℕ) (negative : Bool) (s : State) → (act [] (AddHalfword a half negative) s).0 ≡ Moved
+add_answer Source half negative s = refl
+add_answer Destination half negative s = refl
+
+module _ (a : Address) (half : ℕ) (negative : Bool) (x : Tracer) (after : Registers) (turn : ChanTurn) (h : IsTracer x) (sets : SetsKeeping (AddHalfword a half negative) x.registers turn after) where
   abbrev adds : ChipInsn
   adds = AddHalfword a half negative
 
+  add_alone : SetsAlone adds x.registers turn after
+  add_alone = keeping_alone adds x.registers after turn sets
+
   add_moves : turn ≡ Moved
-  add_moves = sym (turn_of adds x.registers after turn sets)
+  add_moves = sym (turn_of adds x.registers after turn add_alone) ∙ add_answer a half negative (state x.registers [] [] [])
 
   pub add_never_fails : (kind : FaultKind) → turn ≡ Fault kind → ⊥
   add_never_fails kind e = let bad : Moved ≡ Fault kind = sym add_moves ∙ e in cc
 
   add_to : after ≡ moved adds x.registers
-  add_to = sets_to adds x.registers after turn sets add_moves
+  add_to = sets_to adds x.registers after turn add_alone add_moves
 
   abbrev AddDropped : ℕ → Registers → Bool
   AddDropped n r = nat_lt 0 n && drops x.registers.bus (destination_of x.registers) (destination_of r)
@@ -207,7 +224,7 @@ module _ {X : Type 0} (done : Result X Cause) (x : Tracer) (after : Registers) (
   answered i q sets moves none = by done none
     where
       by : (r : Result X Cause) → OnOk r (NoFault turn) → OnOk r (Advances i x (record x { registers = after }))
-      by (Ok y) ok = let w = moves ok in quiet_advances i x after q h (sets_to i x.registers after turn sets w.0) w.1
+      by (Ok y) ok = let w = moves ok in quiet_advances i x after q h (sets_to i x.registers after turn (sets [] [] [] []) w.0) w.1
       by (Err cause) ok = tt
 
   refused : (i : ChipInsn) → ((cause : Cause) → FaultIs turn cause → stop_of_insn i (trace_of x) ≡ Some cause) → IfErr done (λ cause. FaultIs turn cause) → IfErr done (λ cause. Stops i x cause)
@@ -218,18 +235,18 @@ module _ {X : Type 0} (done : Result X Cause) (x : Tracer) (after : Registers) (
       by (Err cause) f = λ _. stops cause f
 
   pub lp_advances : (c : Counter) (n : ℕ) → SetsRegisters (Lp c n) x.registers turn after → OnOk done (NoFault turn) → OnOk done (Advances (Lp c n) x (record x { registers = after }))
-  lp_advances c n sets none = answered (Lp c n) tt sets (λ _. (sym (turn_of (Lp c n) x.registers after turn sets), refl)) none
+  lp_advances c n sets none = answered (Lp c n) tt sets (λ _. (sym (turn_of (Lp c n) x.registers after turn (sets [] [] [] [])), refl)) none
 
   pub lp_stops : (c : Counter) (n : ℕ) → SetsRegisters (Lp c n) x.registers turn after → IfErr done (λ cause. FaultIs turn cause) → IfErr done (λ cause. Stops (Lp c n) x cause)
   lp_stops c n sets fault =
-      refused (Lp c n) (λ cause f. absurd (let bad : Moved ≡ Fault f.0 = turn_of (Lp c n) x.registers after turn sets ∙ f.1 in cc)) fault
+      refused (Lp c n) (λ cause f. absurd (let bad : Moved ≡ Fault f.0 = turn_of (Lp c n) x.registers after turn (sets [] [] [] []) ∙ f.1 in cc)) fault
 
   module _ (counter : Counter) (back : ℕ) (sets : SetsRegisters (LoopAgain counter back) x.registers turn after) where
     abbrev early : Bool
     early = nat_lt x.registers.pc back
 
     again_is : turn_if (not early) (Moved, record (state x.registers [] [] []) { registers = moved (LoopAgain counter back) x.registers }) (Fault InstrFetchErr, state x.registers [] [] []) ≡ turn
-    again_is = turn_not early _ _ ∙ turn_of (LoopAgain counter back) x.registers after turn sets
+    again_is = turn_not early _ _ ∙ turn_of (LoopAgain counter back) x.registers after turn (sets [] [] [] [])
 
     again_moves : NoFault turn → (turn ≡ Moved) × (stop_of_insn (LoopAgain counter back) (trace_of x) ≡ None)
     again_moves none =
@@ -252,7 +269,7 @@ module _ {X : Type 0} (done : Result X Cause) (x : Tracer) (after : Registers) (
     before = nat_lt 0 (counter_of c x.registers) && nat_lt x.registers.pc back
 
     is : turn_if (not before) (Moved, record (state x.registers [] [] []) { registers = moved (LpEnd c back) x.registers }) (Fault InstrFetchErr, state x.registers [] [] []) ≡ turn
-    is = turn_not before _ _ ∙ turn_of (LpEnd c back) x.registers after turn sets
+    is = turn_not before _ _ ∙ turn_of (LpEnd c back) x.registers after turn (sets [] [] [] [])
 
     loop_moves : NoFault turn → (turn ≡ Moved) × (stop_of_insn (LpEnd c back) (trace_of x) ≡ None)
     loop_moves none =

@@ -3,7 +3,7 @@ use Rattle.std.specs.Prelude.{◌≡◌, ℕ, ◌⊎◌, List, Option, None}
 use Rattle.std.specs.List.{Contains}
 use Rattle.dma_mem.specs.Places.{Descriptor, destinations}
 use Rattle.dma_mem.specs.Marking.{MarkList}
-use Rattle.dma_chan.specs.declared.bus.Bus.{Bus}
+use Rattle.dma_chan.specs.declared.exec.Registers.{Registers}
 use Rattle.dma_chan.specs.declared.turn.ChanTurn.{ChanTurn}
 use Rattle.dma_chan.specs.Channel.{ChannelValue}
 use Rattle.dma_chan.specs.Explains.{Executes, Explains, IsLoadedWith}
@@ -21,21 +21,21 @@ CallWritesNoOther =
 
 -- What a call on a channel with a program that copies t does: each address in the range that it reports as written is a
 -- destination of t, and the channel still executes the program or has ended it.
-pub record StaysIn (bus : Bus) (program : List ℕ) (t : Descriptor) (n : ℕ) (marks : MarkList) (before : Machine)
+pub record StaysIn (start : Registers) (program : List ℕ) (t : Descriptor) (n : ℕ) (marks : MarkList) (before : Machine)
     (taken : ℕ) (after : Machine) : Type 0 where
   pub writes : (a : ℕ) → LiesIn (written_after marks before taken) a → Contains (destinations t) a
-  pub channel : Executes bus program n after.channel ⊎ (after.channel.program ≡ None)
+  pub channel : Executes start program n after.channel ⊎ (after.channel.program ≡ None)
 
 -- A channel into which a program was just loaded that begins with these bytes executes them.
 abbrev pub LoadExecutes : Type 0
 LoadExecutes =
-    (bus : Bus) (program : List ℕ) (n : ℕ) (c : ChannelValue) → IsLoadedWith bus program c → Executes bus program n c
+    (start : Registers) (program : List ℕ) (n : ℕ) (c : ChannelValue) → IsLoadedWith start program c → Executes start program n c
 
 -- Each call on a channel that executes a program that copies t stays in it, whatever the memory's size and bytes, the
 -- marks and the flags are, and whatever others wrote before.
 abbrev pub CallStaysIn : Type 0
 CallStaysIn =
-    (bus : Bus) (program : List ℕ) (t : Descriptor) (n : ℕ) (marks : MarkList) (s : Machine) (most taken : ℕ)
+    (start : Registers) (program : List ℕ) (t : Descriptor) (n : ℕ) (marks : MarkList) (s : Machine) (most taken : ℕ)
     (last : Option ChanTurn) (after : Machine) →
-    Explains bus program t n → Executes bus program n s.channel → TakesSteps marks s most taken last after →
-    StaysIn bus program t n marks s taken after
+    Explains start program t n → Executes start program n s.channel → TakesSteps marks s most taken last after →
+    StaysIn start program t n marks s taken after

@@ -5,7 +5,7 @@ use Rattle.dma_mem.specs.declared.segment.Segment.{Segment}
 use Rattle.dma_mem.specs.Places.{Descriptor, sources, destinations, size_of, lies_below}
 use Rattle.dma_mem.specs.Image.{laid}
 use Rattle.dma_mem.specs.Marking.{MarkList}
-use Rattle.dma_chan.specs.declared.bus.Bus.{Bus}
+use Rattle.dma_chan.specs.declared.exec.Registers.{Registers}
 use Rattle.dma_chan.specs.declared.turn.ChanTurn.{ChanTurn}
 use Rattle.dma_chan.specs.declared.turn.ChanTurn.TheVariants.{Ended, Fault, Waiting}
 use Rattle.dma_chan.specs.declared.turn.FaultKind.{FaultKind}
@@ -86,10 +86,10 @@ LendsAll t call = (a : ℕ) → Touches t a → call.lends a ≡ true
 -- A program that begins with these bytes is loaded into a channel by change number `load`, and change number `now` is a
 -- call on this channel. This call is lent what the transfer touches, and each change between these two spares the
 -- transfer. What happens before the load or after the call has no influence.
-pub record SinceLoad (bus : Bus) (program : List ℕ) (t : Descriptor) (changes : ℕ → Change) (states : ℕ → System)
+pub record SinceLoad (start : Registers) (program : List ℕ) (t : Descriptor) (changes : ℕ → Change) (states : ℕ → System)
     (load now : ℕ) (call : Call) (Spares : ℕ → Change → System → System → Type 0) : Type 0 where
   pub later : load < now
-  pub loads : (c : ChannelValue) × IsLoadedWith bus program c × (changes load ≡ Sets call.channel c)
+  pub loads : (c : ChannelValue) × IsLoadedWith start program c × (changes load ≡ Sets call.channel c)
   pub is_call : changes now ≡ Calls call
   pub lent : LendsAll t call
   pub spares : (k : ℕ) → load < k → k < now → Spares k (changes k) (states k) (states (k + 1))
@@ -120,21 +120,21 @@ pub record HasFirst (t : Descriptor) (k : ℕ) (first memory : ℕ → ℕ) : Ty
 -- is a destination. A signal that the call reports is one of the program's DMASEVs, and is set when this number of
 -- bytes is stored. A call waits only for the event of one of the program's DMAWFEs, and doesn't fail if no mark lies at
 -- an address that t touches.
-pub record HasCopied (bus : Bus) (program : List ℕ) (t : Descriptor) (n : ℕ) (first memory : ℕ → ℕ) (call : Call) : Type 0 where
+pub record HasCopied (start : Registers) (program : List ℕ) (t : Descriptor) (n : ℕ) (first memory : ℕ → ℕ) (call : Call) : Type 0 where
   pub bytes : HasFirst t call.left.channel.stored first memory
   pub writes : (a : ℕ) → LiesIn call.written a → Contains (destinations t) a
-  pub signals : (e : ℕ) → call.signal ≡ Some e → IsSignal bus program n e call.left.channel.stored
+  pub signals : (e : ℕ) → call.signal ≡ Some e → IsSignal start program n e call.left.channel.stored
   pub ends : call.last ≡ Some Ended → call.left.channel.stored ≡ size_of t
-  pub waits : (e : ℕ) → call.last ≡ Some (Waiting e) → IsWait bus program n e
+  pub waits : (e : ℕ) → call.last ≡ Some (Waiting e) → IsWait start program n e
   pub never_fails : (kind : FaultKind) → Misses call.marks t → call.last ≢ Some (Fault kind)
 
 -- Each call on a channel has copied, if a transfer explains its program and was left alone since its load.
 abbrev pub CopiesSinceLoad : Type 0
 CopiesSinceLoad =
-    (bus : Bus) (program : List ℕ) (t : Descriptor) (n : ℕ) (changes : ℕ → Change) (states : ℕ → System) (load now : ℕ)
-    (call : Call) → Explains bus program t n → DoesAll changes states load (now + 1) →
-    SinceLoad bus program t changes states load now call (λ k. LeavesAlone t call.channel) →
-    HasCopied bus program t n (states load).memory (states (now + 1)).memory call
+    (start : Registers) (program : List ℕ) (t : Descriptor) (n : ℕ) (changes : ℕ → Change) (states : ℕ → System) (load now : ℕ)
+    (call : Call) → Explains start program t n → DoesAll changes states load (now + 1) →
+    SinceLoad start program t changes states load now call (λ k. LeavesAlone t call.channel) →
+    HasCopied start program t n (states load).memory (states (now + 1)).memory call
 
 -- the bytes of an image, by their addresses
 abbrev pub bytes_in : List ℕ → ℕ → ℕ
@@ -153,7 +153,7 @@ abbrev pub Holds : Option Descriptor → ChannelValue → Type 0
 Holds None c = Unit {0}
 Holds (Some t) c =
     (c.program ≡ None)
-    ⊎ ((bus : Bus) × (program : List ℕ) × (n : ℕ) × Explains bus program t n × Executes bus program n c)
+    ⊎ ((start : Registers) × (program : List ℕ) × (n : ℕ) × Explains start program t n × Executes start program n c)
 
 -- which transfers the channels have before and after a change
 abbrev pub Gives : Change → (ℕ → Option Descriptor) → (ℕ → Option Descriptor) → Type 0
@@ -186,8 +186,8 @@ IsApart t ch own Guest before after = KeepsTouched t before after
 -- is written to other transfers' ranges, doesn't matter.
 abbrev pub ChannelsCopy : Type 0
 ChannelsCopy =
-    (bus : Bus) (program : List ℕ) (t : Descriptor) (n : ℕ) (own : ℕ → ℕ → Option Descriptor) (changes : ℕ → Change)
-    (states : ℕ → System) (load now : ℕ) (call : Call) → Explains bus program t n →
+    (start : Registers) (program : List ℕ) (t : Descriptor) (n : ℕ) (own : ℕ → ℕ → Option Descriptor) (changes : ℕ → Change)
+    (states : ℕ → System) (load now : ℕ) (call : Call) → Explains start program t n →
     DoesAll changes states load (now + 1) → HaveTransfers own changes states load (now + 1) →
-    SinceLoad bus program t changes states load now call (λ k. IsApart t call.channel (own k)) →
-    HasCopied bus program t n (states load).memory (states (now + 1)).memory call
+    SinceLoad start program t changes states load now call (λ k. IsApart t call.channel (own k)) →
+    HasCopied start program t n (states load).memory (states (now + 1)).memory call

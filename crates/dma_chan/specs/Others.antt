@@ -5,7 +5,7 @@ use Rattle.dma_mem.specs.Places.{Descriptor, sources, destinations, size_of, lie
 use Rattle.dma_mem.specs.Image.{laid}
 use Rattle.dma_mem.specs.declared.marks.MarkKind.TheVariants.{Reading, Writing}
 use Rattle.dma_mem.specs.Marking.{MarkList, is_marked}
-use Rattle.dma_chan.specs.declared.bus.Bus.{Bus}
+use Rattle.dma_chan.specs.declared.exec.Registers.{Registers}
 use Rattle.dma_chan.specs.declared.turn.ChanTurn.{ChanTurn}
 use Rattle.dma_chan.specs.declared.turn.ChanTurn.TheVariants.{Moved, Ended, Fault}
 use Rattle.dma_chan.specs.declared.turn.FaultKind.{FaultKind}
@@ -28,9 +28,9 @@ pub record Misses (marks : MarkList) (t : Descriptor) : Type 0 where
 -- instruction number k, which is executed with these marks and flags and with a memory that contains the ranges of t.
 -- Between two instructions others may write any byte that t neither reads nor writes, and may change the memory's size,
 -- any flag and any mark.
-pub record RunsAmongOthers (bus : Bus) (program : List ℕ) (t : Descriptor) (n : ℕ) (marks : ℕ → MarkList)
+pub record RunsAmongOthers (start : Registers) (program : List ℕ) (t : Descriptor) (n : ℕ) (marks : ℕ → MarkList)
     (channel : ℕ → ChannelValue) (image : ℕ → List ℕ) (flags : ℕ → List Bool) : Type 0 where
-  pub begins : IsLoadedWith bus program (channel 0)
+  pub begins : IsLoadedWith start program (channel 0)
   pub below : (k : ℕ) → k ≤ n → lies_below t (length (image k)) ≡ true
   pub moves : (k : ℕ) → k < n → (step_of (marks k) (channel k) (image k) (flags k)).0 ≡ Moved
   pub goes_on : (k : ℕ) → k < n → channel (k + 1) ≡ stepped (marks k) (channel k) (image k) (flags k)
@@ -41,9 +41,9 @@ pub record RunsAmongOthers (bus : Bus) (program : List ℕ) (t : Descriptor) (n 
 -- memory at the start.
 abbrev pub CopiesAmongOthers : Type 0
 CopiesAmongOthers =
-    (bus : Bus) (program : List ℕ) (t : Descriptor) (n : ℕ) (marks : ℕ → MarkList) (channel : ℕ → ChannelValue)
+    (start : Registers) (program : List ℕ) (t : Descriptor) (n : ℕ) (marks : ℕ → MarkList) (channel : ℕ → ChannelValue)
     (image : ℕ → List ℕ) (flags : ℕ → List Bool) →
-    Explains bus program t n → RunsAmongOthers bus program t n marks channel image flags →
+    Explains start program t n → RunsAmongOthers start program t n marks channel image flags →
     (a : ℕ) → Touches t a → slice_index (image n) a ≡ slice_index (laid (image 0) t (size_of t)) a
 
 -- After an instruction, the memory has the same size, and all bytes are the same except those that the channel's next
@@ -63,9 +63,9 @@ WritesNoOther =
 -- Calls on a channel that starts with a program that copies t. Each call has its own marks, its program is loaded, and
 -- its memory contains the ranges of t. It executes steps from `before` to `after`. Between two calls others may write
 -- any byte that t neither reads nor writes, and may change the memory's size and any flag.
-pub record CalledAmongOthers (bus : Bus) (program : List ℕ) (t : Descriptor) (marks : ℕ → MarkList) (calls : ℕ)
+pub record CalledAmongOthers (start : Registers) (program : List ℕ) (t : Descriptor) (marks : ℕ → MarkList) (calls : ℕ)
     (before after : ℕ → Machine) (last : ℕ → Option ChanTurn) : Type 0 where
-  pub begins : IsLoadedWith bus program (before 0).channel
+  pub begins : IsLoadedWith start program (before 0).channel
   pub is_loaded : (k : ℕ) → k < calls → IsSome (before k).channel.program
   pub below : (k : ℕ) → k < calls → lies_below t (length (before k).image) ≡ true
   pub steps : (k : ℕ) → k < calls →
@@ -86,7 +86,7 @@ pub record CallsCopy (t : Descriptor) (marks : ℕ → MarkList) (calls : ℕ) (
 -- Calls among others have the result of `CallsCopy`.
 abbrev pub CallsCopyAmongOthers : Type 0
 CallsCopyAmongOthers =
-    (bus : Bus) (program : List ℕ) (t : Descriptor) (n : ℕ) (marks : ℕ → MarkList) (calls : ℕ)
-    (before after : ℕ → Machine) (last : ℕ → Option ChanTurn) → Explains bus program t n →
-    CalledAmongOthers bus program t marks calls before after last →
+    (start : Registers) (program : List ℕ) (t : Descriptor) (n : ℕ) (marks : ℕ → MarkList) (calls : ℕ)
+    (before after : ℕ → Machine) (last : ℕ → Option ChanTurn) → Explains start program t n →
+    CalledAmongOthers start program t marks calls before after last →
     CallsCopy t marks calls before after last

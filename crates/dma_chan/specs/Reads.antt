@@ -6,7 +6,6 @@ use Rattle.dma_insn.specs.declared.chip.ChipInsn.TheVariants.{Ld}
 use Rattle.dma_mem.specs.Image.{put}
 use Rattle.dma_mem.specs.Marking.{MarkList}
 use Rattle.dma_mem.specs.Places.{Descriptor, sources}
-use Rattle.dma_chan.specs.declared.bus.Bus.{Bus}
 use Rattle.dma_chan.specs.declared.exec.Registers.{Registers}
 use Rattle.dma_chan.specs.declared.turn.ChanTurn.{ChanTurn}
 use Rattle.dma_chan.specs.declared.turn.FaultKind.{FaultKind}
@@ -57,9 +56,9 @@ Reads marks s n a = (k : ℕ) × (k < n) × Contains (read_next (after_steps mar
 -- bytes, the marks and the flags are, and whatever others wrote before.
 abbrev pub CallReadsIn : Type 0
 CallReadsIn =
-    (bus : Bus) (program : List ℕ) (t : Descriptor) (n : ℕ) (marks : MarkList) (s : Machine) (most taken : ℕ)
+    (start : Registers) (program : List ℕ) (t : Descriptor) (n : ℕ) (marks : MarkList) (s : Machine) (most taken : ℕ)
     (last : Option ChanTurn) (after : Machine) (a : ℕ) →
-    Explains bus program t n → Executes bus program n s.channel → TakesSteps marks s most taken last after →
+    Explains start program t n → Executes start program n s.channel → TakesSteps marks s most taken last after →
     Reads marks s taken a → Contains (sources t) a
 
 -- two machines with the same channel and flags, over memories of one size that have the same bytes at these addresses
@@ -78,9 +77,9 @@ SameOrKept x y v w =
 -- and all bytes that were written are the same, whatever bytes the memory had there.
 abbrev pub CallReadsNoOther : Type 0
 CallReadsNoOther =
-    (bus : Bus) (program : List ℕ) (t : Descriptor) (n : ℕ) (marks : MarkList) (s u : Machine) (most taken : ℕ)
+    (start : Registers) (program : List ℕ) (t : Descriptor) (n : ℕ) (marks : MarkList) (s u : Machine) (most taken : ℕ)
     (last : Option ChanTurn) (after : Machine) (k : ℕ) →
-    Explains bus program t n → Executes bus program n s.channel → TakesSteps marks s most taken last after →
+    Explains start program t n → Executes start program n s.channel → TakesSteps marks s most taken last after →
     AlikeAt (sources t) s u → k ≤ taken →
     let v = after_steps marks s k in let w = after_steps marks u k in
     AlikeAt (sources t) v w × SameOrKept s.image u.image v.image w.image

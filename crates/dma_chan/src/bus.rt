@@ -1,6 +1,7 @@
 //! The data bus of a channel.
 
 ghost use Rattle.std.specs.Prelude.{◌≡◌, ◌≤◌, ◌^◌};
+ghost use Rattle.dma_chan.specs.Bursts.{burst_at, drops};
 ghost use Rattle.dma_chan.specs.Bus.{bus_code, fits, widest_beat};
 
 /// The width of a chip's data bus.
@@ -67,5 +68,28 @@ impl Bus {
                 (bits >> 1) % 8 <= width.code() && (bits >> 15) % 8 <= width.code()
             }
         }
+    }
+
+    /// Returns whether a channel drops the bytes in its buffer when its next store changes: from the one at an address,
+    /// by a control word with these bits, to the one at another address, by other bits.
+    #[tactic(auto, unfolding(crate::specs::Bursts::burst_at))]
+    pub fn drops(self, addr: u32, bits: u32, new_addr: u32, new_bits: u32) -> bool
+        ensures { result
+            ≡ drops self (burst_at self 14 addr bits) (burst_at self 14 new_addr new_bits) }
+    {
+        let Bus::Chip(width) = self else {
+            return false;
+        };
+        if addr % width.bytes() != new_addr % width.bytes() {
+            return true;
+        }
+        let rises = (bits >> 14) % 2 == 1;
+        let new_rises = (new_bits >> 14) % 2 == 1;
+        if rises {
+            return !new_rises;
+        }
+        let size = 1u32 << ((bits >> 15) % 8);
+        let new_size = 1u32 << ((new_bits >> 15) % 8);
+        new_rises || size != new_size
     }
 }

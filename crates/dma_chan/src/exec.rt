@@ -4,8 +4,9 @@ ghost use Rattle.std.specs.Prelude.{◌≡◌, ◌+◌, ◌-◌, ◌≤◌, ◌<
 ghost use Rattle.dma_insn.specs.AssemblyText.{most_program_bytes};
 ghost use Rattle.dma_insn.specs.Chip.{spelling};
 ghost use Rattle.dma_insn.specs.declared.chip.ChipInsn.TheVariants.{Mov, Lp, LpEnd, Sev, Wfe, AddHalfword, LoopAgain};
-ghost use Rattle.dma_chan.specs.Exec.{addend, buffer_size, counter_of, act, state};
-ghost use Rattle.dma_chan.specs.inner.Acts.{FaultsAt, FaultsWith, SetsFlags, SetsRegisters};
+ghost use Rattle.dma_chan.specs.Bursts.{drops};
+ghost use Rattle.dma_chan.specs.Exec.{addend, buffer_size, counter_of, destination_of, act, kept, state};
+ghost use Rattle.dma_chan.specs.inner.Acts.{FaultsAt, FaultsWith, SetsFlags, SetsKeeping, SetsRegisters};
 ghost use Rattle.dma_chan.specs.Ready.{is_ready};
 ghost use Rattle.dma_mem.specs.Lent.{with_gaps};
 
@@ -20,6 +21,9 @@ use dma_insn::insn::{Counter, Event, Reg, Times};
 use dma_mem::events::Events;
 use dma_mem::marks::Marks;
 use dma_mem::ram::Ram;
+
+// CCR of a chip's channel after a reset (DMA-330 manual, channel control registers).
+const RESET_CCR: u32 = 0x0080_0200;
 
 /// The registers that instructions read and change: the offset of the next instruction in the program, the source and
 /// destination addresses, the control word, and the two loop counters, the manual's SAR, DAR, CCR, LC0 and LC1. Beside
@@ -36,10 +40,10 @@ pub struct Registers {
 }
 
 impl Registers {
-    ghost use Rattle.dma_chan.specs.Exec.{start_on};
+    ghost use Rattle.dma_chan.specs.Exec.{reset_on, start_on};
 
-    // Returns registers on this bus that are all 0.
-    pub(crate) fn start(bus: Bus) -> Registers
+    /// Returns registers on this bus that are all 0.
+    pub fn start(bus: Bus) -> Registers
         ensures { result ≡ start_on bus }
     {
         Registers {
@@ -50,6 +54,22 @@ impl Registers {
             lc0: 0,
             lc1: 0,
             bus,
+        }
+    }
+
+    // Returns the registers of a channel on this bus after a reset.
+    pub(crate) fn after_reset(bus: Bus) -> Registers
+        ensures { result ≡ reset_on bus }
+    {
+        let start = Registers::start(bus);
+        match bus {
+            Bus::Ideal => start,
+            Bus::Chip(_) => {
+                let Ok(ccr) = ControlWord::from_bits(RESET_CCR) else {
+                    unreachable!()
+                };
+                Registers { ccr, ..start }
+            }
         }
     }
 }
@@ -74,7 +94,7 @@ fn set_fault(reg: Reg, value: u32, registers: &Registers) -> Option<FaultKind>
 pub(crate) fn set_register(reg: Reg, value: u32, len: u32, registers: &mut Registers) -> ChanTurn
     requires len { len ≡ length (spelling (Mov reg value)) }
     requires pc { registers.old.pc + len ≤ most_program_bytes }
-    ensures exact { SetsRegisters (Mov reg value) registers.old result registers.new }
+    ensures exact { SetsKeeping (Mov reg value) registers.old result registers.new }
     ensures pc { registers.new.pc ≤ registers.old.pc + len }
 {
     match reg {
@@ -92,6 +112,15 @@ pub(crate) fn set_register(reg: Reg, value: u32, len: u32, registers: &mut Regis
     }
     registers.pc += len;
     ChanTurn::Moved
+}
+
+// Returns whether a channel drops the bytes in its buffer when a DMAMOV, DMAADDH or DMAADNH changes its registers.
+#[tactic(auto, unfolding(crate::specs::Bursts::burst_at))]
+pub(crate) fn drops(old: &Registers, new: &Registers) -> bool
+    ensures { result ≡ drops old.now.bus (destination_of old.now) (destination_of new.now) }
+{
+    old.bus
+        .drops(old.dar, old.ccr.bits(), new.dar, new.ccr.bits())
 }
 
 // Executes DMALP.
@@ -174,7 +203,7 @@ pub(crate) fn add_halfword(
     registers: &mut Registers,
 ) -> ChanTurn
     requires pc { registers.old.pc + 3 ≤ most_program_bytes }
-    ensures exact { SetsRegisters (AddHalfword address half negative) registers.old result
+    ensures exact { SetsKeeping (AddHalfword address half negative) registers.old result
         registers.new }
     ensures pc { registers.new.pc ≤ registers.old.pc + 3 }
 {
@@ -259,6 +288,19 @@ pub(crate) struct Executor {
 }
 
 impl Executor {
+    // Drops the bytes in the buffer if a channel does after a DMAMOV, DMAADDH or DMAADNH that began at these registers.
+    fn keep(&mut self, old: &Registers)
+        ensures buffer { self.new.buffer.items
+            ≡ kept old.now self.old.registers self.old.buffer.items }
+        ensures capacity { self.new.buffer.capacity ≡ self.old.buffer.capacity }
+        ensures block { self.new.block ≡ self.old.block }
+        ensures registers { self.new.registers ≡ self.old.registers }
+    {
+        if !self.buffer.is_empty() && drops(old, &self.registers) {
+            self.buffer.clear();
+        }
+    }
+
     // Executes the instruction `next`.
     pub(crate) fn execute<M: Ram>(
         &mut self,
@@ -283,7 +325,12 @@ impl Executor {
         ensures loan { M.loan memory.new ≡ M.loan memory.old }
     {
         match next.insn() {
-            ChipInsn::Mov(reg, value) => set_register(reg, value, next.len(), &mut self.registers),
+            ChipInsn::Mov(reg, value) => {
+                let old = self.registers;
+                let turn = set_register(reg, value, next.len(), &mut self.registers);
+                self.keep(&old);
+                turn
+            }
             ChipInsn::Ld => load_burst(self, memory, marks),
             ChipInsn::St => store_burst(self, memory, marks),
             ChipInsn::Rmb => go_on(&mut self.registers),
@@ -299,7 +346,12 @@ impl Executor {
                 address,
                 half,
                 negative,
-            } => add_halfword(address, half, negative, &mut self.registers),
+            } => {
+                let old = self.registers;
+                let turn = add_halfword(address, half, negative, &mut self.registers);
+                self.keep(&old);
+                turn
+            }
             ChipInsn::LoopAgain { back, .. } => loop_again(back, &mut self.registers),
         }
     }

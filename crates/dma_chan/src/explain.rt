@@ -12,7 +12,7 @@ mod ranges;
 mod tracer;
 mod turns;
 
-use crate::bus::Bus;
+use crate::exec::Registers;
 use crate::explain::counts::LastLoop;
 use crate::explain::ranges::overlap;
 use crate::explain::tracer::Tracer;
@@ -167,19 +167,24 @@ fn finish(alloc: Global, tracer: Tracer, steps: u32) -> Result<Explained, Stop>
     })
 }
 
-/// Explains a program on a bus: runs it without memory for at most `most` instructions, and returns what it copies, or
-/// why and where no copy explains it.
+/// Explains a program that begins with these registers: runs it without memory for at most `most` instructions, and
+/// returns what it copies, or why and where no copy explains it. Only `pc` has no meaning: it starts at 0.
 ///
 /// It takes a few nanoseconds for each instruction that is executed, so `most` also bounds its time. Long loops of
 /// DMALD, DMAST, DMARMB, DMAWMB and DMANOP take less than a tenth of that, if the addresses of each turn continue those
 /// of the turn before: many turns are one step. It allocates 16 bytes for each DMASEV and DMAWFE that is executed, 12
 /// bytes for each load whose range doesn't continue or repeat the one before, and 16 bytes for each store whose range
 /// doesn't continue the one before; a list that grows takes up to three times as much for a moment.
-pub fn explain(alloc: Global, bus: Bus, program: &[u8], most: u32) -> Result<Explained, Unexplained>
-    ensures ok { IfOk result (λ x. Finds bus program.now most x) }
-    ensures bursts { IfOk result (λ x. x.bursts ≡ bursts_in bus program.now (x.steps - 1)) }
+pub fn explain(
+    alloc: Global,
+    start: Registers,
+    program: &[u8],
+    most: u32,
+) -> Result<Explained, Unexplained>
+    ensures ok { IfOk result (λ x. Finds start program.now most x) }
+    ensures bursts { IfOk result (λ x. x.bursts ≡ bursts_in start program.now (x.steps - 1)) }
     ensures err { IfErr result (λ u. u.cause ≢ Cause.NoMemory → u.cause ≢ Cause.TooLong
-        → Refuses bus program.now most u) }
+        → Refuses start program.now most u) }
     ensures long { IsErrAnd result (λ u. u.cause ≡ Cause.TooLong)
         ↔ most_program_bytes < length program.now }
 {
@@ -192,7 +197,7 @@ pub fn explain(alloc: Global, bus: Bus, program: &[u8], most: u32) -> Result<Exp
             stored: 0,
         });
     }
-    let mut tracer = Tracer::new(alloc, bus);
+    let mut tracer = Tracer::new(alloc, start);
     let mut last = LastLoop::none();
     let mut steps = 0;
     while steps < most {

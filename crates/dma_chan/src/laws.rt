@@ -48,8 +48,8 @@ pub fn explained_copies_alone()
     ensures { ExplainedCopiesAlone }
 {}
 
-/// On each bus a transfer explains its program that was compiled for that bus. So all laws of programs that copy apply
-/// to it. A DMAWFE comes only first, and a DMASEV only when all bytes are stored.
+/// From any registers and on each bus a transfer explains its program that was compiled for that bus. So all laws of
+/// programs that copy apply to it. A DMAWFE comes only first, and a DMASEV only when all bytes are stored.
 pub fn compiled_is_explained()
     ensures ideal { CompiledExplained }
     ensures on_bus { CompiledOnBus }

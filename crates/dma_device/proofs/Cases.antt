@@ -29,7 +29,7 @@ module _ (P : DeviceValue → Type 0) where
   -- after a DMAGO of a thread that is there
   pub record GoCases (ram : List Piece) (nonsecure : Bool) (n : ℕ) (t : Thread) (d : DeviceValue) : Type 0 where
     pub refused : (d.config.nonsecure && not nonsecure) ≡ true → P (manager_failed dmago_err d)
-    pub starts : (d.config.nonsecure && not nonsecure) ≡ false → is_stopped t ≡ true → P (with_thread n (started d.config.bus nonsecure d.dbginst1 (program_at ram d.dbginst1)) d)
+    pub starts : (d.config.nonsecure && not nonsecure) ≡ false → is_stopped t ≡ true → P (with_thread n (started nonsecure d.dbginst1 (program_at ram d.dbginst1) t) d)
     pub busy : (d.config.nonsecure && not nonsecure) ≡ false → is_stopped t ≡ false → P d
 
   pub go_cases : (ram : List Piece) (nonsecure : Bool) (n : ℕ) (t : Thread) (d : DeviceValue) → GoCases ram nonsecure n t d → P (go ram nonsecure n (Some t) d)
@@ -55,7 +55,7 @@ module _ (P : DeviceValue → Type 0) where
     pub sev : (byte : ℕ) → is_event d byte ≡ true → P (signalled (byte / 8) d)
     pub kills : (t : Thread) → let n = field 8 3 d.dbginst0 in field 0 1 d.dbginst0 ≡ 1 → slice_get d.threads n ≡ Some t → P (with_thread n (killed t) d)
     pub fails : (why : ℕ) (t : Thread) → let n = field 8 3 d.dbginst0 in field 0 1 d.dbginst0 ≡ 1 → slice_get d.threads n ≡ Some t → P (with_thread n (failed why t) d)
-    pub starts : (n : ℕ) (t : Thread) (nonsecure : Bool) → is_stopped t ≡ true → slice_get d.threads n ≡ Some t → P (with_thread n (started d.config.bus nonsecure d.dbginst1 (program_at ram d.dbginst1)) d)
+    pub starts : (n : ℕ) (t : Thread) (nonsecure : Bool) → is_stopped t ≡ true → slice_get d.threads n ≡ Some t → P (with_thread n (started nonsecure d.dbginst1 (program_at ram d.dbginst1) t) d)
 
   pub debug_cases : (ram : List Piece) (d : DeviceValue) → DebugCases ram d → P (debugged ram d)
   debug_cases ram d x =

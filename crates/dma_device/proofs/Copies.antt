@@ -18,7 +18,7 @@ use Rattle.dma_chan.proofs.RegionsHave.{gaps_miss}
 use Rattle.dma_device.specs.CallSteps.{first_in, marks_in}
 use Rattle.dma_device.specs.Copies.{AreCopied, DmagoCopies, DmagoInterrupts, DmagoNeverFails, HasRisen, IsFit}
 use Rattle.dma_device.specs.Device.{DeviceValue, irqs}
-use Rattle.dma_device.specs.Dmago.{Go, RunsCopy, GivenTurns, bus_of, csr_status, image_in}
+use Rattle.dma_device.specs.Dmago.{Go, RunsCopy, GivenTurns, csr_status, image_in, start_of}
 use Rattle.dma_device.specs.Interrupts.{HasLine, IsHigh}
 use Rattle.dma_device.specs.Thread.{is_faulting}
 use Rattle.dma_device.specs.Turns.{TakesTurn, begins, runs_at, setup_of}
@@ -26,7 +26,7 @@ use Rattle.dma_device.specs.declared.config.Config.{Config}
 use Rattle.dma_device.specs.declared.device.turns.Called.{Called}
 use Rattle.dma_device.specs.declared.device.turns.Turn.{Turn}
 use Rattle.dma_device.specs.declared.thread.Thread.{Thread}
-use Rattle.dma_chan.specs.declared.bus.Bus.{Bus}
+use Rattle.dma_chan.specs.declared.exec.Registers.{Registers}
 use Rattle.dma_chan.specs.Exec.{ChangesNothing}
 use Rattle.dma_chan.specs.Stepping.{Machine, TakesSteps, after_step, after_steps, answer_at, goes_on_after}
 use Rattle.dma_chan.specs.declared.turn.ChanTurn.{ChanTurn}
@@ -48,47 +48,47 @@ is_end : (turn : ChanTurn) → (turn ≡ Ended) ⊎ (turn ≢ Ended)
 is_end Ended = inl refl
 is_end turn = inr (λ e. cc)
 
-module _ (bus : Bus) (program : List ℕ) (t : Descriptor) (count : ℕ) (marks : MarkList) (first : List ℕ) (h : Explains bus program t count) (low : Fits t (length first)) where
-  grows : (k : ℕ) → length (traced bus program k).stores ≤ length (traced bus program (suc k)).stores
+module _ (start : Registers) (program : List ℕ) (t : Descriptor) (count : ℕ) (marks : MarkList) (first : List ℕ) (h : Explains start program t count) (low : Fits t (length first)) where
+  grows : (k : ℕ) → length (traced start program k).stores ≤ length (traced start program (suc k)).stores
   grows k =
-      let g = grows_to bus program k (suc k) (omega arith) in
-      omega (arith, ap length g.stores, length-append (traced bus program k).stores g.more_stores)
+      let g = grows_to start program k (suc k) (omega arith) in
+      omega (arith, ap length g.stores, length-append (traced start program k).stores g.more_stores)
 
   -- not more than all
-  pub at_most : (v : Machine) → Runs bus program t count first v → v.channel.stored ≤ size_of t
+  pub at_most : (v : Machine) → Runs start program t count first v → v.channel.stored ≤ size_of t
   at_most v r =
-      let g = inside bus program t count h r.0 r.1.within in
-      omega (arith, r.1.stored, ap length g.stores, length-append (traced bus program r.0).stores g.stores_rest)
+      let g = inside start program t count h r.0 r.1.within in
+      omega (arith, r.1.stored, ap length g.stores, length-append (traced start program r.0).stores g.stores_rest)
 
-  moved_grows : (n : ℕ) (u : Machine) → Among bus program t count first n u.image u.channel → answer_at marks u ≡ Moved → u.channel.stored ≤ (after_step marks u).channel.stored
-  moved_grows n u w moved = let next = moved_on bus program t count marks first h low n u w moved in omega (arith, w.stored, next.stored, grows n)
+  moved_grows : (n : ℕ) (u : Machine) → Among start program t count first n u.image u.channel → answer_at marks u ≡ Moved → u.channel.stored ≤ (after_step marks u).channel.stored
+  moved_grows n u w moved = let next = moved_on start program t count marks first h low n u w moved in omega (arith, w.stored, next.stored, grows n)
 
-  many_grow : (j : ℕ) (s : Machine) → Runs bus program t count first s → ((k : ℕ) → k < suc j → goes_on_after marks s k ≡ true) → s.channel.stored ≤ (after_steps marks s j).channel.stored
+  many_grow : (j : ℕ) (s : Machine) → Runs start program t count first s → ((k : ℕ) → k < suc j → goes_on_after marks s k ≡ true) → s.channel.stored ≤ (after_steps marks s j).channel.stored
   many_grow zero s r moves = omega arith
   many_grow (suc j) s r moves =
       let u = after_steps marks s j in
-      let w = many bus program t count marks first h low j s r (λ k l. moves k (omega arith)) in
+      let w = many start program t count marks first h low j s r (λ k l. moves k (omega arith)) in
       let moved = was_moved (ahead_of u.channel) (answer_at marks u) (went_before marks s (suc j) (moves (suc j) (omega arith))) in
       omega (arith, many_grow j s r (λ k l. moves k (omega arith)), moved_grows w.0 u w.1 moved)
 
   still_same : (u : Machine) → ChangesNothing (answer_at marks u) → u.channel.stored ≤ (after_step marks u).channel.stored
   still_same u nothing = let same = ap (λ (m : Machine). m.channel.stored) (is_still marks u nothing) in omega arith
 
-  one_grows : (n : ℕ) (u : Machine) (turn : ChanTurn) → turn ≢ Ended → Among bus program t count first n u.image u.channel → answer_at marks u ≡ turn → u.channel.stored ≤ (after_step marks u).channel.stored
+  one_grows : (n : ℕ) (u : Machine) (turn : ChanTurn) → turn ≢ Ended → Among start program t count first n u.image u.channel → answer_at marks u ≡ turn → u.channel.stored ≤ (after_step marks u).channel.stored
   one_grows n u turn h1 h2 h3 = grind (arith, moved_grows, still_same)
 
   -- after a call there are no fewer than before it
-  pub call_grows : (s v : Machine) (most taken : ℕ) (last : Option ChanTurn) → Runs bus program t count first s → TakesSteps marks s most taken last v → s.channel.stored ≤ v.channel.stored
+  pub call_grows : (s v : Machine) (most taken : ℕ) (last : Option ChanTurn) → Runs start program t count first s → TakesSteps marks s most taken last v → s.channel.stored ≤ v.channel.stored
   call_grows s v most zero last r steps = let same = ap (λ (m : Machine). m.channel.stored) steps.ends_at in omega arith
   call_grows s v most (suc p) last r steps =
       let u = after_steps marks s p in
       elim (is_end (answer_at marks u)) [
         | inl over ↦
             let is : last ≡ Some Ended = steps.answer ∙ ap Some over in
-            let all : v.channel.stored ≡ size_of t = (subst (λ (o : Option ChanTurn). Leads bus program t count first o v) is (call bus program t count marks first h low s v most (suc p) last r steps)).stored in
+            let all : v.channel.stored ≡ size_of t = (subst (λ (o : Option ChanTurn). Leads start program t count first o v) is (call start program t count marks first h low s v most (suc p) last r steps)).stored in
             omega (arith, at_most s r)
         | inr other ↦
-            let w = many bus program t count marks first h low p s r (steps_move steps) in
+            let w = many start program t count marks first h low p s r (steps_move steps) in
             let same = ap (λ (m : Machine). m.channel.stored) steps.ends_at in
             omega (arith, many_grow p s r (steps_move steps), one_grows w.0 u (answer_at marks u) other w.1 refl)
       ]
@@ -99,7 +99,7 @@ module _ (bus : Bus) (program : List ℕ) (t : Descriptor) (count : ℕ) (marks 
 none_sent : (called : Called) (i : ℕ) → called ≡ nothing → called.signal ≡ Some i → ⊥
 none_sent called i none is = let bad = sym (ap (λ (c : Called). c.signal) none) ∙ is in cc
 
-module _ (c : Copying) (n i least : ℕ) (sev : (stored : ℕ) → IsSignal c.bus c.program c.count i stored → least ≤ stored) where
+module _ (c : Copying) (n i least : ℕ) (sev : (stored : ℕ) → IsSignal c.start c.program c.count i stored → least ≤ stored) where
   -- if F, this number of bytes is stored
   abbrev Stores : Type 0 → Thread → Type 0
   Stores F th = F → least ≤ th.channel.stored
@@ -110,10 +110,10 @@ module _ (c : Copying) (n i least : ℕ) (sev : (stored : ℕ) → IsSignal c.bu
     rests = λ off none th found g known why. elim why [ inl f ↦ known f | inr is ↦ absurd (none_sent (result_of n k).called i none is) ];
     ends = λ th g known sent ended. tt;
     goes = λ made th found g known sent goes why.
-        let grows = call_grows c.bus c.program c.t c.count k.marks c.first c.explains c.fits (from k th) (to k th) k.most (count_in k th) (last_answer k th) g.runs (steps_of k th) in
+        let grows = call_grows c.start c.program c.t c.count k.marks c.first c.explains c.fits (from k th) (to k th) k.most (count_in k th) (last_answer k th) g.runs (steps_of k th) in
         let enough : least ≤ (to k th).channel.stored = elim why [
           | inl f ↦ omega (arith, known f, grows)
-          | inr is ↦ sev (to k th).channel.stored (signalled c.bus c.program c.t c.count k.marks c.first c.explains c.fits (from k th) (to k th) k.most (count_in k th) (last_answer k th) i g.runs (steps_of k th) (sym sent ∙ is))
+          | inr is ↦ sev (to k th).channel.stored (signalled c.start c.program c.t c.count k.marks c.first c.explains c.fits (from k th) (to k th) k.most (count_in k th) (last_answer k th) i g.runs (steps_of k th) (sym sent ∙ is))
         ] in
         omega (arith, ap (λ (v : ChannelValue). v.stored) (channel_after k th), enough);
   }
@@ -141,8 +141,8 @@ laid_copied c image least stored same enough =
 module _ (c : Copying) (n : ℕ) where
   -- the device has the events of the program
   pub record Knows (d : DeviceValue) : Type 0 where
-    pub waits : (e : ℕ) → IsWait c.bus c.program c.count e → e < d.config.events
-    pub signals : (e stored : ℕ) → IsSignal c.bus c.program c.count e stored → e < d.config.events
+    pub waits : (e : ℕ) → IsWait c.start c.program c.count e → e < d.config.events
+    pub signals : (e stored : ℕ) → IsSignal c.start c.program c.count e stored → e < d.config.events
 
   -- no burst of the program meets one of these marks, and the device has its events
   pub record Fit (d : DeviceValue) (marks : MarkList) : Type 0 where
@@ -169,10 +169,10 @@ module _ (c : Copying) (n : ℕ) where
       let last = last_answer k th in
       let steps = steps_of k th in
       answer_fine k.before.device.config.events (at_answer k th) last (sets k th)
-      (call_answers c.bus c.program c.t c.count k.marks c.first c.explains c.fits s v k.most count last some g.runs steps)
-      (λ kind. call_fails c.bus c.program c.t c.count k.marks c.first c.explains c.fits s v k.most count last kind fit.misses g.runs steps)
-      (λ e is. fit.knows.waits e (call_waits c.bus c.program c.t c.count k.marks c.first c.explains c.fits s v k.most count e last g.runs steps is))
-      (λ e is. fit.knows.signals e v.channel.stored (signalled c.bus c.program c.t c.count k.marks c.first c.explains c.fits s v k.most count last e g.runs steps is))
+      (call_answers c.start c.program c.t c.count k.marks c.first c.explains c.fits s v k.most count last some g.runs steps)
+      (λ kind. call_fails c.start c.program c.t c.count k.marks c.first c.explains c.fits s v k.most count last kind fit.misses g.runs steps)
+      (λ e is. fit.knows.waits e (call_waits c.start c.program c.t c.count k.marks c.first c.explains c.fits s v k.most count e last g.runs steps is))
+      (λ e is. fit.knows.signals e v.channel.stored (signalled c.start c.program c.t c.count k.marks c.first c.explains c.fits s v k.most count last e g.runs steps is))
 
   abbrev Fine : Thread → Type 0
   Fine th = is_faulting th ≡ false
@@ -203,7 +203,7 @@ module _ (go : Go) (t : Descriptor) (count : ℕ) (run : GivenTurns) (h : RunsCo
     early : turn < j
     raises : HasRisen run i turn
 
-  module _ (i least : ℕ) (sev : (stored : ℕ) → IsSignal (bus_of go) go.program count i stored → least ≤ stored) where
+  module _ (i least : ℕ) (sev : (stored : ℕ) → IsSignal (start_of go) go.program count i stored → least ≤ stored) where
     -- if line i rose, this number of bytes is stored
     abbrev IsStored : ℕ → Thread → Type 0
     IsStored j th = Rose i j → least ≤ th.channel.stored
@@ -252,7 +252,7 @@ module _ (go : Go) (t : Descriptor) (count : ℕ) (run : GivenTurns) (h : RunsCo
               let r = going.0.runs in
               let enough = going.1 (record { turn = k; early = omega arith; raises = risen }) in
               let is = r.1.stored in
-              laid_copied c (image_in (run.left k)) least (length (traced (bus_of go) go.program r.0).stores) r.1.mirrors.same (λ p few within. omega (arith, few, enough, is))
+              laid_copied c (image_in (run.left k)) least (length (traced (start_of go) go.program r.0).stores) r.1.mirrors.same (λ p few within. omega (arith, few, enough, is))
         ]
 
   -- once the thread is stopped it has ended

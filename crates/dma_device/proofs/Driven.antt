@@ -5,7 +5,7 @@ use Rattle.dma_mem.specs.Image.{laid}
 use Rattle.dma_mem.specs.Marking.{MarkList}
 use Rattle.dma_mem.specs.Places.{Descriptor, size_of}
 use Rattle.dma_mem.specs.declared.regions.Region.{Region}
-use Rattle.dma_chan.specs.declared.bus.Bus.{Bus}
+use Rattle.dma_chan.specs.declared.exec.Registers.{Registers}
 use Rattle.dma_chan.specs.Channel.{ChannelValue}
 use Rattle.dma_chan.specs.Explains.{Explains}
 use Rattle.dma_chan.specs.Others.{Touches}
@@ -17,8 +17,8 @@ use Rattle.dma_chan.proofs.AmongOthers.{Fits, touched_below}
 use Rattle.dma_chan.proofs.CallsAmongOthers.{Leads, Runs, at_first, call, survived}
 use Rattle.dma_device.specs.CallSteps.{Executes, first_in, last_in, marks_in, signal_in}
 use Rattle.dma_device.specs.Device.{DeviceValue, program_at}
-use Rattle.dma_device.specs.Dmago.{Go, RunsCopy, GivenTurns, bus_of, image_in}
-use Rattle.dma_device.specs.Thread.{answer, is_faulting, is_stopped, started}
+use Rattle.dma_device.specs.Dmago.{Go, RunsCopy, GivenTurns, image_in, start_of}
+use Rattle.dma_device.specs.Thread.{answer, is_faulting, is_stopped, reset_thread, started}
 use Rattle.dma_device.specs.Turns.{Outcome, Setup, TakesTurn, begins, called_if, follows, machine_in, runs_at, setup_of, steps_in}
 use Rattle.dma_device.specs.declared.device.turns.Turn.{Turn}
 use Rattle.dma_device.specs.declared.thread.Thread.{Thread}
@@ -30,12 +30,12 @@ use Rattle.dma_device.proofs.Found.{set_found}
 
 -- a program, the copy that explains it, and the memory at first
 pub record Copying : Type 0 where
-  pub bus : Bus
+  pub start : Registers
   pub program : List ℕ
   pub t : Descriptor
   pub count : ℕ
   pub first : List ℕ
-  pub explains : Explains bus program t count
+  pub explains : Explains start program t count
   pub fits : Fits t (length first)
 
 -- a call that a turn makes or doesn't make
@@ -94,7 +94,7 @@ module _ (k : Call) (th : Thread) where
 
 module _ (c : Copying) where
   abbrev pub RunsOn : Machine → Type 0
-  RunsOn u = Runs c.bus c.program c.t c.count c.first u
+  RunsOn u = Runs c.start c.program c.t c.count c.first u
 
   -- its program is not finished
   pub record Going (image : List ℕ) (th : Thread) : Type 0 where
@@ -111,7 +111,7 @@ module _ (c : Copying) where
   abbrev pub Stands : (O : Type 0) (E : Thread → Type 0) → List ℕ → Thread → Type 0
   Stands O E image th = (Over image th × O) ⊎ (Going image th × E th)
 
-  leads_runs : (last : Option ChanTurn) (w : Machine) → Leads c.bus c.program c.t c.count c.first last w → last ≢ Some Ended → RunsOn w
+  leads_runs : (last : Option ChanTurn) (w : Machine) → Leads c.start c.program c.t c.count c.first last w → last ≢ Some Ended → RunsOn w
   leads_runs (Some Ended) w l goes = absurd (goes refl)
   leads_runs last w l goes = l
 
@@ -137,10 +137,10 @@ module _ (c : Copying) where
     stands_after O E P F k th made found g e sent steps =
         let is = channel_after k th in
         let events = k.before.device.config.events in
-        let leads = call c.bus c.program c.t c.count k.marks c.first c.explains c.fits (from k th) (to k th) k.most (count_in k th) (last_answer k th) g.runs (steps_of k th) in
+        let leads = call c.start c.program c.t c.count k.marks c.first c.explains c.fits (from k th) (to k th) k.most (count_in k th) (last_answer k th) g.runs (steps_of k th) in
         elim (is_ended (last_answer k th)) [
           | inl ended ↦
-              let done = subst (λ (o : Option ChanTurn). Leads c.bus c.program c.t c.count c.first o (to k th)) ended leads in
+              let done = subst (λ (o : Option ChanTurn). Leads c.start c.program c.t c.count c.first o (to k th)) ended leads in
               inl (
                 record {
                   stopped = subst (λ (l : Option ChanTurn). is_stopped (answer events (at_answer k th) l (sets k th)) ≡ true) (sym ended) refl;
@@ -207,7 +207,7 @@ module _ (c : Copying) where
 module _ (go : Go) (t : Descriptor) (count : ℕ) (run : GivenTurns) (h : RunsCopy go t count run) (some : 0 < run.count) where
   abbrev pub copying : Copying
   copying = record {
-    bus = bus_of go;
+    start = start_of go;
     program = go.program;
     t = t;
     count = count;
@@ -217,7 +217,7 @@ module _ (go : Go) (t : Descriptor) (count : ℕ) (run : GivenTurns) (h : RunsCo
   }
 
   abbrev pub new : Thread
-  new = started go.device.config.bus go.nonsecure go.addr (program_at go.ram go.addr)
+  new = started go.nonsecure go.addr (program_at go.ram go.addr) (get_or go.device.threads go.channel (reset_thread go.device.config.bus))
 
   -- thread n before and after turn number j
   abbrev pub Before : (O : Type 0) (E : Thread → Type 0) → ℕ → Type 0
@@ -232,7 +232,7 @@ module _ (go : Go) (t : Descriptor) (count : ℕ) (run : GivenTurns) (h : RunsCo
     is = h.begins ∙ dmago_starts go h.may_go;
     stands = inr (
       record {
-        runs = at_first (bus_of go) go.program t count (image_in (run.lent 0)) (machine new.channel (image_in (run.lent 0)) []) copying.fits (record { bytes = program_at go.ram go.addr; cost = None }, program_is_read go.ram go.addr go.program h.in_ram, refl) refl;
+        runs = at_first (start_of go) go.program t count (image_in (run.lent 0)) (machine new.channel (image_in (run.lent 0)) []) copying.fits (record { bytes = program_at go.ram go.addr; cost = None }, program_is_read go.ram go.addr go.program h.in_ram, refl) refl;
         busy = refl;
       },
       known,
@@ -252,7 +252,7 @@ module _ (go : Go) (t : Descriptor) (count : ℕ) (run : GivenTurns) (h : RunsCo
           | inr going ↦
               inr (
                 record {
-                  runs = survived (bus_of go) go.program t count copying.first (machine g.thread.channel image []) (machine g.thread.channel other []) going.0.runs refl (λ a i. h.unchanged j a next i) (λ a i. touched_below t (length other) a (h.below (j + 1) next) i);
+                  runs = survived (start_of go) go.program t count copying.first (machine g.thread.channel image []) (machine g.thread.channel other []) going.0.runs refl (λ a i. h.unchanged j a next i) (λ a i. touched_below t (length other) a (h.below (j + 1) next) i);
                   busy = going.0.busy;
                 },
                 going.1,

@@ -9,7 +9,7 @@ use Rattle.dma_mem.specs.Marking.{MarkList}
 use Rattle.dma_mem.specs.Places.{Descriptor, destinations, sources}
 use Rattle.dma_mem.specs.Regions.{Piece, pieces_of}
 use Rattle.dma_mem.specs.declared.regions.Region.{Region}
-use Rattle.dma_chan.specs.declared.bus.Bus.{Bus}
+use Rattle.dma_chan.specs.declared.exec.Registers.{Registers}
 use Rattle.dma_chan.specs.declared.bus.BusWidth.{BusWidth}
 use Rattle.dma_chan.specs.declared.explain.Explained.{Explained}
 use Rattle.dma_chan.specs.Channel.{ChannelValue, code_of}
@@ -22,7 +22,7 @@ use Rattle.dma_chan.proofs.StepsTaken.{steps_move}
 use Rattle.dma_device.specs.Accesses.{Access, Answer, Does, Happen, Resets, Restores, Turns, Writes}
 use Rattle.dma_device.specs.CallSteps.{Executes as Steps, first_in, last_in, marks_in, signal_in}
 use Rattle.dma_device.specs.Device.{DeviceValue, is_interrupt, program_at, signalled, with_thread, written}
-use Rattle.dma_device.specs.Explaining.{CallReads, GivesNone, IsUnderway, OnlyDmagoGives, StaysIn, TurnsStayIn, bus_of, channel_of, copy_of, program_of}
+use Rattle.dma_device.specs.Explaining.{CallReads, GivesNone, IsUnderway, OnlyDmagoGives, StaysIn, TurnsStayIn, channel_of, copy_of, program_of}
 use Rattle.dma_device.specs.Thread.{failed, killed, reset_thread, started}
 use Rattle.dma_device.specs.Turns.{Setup, TakesTurn, begins, called_if, follows, machine_in, runs_at, setup_of, steps_in}
 use Rattle.dma_device.specs.Writes.{CallWrote}
@@ -44,20 +44,20 @@ program_if channel = option_and_then (λ c. c.program) channel
 
 -- ---- a channel that executes a program that copies, or has ended it
 
-module _ (bus : Bus) (program : List ℕ) (t : Descriptor) (count : ℕ) (h : Explains bus program t count) (n : ℕ) where
+module _ (start : Registers) (program : List ℕ) (t : Descriptor) (count : ℕ) (h : Explains start program t count) (n : ℕ) where
   -- the channel still executes the program, or has no program
   abbrev InCopy : Option ChannelValue → Type 0
   InCopy None = Unit {0}
-  InCopy (Some c) = Executes bus program count c ⊎ (c.program ≡ None)
+  InCopy (Some c) = Executes start program count c ⊎ (c.program ≡ None)
 
   abbrev HasCopy : DeviceValue → Type 0
   HasCopy d = InCopy (channel_of d n)
 
-  found_copy : (d : DeviceValue) (th : Thread) → slice_get d.threads n ≡ Some th → HasCopy d → Executes bus program count th.channel ⊎ (th.channel.program ≡ None)
+  found_copy : (d : DeviceValue) (th : Thread) → slice_get d.threads n ≡ Some th → HasCopy d → Executes start program count th.channel ⊎ (th.channel.program ≡ None)
   found_copy d th is g = subst (λ (o : Option Thread). InCopy (channel_if o)) is g
 
   -- a channel that is called executes the program
-  runs_copy : (d : DeviceValue) (th : Thread) → slice_get d.threads n ≡ Some th → runs_at d n ≡ true → HasCopy d → Executes bus program count th.channel
+  runs_copy : (d : DeviceValue) (th : Thread) → slice_get d.threads n ≡ Some th → runs_at d n ≡ true → HasCopy d → Executes start program count th.channel
   runs_copy d th is on g = grind (arith, found_copy)
 
   -- ---- a call
@@ -68,24 +68,24 @@ module _ (bus : Bus) (program : List ℕ) (t : Descriptor) (count : ℕ) (h : Ex
       let th = acts.thread in
       let to = machine_left marks most th s in
       let w = runs_copy d th acts.found (on acts.on) g in
-      let stays = call_stays_in bus program t count marks (machine_in s th) most (steps_in marks most th s) (last_in marks most th s) to h w (takes marks most th s) in
+      let stays = call_stays_in start program t count marks (machine_in s th) most (steps_in marks most th s) (last_in marks most th s) to h w (takes marks most th s) in
       let same : (thread_left marks most th s).channel ≡ to.channel = answer_channel d.config.events (record th { channel = to.channel; pc = (th.base + to.channel.registers.pc) % 2 ^ 32 }) (last_in marks most th s) (signal_in marks most th s) in
-      subst (λ (o : Option Thread). InCopy (channel_if o)) (sym (set_found d.threads n th (thread_left marks most th s) acts.found)) (subst (λ (c : ChannelValue). Executes bus program count c ⊎ (c.program ≡ None)) (sym same) stays.channel))
+      subst (λ (o : Option Thread). InCopy (channel_if o)) (sym (set_found d.threads n th (thread_left marks most th s) acts.found)) (subst (λ (c : ChannelValue). Executes start program count c ⊎ (c.program ≡ None)) (sym same) stays.channel))
 
-  step_at : (marks : MarkList) (made : Bool) (most : ℕ) (s : Setup) → (made ≡ true → runs_at s.device n ≡ true) → HasCopy s.device → (x : Steps made n s) (j : ℕ) → j < steps_in marks most x.thread s → Executes bus program count (after_steps marks (machine_in s x.thread) j).channel
+  step_at : (marks : MarkList) (made : Bool) (most : ℕ) (s : Setup) → (made ≡ true → runs_at s.device n ≡ true) → HasCopy s.device → (x : Steps made n s) (j : ℕ) → j < steps_in marks most x.thread s → Executes start program count (after_steps marks (machine_in s x.thread) j).channel
   step_at marks made most s on g x j less =
-      many_in bus program t count h marks (machine_in s x.thread) j (runs_copy s.device x.thread x.found (on x.on) g) (λ k l. steps_move (takes marks most x.thread s) k (omega (arith, less)))
+      many_in start program t count h marks (machine_in s x.thread) j (runs_copy s.device x.thread x.found (on x.on) g) (λ k l. steps_move (takes marks most x.thread s) k (omega (arith, less)))
 
   -- what one of its steps writes and reads
   wrote_in : (marks : MarkList) (made : Bool) (most : ℕ) (s : Setup) (a : ℕ) → (made ≡ true → runs_at s.device n ≡ true) → HasCopy s.device → CallWrote marks n a made most s → Contains (destinations t) a
   wrote_in marks made most s a on g x =
       let v = step_at marks made most s on g x.0 x.1.0 x.1.1 in
-      next_inside bus program t count h v.0 _ a v.1 (nexts bus program t count h v.0 v.1.within) x.1.3
+      next_inside start program t count h v.0 _ a v.1 (nexts start program t count h v.0 v.1.within) x.1.3
 
   read_in : (marks : MarkList) (made : Bool) (most : ℕ) (s : Setup) (a : ℕ) → (made ≡ true → runs_at s.device n ≡ true) → HasCopy s.device → CallReads marks n a made most s → Contains (sources t) a
   read_in marks made most s a on g x =
       let v = step_at marks made most s on g x.0 x.1.0 x.1.1 in
-      reads_inside bus program t count h v.0 _ a v.1 x.1.2
+      reads_inside start program t count h v.0 _ a v.1 x.1.2
 
   -- ---- a turn
 
@@ -143,31 +143,32 @@ module _ (bus : Bus) (program : List ℕ) (t : Descriptor) (count : ℕ) (h : Ex
 -- ---- from where the copy was found
 
 -- a channel executes a program that the copy explains
-record Starts (bus : Bus) (x : Explained) (o : Option ChannelValue) : Type 0 where
+record Starts (x : Explained) (o : Option ChannelValue) : Type 0 where
+  start : Registers
   channel : ChannelValue
   is : o ≡ Some channel
   program : List ℕ
   count : ℕ
-  explains : Explains bus program (copy_of x) count
-  executes : Executes bus program count channel
+  explains : Explains start program (copy_of x) count
+  executes : Executes start program count channel
 
-starts_with : (bus : Bus) (limit : ℕ) (x : Explained) (c : ChannelValue) (o : Option ProgramValue) → c.program ≡ o → IsSomeAnd o (λ p. Finds bus p.bytes limit x) → Executes bus (code_of c) (x.steps - 1) c → Starts bus x (Some c)
-starts_with bus limit x c o h1 h2 h3 = grind arith
+starts_with : (start : Registers) (limit : ℕ) (x : Explained) (c : ChannelValue) (o : Option ProgramValue) → c.program ≡ o → IsSomeAnd o (λ p. Finds start p.bytes limit x) → Executes start (code_of c) (x.steps - 1) c → Starts x (Some c)
+starts_with start limit x c o h1 h2 h3 = grind arith
 
-starts_at : (bus : Bus) (limit : ℕ) (x : Explained) (o : Option ChannelValue) → IsSomeAnd (program_if o) (λ p. Finds bus p.bytes limit x) → IsSomeAnd o (λ c. Executes bus (code_of c) (x.steps - 1) c) → Starts bus x o
-starts_at bus limit x None f w = absurd w
-starts_at bus limit x (Some c) f w = starts_with bus limit x c c.program refl f w
+starts_at : (limit : ℕ) (x : Explained) (o : Option ChannelValue) → IsSomeAnd o (λ c. IsSomeAnd c.program (λ p. Finds c.registers p.bytes limit x)) → IsSomeAnd o (λ c. Executes c.registers (code_of c) (x.steps - 1) c) → Starts x o
+starts_at limit x None f w = absurd w
+starts_at limit x (Some c) f w = starts_with c.registers limit x c c.program refl f w
 
 pub turns_stay_in : TurnsStayIn
 turns_stay_in access answer before lent left all n k most limit x turn happen finds underway none less is reply =
     let d = before 0 in
-    let s = starts_at (bus_of d) limit x (channel_of d n) finds underway in
-    let first : InCopy (bus_of d) s.program (copy_of x) s.count s.explains n (channel_of d n) =
-    subst (InCopy (bus_of d) s.program (copy_of x) s.count s.explains n) (sym s.is) (inl s.executes) in
-    let here = along (bus_of d) s.program (copy_of x) s.count s.explains n access answer before lent left all k happen none (omega arith) first in
+    let s = starts_at limit x (channel_of d n) finds underway in
+    let first : InCopy s.start s.program (copy_of x) s.count s.explains n (channel_of d n) =
+    subst (InCopy s.start s.program (copy_of x) s.count s.explains n) (sym s.is) (inl s.executes) in
+    let here = along s.start s.program (copy_of x) s.count s.explains n access answer before lent left all k happen none (omega arith) first in
     let does = subst (λ (a : Access). Does a (before k) (lent k) (answer k) (before (k + 1)) (left k)) is (happen k less) in
     let same : does.0 ≡ turn = let given = sym does.1.0 ∙ reply in cc in
-    turn_stays (bus_of d) s.program (copy_of x) s.count s.explains n (before k) (lent k) most (before (k + 1)) (left k) turn here
+    turn_stays s.start s.program (copy_of x) s.count s.explains n (before k) (lent k) most (before (k + 1)) (left k) turn here
     (subst (TakesTurn (before k) (lent k) n most (before (k + 1)) (left k)) same does.1.1)
 
 -- ---- what gives a channel a program
@@ -181,16 +182,16 @@ set_thread : (n m : ℕ) (d : DeviceValue) (t u : Thread) → slice_get d.thread
 set_thread n m d t u found how = grind (arith, set_found, set_other)
 
 -- a thread is started
-start_thread : (n m : ℕ) (d : DeviceValue) (t : Thread) (nonsecure : Bool) (base : ℕ) (program : List ℕ) → slice_get d.threads m ≡ Some t → Gives n d (with_thread m (started d.config.bus nonsecure base program) d)
+start_thread : (n m : ℕ) (d : DeviceValue) (t : Thread) (nonsecure : Bool) (base : ℕ) (program : List ℕ) → slice_get d.threads m ≡ Some t → Gives n d (with_thread m (started nonsecure base program t) d)
 start_thread n m d t nonsecure base program found =
-    let u = started d.config.bus nonsecure base program in
+    let u = started nonsecure base program t in
     let e = with_thread m u d in
     elim (cases_eq n m) [
       | inr other ↦ inl (inl (ap channel_if (set_other d.threads m n u other)))
       | inl own ↦
           let there : channel_of e n ≡ Some u.channel = ap (channel_of e) own ∙ ap channel_if (set_found d.threads m t u found) in
-          inr (λ steps. subst (λ (o : Option ChannelValue). IsSomeAnd o (λ c. Executes (bus_of d) (code_of c) (steps - 1) c)) (sym there)
-          (load_executes (bus_of d) program (steps - 1) u.channel (record { bytes = program; cost = None }, ([], sym (append-nil program)), refl)))
+          inr (λ steps. subst (λ (o : Option ChannelValue). IsSomeAnd o (λ c. Executes c.registers (code_of c) (steps - 1) c)) (sym there)
+          (load_executes u.channel.registers program (steps - 1) u.channel (record { bytes = program; cost = None }, ([], sym (append-nil program)), refl)))
     ]
 
 signalled_gives : (n k : ℕ) (d : DeviceValue) → Gives n d (signalled k d)

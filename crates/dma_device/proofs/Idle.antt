@@ -42,7 +42,7 @@ debugged_sound ram d h = debug_cases IsSoundDevice ram d (record {
   sev = λ byte event. signalled_sound d (byte / 8) h (event_known d byte event);
   kills = λ t _ _. thread_sound d (field 8 3 d.dbginst0) (killed t) h refl;
   fails = λ why t _ _. thread_sound d (field 8 3 d.dbginst0) (failed why t) h refl;
-  starts = λ n t nonsecure _ _. thread_sound d n (started d.config.bus nonsecure d.dbginst1 (program_at ram d.dbginst1)) h refl;
+  starts = λ n t nonsecure _ _. thread_sound d n (started nonsecure d.dbginst1 (program_at ram d.dbginst1) t) h refl;
 })
 
 written_sound : (ram : List Piece) (at value : ℕ) (d : DeviceValue) → IsSoundDevice d → IsSoundDevice (written ram at value d)

@@ -11,7 +11,7 @@ use Rattle.dma_mem.specs.Flags.{flags_of}
 use Rattle.dma_mem.specs.Marking.{MarkList}
 use Rattle.dma_mem.specs.Places.{Descriptor}
 use Rattle.dma_mem.specs.declared.regions.Region.{Region}
-use Rattle.dma_chan.specs.declared.bus.Bus.{Bus}
+use Rattle.dma_chan.specs.declared.exec.Registers.{Registers}
 use Rattle.dma_chan.specs.Channel.{ChannelValue, ahead_of, step_of, stored_by}
 use Rattle.dma_chan.specs.Exec.{ChangesNothing}
 use Rattle.dma_chan.specs.Explains.{Explains, HasEvents as HasTheEvents, IsIn, IsSignal, IsWait, StartsWith, next_in, traced}
@@ -28,7 +28,7 @@ use Rattle.dma_chan.proofs.StepsTaken.{steps_move}
 use Rattle.dma_chan.proofs.SteppedOver.{is_still, was_moved, went_before}
 use Rattle.dma_device.specs.CallSteps.{Executes, marks_in}
 use Rattle.dma_device.specs.Device.{DeviceValue, csr, of_thread}
-use Rattle.dma_device.specs.Dmago.{Go, RunsCopy, GivenTurns, bus_of, csr_status}
+use Rattle.dma_device.specs.Dmago.{Go, RunsCopy, GivenTurns, csr_status, start_of}
 use Rattle.dma_device.specs.Interrupts.{HasLine, IsHigh}
 use Rattle.dma_device.specs.Progress.{CompiledGoesOn, CompiledHasEvents, CompiledSignals, DmagoFinishes, DmagoSignals, IsReady, IsCompiled, IsVisible, MayPass, WasHigh, compiled_count}
 use Rattle.dma_device.specs.Thread.{is_faulting, is_stopped, is_stopped_status, status_bits}
@@ -47,10 +47,10 @@ use Rattle.dma_device.proofs.Interrupts.{seen_bit, turn_raises}
 -- ---- a call of a channel with a program that copies
 
 -- what a program executes before its DMAEND
-before_end : (bus : Bus) (program : List ℕ) (t : Descriptor) (n : ℕ) → Explains bus program t n → (k : ℕ) (i : ChipInsn) → k ≤ n → i ≢ End → next_in program (traced bus program k) ≡ Ok i → k < n
-before_end bus program t n h k i within other next = grind arith
+before_end : (start : Registers) (program : List ℕ) (t : Descriptor) (n : ℕ) → Explains start program t n → (k : ℕ) (i : ChipInsn) → k ≤ n → i ≢ End → next_in program (traced start program k) ≡ Ok i → k < n
+before_end start program t n h k i within other next = grind arith
 
-module _ (bus : Bus) (program : List ℕ) (t : Descriptor) (count : ℕ) (marks : MarkList) (first : List ℕ) (h : Explains bus program t count) (low : Fits t (length first)) where
+module _ (start : Registers) (program : List ℕ) (t : Descriptor) (count : ℕ) (marks : MarkList) (first : List ℕ) (h : Explains start program t count) (low : Fits t (length first)) where
   step_count : (u : Machine) → answer_at marks u ≡ Moved → (after_step marks u).channel.taken ≡ u.channel.taken + 1
   step_count u moved = moved_count (answer_at marks u) (step_of marks u.channel u.image u.flags).1 (stored_by (ahead_of u.channel) u.channel.registers) u.channel moved
 
@@ -65,8 +65,8 @@ module _ (bus : Bus) (program : List ℕ) (t : Descriptor) (count : ℕ) (marks 
 
   -- a call that may take a step ends the program or counts one, if its first instruction doesn't wait, and no mark is
   -- met
-  progress : (s v : Machine) (most taken : ℕ) (last : Option ChanTurn) (least more : ℕ) → 0 < most → Misses marks t → (r : Runs bus program t count first s) → least ≤ s.channel.taken → (more ≤ least) ⊎ ((more ≤ least + 1) × ((e : ℕ) → (w : IsWait bus program count e) → w.step ≡ r.0 → get_or s.flags e false ≡ true)) → TakesSteps marks s most taken last v → (last ≡ Some Ended) ⊎ (more ≤ v.channel.taken)
-  progress s v most zero last least more some misses r few awake x = absurd (call_answers bus program t count marks first h low s v most zero last some r x x.answer)
+  progress : (s v : Machine) (most taken : ℕ) (last : Option ChanTurn) (least more : ℕ) → 0 < most → Misses marks t → (r : Runs start program t count first s) → least ≤ s.channel.taken → (more ≤ least) ⊎ ((more ≤ least + 1) × ((e : ℕ) → (w : IsWait start program count e) → w.step ≡ r.0 → get_or s.flags e false ≡ true)) → TakesSteps marks s most taken last v → (last ≡ Some Ended) ⊎ (more ≤ v.channel.taken)
+  progress s v most zero last least more some misses r few awake x = absurd (call_answers start program t count marks first h low s v most zero last some r x x.answer)
   progress s v most (suc p) last least more some misses r few awake x = by p (answer_at marks (after_steps marks s p)) refl x
     where
       still : (p : ℕ) (a : ChanTurn) → answer_at marks (after_steps marks s p) ≡ a → ChangesNothing a → TakesSteps marks s most (suc p) last v → v.channel.taken ≡ s.channel.taken + p
@@ -74,19 +74,19 @@ module _ (bus : Bus) (program : List ℕ) (t : Descriptor) (count : ℕ) (marks 
           let same = ap (λ (m : Machine). m.channel.taken) (x.ends_at ∙ is_still marks (after_steps marks s p) (subst ChangesNothing (sym is) nothing)) in
           same ∙ many_count s p (steps_move x)
 
-      awakes : (e : ℕ) → ((e : ℕ) → (w : IsWait bus program count e) → w.step ≡ r.0 → get_or s.flags e false ≡ true) → answer_at marks s ≡ Waiting e → ⊥
+      awakes : (e : ℕ) → ((e : ℕ) → (w : IsWait start program count e) → w.step ≡ r.0 → get_or s.flags e false ≡ true) → answer_at marks s ≡ Waiting e → ⊥
       awakes e awake is =
           let w = waits_at marks s e is in
-          let next = sym (next_ahead bus program t count marks first h low r.0 s (next_in program (traced bus program r.0)) r.1 refl) ∙ w.1.0 in
-          let wait : IsWait bus program count e = record { step = r.0; within = before_end bus program t count h r.0 (Wfe e w.0) r.1.within (λ bad. cc) next; invalid = w.0; waits = next } in
+          let next = sym (next_ahead start program t count marks first h low r.0 s (next_in program (traced start program r.0)) r.1 refl) ∙ w.1.0 in
+          let wait : IsWait start program count e = record { step = r.0; within = before_end start program t count h r.0 (Wfe e w.0) r.1.within (λ bad. cc) next; invalid = w.0; waits = next } in
           true≢false (sym (awake e wait refl) ∙ w.1.1)
 
-      waits : (p e : ℕ) → answer_at marks (after_steps marks s p) ≡ Waiting e → TakesSteps marks s most (suc p) last v → (more ≤ least) ⊎ ((more ≤ least + 1) × ((e : ℕ) → (w : IsWait bus program count e) → w.step ≡ r.0 → get_or s.flags e false ≡ true)) → more ≤ v.channel.taken
+      waits : (p e : ℕ) → answer_at marks (after_steps marks s p) ≡ Waiting e → TakesSteps marks s most (suc p) last v → (more ≤ least) ⊎ ((more ≤ least + 1) × ((e : ℕ) → (w : IsWait start program count e) → w.step ≡ r.0 → get_or s.flags e false ≡ true)) → more ≤ v.channel.taken
       waits p e is x (inl fewer) = let same = still p (Waiting e) is tt x in omega (arith, same, fewer, few)
       waits zero e is x (inr w) = absurd (awakes e w.1 is)
       waits (suc p) e is x (inr w) = let same = still (suc p) (Waiting e) is tt x in omega (arith, same, few, w.0)
 
-      bound : (more ≤ least) ⊎ ((more ≤ least + 1) × ((e : ℕ) → (w : IsWait bus program count e) → w.step ≡ r.0 → get_or s.flags e false ≡ true)) → more ≤ least + 1
+      bound : (more ≤ least) ⊎ ((more ≤ least + 1) × ((e : ℕ) → (w : IsWait start program count e) → w.step ≡ r.0 → get_or s.flags e false ≡ true)) → more ≤ least + 1
       bound (inl fewer) = omega (arith, fewer)
       bound (inr w) = w.0
 
@@ -99,21 +99,21 @@ module _ (bus : Bus) (program : List ℕ) (t : Descriptor) (count : ℕ) (marks 
       by p Moved e x = inr (counted p x e)
       by p Ended e x = inl (x.answer ∙ ap (λ (a : ChanTurn). Some a) e)
       by p (Waiting k) e x = inr (waits p k e x awake)
-      by p (Fault kind) e x = absurd (call_fails bus program t count marks first h low s v most (suc p) last kind misses r x (x.answer ∙ ap (λ (a : ChanTurn). Some a) e))
+      by p (Fault kind) e x = absurd (call_fails start program t count marks first h low s v most (suc p) last kind misses r x (x.answer ∙ ap (λ (a : ChanTurn). Some a) e))
 
-  module _ (i stored : ℕ) (sev : IsSignal bus program count i stored) where
+  module _ (i stored : ℕ) (sev : IsSignal start program count i stored) where
     -- the next instruction of a channel that has executed this many is the DMASEV
-    is_sev : (u : Machine) (r : Runs bus program t count first u) → u.channel.taken ≡ sev.step → ahead_of u.channel ≡ Ok (Sev i)
+    is_sev : (u : Machine) (r : Runs start program t count first u) → u.channel.taken ≡ sev.step → ahead_of u.channel ≡ Ok (Sev i)
     is_sev u r place =
         let same : sev.step ≡ r.0 = sym place ∙ r.1.taken in
-        next_ahead bus program t count marks first h low r.0 u (Ok (Sev i)) r.1 (subst (λ (k : ℕ). next_in program (traced bus program k) ≡ Ok (Sev i)) same sev.signals)
+        next_ahead start program t count marks first h low r.0 u (Ok (Sev i)) r.1 (subst (λ (k : ℕ). next_in program (traced start program k) ≡ Ok (Sev i)) same sev.signals)
 
     -- a step that goes on from before the DMASEV stays before it
-    before_sev : (s : Machine) (j : ℕ) → Runs bus program t count first s → s.channel.taken ≤ sev.step → ((k : ℕ) → k < suc j → goes_on_after marks s k ≡ true) → (after_steps marks s j).channel.taken ≤ sev.step
+    before_sev : (s : Machine) (j : ℕ) → Runs start program t count first s → s.channel.taken ≤ sev.step → ((k : ℕ) → k < suc j → goes_on_after marks s k ≡ true) → (after_steps marks s j).channel.taken ≤ sev.step
     before_sev s zero r early moves = early
     before_sev s (suc j) r early moves =
         let u = after_steps marks s j in
-        let w = many bus program t count marks first h low j s r (λ k l. moves k (omega arith)) in
+        let w = many start program t count marks first h low j s r (λ k l. moves k (omega arith)) in
         let counts = step_count u (went_moved s j (moves (suc j) (omega arith))) in
         elim (cases_eq u.channel.taken sev.step) [
           | inl place ↦
@@ -129,7 +129,7 @@ module _ (bus : Bus) (program : List ℕ) (t : Descriptor) (count : ℕ) (marks 
         none (Fault kind) = refl
 
     -- a call that begins before the DMASEV executes it as its last step, or is still before it
-    call_signals : (s v : Machine) (most taken : ℕ) (last : Option ChanTurn) → Runs bus program t count first s → s.channel.taken ≤ sev.step → TakesSteps marks s most taken last v → (signal_after marks s taken ≡ Some i) ⊎ ((last ≢ Some Ended) × (v.channel.taken ≤ sev.step))
+    call_signals : (s v : Machine) (most taken : ℕ) (last : Option ChanTurn) → Runs start program t count first s → s.channel.taken ≤ sev.step → TakesSteps marks s most taken last v → (signal_after marks s taken ≡ Some i) ⊎ ((last ≢ Some Ended) × (v.channel.taken ≤ sev.step))
     call_signals s v most zero last r early x =
         inr ((λ bad. let none = sym x.answer ∙ bad in cc), omega (arith, ap (λ (m : Machine). m.channel.taken) x.ends_at, early))
     call_signals s v most (suc p) last r early x = by (answer_at marks (after_steps marks s p)) refl
@@ -137,8 +137,8 @@ module _ (bus : Bus) (program : List ℕ) (t : Descriptor) (count : ℕ) (marks 
         here : (after_steps marks s p).channel.taken ≤ sev.step
         here = before_sev s p r early (steps_move x)
 
-        runs_there : Runs bus program t count first (after_steps marks s p)
-        runs_there = many bus program t count marks first h low p s r (steps_move x)
+        runs_there : Runs start program t count first (after_steps marks s p)
+        runs_there = many start program t count marks first h low p s r (steps_move x)
 
         still : (a : ChanTurn) → answer_at marks (after_steps marks s p) ≡ a → ChangesNothing a → v.channel.taken ≤ sev.step
         still a is nothing =
@@ -160,7 +160,7 @@ module _ (bus : Bus) (program : List ℕ) (t : Descriptor) (count : ℕ) (marks 
         by (Fault kind) is = inr ((λ bad. let a = sym (answered_as (Fault kind) is) ∙ bad in cc), still (Fault kind) is tt)
         by Ended is =
             let taken : (after_steps marks s p).channel.taken ≡ runs_there.0 = runs_there.1.taken in
-            absurd (goes_on_at bus program t count marks first h low runs_there.0 (after_steps marks s p) Ended is runs_there.1 (omega (arith, taken, here, sev.within)))
+            absurd (goes_on_at start program t count marks first h low runs_there.0 (after_steps marks s p) Ended is runs_there.1 (omega (arith, taken, here, sev.within)))
 
 -- ---- that it finishes
 
@@ -176,7 +176,7 @@ module _ (c : Copying) (n : ℕ) where
 
   -- the event for which it waits is visible
   abbrev Awake : DeviceValue → ℕ → Type 0
-  Awake d least = (th : Thread) (e : ℕ) (wait : IsWait c.bus c.program c.count e) → slice_get d.threads n ≡ Some th → IsIn c.bus c.program c.count wait.step th.channel → least ≤ wait.step → get_or (flags_of (visible_events d)) e false ≡ true
+  Awake d least = (th : Thread) (e : ℕ) (wait : IsWait c.start c.program c.count e) → slice_get d.threads n ≡ Some th → IsIn c.start c.program c.count wait.step th.channel → least ≤ wait.step → get_or (flags_of (visible_events d)) e false ≡ true
 
   -- a call needs no progress, or it doesn't wait at first
   abbrev CanStep : DeviceValue → ℕ → ℕ → Type 0
@@ -197,13 +197,13 @@ module _ (c : Copying) (n : ℕ) where
     goes = λ made th found g known sent goes.
         let count_is : th.channel.taken ≡ g.runs.0 = g.runs.1.taken in
         let long = known.enough in
-        let sees : (more ≤ least) ⊎ ((more ≤ least + 1) × ((e : ℕ) → (w : IsWait c.bus c.program c.count e) → w.step ≡ g.runs.0 → get_or (from k th).flags e false ≡ true)) = elim can [
+        let sees : (more ≤ least) ⊎ ((more ≤ least + 1) × ((e : ℕ) → (w : IsWait c.start c.program c.count e) → w.step ≡ g.runs.0 → get_or (from k th).flags e false ≡ true)) = elim can [
           | inl fewer ↦ inl fewer
-          | inr w ↦ inr (w.0, λ e wait is. w.1 th e wait found (subst (λ (j : ℕ). IsIn c.bus c.program c.count j th.channel) (sym is) (is_in c.bus c.program c.t c.count c.first g.runs.0 k.before.image th.channel g.runs.1)) (omega (arith, count_is, long, is)))
+          | inr w ↦ inr (w.0, λ e wait is. w.1 th e wait found (subst (λ (j : ℕ). IsIn c.start c.program c.count j th.channel) (sym is) (is_in c.start c.program c.t c.count c.first g.runs.0 k.before.image th.channel g.runs.1)) (omega (arith, count_is, long, is)))
         ] in
         record {
           fine = call_fine c n k th (some made) fit g;
-          enough = elim (progress c.bus c.program c.t c.count k.marks c.first c.explains c.fits (from k th) (to k th) k.most (count_in k th) (last_answer k th) least more (some made) fit.misses g.runs long sees (steps_of k th)) [
+          enough = elim (progress c.start c.program c.t c.count k.marks c.first c.explains c.fits (from k th) (to k th) k.most (count_in k th) (last_answer k th) least more (some made) fit.misses g.runs long sees (steps_of k th)) [
             | inl ended ↦ absurd (goes ended)
             | inr many ↦ omega (arith, ap (λ (v : ChannelValue). v.taken) (channel_after k th), many)
           ];
@@ -223,7 +223,7 @@ module _ (c : Copying) (n : ℕ) where
 
 -- ---- that its line was high
 
-module _ (c : Copying) (n i stored : ℕ) (sev : IsSignal c.bus c.program c.count i stored) where
+module _ (c : Copying) (n i stored : ℕ) (sev : IsSignal c.start c.program c.count i stored) where
   -- the DMASEV comes later, or S
   abbrev Signs : Type 0 → Thread → Type 0
   Signs S th = (th.channel.taken ≤ sev.step) ⊎ S
@@ -245,7 +245,7 @@ module _ (c : Copying) (n i stored : ℕ) (sev : IsSignal c.bus c.program c.coun
   }
     where
       sends : (th : Thread) → Going c k.before.image th → th.channel.taken ≤ sev.step → (sets k th ≡ Some i) ⊎ ((last_answer k th ≢ Some Ended) × ((to k th).channel.taken ≤ sev.step))
-      sends th g early = call_signals c.bus c.program c.t c.count k.marks c.first c.explains c.fits i stored sev (from k th) (to k th) k.most (count_in k th) (last_answer k th) g.runs early (steps_of k th)
+      sends th g early = call_signals c.start c.program c.t c.count k.marks c.first c.explains c.fits i stored sev (from k th) (to k th) k.most (count_in k th) (last_answer k th) g.runs early (steps_of k th)
 
   turn_signs : (S : Type 0) (d : DeviceValue) (regions : List Region) (most : ℕ) (e : DeviceValue) (left : List Region) (turn : Turn) → TakesTurn d regions n most e left turn → Has c n S (Signs S) (setup_of d regions) → let T = (S ⊎ (sent_by n (one_of d regions n most) ≡ Some i)) ⊎ (sent_by n (two_of d regions n most) ≡ Some i) in Has c n T (Signs T) (setup_of e left)
   turn_signs S d regions most e left turn x g =
@@ -291,7 +291,7 @@ module _ (go : Go) (t : Descriptor) (count : ℕ) (run : GivenTurns) (h : RunsCo
             absurd (omega (arith, long, taken_is, going.1.enough, going.0.runs.1.within))
       ]
 
-  module _ (i stored : ℕ) (sev : IsSignal (bus_of go) go.program count i stored) (on : (k : ℕ) → k < run.count → HasLine (run.before k) i × IsHigh (run.before k).inten i) where
+  module _ (i stored : ℕ) (sev : IsSignal (start_of go) go.program count i stored) (on : (k : ℕ) → k < run.count → HasLine (run.before k) i × IsHigh (run.before k).inten i) where
     -- its line was high after a turn before number j
     record Was (j : ℕ) : Type 0 where
       turn : ℕ
@@ -338,8 +338,8 @@ dmago_signals go t n run i stored h sev on k less stopped = signals go t n run h
 
 -- ---- compiled programs
 
-events_of : (go : Go) (t : Descriptor) → IsCompiled go t → HasTheEvents (bus_of go) go.program t (compiled_count go t)
-events_of go t is = subst (λ (bytes : List ℕ). HasTheEvents (bus_of go) bytes t (compiled_count go t)) (sym is.1) (compiled_events (bus_of go) t is.0)
+events_of : (go : Go) (t : Descriptor) → IsCompiled go t → HasTheEvents (start_of go) go.program t (compiled_count go t)
+events_of go t is = subst (λ (bytes : List ℕ). HasTheEvents (start_of go) bytes t (compiled_count go t)) (sym is.1) (compiled_events (start_of go) t is.0)
 
 pub compiled_has_events : CompiledHasEvents
 compiled_has_events go t d is wait signal =

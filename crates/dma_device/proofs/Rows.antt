@@ -1,5 +1,5 @@
 -- Rows computed from the definitions: values after a reset, a DMAGO of a program with its turns, and INTCLR.
-use Rattle.std.proofs.Common.{◌≡◌, ℕ, ◌+◌, ◌<◌, zero, suc, arith, sym, true≢false, true, false, List, [], ◌∷◌, get_or, Some, None, refl}
+use Rattle.std.proofs.Common.{◌≡◌, ℕ, ◌+◌, ◌<◌, zero, suc, arith, sym, true≢false, true, false, List, [], ◌∷◌, map, get_or, Some, None, refl}
 use Rattle.std.specs.Prelude.{IsTrue, slice_index}
 use Rattle.std.specs.List.{list_any}
 use Rattle.dma_insn.specs.ControlWord.{control_of, end_at, is_control}
@@ -7,14 +7,16 @@ use Rattle.dma_mem.specs.Flags.{flags_of}
 use Rattle.dma_mem.specs.Regions.{Piece, has, image_of}
 use Rattle.dma_chan.specs.declared.bus.Bus.TheVariants.{Chip}
 use Rattle.dma_chan.specs.declared.bus.BusWidth.TheVariants.{Bits32, Bits64, Bits128}
-use Rattle.dma_chan.specs.Channel.{loaded_on}
+use Rattle.dma_chan.specs.Channel.{loaded_with}
+use Rattle.dma_chan.specs.Exec.{reset_on}
 use Rattle.dma_chan.specs.Stepping.{Machine, after_steps, last_of, machine, signal_after}
 use Rattle.dma_chan.specs.declared.turn.ChanTurn.TheVariants.{Ended}
 use Rattle.dma_device.specs.declared.config.Config.{Config}
 use Rattle.dma_device.specs.declared.config.Revision.TheVariants.{R0p0, R1p2}
 use Rattle.dma_device.specs.Config.{is_valid}
-use Rattle.dma_device.specs.Device.{DeviceValue, irq_abort, irqs, read_at, reset_device, written}
+use Rattle.dma_device.specs.Device.{DeviceValue, irq_abort, irqs, read_at, reset_device, with_thread, written}
 use Rattle.dma_device.specs.Dmago.{HasProgram}
+use Rattle.dma_device.specs.Thread.{reset_thread}
 use Rattle.dma_device.specs.Turns.{raises, runs_at, visible_events, with_flags}
 use Rattle.dma_device.specs.Accesses.{Access, Reads, Turned, Turns, Value, Writes}
 use Rattle.dma_device.specs.Run.{Board, next, run}
@@ -106,6 +108,26 @@ ready = written ram 0x020 0x2 (reset_device largest)
 abbrev going : DeviceValue
 going = written ram 0xD04 0 (written ram 0xD0C 0x100 (written ram 0xD08 0x03A00000 ready))
 
+-- CCR 3 after a reset
+ccr_reset : read_at (reset_device largest) 0x468 ≡ 0x00800200
+ccr_reset = refl
+
+-- a device whose channel 3 a program has left with these registers, and the same DMAGO, which keeps SAR, DAR, CCR and LC0
+abbrev used : DeviceValue
+used =
+    let t = reset_thread Bits128 in
+    let r = record (t.channel.registers) { pc = 7; sar = 0x1000; dar = 0x2000; lc0 = 5 } in
+    with_thread 3 (record t { channel = record (t.channel) { registers = r } }) ready
+
+abbrev going_again : DeviceValue
+going_again = written ram 0xD04 0 (written ram 0xD0C 0x100 (written ram 0xD08 0x03A00000 used))
+
+registers_kept : map (read_at going_again) (0x460 ∷ 0x464 ∷ 0x468 ∷ 0x46C ∷ []) ≡ 0x1000 ∷ 0x2000 ∷ 0x00800200 ∷ 5 ∷ []
+registers_kept = refl
+
+cpc_again : read_at going_again 0x11C ≡ 0x100
+cpc_again = refl
+
 csr_going : read_at going 0x118 ≡ 1
 csr_going = refl
 
@@ -117,7 +139,7 @@ runs_going = refl
 
 -- its channel after the first step, and what that sets and answers; then DMAEND
 abbrev began : Machine
-began = machine (loaded_on (Chip Bits128) (record { bytes = 0x34 ∷ 0x08 ∷ 0x00 ∷ []; cost = None })) [] (flags_of (visible_events going))
+began = machine (loaded_with (reset_on (Chip Bits128)) (record { bytes = 0x34 ∷ 0x08 ∷ 0x00 ∷ []; cost = None })) [] (flags_of (visible_events going))
 
 first_flags : (after_steps [] began 1).flags ≡ flags_of 0x2
 unfolding flags_of

@@ -45,8 +45,8 @@ use Rattle.dma_device.proofs.FlagSteps.{waits_at}
 
 -- ---- at the start
 
--- the control word is 0
-pub starts_fit : (bus : BusWidth) → fits (Chip bus) 0 ≡ true
+-- CCR after a reset
+starts_fit : (bus : BusWidth) → fits (Chip bus) 0x00800200 ≡ true
 starts_fit Bits32 = refl
 starts_fit bus = refl
 

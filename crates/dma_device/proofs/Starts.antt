@@ -60,7 +60,7 @@ by_opcode ram true n e calm = rw calm refl
 by_opcode ram false n e calm = rw calm refl
 
 -- the thread after a driver's writes of a DMAGO
-pub dmago_starts : (go : Go) → MayGo go → slice_get (started_by go).threads go.channel ≡ Some (started go.device.config.bus go.nonsecure go.addr (program_at go.ram go.addr))
+pub dmago_starts : (go : Go) → MayGo go → slice_get (started_by go).threads go.channel ≡ Some (started go.nonsecure go.addr (program_at go.ram go.addr) (get_or go.device.threads go.channel (reset_thread go.device.config.bus)))
 dmago_starts go may =
     let d = go.device in
     let n = go.channel in
@@ -71,7 +71,7 @@ dmago_starts go may =
     let th = get_or d.threads n (reset_thread d.config.bus) in
     let is = slice_get-get_or d.threads n (reset_thread d.config.bus) may.there in
     let stopped = reads_stopped d n th may.few is may.stopped in
-    let new = started d.config.bus nonsecure go.addr (program_at ram go.addr) in
+    let new = started nonsecure go.addr (program_at ram go.addr) th in
     let one = flag_few nonsecure in
     let opcode : field 16 8 w ≡ 0xA0 + 2 * flag nonsecure = omega arith in
     let byte : field 24 8 w ≡ n = omega (arith, may.few) in

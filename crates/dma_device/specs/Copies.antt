@@ -9,7 +9,7 @@ use Rattle.dma_chan.specs.Explains.{IsSignal, IsWait}
 use Rattle.dma_chan.specs.LentRegions.{HaveAll}
 use Rattle.dma_chan.specs.Others.{Touches}
 use Rattle.dma_device.specs.Device.{DeviceValue, irqs}
-use Rattle.dma_device.specs.Dmago.{Go, RunsCopy, GivenTurns, bus_of, csr_status, image_in}
+use Rattle.dma_device.specs.Dmago.{Go, RunsCopy, GivenTurns, csr_status, image_in, start_of}
 use Rattle.dma_device.specs.Interrupts.{HasLine, IsHigh}
 
 -- Once the channel's CSR reads as stopped after a turn, each address that the copy touches has the same byte as after
@@ -40,13 +40,13 @@ pub record AreCopied (t : Descriptor) (k : ℕ) (first memory : List ℕ) : Type
 abbrev pub DmagoInterrupts : Type 0
 DmagoInterrupts =
     (go : Go) (t : Descriptor) (n : ℕ) (run : GivenTurns) (i least : ℕ) → RunsCopy go t n run →
-    ((stored : ℕ) → IsSignal (bus_of go) go.program n i stored → least ≤ stored) →
+    ((stored : ℕ) → IsSignal (start_of go) go.program n i stored → least ≤ stored) →
     (k : ℕ) → k < run.count → HasRisen run i k → AreCopied t least (image_in (run.lent 0)) (image_in (run.left k))
 
 -- A device has each event of a program's DMAWFEs and DMASEVs.
 pub record HasEvents (d : DeviceValue) (go : Go) (n : ℕ) : Type 0 where
-  pub waits : (e : ℕ) → IsWait (bus_of go) go.program n e → e < d.config.events
-  pub signals : (e stored : ℕ) → IsSignal (bus_of go) go.program n e stored → e < d.config.events
+  pub waits : (e : ℕ) → IsWait (start_of go) go.program n e → e < d.config.events
+  pub signals : (e stored : ℕ) → IsSignal (start_of go) go.program n e stored → e < d.config.events
 
 -- A device and the regions that a turn is lent are fit for a program: the regions are in order and contain all
 -- addresses that the copy touches, none that it writes is read-only, and the device has the program's events.

@@ -181,7 +181,7 @@ program_at ram addr = take most_program_bytes (run_from ram addr)
 -- A thread that the manager starts by DMAGO. Nothing happens to one that isn't stopped.
 abbrev pub gone : List Piece → Bool → ℕ → Thread → DeviceValue → DeviceValue
 gone ram nonsecure n t d =
-    if is_stopped t then with_thread n (started d.config.bus nonsecure d.dbginst1 (program_at ram d.dbginst1)) d else d
+    if is_stopped t then with_thread n (started nonsecure d.dbginst1 (program_at ram d.dbginst1) t) d else d
 
 -- DMAGO, byte 1 of which is the channel
 abbrev pub go : List Piece → Bool → ℕ → Option Thread → DeviceValue → DeviceValue

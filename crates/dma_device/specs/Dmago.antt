@@ -1,5 +1,5 @@
 -- A driver starts a channel by a DMAGO, and a host gives the channel turns.
-use Rattle.std.specs.Prelude.{◌≡◌, ℕ, ◌+◌, ◌*◌, ◌%◌, ◌^◌, ◌<◌, ◌≤◌, Bool, true, false, not, ◌&&◌, List, length, Some, slice_get, slice_index, IsTrue}
+use Rattle.std.specs.Prelude.{◌≡◌, ℕ, ◌+◌, ◌*◌, ◌%◌, ◌^◌, ◌<◌, ◌≤◌, Bool, true, false, not, ◌&&◌, List, length, Some, slice_get, slice_index, slice_index_or, IsTrue}
 use Rattle.std.specs.List.{list_any}
 use Rattle.dma_insn.specs.AssemblyText.{most_program_bytes}
 use Rattle.dma_insn.specs.ControlWord.{flag}
@@ -8,11 +8,12 @@ use Rattle.dma_mem.specs.Places.{Descriptor, lies_below}
 use Rattle.dma_mem.specs.Regions.{Piece, has, image_of, in_order, pieces_of}
 use Rattle.dma_mem.specs.declared.regions.Region.{Region}
 use Rattle.dma_chan.specs.declared.bus.Bus.{Bus}
-use Rattle.dma_chan.specs.declared.bus.Bus.TheVariants.{Chip}
+use Rattle.dma_chan.specs.declared.exec.Registers.{Registers}
 use Rattle.dma_chan.specs.Explains.{Explains}
 use Rattle.dma_chan.specs.Others.{Touches}
 use Rattle.dma_device.specs.Device.{DeviceValue, read_at, written}
 use Rattle.dma_device.specs.Offsets as offset
+use Rattle.dma_device.specs.Thread.{reset_thread}
 use Rattle.dma_device.specs.Turns.{TakesTurn}
 use Rattle.dma_device.specs.declared.device.turns.Turn.{Turn}
 
@@ -28,9 +29,13 @@ pub record Go : Type 0 where
   pub channel : ℕ
   pub nonsecure : Bool
 
--- the bus of its device
+-- the registers of its channel before it; if the device doesn't have the channel, those after a reset
+abbrev pub start_of : Go → Registers
+start_of go = (slice_index_or go.device.threads go.channel (reset_thread go.device.config.bus)).channel.registers
+
+-- the bus of its channel, which is the device's (`IsDeviceValue`)
 abbrev pub bus_of : Go → Bus
-bus_of go = Chip go.device.config.bus
+bus_of go = (start_of go).bus
 
 -- the device after its writes to DBGINST0, DBGINST1 and DBGCMD
 abbrev pub started_by : Go → DeviceValue
@@ -82,14 +87,14 @@ pub record GivenTurns : Type 0 where
   pub lent : ℕ → List Region
   pub left : ℕ → List Region
 
--- A driver has put a program into RAM and starts it by a DMAGO; t explains the program, with n instructions before its
+-- A driver has put a program into RAM and starts it by a DMAGO; t explains the program, begun with the channel's registers, with n instructions before its
 -- DMAEND; and then a host gives the channel turns. Between two turns the guest and other channels may do anything to
 -- the device except to the channel's thread, and may write any byte that t neither reads nor writes. In each turn the
 -- ranges of t lie below the end of the regions.
 pub record RunsCopy (go : Go) (t : Descriptor) (n : ℕ) (run : GivenTurns) : Type 0 where
   pub in_ram : HasProgram go.ram go.addr go.program
   pub may_go : MayGo go
-  pub explains : Explains (bus_of go) go.program t n
+  pub explains : Explains (start_of go) go.program t n
   pub begins : slice_get (run.before 0).threads go.channel ≡ slice_get (started_by go).threads go.channel
   pub takes : (k : ℕ) → k < run.count →
       (turn : Turn) × TakesTurn (run.before k) (run.lent k) go.channel (run.most k) (run.after k) (run.left k) turn

@@ -5,8 +5,7 @@ use Rattle.std.specs.Option.{option_and_then, option_map}
 use Rattle.dma_mem.specs.Marking.{MarkList}
 use Rattle.dma_mem.specs.Places.{Descriptor, copying, destinations, sources}
 use Rattle.dma_mem.specs.declared.regions.Region.{Region}
-use Rattle.dma_chan.specs.declared.bus.Bus.{Bus}
-use Rattle.dma_chan.specs.declared.bus.Bus.TheVariants.{Chip}
+use Rattle.dma_chan.specs.declared.exec.Registers.{Registers}
 use Rattle.dma_chan.specs.declared.explain.Cause.TheVariants.{NoMemory, TooLong}
 use Rattle.dma_chan.specs.declared.explain.Explained.{Explained}
 use Rattle.dma_chan.specs.Channel.{ChannelValue, code_of}
@@ -30,9 +29,9 @@ channel_of d n = option_map (λ t. t.channel) (slice_get d.threads n)
 abbrev pub program_of : DeviceValue → ℕ → Option ProgramValue
 program_of d n = option_and_then (λ c. c.program) (channel_of d n)
 
--- the bus of a device's channels
-abbrev pub bus_of : DeviceValue → Bus
-bus_of d = Chip d.config.bus
+-- Channel n has a program, and this is true of its registers and the program's bytes.
+abbrev pub IsLoadedAnd : DeviceValue → ℕ → (Registers → List ℕ → Type 0) → Type 0
+IsLoadedAnd d n P = IsSomeAnd (channel_of d n) (λ c. IsSomeAnd c.program (λ p. P c.registers p.bytes))
 
 -- ---- what the device answers
 
@@ -40,10 +39,10 @@ bus_of d = Chip d.config.bus
 abbrev pub copy_of : Explained → Descriptor
 copy_of x = copying (unrolled x.src.items) x.dst.items None None
 
--- What is found for channel n with a limit of instructions: a copy that explains the channel's program on the device's
--- bus.
+-- What is found for channel n with a limit of instructions: a copy that explains the channel's program, if it begins
+-- with the registers that the channel has.
 abbrev pub FindsFor : DeviceValue → ℕ → ℕ → Explained → Type 0
-FindsFor d n limit x = IsSomeAnd (program_of d n) (λ p. Finds (bus_of d) p.bytes limit x)
+FindsFor d n limit x = IsLoadedAnd d n (λ start program. Finds start program limit x)
 
 -- Why nothing is found for channel n: the device doesn't have the channel, the channel has no program, or the program
 -- is refused with this limit of instructions. It is never too long.
@@ -51,8 +50,7 @@ abbrev pub FailsFor : DeviceValue → ℕ → ℕ → ExplainFault → Type 0
 FailsFor d n most NoChannel = length d.threads ≤ n
 FailsFor d n most NoProgram = (n < length d.threads) × (program_of d n ≡ None)
 FailsFor d n most (Unexplained u) =
-    IsSomeAnd (program_of d n) (λ p. (u.cause ≢ TooLong)
-    × (u.cause ≢ NoMemory → Refuses (bus_of d) p.bytes most u))
+    IsLoadedAnd d n (λ start program. (u.cause ≢ TooLong) × (u.cause ≢ NoMemory → Refuses start program most u))
 
 -- ---- the turns of a channel
 
@@ -70,10 +68,11 @@ pub record StaysIn (t : Descriptor) (d : DeviceValue) (regions : List Region) (n
   pub writes : (a : ℕ) → LiesIn turn.written a → Contains (destinations t) a
   pub reads : (a : ℕ) → TurnReads d regions n most a → Contains (sources t) a
 
--- Channel n executes its program from the program's start on: of `steps` instructions, with DMAEND, it has executed
--- none or some, and not yet all.
+-- Channel n executes its program from the program's start on, begun with the registers that it has now: of `steps`
+-- instructions, with DMAEND, it has executed none or some, and not yet all. After a DMAGO it has executed none. Later its
+-- registers are still such if the program sets each before it uses it.
 abbrev pub IsUnderway : DeviceValue → ℕ → ℕ → Type 0
-IsUnderway d n steps = IsSomeAnd (channel_of d n) (λ c. Executes (bus_of d) (code_of c) (steps - 1) c)
+IsUnderway d n steps = IsSomeAnd (channel_of d n) (λ c. Executes c.registers (code_of c) (steps - 1) c)
 
 -- An access gives channel n no program: it is a turn, or the channel is the same after it, or has no program.
 abbrev pub GivesNone : Access → ℕ → DeviceValue → DeviceValue → Type 0

@@ -6,7 +6,7 @@ use Rattle.dma_chan.specs.Compiled.{compiled_on, cost_on}
 use Rattle.dma_chan.specs.Explains.{IsIn, IsSignal, IsWait}
 use Rattle.dma_device.specs.Copies.{HasEvents, IsFit}
 use Rattle.dma_device.specs.Device.{DeviceValue, irqs}
-use Rattle.dma_device.specs.Dmago.{Go, RunsCopy, GivenTurns, bus_of, csr_status}
+use Rattle.dma_device.specs.Dmago.{Go, RunsCopy, GivenTurns, bus_of, csr_status, start_of}
 use Rattle.dma_device.specs.Events.{IsSet}
 use Rattle.dma_device.specs.Interrupts.{HasLine, IsHigh}
 use Rattle.dma_device.specs.declared.thread.Thread.{Thread}
@@ -19,8 +19,8 @@ IsVisible d e = HasLine d e × (IsSet d e × (¬ IsHigh d.inten e))
 -- doesn't wait: the event is set, and INTEN makes it an event.
 abbrev pub MayPass : Go → ℕ → DeviceValue → ℕ → Type 0
 MayPass go n d least =
-    (th : Thread) (e : ℕ) (wait : IsWait (bus_of go) go.program n e) → slice_get d.threads go.channel ≡ Some th →
-    IsIn (bus_of go) go.program n wait.step th.channel → least ≤ wait.step → IsVisible d e
+    (th : Thread) (e : ℕ) (wait : IsWait (start_of go) go.program n e) → slice_get d.threads go.channel ≡ Some th →
+    IsIn (start_of go) go.program n wait.step th.channel → least ≤ wait.step → IsVisible d e
 
 -- Turn number k is ready: it may take a step, the device and the regions are fit, and the channel doesn't wait.
 pub record IsReady (go : Go) (t : Descriptor) (n : ℕ) (run : GivenTurns) (k : ℕ) : Type 0 where
@@ -48,13 +48,13 @@ pub record WasHigh (run : GivenTurns) (i k : ℕ) : Type 0 where
 abbrev pub DmagoSignals : Type 0
 DmagoSignals =
     (go : Go) (t : Descriptor) (n : ℕ) (run : GivenTurns) (i stored : ℕ) → RunsCopy go t n run →
-    IsSignal (bus_of go) go.program n i stored →
+    IsSignal (start_of go) go.program n i stored →
     ((k : ℕ) → k < run.count → HasLine (run.before k) i × IsHigh (run.before k).inten i) →
     (k : ℕ) → k < run.count → csr_status (run.after k) go.channel ≡ 0 → WasHigh run i k
 
 -- ---- compiled programs
 
--- the program is a transfer's, compiled for the device's bus
+-- the program is a transfer's, compiled for its channel's bus
 abbrev pub IsCompiled : Go → Descriptor → Type 0
 IsCompiled go t = IsTransfer t × (go.program ≡ (compiled_on (bus_of go) t).bytes)
 
@@ -78,6 +78,6 @@ CompiledGoesOn =
 -- bytes.
 pub record CompiledSignals : Type 0 where
   pub has_sev : (go : Go) (t : Descriptor) (i : ℕ) → IsCompiled go t → t.signal ≡ Some i →
-      IsSignal (bus_of go) go.program (compiled_count go t) i (size_of t)
+      IsSignal (start_of go) go.program (compiled_count go t) i (size_of t)
   pub all_stored : (go : Go) (t : Descriptor) (i stored : ℕ) → IsCompiled go t →
-      IsSignal (bus_of go) go.program (compiled_count go t) i stored → size_of t ≤ stored
+      IsSignal (start_of go) go.program (compiled_count go t) i stored → size_of t ≤ stored

@@ -6,7 +6,7 @@ use Rattle.dma_insn.specs.declared.chip.ChipInsn.TheVariants.{Wfe}
 use Rattle.dma_chan.specs.declared.bus.BusWidth.{BusWidth}
 use Rattle.dma_chan.specs.declared.bus.Bus.TheVariants.{Chip}
 use Rattle.dma_chan.specs.Bus.{fits}
-use Rattle.dma_chan.specs.Channel.{ahead_of, last_count, loaded_on, unloaded_on}
+use Rattle.dma_chan.specs.Channel.{ahead_of, last_count, loaded_with, unloaded_on}
 use Rattle.dma_chan.specs.Exec.{fault_bit}
 use Rattle.dma_chan.specs.declared.turn.ChanTurn.{ChanTurn}
 use Rattle.dma_chan.specs.declared.turn.ChanTurn.TheVariants.{Moved, Waiting, Ended, Fault}
@@ -100,7 +100,7 @@ pub record IsOn (bus : BusWidth) (t : Thread) : Type 0 where
   pub width : t.channel.registers.bus ≡ Chip bus
   pub control : fits (Chip bus) t.channel.registers.ccr ≡ true
 
--- a thread on a bus after a reset
+-- a thread on a bus after a reset: CCR is 0x00800200, and its other registers are 0
 abbrev pub reset_thread : BusWidth → Thread
 reset_thread bus =
     record { channel = unloaded_on (Chip bus); status = Stopped; fault = 0; nonsecure = false; base = 0; pc = 0 }
@@ -113,10 +113,11 @@ failed why t = record t { status = Faulting; fault = why }
 abbrev pub killed : Thread → Thread
 killed t = record t { channel = record (t.channel) { program = None }; status = Stopped }
 
--- a thread on a bus after a DMAGO with a program that begins at address `base`; its registers are 0 (profile)
-abbrev pub started : BusWidth → Bool → ℕ → List ℕ → Thread
-started bus nonsecure base program = record {
-  channel = loaded_on (Chip bus) (record { bytes = program; cost = None });
+-- a thread after a DMAGO with a program that begins at address `base`; SAR, DAR, CCR and the loop counters keep their
+-- values
+abbrev pub started : Bool → ℕ → List ℕ → Thread → Thread
+started nonsecure base program t = record {
+  channel = loaded_with t.channel.registers (record { bytes = program; cost = None });
   status = Executing;
   fault = 0;
   nonsecure = nonsecure;

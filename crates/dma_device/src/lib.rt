@@ -16,9 +16,9 @@
 //! exactly if they are the save of no device (`save`, `restore`), as is each save in which a bit is flipped
 //! (`laws::damage_is_refused`).
 //!
-//! A program that a copy explains on the device's bus (`dma_chan`'s specs/Explains.antt), put into RAM and started by a
-//! DMAGO, makes one simultaneous copy, whatever events it waits for and signals; a transfer explains its program that
-//! is compiled for the bus. The copy is done once the channel's CSR reads as stopped. Once a line that was low is high
+//! A program that a copy explains from the registers that its channel has (`dma_chan`'s specs/Explains.antt), put into
+//! RAM and started by a DMAGO, makes one simultaneous copy, whatever events it waits for and signals; from any registers
+//! a transfer explains its program that is compiled for the bus. The copy is done once the channel's CSR reads as stopped. Once a line that was low is high
 //! after one of its turns, as many bytes are copied as the program stores before the DMASEV (`laws::a_dmago_copies`).
 //! Of other programs the laws of interrupts hold, and what specs/Turns.antt says of each turn. The program never fails,
 //! if the regions contain all addresses that the copy touches, none that it writes is read-only, and the device has the

@@ -215,12 +215,14 @@ impl Thread {
         self.status = Status::Stopped;
     }
 
-    /// Starts the thread on this bus with the program that begins at address `base` of these regions.
-    pub fn start(&mut self, bus: BusWidth, nonsecure: bool, base: u32, regions: &[Region<'_>])
+    /// Starts the thread with the program that begins at address `base` of these regions. The registers keep their
+    /// values.
+    pub fn start(&mut self, nonsecure: bool, base: u32, regions: &[Region<'_>])
         ensures { let program = program_at (pieces_of regions.now) base in
-            self.new ≡ started bus nonsecure base program }
+            self.new ≡ started nonsecure base program self.old }
     {
-        self.channel.load_from(regions, base, Bus::Chip(bus));
+        let registers = self.channel.registers();
+        self.channel.load_from(regions, base, registers);
         self.status = Status::Executing;
         self.fault = 0;
         self.nonsecure = nonsecure;

@@ -19,6 +19,7 @@ use Rattle.dma_chan.specs.declared.bus.Bus.TheVariants.{Ideal}
 use Rattle.dma_chan.specs.Channel.{ChannelValue}
 use Rattle.dma_chan.specs.Changes as chan
 use Rattle.dma_chan.specs.Compiled.{compiled, cost}
+use Rattle.dma_chan.specs.Exec.{start_on}
 use Rattle.dma_chan.specs.Explains.{Explains, HasEvents, IsLoadedWith}
 use Rattle.dma_chan.specs.Others.{Misses}
 use Rattle.dma_chan.specs.Stepping.{Wrote}
@@ -46,7 +47,7 @@ use Rattle.dma_ffi.specs.Codes.{ok_code, transfer_code}
 refused : (fault : TransferFault) → ok_code ≢ transfer_code fault
 refused fault e = grind arith
 
-was_loaded : (refusal : Option TransferFault) (t : Descriptor) (c d : ChannelValue) → LoadsTransfer refusal t c ok_code d → (refusal ≡ None) × IsLoadedWith Ideal (compiled t).bytes d
+was_loaded : (refusal : Option TransferFault) (t : Descriptor) (c d : ChannelValue) → LoadsTransfer refusal t c ok_code d → (refusal ≡ None) × IsLoadedWith (start_on Ideal) (compiled t).bytes d
 was_loaded refusal t c d h1 = grind (arith, append-nil, refused)
 
 -- a fill that isn't refused as a fill isn't refused as a transfer
@@ -54,15 +55,15 @@ fill_made : (src : ℕ) (dst : List Segment) (wait signal : Option ℕ) → src 
 fill_made src dst wait signal small h =
     rw (le-ltb 4294967296 (src + 1) (omega arith), or-false) h
 
-was_read : (program : List ℕ) (regions : List Region) (addr : ℕ) (rest : List ℕ) (c d : ChannelValue) → take most_program_bytes (run_from (pieces_of regions) addr) ≡ program ++ rest → LoadsFrom regions addr c ok_code d → IsLoadedWith Ideal program d
+was_read : (program : List ℕ) (regions : List Region) (addr : ℕ) (rest : List ℕ) (c d : ChannelValue) → take most_program_bytes (run_from (pieces_of regions) addr) ≡ program ++ rest → LoadsFrom regions addr c ok_code d → IsLoadedWith (start_on Ideal) program d
 was_read program regions addr rest c d e (inl bad) = absurd (let f = bad.0 in cc)
 was_read program regions addr rest c d e (inr ok) = (record { bytes = take most_program_bytes (run_from (pieces_of regions) addr); cost = None }, (rest, e), ok.2)
 
-compiled_has_events : (t : Descriptor) → IsTransfer t → HasEvents Ideal (compiled t).bytes t (cost t - 1)
+compiled_has_events : (t : Descriptor) → IsTransfer t → HasEvents (start_on Ideal) (compiled t).bytes t (cost t - 1)
 unfolding compiled cost
-compiled_has_events t h = compiled_events Ideal t h
+compiled_has_events t h = compiled_events (start_on Ideal) t h
 
-has_compiled : (t : Descriptor) (c : ChannelValue) → IsTransfer t → IsLoadedWith Ideal (compiled t).bytes c → HasTransfer t c
+has_compiled : (t : Descriptor) (c : ChannelValue) → IsTransfer t → IsLoadedWith (start_on Ideal) (compiled t).bytes c → HasTransfer t c
 has_compiled t c h l = record { program = record { explains = compiled_explained t h; loaded = l }; events = compiled_has_events t h }
 
 pub loads_a_transfer : LoadsATransfer
@@ -188,7 +189,7 @@ module _ (program : List ℕ) (last_number : ℕ) (t : Descriptor) (count : ℕ)
   abbrev first : List ℕ
   first = memory_of (calls 0).lent
 
-  explains : Explains Ideal program t last_number
+  explains : Explains (start_on Ideal) program t last_number
   explains = run.begins.explains
 
   does : (k : ℕ) → k < count → Took (calls k)
@@ -209,22 +210,22 @@ module _ (program : List ℕ) (last_number : ℕ) (t : Descriptor) (count : ℕ)
   does_it : (k : ℕ) (l : k < count) → chan.DoesCall (the_call k l)
   does_it k l = does_call 0 (calls k) (does k l)
 
-  along : (k : ℕ) → k < count → Runs Ideal program t last_number first (machine_of (calls k).lent)
-  along zero l = at_first Ideal program t last_number first (machine_of (calls 0).lent) (first_below 0 l) run.begins.loaded refl
+  along : (k : ℕ) → k < count → Runs (start_on Ideal) program t last_number first (machine_of (calls k).lent)
+  along zero l = at_first (start_on Ideal) program t last_number first (machine_of (calls 0).lent) (first_below 0 l) run.begins.loaded refl
   along (suc k) l =
       let e : k + 1 ≡ suc k = omega arith in
       let less : k + 1 < count = omega arith in
       let here : k < count = omega arith in
-      let led = leads Ideal program t last_number first explains (first_below k here) (the_call k here) (along k here) (does_it k here) in
+      let led = leads (start_on Ideal) program t last_number first explains (first_below k here) (the_call k here) (along k here) (does_it k here) in
       let some : IsSome (channel_of (calls k).left).program = subst (λ (c : ChannelValue). IsSome c.program) (run.goes_on k less) (does_it (k + 1) less).is_loaded in
-      subst (λ (j : ℕ). Runs Ideal program t last_number first (machine_of (calls j).lent)) e
-      (survived Ideal program t last_number first (machine_of (calls k).left) (machine_of (calls (k + 1)).lent) (goes Ideal program t last_number first (the_call k here).last (machine_of (calls k).left) led some) (run.goes_on k less) (λ a i. run.unchanged k a less i) (below (k + 1) less))
+      subst (λ (j : ℕ). Runs (start_on Ideal) program t last_number first (machine_of (calls j).lent)) e
+      (survived (start_on Ideal) program t last_number first (machine_of (calls k).left) (machine_of (calls (k + 1)).lent) (goes (start_on Ideal) program t last_number first (the_call k here).last (machine_of (calls k).left) led some) (run.goes_on k less) (λ a i. run.unchanged k a less i) (below (k + 1) less))
 
   copied : (k : ℕ) → k < count → HasCopied program last_number t first (calls k)
   copied k l =
       let d = does k l in
       let call = calls k in
-      let all = has_copied Ideal program t last_number first explains (first_below k l) (the_call k l) (along k l) (does_it k l) in
+      let all = has_copied (start_on Ideal) program t last_number first explains (first_below k l) (the_call k l) (along k l) (does_it k l) in
       let said = d.3.reported in
       let pc = d.1.channel.registers.pc in
       record {
@@ -240,7 +241,7 @@ module _ (program : List ℕ) (last_number : ℕ) (t : Descriptor) (count : ℕ)
       }
 
 -- a signal and a wait are the transfer's, if the program's are
-keeps_events : (program : List ℕ) (n : ℕ) (t : Descriptor) (before : List ℕ) (call : StepCall) → HasEvents Ideal program t n → HasCopied program n t before call → KeepsEvents t call
+keeps_events : (program : List ℕ) (n : ℕ) (t : Descriptor) (before : List ℕ) (call : StepCall) → HasEvents (start_on Ideal) program t n → HasCopied program n t before call → KeepsEvents t call
 keeps_events program n t before call has did = record {
   signals = λ e. has.signals call.report.event (channel_of call.left).stored (did.signals e);
   waits = λ e. (has.waits call.report.event (did.waits e)).1;

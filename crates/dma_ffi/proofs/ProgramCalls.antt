@@ -7,20 +7,21 @@ use Rattle.dma_mem.specs.Refusals.{refusal_of}
 use Rattle.dma_mem.specs.declared.transfer.TransferFault.{TransferFault}
 use Rattle.dma_mem.specs.declared.transfer.TransferFault.TheVariants as transfers
 use Rattle.dma_chan.specs.declared.bus.Bus.{Bus}
+use Rattle.dma_chan.specs.declared.exec.Registers.{Registers}
 use Rattle.dma_insn.specs.AssemblyText.{most_program_bytes}
 use Rattle.dma_chan.specs.Explains.{Finds, Refuses}
 use Rattle.dma_chan.specs.declared.explain.Cause.TheVariants.{NoMemory, TooLong}
 use Rattle.dma_chan.specs.declared.explain.Explained.{Explained}
 use Rattle.dma_chan.specs.declared.explain.Happening.{Happening}
 use Rattle.dma_chan.specs.declared.explain.Unexplained.{Unexplained as Refusal}
-use Rattle.dma_chan.specs.Programs.{ProgramValue}
+use Rattle.dma_chan.specs.Channel.{ChannelValue}
 use Rattle.dma_device.specs.Device.{DeviceValue}
-use Rattle.dma_device.specs.Explaining.{FailsFor, FindsFor, bus_of, program_of}
+use Rattle.dma_device.specs.Explaining.{FailsFor, FindsFor, channel_of}
 use Rattle.dma_device.specs.declared.device.explain.ExplainFault.{ExplainFault}
 use Rattle.dma_device.specs.declared.device.explain.ExplainFault.TheVariants.{NoChannel, NoProgram, Unexplained}
 use Rattle.dma_ffi.specs.declared.explaining.DmaHappening.{DmaHappening}
 use Rattle.dma_ffi.specs.Calls.{ReadsOpen}
-use Rattle.dma_ffi.specs.Explaining.{ExplainsChannel, ExplainsOn, ExplainsProgram, Outputs, happening_of}
+use Rattle.dma_ffi.specs.Explaining.{ExplainsChannel, ExplainsFrom, ExplainsProgram, Outputs, happening_of}
 use Rattle.dma_ffi.specs.Programs.{PlansCopy, PlansTransfer}
 use Rattle.dma_ffi.specs.inner.Found.{Answers, AnswersDevice}
 use Rattle.dma_ffi.specs.inner.Plans.{PlansMade}
@@ -36,38 +37,38 @@ set_next (x ∷ xs) (y ∷ ys) (suc i) d q less fits e = ap (λ (l : List DmaHap
 
 -- ---- explanations
 
-module _ (bus : Bus) (program : List ℕ) (most : ℕ) (code : ℤ) (before after : Outputs) where
+module _ (start : Registers) (program : List ℕ) (most : ℕ) (code : ℤ) (before after : Outputs) where
   -- of a program that isn't too long
-  on_bus : (found : Result Explained Refusal) → IfOk found (λ x. Finds bus program most x) → IfErr found (λ u. u.cause ≢ TooLong) → IfErr found (λ u. u.cause ≢ NoMemory → Refuses bus program most u) → Answers found code before after → ExplainsOn bus program most code before after
-  on_bus (Ok x) ok short err h = inl (x, ok, h)
-  on_bus (Err u) ok short err (inl h) = absurd (short h.0)
-  on_bus (Err u) ok short err (inr (inl h)) = inr (inr (h.1, h.2))
-  on_bus (Err u) ok short err (inr (inr h)) = inr (inl (u, err h.1, h.2, h.3))
+  from_start : (found : Result Explained Refusal) → IfOk found (λ x. Finds start program most x) → IfErr found (λ u. u.cause ≢ TooLong) → IfErr found (λ u. u.cause ≢ NoMemory → Refuses start program most u) → Answers found code before after → ExplainsFrom start program most code before after
+  from_start (Ok x) ok short err h = inl (x, ok, h)
+  from_start (Err u) ok short err (inl h) = absurd (short h.0)
+  from_start (Err u) ok short err (inr (inl h)) = inr (inr (h.1, h.2))
+  from_start (Err u) ok short err (inr (inr h)) = inr (inl (u, err h.1, h.2, h.3))
 
   fits : (found : Result Explained Refusal) → (IsErrAnd found (λ u. u.cause ≡ TooLong) ↔ most_program_bytes < length program) → ¬ IsErrAnd found (λ u. u.cause ≡ TooLong) → length program ≤ most_program_bytes
   fits found long none = elim (cases_lt most_program_bytes (length program)) [ inl less ↦ absurd (none (long.1 less)) | inr le ↦ le ]
 
-  here : (found : Result Explained Refusal) → IfOk found (λ x. Finds bus program most x) → IfErr found (λ u. u.cause ≢ NoMemory → u.cause ≢ TooLong → Refuses bus program most u) → (IsErrAnd found (λ u. u.cause ≡ TooLong) ↔ most_program_bytes < length program) → Answers found code before after → ExplainsProgram program (Some bus) most code before after
-  here found h1 h2 h3 h4 = grind (arith, fits, on_bus)
+  here : (found : Result Explained Refusal) → IfOk found (λ x. Finds start program most x) → IfErr found (λ u. u.cause ≢ NoMemory → u.cause ≢ TooLong → Refuses start program most u) → (IsErrAnd found (λ u. u.cause ≡ TooLong) ↔ most_program_bytes < length program) → Answers found code before after → ExplainsProgram program (Some start) most code before after
+  here found h1 h2 h3 h4 = grind (arith, fits, from_start)
 
-  pub explains_program : (given : Option Bus) (found : Result Explained Refusal) → Some bus ≡ given → IfOk found (λ x. Finds bus program most x) → IfErr found (λ u. u.cause ≢ NoMemory → u.cause ≢ TooLong → Refuses bus program most u) → (IsErrAnd found (λ u. u.cause ≡ TooLong) ↔ most_program_bytes < length program) → Answers found code before after → ExplainsProgram program given most code before after
+  pub explains_program : (given : Option Registers) (found : Result Explained Refusal) → Some start ≡ given → IfOk found (λ x. Finds start program most x) → IfErr found (λ u. u.cause ≢ NoMemory → u.cause ≢ TooLong → Refuses start program most u) → (IsErrAnd found (λ u. u.cause ≡ TooLong) ↔ most_program_bytes < length program) → Answers found code before after → ExplainsProgram program given most code before after
   explains_program given found same ok err long h = grind (arith, here)
 
 -- ---- a device's channel
 
--- a program, if there is one, has a property that follows from one that it has
-with_program : (o : Option ProgramValue) (P Q : ProgramValue → Type 0) → ((p : ProgramValue) → P p → Q p) → IsSomeAnd o P → IsSomeAnd o Q
+-- a channel's program, if there is one, has a property that follows from one that it has
+with_program : (o : Option ChannelValue) (P Q : Registers → List ℕ → Type 0) → ((start : Registers) (program : List ℕ) → P start program → Q start program) → IsSomeAnd o (λ c. IsSomeAnd c.program (λ p. P c.registers p.bytes)) → IsSomeAnd o (λ c. IsSomeAnd c.program (λ p. Q c.registers p.bytes))
 with_program o P Q p h1 = grind arith
 
 explains_channel : (d : DeviceValue) (n most : ℕ) (code : ℤ) (before after : Outputs) (found : Result Explained ExplainFault) → IfOk found (λ x. FindsFor d n most x) → IfErr found (λ fault. FailsFor d n most fault) → AnswersDevice found code before after → ExplainsChannel n most d code before after
 explains_channel d n most code before after (Ok x) ok err h =
-    inr (inr (with_program (program_of d n) (λ p. Finds (bus_of d) p.bytes most x) (λ p. ExplainsOn (bus_of d) p.bytes most code before after)
-    (λ p finds. on_bus (bus_of d) p.bytes most code before after (Ok x) finds tt tt h) ok))
+    inr (inr (with_program (channel_of d n) (λ start program. Finds start program most x) (λ start program. ExplainsFrom start program most code before after)
+    (λ start program finds. from_start start program most code before after (Ok x) finds tt tt h) ok))
 explains_channel d n most code before after (Err NoChannel) ok err h = inl (h.0, err, h.1)
 explains_channel d n most code before after (Err NoProgram) ok err h = inr (inl (h.0, err.0, err.1, h.1))
 explains_channel d n most code before after (Err (Unexplained u)) ok err h =
-    inr (inr (with_program (program_of d n) (λ p. (u.cause ≢ TooLong) × (u.cause ≢ NoMemory → Refuses (bus_of d) p.bytes most u)) (λ p. ExplainsOn (bus_of d) p.bytes most code before after)
-    (λ p fails. on_bus (bus_of d) p.bytes most code before after (Err u) tt fails.0 fails.1 h) err))
+    inr (inr (with_program (channel_of d n) (λ start program. (u.cause ≢ TooLong) × (u.cause ≢ NoMemory → Refuses start program most u)) (λ start program. ExplainsFrom start program most code before after)
+    (λ start program fails. from_start start program most code before after (Err u) tt fails.0 fails.1 h) err))
 
 pub explains_on_device : (old new : Option DeviceValue) (d : DeviceValue) (n most : ℕ) (code : ℤ) (before after : Outputs) (found : Result Explained ExplainFault) → Some d ≡ old → new ≡ Some d → IfOk found (λ x. FindsFor d n most x) → IfErr found (λ fault. FailsFor d n most fault) → AnswersDevice found code before after → ReadsOpen (ExplainsChannel n most) old code before after new
 explains_on_device old new d n most code before after found was is ok err h = grind (arith, explains_channel)

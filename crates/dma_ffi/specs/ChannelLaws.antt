@@ -12,6 +12,7 @@ use Rattle.dma_chan.specs.declared.bus.Bus.TheVariants.{Ideal}
 use Rattle.dma_chan.specs.Changes.{Call, DoesCall, HasFirst, bytes_in}
 use Rattle.dma_chan.specs.Channel.{ChannelValue, unloaded}
 use Rattle.dma_chan.specs.Compiled.{compiled, cost}
+use Rattle.dma_chan.specs.Exec.{start_on}
 use Rattle.dma_chan.specs.Explains.{Explains, HasEvents, IsLoadedWith, IsSignal, IsWait}
 use Rattle.dma_chan.specs.LentRegions.{HaveAll}
 use Rattle.dma_chan.specs.Others.{Misses, Touches}
@@ -27,14 +28,14 @@ use Rattle.dma_ffi.specs.Codes.{ok_code}
 -- A channel into which a program was just loaded that begins with this one, which a transfer explains with n
 -- instructions before DMAEND.
 pub record HasProgram (program : List ℕ) (n : ℕ) (t : Descriptor) (c : ChannelValue) : Type 0 where
-  pub explains : Explains Ideal program t n
-  pub loaded : IsLoadedWith Ideal program c
+  pub explains : Explains (start_on Ideal) program t n
+  pub loaded : IsLoadedWith (start_on Ideal) program c
 
 -- A channel into which the program of a transfer was just loaded. The transfer explains it, and it has the transfer's
 -- events.
 pub record HasTransfer (t : Descriptor) (c : ChannelValue) : Type 0 where
   pub program : HasProgram (compiled t).bytes (cost t - 1) t c
-  pub events : HasEvents Ideal (compiled t).bytes t (cost t - 1)
+  pub events : HasEvents (start_on Ideal) (compiled t).bytes t (cost t - 1)
 
 -- A load that returns `ok_code` gives the channel a program that a transfer explains: a load of a copy; of a fill whose
 -- byte has a 32-bit address; or from memory, if the bytes that it reads begin with a program that the transfer explains.
@@ -44,7 +45,7 @@ pub record LoadsATransfer : Type 0 where
   pub fill : (src : ℕ) (dst : List Segment) (wait signal : Option ℕ) (c d : ChannelValue) → src < end_of_addresses →
       LoadsFill src dst wait signal c ok_code d → HasTransfer (filling src dst wait signal) d
   pub from : (program : List ℕ) (t : Descriptor) (n : ℕ) (regions : List Region) (addr : ℕ) (rest : List ℕ)
-      (c d : ChannelValue) → Explains Ideal program t n →
+      (c d : ChannelValue) → Explains (start_on Ideal) program t n →
       take most_program_bytes (run_from (pieces_of regions) addr) ≡ program ++ rest →
       LoadsFrom regions addr c ok_code d → HasProgram program n t d
 
@@ -143,9 +144,9 @@ pub record HasCopied (program : List ℕ) (n : ℕ) (t : Descriptor) (first : Li
   pub bytes : HasFirst t (channel_of call.left).stored (bytes_in first) (bytes_in (memory_of call.left))
   pub writes : (a : ℕ) → LiesIn call.report.written a → Contains (destinations t) a
   pub signals : call.report.turn ≡ signalled_turn →
-      IsSignal Ideal program n call.report.event (channel_of call.left).stored
+      IsSignal (start_on Ideal) program n call.report.event (channel_of call.left).stored
   pub ends : call.report.turn ≡ ended_turn → (channel_of call.left).stored ≡ size_of t
-  pub waits : call.report.turn ≡ waiting_turn → IsWait Ideal program n call.report.event
+  pub waits : call.report.turn ≡ waiting_turn → IsWait (start_on Ideal) program n call.report.event
   pub never_fails : Misses (marked_of call.lent.channel).marks t → call.report.turn ≢ fault_turn
 
 -- The result of such a call besides, if the program has the transfer's events, as a compiled one has: a signal is the
@@ -161,5 +162,5 @@ pub record StepsCopy : Type 0 where
       StepsSinceLoad program n t count calls → (k : ℕ) → k < count →
       HasCopied program n t (memory_of (calls 0).lent) (calls k)
   pub events : (program : List ℕ) (n : ℕ) (t : Descriptor) (count : ℕ) (calls : ℕ → StepCall) →
-      StepsSinceLoad program n t count calls → HasEvents Ideal program t n → (k : ℕ) → k < count →
+      StepsSinceLoad program n t count calls → HasEvents (start_on Ideal) program t n → (k : ℕ) → k < count →
       KeepsEvents t (calls k)

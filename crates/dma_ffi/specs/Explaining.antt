@@ -1,11 +1,15 @@
 -- What the calls return and write that explain a program.
-use Rattle.std.specs.Prelude.{◌≡◌, ℕ, ◌<◌, ◌≤◌, ◌⊎◌, ◌==◌, ◌&&◌, Bool, nat_le, if◌then◌else◌, ℤ, Option, None, Some, IsSomeAnd, List, ◌++◌, length, drop, map}
+use Rattle.std.specs.Prelude.{◌≡◌, ℕ, ◌<◌, ◌≤◌, ◌⊎◌, ◌==◌, ◌&&◌, Bool, nat_le, if◌then◌else◌, ℤ, Option, None, Some, List, ◌++◌, length, drop, map}
+use Rattle.std.specs.Option.{option_map}
 use Rattle.dma_mem.specs.declared.segment.Segment.{Segment}
 use Rattle.dma_insn.specs.AssemblyText.{most_program_bytes}
 use Rattle.dma_chan.specs.Explains.{Finds, Refuses}
 use Rattle.dma_chan.specs.declared.bus.Bus.{Bus}
 use Rattle.dma_chan.specs.declared.bus.Bus.TheVariants.{Chip, Ideal}
 use Rattle.dma_chan.specs.declared.bus.BusWidth.{BusWidth}
+use Rattle.dma_chan.specs.declared.exec.Registers.{Registers}
+use Rattle.dma_chan.specs.Bus.{accepts}
+use Rattle.dma_chan.specs.Exec.{start_on}
 use Rattle.dma_chan.specs.declared.explain.Cause.{Cause}
 use Rattle.dma_chan.specs.declared.explain.Cause.TheVariants.{TooLong, Fails, LoadsPast, StoresPast, StoresFixed, DropsBytes, BytesLeft, StoresTwice, StoresSource, NoEnd, NoMemory, StoresZeros}
 use Rattle.dma_chan.specs.declared.explain.Explained.{Explained}
@@ -15,7 +19,8 @@ use Rattle.dma_chan.specs.declared.explain.Sync.{Sync}
 use Rattle.dma_chan.specs.declared.explain.Sync.TheVariants.{Waits, Signals}
 use Rattle.dma_chan.specs.declared.explain.Unexplained.{Unexplained}
 use Rattle.dma_device.specs.Device.{DeviceValue}
-use Rattle.dma_device.specs.Explaining.{bus_of as device_bus, program_of}
+use Rattle.dma_device.specs.Explaining.{IsLoadedAnd, program_of}
+use Rattle.dma_ffi.specs.declared.channel_calls.ChannelRegisters.{ChannelRegisters}
 use Rattle.dma_ffi.specs.declared.explaining.DmaHappening.{DmaHappening}
 use Rattle.dma_ffi.specs.declared.explaining.Explanation.{Explanation}
 use Rattle.dma_ffi.specs.Codes.{bad_config, buffer_too_small, kind_number, no_channel, no_memory, no_program, ok_code, program_too_long, unexplained}
@@ -31,6 +36,18 @@ chip (Some width) = Some (Chip width)
 -- the ideal bus for 0, else a chip's bus of this many bits, if any
 abbrev pub any_bus : ℕ → Option Bus
 any_bus bits = if bits == 0 then Some Ideal else chip (bus_of bits)
+
+-- registers that are all 0, on a bus, if there is one
+abbrev pub zeros_on : Option Bus → Option Registers
+zeros_on bus = option_map start_on bus
+
+-- SAR, DAR, CCR and the loop counters as given by C, on a bus, if there is one and it accepts CCR
+abbrev pub given_on : ChannelRegisters → Option Bus → Option Registers
+given_on c None = None
+given_on c (Some bus) =
+    if accepts bus c.ccr then
+    Some (record { pc = 0; sar = c.sar; dar = c.dar; ccr = c.ccr; lc0 = c.lc0; lc1 = c.lc1; bus = bus })
+    else None
 
 -- The number of a cause; a fault's is the one that it has elsewhere. A program that is too long, and out of memory, have
 -- codes and no number.
@@ -123,27 +140,27 @@ with_cause u before = record before { explanation = unexplained_of u }
 
 -- ---- calls
 
--- What a call returns and writes that explains a program of at most 8,192 bytes on a bus, with at most this number of
--- instructions. It writes a copy that explains the program (`Finds`); or returns `unexplained` and writes why no copy
+-- What a call returns and writes that explains a program of at most 8,192 bytes that begins with these registers, with
+-- at most this number of instructions. It writes a copy that explains the program (`Finds`); or returns `unexplained` and writes why no copy
 -- does, and where (`Refuses`); or returns `no_memory` and writes nothing.
-abbrev pub ExplainsOn : Bus → List ℕ → ℕ → ℤ → Outputs → Outputs → Type 0
-ExplainsOn bus program most code before after =
-    ((x : Explained) × Finds bus program most x × WritesFound x code before after)
-    ⊎ (((u : Unexplained) × Refuses bus program most u × (code ≡ unexplained) × (after ≡ with_cause u before))
+abbrev pub ExplainsFrom : Registers → List ℕ → ℕ → ℤ → Outputs → Outputs → Type 0
+ExplainsFrom start program most code before after =
+    ((x : Explained) × Finds start program most x × WritesFound x code before after)
+    ⊎ (((u : Unexplained) × Refuses start program most u × (code ≡ unexplained) × (after ≡ with_cause u before))
     ⊎ ((code ≡ no_memory) × (after ≡ before)))
 
--- The same of any program, for a bus, if there is one. Else the call returns `bad_config`, and then `program_too_long`
+-- The same of any program, from registers that C gives, if a channel can have them. Else the call returns `bad_config`, and then `program_too_long`
 -- exactly above 8,192 bytes. In both cases it writes nothing.
-abbrev pub ExplainsProgram : List ℕ → Option Bus → ℕ → ℤ → Outputs → Outputs → Type 0
+abbrev pub ExplainsProgram : List ℕ → Option Registers → ℕ → ℤ → Outputs → Outputs → Type 0
 ExplainsProgram program None most code before after = (code ≡ bad_config) × (after ≡ before)
-ExplainsProgram program (Some bus) most code before after =
+ExplainsProgram program (Some start) most code before after =
     ((code ≡ program_too_long) × (most_program_bytes < length program) × (after ≡ before))
-    ⊎ ((length program ≤ most_program_bytes) × ExplainsOn bus program most code before after)
+    ⊎ ((length program ≤ most_program_bytes) × ExplainsFrom start program most code before after)
 
--- What a call returns and writes that explains the program of channel `n` of a device, on the device's bus. If the device
--- doesn't have the channel, or the channel no program, it returns the code for that and writes nothing.
+-- What a call returns and writes that explains the program of channel `n` of a device, begun with the registers that the
+-- channel has. If the device doesn't have the channel, or the channel no program, it returns the code for that and writes nothing.
 abbrev pub ExplainsChannel : ℕ → ℕ → DeviceValue → ℤ → Outputs → Outputs → Type 0
 ExplainsChannel n most d code before after =
     ((code ≡ no_channel) × (length d.threads ≤ n) × (after ≡ before))
     ⊎ (((code ≡ no_program) × (n < length d.threads) × (program_of d n ≡ None) × (after ≡ before))
-    ⊎ IsSomeAnd (program_of d n) (λ p. ExplainsOn (device_bus d) p.bytes most code before after))
+    ⊎ IsLoadedAnd d n (λ start program. ExplainsFrom start program most code before after))

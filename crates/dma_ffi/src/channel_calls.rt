@@ -19,6 +19,7 @@ use crate::marked_channel::MarkedChannel;
 use dma_chan::bus::Bus;
 use dma_chan::channel::Channel;
 use dma_chan::compile::compile;
+use dma_chan::exec::Registers;
 use dma_chan::program::MAX_PROGRAM_BYTES;
 use dma_mem::marks::Marks;
 use dma_mem::regions::{Region, are_in_order};
@@ -149,7 +150,9 @@ pub extern "C" fn dma330_channel_load_program(kept: &mut KeptChannel, program: &
     if program.len() > MAX_PROGRAM_BYTES {
         return PROGRAM_TOO_LONG;
     }
-    marked.channel.load_bytes(program, Bus::Ideal);
+    marked
+        .channel
+        .load_bytes(program, Registers::start(Bus::Ideal));
     OK
 }
 
@@ -177,7 +180,9 @@ pub extern "C" fn dma330_channel_load_from(
     if !are_usable(regions) {
         return BAD_REGIONS;
     }
-    marked.channel.load_from(regions, addr, Bus::Ideal);
+    marked
+        .channel
+        .load_from(regions, addr, Registers::start(Bus::Ideal));
     OK
 }
 

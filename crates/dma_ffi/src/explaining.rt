@@ -2,17 +2,20 @@
 
 ghost use Rattle.std.specs.Prelude.{◌≡◌, ◌≤◌, ◌++◌, length, drop, map};
 ghost use Rattle.dma_ffi.specs.Calls.{ReadsOpen};
-ghost use Rattle.dma_ffi.specs.Explaining.{ExplainsChannel, ExplainsProgram, WritesLists, any_bus, cause_number, explanation_of, happening_of, unexplained_of};
+ghost use Rattle.dma_ffi.specs.Explaining.{ExplainsChannel, ExplainsProgram, WritesLists, any_bus, cause_number, explanation_of, given_on, happening_of, unexplained_of, zeros_on};
 ghost use Rattle.dma_ffi.specs.inner.Found.{Answers, AnswersDevice};
 
+use crate::channel_calls::ChannelRegisters;
 use crate::codes::{
     BAD_CONFIG, BUFFER_TOO_SMALL, NO_CHANNEL, NO_MEMORY, NO_PROGRAM, NOT_OPEN, OK,
     PROGRAM_TOO_LONG, UNEXPLAINED, number_of_kind,
 };
 use crate::device_config::any_bus;
 use crate::kept_device::KeptDevice;
+use dma_chan::exec::Registers;
 use dma_chan::explain::{Cause, Explained, Happening, Repeated, Sync, Unexplained, explain};
 use dma_device::device::explain::ExplainFault;
+use dma_insn::control::ControlWord;
 use dma_mem::segment::Segment;
 use std::alloc::Global;
 
@@ -111,6 +114,30 @@ fn unexplained_of(why: Unexplained) -> Explanation
         pc: why.pc,
         cause: number_of_cause(why.cause),
     }
+}
+
+// ---- registers
+
+// Returns registers as given by C, on a bus, or `None` if no bus has this number or the bus doesn't accept CCR.
+fn given_on(given: &ChannelRegisters, bus: u32) -> Option<Registers>
+    ensures { result ≡ given_on given.now (any_bus bus) }
+{
+    let bus = any_bus(bus)?;
+    let Ok(ccr) = ControlWord::from_bits(given.ccr) else {
+        return None;
+    };
+    if !bus.fits(given.ccr) {
+        return None;
+    }
+    Some(Registers {
+        pc: 0,
+        sar: given.sar,
+        dar: given.dar,
+        ccr,
+        lc0: given.lc0,
+        lc1: given.lc1,
+        bus,
+    })
 }
 
 // ---- lists
@@ -226,7 +253,8 @@ fn answer_device(
 
 // ---- calls
 
-/// Explains a program by one run without memory, for at most `most` instructions, on the ideal bus or a chip's. Writes
+/// Explains a program that begins with registers that are 0 by one run without memory, for at most `most` instructions,
+/// on the ideal bus or a chip's. Writes
 /// what it reads, what it writes and its happenings to the fronts of the lists, in the order of the run, and their
 /// numbers, the number of bytes and of instructions to `explanation`. If no copy explains the program, it returns
 /// `UNEXPLAINED`, and `explanation` has the cause and the place. If a list is too small, no list changes, and
@@ -243,7 +271,7 @@ pub extern "C" fn dma330_explain(
     happenings: &mut [DmaHappening],
     explanation: &mut Explanation,
 ) -> i32
-    ensures { ExplainsProgram program.now (any_bus bus) most result
+    ensures { ExplainsProgram program.now (zeros_on (any_bus bus)) most result
         (record {
           src = src.old;
           dst = dst.old;
@@ -260,12 +288,48 @@ pub extern "C" fn dma330_explain(
     let Some(bus) = any_bus(bus) else {
         return BAD_CONFIG;
     };
-    let found = explain(alloc, bus, program, most);
+    let found = explain(alloc, Registers::start(bus), program, most);
     answer(found, src, dst, happenings, explanation)
 }
 
-/// Explains the program of a channel on the device's bus, as [`dma330_explain`] does: from its first instruction on,
-/// wherever the channel is in it. Fails too if the device doesn't have the channel, or the channel has no program; then
+/// Explains a program like [`dma330_explain`], but one that begins with the given SAR, DAR, CCR and loop counters. What
+/// else `start` has doesn't matter. Fails too if the bus doesn't accept CCR, with the same code as if no bus has this
+/// number.
+#[unsafe(no_mangle)]
+pub extern "C" fn dma330_explain_from(
+    alloc: Global,
+    program: &[u8],
+    bus: u32,
+    start: &ChannelRegisters,
+    most: u32,
+    src: &mut [Repeated],
+    dst: &mut [Segment],
+    happenings: &mut [DmaHappening],
+    explanation: &mut Explanation,
+) -> i32
+    ensures { ExplainsProgram program.now (given_on start.now (any_bus bus)) most result
+        (record {
+          src = src.old;
+          dst = dst.old;
+          happenings = happenings.old;
+          explanation = explanation.old;
+        })
+        (record {
+          src = src.new;
+          dst = dst.new;
+          happenings = happenings.new;
+          explanation = explanation.new;
+        }) }
+{
+    let Some(start) = given_on(start, bus) else {
+        return BAD_CONFIG;
+    };
+    let found = explain(alloc, start, program, most);
+    answer(found, src, dst, happenings, explanation)
+}
+
+/// Explains the program of a channel as [`dma330_explain_from`] does on the device's bus: from its first instruction on,
+/// with the registers that the channel has. Fails too if the device doesn't have the channel, or the channel has no program; then
 /// nothing is written.
 #[unsafe(no_mangle)]
 pub extern "C" fn dma330_device_explain(

@@ -5,8 +5,9 @@ use Rattle.std.proofs.Math.Seq.{take-append_seam, drop-append_seam, drop-drop}
 use Rattle.std.proofs.lemmas.Bool.{cases_lt, cond_both, ltb-false}
 use Rattle.std.proofs.lemmas.List.{drop_all, length-drop, length-map, length-replicate}
 use Rattle.dma_insn.specs.declared.chip.ChipInsn.{ChipInsn}
-use Rattle.dma_insn.specs.declared.chip.ChipInsn.TheVariants.{Mov, Ld, St, End, LpEnd, Wfe, StoreZeros, LoopAgain}
-use Rattle.dma_insn.specs.declared.insn.Reg.TheVariants.{Ccr}
+use Rattle.dma_insn.specs.declared.chip.ChipInsn.TheVariants.{Mov, Ld, St, End, LpEnd, Wfe, StoreZeros, AddHalfword, LoopAgain}
+use Rattle.dma_insn.specs.declared.chip.Address.TheVariants.{Destination}
+use Rattle.dma_insn.specs.declared.insn.Reg.TheVariants.{Ccr, Dar}
 use Rattle.dma_mem.specs.Marking.{MarkList}
 use Rattle.dma_mem.specs.Regions.{Piece, bytes_above, end_of, image_of, in_order, piece_of, pieces_of, rises_from}
 use Rattle.dma_mem.specs.declared.marks.MarkKind.TheVariants.{Reading, Writing}
@@ -16,10 +17,10 @@ use Rattle.dma_chan.specs.declared.turn.ChanTurn.{ChanTurn}
 use Rattle.dma_chan.specs.declared.turn.ChanTurn.TheVariants.{Moved, Waiting, Ended, Fault}
 use Rattle.dma_chan.specs.declared.turn.FaultKind.{FaultKind}
 use Rattle.dma_chan.specs.declared.exec.Registers.{Registers}
-use Rattle.dma_chan.specs.Bursts.{burst_len, reaches, touched}
+use Rattle.dma_chan.specs.Bursts.{burst_len, drops, reaches, touched}
 use Rattle.dma_chan.specs.Bus.{accepts}
 use Rattle.dma_chan.specs.Channel.{ChannelValue, after_turn, ahead_of, code_of, last_count, state_of, step_of, stored_by}
-use Rattle.dma_chan.specs.Exec.{State, act, buffer_size, counter_of, destination_of, exec_fetched, moved, read_at, source_of}
+use Rattle.dma_chan.specs.Exec.{State, act, buffer_size, counter_of, destination_of, exec_fetched, moved, moves_keeping, read_at, source_of}
 use Rattle.dma_chan.specs.LentRegions.{segment_of}
 use Rattle.dma_insn.specs.Chip.{spelling}
 use Rattle.dma_chan.specs.declared.bus.Bus.{Bus}
@@ -29,7 +30,7 @@ use Rattle.dma_chan.proofs.NextFits.{next_fits}
 use Rattle.dma_chan.proofs.StepsTaken.{steps_few, steps_stop}
 use Rattle.dma_chan.specs.Stepping.{Machine, TakesSteps, after_step, after_steps, answer_at, goes_on_after}
 use Rattle.dma_trace.specs.declared.front.Front.{Front}
-use Rattle.dma_trace.specs.Front.{held_after, registers_of}
+use Rattle.dma_trace.specs.Front.{held_after, held_kept, registers_of}
 use Rattle.dma_trace.specs.Traced.{front_in, pieces_in}
 use Rattle.dma_trace.proofs.Fronts.{front_same, loads_long}
 
@@ -74,10 +75,26 @@ by_test P b x y e f g = cond_both {A = ChanTurn × State} b x y (λ z. z.0 ≡ M
 not_fault : (kind : FaultKind) (X : Type 0) → Fault kind ≡ Moved → X
 not_fault kind X e = absurd (cc)
 
+-- the buffer after an instruction that changes the next store
+length_kept : (b : Bool) (buffer : List ℕ) → length (cond b [] buffer) ≡ cond b 0 (length buffer)
+length_kept true buffer = refl
+length_kept false buffer = refl
+
+keeps : (i : ChipInsn) (s : State) → held_after i s.registers (length s.buffer) ≡ held_kept i s.registers (length s.buffer) → length s.buffer ≤ 256 → Acts i s (moves_keeping (moved i s.registers) s).1
+keeps i s held r =
+    let b = drops s.registers.bus (destination_of s.registers) (destination_of (moved i s.registers)) in
+    record {
+      registers = refl;
+      more = length_kept b s.buffer ∙ sym held;
+      room = cond_both b [] s.buffer (λ (xs : List ℕ). length xs ≤ 256) (λ _. omega arith) (λ _. r);
+    }
+
 act_moved : (marks : MarkList) (i : ChipInsn) (s : State) → (act marks i s).0 ≡ Moved → length s.buffer ≤ 256 → Acts i s (act marks i s).1
+act_moved marks (Mov Dar v) s e r = keeps (Mov Dar v) s refl r
+act_moved marks (AddHalfword Destination half negative) s e r = keeps (AddHalfword Destination half negative) s refl r
 act_moved marks (Mov Ccr v) s e r =
     by_test (Acts (Mov Ccr v) s) (accepts s.registers.bus v) _ _ e
-    (λ t m. record { registers = refl; more = refl; room = r })
+    (λ t m. keeps (Mov Ccr v) s refl r)
     (λ t m. not_fault _ _ m)
 act_moved marks Ld s e r =
     let b = source_of s.registers in

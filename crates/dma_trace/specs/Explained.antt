@@ -10,6 +10,7 @@ use Rattle.dma_chan.specs.declared.explain.Repeated.{Repeated}
 use Rattle.dma_chan.specs.declared.explain.Sync.{Sync}
 use Rattle.dma_chan.specs.declared.explain.Sync.TheVariants.{Waits, Signals}
 use Rattle.dma_chan.specs.declared.explain.Unexplained.{Unexplained}
+use Rattle.dma_chan.specs.Exec.{start_on}
 use Rattle.dma_chan.specs.Explains.{Finds, Refuses, bursts_in, next_in, traced}
 use Rattle.dma_trace.specs.Front.{front_at}
 use Rattle.dma_trace.specs.Touches.{conflict_text, touches_in}
@@ -50,7 +51,7 @@ explained_text x =
 -- why no copy explains a program on a bus, where, the registers there, and how many bytes were stored before
 abbrev pub unexplained_text : Bus → List ℕ → Unexplained → List ℕ
 unexplained_text bus program u =
-    let x = traced bus program u.steps in
+    let x = traced (start_on bus) program u.steps in
     let first = slice_get program x.registers.pc in
     let next = next_in program x in
     let touches = touches_in bus program u.addr u.steps in
@@ -60,14 +61,14 @@ unexplained_text bus program u =
 -- `explain` prints what it finds of a program on a bus with a limit of instructions, with the counts of its bursts.
 pub record PrintsCopy (bus : Bus) (program : List ℕ) (most : ℕ) (printed : List ℕ) : Type 0 where
   pub explained : Explained
-  pub finds : Finds bus program most explained
-  pub bursts : explained.bursts ≡ bursts_in bus program (explained.steps - 1)
+  pub finds : Finds (start_on bus) program most explained
+  pub bursts : explained.bursts ≡ bursts_in (start_on bus) program (explained.steps - 1)
   pub text : printed ≡ explained_text explained
 
 -- It prints why and where there is no copy.
 pub record PrintsCause (bus : Bus) (program : List ℕ) (most : ℕ) (printed : List ℕ) : Type 0 where
   pub unexplained : Unexplained
-  pub refuses : Refuses bus program most unexplained
+  pub refuses : Refuses (start_on bus) program most unexplained
   pub text : printed ≡ unexplained_text bus program unexplained
 
 -- What `explain` prints if it succeeds or fails: a copy, or that the program is too long, or else a cause.

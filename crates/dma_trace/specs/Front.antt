@@ -1,11 +1,13 @@
 -- The registers of a channel with the number of bytes in its buffer.
 use Rattle.std.specs.Prelude.{ℕ, ◌+◌, ◌-◌, if◌then◌else◌}
 use Rattle.dma_insn.specs.declared.chip.ChipInsn.{ChipInsn}
-use Rattle.dma_insn.specs.declared.chip.ChipInsn.TheVariants.{Ld, St}
+use Rattle.dma_insn.specs.declared.chip.ChipInsn.TheVariants.{Mov, Ld, St, AddHalfword}
+use Rattle.dma_insn.specs.declared.chip.Address.TheVariants.{Destination}
+use Rattle.dma_insn.specs.declared.insn.Reg.TheVariants.{Ccr, Dar}
 use Rattle.dma_chan.specs.declared.bursts.Burst.{Burst}
 use Rattle.dma_chan.specs.declared.exec.Registers.{Registers}
-use Rattle.dma_chan.specs.Bursts.{advance, burst_len, span_of}
-use Rattle.dma_chan.specs.Exec.{destination_of, source_of}
+use Rattle.dma_chan.specs.Bursts.{advance, burst_len, drops, span_of}
+use Rattle.dma_chan.specs.Exec.{destination_of, moved, source_of}
 use Rattle.dma_chan.specs.Explains.{Trace, held}
 use Rattle.dma_trace.specs.declared.front.Front.{Front}
 use Rattle.dma_trace.specs.declared.front.Span.{Span}
@@ -24,10 +26,17 @@ registers_of f =
 abbrev pub front_at : Trace → Front
 front_at x = front_of x.registers (held x)
 
+-- how many bytes are in the buffer after an instruction that changes the next store, if n were in it before
+abbrev pub held_kept : ChipInsn → Registers → ℕ → ℕ
+held_kept i r n = if drops r.bus (destination_of r) (destination_of (moved i r)) then 0 else n
+
 -- how many bytes are in the buffer after an instruction, if n were in it before
 abbrev pub held_after : ChipInsn → Registers → ℕ → ℕ
 held_after Ld r n = n + burst_len (source_of r)
 held_after St r n = n - burst_len (destination_of r)
+held_after (Mov Dar v) r n = held_kept (Mov Dar v) r n
+held_after (Mov Ccr v) r n = held_kept (Mov Ccr v) r n
+held_after (AddHalfword Destination half negative) r n = held_kept (AddHalfword Destination half negative) r n
 held_after i r n = n
 
 -- the addresses of a burst, how often it touches each of them, and how far it moves its address

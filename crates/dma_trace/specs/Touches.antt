@@ -8,7 +8,7 @@ use Rattle.dma_chan.specs.declared.bus.Bus.{Bus}
 use Rattle.dma_chan.specs.declared.explain.Cause.{Cause}
 use Rattle.dma_chan.specs.declared.explain.Cause.TheVariants.{StoresTwice, StoresSource}
 use Rattle.dma_chan.specs.declared.turn.FaultKind.{FaultKind}
-use Rattle.dma_chan.specs.Exec.{destination_of, source_of}
+use Rattle.dma_chan.specs.Exec.{destination_of, source_of, start_on}
 use Rattle.dma_chan.specs.Explains.{next_in, traced}
 use Rattle.dma_trace.specs.declared.front.Front.{Front}
 use Rattle.dma_trace.specs.declared.front.Span.{Span}
@@ -54,7 +54,7 @@ after_next (Err kind) a n f t = t
 abbrev pub touches_in : Bus → List ℕ → ℕ → ℕ → Touches
 touches_in bus program a zero = untouched
 touches_in bus program a (suc n) =
-    let x = traced bus program n in after_next (next_in program x) a (n + 1) (front_at x) (touches_in bus program a n)
+    let x = traced (start_on bus) program n in after_next (next_in program x) a (n + 1) (front_at x) (touches_in bus program a n)
 
 -- ---- text
 

@@ -3,6 +3,7 @@
 
 ghost use Rattle.std.specs.Prelude.{◌≡◌, ◌<◌, ◌≤◌, ◌++◌, ℕ, OnOk, OnErr, IfOk, flat_map, length};
 ghost use Rattle.dma_insn.specs.AssemblyText.{most_program_bytes};
+ghost use Rattle.dma_chan.specs.Exec.{start_on};
 ghost use Rattle.dma_chan.specs.Explains.{GoesOn, next_in, traced};
 ghost use Rattle.dma_chan.specs.Next.{next_on};
 ghost use Rattle.dma_text.specs.Text.{Begins};
@@ -16,6 +17,7 @@ use crate::progress::report;
 use crate::touches::{Conflict, Touches};
 use crate::words::{LongProgram, Place, Point, State, Why, first_byte};
 use dma_chan::bus::Bus;
+use dma_chan::exec::Registers;
 use dma_chan::explain as runs;
 use dma_chan::explain::{BurstCounts, Cause, Explained, Happening, Repeated, Sync, Unexplained};
 use dma_chan::turn::FaultKind;
@@ -194,9 +196,9 @@ fn reached<P: Progress>(
     progress: &mut P,
 ) -> (Front, Touches)
     requires long { length program.now ≤ most_program_bytes }
-    requires goes { (k : ℕ) → k < steps → let x = traced bus program.now k in
+    requires goes { (k : ℕ) → k < steps → let x = traced (start_on bus) program.now k in
         GoesOn (next_in program.now x) x }
-    ensures front { result.0 ≡ front_at (traced bus program.now steps) }
+    ensures front { result.0 ≡ front_at (traced (start_on bus) program.now steps) }
     ensures touches { result.1 ≡ touches_in bus program.now addr steps }
 {
     let mut front = Front::start(bus);
@@ -221,7 +223,7 @@ fn print_cause<P: Progress>(
     progress: &mut P,
 ) -> Result<(), AllocError>
     requires long { length program.now ≤ most_program_bytes }
-    requires goes { (k : ℕ) → k < found.steps → let x = traced bus program.now k in
+    requires goes { (k : ℕ) → k < found.steps → let x = traced (start_on bus) program.now k in
         GoesOn (next_in program.now x) x }
     ensures ok { OnOk result
         (err.new.items ≡ err.old.items ++ unexplained_text bus program.now found) }
@@ -270,7 +272,7 @@ pub fn explain<P: Progress>(
     ensures out { OnErr result (out.new.items ≡ out.old.items) }
     ensures err { OnErr result (err.new.items ≡ err.old.items) }
 {
-    match runs::explain(alloc, bus, program, most) {
+    match runs::explain(alloc, Registers::start(bus), program, most) {
         Ok(explained) => {
             print(out, &Copies(&explained))?;
             Ok(true)

@@ -1,10 +1,10 @@
 //! The registers of a channel between two of its instructions.
 
-ghost use Rattle.std.specs.Prelude.{◌≡◌, ◌+◌, ◌-◌, ◌*◌, ◌≤◌, length};
+ghost use Rattle.std.specs.Prelude.{◌≡◌, ◌+◌, ◌-◌, ◌*◌, ◌≤◌, if◌then◌else◌, length};
 ghost use Rattle.dma_insn.specs.AssemblyText.{most_program_bytes};
 ghost use Rattle.dma_insn.specs.Chip.{spelling};
 ghost use Rattle.dma_insn.specs.declared.chip.ChipInsn.TheVariants.{Ld, Lp, LpEnd, Mov, St, StoreZeros, AddHalfword};
-ghost use Rattle.dma_chan.specs.Bursts.{burst_at, burst_len};
+ghost use Rattle.dma_chan.specs.Bursts.{burst_at, burst_len, drops};
 ghost use Rattle.dma_chan.specs.Exec.{buffer_size, counter_of, destination_of, moved, source_of, start_on, with_counter};
 ghost use Rattle.dma_trace.specs.Touches.{has_addr};
 ghost use Rattle.dma_trace.specs.Front.{front_of, held_after, registers_of, span_at};
@@ -178,18 +178,34 @@ impl Front {
         }
     }
 
+    // Drops the bytes in the buffer if a channel does after a DMAMOV, DMAADDH or DMAADNH that began at this front.
+    #[tactic(auto, unfolding(dma_chan::specs::Bursts::burst_at))]
+    fn keep(&mut self, old: Front)
+        ensures registers { registers_of self.new ≡ registers_of self.old }
+        ensures held { self.new.held
+            ≡ (if drops old.bus (destination_of (registers_of old))
+            (destination_of (registers_of self.old)) then 0 else self.old.held) }
+    {
+        if old.bus.drops(old.dar, old.ccr, self.dar, self.ccr) {
+            self.held = 0;
+        }
+    }
+
     // Executes DMAMOV.
     fn set(&mut self, reg: Reg, value: u32)
         requires { self.old.pc + 6 ≤ most_program_bytes }
         ensures registers { registers_of self.new ≡ moved (Mov reg value) (registers_of self.old) }
-        ensures held { self.new.held ≡ self.old.held }
+        ensures held { self.new.held
+            ≡ held_after (Mov reg value) (registers_of self.old) self.old.held }
     {
+        let old = *self;
         match reg {
             Reg::Sar => self.sar = value,
             Reg::Dar => self.dar = value,
             Reg::Ccr => self.ccr = value,
         }
         self.pc += 6;
+        self.keep(old);
     }
 
     // Executes DMALD.
@@ -233,8 +249,11 @@ impl Front {
         requires { self.old.pc + 3 ≤ most_program_bytes }
         ensures registers { registers_of self.new
             ≡ moved (AddHalfword address half negative) (registers_of self.old) }
-        ensures held { self.new.held ≡ self.old.held }
+        ensures held { self.new.held
+            ≡ held_after (AddHalfword address half negative) (registers_of self.old)
+            self.old.held }
     {
+        let old = *self;
         let high = if negative { 0xffff_0000 } else { 0 };
         let number = u32::from(half) + high;
         match address {
@@ -242,6 +261,7 @@ impl Front {
             Address::Destination => self.dar = self.dar.wrapping_add(number),
         }
         self.pc += 3;
+        self.keep(old);
     }
 
     /// Executes an instruction without memory: the registers and the number of bytes in the buffer become those after

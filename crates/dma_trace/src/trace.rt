@@ -21,6 +21,7 @@ use crate::progress::report;
 use crate::wave::{push_first, push_last, push_next};
 use crate::words::{Failure, LongProgram, Place, Point, State, Why, first_byte};
 use dma_chan::channel::Channel;
+use dma_chan::exec::Registers;
 use dma_chan::explain::Cause;
 use dma_chan::lent::step_regions;
 use dma_chan::program::MAX_PROGRAM_BYTES;
@@ -233,7 +234,7 @@ fn run<P: Progress>(
 {
     let marks = failing_marks(alloc, &options.failing)?;
     let mut channel = Channel::new(alloc)?;
-    channel.load_bytes(program, options.bus);
+    channel.load_bytes(program, Registers::start(options.bus));
     run_loaded(
         alloc,
         program,

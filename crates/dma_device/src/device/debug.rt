@@ -5,6 +5,7 @@ ghost use Rattle.dma_mem.specs.Regions.{pieces_of};
 ghost use Rattle.dma_insn.specs.ControlWord.{field};
 ghost use Rattle.dma_device.specs.Device.{by_manager, by_thread, debugged, go, gone, is_event, is_interrupt, manager_failed, program_at, signalled, with_thread, written};
 ghost use Rattle.dma_device.specs.Thread.{failed, killed, started};
+ghost use Rattle.dma_device.specs.declared.thread.Thread.{Thread};
 
 use crate::device::Device;
 use crate::offset;
@@ -123,12 +124,13 @@ impl Device {
     // Starts channel `n`.
     fn start(&mut self, regions: &[Region<'_>], nonsecure: bool, n: usize)
         requires { n < length self.old.threads }
-        ensures { let base = self.old.dbginst1 in
-            let program = program_at (pieces_of regions.now) base in self.new
-            ≡ with_thread n (started self.old.config.bus nonsecure base program) self.old }
+        ensures { (t : Thread) → slice_get self.old.threads n ≡ Some t
+            → let base = self.old.dbginst1 in
+            let program = program_at (pieces_of regions.now) base in
+            self.new ≡ with_thread n (started nonsecure base program t) self.old }
     {
-        let (bus, base) = (self.config.bus, self.dbginst1);
-        self.threads[n].start(bus, nonsecure, base, regions);
+        let base = self.dbginst1;
+        self.threads[n].start(nonsecure, base, regions);
     }
 
     // Executes an instruction by channel thread `n`.

@@ -1,11 +1,10 @@
 //! What the program of a channel copies.
 
-ghost use Rattle.std.specs.Prelude.{◌≡◌, ◌-◌, IfErr, IfOk, IsSomeAnd};
+ghost use Rattle.std.specs.Prelude.{◌≡◌, ◌-◌, IfErr, IfOk};
 ghost use Rattle.dma_chan.specs.Explains.{bursts_in};
-ghost use Rattle.dma_device.specs.Explaining.{FailsFor, FindsFor, bus_of, program_of};
+ghost use Rattle.dma_device.specs.Explaining.{FailsFor, FindsFor, IsLoadedAnd};
 
 use crate::device::Device;
-use dma_chan::bus::Bus;
 use dma_chan::explain::{Explained, Unexplained, explain};
 use std::alloc::Global;
 
@@ -21,15 +20,16 @@ pub enum ExplainFault {
 }
 
 impl Device {
-    /// Returns what the program of channel `n` copies from its start, wherever the channel is in it, or why no copy
-    /// explains it with at most `most` instructions. A DMAGO has copied the program, so what the guest writes to RAM
-    /// later doesn't change the answer. Until the channel gets another program, its turns stay in the copy
-    /// (`laws::turns_stay_in`). This needs a channel that a DMAGO started: one from a save that isn't trusted may have
-    /// any registers. An event that the device doesn't have is no reason to refuse a program: its DMAWFE or DMASEV fails.
+    /// Returns what the program of channel `n` copies from its start, if it begins with the registers that the channel
+    /// has now, or why no copy explains it with at most `most` instructions. A DMAGO has copied the program, so what the
+    /// guest writes to RAM later doesn't change the answer. Until the channel gets another program, its turns stay in
+    /// the copy (`laws::turns_stay_in`). This needs a channel that a DMAGO started and that has had no turn yet: its
+    /// turns change the registers, so that a program which leaves out a DMAMOV has another answer then, and a channel
+    /// from a save that isn't trusted may have any registers. An event that the device doesn't have is no reason to refuse a program: its DMAWFE or DMASEV fails.
     pub fn explain(&self, alloc: Global, n: u8, most: u32) -> Result<Explained, ExplainFault>
         ensures ok { IfOk result (λ x. FindsFor self.now n most x) }
-        ensures bursts { IfOk result (λ x. IsSomeAnd (program_of self.now n)
-            (λ p. x.bursts ≡ bursts_in (bus_of self.now) p.bytes (x.steps - 1))) }
+        ensures bursts { IfOk result (λ x. IsLoadedAnd self.now n
+            (λ start program. x.bursts ≡ bursts_in start program (x.steps - 1))) }
         ensures err { IfErr result (λ fault. FailsFor self.now n most fault) }
     {
         let Some(thread) = self.threads.get(usize::from(n)) else {
@@ -40,7 +40,7 @@ impl Device {
         }
         match explain(
             alloc,
-            Bus::Chip(self.config.bus),
+            thread.channel.registers(),
             thread.channel.program(),
             most,
         ) {

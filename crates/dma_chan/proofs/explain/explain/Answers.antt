@@ -8,10 +8,10 @@ use Rattle.dma_chan.proofs.Explaining.{counts_bursts, finds, follows_new, has_no
 use Rattle.dma_chan.proofs.explain.explain.Goals as goal
 
 pub returns-in-Ok-finish-clause-ok : goal.returns-in-Ok-finish-clause-ok
-returns-in-Ok-finish-clause-ok c = finds c.args.bus c.args.program.now c.loop-steps.steps (c.loop-steps.steps + 1) c.loop-steps.tracer c.in-Ok-finish.explained c.loop-steps.invariant.follows (ap Ok c.in-End.ensures ∙ c.in-Ok.ensures) (omega (arith, c.loop-steps-test.true, c.ranges.most.fits)) c.args.most c.loop-steps-test.true refl c.in-Ok-finish.ensures.ok
+returns-in-Ok-finish-clause-ok c = finds c.args.start c.args.program.now c.loop-steps.steps (c.loop-steps.steps + 1) c.loop-steps.tracer c.in-Ok-finish.explained c.loop-steps.invariant.follows (ap Ok c.in-End.ensures ∙ c.in-Ok.ensures) (omega (arith, c.loop-steps-test.true, c.ranges.most.fits)) c.args.most c.loop-steps-test.true refl c.in-Ok-finish.ensures.ok
 
 pub returns-in-Ok-finish-clause-bursts : goal.returns-in-Ok-finish-clause-bursts
-returns-in-Ok-finish-clause-bursts c = counts_bursts c.args.bus c.args.program.now c.loop-steps.steps (c.loop-steps.steps + 1) c.loop-steps.tracer c.in-Ok-finish.explained c.loop-steps.invariant.follows refl c.in-Ok-finish.ensures.ok
+returns-in-Ok-finish-clause-bursts c = counts_bursts c.args.start c.args.program.now c.loop-steps.steps (c.loop-steps.steps + 1) c.loop-steps.tracer c.in-Ok-finish.explained c.loop-steps.invariant.follows refl c.in-Ok-finish.ensures.ok
 
 pub run-requires : goal.run-requires
 run-requires c = record {
@@ -28,54 +28,54 @@ run-requires c = record {
 
 pub loop-steps-init : goal.loop-steps-init
 loop-steps-init c = record {
-  follows = follows_new c.args.bus c.args.program.now c.new-tracer.result c.new-tracer.ensures.new c.new-tracer.ensures.stored;
+  follows = follows_new c.args.start c.args.program.now c.new-tracer.result c.new-tracer.ensures.new c.new-tracer.ensures.stored;
   few = omega arith;
   last = c.none-last.ensures c.args.program.now;
 }
 
 pub loop-steps-preserved : goal.loop-steps-preserved
 loop-steps-preserved c = record {
-  follows = c.in-Ok-run.ensures.leads c.args.bus c.loop-steps.steps c.loop-steps.invariant.follows;
+  follows = c.in-Ok-run.ensures.leads c.args.start c.loop-steps.steps c.loop-steps.invariant.follows;
   few = omega (arith, c.in-Ok-run.ensures.some, c.loop-steps-test.true);
   last = c.in-Ok-run.ensures.last;
 }
 
 pub returns-in-Err-clause-err : goal.returns-in-Err-clause-err
 returns-in-Err-clause-err c = λ _ _.
-    let bus = c.args.bus in
+    let start = c.args.start in
     let program = c.args.program.now in
     let now = c.loop-steps in
     let cause = Fails c.in-Err.kind in
-    let stops = stops_here bus program c.args.most now.steps now.tracer (Err c.in-Err.kind) cause now.invariant.follows c.in-Err.ensures c.loop-steps-test.true refl in
-    refuses bus program c.args.most now.steps now.tracer cause 0 now.invariant.follows stops refl
+    let stops = stops_here start program c.args.most now.steps now.tracer (Err c.in-Err.kind) cause now.invariant.follows c.in-Err.ensures c.loop-steps-test.true refl in
+    refuses start program c.args.most now.steps now.tracer cause 0 now.invariant.follows stops refl
 
 pub returns-in-Err-finish-clause-err : goal.returns-in-Err-finish-clause-err
 returns-in-Err-finish-clause-err c = λ memory _.
-    let bus = c.args.bus in
+    let start = c.args.start in
     let program = c.args.program.now in
     let now = c.loop-steps in
     let stop = c.in-Err-finish.stop in
-    let stops = stops_here bus program c.args.most now.steps now.tracer (Ok End) stop.cause now.invariant.follows (ap Ok c.in-End.ensures ∙ c.in-Ok.ensures) c.loop-steps-test.true (c.in-Err-finish.ensures.err memory) in
-    refuses bus program c.args.most now.steps now.tracer stop.cause stop.addr now.invariant.follows stops c.in-Err-finish.ensures.addr
+    let stops = stops_here start program c.args.most now.steps now.tracer (Ok End) stop.cause now.invariant.follows (ap Ok c.in-End.ensures ∙ c.in-Ok.ensures) c.loop-steps-test.true (c.in-Err-finish.ensures.err memory) in
+    refuses start program c.args.most now.steps now.tracer stop.cause stop.addr now.invariant.follows stops c.in-Err-finish.ensures.addr
 
 pub returns-in-Err-run-clause-err : goal.returns-in-Err-run-clause-err
 returns-in-Err-run-clause-err c = λ memory _.
-    let bus = c.args.bus in
+    let start = c.args.start in
     let program = c.args.program.now in
     let now = c.loop-steps in
     let x = now.tracer in
     let cause = c.in-Err-run.cause in
     let stop = c.in-Err-run.ensures.err memory in
-    let stops = stops_here bus program c.args.most now.steps x (Ok c.in-Ok.next) cause now.invariant.follows c.in-Ok.ensures c.loop-steps-test.true stop in
+    let stops = stops_here start program c.args.most now.steps x (Ok c.in-Ok.next) cause now.invariant.follows c.in-Ok.ensures c.loop-steps-test.true stop in
     let none = has_none c.in-Ok.next (trace_of x) (λ e. c.in_default.not-End (c.insn.ensures ∙ e)) cause (places (unrolled x.src.items)) (places x.dst.items) stop in
-    refuses bus program c.args.most now.steps x cause 0 now.invariant.follows stops none
+    refuses start program c.args.most now.steps x cause 0 now.invariant.follows stops none
 
 pub returns-clause-err : goal.returns-clause-err
 returns-clause-err c = λ _ _.
     let now = c.loop-steps in
     let all : now.steps ≡ c.args.most = omega (arith, now.invariant.few, c.loop-steps-test.false) in
-    let follows = subst (λ (n : ℕ). Follows c.args.bus c.args.program.now n now.tracer) all now.invariant.follows in
-    refuses c.args.bus c.args.program.now c.args.most c.args.most now.tracer NoEnd 0 follows (inr (refl, refl)) refl
+    let follows = subst (λ (n : ℕ). Follows c.args.start c.args.program.now n now.tracer) all now.invariant.follows in
+    refuses c.args.start c.args.program.now c.args.most c.args.most now.tracer NoEnd 0 follows (inr (refl, refl)) refl
 
 pub returns-in-Err-run-clause-long : goal.returns-in-Err-run-clause-long
 returns-in-Err-run-clause-long c = (

@@ -4,7 +4,7 @@ use Rattle.dma_chan.proofs.explain.explain.Given as goal
 
 abbrev pub invariant-loop-steps : goal.invariant-loop-steps
 invariant-loop-steps l = record {
-  follows : Follows l.fn.bus l.program l.steps l.tracer;
+  follows : Follows l.fn.start l.program l.steps l.tracer;
   few : l.steps ≤ l.most;
   last : IsLastLoop l.program l.last;
 }

@@ -8,7 +8,7 @@ use Rattle.dma_chan.proofs.channel.Channel.load_from.Goals as goal
 pub invariant_of-self : goal.invariant_of-self
 invariant_of-self c =
     let h = c.self.invariant in
-    let pc : c.self.inside.executor.registers.pc ≡ 0 = ap (λ (x : ChannelValue). x.registers.pc) (c.self.view_is ∙ c.reset.ensures) in
+    let pc : c.self.inside.executor.registers.pc ≡ 0 = ap (λ (x : ChannelValue). x.registers.pc) (c.self.view_is ∙ c.begin.ensures) in
     let few = length-take 8192 (run_from (pieces_of c.args.regions.now) c.args.addr) in
     record {
       capacity = h.capacity;

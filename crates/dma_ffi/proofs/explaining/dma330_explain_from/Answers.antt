@@ -1,0 +1,15 @@
+use Rattle.std.proofs.Common.{ℤ, subst, sym, w32, to_z, of_z}
+use Rattle.std.proofs.lemmas.Int.{to_z-of_z}
+use Rattle.dma_ffi.specs.Explaining.{Outputs, any_bus, given_on}
+use Rattle.dma_ffi.specs.inner.Found.{Answers}
+use Rattle.dma_ffi.proofs.ProgramCalls.{explains_program}
+use Rattle.dma_ffi.proofs.explaining.dma330_explain_from.Goals as goal
+
+pub returns : goal.returns
+returns c =
+    let code = c.answer.result in
+    let before : Outputs = record { src = c.args.src.now; dst = c.args.dst.now; happenings = c.args.happenings.now; explanation = c.args.explanation.now } in
+    let after : Outputs = record { src = c.answer.new.src; dst = c.answer.new.dst; happenings = c.answer.new.happenings; explanation = c.answer.new.explanation } in
+    explains_program c.in-Some.start c.args.program.now c.args.most (to_z w32 (of_z w32 code)) before after (given_on c.args.start.now (any_bus c.args.bus)) c.explain-found.result (rw c.in-Some.is at c.given_on.ensures)
+    c.explain-found.ensures.ok c.explain-found.ensures.err c.explain-found.ensures.long
+    (subst (λ (z : ℤ). Answers c.explain-found.result z before after) (sym (to_z-of_z w32 code (record { sfits = c.answer.type_inv }))) c.answer.ensures)
