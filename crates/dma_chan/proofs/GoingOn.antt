@@ -10,7 +10,6 @@ use Rattle.dma_insn.specs.declared.chip.Address.TheVariants.{Destination}
 use Rattle.dma_insn.specs.declared.insn.Reg.TheVariants.{Ccr, Dar}
 use Rattle.dma_mem.specs.Places.{end_of_addresses}
 use Rattle.dma_chan.specs.declared.bursts.Burst.{Burst}
-use Rattle.dma_chan.specs.declared.bus.Bus.{Bus}
 use Rattle.dma_chan.specs.declared.exec.Registers.{Registers}
 use Rattle.dma_chan.specs.declared.explain.Cause.{Cause}
 use Rattle.dma_chan.specs.declared.explain.Cause.TheVariants.{Fails, StoresPast, StoresFixed, DropsBytes}

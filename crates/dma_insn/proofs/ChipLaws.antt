@@ -1,6 +1,6 @@
 -- How decoding and encoding of a chip's instructions are related.
-use Rattle.std.proofs.Common.{◌≡◌, ℕ, ◌+◌, ◌-◌, ◌%◌, ◌/◌, ◌^◌, ◌<◌, ◌≤◌, Bool, true, false, List, [], ◌∷◌, ◌++◌, length, drop, take, get_or, refl, sym, ap, ◌∙◌, subst, Ok, Err, arith, cond, eqb, ltb, suc}
-use Rattle.std.proofs.lemmas.Bool.{eqb-true, le-ltb, ltb-false, ltb-true, false≢true}
+use Rattle.std.proofs.Common.{◌≡◌, ℕ, ◌%◌, ◌/◌, ◌^◌, ◌<◌, ◌≤◌, Bool, true, false, List, [], ◌∷◌, ◌++◌, length, drop, take, refl, sym, ap, ◌∙◌, subst, Ok, Err, arith, cond, eqb, suc}
+use Rattle.std.proofs.lemmas.Bool.{eqb-true, le-ltb, false≢true}
 use Rattle.std.proofs.lemmas.List.{take-append-drop, length-take}
 use Rattle.std.specs.Prelude.{MatchResult, IfOk, IfErr}
 use Rattle.byteorder.specs.Numbers.{little_number-reads_back}
@@ -13,12 +13,11 @@ use Rattle.dma_insn.specs.declared.chip.Address.{Address}
 use Rattle.dma_insn.specs.declared.chip.Address.TheVariants.{Source, Destination}
 use Rattle.dma_insn.specs.declared.chip.ChipInsn.{ChipInsn}
 use Rattle.dma_insn.specs.declared.chip.ChipInsn.TheVariants.{Mov, Ld, St, Rmb, Wmb, Nop, End, Lp, LpEnd, Sev, Wfe, StoreZeros, AddHalfword, LoopAgain}
-use Rattle.dma_insn.specs.declared.codec.DecodeFault.{DecodeFault}
 use Rattle.dma_insn.specs.declared.codec.DecodeFault.TheVariants.{Cut, Unknown, BadField}
-use Rattle.dma_insn.specs.Spelling.{spelling as core_spelling, HasRanges as CoreRanges, IsSpelledAt as IsCoreAt, BeginsWith as CoreBegins, IsRefusedFor as CoreRefused}
+use Rattle.dma_insn.specs.Spelling.{spelling as core_spelling, HasRanges as CoreRanges, IsSpelledAt as IsCoreAt, BeginsWith as CoreBegins}
 use Rattle.dma_insn.specs.Decoding.{Decoded as CoreDecoded, decoded as core_decoded}
 use Rattle.dma_insn.specs.Chip.{widened, add_byte, again_byte, spelling, HasRanges, HasCoreRanges, IsSpelledAt, BeginsWith, IsRefusedFor, Decoded, widely, decoded_core, added_by, again_by, beyond_core, or_beyond, decoded}
-use Rattle.dma_insn.proofs.Laws.{IsBytes, decoded_spelling as core_decoded_spelling, decoded_at as core_decoded_at, decoded_right as core_right, Right as CoreRight}
+use Rattle.dma_insn.proofs.Laws.{IsBytes, decoded_spelling as core_decoded_spelling, decoded_right as core_right, Right as CoreRight}
 
 -- ---- an instruction of the model
 

@@ -7,7 +7,6 @@ use Rattle.dma_insn.specs.declared.insn.Reg.TheVariants.{Sar, Ccr, Dar}
 use Rattle.dma_insn.specs.declared.insn.Counter.TheVariants.{Lc0, Lc1}
 use Rattle.dma_insn.specs.declared.chip.ChipInsn.{ChipInsn}
 use Rattle.dma_insn.specs.declared.chip.ChipInsn.TheVariants.{Mov, Ld, St, Rmb, Wmb, Nop, End, Lp, LpEnd, Sev, Wfe, StoreZeros, AddHalfword, LoopAgain}
-use Rattle.dma_insn.specs.declared.chip.Address.{Address}
 use Rattle.dma_insn.specs.declared.chip.Address.TheVariants.{Source, Destination}
 use Rattle.dma_manual.specs.ManualText.{control_text, manual_text}
 use Rattle.dma_manual.specs.Statements.{Label, by_name}

@@ -19,7 +19,6 @@ use Rattle.dma_manual.specs.Listing.{Ending, follow, stop, blanks_behind, follow
 use Rattle.dma_manual.specs.Assembled.{Read, after_statement, empty, jump_of as jump_from, place_of, take_line, take_lines, with_statement}
 use Rattle.dma_manual.specs.Laws.{ListingsAssemble, shown}
 use Rattle.dma_manual.specs.declared.assembler.Place.{Place}
-use Rattle.dma_manual.specs.declared.loops.LoopKind.{LoopKind}
 use Rattle.dma_manual.specs.declared.loops.LoopKind.TheVariants.{Counted}
 use Rattle.dma_manual.specs.declared.loops.Loops.{Loops}
 use Rattle.dma_manual.specs.declared.statements.End.TheVariants as ends

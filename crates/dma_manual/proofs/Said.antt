@@ -15,7 +15,7 @@ use Rattle.dma_insn.specs.declared.insn.Counter.TheVariants.{Lc0, Lc1}
 use Rattle.dma_manual.specs.Words.{is_word_byte, next_of}
 use Rattle.dma_manual.specs.Operands.{event_at, number_of}
 use Rattle.dma_manual.specs.Fields.{fields_at}
-use Rattle.dma_manual.specs.Statements.{Label, add_line, address_line, address_of as register_of, again_by, again_line, by_name, control_line, counter_of, end_at, event_line, is_numeral, label_of, loop_end_line, loop_line, set_by, set_line, statement_at, statement_by, wait_flag, wait_line}
+use Rattle.dma_manual.specs.Statements.{Label, add_line, address_line, address_of as register_of, again_by, by_name, control_line, counter_of, end_at, event_line, is_numeral, label_of, loop_end_line, loop_line, set_by, set_line, statement_at, statement_by, wait_flag, wait_line}
 use Rattle.dma_manual.specs.Assembled.{label_by, label_in}
 use Rattle.dma_manual.specs.declared.statements.End.{End as LoopTo}
 use Rattle.dma_manual.specs.declared.statements.End.TheVariants as ends

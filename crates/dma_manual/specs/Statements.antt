@@ -7,7 +7,6 @@ use Rattle.dma_insn.specs.declared.insn.Reg.{Reg}
 use Rattle.dma_insn.specs.declared.insn.Reg.TheVariants.{Sar, Ccr, Dar}
 use Rattle.dma_insn.specs.declared.insn.Counter.{Counter}
 use Rattle.dma_insn.specs.declared.insn.Counter.TheVariants.{Lc0, Lc1}
-use Rattle.dma_insn.specs.declared.chip.ChipInsn.{ChipInsn}
 use Rattle.dma_insn.specs.declared.chip.ChipInsn.TheVariants.{Mov, Ld, St, Rmb, Wmb, Nop, End, Sev, Wfe, StoreZeros, AddHalfword}
 use Rattle.dma_insn.specs.declared.chip.Address.{Address}
 use Rattle.dma_insn.specs.declared.chip.Address.TheVariants.{Source, Destination}
@@ -36,11 +35,11 @@ abbrev pub label_of : List Label → List ℕ → Option ℕ
 label_of [] name = None
 label_of (l ∷ labels) name = if bytes_eq l.0 name then Some l.1 else label_of labels name
 
--- an instruction without operands
-abbrev pub bare : ChipInsn → List ℕ → Result Statement Fault
-bare i rest = do
+-- a statement without operands
+abbrev pub bare : Statement → List ℕ → Result Statement Fault
+bare s rest = do
   done ← no_more rest
-  Ok (says.Plain i)
+  Ok s
 
 -- the loop counter that a word names
 abbrev pub counter_of : List ℕ → Option Counter
@@ -187,12 +186,6 @@ add_line negative name rest = do
   done ← no_more n.1
   Ok (says.Plain (AddHalfword address half negative))
 
--- no word after DMALPFE
-abbrev pub endless_line : List ℕ → Result Statement Fault
-endless_line rest = do
-  done ← no_more rest
-  Ok says.Endless
-
 -- the fault of a word that names no instruction
 abbrev pub no_name : List ℕ → List ℕ → Fault
 no_name name rest = fault_at (if is_chip_only name then causes.NotExecuted else causes.Name) name rest
@@ -200,21 +193,21 @@ no_name name rest = fault_at (if is_chip_only name then causes.NotExecuted else 
 -- the statement of an instruction's name and the words after it
 unfoldable pub by_name : List Label → List ℕ → List ℕ → Result Statement Fault
 by_name labels name rest =
-    if bytes_eq name (codes "dmaend") then bare End rest else (
-    if bytes_eq name (codes "dmald") then bare Ld rest else (
-    if bytes_eq name (codes "dmast") then bare St rest else (
-    if bytes_eq name (codes "dmarmb") then bare Rmb rest else (
-    if bytes_eq name (codes "dmawmb") then bare Wmb rest else (
-    if bytes_eq name (codes "dmanop") then bare Nop rest else (
+    if bytes_eq name (codes "dmaend") then bare (says.Plain End) rest else (
+    if bytes_eq name (codes "dmald") then bare (says.Plain Ld) rest else (
+    if bytes_eq name (codes "dmast") then bare (says.Plain St) rest else (
+    if bytes_eq name (codes "dmarmb") then bare (says.Plain Rmb) rest else (
+    if bytes_eq name (codes "dmawmb") then bare (says.Plain Wmb) rest else (
+    if bytes_eq name (codes "dmanop") then bare (says.Plain Nop) rest else (
     if bytes_eq name (codes "dmalp") then loop_line name rest else (
     if bytes_eq name (codes "dmalpend") then loop_end_line labels rest else (
     if bytes_eq name (codes "dmasev") then event_line name rest else (
     if bytes_eq name (codes "dmawfe") then wait_line name rest else (
     if bytes_eq name (codes "dmamov") then set_line name rest else (
-    if bytes_eq name (codes "dmastz") then bare StoreZeros rest else (
+    if bytes_eq name (codes "dmastz") then bare (says.Plain StoreZeros) rest else (
     if bytes_eq name (codes "dmaaddh") then add_line false name rest else (
     if bytes_eq name (codes "dmaadnh") then add_line true name rest else (
-    if bytes_eq name (codes "dmalpfe") then endless_line rest else (
+    if bytes_eq name (codes "dmalpfe") then bare says.Endless rest else (
     if bytes_eq name (codes "dcb") then byte_line name rest else Err (no_name name rest))))))))))))))))
 
 -- what the words after a label say

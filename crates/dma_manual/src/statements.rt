@@ -1,7 +1,7 @@
 //! Reads one line of assembly text.
 
 ghost use Rattle.std.specs.Prelude.{◌≡◌, drop, map};
-ghost use Rattle.dma_manual.specs.Statements.{add_line, address_of, again_by, again_line, bare, by_name, address_line, byte_line, control_line, counter_of, end_at, endless_line, event_line, label_of, label_view, loop_end_line, loop_end_to, loop_line, no_name, set_line, set_value, statement_at, times_line, wait_flag, wait_line};
+ghost use Rattle.dma_manual.specs.Statements.{add_line, address_of, again_by, again_line, bare, by_name, address_line, byte_line, control_line, counter_of, end_at, event_line, label_of, label_view, loop_end_line, loop_end_to, loop_line, no_name, set_line, set_value, statement_at, times_line, wait_flag, wait_line};
 ghost use Rattle.dma_manual.specs.Words.{next_of};
 
 use crate::assembler::{AsmCause, Fault, Operand};
@@ -67,11 +67,11 @@ pub fn label_of(labels: &[Named], name: &[u8]) -> Option<usize>
 }
 
 // Returns a statement without operands.
-fn bare(insn: ChipInsn, rest: &[u8]) -> Result<Statement, Fault>
-    ensures { result ≡ bare insn rest.now }
+fn bare(statement: Statement, rest: &[u8]) -> Result<Statement, Fault>
+    ensures { result ≡ bare statement rest.now }
 {
     no_more(rest)?;
-    Ok(Statement::Plain(insn))
+    Ok(statement)
 }
 
 // Returns the loop counter that a word names.
@@ -328,14 +328,6 @@ fn add_line(negative: bool, name: &[u8], rest: &[u8]) -> Result<Statement, Fault
     }))
 }
 
-// Reads that nothing follows DMALPFE.
-fn endless_line(rest: &[u8]) -> Result<Statement, Fault>
-    ensures { result ≡ endless_line rest.now }
-{
-    no_more(rest)?;
-    Ok(Statement::Endless)
-}
-
 // Returns the fault of a word that names no instruction.
 fn no_name(name: &[u8], rest: &[u8]) -> Fault
     ensures { result ≡ no_name name.now rest.now }
@@ -354,17 +346,17 @@ fn by_name(labels: &[Named], name: &[u8], rest: &[u8]) -> Result<Statement, Faul
     ensures { result ≡ by_name (map label_view labels.now) name.now rest.now }
 {
     if is_text(name, b"dmaend") {
-        bare(ChipInsn::End, rest)
+        bare(Statement::Plain(ChipInsn::End), rest)
     } else if is_text(name, b"dmald") {
-        bare(ChipInsn::Ld, rest)
+        bare(Statement::Plain(ChipInsn::Ld), rest)
     } else if is_text(name, b"dmast") {
-        bare(ChipInsn::St, rest)
+        bare(Statement::Plain(ChipInsn::St), rest)
     } else if is_text(name, b"dmarmb") {
-        bare(ChipInsn::Rmb, rest)
+        bare(Statement::Plain(ChipInsn::Rmb), rest)
     } else if is_text(name, b"dmawmb") {
-        bare(ChipInsn::Wmb, rest)
+        bare(Statement::Plain(ChipInsn::Wmb), rest)
     } else if is_text(name, b"dmanop") {
-        bare(ChipInsn::Nop, rest)
+        bare(Statement::Plain(ChipInsn::Nop), rest)
     } else if is_text(name, b"dmalp") {
         loop_line(name, rest)
     } else if is_text(name, b"dmalpend") {
@@ -376,13 +368,13 @@ fn by_name(labels: &[Named], name: &[u8], rest: &[u8]) -> Result<Statement, Faul
     } else if is_text(name, b"dmamov") {
         set_line(name, rest)
     } else if is_text(name, b"dmastz") {
-        bare(ChipInsn::StoreZeros, rest)
+        bare(Statement::Plain(ChipInsn::StoreZeros), rest)
     } else if is_text(name, b"dmaaddh") {
         add_line(false, name, rest)
     } else if is_text(name, b"dmaadnh") {
         add_line(true, name, rest)
     } else if is_text(name, b"dmalpfe") {
-        endless_line(rest)
+        bare(Statement::Endless, rest)
     } else if is_text(name, b"dcb") {
         byte_line(name, rest)
     } else {

@@ -1,5 +1,5 @@
 use Rattle.dma_chan.proofs.ReadyLaws.{span_made}
-use Rattle.dma_chan.proofs.bursts.zero_span.Goals as goal
+use Rattle.dma_chan.proofs.bursts.zeros.zero_span.Goals as goal
 
 pub fill-requires-clause-made : goal.fill-requires-clause-made
 fill-requires-clause-made g c =
