@@ -1,4 +1,5 @@
--- From any registers and on each bus a transfer explains its program that was compiled for that bus, which has its events.
+-- From any registers and on each bus a transfer explains its program that was compiled for that bus, which has its
+-- events.
 use Rattle.std.proofs.Common.{◌≡◌, ℕ, zero, suc, ◌+◌, ◌-◌, ◌≤◌, ◌<◌, List, ◌++◌, length, take, refl, sym, ap, ◌∙◌, subst, arith, Ok, ◌≢◌, Bool, true, false, cond, ◌&&◌, Option, Some, None, inl, inr}
 use Rattle.std.specs.Prelude.{IfSome, nat_lt}
 use Rattle.std.proofs.lemmas.Bool.{cases_lt, le-ltb}

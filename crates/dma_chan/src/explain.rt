@@ -95,9 +95,10 @@ pub enum Cause {
     StoresFixed,
     /// Only on a chip's bus: a DMASTZ, which stores zeros and no bytes that were loaded.
     StoresZeros,
-    /// Only on a chip's bus: a DMAMOV, DMAADDH or DMAADNH of DAR, or a DMAMOV CCR, after which a chip drops the bytes that are loaded and not
-    /// stored: it moves the destination to other byte lanes of the bus, or changes whether it rises, or the size of
-    /// beats that don't rise (DMA-330 manual, updating DMA channel control registers during a DMA cycle).
+    /// Only on a chip's bus: a DMAMOV, DMAADDH or DMAADNH of DAR, or a DMAMOV CCR, after which a chip drops the bytes
+    /// that are loaded and not stored: it moves the destination to other byte lanes of the bus, or changes whether it
+    /// rises, or the size of beats that don't rise (DMA-330 manual, updating DMA channel control registers during a DMA
+    /// cycle).
     DropsBytes,
     /// Bytes are left in the buffer at DMAEND.
     BytesLeft,

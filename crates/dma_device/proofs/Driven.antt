@@ -122,8 +122,8 @@ module _ (c : Copying) where
       pub is : slice_get s.device.threads n ≡ Some thread
       pub stands : Stands O E s.image thread
 
-    -- Before a call O is known if the program has ended, and E if it goes on; after the call P and F. The call isn't made
-    -- (`rests_over`, `rests`), or it steps the thread, whose program ends or goes on (`ends`, `goes`).
+    -- Before a call O is known if the program has ended, and E if it goes on; after the call P and F. The call isn't
+    -- made (`rests_over`, `rests`), or it steps the thread, whose program ends or goes on (`ends`, `goes`).
     pub record Steps (O : Type 0) (E : Thread → Type 0) (P : Type 0) (F : Thread → Type 0) (k : Call) : Type 0 where
       pub rests_over : (result_of n k).called ≡ nothing → O → P
       pub rests : ¬ Executes k.made n k.before → (result_of n k).called ≡ nothing → (th : Thread) → slice_get k.before.device.threads n ≡ Some th → Going k.before.image th → E th → F th

@@ -112,7 +112,8 @@ going = written ram 0xD04 0 (written ram 0xD0C 0x100 (written ram 0xD08 0x03A000
 ccr_reset : read_at (reset_device largest) 0x468 ≡ 0x00800200
 ccr_reset = refl
 
--- a device whose channel 3 a program has left with these registers, and the same DMAGO, which keeps SAR, DAR, CCR and LC0
+-- a device whose channel 3 a program has left with these registers, and the same DMAGO, which keeps SAR, DAR, CCR and
+-- LC0
 abbrev used : DeviceValue
 used =
     let t = reset_thread Bits128 in

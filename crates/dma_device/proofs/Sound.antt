@@ -1,5 +1,5 @@
--- What each thread satisfies after a call too: its status goes with its program, and the beats of its control word are no
--- wider than its bus. And events stay among those of the device.
+-- What each thread satisfies after a call too: its status goes with its program, and the beats of its control word are
+-- no wider than its bus. And events stay among those of the device.
 use Rattle.std.proofs.Common.{◌≡◌, ◌∙◌, ℕ, zero, suc, ◌+◌, ◌-◌, ◌*◌, ◌%◌, ◌^◌, ◌<◌, ◌≤◌, Bool, true, false, List, Option, Some, None, ap, get_or, inl, inr, length, refl, replicate, sym, subst, arith, bit_and, Result}
 use Rattle.std.specs.Prelude.{is_some, nat_le, nat_lt, slice_set, if◌then◌else◌}
 use Rattle.std.proofs.Math.Nat.{mod-le}

@@ -87,10 +87,10 @@ pub record GivenTurns : Type 0 where
   pub lent : ℕ → List Region
   pub left : ℕ → List Region
 
--- A driver has put a program into RAM and starts it by a DMAGO; t explains the program, begun with the channel's registers, with n instructions before its
--- DMAEND; and then a host gives the channel turns. Between two turns the guest and other channels may do anything to
--- the device except to the channel's thread, and may write any byte that t neither reads nor writes. In each turn the
--- ranges of t lie below the end of the regions.
+-- A driver has put a program into RAM and starts it by a DMAGO; t explains the program, begun with the channel's
+-- registers, with n instructions before its DMAEND; and then a host gives the channel turns. Between two turns the
+-- guest and other channels may do anything to the device except to the channel's thread, and may write any byte that t
+-- neither reads nor writes. In each turn the ranges of t lie below the end of the regions.
 pub record RunsCopy (go : Go) (t : Descriptor) (n : ℕ) (run : GivenTurns) : Type 0 where
   pub in_ram : HasProgram go.ram go.addr go.program
   pub may_go : MayGo go

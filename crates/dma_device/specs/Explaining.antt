@@ -69,8 +69,8 @@ pub record StaysIn (t : Descriptor) (d : DeviceValue) (regions : List Region) (n
   pub reads : (a : ℕ) → TurnReads d regions n most a → Contains (sources t) a
 
 -- Channel n executes its program from the program's start on, begun with the registers that it has now: of `steps`
--- instructions, with DMAEND, it has executed none or some, and not yet all. After a DMAGO it has executed none. Later its
--- registers are still such if the program sets each before it uses it.
+-- instructions, with DMAEND, it has executed none or some, and not yet all. After a DMAGO it has executed none. Later
+-- its registers are still such if the program sets each before it uses it.
 abbrev pub IsUnderway : DeviceValue → ℕ → ℕ → Type 0
 IsUnderway d n steps = IsSomeAnd (channel_of d n) (λ c. Executes c.registers (code_of c) (steps - 1) c)
 

@@ -18,9 +18,9 @@ pub fn memory_has_bytes()
 {}
 
 /// A driver puts a program that a copy explains from the channel's registers into RAM, and starts it there by a DMAGO.
-/// The program makes one simultaneous copy of all bytes, whatever the guest and other channels do meanwhile to other bytes
-/// and registers. It is done once the channel's CSR reads as stopped. Once a line that was low is high after a turn of
-/// the channel, at least as many bytes are copied as the program stores before each DMASEV of the line's event.
+/// The program makes one simultaneous copy of all bytes, whatever the guest and other channels do meanwhile to other
+/// bytes and registers. It is done once the channel's CSR reads as stopped. Once a line that was low is high after a
+/// turn of the channel, at least as many bytes are copied as the program stores before each DMASEV of the line's event.
 pub fn a_dmago_copies()
     ensures copies { DmagoCopies }
     ensures interrupts { DmagoInterrupts }
@@ -47,8 +47,8 @@ pub fn a_dmago_finishes()
 {}
 
 /// While a channel executes the program that a DMAGO gave it, its turns write only destinations of the copy that
-/// [`crate::device::Device::explain`] found before the first of them, and read only its sources. After an access other than a restore that gives
-/// the channel a program, as a DMAGO does, the channel is underway in that program.
+/// [`crate::device::Device::explain`] found before the first of them, and read only its sources. After an access other
+/// than a restore that gives the channel a program, as a DMAGO does, the channel is underway in that program.
 pub fn turns_stay_in()
     ensures turns { TurnsStayIn }
     ensures only { OnlyDmagoGives }

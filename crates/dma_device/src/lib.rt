@@ -17,14 +17,14 @@
 //! (`laws::damage_is_refused`).
 //!
 //! A program that a copy explains from the registers that its channel has (`dma_chan`'s specs/Explains.antt), put into
-//! RAM and started by a DMAGO, makes one simultaneous copy, whatever events it waits for and signals; from any registers
-//! a transfer explains its program that is compiled for the bus. The copy is done once the channel's CSR reads as stopped. Once a line that was low is high
-//! after one of its turns, as many bytes are copied as the program stores before the DMASEV (`laws::a_dmago_copies`).
-//! Of other programs the laws of interrupts hold, and what specs/Turns.antt says of each turn. The program never fails,
-//! if the regions contain all addresses that the copy touches, none that it writes is read-only, and the device has the
-//! program's events (`laws::a_dmago_never_fails`). It then finishes after as many turns as it executes instructions, if
-//! no turn begins at a DMAWFE of an event that isn't set, and the line of the event of each DMASEV was high
-//! (`laws::a_dmago_finishes`).
+//! RAM and started by a DMAGO, makes one simultaneous copy, whatever events it waits for and signals; from any
+//! registers a transfer explains its program that is compiled for the bus. The copy is done once the channel's CSR
+//! reads as stopped. Once a line that was low is high after one of its turns, as many bytes are copied as the program
+//! stores before the DMASEV (`laws::a_dmago_copies`). Of other programs the laws of interrupts hold, and what
+//! specs/Turns.antt says of each turn. The program never fails, if the regions contain all addresses that the copy
+//! touches, none that it writes is read-only, and the device has the program's events (`laws::a_dmago_never_fails`). It
+//! then finishes after as many turns as it executes instructions, if no turn begins at a DMAWFE of an event that isn't
+//! set, and the line of the event of each DMASEV was high (`laws::a_dmago_finishes`).
 //!
 //! [`device::Device::explain`] returns what the program of a channel copies, or why no copy explains it: for a
 //! debugger, and for a host that refuses a DMAGO whose program touches what it must not. From the DMAGO on, until the

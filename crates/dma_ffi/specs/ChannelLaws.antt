@@ -38,7 +38,8 @@ pub record HasTransfer (t : Descriptor) (c : ChannelValue) : Type 0 where
   pub events : HasEvents (start_on Ideal) (compiled t).bytes t (cost t - 1)
 
 -- A load that returns `ok_code` gives the channel a program that a transfer explains: a load of a copy; of a fill whose
--- byte has a 32-bit address; or from memory, if the bytes that it reads begin with a program that the transfer explains.
+-- byte has a 32-bit address; or from memory, if the bytes that it reads begin with a program that the transfer
+-- explains.
 pub record LoadsATransfer : Type 0 where
   pub copy : (src dst : List Segment) (wait signal : Option ℕ) (c d : ChannelValue) →
       LoadsCopy (copying src dst wait signal) c ok_code d → HasTransfer (copying src dst wait signal) d
@@ -124,8 +125,8 @@ StepsAreCalls =
 
 -- Calls from C that step a channel into which a program was just loaded that a transfer explains. Each call succeeds,
 -- and is lent regions with all addresses that the transfer touches, of which none that it writes is read-only. Between
--- two calls, nobody else writes at these addresses or changes the channel. The regions, their other bytes, the flags and
--- the channel's marks may change.
+-- two calls, nobody else writes at these addresses or changes the channel. The regions, their other bytes, the flags
+-- and the channel's marks may change.
 pub record StepsSinceLoad (program : List ℕ) (n : ℕ) (t : Descriptor) (count : ℕ) (calls : ℕ → StepCall) : Type 0 where
   pub begins : HasProgram program n t (channel_of (calls 0).lent)
   pub steps : (k : ℕ) → k < count → IsMade (calls k)
@@ -137,9 +138,9 @@ pub record StepsSinceLoad (program : List ℕ) (n : ℕ) (t : Descriptor) (count
 
 -- The result of such a call, if `first` is the memory that the first call was lent. As many bytes are copied as the
 -- channel counts in `stored`, which its registers show, and all when the report's turn is the end. The range that the
--- call reports as written has only destinations. If the turn is a signal or a wait, the program has a DMASEV or a DMAWFE
--- of the event that is reported, the DMASEV after as many bytes. The turn is no fault if no mark of the channel lies at
--- an address that the transfer touches.
+-- call reports as written has only destinations. If the turn is a signal or a wait, the program has a DMASEV or a
+-- DMAWFE of the event that is reported, the DMASEV after as many bytes. The turn is no fault if no mark of the channel
+-- lies at an address that the transfer touches.
 pub record HasCopied (program : List ℕ) (n : ℕ) (t : Descriptor) (first : List ℕ) (call : StepCall) : Type 0 where
   pub bytes : HasFirst t (channel_of call.left).stored (bytes_in first) (bytes_in (memory_of call.left))
   pub writes : (a : ℕ) → LiesIn call.report.written a → Contains (destinations t) a

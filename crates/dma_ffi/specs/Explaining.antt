@@ -49,8 +49,8 @@ given_on c (Some bus) =
     Some (record { pc = 0; sar = c.sar; dar = c.dar; ccr = c.ccr; lc0 = c.lc0; lc1 = c.lc1; bus = bus })
     else None
 
--- The number of a cause; a fault's is the one that it has elsewhere. A program that is too long, and out of memory, have
--- codes and no number.
+-- The number of a cause; a fault's is the one that it has elsewhere. A program that is too long, and out of memory,
+-- have codes and no number.
 abbrev pub cause_number : Cause → ℕ
 cause_number TooLong = 0
 cause_number NoMemory = 0
@@ -141,24 +141,25 @@ with_cause u before = record before { explanation = unexplained_of u }
 -- ---- calls
 
 -- What a call returns and writes that explains a program of at most 8,192 bytes that begins with these registers, with
--- at most this number of instructions. It writes a copy that explains the program (`Finds`); or returns `unexplained` and writes why no copy
--- does, and where (`Refuses`); or returns `no_memory` and writes nothing.
+-- at most this number of instructions. It writes a copy that explains the program (`Finds`); or returns `unexplained`
+-- and writes why no copy does, and where (`Refuses`); or returns `no_memory` and writes nothing.
 abbrev pub ExplainsFrom : Registers → List ℕ → ℕ → ℤ → Outputs → Outputs → Type 0
 ExplainsFrom start program most code before after =
     ((x : Explained) × Finds start program most x × WritesFound x code before after)
     ⊎ (((u : Unexplained) × Refuses start program most u × (code ≡ unexplained) × (after ≡ with_cause u before))
     ⊎ ((code ≡ no_memory) × (after ≡ before)))
 
--- The same of any program, from registers that C gives, if a channel can have them. Else the call returns `bad_config`, and then `program_too_long`
--- exactly above 8,192 bytes. In both cases it writes nothing.
+-- The same of any program, from registers that C gives, if a channel can have them. Else the call returns `bad_config`,
+-- and then `program_too_long` exactly above 8,192 bytes. In both cases it writes nothing.
 abbrev pub ExplainsProgram : List ℕ → Option Registers → ℕ → ℤ → Outputs → Outputs → Type 0
 ExplainsProgram program None most code before after = (code ≡ bad_config) × (after ≡ before)
 ExplainsProgram program (Some start) most code before after =
     ((code ≡ program_too_long) × (most_program_bytes < length program) × (after ≡ before))
     ⊎ ((length program ≤ most_program_bytes) × ExplainsFrom start program most code before after)
 
--- What a call returns and writes that explains the program of channel `n` of a device, begun with the registers that the
--- channel has. If the device doesn't have the channel, or the channel no program, it returns the code for that and writes nothing.
+-- What a call returns and writes that explains the program of channel `n` of a device, begun with the registers that
+-- the channel has. If the device doesn't have the channel, or the channel no program, it returns the code for that and
+-- writes nothing.
 abbrev pub ExplainsChannel : ℕ → ℕ → DeviceValue → ℤ → Outputs → Outputs → Type 0
 ExplainsChannel n most d code before after =
     ((code ≡ no_channel) × (length d.threads ≤ n) × (after ≡ before))

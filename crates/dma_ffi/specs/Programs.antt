@@ -74,9 +74,9 @@ DisassemblesProgram program code buffer out len written before place =
 
 -- ---- the program of a transfer
 
--- What a call that plans a transfer returns and writes, for a bus, if there is one: the bytes of the transfer's program,
--- at most 8,192, and their number. Else it writes nothing, with `bad_config`. Fails with the first rule that the transfer
--- breaks, or out of memory if it breaks none, and then writes nothing too.
+-- What a call that plans a transfer returns and writes, for a bus, if there is one: the bytes of the transfer's
+-- program, at most 8,192, and their number. Else it writes nothing, with `bad_config`. Fails with the first rule that
+-- the transfer breaks, or out of memory if it breaks none, and then writes nothing too.
 abbrev pub PlansTransfer : Option TransferFault → Descriptor → Option Bus → ℤ → List ℕ → List ℕ → ℕ → ℕ → Type 0
 PlansTransfer refusal t None code buffer out len written = (code ≡ bad_config) × (out ≡ buffer) × (written ≡ len)
 PlansTransfer refusal t (Some bus) code buffer out len written =

@@ -41,7 +41,8 @@ pub struct Explanation {
     pub happenings_len: usize,
     /// The number of bytes that are copied; 0 if there is a cause.
     pub size: u64,
-    /// The number of instructions that are executed, including DMAEND; for a cause, of those before the one that has it.
+    /// The number of instructions that are executed, including DMAEND; for a cause, of those before the one that has
+    /// it.
     pub steps: u32,
     /// For a cause, the offset of the instruction that has it, else 0.
     pub pc: u32,
@@ -328,9 +329,9 @@ pub extern "C" fn dma330_explain_from(
     answer(found, src, dst, happenings, explanation)
 }
 
-/// Explains the program of a channel as [`dma330_explain_from`] does on the device's bus: from its first instruction on,
-/// with the registers that the channel has. Fails too if the device doesn't have the channel, or the channel has no program; then
-/// nothing is written.
+/// Explains the program of a channel as [`dma330_explain_from`] does on the device's bus: from its first instruction
+/// on, with the registers that the channel has. Fails too if the device doesn't have the channel, or the channel has no
+/// program; then nothing is written.
 #[unsafe(no_mangle)]
 pub extern "C" fn dma330_device_explain(
     alloc: Global,

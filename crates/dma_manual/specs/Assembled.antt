@@ -100,8 +100,8 @@ innermost_of (Some a) None = Some (Counted Lc0, a.start)
 innermost_of None (Some b) = Some (Counted Lc1, b.start)
 innermost_of (Some a) (Some b) = if nat_lt a.start b.start then Some (Counted Lc1, b.start) else Some (Counted Lc0, a.start)
 
--- The kind and the start of the open loop that begins last. A DMALPFE has no bytes, so a loop with the same start begins
--- before it.
+-- The kind and the start of the open loop that begins last. A DMALPFE has no bytes, so a loop with the same start
+-- begins before it.
 abbrev pub or_endless : Option Open → Option (LoopKind × ℕ) → Option (LoopKind × ℕ)
 or_endless None counted = counted
 or_endless (Some e) None = Some (Endless, e.start)

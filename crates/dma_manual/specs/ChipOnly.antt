@@ -3,8 +3,8 @@ use Rattle.std.specs.Prelude.{ℕ, Bool, ◌==◌, ◌||◌, if◌then◌else◌
 use Rattle.std.specs.Str.{bytes_eq}
 
 -- The name of the instruction that begins with this byte, if no channel executes it, or none on the ideal bus: DMASTZ,
--- DMAADDH, DMAADNH and the DMALPEND of a DMALPFE. S and B are for single and for burst requests of a peripheral, of which
--- the model has none; DMAGO and DMAKILL are for the chip's manager.
+-- DMAADDH, DMAADNH and the DMALPEND of a DMALPFE. S and B are for single and for burst requests of a peripheral, of
+-- which the model has none; DMAGO and DMAKILL are for the chip's manager.
 abbrev pub chip_only_name : ℕ → Option (List ℕ)
 chip_only_name b =
     if b == 0x01 then Some (codes "DMAKILL") else (

@@ -65,8 +65,8 @@ access_text (Some access) =
 access_text None = codes "no instruction"
 
 -- Prints the address at which a byte is stored twice, with the first two instructions that store it; or the address at
--- which a byte is stored where one is loaded, with the first instruction that loads it and the first one that stores it.
--- Prints nothing for any other cause.
+-- which a byte is stored where one is loaded, with the first instruction that loads it and the first one that stores
+-- it. Prints nothing for any other cause.
 unfoldable pub conflict_text : Cause → ℕ → Touches → List ℕ
 conflict_text StoresTwice a t =
     (codes ": 0x" ++ hex_digits a) ++ (codes ", by " ++ access_text t.store)

@@ -95,8 +95,8 @@ abbrev pub refused : List ℕ → Option ℕ → Result ChipInsn FaultKind → �
 refused why first next n f stored =
     record { succeeds = false; says = []; wrong = refusal_text why first next n f stored }
 
--- Returns the end by the answer of the last step, after n steps that moved and stored this number of bytes. The answer is
--- None at the limit of steps.
+-- Returns the end by the answer of the last step, after n steps that moved and stored this number of bytes. The answer
+-- is None at the limit of steps.
 abbrev pub end_of : Option ChanTurn → Option ℕ → Result ChipInsn FaultKind → ℕ → Front → ℕ → End
 end_of (Some Ended) first next n f stored =
     record { succeeds = true; says = codes "ended after " ++ count_text (n + 1) ++ line_feed; wrong = [] }

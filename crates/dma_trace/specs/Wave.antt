@@ -125,8 +125,8 @@ first_text m =
 abbrev pub change_text : Moment → Moment → List ℕ
 change_text b a = time_text a.at.steps ++ signals_text false b a
 
--- The end: one time unit after the last instruction began, the changes by its answer, and a time unit more. At the limit
--- there is no answer, and nothing changes: `m` is the next instruction.
+-- The end: one time unit after the last instruction began, the changes by its answer, and a time unit more. At the
+-- limit there is no answer, and nothing changes: `m` is the next instruction.
 abbrev pub last_text : Moment → Option ChanTurn → List ℕ
 last_text m answer =
     time_text (m.at.steps + 1) ++ signals_text false m (record m { answer = answer }) ++ time_text (m.at.steps + 2)
