@@ -69,6 +69,26 @@ static const struct {
       ADNH_DAR, HALF(0xFF40), DMALPEND, 8, DMAEND},
      FROM + 3 * 0x80, TO + 0x200 - 3 * 0x80, 0, 30,
      {{TO + 0x200, 64, FROM}, {TO + 0x180, 64, FROM + 0x80}, {TO + 0x100, 64, FROM + 0x100}}},
+    {"the rows of a rectangle to one range",
+     {MOVE(TO_SAR, FROM), MOVE(TO_DAR, TO), MOVE(TO_CCR, BURSTS(2, 16)), DMALP, 3, DMALD, DMAST, ADDH_SAR, HALF(0x40), DMALPEND,
+      5, DMAEND},
+     FROM + 4 * 0x80, TO + 4 * 64, 0, 27,
+     {{TO, 64, FROM}, {TO + 64, 64, FROM + 0x80}, {TO + 128, 64, FROM + 0x100}, {TO + 192, 64, FROM + 0x180}}},
+    {"a DMAMOV DAR to other byte lanes drops what was loaded",
+     {MOVE(TO_SAR, FROM), MOVE(TO_DAR, TO), MOVE(TO_CCR, BURSTS_16), DMALD, MOVE(TO_DAR, TO + 4), DMAST}, FROM + 16, TO + 4,
+     1 << 13, 25, {{0, 0, 0}}},
+    {"one to the same lanes keeps it",
+     {MOVE(TO_SAR, FROM), MOVE(TO_DAR, TO), MOVE(TO_CCR, BURSTS_16), DMALD, MOVE(TO_DAR, TO + 0x40), DMAST, DMAEND},
+     FROM + 16, TO + 0x50, 0, 26, {{TO + 0x40, 16, FROM}}},
+    {"a DMAMOV CCR with which DAR doesn't rise drops it",
+     {MOVE(TO_SAR, FROM), MOVE(TO_DAR, TO), MOVE(TO_CCR, BURSTS_16), DMALD, MOVE(TO_CCR, BURSTS_16 & ~AT_A_FIXED_ADDRESS), DMAST},
+     FROM + 16, TO, 1 << 13, 25, {{0, 0, 0}}},
+    {"a DMAADDH to other lanes drops it",
+     {MOVE(TO_SAR, FROM), MOVE(TO_DAR, TO), MOVE(TO_CCR, BURSTS_16), DMALD, ADDH_DAR, HALF(4), DMAST}, FROM + 16, TO + 4, 1 << 13,
+     22, {{0, 0, 0}}},
+    {"a DMAADNH to the same lanes keeps it",
+     {MOVE(TO_SAR, FROM), MOVE(TO_DAR, TO), MOVE(TO_CCR, BURSTS_16), DMALD, ADNH_DAR, HALF(0xFFF0), DMAST, DMAEND}, FROM + 16, TO,
+     0, 23, {{TO - 16, 16, FROM}}},
     {"for ever, up to the end of RAM",
      {MOVE(TO_DAR, NEXT_END - 48), MOVE(TO_CCR, BURSTS_16), DMANOP, DMASTZ, AGAIN, 1, DMAEND}, 0, NEXT_END, 1 << 17, 13,
      {{NEXT_END - 48, 48, ZEROS}}},
@@ -142,6 +162,31 @@ static void fails_in_rom(void)
     tear_down(&m);
 }
 
+/* A DMAGO keeps SAR, DAR, CCR, LC0 and LC1, which a program may leave to the next one. */
+static void keeps_its_registers(void)
+{
+    static const uint8_t first[] = {
+        MOVE(TO_SAR, FROM), MOVE(TO_DAR, TO), MOVE(TO_CCR, BURSTS_16), DMALP, 4, DMALP | 2, 9, DMAEND
+    };
+    static const uint8_t second[] = {DMALD, DMAST, DMALPEND, 2, DMAEND};
+
+    set_up(&m, plain(2, 4, false));
+    check(get(&m, CCR) == RESET_CCR && get(&m, CCR + 0x20) == RESET_CCR && get(&m, CCR + 0x40) == 0, "CCR after a reset", 0);
+    memcpy(byte_at(m.bytes, LOW), first, sizeof first);
+    memcpy(byte_at(m.bytes, LOW + 0x100), second, sizeof second);
+    want_ram(&m);
+    start(&m, 1, LOW);
+    check(!run(&m, 1) && get(&m, LC0 + 0x20) == 4 && get(&m, LC1 + 0x20) == 9, "what a program sets", 0);
+    start(&m, 1, LOW + 0x100);
+    check(get(&m, CPC + 8) == LOW + 0x100 && get(&m, SAR + 0x20) == FROM && get(&m, CCR + 0x20) == BURSTS_16, "it stays", 0);
+    memcpy(byte_at(m.wanted, TO), byte_at(m.bytes, FROM), 80);
+    check(!run(&m, 1) && is_ram_wanted(&m) && get(&m, FTR + 4) == 0, "five turns of a loop that the first one began", 0);
+    check(get(&m, SAR + 0x20) == FROM + 80 && get(&m, DAR + 0x20) == TO + 80 && get(&m, LC0 + 0x20) == 0, "and moves on", 0);
+    check(get(&m, LC1 + 0x20) == 9 && get(&m, SAR) == 0 && get(&m, CCR) == RESET_CCR, "other registers", 0);
+    check(dma330_device_reset(&m.device) == DMA330_OK && get(&m, SAR + 0x20) == 0 && get(&m, CCR + 0x20) == RESET_CCR, "reset", 0);
+    tear_down(&m);
+}
+
 /* Each event clears 16 bytes more, as long as the program isn't killed. */
 static void repeats_at_each_event(void)
 {
@@ -197,6 +242,7 @@ int main(void)
         goes_on_after_a_save(n);
     }
     fails_in_rom();
+    keeps_its_registers();
     repeats_at_each_event();
     has_no_others();
     return end_checks();

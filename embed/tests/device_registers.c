@@ -299,7 +299,7 @@ static void has_beats(uint32_t bus, uint32_t bus_code, uint32_t code)
         if (code <= bus_code)
             check(get(&m, CSR) == 0 && get(&m, CCR) == code << shift && get(&m, FTR) == 0, "that the bus has", code);
         else
-            check(get(&m, CSR) == 15 && get(&m, FTR) == 1 << 1 && get(&m, CCR) == 0, "that are too wide", code);
+            check(get(&m, CSR) == 15 && get(&m, FTR) == 1 << 1 && get(&m, CCR) == RESET_CCR, "that are too wide", code);
         check(get(&m, CPC) == LOW + (code <= bus_code ? 7 : 1), "where it ends", code);
         tear_down(&m);
     }

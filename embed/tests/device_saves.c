@@ -278,7 +278,7 @@ static void refuses_beats_wider_than_the_bus(void)
         set_up(&m, config);
         check(dma330_device_restore(&m.device, bad.bytes, bad.len) == (size <= width ? DMA330_OK : DMA330_BAD_SAVE),
               "beats of a forged save", row);
-        check(get(&m, CCR) == (size <= width ? control : 0), "its control word", row);
+        check(get(&m, CCR) == (size <= width ? control : RESET_CCR), "its control word", row);
         tear_down(&m);
     }
 }

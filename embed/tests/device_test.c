@@ -128,7 +128,7 @@ static void is_killed_and_reset(void)
     start(&m, 1, LOW);
     debug(&m, MANAGER, 0xFF, 0, 0);
     check(turn(&m, 1, 12) && irq_abort(&m), "another one, and a manager that fails", 0);
-    check(dma330_device_reset(&m.device) == DMA330_OK && are_registers_0(&m), "each is 0 after a reset", 0);
+    check(dma330_device_reset(&m.device) == DMA330_OK && are_registers_reset(&m), "each is as after a reset", 0);
     check(irqs(&m) == 0 && !irq_abort(&m) && !can_step(&m) && !turn(&m, 1, 1000), "and no line is high", 0);
     set(&m, DBGCMD, 0);
     check(get(&m, FTRD) == (1 << 30 | 1), "the debug registers are 0 too: a DMAEND, which the manager can't execute", 0);

@@ -312,11 +312,15 @@ bool run(machine *m, uint32_t channel)
     return false;
 }
 
-bool are_registers_0(machine *m)
+bool are_registers_reset(machine *m)
 {
-    for (uint32_t offset = 0; offset < 0xE00; offset += 4)
-        if (get(m, offset) != 0)
+    uint32_t channels = (get(m, CR0) >> 4 & 7) + 1, value;
+
+    for (uint32_t offset = 0; offset < 0xE00; offset += 4) {
+        value = offset >= CCR && offset < CCR + 0x20 * channels && offset % 0x20 == 8 ? RESET_CCR : 0;
+        if (get(m, offset) != value)
             return false;
+    }
     return true;
 }
 

@@ -97,6 +97,9 @@ enum { DSR = 0x000, DPC = 0x004, INTEN = 0x020, INT_EVENT_RIS = 0x024, INTMIS = 
        LC1 = 0x410, DBGSTATUS = 0xD00, DBGCMD = 0xD04, DBGINST0 = 0xD08, DBGINST1 = 0xD0C, CR0 = 0xE00, CR1 = 0xE04,
        CR2 = 0xE08, CR3 = 0xE0C, CR4 = 0xE10, CRD = 0xE14, PERIPH_ID = 0xFE0, PCELL_ID = 0xFF0 };
 
+/* CCR after a reset (manual, channel control registers). */
+enum { RESET_CCR = 0x00800200 };
+
 uint32_t get(machine *m, uint32_t offset);
 void set(machine *m, uint32_t offset, uint32_t value);
 uint32_t irqs(machine *m);
@@ -120,9 +123,9 @@ bool run(machine *m, uint32_t channel);
 /* Checks a copy by a channel, its interrupt, and the driver's response to the interrupt. */
 void check_work(machine *m, uint32_t channel, const char *what, uint32_t n);
 
-/* Return whether all registers except the configuration are 0, and whether two machines have the same registers, lines
- * and RAM. */
-bool are_registers_0(machine *m);
+/* Return whether all registers except the configuration are as after a reset, each CCR is RESET_CCR and all others are 0, and
+ * whether two machines have the same registers, lines and RAM. */
+bool are_registers_reset(machine *m);
 bool are_same(machine *m, machine *other);
 
 #endif
