@@ -15,5 +15,6 @@ use Rattle.dma_chan.specs.Run.{RunsAlone}
 abbrev pub ExplainedCopiesAlone : Type 0
 ExplainedCopiesAlone =
     (program : List ℕ) (t : Descriptor) (n : ℕ) (image after : List ℕ) (limit : ℕ) (how : RunEnd) →
-    Explains (start_on Ideal) program t n → ((e : ℕ) → ¬ IsWait (start_on Ideal) program n e) → lies_below t (length image) ≡ true → n < limit →
+    Explains (start_on Ideal) program t n → ((e : ℕ) → ¬ IsWait (start_on Ideal) program n e) →
+    lies_below t (length image) ≡ true → n < limit →
     RunsAlone program image limit how after → (how ≡ ends.Ended (n + 1)) × (after ≡ laid image t (size_of t))

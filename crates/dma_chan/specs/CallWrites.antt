@@ -29,7 +29,8 @@ pub record StaysIn (start : Registers) (program : List ℕ) (t : Descriptor) (n 
 -- A channel into which a program was just loaded that begins with these bytes executes them.
 abbrev pub LoadExecutes : Type 0
 LoadExecutes =
-    (start : Registers) (program : List ℕ) (n : ℕ) (c : ChannelValue) → IsLoadedWith start program c → Executes start program n c
+    (start : Registers) (program : List ℕ) (n : ℕ) (c : ChannelValue) → IsLoadedWith start program c →
+    Executes start program n c
 
 -- Each call on a channel that executes a program that copies t stays in it, whatever the memory's size and bytes, the
 -- marks and the flags are, and whatever others wrote before.

@@ -120,7 +120,8 @@ pub record HasFirst (t : Descriptor) (k : ℕ) (first memory : ℕ → ℕ) : Ty
 -- is a destination. A signal that the call reports is one of the program's DMASEVs, and is set when this number of
 -- bytes is stored. A call waits only for the event of one of the program's DMAWFEs, and doesn't fail if no mark lies at
 -- an address that t touches.
-pub record HasCopied (start : Registers) (program : List ℕ) (t : Descriptor) (n : ℕ) (first memory : ℕ → ℕ) (call : Call) : Type 0 where
+pub record HasCopied (start : Registers) (program : List ℕ) (t : Descriptor) (n : ℕ) (first memory : ℕ → ℕ)
+    (call : Call) : Type 0 where
   pub bytes : HasFirst t call.left.channel.stored first memory
   pub writes : (a : ℕ) → LiesIn call.written a → Contains (destinations t) a
   pub signals : (e : ℕ) → call.signal ≡ Some e → IsSignal start program n e call.left.channel.stored
@@ -131,8 +132,8 @@ pub record HasCopied (start : Registers) (program : List ℕ) (t : Descriptor) (
 -- Each call on a channel has copied, if a transfer explains its program and was left alone since its load.
 abbrev pub CopiesSinceLoad : Type 0
 CopiesSinceLoad =
-    (start : Registers) (program : List ℕ) (t : Descriptor) (n : ℕ) (changes : ℕ → Change) (states : ℕ → System) (load now : ℕ)
-    (call : Call) → Explains start program t n → DoesAll changes states load (now + 1) →
+    (start : Registers) (program : List ℕ) (t : Descriptor) (n : ℕ) (changes : ℕ → Change) (states : ℕ → System)
+    (load now : ℕ) (call : Call) → Explains start program t n → DoesAll changes states load (now + 1) →
     SinceLoad start program t changes states load now call (λ k. LeavesAlone t call.channel) →
     HasCopied start program t n (states load).memory (states (now + 1)).memory call
 

@@ -54,7 +54,8 @@ after_next (Err kind) a n f t = t
 abbrev pub touches_in : Bus → List ℕ → ℕ → ℕ → Touches
 touches_in bus program a zero = untouched
 touches_in bus program a (suc n) =
-    let x = traced (start_on bus) program n in after_next (next_in program x) a (n + 1) (front_at x) (touches_in bus program a n)
+    let x = traced (start_on bus) program n in
+    after_next (next_in program x) a (n + 1) (front_at x) (touches_in bus program a n)
 
 -- ---- text
 

@@ -45,7 +45,7 @@ pub struct ChannelSteps {
 }
 
 /// The registers and counts of a [`Channel`].
-#[derive(Clone, Copy, Debug, PartialEq, Eq, Hash)]
+#[derive(Clone, Copy, Debug, Default, PartialEq, Eq, Hash)]
 pub struct Registers {
     /// The offset of the next instruction in the program.
     pub pc: u32,

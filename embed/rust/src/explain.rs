@@ -1,6 +1,6 @@
 //! What programs copy, and the programs of transfers.
 
-use crate::{event, named, small, sys, BusWidth, Error, Events, Segment, MAX_PROGRAM};
+use crate::{event, named, small, sys, BusWidth, Error, Events, Registers, Segment, MAX_PROGRAM};
 use std::fmt;
 
 /// The data bus for which a program is explained or planned.
@@ -204,6 +204,27 @@ pub(crate) fn explanation_of(raw: sys::RawExplained) -> Result<Explanation, Erro
 /// ```
 pub fn explain(program: &[u8], bus: Bus, most: u32) -> Result<Explanation, Error> {
     sys::explain(program, bus.number(), most).and_then(explanation_of)
+}
+
+/// Returns what a program copies that begins with the `sar`, `dar`, `ccr`, `lc0` and `lc1` of these registers, as
+/// [`explain`] does, for which they are 0.
+///
+/// A device's channel keeps its registers over a DMAGO, so a driver's program may leave out a DMAMOV.
+///
+/// Fails as [`explain`] does, and with `BadConfig` if no channel on the bus has this `ccr`.
+///
+/// ```
+/// use dma330::{assemble, explain_from, Bus, Error, Registers, Repeated, Segment};
+/// let start = Registers { sar: 0x1000, dar: 0x2000, ccr: 0x0001_4005, ..Registers::default() };
+/// let found = explain_from(&assemble("DMALD\nDMAST\nDMAEND\n")?, Bus::Channel, &start, 1000)?;
+/// assert_eq!(found.src, [Repeated { addr: 0x1000, len: 4, times: 1 }]);
+/// assert_eq!(found.dst, [Segment::new(0x2000, 4)]);
+/// # Ok::<(), Error>(())
+/// ```
+pub fn explain_from(program: &[u8], bus: Bus, start: &Registers, most: u32) -> Result<Explanation, Error> {
+    let Registers { sar, dar, ccr, lc0, lc1, .. } = *start;
+    let start = sys::RawRegisters { sar, dar, ccr, lc0, lc1, ..Default::default() };
+    sys::explain_from(program, bus.number(), &start, most).and_then(explanation_of)
 }
 
 // Returns the program that a call writes.

@@ -38,7 +38,7 @@ mod sys;
 pub use channel::{Channel, ChannelSteps, ChannelTurn, Registers};
 pub use device::{BusWidth, Device, DeviceConfig, DeviceTurn, Revision};
 pub use error::{AssemblyFault, DisassemblyFault, Error};
-pub use explain::{explain, plan, plan_fill, Bus, Cause, Explanation, Happening, HappeningKind, Repeated};
+pub use explain::{explain, explain_from, plan, plan_fill, Bus, Cause, Explanation, Happening, HappeningKind, Repeated};
 pub use sys::Region;
 
 use std::fmt;

@@ -358,6 +358,20 @@ extern "C" {
         happenings_room: usize,
         explanation: *mut RawExplanation,
     ) -> i32;
+    fn dma330_explain_from(
+        program: *const u8,
+        len: usize,
+        bus: u32,
+        start: *const RawRegisters,
+        most: u32,
+        src: *mut Repeated,
+        src_room: usize,
+        dst: *mut Segment,
+        dst_room: usize,
+        happenings: *mut RawHappening,
+        happenings_room: usize,
+        explanation: *mut RawExplanation,
+    ) -> i32;
     fn dma330_plan(
         src: *const Segment,
         src_count: usize,
@@ -838,6 +852,25 @@ pub fn explain(program: &[u8], bus: u32, most: u32) -> Result<RawExplained, Erro
             program.as_ptr(),
             program.len(),
             bus,
+            most,
+            src.as_mut_ptr(),
+            src.len(),
+            dst.as_mut_ptr(),
+            dst.len(),
+            happenings.as_mut_ptr(),
+            happenings.len(),
+            explanation,
+        )
+    })
+}
+
+pub fn explain_from(program: &[u8], bus: u32, start: &RawRegisters, most: u32) -> Result<RawExplained, Error> {
+    RawExplained::by(|src, dst, happenings, explanation| unsafe {
+        dma330_explain_from(
+            program.as_ptr(),
+            program.len(),
+            bus,
+            start,
             most,
             src.as_mut_ptr(),
             src.len(),
