@@ -196,6 +196,55 @@ static void explains_moves_of_dar(void)
     check(explain(0, 9) == DMA330_OK && is_explained(1, 1, 0, 4, 7) && writes(0, 0x3004, 4), "no lanes", 0);
 }
 
+/* Explains the tested program from the registers that a program before it has left. */
+static int32_t explain_from(uint32_t bus, const dma330_registers *start)
+{
+    allocations_left = MANY;
+    forget();
+    return dma330_explain_from(tested.bytes, tested.len, bus, start, 100, out.src, ROOM, out.dst, ROOM, out.happenings, ROOM,
+                               &out.explanation);
+}
+
+/* A program that sets no register copies from where the program before it has ended, five times with LC0. The pc and the
+ * counts of the registers have no meaning. */
+static void explains_from_registers(void)
+{
+    static const uint32_t refused_words[] = {1 << 28, 5 << 1, 1u << 31, 0x0001C007};
+    dma330_registers start = {9, 0x1000, 0x2000, 0x00014005, 4, 0, 1, 77, 88};
+
+    assemble("DMALD\nDMAST\nDMALPEND 0 2\nDMAEND\n");
+    check(explain_from(32, &start) == DMA330_OK && is_explained(1, 1, 0, 20, 16) && reads(0, 0x1000, 20, 1) &&
+              writes(0, 0x2000, 20), "from registers", 0);
+    check(explain_from(0, &start) == DMA330_OK && is_explained(1, 1, 0, 20, 16), "on a channel", 0);
+    start.lc0 = 0;
+    start.sar = 0x2000;
+    check(explain_from(64, &start) == DMA330_UNEXPLAINED && has_cause(DMA330_CAUSE_STORES_SOURCE, 4, 3), "onto itself", 0);
+    for (uint32_t n = 0; n < 4; n++) {
+        start.ccr = refused_words[n];
+        check(explain_from(32, &start) == DMA330_BAD_CONFIG && are_lists_unwritten(), "a CCR that no channel has", n);
+    }
+    check(explain_from(64, &start) == DMA330_UNEXPLAINED && has_cause(DMA330_CAUSE_STORES_SOURCE, 4, 3), "which this bus has", 0);
+    check(explain_from(16, &start) == DMA330_BAD_CONFIG, "no such bus", 0);
+    check(explain(32, 100) == DMA330_UNEXPLAINED && has_cause(DMA330_CAUSE_STORES_FIXED, 1, 1), "from zeros", 0);
+}
+
+/* A DMASTZ is part of no copy, on a device's bus, and undefined on the bus of a channel; additions are part of one. */
+static void explains_a_devices_instructions(void)
+{
+    static const uint8_t zeros[] = {0x18, 0x0C, 0x00};
+    static const uint8_t rows[] = {
+        0xBC, 1, 0x05, 0x40, 0x01, 0x00, 0xBC, 0, 0, 0x10, 0, 0, 0xBC, 2, 0, 0x20, 0, 0, 0x20, 1, 0x04, 0x08, 0x54, 0x0C, 0x00,
+        0x5E, 0xF8, 0xFF, 0x38, 8, 0x00
+    };
+
+    memcpy(tested.bytes, zeros, tested.len = sizeof zeros);
+    check(explain(32, 9) == DMA330_UNEXPLAINED && has_cause(DMA330_CAUSE_STORES_ZEROS, 1, 1), "a DMASTZ", 32);
+    check(explain(0, 9) == DMA330_UNEXPLAINED && has_cause(DMA330_CAUSE_UNDEF_INSTR, 1, 1), "on a channel", 0);
+    memcpy(tested.bytes, rows, tested.len = sizeof rows);
+    check(explain(32, 99) == DMA330_OK && is_explained(2, 2, 0, 8, 15) && reads(0, 0x1000, 4, 1) && reads(1, 0x1010, 4, 1) &&
+              writes(0, 0x2000, 4) && writes(1, 0x1FFC, 4), "two rows", 0);
+}
+
 /* Loads that stay: a source is one item with the number of its rounds, and not one an address. */
 static void explains_repeated_sources(void)
 {
@@ -424,6 +473,8 @@ int main(void)
     explains_on_each_bus();
     explains_first_beats();
     explains_moves_of_dar();
+    explains_from_registers();
+    explains_a_devices_instructions();
     explains_repeated_sources();
     explains_events();
     refuses_other_buses();
