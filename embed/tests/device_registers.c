@@ -226,14 +226,14 @@ static void reads_nothing(void)
 
 /* ---- threads ---- */
 
-/* Returns whether all registers of the other channels are 0. */
-static bool are_others_0(uint32_t channel)
+/* Returns whether all registers of the other channels are as after a reset. */
+static bool are_others_reset(uint32_t channel)
 {
     for (uint32_t n = 0; n < 8; n++) {
         if (n != channel && (get(&m, FTR + 4 * n) != 0 || get(&m, CSR + 8 * n) != 0 || get(&m, CPC + 8 * n) != 0))
             return false;
         for (uint32_t k = 0; k < 0x20; k += 4)
-            if (n != channel && get(&m, SAR + 0x20 * n + k) != 0)
+            if (n != channel && get(&m, SAR + 0x20 * n + k) != (SAR + k == CCR ? RESET_CCR : 0))
                 return false;
     }
     return true;
@@ -255,7 +255,7 @@ static void has_each_channel(uint32_t n)
     check(get(&m, SAR + 0x20 * n) == n + 1 && get(&m, DAR + 0x20 * n) == n + 2, "SAR and DAR", n);
     check(get(&m, CCR + 0x20 * n) == BURSTS_OF(1), "CCR", n);
     check(get(&m, LC0 + 0x20 * n) == n + 3 && get(&m, LC1 + 0x20 * n) == 255 - n, "LC0 and LC1", n);
-    check(are_others_0(n), "no other channel has changed", n);
+    check(are_others_reset(n), "no other channel has changed", n);
     stop(&m, (int)n);
     check(get(&m, FSRC) == 0 && get(&m, CSR + 8 * n) == 0 && !irq_abort(&m), "a kill", n);
     check(get(&m, FTR + 4 * n) == 1 && get(&m, SAR + 0x20 * n) == n + 1, "keeps FTR and the registers", n);

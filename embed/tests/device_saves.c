@@ -212,16 +212,21 @@ static int32_t forged(const save *bytes, uint32_t n)
 }
 
 /* Writes the Adler-32 checksum of all bytes but the last four to those. */
-static void seal(save *s)
+static void seal_bytes(uint8_t *bytes, size_t len)
 {
     uint32_t low = 1, high = 0;
 
-    for (size_t n = 0; n < s->len - 4; n++) {
-        low = (low + s->bytes[n]) % 65521;
+    for (size_t n = 0; n < len - 4; n++) {
+        low = (low + bytes[n]) % 65521;
         high = (high + low) % 65521;
     }
     for (size_t n = 0; n < 4; n++)
-        s->bytes[s->len - 4 + n] = (uint8_t)((high << 16 | low) >> 8 * n);
+        bytes[len - 4 + n] = (uint8_t)((high << 16 | low) >> 8 * n);
+}
+
+static void seal(save *s)
+{
+    seal_bytes(s->bytes, s->len);
 }
 
 /* A word of the save becomes another, and the checksum is right. */
@@ -354,10 +359,12 @@ static void needs_room(void)
     tear_down(&m);
 }
 
-/* A save of this layout's version 1, byte by byte as docs/FORMATS.md says: INTEN and interrupt 0 are set, and its one
- * channel is as after a reset. Later versions have to restore it; the save of what is restored is of version 2. */
+/* A save of this layout's version 1, byte by byte as docs/FORMATS.md says: INTEN and interrupt 0 are set, and the registers
+ * of its one channel are 0, as they were after a reset. Later versions have to restore it; the save of what is restored is
+ * of version 2. */
 static void restores_this_layout(void)
 {
+    enum { CHANNEL_SAVE = 60, CHANNEL_CCR = CHANNEL_SAVE + 20, CHANNEL_LEN = 52 };
     static const uint8_t kept[] = {
         'd', 'm', 'a', '3', '3', '0', 1, 1,       /* the version */
         1, 1, 0, 4, 3, 16, 0,                     /* channels, events, non-secure, bus, revision, lines */
@@ -388,6 +395,10 @@ static void restores_this_layout(void)
     set(&m, DBGINST0, 0x00340000);
     set(&m, DBGCMD, 0);
     set(&m, DBGINST1, 0x12345678);
+    for (int n = 0; n < 4; n++)
+        wanted.bytes[CHANNEL_CCR + n] = (uint8_t)(RESET_CCR >> 8 * n);
+    seal_bytes(wanted.bytes + CHANNEL_SAVE, CHANNEL_LEN);
+    seal(&wanted);
     check(has(&m, &wanted), "the save of its registers", 0);
     tear_down(&m);
 }

@@ -288,7 +288,7 @@ static const struct {
     {"a load in a gap", 1 << 18, 6, {MOVE(TO_SAR, NEXT_END), DMALD}},
     {"a load into a gap", 1 << 18, 12, {MOVE(TO_SAR, NEXT_END - 120), MOVE(TO_CCR, BURSTS_OF(3)), DMALD}},
     {"a store below RAM", 1 << 17, 13, {MOVE(TO_SAR, LOW), MOVE(TO_DAR, LOW - 1), DMALD, DMAST}},
-    {"a store at 0", 1 << 17, 7, {MOVE(TO_SAR, LOW), DMALD, DMAST}},
+    {"a store at 0", 1 << 17, 13, {MOVE(TO_SAR, LOW), MOVE(TO_DAR, 0), DMALD, DMAST}},
     {"a store into a gap", 1 << 17, 19,
      {MOVE(TO_SAR, LOW), MOVE(TO_DAR, NEXT_END - 120), MOVE(TO_CCR, BURSTS_OF(3)), DMALD, DMAST}},
     {"no instruction", 1 << 0, 1, {DMANOP, 0xFF}},
