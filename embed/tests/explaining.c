@@ -223,7 +223,8 @@ static void explains_from_registers(void)
         start.ccr = refused_words[n];
         check(explain_from(32, &start) == DMA330_BAD_CONFIG && are_lists_unwritten(), "a CCR that no channel has", n);
     }
-    check(explain_from(64, &start) == DMA330_UNEXPLAINED && has_cause(DMA330_CAUSE_STORES_SOURCE, 4, 3), "which this bus has", 0);
+    check(explain_from(64, &start) == DMA330_UNEXPLAINED && has_cause(DMA330_CAUSE_STORES_SOURCE, 4, 3),
+          "which this bus has", 0);
     check(explain_from(16, &start) == DMA330_BAD_CONFIG, "no such bus", 0);
     check(explain(32, 100) == DMA330_UNEXPLAINED && has_cause(DMA330_CAUSE_STORES_FIXED, 1, 1), "from zeros", 0);
 }
@@ -231,7 +232,8 @@ static void explains_from_registers(void)
 /* A DMASTZ is part of no copy, on a device's bus, and undefined on the bus of a channel; additions are part of one. */
 static void explains_a_devices_instructions(void)
 {
-    static const uint8_t zeros[] = {0x18, 0x0C, 0x00};
+    static const uint8_t zeros[] = {0x18, 0x0C, 0x00}, forever[] = {0x18, 0x28, 0x00};
+    static const uint8_t moves[] = {0xBC, 1, 0x05, 0x40, 0x01, 0x00, 0x04, 0x56, 0x02, 0x00, 0x08, 0x00};
     static const uint8_t rows[] = {
         0xBC, 1, 0x05, 0x40, 0x01, 0x00, 0xBC, 0, 0, 0x10, 0, 0, 0xBC, 2, 0, 0x20, 0, 0, 0x20, 1, 0x04, 0x08, 0x54, 0x0C, 0x00,
         0x5E, 0xF8, 0xFF, 0x38, 8, 0x00
@@ -240,6 +242,11 @@ static void explains_a_devices_instructions(void)
     memcpy(tested.bytes, zeros, tested.len = sizeof zeros);
     check(explain(32, 9) == DMA330_UNEXPLAINED && has_cause(DMA330_CAUSE_STORES_ZEROS, 1, 1), "a DMASTZ", 32);
     check(explain(0, 9) == DMA330_UNEXPLAINED && has_cause(DMA330_CAUSE_UNDEF_INSTR, 1, 1), "on a channel", 0);
+    memcpy(tested.bytes, forever, tested.len = sizeof forever);
+    check(explain(32, 9) == DMA330_UNEXPLAINED && has_cause(DMA330_CAUSE_NO_END, 1, 9), "a loop for ever", 32);
+    memcpy(tested.bytes, moves, tested.len = sizeof moves);
+    check(explain(32, 9) == DMA330_UNEXPLAINED && has_cause(DMA330_CAUSE_DROPS_BYTES, 7, 2), "an addition to DAR", 32);
+    check(explain(0, 9) == DMA330_UNEXPLAINED && has_cause(DMA330_CAUSE_UNDEF_INSTR, 7, 2), "on a channel", 0);
     memcpy(tested.bytes, rows, tested.len = sizeof rows);
     check(explain(32, 99) == DMA330_OK && is_explained(2, 2, 0, 8, 15) && reads(0, 0x1000, 4, 1) && reads(1, 0x1010, 4, 1) &&
               writes(0, 0x2000, 4) && writes(1, 0x1FFC, 4), "two rows", 0);

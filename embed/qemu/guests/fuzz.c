@@ -51,8 +51,10 @@ static uint8_t *draw_move(uint8_t *at)
     return move(at, to, value);
 }
 
+/* A program begins with a DMAMOV DAR, since a DMAGO keeps DAR, and stores in no loop for ever. */
 static void draw_program(uint8_t *at)
 {
+    at = move(at, DAR_, FREE);
     for (uint32_t count = draw() % 40; count; count--) {
         switch (draw() % 16) {
         case 0:
@@ -87,12 +89,12 @@ static void draw_program(uint8_t *at)
         case 12:
             at = op(at, DMASTZ);
             break;
-        case 13: /* DMAADDH and DMAADNH, of SAR and of DAR */
-            at = op(op2(at, DMAADDH | (draw() & 10), draw()), draw());
+        case 13: /* DMAADDH and DMAADNH of SAR */
+            at = op(op2(at, DMAADDH | (draw() & 8), draw()), draw());
             break;
         case 14:
             if (draw() % 6 == 0)
-                at = op2(at, DMALPEND_FE | (draw() & 4), draw() % 12);
+                at = op2(op2(at, DMAWFE, draw() % 16 << 3), DMALPEND_FE | (draw() & 4), 2);
             break;
         default:
             if (draw() % 8 == 0)
