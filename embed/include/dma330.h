@@ -279,8 +279,8 @@ enum dma330_cause {
     DMA330_CAUSE_LOADS_PAST = 8,          /* a load goes beyond address 4294967295 */
     DMA330_CAUSE_STORES_PAST = 9,         /* a store does */
     DMA330_CAUSE_STORES_FIXED = 10,       /* a store's address doesn't rise */
-    DMA330_CAUSE_DROPS_BYTES = 11,        /* a DMAMOV DAR or CCR at which a chip drops bytes that are loaded and not
-                                           * stored: DAR moves to other byte lanes of the bus, begins or ceases to rise,
+    DMA330_CAUSE_DROPS_BYTES = 11,        /* a DMAMOV, DMAADDH or DMAADNH at which a device, as a chip, drops bytes that
+                                           * are loaded and not stored: DAR moves to other byte lanes of the bus, begins or ceases to rise,
                                            * or doesn't rise and the beats get another size. Not with `bus` 0 */
     DMA330_CAUSE_BYTES_LEFT = 12,         /* at DMAEND loaded bytes aren't stored */
     DMA330_CAUSE_STORES_TWICE = 13,       /* at DMAEND a byte was stored twice */
@@ -786,7 +786,7 @@ int32_t dma330_run_program(const uint8_t *program, size_t len, uint8_t *memory, 
  * for and signals, and the numbers of all. Byte number p that it reads is byte number p that it stores; no byte is stored
  * twice, or where one is read. `bus` is 0 for a channel of this library, or 32, 64 or 128 for one of a device. The call
  * runs the program once, without a memory, for at most `most` instructions: their order and addresses are the same in
- * each memory. So a channel that runs the program copies these bytes, if the regions have all these addresses, none that
+ * each memory. So a channel that runs the program from these registers copies these bytes, if the regions have all these addresses, none that
  * it writes is read-only, no mark lies there, and nobody else writes there meanwhile. If UNEXPLAINED is returned, no copy
  * explains the program in at most `most` instructions: the explanation has the cause, the offset, and how many
  * instructions come before it. For BUFFER_TOO_SMALL the explanation is that of DMA330_OK, so the numbers are the room

@@ -41,7 +41,7 @@
 #define DMA330_DMAWFE(event) 0x36, ((unsigned char)((event) << 3))
 #define DMA330_DMAWFE_INVALID(event) 0x36, ((unsigned char)((event) << 3 | 2))
 
-/* A device's instructions, which the controller and channels alone don't have. The first stores a burst of zeros at DAR. The
+/* A device's instructions, which a dma330_controller and a dma330_channel don't have. The first stores a burst of zeros at DAR. The
  * next two add a number, 0 to 65,535, to an address. The two after them add a number with ones above its 16 bits, so that
  * 0xFFF0 subtracts 16. The last repeats for ever the `length` bytes before it, 0 to 255: the manual's DMALPFE, which has no
  * bytes, is at their start. */

@@ -145,9 +145,10 @@ impl Device {
         Ok(DeviceTurn { written: turn.written, lines_changed, can_step })
     }
 
-    /// Returns what the program copies that a DMAGO loaded into a channel, as [`explain`](crate::explain) does on the
-    /// device's bus: from its first instruction on, wherever the channel is in it. A channel has a program from the DMAGO
-    /// until the DMAEND or a DMAKILL.
+    /// Returns what the program copies that a DMAGO loaded into a channel, as [`explain_from`](crate::explain_from) does
+    /// on the device's bus: from its first instruction on, with the registers that the channel has now. A DMAGO keeps the
+    /// registers, so ask before the channel's first turn. Later the answer is the same only if the program sets each
+    /// register before it uses it. A channel has a program from the DMAGO until the DMAEND or a DMAKILL.
     ///
     /// Fails with `NoChannel`; with `NoProgram`; with `Unexplained` if no copy explains the program in at most `most`
     /// instructions; or with `NoMemory`.

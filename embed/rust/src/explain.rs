@@ -104,7 +104,7 @@ pub enum Cause {
     StoresPast,
     /// A store's address doesn't rise.
     StoresFixed,
-    /// A chip drops bytes that are loaded and not stored at this DMAMOV DAR or CCR: DAR moves to other byte lanes of the
+    /// A chip, and a device, drops bytes that are loaded and not stored at this DMAMOV, DMAADDH or DMAADNH: DAR moves to other byte lanes of the
     /// bus, begins or ceases to rise, or doesn't rise and the beats get another size. Not for [`Bus::Channel`].
     DropsBytes,
     /// At DMAEND loaded bytes aren't stored.
@@ -178,7 +178,8 @@ pub(crate) fn explanation_of(raw: sys::RawExplained) -> Result<Explanation, Erro
     Ok(Explanation { src: raw.src, dst: raw.dst, happenings, size, steps })
 }
 
-/// Returns what a program copies on a bus, by one run without memory for at most `most` instructions.
+/// Returns what a program copies on a bus, by one run without memory for at most `most` instructions. It begins with
+/// registers that are 0, as a [`Channel`](crate::Channel) does; a device's channel may have others: see [`explain_from`].
 ///
 /// The order and the addresses of a program's instructions are the same in each memory. So a channel that runs the
 /// program copies these bytes, if the regions have all these addresses, none that it writes is read-only, no mark lies
@@ -206,8 +207,8 @@ pub fn explain(program: &[u8], bus: Bus, most: u32) -> Result<Explanation, Error
     sys::explain(program, bus.number(), most).and_then(explanation_of)
 }
 
-/// Returns what a program copies that begins with the `sar`, `dar`, `ccr`, `lc0` and `lc1` of these registers, as
-/// [`explain`] does, for which they are 0.
+/// Like [`explain`], but the program begins with the `sar`, `dar`, `ccr`, `lc0` and `lc1` of these registers, and not
+/// with zeros.
 ///
 /// A device's channel keeps its registers over a DMAGO, so a driver's program may leave out a DMAMOV.
 ///
