@@ -1,12 +1,12 @@
--- A call writes only what its steps write, and one of a program that copies only its destinations.
-use Rattle.std.proofs.Common.{◌≡◌, ◌≢◌, ℕ, zero, suc, ◌≤◌, ◌<◌, ◌⊎◌, true, List, ◌++◌, Option, Some, None, Result, Ok, Err, refl, sym, ap, ◌∙◌, subst, arith, inl, inr}
+-- A call writes only what its steps write, and one of a program that a work explains only what the work writes.
+use Rattle.std.proofs.Common.{◌≡◌, ℕ, zero, suc, ◌≤◌, ◌<◌, ◌⊎◌, true, List, ◌++◌, Option, Some, None, Result, Ok, Err, refl, sym, ap, ◌∙◌, subst, arith, inl, inr}
 use Rattle.std.specs.Prelude.{IsSomeAnd}
 use Rattle.std.specs.List.{Contains}
 use Rattle.std.proofs.lemmas.Bool.{cases_lt}
 use Rattle.std.proofs.lemmas.List.Elements.{Contains-append_left, Contains-append_right}
 use Rattle.dma_insn.specs.declared.chip.ChipInsn.{ChipInsn}
 use Rattle.dma_insn.specs.declared.chip.ChipInsn.TheVariants.{Ld, St, End, StoreZeros}
-use Rattle.dma_mem.specs.Places.{Descriptor, destinations}
+use Rattle.dma_mem.specs.Places.{destinations}
 use Rattle.dma_mem.specs.Marking.{MarkList}
 use Rattle.dma_chan.specs.declared.bus.Bus.{Bus}
 use Rattle.dma_chan.specs.declared.exec.Registers.{Registers}
@@ -16,7 +16,7 @@ use Rattle.dma_chan.specs.declared.turn.FaultKind.{FaultKind}
 use Rattle.dma_chan.specs.Bursts.{touched}
 use Rattle.dma_chan.specs.Exec.{State, act, destination_of, exec_fetched, moved}
 use Rattle.dma_chan.specs.Channel.{ChannelValue, ahead_of, bytes_of_program, state_of, step_of, after_turn, stored_by}
-use Rattle.dma_chan.specs.Explains.{Executes, Explains, GoesOn, IsIn, StartsWith, Trace, after_fetch, after_insn, next_in, traced}
+use Rattle.dma_chan.specs.Explains.{Executes, Explains, GoesOn, IsIn, StartsWith, Trace, Work, after_fetch, after_insn, cleared, next_in, traced, written}
 use Rattle.dma_chan.specs.Next.{next_on}
 use Rattle.dma_chan.specs.NextWrites.{written_by, written_next}
 use Rattle.dma_chan.specs.Programs.{ProgramValue}
@@ -25,7 +25,6 @@ use Rattle.dma_chan.specs.CallWrites.{CallWritesNoOther, LoadExecutes, CallStays
 use Rattle.dma_chan.proofs.ActCases.{act_cases}
 use Rattle.dma_chan.proofs.GoingOn.{Can, can_next, few_at}
 use Rattle.dma_chan.proofs.NextFits.{next_longer}
-use Rattle.dma_chan.proofs.ShapeLaws.{is_store}
 use Rattle.dma_chan.proofs.StepsTaken.{steps_move}
 use Rattle.dma_chan.proofs.SteppedOver.{kept_outside, was_moved, went_before, writes_each}
 use Rattle.dma_chan.proofs.Traced.{Inside, grows_to}
@@ -57,9 +56,9 @@ act_leads marks i s =
 -- ---- a channel that executes a program that copies
 
 -- the instruction after k others: it goes on, or it is DMAEND after all n
-pub data Nexts (start : Registers) (program : List ℕ) (t : Descriptor) (n k : ℕ) : Type 0 where
-  Goes : (i : ChipInsn) → k < n → next_in program (traced start program k) ≡ Ok i → Can i (traced start program k) → Nexts start program t n k
-  Ends : k ≡ n → next_in program (traced start program k) ≡ Ok End → Nexts start program t n k
+pub data Nexts (start : Registers) (program : List ℕ) (work : Work) (n k : ℕ) : Type 0 where
+  Goes : (i : ChipInsn) → k < n → next_in program (traced start program k) ≡ Ok i → Can i (traced start program k) → Nexts start program work n k
+  Ends : k ≡ n → next_in program (traced start program k) ≡ Ok End → Nexts start program work n k
 
 next_alike : (bus : Bus) (program : List ℕ) (o : Option ProgramValue) (pc : ℕ) (i : ChipInsn) → IsSomeAnd o (λ p. StartsWith p program) → next_on bus program pc ≡ Ok i → next_on bus (bytes_of_program o) pc ≡ Ok i
 next_alike bus program None pc i b h = absurd b
@@ -83,19 +82,15 @@ ends_then marks u ahead = ap (λ (x : ChanTurn × State). x.0) (does_next marks 
 
 registers_after : (i : ChipInsn) (x : Trace) → (after_insn i x).registers ≡ moved i x.registers
 registers_after Ld x = refl
+registers_after StoreZeros x = refl
 registers_after i x = refl
 
-none_written : (i : ChipInsn) (r : Registers) (a : ℕ) → i ≢ St → i ≢ StoreZeros → ¬ Contains (written_by (Ok i) r) a
-none_written St r a ne other w = ne refl
-none_written StoreZeros r a ne other w = other refl
-none_written i r a ne other w = omega (arith, w.1)
-
-module _ (start : Registers) (program : List ℕ) (t : Descriptor) (n : ℕ) (h : Explains start program t n) where
-  fetched : (k : ℕ) → k < n → (r : Result ChipInsn FaultKind) → next_in program (traced start program k) ≡ r → GoesOn r (traced start program k) → Nexts start program t n k
+module _ (start : Registers) (program : List ℕ) (work : Work) (n : ℕ) (h : Explains start program work n) where
+  fetched : (k : ℕ) → k < n → (r : Result ChipInsn FaultKind) → next_in program (traced start program k) ≡ r → GoesOn r (traced start program k) → Nexts start program work n k
   fetched k l (Ok i) e go = Goes i l e (can_next i (traced start program k) (few_at start program k (λ j m. h.goes j (omega arith))) go)
   fetched k l (Err kind) e go = absurd (let bad = go.1 in cc)
 
-  pub nexts : (k : ℕ) → k ≤ n → Nexts start program t n k
+  pub nexts : (k : ℕ) → k ≤ n → Nexts start program work n k
   nexts k l =
       elim (cases_lt k n) [
         | inl less ↦ fetched k less (next_in program (traced start program k)) refl (h.goes k less)
@@ -103,48 +98,53 @@ module _ (start : Registers) (program : List ℕ) (t : Descriptor) (n : ℕ) (h 
       ]
 
   -- what is read and written so far is a part of the copy
-  pub inside : (k : ℕ) → k ≤ n → Inside t (traced start program k)
+  pub inside : (k : ℕ) → k ≤ n → Inside work (traced start program k)
   inside k l =
       let g = grows_to start program k n l in
-      record { loads_rest = g.more_loads; stores_rest = g.more_stores; loads = sym h.loads ∙ g.loads; stores = sym h.stores ∙ g.stores }
+      record {
+        loads_rest = g.more_loads;
+        stores_rest = g.more_stores;
+        zeros_rest = g.more_zeros;
+        loads = sym h.loads ∙ g.loads;
+        stores = sym h.stores ∙ g.stores;
+        zeros = sym h.zeros ∙ g.zeros;
+      }
 
   pub traced_next : (k : ℕ) (i : ChipInsn) → next_in program (traced start program k) ≡ Ok i → traced start program (suc k) ≡ after_insn i (traced start program k)
   traced_next k i e = ap (λ (r : Result ChipInsn FaultKind). after_fetch r (traced start program k)) e
 
-  -- its next instruction writes only destinations
-  -- no DMASTZ goes on
-  not_zeros : (k : ℕ) (i : ChipInsn) → i ≡ End ⊎ ((k < n) × (next_in program (traced start program k) ≡ Ok i)) → i ≢ StoreZeros
-  not_zeros k i (inl over) e = let bad : End ≡ StoreZeros = sym over ∙ e in cc
-  not_zeros k i (inr less) e =
+  -- what its next instruction writes is stored or set to 0 by it
+  insn_writes : (k a : ℕ) (i : ChipInsn) → k < n → next_in program (traced start program k) ≡ Ok i → Contains (written_by (Ok i) (traced start program k).registers) a → Contains (written work) a
+  insn_writes k a St less next j =
       let x = traced start program k in
-      let go : GoesOn (Ok StoreZeros) x = subst (λ (r : Result ChipInsn FaultKind). GoesOn r x) (less.1 ∙ ap (λ (j : ChipInsn). Ok j) e) (h.goes k less.0) in
-      let bad = go.1 in
-      cc
-
-  next_writes : (k : ℕ) (c : ChannelValue) (a : ℕ) (i : ChipInsn) → c.registers ≡ (traced start program k).registers → ahead_of c ≡ Ok i → i ≡ End ⊎ ((k < n) × (next_in program (traced start program k) ≡ Ok i)) → Contains (written_next c) a → Contains (destinations t) a
-  next_writes k c a i at ahead how w =
+      let b = destination_of x.registers in
+      let part = inside (suc k) (omega (arith, less)) in
+      let now : Contains (x.stores ++ touched b) a = Contains-append_right x.stores (touched b) a j in
+      let later = subst (λ (y : Trace). Contains y.stores a) (sym (traced_next k St next)) now in
+      Contains-append_left (destinations work.copy) (cleared work) a
+      (subst (λ (xs : List ℕ). Contains xs a) (sym part.stores) (Contains-append_left (traced start program (suc k)).stores part.stores_rest a later))
+  insn_writes k a StoreZeros less next j =
       let x = traced start program k in
-      let here : written_next c ≡ written_by (Ok i) x.registers = ap (λ (r : Result ChipInsn FaultKind). written_by r c.registers) ahead ∙ ap (written_by (Ok i)) at in
-      let j : Contains (written_by (Ok i) x.registers) a = subst (λ (xs : List ℕ). Contains xs a) here w in
-      elim (is_store i) [
-        | inr ne ↦ absurd (none_written i x.registers a ne (not_zeros k i how) j)
-        | inl e ↦ elim how [
-          | inl over ↦ absurd (let bad : End ≡ St = sym over ∙ e in cc)
-          | inr less ↦
-              let part = inside (suc k) (omega (arith, less.0)) in
-              let is_next : (traced start program (suc k)).stores ≡ x.stores ++ touched (destination_of x.registers) = ap (λ (y : Trace). y.stores) (traced_next k i less.1 ∙ ap (λ (q : ChipInsn). after_insn q x) e) in
-              let mine : Contains (touched (destination_of x.registers)) a = subst (λ (q : ChipInsn). Contains (written_by (Ok q) x.registers) a) e j in
-              subst (λ (xs : List ℕ). Contains xs a) (sym part.stores)
-              (Contains-append_left (traced start program (suc k)).stores part.stores_rest a
-              (subst (λ (xs : List ℕ). Contains xs a) (sym is_next) (Contains-append_right x.stores (touched (destination_of x.registers)) a mine)))
-        ]
-      ]
+      let b = destination_of x.registers in
+      let part = inside (suc k) (omega (arith, less)) in
+      let now : Contains (x.zeros ++ touched b) a = Contains-append_right x.zeros (touched b) a j in
+      let later = subst (λ (y : Trace). Contains y.zeros a) (sym (traced_next k StoreZeros next)) now in
+      Contains-append_right (destinations work.copy) (cleared work) a
+      (subst (λ (xs : List ℕ). Contains xs a) (sym part.zeros) (Contains-append_left (traced start program (suc k)).zeros part.zeros_rest a later))
+  insn_writes k a i less next j = absurd (omega (arith, j.1))
 
-  pub next_inside : (k : ℕ) (c : ChannelValue) (a : ℕ) → IsIn start program n k c → Nexts start program t n k → Contains (written_next c) a → Contains (destinations t) a
-  next_inside k c a w (Goes i less next go) j = next_writes k c a i w.registers (ahead_at start program k i c w.begins w.registers next) (inr (less, next)) j
-  next_inside k c a w (Ends e next) j = next_writes k c a End w.registers (ahead_at start program k End c w.begins w.registers next) (inl refl) j
+  next_writes : (k : ℕ) (c : ChannelValue) (a : ℕ) (i : ChipInsn) → c.registers ≡ (traced start program k).registers → ahead_of c ≡ Ok i → Contains (written_next c) a → Contains (written_by (Ok i) (traced start program k).registers) a
+  next_writes k c a i at ahead w =
+      let here : written_next c ≡ written_by (Ok i) (traced start program k).registers = ap (λ (r : Result ChipInsn FaultKind). written_by r c.registers) ahead ∙ ap (written_by (Ok i)) at in
+      subst (λ (xs : List ℕ). Contains xs a) here w
 
-  moved_by_next : (marks : MarkList) (k : ℕ) (u : Machine) → IsIn start program n k u.channel → Nexts start program t n k → answer_at marks u ≡ Moved → IsIn start program n (suc k) (after_step marks u).channel
+  pub next_inside : (k : ℕ) (c : ChannelValue) (a : ℕ) → IsIn start program n k c → Nexts start program work n k → Contains (written_next c) a → Contains (written work) a
+  next_inside k c a w (Goes i less next go) j =
+      insn_writes k a i less next (next_writes k c a i w.registers (ahead_at start program k i c w.begins w.registers next) j)
+  next_inside k c a w (Ends e next) j =
+      let none = next_writes k c a End w.registers (ahead_at start program k End c w.begins w.registers next) j in absurd (omega (arith, none.1))
+
+  moved_by_next : (marks : MarkList) (k : ℕ) (u : Machine) → IsIn start program n k u.channel → Nexts start program work n k → answer_at marks u ≡ Moved → IsIn start program n (suc k) (after_step marks u).channel
   moved_by_next marks k u w (Ends e next) moves =
       let over = ends_then marks u (ahead_at start program k End u.channel w.begins w.registers next) in
       let bad : Ended ≡ Moved = sym over ∙ moves in absurd (cc)
@@ -191,10 +191,10 @@ load_executes start program n c l = (
 )
 
 pub call_stays_in : CallStaysIn
-call_stays_in start program t n marks s most taken last after h w steps = record {
+call_stays_in start program work n marks s most taken last after h w steps = record {
   writes = λ a i.
       let by = writes_each marks s taken a (steps_move steps) i in
-      let v = many_in start program t n h marks s by.0 w (λ k l. steps_move steps k (omega (arith, by.1))) in
-      next_inside start program t n h v.0 (after_steps marks s by.0).channel a v.1 (nexts start program t n h v.0 v.1.within) by.3;
-  channel = subst (λ (u : Machine). Executes start program n u.channel ⊎ (u.channel.program ≡ None)) (sym steps.ends_at) (last_in start program t n h marks s taken w (steps_move steps));
+      let v = many_in start program work n h marks s by.0 w (λ k l. steps_move steps k (omega (arith, by.1))) in
+      next_inside start program work n h v.0 (after_steps marks s by.0).channel a v.1 (nexts start program work n h v.0 v.1.within) by.3;
+  channel = subst (λ (u : Machine). Executes start program n u.channel ⊎ (u.channel.program ≡ None)) (sym steps.ends_at) (last_in start program work n h marks s taken w (steps_move steps));
 }

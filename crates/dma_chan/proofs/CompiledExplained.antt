@@ -1,14 +1,15 @@
 -- From any registers and on each bus a transfer explains its program that was compiled for that bus, which has its
 -- events.
-use Rattle.std.proofs.Common.{◌≡◌, ℕ, zero, suc, ◌+◌, ◌-◌, ◌≤◌, ◌<◌, List, ◌++◌, length, take, refl, sym, ap, ◌∙◌, subst, arith, Ok, ◌≢◌, Bool, true, false, cond, ◌&&◌, Option, Some, None, inl, inr}
+use Rattle.std.proofs.Common.{◌≡◌, ℕ, zero, suc, ◌+◌, ◌-◌, ◌≤◌, ◌<◌, List, [], ◌++◌, append-nil, length, take, refl, sym, ap, ◌∙◌, subst, arith, Ok, ◌≢◌, Bool, true, false, cond, ◌&&◌, Option, Some, None, inl, inr}
 use Rattle.std.specs.Prelude.{IfSome, nat_lt}
+use Rattle.std.specs.List.{AllPairs}
 use Rattle.std.proofs.lemmas.Bool.{cases_lt, le-ltb}
 use Rattle.std.proofs.lemmas.List.{length-take-le, take_all}
 use Rattle.std.proofs.Math.Seq.{take-add}
 use Rattle.dma_insn.specs.declared.insn.Reg.TheVariants.{Sar, Dar, Ccr}
 use Rattle.dma_insn.specs.declared.chip.ChipInsn.{ChipInsn}
 use Rattle.dma_insn.specs.declared.chip.ChipInsn.TheVariants.{Mov, Ld, St, End, LpEnd, Sev, Wfe, StoreZeros, AddHalfword, LoopAgain}
-use Rattle.dma_mem.specs.Places.{Descriptor, sources, destinations, size_of}
+use Rattle.dma_mem.specs.Places.{Apart, Descriptor, sources, destinations, size_of}
 use Rattle.dma_mem.specs.Rules.{IsTransfer}
 use Rattle.dma_chan.specs.declared.bus.Bus.{Bus}
 use Rattle.dma_chan.specs.declared.bus.Bus.TheVariants.{Ideal}
@@ -19,7 +20,8 @@ use Rattle.dma_chan.specs.Bursts.{burst_len, touched}
 use Rattle.dma_chan.specs.Bus.{accepts}
 use Rattle.dma_chan.specs.Compiled.{compiled, compiled_on, cost, cost_on, members_on, tree_on}
 use Rattle.dma_chan.specs.Exec.{begun, buffer_size, start_on, counter_of, source_of, destination_of, moved}
-use Rattle.dma_chan.specs.Explains.{CompiledEvents, CompiledExplained, CompiledOnBus, GoesOn, Trace, held, passes, stop_of, stop_of_insn, stop_of_mov, after_fetch, after_insn, next_in, traced, untraced}
+use Rattle.dma_chan.specs.OnBuses.{CompiledEvents, CompiledExplained, CompiledOnBus}
+use Rattle.dma_chan.specs.Explains.{GoesOn, IsWork, Trace, all_of, amounts_of, held, only, passes, written, stop_of, stop_of_insn, stop_of_mov, after_fetch, after_insn, next_in, traced, untraced}
 use Rattle.dma_chan.specs.Next.{next_of}
 use Rattle.dma_chan.proofs.NextFits.{next_widens}
 use Rattle.dma_chan.specs.Tree.{bytes_of}
@@ -31,6 +33,7 @@ use Rattle.dma_chan.proofs.GoingOn.{ends_low, mov_empty, passed}
 use Rattle.dma_chan.proofs.MemberActs.{cannot_jump}
 use Rattle.dma_chan.proofs.MembersByNumber.{at_on, begin_on, bus_on, carries_on, fetches_on, member_on, next_on, registers_on}
 use Rattle.dma_chan.proofs.ShapeLaws.{all_stored, end_last, end_only, signal_last, signal_only, wait_first, wait_only}
+use Rattle.dma_chan.proofs.TraceParts.{same_amounts}
 use Rattle.dma_chan.proofs.TreeCosts.{cost_below, some_on}
 use Rattle.dma_chan.proofs.TreeWalk.{CanJump}
 
@@ -39,6 +42,7 @@ pub record Traces (src dst : List ℕ) (p : Progress) (x : Trace) : Type 0 where
   pub registers : x.registers ≡ p.registers
   pub loads : x.loads ≡ take (p.stored + p.held) src
   pub stores : x.stores ≡ take p.stored dst
+  pub zeros : x.zeros ≡ []
   pub in_src : p.stored + p.held ≤ length src
   pub in_dst : p.stored ≤ length dst
 
@@ -50,8 +54,8 @@ module _ (bus : Bus) (src dst : List ℕ) (p : Progress) (x : Trace) (w : Traces
   all_stores = ap length w.stores ∙ length-take-le p.stored dst w.in_dst
 
   -- an instruction that moves no byte
-  same_insn : (i : ChipInsn) → Traces src dst (record p { registers = moved i p.registers }) (record { registers = moved i x.registers; loads = x.loads; stores = x.stores })
-  same_insn i = record { registers = ap (moved i) w.registers; loads = w.loads; stores = w.stores; in_src = w.in_src; in_dst = w.in_dst }
+  same_insn : (i : ChipInsn) → Traces src dst (record p { registers = moved i p.registers }) (record x { registers = moved i x.registers })
+  same_insn i = record { registers = ap (moved i) w.registers; loads = w.loads; stores = w.stores; zeros = w.zeros; in_src = w.in_src; in_dst = w.in_dst }
 
   load : CarriesOne bus src dst Ld p → Traces src dst (advanced Ld p) (after_insn Ld x)
   load c =
@@ -66,6 +70,7 @@ module _ (bus : Bus) (src dst : List ℕ) (p : Progress) (x : Trace) (w : Traces
             ∙ sym (take-add p.stored k src)
             ∙ ap (λ (n : ℕ). take n src) (let all : p.stored + k ≡ p.stored + (p.held + k) = omega (arith, c.empty) in all);
         stores = w.stores;
+        zeros = w.zeros;
         in_src = omega (arith, c.empty, c.whole);
         in_dst = w.in_dst;
       }
@@ -82,6 +87,7 @@ module _ (bus : Bus) (src dst : List ℕ) (p : Progress) (x : Trace) (w : Traces
             ∙ ap (λ (r : Registers). take p.stored dst ++ touched (destination_of r)) w.registers
             ∙ ap (λ (xs : List ℕ). take p.stored dst ++ xs) (touched_from p.registers.bus 14 p.registers.dar p.registers.ccr k c.rises len ∙ c.touches)
             ∙ sym (take-add p.stored k dst);
+        zeros = w.zeros;
         in_src = omega (arith, c.held, w.in_src);
         in_dst = c.whole;
       }
@@ -89,12 +95,13 @@ module _ (bus : Bus) (src dst : List ℕ) (p : Progress) (x : Trace) (w : Traces
   advances : (i : ChipInsn) → CarriesOne bus src dst i p → Traces src dst (advanced i p) (after_insn i x)
   advances Ld c = load c
   advances St c = store c
+  advances StoreZeros c = absurd c
   advances i c = same_insn i
 
 -- an instruction that is carried is part of a copy, unless it is DMAEND
-module _ (bus : Bus) (src dst : List ℕ) (p : Progress) (loads stores : List ℕ) (full : length loads - length stores ≡ p.held) (on : p.registers.bus ≡ bus) where
+module _ (bus : Bus) (src dst : List ℕ) (p : Progress) (x : Trace) (full : held x ≡ p.held) (on : p.registers.bus ≡ bus) where
   abbrev here : Trace
-  here = record { registers = p.registers; loads = loads; stores = stores }
+  here = record x { registers = p.registers }
 
   passes_on : (i : ChipInsn) → i ≢ End → CarriesOne bus src dst i p → CanJump i p.registers → stop_of_insn i here ≡ None
   passes_on Ld ne c j =
@@ -141,7 +148,7 @@ module _ (start : Registers) (t : Descriptor) (h : IsTransfer t) where
       ∙ (fetches_on start t k h l).next)
 
   pub along : (k : ℕ) → k < cost_on start.bus t → TracesAt k
-  along zero l = subst (λ (p : Progress). Traces (sources t) (destinations t) p (untraced start)) (sym (begin_on start t)) (record { registers = refl; loads = refl; stores = refl; in_src = omega arith; in_dst = omega arith })
+  along zero l = subst (λ (p : Progress). Traces (sources t) (destinations t) p (untraced start)) (sym (begin_on start t)) (record { registers = refl; loads = refl; stores = refl; zeros = refl; in_src = omega arith; in_dst = omega arith })
   along (suc k) l =
       let less : k < cost_on start.bus t = omega arith in
       let w = along k less in
@@ -176,19 +183,31 @@ module _ (start : Registers) (t : Descriptor) (h : IsTransfer t) where
             omega (arith, end_only start.bus t k less is),
         subst (λ next. stop_of next x ≡ None) (sym (fetched k less))
             (subst (λ (r : Registers). stop_of_insn (member_on start.bus t k) (record x { registers = r }) ≡ None) (sym w.registers)
-            (passes_on start.bus (sources t) (destinations t) p x.loads x.stores (held_at k less) (bus_on start t k) (member_on start.bus t k) (λ e. let last = end_only start.bus t k less e in omega (arith, last)) (carries_on start t k h less) jump)),
+            (passes_on start.bus (sources t) (destinations t) p x (held_at k less) (bus_on start t k) (member_on start.bus t k) (λ e. let last = end_only start.bus t k less e in omega (arith, last)) (carries_on start t k h less) jump)),
       )
 
   -- the first instruction waits, and the last before DMAEND signals
   pub is_member : (k : ℕ) (i : ChipInsn) → k < cost_on start.bus t → next_in program (traced start program k) ≡ Ok i → member_on start.bus t k ≡ i
   is_member k i l e = let same : Ok (member_on start.bus t k) ≡ Ok i = sym (fetched k l) ∙ e in cc
 
-  signalled : (k e : ℕ) → k + 2 ≡ cost_on start.bus t → member_on start.bus t k ≡ Sev e → length (traced start program k).stores ≡ size_of t
+  signalled : (k e : ℕ) → k + 2 ≡ cost_on start.bus t → member_on start.bus t k ≡ Sev e → amounts_of (traced start program k) ≡ all_of (only t)
   signalled k e last is =
       let next_last : k + 1 ≡ cost_on start.bus t - 1 = omega (arith, last) in
+      let less : k < cost_on start.bus t = omega (arith, last) in
       let still : (at_on start t (k + 1)).stored ≡ (at_on start t k).stored =
-      ap (λ (p : Progress). p.stored) (next_on start t k (omega (arith, last))) ∙ ap (λ (i : ChipInsn). (advanced i (at_on start t k)).stored) is in
-      stored_at k (omega (arith, last)) ∙ sym still ∙ ap (λ (n : ℕ). (at_on start t n).stored) next_last ∙ all_stored start t h
+      ap (λ (p : Progress). p.stored) (next_on start t k less) ∙ ap (λ (i : ChipInsn). (advanced i (at_on start t k)).stored) is in
+      let all : length (traced start program k).stores ≡ size_of t = stored_at k less ∙ sym still ∙ ap (λ (n : ℕ). (at_on start t n).stored) next_last ∙ all_stored start t h in
+      same_amounts all (ap length (along k less).zeros)
+
+-- a copy alone does nothing else
+only_work : (t : Descriptor) → IsTransfer t → IsWork (only t)
+only_work t h =
+    let same : destinations t ≡ written (only t) = sym (append-nil (destinations t)) in
+    record {
+      same_length = h.same_length;
+      once = subst (AllPairs (λ a b. a ≢ b)) same h.once;
+      apart = subst (Apart (sources t)) same h.apart;
+    }
 
 pub compiled_on_bus : CompiledOnBus
 compiled_on_bus start t h =
@@ -201,8 +220,9 @@ compiled_on_bus start t h =
       ends = fetched start t h last (omega arith) ∙ ap (λ (i : ChipInsn). Ok i) (end_last start.bus t h);
       loads = w.loads ∙ take_all _ (sources t) (omega (arith, stored, h.same_length));
       stores = w.stores ∙ take_all _ (destinations t) (omega (arith, stored));
+      zeros = w.zeros;
       few = let low = cost_below start.bus t h in omega arith;
-      copy = record { same_length = h.same_length; once = h.once; apart = h.apart };
+      work = only_work t h;
     }
 
 pub compiled_explained : CompiledExplained
@@ -212,10 +232,10 @@ compiled_explained t h = compiled_on_bus (start_on Ideal) t h
 pub compiled_events : CompiledEvents
 compiled_events start t h = record {
   waits = λ e w. wait_only start.bus t w.step e w.invalid (is_member start t h w.step (Wfe e w.invalid) (let l = w.within in omega arith) w.waits);
-  signals = λ e stored s.
+  signals = λ e done s.
       let is = is_member start t h s.step (Sev e) (let l = s.within in omega arith) s.signals in
-      let only = signal_only start.bus t s.step e is in
-      (only.1, sym s.after ∙ signalled start t h s.step e only.0 is);
+      let last = signal_only start.bus t s.step e is in
+      (last.1, sym s.after ∙ signalled start t h s.step e last.0 is);
   has_wait = λ e known.
       let is = subst (λ (o : Option ℕ). IfSome o (λ v. member_on start.bus t 0 ≡ Wfe v false)) known (wait_first start.bus t) in
       let some = some_on start.bus t in

@@ -69,7 +69,7 @@ Can (Mov Ccr w) x = (accepts x.registers.bus w ≡ true) × (dropped (Mov Ccr w)
 Can (AddHalfword Destination half negative) x = dropped (AddHalfword Destination half negative) x ≡ false
 Can (LpEnd c back) x = 0 < counter_of c x.registers → back ≤ x.registers.pc
 Can End x = ⊥
-Can StoreZeros x = ⊥
+Can StoreZeros x = (destination_of x.registers).increments ≡ true
 Can (LoopAgain counter back) x = back ≤ x.registers.pc
 Can i x = Unit {0}
 
@@ -99,7 +99,8 @@ can (AddHalfword Destination half negative) x few ne e =
 can (LpEnd c back) x few ne e =
     no_jump (counter_of c x.registers) x.registers.pc back (none_first (nat_lt 0 (counter_of c x.registers) && nat_lt x.registers.pc back) (Fails InstrFetchErr) None e).0
 can End x few ne e = absurd (ne refl)
-can StoreZeros x few ne e = absurd (cc)
+can StoreZeros x few ne e =
+    let b = destination_of x.registers in (none_second b.increments StoresFixed None (none_first (passes b) StoresPast _ e).1).0
 can (LoopAgain counter back) x few ne e = ltb-false x.registers.pc back (none_first (nat_lt x.registers.pc back) (Fails InstrFetchErr) None e).0
 can i x few ne e = tt
 

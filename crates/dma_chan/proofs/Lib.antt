@@ -26,6 +26,7 @@ pub mod WrittenRanges
 pub mod StepsTaken
 pub mod SteppedOver
 pub mod AmongOthers
+pub mod TraceParts
 pub mod GoingOn
 pub mod Traced
 pub mod OthersKept
@@ -40,6 +41,7 @@ pub mod BusKept
 pub mod AddressesAligned
 pub mod LowestPlaces
 pub mod TracerSteps
+pub mod TracerBursts
 pub mod Explaining
 pub mod Turns
 pub mod Rows

@@ -20,7 +20,8 @@ use Rattle.dma_chan.specs.Bus.{accepts, fits}
 use Rattle.dma_chan.specs.declared.bursts.Burst.{Burst}
 use Rattle.dma_chan.specs.Bursts.{IsAligned, advance, burst_len, touched}
 use Rattle.dma_chan.specs.Exec.{buffer_size, destination_of, looped, past, source_of, wrapped}
-use Rattle.dma_chan.specs.Explains.{ExplainedOnBus, GoesOn, IsAlignedTo, MovesAligned, SetsEmpty, Trace, after_fetch, after_insn, fits_bus, held, next_in, passes, stop_of_insn, stop_of_mov, traced}
+use Rattle.dma_chan.specs.OnBuses.{ExplainedOnBus, IsAlignedTo, MovesAligned, SetsEmpty, fits_bus}
+use Rattle.dma_chan.specs.Explains.{GoesOn, Trace, after_fetch, after_insn, held, next_in, passes, stop_of_insn, stop_of_mov, traced}
 use Rattle.dma_chan.proofs.ControlWords.{same_burst}
 use Rattle.dma_chan.specs.Next.{next_on}
 use Rattle.dma_chan.proofs.NextFits.{next_widens}
@@ -31,6 +32,7 @@ use Rattle.dma_chan.proofs.GoingOn.{mov_empty, none_second}
 insn_bus : (i : ChipInsn) (x : Trace) → (after_insn i x).registers.bus ≡ x.registers.bus
 insn_bus Ld x = refl
 insn_bus St x = refl
+insn_bus StoreZeros x = refl
 insn_bus i x = bus_moved i x.registers
 
 fetch_bus : (r : Result ChipInsn FaultKind) (x : Trace) → (after_fetch r x).registers.bus ≡ x.registers.bus
@@ -67,13 +69,13 @@ module _ (bus : Bus) where
       ap (λ (r : Registers). record x { registers = r }) (looped_on x.registers.lc1 Lc1 back x.registers)
   insn_on Ld x a =
       let r = registers_on x.registers in
-      ap (λ (b : Burst). record { registers = past Ld (record r { sar = wrapped (r.sar + advance b) }); loads = x.loads ++ touched b; stores = x.stores }) (source_on x.registers a)
+      ap (λ (b : Burst). record x { registers = past Ld (record r { sar = wrapped (r.sar + advance b) }); loads = x.loads ++ touched b }) (source_on x.registers a)
   insn_on St x a =
       let r = registers_on x.registers in
-      ap (λ (b : Burst). record { registers = past St (record r { dar = wrapped (r.dar + advance b) }); loads = x.loads; stores = x.stores ++ touched b }) (destination_on x.registers a)
+      ap (λ (b : Burst). record x { registers = past St (record r { dar = wrapped (r.dar + advance b) }); stores = x.stores ++ touched b }) (destination_on x.registers a)
   insn_on StoreZeros x a =
       let r = registers_on x.registers in
-      ap (λ (b : Burst). record { registers = past StoreZeros (record r { dar = wrapped (r.dar + advance b) }); loads = x.loads; stores = x.stores }) (destination_on x.registers a)
+      ap (λ (b : Burst). record x { registers = past StoreZeros (record r { dar = wrapped (r.dar + advance b) }); zeros = x.zeros ++ touched b }) (destination_on x.registers a)
   insn_on (AddHalfword Source half negative) x a = refl
   insn_on (Mov Sar v) x a = refl
   insn_on (Lp Lc0 n) x a = refl
@@ -110,6 +112,8 @@ module _ (bus : Bus) where
       subst (λ (b : Burst). cond (nat_lt buffer_size (held x + burst_len b)) (Some (Fails MfifoErr)) (cond (passes b) (Some LoadsPast) None) ≡ None) (sym (source_on x.registers a)) g
   goes_on St x f a d g =
       subst (λ (b : Burst). cond (nat_lt (held x) (burst_len b)) (Some (Fails StDataUnavailable)) (cond (passes b) (Some StoresPast) (cond b.increments None (Some StoresFixed))) ≡ None) (sym (destination_on x.registers a)) g
+  goes_on StoreZeros x f a d g =
+      subst (λ (b : Burst). cond (passes b) (Some StoresPast) (cond b.increments None (Some StoresFixed)) ≡ None) (sym (destination_on x.registers a)) g
   goes_on (LpEnd Lc0 back) x f a d g = g
   goes_on i x f a d g = g
 
@@ -119,7 +123,7 @@ module _ (bus : Bus) where
   goes_next program (Err kind) x ideal next f a d g = absurd (let bad = g.1 in cc)
 
 pub explained_on_bus : ExplainedOnBus
-explained_on_bus start bus program t n ideal h fit aligned keeps =
+explained_on_bus start bus program w n ideal h fit aligned keeps =
     let same : (k : ℕ) → k ≤ n → traced (record start { bus = bus }) program k ≡ trace_on bus (traced start program k) =
     λ k l. traced_on bus start program k ideal (λ j less. h.goes j (omega arith)) (λ j less. aligned j (omega arith)) in
     let last = same n (omega arith) in
@@ -131,6 +135,7 @@ explained_on_bus start bus program t n ideal h fit aligned keeps =
       ends = ap (λ (y : Trace). next_in program y) last ∙ next_same bus program (traced start program n) End (traced_bus start program n ∙ ideal) h.ends;
       loads = ap (λ (y : Trace). y.loads) last ∙ h.loads;
       stores = ap (λ (y : Trace). y.stores) last ∙ h.stores;
+      zeros = ap (λ (y : Trace). y.zeros) last ∙ h.zeros;
       few = h.few;
-      copy = h.copy;
+      work = h.work;
     }

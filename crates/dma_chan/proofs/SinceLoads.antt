@@ -1,12 +1,13 @@
 -- Transfers' programs that channels execute over one memory, each counted from its own load.
-use Rattle.std.proofs.Common.{◌≡◌, ℕ, zero, suc, ◌+◌, ◌-◌, ◌≤◌, ◌⊎◌, List, [], length, map, get_or, Option, Some, None, refl, sym, ap, ◌∙◌, subst, arith, inl, inr}
+use Rattle.std.proofs.Common.{◌≡◌, ℕ, zero, suc, ◌+◌, ◌-◌, ◌≤◌, ◌⊎◌, List, [], length, length-append, map, take, get_or, Option, Some, None, refl, sym, ap, ◌∙◌, subst, arith, inl, inr}
 use Rattle.std.specs.Prelude.{IsSome}
-use Rattle.std.specs.List.{range_with_len}
+use Rattle.std.specs.List.{Contains, range_with_len}
+use Rattle.std.proofs.lemmas.List.{get_or-take, length-take, take_all, take_at}
 use Rattle.std.proofs.lemmas.Bool.{cases_Bool, cases_eq}
 use Rattle.std.proofs.lemmas.List.Elements.{Contains-get_or}
 use Rattle.std.proofs.lemmas.List.FromFn.{get_or-map-range_with_len, length-map-range_with_len}
 use Rattle.dma_mem.specs.declared.segment.Segment.{Segment}
-use Rattle.dma_mem.specs.Places.{Descriptor, destinations, sources}
+use Rattle.dma_mem.specs.Places.{destinations, sources}
 use Rattle.dma_mem.specs.Image.{laid}
 use Rattle.dma_chan.specs.declared.exec.Registers.{Registers}
 use Rattle.dma_chan.specs.declared.turn.ChanTurn.{ChanTurn}
@@ -14,56 +15,119 @@ use Rattle.dma_chan.specs.declared.turn.ChanTurn.TheVariants.{Ended}
 use Rattle.dma_chan.specs.Channel.{ChannelValue}
 use Rattle.dma_chan.specs.Stepping.{Machine}
 use Rattle.dma_chan.specs.Written.{LiesIn}
-use Rattle.dma_chan.specs.Others.{Touches}
-use Rattle.dma_chan.specs.Explains.{Executes, Explains, IsCopy, IsLoadedWith}
-use Rattle.dma_chan.specs.Changes.{System, Call, Change, Sets, Calls, Guest, DoesCall, TakesCall, Does, DoesAll, LendsAll, SinceLoad, KeepsTouched, LeavesAlone, HasFirst, HasCopied, CopiesSinceLoad, bytes_in, Holds, Gives, HaveTransfers, WritesElsewhere, IsApart, ChannelsCopy}
+use Rattle.dma_chan.specs.declared.explain.Amounts.{Amounts}
+use Rattle.dma_chan.specs.Others.{IsWorked, Touches, Uses}
+use Rattle.dma_chan.specs.Explains.{Executes, Explains, IsLoadedWith, IsWork, Work, all_of, amounts_of, cleared, traced}
+use Rattle.dma_chan.specs.Changes.{System, Call, Change, Sets, Calls, Guest, DoesCall, TakesCall, Does, DoesAll, LendsAll, SinceLoad, KeepsUsed, LeavesAlone, HasFirst, HasCopied, CopiesSinceLoad, bytes_in, Holds, Gives, HaveWorks, WritesElsewhere, IsApart, ChannelsCopy}
 use Rattle.dma_chan.proofs.AmongOthers.{Fits, is_in}
-use Rattle.dma_chan.proofs.CallsAmongOthers.{Leads, Runs, at_first, call, call_fails, call_waits, either_way, not_none, signalled, survived}
-use Rattle.dma_chan.proofs.CallWrites.{call_stays_in, call_writes_no_other}
-use Rattle.dma_chan.proofs.LaidPlaces.{laid_by_fits}
+use Rattle.dma_chan.proofs.CallsAmongOthers.{done_at, Leads, Runs, at_first, call, call_fails, call_waits, either_way, not_none, signalled, survived}
+use Rattle.dma_chan.proofs.CallWrites.{call_stays_in, call_writes_no_other, inside}
+use Rattle.dma_chan.proofs.LaidPlaces.{laid_copied, laid_kept}
+use Rattle.dma_chan.proofs.Traced.{copy_of}
 
 -- ---- one call
 
--- the same of memories that agree at what the transfer touches
-pub first_agrees : (t : Descriptor) (k : ℕ) (f g first memory : ℕ → ℕ) → IsCopy t → ((a : ℕ) → Touches t a → first a ≡ f a) → ((a : ℕ) → Touches t a → memory a ≡ g a) → HasFirst t k f g → HasFirst t k first memory
-first_agrees t k f g first memory h same left w = record {
-  copied = λ p low within.
-      left (get_or (destinations t) p 0) (inr (Contains-get_or (destinations t) p 0 within))
-      ∙ w.copied p low within
-      ∙ sym (same (get_or (sources t) p 0) (inl (Contains-get_or (sources t) p 0 (omega (arith, h.same_length, within)))));
-  kept = λ a touches off. left a touches ∙ w.kept a touches off ∙ sym (same a touches);
-}
+-- the same of memories that agree at what the work uses
+pub first_agrees : (work : Work) (done : Amounts) (f g first memory : ℕ → ℕ) → IsWork work → ((a : ℕ) → Uses work a → first a ≡ f a) → ((a : ℕ) → Uses work a → memory a ≡ g a) → HasFirst work done f g → HasFirst work done first memory
+first_agrees work done f g first memory h same left w =
+    let t = work.copy in
+    record {
+      copied = λ p low within.
+          left (get_or (destinations t) p 0) (inl (inr (Contains-get_or (destinations t) p 0 within)))
+          ∙ w.copied p low within
+          ∙ sym (same (get_or (sources t) p 0) (inl (inl (Contains-get_or (sources t) p 0 (omega (arith, h.same_length, within))))));
+      zeros = λ p low within. left (get_or (cleared work) p 0) (inr (Contains-get_or (cleared work) p 0 within)) ∙ w.zeros p low within;
+      kept = λ a uses off still. left a uses ∙ w.kept a uses off still ∙ sym (same a uses);
+    }
 
-module _ (start : Registers) (program : List ℕ) (t : Descriptor) (n : ℕ) (first : List ℕ) (h : Explains start program t n) (low : Fits t (length first)) where
-  abbrev IsLaid : Machine → Type 0
-  IsLaid v = (a : ℕ) → Touches t a → get_or v.image a 0 ≡ get_or (laid first t v.channel.stored) a 0
+-- a part of a work is done in an image
+pub record IsPart (work : Work) (first : List ℕ) (done : Amounts) (image : List ℕ) : Type 0 where
+  pub same : (a : ℕ) → Touches work.copy a → get_or image a 0 ≡ get_or (laid first work.copy done.copied) a 0
+  pub zeros : (a : ℕ) → Contains (take done.cleared (cleared work)) a → get_or image a 0 ≡ 0
+  pub rest : (a : ℕ) → Contains (cleared work) a → ¬ Contains (take done.cleared (cleared work)) a → get_or image a 0 ≡ get_or first a 0
 
-  runs_laid : (v : Machine) → Runs start program t n first v → IsLaid v
-  runs_laid v r a touches = r.1.mirrors.same a touches ∙ ap (λ (k : ℕ). get_or (laid first t k) a 0) (sym r.1.stored)
+pub part_first : (work : Work) (first : List ℕ) (done : Amounts) (image : List ℕ) → IsWork work → Fits work (length first) → IsPart work first done image → HasFirst work done (bytes_in first) (bytes_in image)
+part_first work first done image h low part =
+    let t = work.copy in
+    let zs = cleared work in
+    let copy = copy_of work h in
+    record {
+      copied = λ p less within.
+          part.same (get_or (destinations t) p 0) (inr (Contains-get_or (destinations t) p 0 within))
+          ∙ laid_copied t first done.copied copy p (λ a i. low a (inl i)) less within;
+      zeros = λ p less within.
+          let there = Contains-get_or (take done.cleared zs) p 0 (omega (arith, less, within, length-take done.cleared zs)) in
+          part.zeros (get_or zs p 0) (subst (Contains (take done.cleared zs)) (get_or-take done.cleared zs p 0 less) there);
+      kept = λ a uses off still. elim uses [
+        | inl touches ↦ part.same a touches ∙ laid_kept t first done.copied copy a off
+        | inr i ↦ part.rest a i still
+      ];
+    }
 
-  leads_laid : (o : Option ChanTurn) (v : Machine) → Leads start program t n first o v → IsLaid v
-  leads_laid (Some Ended) v d = λ a touches. d.all a touches ∙ ap (λ (k : ℕ). get_or (laid first t k) a 0) (sym d.stored)
-  leads_laid o v r = runs_laid v r
+-- so is all of it, once it is done
+pub worked_part : (work : Work) (first image : List ℕ) → IsWorked work first image → IsPart work first (all_of work) image
+worked_part work first image h =
+    let zs = cleared work in
+    let zeros : take (length zs) zs ≡ zs = take_all (length zs) zs (omega arith) in
+    record {
+      same = h.copied;
+      zeros = λ a i. h.zeros a (subst (λ (xs : List ℕ). Contains xs a) zeros i);
+      rest = λ a i off. absurd (off (subst (λ (xs : List ℕ). Contains xs a) (sym zeros) i));
+    }
 
-  has_first : (o : Option ChanTurn) (v : Machine) → Leads start program t n first o v → HasFirst t v.channel.stored (bytes_in first) (bytes_in v.image)
-  has_first o v r =
-      let k = v.channel.stored in
-      first_agrees t k (bytes_in first) (bytes_in (laid first t k)) (bytes_in first) (bytes_in v.image) h.copy (λ a touches. refl) (leads_laid o v r) (laid_by_fits t first k h.copy low)
+module _ (start : Registers) (program : List ℕ) (work : Work) (n : ℕ) (first : List ℕ) (h : Explains start program work n) where
+  -- what a machine's channel has done, and its image
+  pub record IsSoFar (v : Machine) : Type 0 where
+    pub count : let done = done_at start program v in v.channel.stored ≡ done.copied + done.cleared
+    pub within : (done_at start program v).cleared ≤ length (cleared work)
+    pub part : IsPart work first (done_at start program v) v.image
 
-  pub leads : (c : Call) → Runs start program t n first c.found → DoesCall c → Leads start program t n first c.last c.left
-  leads c r does = call start program t n c.marks first h low c.found c.left c.most c.taken c.last r does.steps
-
-  pub has_copied : (c : Call) → Runs start program t n first c.found → DoesCall c → HasCopied start program t n (bytes_in first) (bytes_in c.left.image) c
-  has_copied c r does = record {
-    bytes = has_first c.last c.left (leads c r does);
-    writes = λ a i.
-        let stays = call_stays_in start program t n c.marks c.found c.most c.taken c.last c.left h (r.0, is_in start program t n first r.0 c.found.image c.found.channel r.1) does.steps in
-        stays.writes a (subst (λ (w : Segment). LiesIn w a) does.written i);
-    signals = λ e reported. signalled start program t n c.marks first h low c.found c.left c.most c.taken c.last e r does.steps (sym does.signal ∙ reported);
-    ends = λ over. (subst (λ (o : Option ChanTurn). Leads start program t n first o c.left) over (leads c r does)).stored;
-    waits = λ e is. call_waits start program t n c.marks first h low c.found c.left c.most c.taken e c.last r does.steps is;
-    never_fails = λ kind none. call_fails start program t n c.marks first h low c.found c.left c.most c.taken c.last kind none r does.steps;
+  so_far : (v : Machine) (done : Amounts) → done_at start program v ≡ done → v.channel.stored ≡ done.copied + done.cleared → done.cleared ≤ length (cleared work) → IsPart work first done v.image → IsSoFar v
+  so_far v done e count within part = record {
+    count = subst (λ (d : Amounts). v.channel.stored ≡ d.copied + d.cleared) (sym e) count;
+    within = subst (λ (d : Amounts). d.cleared ≤ length (cleared work)) (sym e) within;
+    part = subst (λ (d : Amounts). IsPart work first d v.image) (sym e) part;
   }
+
+  pub runs_so : (v : Machine) → Runs start program work n first v → IsSoFar v
+  runs_so v r =
+      let k = r.0 in
+      let m = r.1.mirrors in
+      let x = traced start program k in
+      let inner = inside start program work n h k r.1.within in
+      let zeros : take (length x.zeros) (cleared work) ≡ x.zeros = ap (take (length x.zeros)) inner.zeros ∙ take_at x.zeros inner.zeros_rest (length x.zeros) refl in
+      so_far v (amounts_of x) (ap (λ (j : ℕ). amounts_of (traced start program j)) r.1.taken) r.1.stored
+      (omega (arith, ap length inner.zeros, length-append x.zeros inner.zeros_rest))
+      (record {
+        same = m.same;
+        zeros = λ a i. m.zeros a (subst (λ (xs : List ℕ). Contains xs a) zeros i);
+        rest = λ a i off. m.rest a i (λ j. off (subst (λ (xs : List ℕ). Contains xs a) (sym zeros) j));
+      })
+
+  leads_so : (o : Option ChanTurn) (v : Machine) → Leads start program work n first o v → IsSoFar v
+  leads_so (Some Ended) v d = so_far v (all_of work) d.done d.stored (omega arith) (worked_part work first v.image d.all)
+  leads_so o v r = runs_so v r
+
+module _ (start : Registers) (program : List ℕ) (work : Work) (n : ℕ) (first : List ℕ) (h : Explains start program work n) (low : Fits work (length first)) where
+  pub leads : (c : Call) → Runs start program work n first c.found → DoesCall c → Leads start program work n first c.last c.left
+  leads c r does = call start program work n c.marks first h low c.found c.left c.most c.taken c.last r does.steps
+
+  pub has_copied : (c : Call) → Runs start program work n first c.found → DoesCall c → HasCopied start program work n (bytes_in first) (bytes_in c.left.image) c
+  has_copied c r does =
+      let so = leads_so start program work n first h c.last c.left (leads c r does) in
+      record {
+        done = done_at start program c.left;
+        count = so.count;
+        within = so.within;
+        bytes = part_first work first (done_at start program c.left) c.left.image h.work low so.part;
+        writes = λ a i.
+            let stays = call_stays_in start program work n c.marks c.found c.most c.taken c.last c.left h (r.0, is_in start program work n first r.0 c.found.image c.found.channel r.1) does.steps in
+            stays.writes a (subst (λ (w : Segment). LiesIn w a) does.written i);
+        signals = λ e reported. signalled start program work n c.marks first h low c.found c.left c.most c.taken c.last e r does.steps (sym does.signal ∙ reported);
+        ends = λ over. (subst (λ (o : Option ChanTurn). Leads start program work n first o c.left) over (leads c r does)).done;
+        waits = λ e is. call_waits start program work n c.marks first h low c.found c.left c.most c.taken e c.last r does.steps is;
+        never_fails = λ kind none. call_fails start program work n c.marks first h low c.found c.left c.most c.taken c.last kind none r does.steps;
+      }
 
 -- ---- since the load
 
@@ -71,14 +135,14 @@ module _ (start : Registers) (program : List ℕ) (t : Descriptor) (n : ℕ) (fi
 abbrev imaged : ℕ → (ℕ → ℕ) → List ℕ
 imaged size memory = map memory (range_with_len 0 size)
 
-module _ (start : Registers) (program : List ℕ) (t : Descriptor) (n : ℕ) (size : ℕ) (memory : ℕ → ℕ) (h : Explains start program t n) (low : Fits t size) where
+module _ (start : Registers) (program : List ℕ) (work : Work) (n : ℕ) (size : ℕ) (memory : ℕ → ℕ) (h : Explains start program work n) (low : Fits work size) where
   abbrev first : List ℕ
   first = imaged size memory
 
-  within : (other : ℕ → ℕ) → Fits t (length (imaged size other))
-  within other = subst (Fits t) (sym (length-map-range_with_len other 0 size)) low
+  within : (other : ℕ → ℕ) → Fits work (length (imaged size other))
+  within other = subst (Fits work) (sym (length-map-range_with_len other 0 size)) low
 
-  shows : (other : ℕ → ℕ) (a : ℕ) → Touches t a → get_or (imaged size other) a 0 ≡ other a
+  shows : (other : ℕ → ℕ) (a : ℕ) → Uses work a → get_or (imaged size other) a 0 ≡ other a
   shows other a touches = get_or-map-range_with_len other 0 size a a 0 (low a touches) (omega arith)
 
   -- a channel of the system with its memory
@@ -87,31 +151,31 @@ module _ (start : Registers) (program : List ℕ) (t : Descriptor) (n : ℕ) (si
 
   -- the channel is not finished, or it has ended
   abbrev Is : ℕ → System → Type 0
-  Is ch s = Runs start program t n first (at_channel s ch) ⊎ ((s.channels ch).program ≡ None)
+  Is ch s = Runs start program work n first (at_channel s ch) ⊎ ((s.channels ch).program ≡ None)
 
   -- a change that does not touch the channel
-  kept : (ch : ℕ) (s v : System) → v.channels ch ≡ s.channels ch → KeepsTouched t s v → Is ch s → Is ch v
+  kept : (ch : ℕ) (s v : System) → v.channels ch ≡ s.channels ch → KeepsUsed work s v → Is ch s → Is ch v
   kept ch s v same keeps (inl r) =
-      inl (survived start program t n first (at_channel s ch) (at_channel v ch) r same (λ a touches. shows v.memory a touches ∙ keeps a touches ∙ sym (shows s.memory a touches)) (within v.memory))
+      inl (survived start program work n first (at_channel s ch) (at_channel v ch) r same (λ a touches. shows v.memory a touches ∙ keeps a touches ∙ sym (shows s.memory a touches)) (within v.memory))
   kept ch s v same keeps (inr none) = inr (ap (λ (c : ChannelValue). c.program) same ∙ none)
 
   -- before a call on the channel
-  found : (c : Call) (s v : System) → TakesCall c s v → LendsAll t c → Is c.channel s → Runs start program t n first c.found
+  found : (c : Call) (s v : System) → TakesCall c s v → LendsAll work c → Is c.channel s → Runs start program work n first c.found
   found c s v takes lent (inl r) =
-      survived start program t n first (at_channel s c.channel) c.found r takes.finds_channel (λ a touches. takes.finds a (lent a touches) ∙ sym (shows s.memory a touches)) (λ a touches. takes.within a (lent a touches))
+      survived start program work n first (at_channel s c.channel) c.found r takes.finds_channel (λ a touches. takes.finds a (lent a touches) ∙ sym (shows s.memory a touches)) (λ a touches. takes.within a (lent a touches))
   found c s v takes lent (inr none) = absurd (not_none c.found.channel.program takes.does.is_loaded (ap (λ (d : ChannelValue). d.program) takes.finds_channel ∙ none))
 
   -- after the call
-  left : (c : Call) (s v : System) → TakesCall c s v → LendsAll t c → Runs start program t n first c.left ⊎ (c.left.channel.program ≡ None) → Is c.channel v
+  left : (c : Call) (s v : System) → TakesCall c s v → LendsAll work c → Runs start program work n first c.left ⊎ (c.left.channel.program ≡ None) → Is c.channel v
   left c s v takes lent (inl r) =
-      inl (survived start program t n first c.left (at_channel v c.channel) r takes.leaves_channel (λ a touches. shows v.memory a touches ∙ takes.leaves a (lent a touches)) (within v.memory))
+      inl (survived start program work n first c.left (at_channel v c.channel) r takes.leaves_channel (λ a touches. shows v.memory a touches ∙ takes.leaves a (lent a touches)) (within v.memory))
   left c s v takes lent (inr none) = inr (ap (λ (d : ChannelValue). d.program) takes.leaves_channel ∙ none)
 
-  called : (c : Call) (s v : System) → TakesCall c s v → LendsAll t c → Is c.channel s → Is c.channel v
+  called : (c : Call) (s v : System) → TakesCall c s v → LendsAll work c → Is c.channel s → Is c.channel v
   called c s v takes lent i =
-      left c s v takes lent (either_way start program t n first c.last c.left (leads start program t n first h (within memory) c (found c s v takes lent i) takes.does))
+      left c s v takes lent (either_way start program work n first c.last c.left (leads start program work n first h (within memory) c (found c s v takes lent i) takes.does))
 
-  changed : (ch : ℕ) (change : Change) (s v : System) → Does change s v → LeavesAlone t ch change s v → Is ch s → Is ch v
+  changed : (ch : ℕ) (change : Change) (s v : System) → Does change s v → LeavesAlone work ch change s v → Is ch s → Is ch v
   changed ch (Sets other c) s v does alone i = elim (cases_eq other ch) [
     | inl e ↦ kept ch s v (subst (λ (d : ℕ). v.channels d ≡ c) e does.0 ∙ alone e) (λ a touches. does.1.1 a) i
     | inr ne ↦ kept ch s v (does.1.0 ch (λ e. ne (sym e))) (λ a touches. does.1.1 a) i
@@ -122,11 +186,14 @@ module _ (start : Registers) (program : List ℕ) (t : Descriptor) (n : ℕ) (si
     | inr ne ↦ kept ch s v (takes.others ch (λ e. ne (sym e))) (alone.1 ne) i
   ]
 
-  copied : (c : Call) (s v : System) → TakesCall c s v → LendsAll t c → Is c.channel s → HasCopied start program t n memory v.memory c
+  copied : (c : Call) (s v : System) → TakesCall c s v → LendsAll work c → Is c.channel s → HasCopied start program work n memory v.memory c
   copied c s v takes lent i =
-      let all = has_copied start program t n first h (within memory) c (found c s v takes lent i) takes.does in
+      let all = has_copied start program work n first h (within memory) c (found c s v takes lent i) takes.does in
       record {
-        bytes = first_agrees t c.left.channel.stored (bytes_in first) (bytes_in c.left.image) memory v.memory h.copy
+        done = all.done;
+        count = all.count;
+        within = all.within;
+        bytes = first_agrees work all.done (bytes_in first) (bytes_in c.left.image) memory v.memory h.work
             (λ a touches. sym (shows memory a touches)) (λ a touches. takes.leaves a (lent a touches)) all.bytes;
         writes = all.writes;
         signals = all.signals;
@@ -135,7 +202,7 @@ module _ (start : Registers) (program : List ℕ) (t : Descriptor) (n : ℕ) (si
         never_fails = all.never_fails;
       }
 
-module _ (start : Registers) (program : List ℕ) (t : Descriptor) (n : ℕ) (changes : ℕ → Change) (states : ℕ → System) (load now : ℕ) (c : Call) (h : Explains start program t n) (does : DoesAll changes states load (now + 1)) (since : SinceLoad start program t changes states load now c (λ k. LeavesAlone t c.channel)) where
+module _ (start : Registers) (program : List ℕ) (work : Work) (n : ℕ) (changes : ℕ → Change) (states : ℕ → System) (load now : ℕ) (c : Call) (h : Explains start program work n) (does : DoesAll changes states load (now + 1)) (since : SinceLoad start program work changes states load now c (λ k. LeavesAlone work c.channel)) where
   takes : TakesCall c (states now) (states (now + 1))
   takes = let later = since.later in subst (λ (x : Change). Does x (states now) (states (now + 1))) since.is_call (does now (omega arith) (omega arith))
 
@@ -143,11 +210,11 @@ module _ (start : Registers) (program : List ℕ) (t : Descriptor) (n : ℕ) (ch
   abbrev size : ℕ
   size = length c.found.image
 
-  low : Fits t size
+  low : Fits work size
   low = λ a touches. takes.within a (since.lent a touches)
 
   abbrev Is_at : ℕ → Type 0
-  Is_at k = Is start program t n size (states load).memory h low c.channel (states k)
+  Is_at k = Is start program work n size (states load).memory h low c.channel (states k)
 
   after_load : Is_at (load + 1)
   after_load =
@@ -156,15 +223,15 @@ module _ (start : Registers) (program : List ℕ) (t : Descriptor) (n : ℕ) (ch
       let d = subst (λ (x : Change). Does x (states load) (states (load + 1))) since.loads.2 (does load (omega arith) (omega arith)) in
       let is_loaded = subst (IsLoadedWith start program) (sym d.0) since.loads.1 in
       let s = states (load + 1) in
-      kept start program t n size memory h low c.channel (record s { memory = memory }) s refl (λ a touches. d.1.1 a)
-      (inl (at_first start program t n (imaged size memory) (record { channel = s.channels c.channel; image = imaged size memory; flags = [] }) (within start program t n size memory h low memory) is_loaded refl))
+      kept start program work n size memory h low c.channel (record s { memory = memory }) s refl (λ a touches. d.1.1 a)
+      (inl (at_first start program work n (imaged size memory) (record { channel = s.channels c.channel; image = imaged size memory; flags = [] }) (within start program work n size memory h low memory) is_loaded refl))
 
   along : (d : ℕ) → load + 1 + d ≤ now → Is_at (load + 1 + d)
   along zero l = let e : load + 1 ≡ load + 1 + zero = omega arith in subst Is_at e after_load
   along (suc d) l =
       let k = load + 1 + d in
       let e : k + 1 ≡ load + 1 + suc d = omega arith in
-      subst Is_at e (changed start program t n size (states load).memory h low c.channel (changes k) (states k) (states (k + 1)) (does k (omega arith) (omega arith)) (since.spares k (omega arith) (omega arith)) (along d (omega arith)))
+      subst Is_at e (changed start program work n size (states load).memory h low c.channel (changes k) (states k) (states (k + 1)) (does k (omega arith) (omega arith)) (since.spares k (omega arith) (omega arith)) (along d (omega arith)))
 
   at_call : Is_at now
   at_call =
@@ -172,59 +239,59 @@ module _ (start : Registers) (program : List ℕ) (t : Descriptor) (n : ℕ) (ch
       let e : load + 1 + (now - (load + 1)) ≡ now = omega arith in
       subst Is_at e (along (now - (load + 1)) (omega arith))
 
-  has_all : HasCopied start program t n (states load).memory (states (now + 1)).memory c
-  has_all = copied start program t n size (states load).memory h low c (states now) (states (now + 1)) takes since.lent at_call
+  has_all : HasCopied start program work n (states load).memory (states (now + 1)).memory c
+  has_all = copied start program work n size (states load).memory h low c (states now) (states (now + 1)) takes since.lent at_call
 
 pub copies_since_load : CopiesSinceLoad
-copies_since_load start program t n changes states load now c h does since = has_all start program t n changes states load now c h does since
+copies_since_load start program work n changes states load now c h does since = has_all start program work n changes states load now c h does since
 
 -- ---- among other transfers
 
 -- a channel that executes a transfer, if a call can be made on it
-abbrev Copies : Descriptor → ChannelValue → Type 0
-Copies t c = (start : Registers) × (program : List ℕ) × (n : ℕ) × Explains start program t n × Executes start program n c
+abbrev Copies : Work → ChannelValue → Type 0
+Copies work c = (start : Registers) × (program : List ℕ) × (n : ℕ) × Explains start program work n × Executes start program n c
 
-executes : (t : Descriptor) (c : ChannelValue) → IsSome c.program → Holds (Some t) c → Copies t c
-executes t c some (inl none) = absurd (not_none c.program some none)
-executes t c some (inr w) = w
+executes : (work : Work) (c : ChannelValue) → IsSome c.program → Holds (Some work) c → Copies work c
+executes work c some (inl none) = absurd (not_none c.program some none)
+executes work c some (inr w) = w
 
-still : (start : Registers) (program : List ℕ) (t : Descriptor) (n : ℕ) (c : ChannelValue) → Explains start program t n → Executes start program n c ⊎ (c.program ≡ None) → Holds (Some t) c
-still start program t n c h (inl w) = inr (start, program, n, h, w)
-still start program t n c h (inr none) = inl none
+still : (start : Registers) (program : List ℕ) (work : Work) (n : ℕ) (c : ChannelValue) → Explains start program work n → Executes start program n c ⊎ (c.program ≡ None) → Holds (Some work) c
+still start program work n c h (inl w) = inr (start, program, n, h, w)
+still start program work n c h (inr none) = inl none
 
 module _ (c : Call) (s v : System) (takes : TakesCall c s v) where
   -- before the call the channel executes its transfer
-  finds : (t : Descriptor) → Holds (Some t) (s.channels c.channel) → Copies t c.found.channel
-  finds t holds = executes t c.found.channel takes.does.is_loaded (subst (Holds (Some t)) (sym takes.finds_channel) holds)
+  finds : (work : Work) → Holds (Some work) (s.channels c.channel) → Copies work c.found.channel
+  finds work holds = executes work c.found.channel takes.does.is_loaded (subst (Holds (Some work)) (sym takes.finds_channel) holds)
 
   -- after the call the channel has the same transfer
-  holds_on : (o : Option Descriptor) → Holds o (s.channels c.channel) → Holds o (v.channels c.channel)
+  holds_on : (o : Option Work) → Holds o (s.channels c.channel) → Holds o (v.channels c.channel)
   holds_on None holds = tt
-  holds_on (Some t) holds =
-      let w = finds t holds in
-      let stays = call_stays_in w.0 w.1 t w.2 c.marks c.found c.most c.taken c.last c.left w.3 w.4 takes.does.steps in
-      subst (Holds (Some t)) (sym takes.leaves_channel) (still w.0 w.1 t w.2 c.left.channel w.3 stays.channel)
+  holds_on (Some work) holds =
+      let w = finds work holds in
+      let stays = call_stays_in w.0 w.1 work w.2 c.marks c.found c.most c.taken c.last c.left w.3 w.4 takes.does.steps in
+      subst (Holds (Some work)) (sym takes.leaves_channel) (still w.0 w.1 work w.2 c.left.channel w.3 stays.channel)
 
-  outside : (t : Descriptor) (o : Option Descriptor) → Holds o (s.channels c.channel) → WritesElsewhere t o c → (a : ℕ) → Touches t a → ¬ LiesIn c.written a
-  outside t None holds off a touches i = off a touches i
-  outside t (Some u) holds apart a touches i =
+  outside : (work : Work) (o : Option Work) → Holds o (s.channels c.channel) → WritesElsewhere work o c → (a : ℕ) → Uses work a → ¬ LiesIn c.written a
+  outside work None holds off a touches i = off a touches i
+  outside work (Some u) holds apart a touches i =
       let w = finds u holds in
       let stays = call_stays_in w.0 w.1 u w.2 c.marks c.found c.most c.taken c.last c.left w.3 w.4 takes.does.steps in
       apart a touches (stays.writes a (subst (λ (r : Segment). LiesIn r a) takes.does.written i))
 
-  elsewhere : (t : Descriptor) (o : Option Descriptor) → Holds o (s.channels c.channel) → WritesElsewhere t o c → KeepsTouched t s v
-  elsewhere t o holds apart a touches = elim (cases_Bool (c.lends a)) [
+  elsewhere : (work : Work) (o : Option Work) → Holds o (s.channels c.channel) → WritesElsewhere work o c → KeepsUsed work s v
+  elsewhere work o holds apart a touches = elim (cases_Bool (c.lends a)) [
     | inl e ↦
-        let off = λ (i : LiesIn _ a). outside t o holds apart a touches (subst (λ (r : Segment). LiesIn r a) (sym takes.does.written) i) in
+        let off = λ (i : LiesIn _ a). outside work o holds apart a touches (subst (λ (r : Segment). LiesIn r a) (sym takes.does.written) i) in
         let kept = (call_writes_no_other c.marks c.found c.most c.taken c.last c.left takes.does.steps).bytes a off in
         takes.leaves a e ∙ kept ∙ takes.finds a e
     | inr e ↦ takes.rest a e
   ]
 
-same_held : (o p : Option Descriptor) (c d : ChannelValue) → p ≡ o → d ≡ c → Holds o c → Holds p d
-same_held o p c d e f h = subst (λ (x : Option Descriptor). Holds x d) (sym e) (subst (Holds o) (sym f) h)
+same_held : (o p : Option Work) (c d : ChannelValue) → p ≡ o → d ≡ c → Holds o c → Holds p d
+same_held o p c d e f h = subst (λ (x : Option Work). Holds x d) (sym e) (subst (Holds o) (sym f) h)
 
-one : (change : Change) (before after : ℕ → Option Descriptor) (s v : System) → Does change s v → Gives change before after → ((ch : ℕ) → Holds (before ch) (s.channels ch)) → (ch : ℕ) → Holds (after ch) (v.channels ch)
+one : (change : Change) (before after : ℕ → Option Work) (s v : System) → Does change s v → Gives change before after → ((ch : ℕ) → Holds (before ch) (s.channels ch)) → (ch : ℕ) → Holds (after ch) (v.channels ch)
 one (Sets d c) before after s v does gives holds ch = elim (cases_eq ch d) [
   | inl e ↦ subst (λ (k : ℕ). Holds (after k) (v.channels k)) (sym e) (subst (Holds (after d)) (sym does.0) gives.0)
   | inr ne ↦ same_held (before ch) (after ch) (s.channels ch) (v.channels ch) (gives.1 ch ne) (does.1.0 ch ne) (holds ch)
@@ -238,11 +305,11 @@ one (Calls c) before after s v takes gives holds ch = elim (cases_eq ch c.channe
   | inr ne ↦ same_held (before ch) (after ch) (s.channels ch) (v.channels ch) (gives ch) (takes.others ch ne) (holds ch)
 ]
 
-apart_alone : (t : Descriptor) (ch : ℕ) (own : ℕ → Option Descriptor) (change : Change) (s v : System) → Does change s v → ((d : ℕ) → Holds (own d) (s.channels d)) → IsApart t ch own change s v → LeavesAlone t ch change s v
-apart_alone t ch own (Calls c) s v takes holds apart = (apart.0, λ ne. elsewhere c s v takes t (own c.channel) (holds c.channel) (apart.1 ne))
-apart_alone t ch own change s v does holds apart = apart
+apart_alone : (work : Work) (ch : ℕ) (own : ℕ → Option Work) (change : Change) (s v : System) → Does change s v → ((d : ℕ) → Holds (own d) (s.channels d)) → IsApart work ch own change s v → LeavesAlone work ch change s v
+apart_alone work ch own (Calls c) s v takes holds apart = (apart.0, λ ne. elsewhere c s v takes work (own c.channel) (holds c.channel) (apart.1 ne))
+apart_alone work ch own change s v does holds apart = apart
 
-module _ (own : ℕ → ℕ → Option Descriptor) (changes : ℕ → Change) (states : ℕ → System) (from count : ℕ) (does : DoesAll changes states from count) (have : HaveTransfers own changes states from count) where
+module _ (own : ℕ → ℕ → Option Work) (changes : ℕ → Change) (states : ℕ → System) (from count : ℕ) (does : DoesAll changes states from count) (have : HaveWorks own changes states from count) where
   hold : (d : ℕ) → from + d ≤ count → (ch : ℕ) → Holds (own (from + d) ch) ((states (from + d)).channels ch)
   hold zero l ch =
       let e : from ≡ from + zero = omega arith in
@@ -259,12 +326,12 @@ module _ (own : ℕ → ℕ → Option Descriptor) (changes : ℕ → Change) (s
       subst (λ (j : ℕ). Holds (own j ch) ((states j).channels ch)) e (hold (k - from) (omega arith) ch)
 
 pub channels_copy : ChannelsCopy
-channels_copy start program t n own changes states load now c h does have since =
-    copies_since_load start program t n changes states load now c h does (record {
+channels_copy start program work n own changes states load now c h does have since =
+    copies_since_load start program work n changes states load now c h does (record {
       later = since.later;
       loads = since.loads;
       is_call = since.is_call;
       lent = since.lent;
       spares = λ k l m.
-          apart_alone t c.channel (own k) (changes k) (states k) (states (k + 1)) (does k (omega arith) (omega arith)) (hold_at own changes states load (now + 1) does have k (omega arith) (omega arith)) (since.spares k l m);
+          apart_alone work c.channel (own k) (changes k) (states k) (states (k + 1)) (does k (omega arith) (omega arith)) (hold_at own changes states load (now + 1) does have k (omega arith) (omega arith)) (since.spares k l m);
     })

@@ -1,74 +1,69 @@
--- The instructions of a run without memory, as its tracer keeps them.
-use Rattle.std.proofs.Common.{◌≡◌, ◌≢◌, ℕ, zero, suc, ◌+◌, ◌-◌, ◌*◌, ◌≤◌, Bool, true, false, cond, ◌&&◌, List, [], ◌∷◌, ◌++◌, length, Some, None, Result, Ok, Err, refl, sym, ap, ◌∙◌, subst, arith, append-nil, length-append, inl, inr, IfErr, OnOk, All}
-use Rattle.std.specs.Prelude.{is_err, nat_lt, not, replicate}
-use Rattle.std.specs.List.{flat_map, range_with_len}
-use Rattle.std.proofs.lemmas.List.FromFn.{length-range_with_len}
-use Rattle.std.proofs.lemmas.Bool.{cases_Bool, le-ltb, not-false, not-true}
+-- The instructions of a run without memory, as its tracer keeps them, but for its bursts.
+use Rattle.std.proofs.Common.{◌≡◌, ◌≢◌, ℕ, Bool, true, false, cond, ◌&&◌, List, [], ◌∷◌, ◌++◌, length, Some, None, Result, Ok, Err, refl, sym, ap, ◌∙◌, subst, arith, append-nil, inl, inr, IfErr, OnOk, All}
+use Rattle.std.specs.Prelude.{nat_lt, not}
+use Rattle.std.proofs.lemmas.Bool.{cases_Bool, not-false, not-true}
 use Rattle.dma_insn.specs.declared.insn.Counter.{Counter}
 use Rattle.dma_insn.specs.declared.insn.Reg.{Reg}
 use Rattle.dma_insn.specs.declared.insn.Reg.TheVariants.{Sar, Dar, Ccr}
 use Rattle.dma_insn.specs.declared.chip.ChipInsn.{ChipInsn}
 use Rattle.dma_insn.specs.declared.chip.Address.{Address}
 use Rattle.dma_insn.specs.declared.chip.Address.TheVariants.{Source, Destination}
-use Rattle.dma_insn.specs.declared.chip.ChipInsn.TheVariants.{Mov, Ld, St, Lp, LpEnd, Sev, Wfe, AddHalfword, LoopAgain}
-use Rattle.dma_mem.specs.declared.segment.Segment.{Segment}
-use Rattle.dma_mem.specs.Places.{end_of_addresses, places, range_of}
+use Rattle.dma_insn.specs.declared.chip.ChipInsn.TheVariants.{Mov, Ld, St, Lp, LpEnd, Sev, Wfe, StoreZeros, AddHalfword, LoopAgain}
+use Rattle.dma_mem.specs.Places.{places}
 use Rattle.dma_chan.specs.Bus.{accepts}
-use Rattle.dma_chan.specs.declared.bursts.Burst.{Burst}
 use Rattle.dma_chan.specs.declared.exec.Registers.{Registers}
+use Rattle.dma_chan.specs.declared.explain.Amounts.{Amounts}
 use Rattle.dma_chan.specs.declared.explain.Cause.{Cause}
-use Rattle.dma_chan.specs.declared.explain.Cause.TheVariants.{DropsBytes, Fails, LoadsPast, StoresFixed, StoresPast}
+use Rattle.dma_chan.specs.declared.explain.Cause.TheVariants.{DropsBytes, Fails}
 use Rattle.dma_chan.specs.declared.explain.Happening.{Happening}
 use Rattle.dma_chan.specs.declared.explain.Sync.{Sync}
 use Rattle.dma_chan.specs.declared.explain.tracer.Tracer.{Tracer}
 use Rattle.dma_chan.specs.declared.turn.ChanTurn.{ChanTurn}
 use Rattle.dma_chan.specs.declared.turn.ChanTurn.TheVariants.{Moved, Fault}
 use Rattle.dma_chan.specs.declared.turn.FaultKind.{FaultKind}
-use Rattle.dma_chan.specs.declared.turn.FaultKind.TheVariants.{InstrFetchErr, MfifoErr, OperandInvalid, StDataUnavailable}
-use Rattle.dma_chan.specs.Bursts.{advance, burst_len, drops, span_of, touched}
-use Rattle.dma_chan.specs.Exec.{State, act, buffer_size, source_of, destination_of, counter_of, moved, past, state, wrapped}
-use Rattle.dma_chan.specs.Explains.{IsRead, IsRun, Trace, after_insn, happening_of, held, passes, stop_of_insn, stop_of_mov, unrolled}
+use Rattle.dma_chan.specs.declared.turn.FaultKind.TheVariants.{InstrFetchErr, OperandInvalid}
+use Rattle.dma_chan.specs.Bursts.{drops}
+use Rattle.dma_chan.specs.Exec.{State, act, destination_of, counter_of, moved, past, state}
+use Rattle.dma_chan.specs.Explains.{IsRead, IsRun, Trace, after_insn, amounts_of, happening_of, held, stop_of_insn, stop_of_mov, unrolled}
 use Rattle.dma_chan.specs.inner.Acts.{SetsKeeping, SetsRegisters}
-use Rattle.dma_chan.specs.inner.Spans.{MovesSome, rounds_of}
 use Rattle.dma_chan.specs.inner.Tracing.{Advances, IsTracer, Stops, trace_of}
-use Rattle.dma_chan.proofs.BurstReach.{touched_rounds}
 use Rattle.dma_chan.proofs.CallWrites.{act_leads}
-use Rattle.dma_chan.proofs.ControlWords.{advance_up}
-use Rattle.dma_chan.proofs.GoingOn.{length_up, passed}
+use Rattle.dma_chan.proofs.GoingOn.{passed}
 use Rattle.dma_chan.proofs.KeptBytes.{drops_same, kept_none}
-use Rattle.dma_chan.proofs.LowestPlaces.{one_read, rounds_read}
+use Rattle.dma_chan.proofs.TraceParts.{same_amounts, same_parts}
 
 -- ---- instructions that change only registers
 
 abbrev IsQuiet : ChipInsn → Type 0
 IsQuiet Ld = ⊥
 IsQuiet St = ⊥
+IsQuiet StoreZeros = ⊥
 IsQuiet (Wfe e v) = ⊥
 IsQuiet (Sev e) = ⊥
 IsQuiet i = Unit {0}
 
-quiet_events : (i : ChipInsn) (n : ℕ) → IsQuiet i → happening_of (Ok i) n ≡ []
-quiet_events Ld n q = absurd q
-quiet_events St n q = absurd q
-quiet_events (Wfe e v) n q = absurd q
-quiet_events (Sev e) n q = absurd q
-quiet_events i n q = refl
+quiet_events : (i : ChipInsn) (done : Amounts) → IsQuiet i → happening_of (Ok i) done ≡ []
+quiet_events Ld done q = absurd q
+quiet_events St done q = absurd q
+quiet_events StoreZeros done q = absurd q
+quiet_events (Wfe e v) done q = absurd q
+quiet_events (Sev e) done q = absurd q
+quiet_events i done q = refl
 
-quiet_trace : (i : ChipInsn) (z : Trace) → IsQuiet i → record { registers = moved i z.registers; loads = z.loads; stores = z.stores } ≡ after_insn i z
+quiet_trace : (i : ChipInsn) (z : Trace) → IsQuiet i → record z { registers = moved i z.registers } ≡ after_insn i z
 quiet_trace Ld z q = absurd q
 quiet_trace St z q = absurd q
+quiet_trace StoreZeros z q = absurd q
 quiet_trace i z q = refl
 
 quiet_advances : (i : ChipInsn) (x : Tracer) (after : Registers) → IsQuiet i → IsTracer x → after ≡ moved i x.registers → stop_of_insn i (trace_of x) ≡ None → Advances i x (record x { registers = after })
 quiet_advances i x after q h to goes = record {
-  tracer = record { few = h.few; held = h.held; room = h.room; stored = h.stored; src = h.src; dst = h.dst };
+  tracer = record { few = h.few; held = h.held; room = h.room; done = h.done; src = h.src; dst = h.dst; zeros = h.zeros };
   goes = goes;
-  trace =
-      ap (λ (r : Registers). record { registers = r; loads = places (unrolled x.src.items); stores = places x.dst.items }) to
-      ∙ quiet_trace i (trace_of x) q;
+  trace = ap (λ (r : Registers). record (trace_of x) { registers = r }) to ∙ quiet_trace i (trace_of x) q;
   events =
       sym (append-nil x.events.items)
-      ∙ ap (λ (es : List Happening). x.events.items ++ es) (sym (quiet_events i (length (places x.dst.items)) q));
+      ∙ ap (λ (es : List Happening). x.events.items ++ es) (sym (quiet_events i (amounts_of (trace_of x)) q));
 }
 
 -- an answer that is no fault
@@ -292,132 +287,38 @@ module _ {X : Type 0} (done : Result X Cause) (x : Tracer) (after : Registers) (
 -- an instruction is one of them
 record Syncs (i : ChipInsn) (z : Trace) : Type 0 where
   goes : stop_of_insn i z ≡ None
-  trace : record { registers = past i z.registers; loads = z.loads; stores = z.stores } ≡ after_insn i z
+  trace : record z { registers = past i z.registers } ≡ after_insn i z
 
 abbrev pub Happens : ChipInsn → Sync → Type 0
-Happens i s = (stored : ℕ) → happening_of (Ok i) stored ≡ record { sync = s; stored = stored } ∷ []
+Happens i s = (done : Amounts) → happening_of (Ok i) done ≡ record { sync = s; done = done } ∷ []
 
 syncs : (i : ChipInsn) (s : Sync) (z : Trace) → Happens i s → Syncs i z
 syncs (Wfe e v) s z h = record { goes = refl; trace = refl }
 syncs (Sev e) s z h = record { goes = refl; trace = refl }
-syncs i s z h = absurd (let bad : [] ≡ record { sync = s; stored = 0 } ∷ [] = h 0 in cc)
+syncs i s z h =
+    let none : Amounts = record { copied = 0; cleared = 0 } in
+    absurd (let bad : [] ≡ record { sync = s; done = none } ∷ [] = h none in cc)
 
-pub happen_advances : (i : ChipInsn) (s : Sync) (x y : Tracer) → IsTracer x → Happens i s → y.registers ≡ past i x.registers → y.held ≡ x.held → y.stored ≡ x.stored → y.src ≡ x.src → y.dst ≡ x.dst → y.events.items ≡ x.events.items ++ record { sync = s; stored = x.stored } ∷ [] → Advances i x y
-happen_advances i s x y h is registers held_same stored src dst events =
+pub happen_advances : (i : ChipInsn) (s : Sync) (x y : Tracer) → IsTracer x → Happens i s → y.registers ≡ past i x.registers → y.held ≡ x.held → y.done ≡ x.done → y.src ≡ x.src → y.dst ≡ x.dst → y.zeros ≡ x.zeros → y.events.items ≡ x.events.items ++ record { sync = s; done = x.done } ∷ [] → Advances i x y
+happen_advances i s x y h is registers held_same done src dst zeros events =
     let w = syncs i s (trace_of x) is in
     let loads = ap (λ v. places (unrolled v.items)) src in
     let stores = ap (λ v. places v.items) dst in
+    let clears = ap (λ v. places v.items) zeros in
     record {
       tracer = record {
         few = omega (arith, h.few, ap length loads, ap length stores);
         held = omega (arith, held_same, h.held, ap length loads, ap length stores);
         room = omega (arith, held_same, h.room);
-        stored = omega (arith, stored, h.stored, ap length stores);
+        done = done ∙ h.done ∙ same_amounts (ap length (sym stores)) (ap length (sym clears));
         src = subst (λ v. All IsRead v.items) (sym src) h.src;
         dst = subst (λ v. All IsRun v.items) (sym dst) h.dst;
+        zeros = subst (λ v. All IsRun v.items) (sym zeros) h.zeros;
       };
       goes = w.goes;
-      trace =
-          ap (λ (r : Registers). record { registers = r; loads = places (unrolled y.src.items); stores = places y.dst.items }) registers
-          ∙ ap (λ (xs : List ℕ). record { registers = past i x.registers; loads = xs; stores = places y.dst.items }) loads
-          ∙ ap (λ (xs : List ℕ). record { registers = past i x.registers; loads = places (unrolled x.src.items); stores = xs }) stores
-          ∙ w.trace;
-      events = events ∙ ap (λ (n : ℕ). x.events.items ++ record { sync = s; stored = n } ∷ []) h.stored ∙ ap (λ (es : List Happening). x.events.items ++ es) (sym (is (length (places x.dst.items))));
+      trace = same_parts registers loads stores clears ∙ w.trace;
+      events =
+          events
+          ∙ ap (λ (done : Amounts). x.events.items ++ record { sync = s; done = done } ∷ []) h.done
+          ∙ ap (λ (es : List Happening). x.events.items ++ es) (sym (is (amounts_of (trace_of x))));
     }
-
--- ---- bursts
-
--- what a burst reads
-pub read_touched : (b : Burst) (addr len times : ℕ) → addr ≡ b.addr → len ≡ span_of b → times ≡ rounds_of b → places (unrolled (record { addr = addr; len = len; times = times } ∷ [])) ≡ touched b
-read_touched b addr len times at long often =
-    one_read (record { addr = addr; len = len; times = times })
-    ∙ ap (λ (k : ℕ). places (replicate k (record { addr = addr; len = len }))) often
-    ∙ rounds_read (rounds_of b) (record { addr = addr; len = len })
-    ∙ ap (λ (a : ℕ). flat_map (λ ys. ys) (replicate (rounds_of b) (range_with_len a len))) at
-    ∙ ap (λ (n : ℕ). flat_map (λ ys. ys) (replicate (rounds_of b) (range_with_len b.addr n))) long
-    ∙ sym (touched_rounds b)
-
-fixed_length : (k : ℕ) (xs : List ℕ) → length (flat_map (λ ys. ys) (replicate k xs)) ≡ k * length xs
-fixed_length zero xs = omega arith
-fixed_length (suc k) xs = omega (arith, length-append xs (flat_map (λ ys. ys) (replicate k xs)), fixed_length k xs)
-
--- a burst touches as many addresses as it has bytes, each beat of a fixed one the same
-pub length_touched : (b : Burst) → MovesSome b → length (touched b) ≡ burst_len b
-length_touched b some = elim (cases_Bool b.increments) [
-  | inl up ↦ length_up b up
-  | inr fixed ↦
-      let again : touched b ≡ flat_map (λ xs. xs) (replicate b.beats (range_with_len b.addr b.size)) = rw fixed refl in
-      ap length again ∙ fixed_length b.beats (range_with_len b.addr b.size) ∙ ap (λ (n : ℕ). b.beats * n) (length-range_with_len b.addr b.size) ∙ omega (arith, some.fixed fixed)
-]
-
--- a trace by its parts
-abbrev parts : Registers → List ℕ → List ℕ → Trace
-parts r loads stores = record { registers = r; loads = loads; stores = stores }
-
-module _ (x : Tracer) (b : Burst) (h : IsTracer x) where
-  abbrev z : Trace
-  z = trace_of x
-
-  pub load_advances : (y : Tracer) → b ≡ source_of x.registers → y.registers ≡ moved Ld x.registers → y.held ≡ x.held + burst_len b → y.held ≤ 256 → passes b ≡ false → places (unrolled y.src.items) ≡ places (unrolled x.src.items) ++ touched b → length (touched b) ≡ burst_len b → All IsRead y.src.items → y.dst ≡ x.dst → y.stored ≡ x.stored → y.events ≡ x.events → Advances Ld x y
-  load_advances y is registers more room low src long items dst stored events =
-      let grown : length (places (unrolled y.src.items)) ≡ length (places (unrolled x.src.items)) + burst_len b = omega (arith, ap length src, length-append (places (unrolled x.src.items)) (touched b), long) in
-      let to : length (places y.dst.items) ≡ length (places x.dst.items) = ap (λ v. length (places v.items)) dst in
-      record {
-        tracer = record {
-          few = omega (arith, h.few, grown, to);
-          held = omega (arith, h.few, h.held, more, grown, to);
-          room = room;
-          stored = omega (arith, stored, h.stored, to);
-          src = items;
-          dst = subst (λ v. All IsRun v.items) (sym dst) h.dst;
-        };
-        goes = rw (← is) (passed (nat_lt buffer_size (held z + burst_len b)) (Fails MfifoErr) _ (le-ltb buffer_size (held z + burst_len b) (omega (arith, more, room, h.held))) (passed (passes b) LoadsPast None low refl));
-        trace = ap (λ (r : Registers). parts r (places (unrolled y.src.items)) (places y.dst.items)) registers
-            ∙ ap (λ (xs : List ℕ). parts (moved Ld x.registers) xs (places y.dst.items)) (src ∙ ap (λ (c : Burst). places (unrolled x.src.items) ++ touched c) is)
-            ∙ ap (λ v. parts (moved Ld x.registers) (places (unrolled x.src.items) ++ touched (source_of x.registers)) (places v.items)) dst;
-        events = ap (λ v. v.items) events ∙ sym (append-nil x.events.items);
-      }
-
-  pub store_advances : (y : Tracer) → b ≡ destination_of x.registers → b.increments ≡ true → burst_len b ≤ x.held → passes b ≡ false → y.registers ≡ moved St x.registers → y.held ≡ x.held - burst_len b → y.stored ≡ x.stored + burst_len b → places y.dst.items ≡ places x.dst.items ++ touched b → All IsRun y.dst.items → y.src ≡ x.src → y.events ≡ x.events → Advances St x y
-  store_advances y is up has low registers less more dst runs src events =
-      let grown : length (places y.dst.items) ≡ length (places x.dst.items) + burst_len b = omega (arith, ap length dst, length-append (places x.dst.items) (touched b), length_up b up) in
-      let from : length (places (unrolled y.src.items)) ≡ length (places (unrolled x.src.items)) = ap (λ v. length (places (unrolled v.items))) src in
-      record {
-        tracer = record {
-          few = omega (arith, h.few, h.held, has, grown, from);
-          held = omega (arith, h.few, h.held, less, has, grown, from);
-          room = omega (arith, h.room, less);
-          stored = omega (arith, more, h.stored, grown);
-          src = subst (λ v. All IsRead v.items) (sym src) h.src;
-          dst = runs;
-        };
-        goes = rw (← is) (passed (nat_lt (held z) (burst_len b)) (Fails StDataUnavailable) _ (le-ltb (held z) (burst_len b) (omega (arith, has, h.held))) (passed (passes b) StoresPast _ low (ap (λ (i : Bool). cond i None (Some StoresFixed)) up)));
-        trace = ap (λ (r : Registers). parts r (places (unrolled y.src.items)) (places y.dst.items)) registers
-            ∙ ap (λ (xs : List ℕ). parts (moved St x.registers) (places (unrolled y.src.items)) xs) (dst ∙ ap (λ (c : Burst). places x.dst.items ++ touched c) is)
-            ∙ ap (λ v. parts (moved St x.registers) (places (unrolled v.items)) (places x.dst.items ++ touched (destination_of x.registers))) src;
-        events = ap (λ v. v.items) events ∙ sym (append-nil x.events.items);
-      }
-
--- ---- what a tracer's instructions know
-
-pub at_ok : {X E : Type 0} (r : Result X E) (P : Type 0) → false ≡ is_err r → OnOk r P → P
-at_ok (Ok x) P e h = h
-at_ok (Err x) P e h = absurd (cc)
-
--- whether a burst ends above the last address, by its range
-pub passes_span : (b : Burst) (s : Segment) → s.addr ≡ b.addr → s.len ≡ span_of b → nat_lt end_of_addresses (s.addr + s.len) ≡ passes b
-passes_span b s at long = ap (λ (a : ℕ). nat_lt end_of_addresses (a + s.len)) at ∙ ap (λ (n : ℕ). nat_lt end_of_addresses (b.addr + n)) long
-
-pub loaded_registers : (r : Registers) (b : Burst) (n : ℕ) → b ≡ source_of r → n ≡ advance b → record r { pc = r.pc + 1; sar = wrapped (r.sar + n) } ≡ moved Ld r
-loaded_registers r b n is e = ap (λ (k : ℕ). record r { pc = r.pc + 1; sar = wrapped (r.sar + k) }) (e ∙ ap advance is)
-
-pub stored_registers : (r : Registers) (b : Burst) (n : ℕ) → b ≡ destination_of r → b.increments ≡ true → n ≡ burst_len b → record r { pc = r.pc + 1; dar = wrapped (r.dar + n) } ≡ moved St r
-stored_registers r b n is up e =
-    ap (λ (k : ℕ). record r { pc = r.pc + 1; dar = wrapped (r.dar + k) }) (e ∙ sym (advance_up b (burst_len b) up refl) ∙ ap advance is)
-
--- the range of a burst that rises
-pub touched_span : (b : Burst) (s : Segment) → b.increments ≡ true → s.addr ≡ b.addr → s.len ≡ span_of b → range_of s ≡ touched b
-touched_span b s up at long =
-    let len : span_of b ≡ burst_len b = rw up refl in
-    let rising : range_with_len b.addr (burst_len b) ≡ touched b = rw up refl in
-    ap (λ (a : ℕ). range_with_len a s.len) at ∙ ap (range_with_len b.addr) (long ∙ len) ∙ rising

@@ -6,7 +6,7 @@ use Rattle.dma_chan.specs.declared.bus.Bus.TheVariants.{Ideal}
 use Rattle.dma_chan.specs.declared.run.RunEnd.{RunEnd}
 use Rattle.dma_chan.specs.declared.run.RunEnd.TheVariants as ends
 use Rattle.dma_chan.specs.Exec.{start_on}
-use Rattle.dma_chan.specs.Explains.{Explains, IsWait}
+use Rattle.dma_chan.specs.Explains.{Explains, IsWait, only}
 use Rattle.dma_chan.specs.Run.{RunsAlone}
 
 -- A program that a copy explains and that has no DMAWFE, run alone over a memory that contains the copy's ranges and
@@ -15,6 +15,6 @@ use Rattle.dma_chan.specs.Run.{RunsAlone}
 abbrev pub ExplainedCopiesAlone : Type 0
 ExplainedCopiesAlone =
     (program : List ℕ) (t : Descriptor) (n : ℕ) (image after : List ℕ) (limit : ℕ) (how : RunEnd) →
-    Explains (start_on Ideal) program t n → ((e : ℕ) → ¬ IsWait (start_on Ideal) program n e) →
+    Explains (start_on Ideal) program (only t) n → ((e : ℕ) → ¬ IsWait (start_on Ideal) program n e) →
     lies_below t (length image) ≡ true → n < limit →
     RunsAlone program image limit how after → (how ≡ ends.Ended (n + 1)) × (after ≡ laid image t (size_of t))

@@ -1,12 +1,11 @@
 -- The addresses that a call of several steps writes.
 use Rattle.std.specs.Prelude.{◌≡◌, ℕ, ◌⊎◌, List, Option, None}
 use Rattle.std.specs.List.{Contains}
-use Rattle.dma_mem.specs.Places.{Descriptor, destinations}
 use Rattle.dma_mem.specs.Marking.{MarkList}
 use Rattle.dma_chan.specs.declared.exec.Registers.{Registers}
 use Rattle.dma_chan.specs.declared.turn.ChanTurn.{ChanTurn}
 use Rattle.dma_chan.specs.Channel.{ChannelValue}
-use Rattle.dma_chan.specs.Explains.{Executes, Explains, IsLoadedWith}
+use Rattle.dma_chan.specs.Explains.{Executes, Explains, IsLoadedWith, Work, written}
 use Rattle.dma_chan.specs.Stepping.{Machine, TakesSteps, written_after}
 use Rattle.dma_chan.specs.Written.{KeepsOutside, LiesIn}
 
@@ -19,11 +18,11 @@ CallWritesNoOther =
 
 -- ---- of a program that copies
 
--- What a call on a channel with a program that copies t does: each address in the range that it reports as written is a
--- destination of t, and the channel still executes the program or has ended it.
-pub record StaysIn (start : Registers) (program : List ℕ) (t : Descriptor) (n : ℕ) (marks : MarkList) (before : Machine)
+-- What a call on a channel does whose program this work explains: it writes only what the work writes, and the channel
+-- still executes the program or has ended it.
+pub record StaysIn (start : Registers) (program : List ℕ) (w : Work) (n : ℕ) (marks : MarkList) (before : Machine)
     (taken : ℕ) (after : Machine) : Type 0 where
-  pub writes : (a : ℕ) → LiesIn (written_after marks before taken) a → Contains (destinations t) a
+  pub writes : (a : ℕ) → LiesIn (written_after marks before taken) a → Contains (written w) a
   pub channel : Executes start program n after.channel ⊎ (after.channel.program ≡ None)
 
 -- A channel into which a program was just loaded that begins with these bytes executes them.
@@ -32,11 +31,11 @@ LoadExecutes =
     (start : Registers) (program : List ℕ) (n : ℕ) (c : ChannelValue) → IsLoadedWith start program c →
     Executes start program n c
 
--- Each call on a channel that executes a program that copies t stays in it, whatever the memory's size and bytes, the
--- marks and the flags are, and whatever others wrote before.
+-- Each call on a channel that executes a program that a work explains stays in it, whatever the memory's size and bytes,
+-- the marks and the flags are, and whatever others wrote before.
 abbrev pub CallStaysIn : Type 0
 CallStaysIn =
-    (start : Registers) (program : List ℕ) (t : Descriptor) (n : ℕ) (marks : MarkList) (s : Machine) (most taken : ℕ)
+    (start : Registers) (program : List ℕ) (w : Work) (n : ℕ) (marks : MarkList) (s : Machine) (most taken : ℕ)
     (last : Option ChanTurn) (after : Machine) →
-    Explains start program t n → Executes start program n s.channel → TakesSteps marks s most taken last after →
-    StaysIn start program t n marks s taken after
+    Explains start program w n → Executes start program n s.channel → TakesSteps marks s most taken last after →
+    StaysIn start program w n marks s taken after

@@ -12,8 +12,9 @@ use Rattle.dma_chan.specs.declared.turn.FaultKind.{FaultKind}
 use Rattle.dma_chan.specs.Channel.{ChannelValue}
 use Rattle.dma_chan.specs.Stepping.{Machine, TakesSteps, signal_after, written_after}
 use Rattle.dma_chan.specs.Written.{LiesIn}
-use Rattle.dma_chan.specs.Others.{Misses, Touches}
-use Rattle.dma_chan.specs.Explains.{Executes, Explains, IsCopy, IsLoadedWith, IsSignal, IsWait}
+use Rattle.dma_chan.specs.declared.explain.Amounts.{Amounts}
+use Rattle.dma_chan.specs.Others.{MissesAll, Uses}
+use Rattle.dma_chan.specs.Explains.{Executes, Explains, IsCopy, IsLoadedWith, IsSignal, IsWait, Work, all_of, cleared, only, written}
 
 -- Channels by number, and the memory that they share: the byte at each address.
 pub record System : Type 0 where
@@ -77,65 +78,70 @@ Does Guest before after = (ch : ℕ) → after.channels ch ≡ before.channels c
 abbrev pub DoesAll : (ℕ → Change) → (ℕ → System) → ℕ → ℕ → Type 0
 DoesAll changes states from count = (k : ℕ) → from ≤ k → k < count → Does (changes k) (states k) (states (k + 1))
 
--- ---- one transfer, since its load
+-- ---- one program, since its load
 
--- a call is lent each address that a transfer touches
-abbrev pub LendsAll : Descriptor → Call → Type 0
-LendsAll t call = (a : ℕ) → Touches t a → call.lends a ≡ true
+-- a call is lent each address that a program's work uses
+abbrev pub LendsAll : Work → Call → Type 0
+LendsAll w call = (a : ℕ) → Uses w a → call.lends a ≡ true
 
 -- A program that begins with these bytes is loaded into a channel by change number `load`, and change number `now` is a
--- call on this channel. This call is lent what the transfer touches, and each change between these two spares the
--- transfer. What happens before the load or after the call has no influence.
-pub record SinceLoad (start : Registers) (program : List ℕ) (t : Descriptor) (changes : ℕ → Change) (states : ℕ → System)
+-- call on this channel. This call is lent what the work uses, and each change between these two spares the work. What
+-- happens before the load or after the call has no influence.
+pub record SinceLoad (start : Registers) (program : List ℕ) (w : Work) (changes : ℕ → Change) (states : ℕ → System)
     (load now : ℕ) (call : Call) (Spares : ℕ → Change → System → System → Type 0) : Type 0 where
   pub later : load < now
   pub loads : (c : ChannelValue) × IsLoadedWith start program c × (changes load ≡ Sets call.channel c)
   pub is_call : changes now ≡ Calls call
-  pub lent : LendsAll t call
+  pub lent : LendsAll w call
   pub spares : (k : ℕ) → load < k → k < now → Spares k (changes k) (states k) (states (k + 1))
 
--- each address that a transfer touches has the same byte as before
-abbrev pub KeepsTouched : Descriptor → System → System → Type 0
-KeepsTouched t before after = (a : ℕ) → Touches t a → after.memory a ≡ before.memory a
+-- each address that a work uses has the same byte as before
+abbrev pub KeepsUsed : Work → System → System → Type 0
+KeepsUsed w before after = (a : ℕ) → Uses w a → after.memory a ≡ before.memory a
 
--- A change leaves the transfer of a channel alone: it gives the channel no other value, so a restore of the value that
--- the channel has is allowed; a call on the channel is lent what the transfer touches; and anything else changes no
--- byte there.
-abbrev pub LeavesAlone : Descriptor → ℕ → Change → System → System → Type 0
-LeavesAlone t ch (Sets other c) before after = other ≡ ch → c ≡ before.channels ch
-LeavesAlone t ch (Calls call) before after =
-    (call.channel ≡ ch → LendsAll t call) × (call.channel ≢ ch → KeepsTouched t before after)
-LeavesAlone t ch Guest before after = KeepsTouched t before after
+-- A change leaves the work of a channel alone: it gives the channel no other value, so a restore of the value that the
+-- channel has is allowed; a call on the channel is lent what the work uses; and anything else changes no byte there.
+abbrev pub LeavesAlone : Work → ℕ → Change → System → System → Type 0
+LeavesAlone w ch (Sets other c) before after = other ≡ ch → c ≡ before.channels ch
+LeavesAlone w ch (Calls call) before after =
+    (call.channel ≡ ch → LendsAll w call) × (call.channel ≢ ch → KeepsUsed w before after)
+LeavesAlone w ch Guest before after = KeepsUsed w before after
 
--- A memory after a copy of the first k bytes of a transfer from the memory `first`: the first k destinations have the
--- bytes that the sources with the same numbers had, and each other address that the transfer touches has its own byte.
-pub record HasFirst (t : Descriptor) (k : ℕ) (first memory : ℕ → ℕ) : Type 0 where
-  pub copied : (p : ℕ) → p < k → p < size_of t →
-      memory (slice_index (destinations t) p) ≡ first (slice_index (sources t) p)
-  pub kept : (a : ℕ) → Touches t a → ¬ Contains (take k (destinations t)) a → memory a ≡ first a
+-- A memory after the first part of a work, from the memory `first`: the first destinations, as many as are copied, have
+-- the bytes that the sources with the same numbers had; the first addresses to be set to 0, as many as are cleared, have
+-- 0; and each other address that the work uses has its own byte.
+pub record HasFirst (w : Work) (done : Amounts) (first memory : ℕ → ℕ) : Type 0 where
+  pub copied : (p : ℕ) → p < done.copied → p < size_of w.copy →
+      memory (slice_index (destinations w.copy) p) ≡ first (slice_index (sources w.copy) p)
+  pub zeros : (p : ℕ) → p < done.cleared → p < length (cleared w) → memory (slice_index (cleared w) p) ≡ 0
+  pub kept : (a : ℕ) → Uses w a → ¬ Contains (take done.copied (destinations w.copy)) a →
+      ¬ Contains (take done.cleared (cleared w)) a → memory a ≡ first a
 
--- The result of a call, if `first` is the memory at the load of a program of which t explains n instructions, and
--- `memory` the one after the call. As many bytes are copied as the channel counts in `stored`, also if the program is
--- stopped there, waits or has failed, and all when it ends. Each address in the range that the call reports as written
--- is a destination. A signal that the call reports is one of the program's DMASEVs, and is set when this number of
--- bytes is stored. A call waits only for the event of one of the program's DMAWFEs, and doesn't fail if no mark lies at
--- an address that t touches.
-pub record HasCopied (start : Registers) (program : List ℕ) (t : Descriptor) (n : ℕ) (first memory : ℕ → ℕ)
+-- The result of a call, if `first` is the memory at the load of a program of which this work explains n instructions,
+-- and `memory` the one after the call. This part of the work is done: as many bytes as the channel counts in `stored`,
+-- also if the program is stopped there, waits or has failed, and all when it ends. Each address in the range that the
+-- call reports as written is one that the work writes. A signal that the call reports is one of the program's DMASEVs,
+-- and is set when this part is done. A call waits only for the event of one of the program's DMAWFEs, and doesn't fail
+-- if no mark lies at an address that the work uses.
+pub record HasCopied (start : Registers) (program : List ℕ) (w : Work) (n : ℕ) (first memory : ℕ → ℕ)
     (call : Call) : Type 0 where
-  pub bytes : HasFirst t call.left.channel.stored first memory
-  pub writes : (a : ℕ) → LiesIn call.written a → Contains (destinations t) a
-  pub signals : (e : ℕ) → call.signal ≡ Some e → IsSignal start program n e call.left.channel.stored
-  pub ends : call.last ≡ Some Ended → call.left.channel.stored ≡ size_of t
+  pub done : Amounts
+  pub count : call.left.channel.stored ≡ done.copied + done.cleared
+  pub within : done.cleared ≤ length (cleared w)
+  pub bytes : HasFirst w done first memory
+  pub writes : (a : ℕ) → LiesIn call.written a → Contains (written w) a
+  pub signals : (e : ℕ) → call.signal ≡ Some e → IsSignal start program n e done
+  pub ends : call.last ≡ Some Ended → done ≡ all_of w
   pub waits : (e : ℕ) → call.last ≡ Some (Waiting e) → IsWait start program n e
-  pub never_fails : (kind : FaultKind) → Misses call.marks t → call.last ≢ Some (Fault kind)
+  pub never_fails : (kind : FaultKind) → MissesAll call.marks w → call.last ≢ Some (Fault kind)
 
--- Each call on a channel has copied, if a transfer explains its program and was left alone since its load.
+-- Each call on a channel has copied, if a work explains its program and was left alone since its load.
 abbrev pub CopiesSinceLoad : Type 0
 CopiesSinceLoad =
-    (start : Registers) (program : List ℕ) (t : Descriptor) (n : ℕ) (changes : ℕ → Change) (states : ℕ → System)
-    (load now : ℕ) (call : Call) → Explains start program t n → DoesAll changes states load (now + 1) →
-    SinceLoad start program t changes states load now call (λ k. LeavesAlone t call.channel) →
-    HasCopied start program t n (states load).memory (states (now + 1)).memory call
+    (start : Registers) (program : List ℕ) (w : Work) (n : ℕ) (changes : ℕ → Change) (states : ℕ → System)
+    (load now : ℕ) (call : Call) → Explains start program w n → DoesAll changes states load (now + 1) →
+    SinceLoad start program w changes states load now call (λ k. LeavesAlone w call.channel) →
+    HasCopied start program w n (states load).memory (states (now + 1)).memory call
 
 -- the bytes of an image, by their addresses
 abbrev pub bytes_in : List ℕ → ℕ → ℕ
@@ -145,50 +151,50 @@ bytes_in image a = slice_index image a
 abbrev pub LaidByPlace : Type 0
 LaidByPlace =
     (t : Descriptor) (first : List ℕ) (k : ℕ) → IsCopy t → lies_below t (length first) ≡ true →
-    HasFirst t k (bytes_in first) (bytes_in (laid first t k))
+    HasFirst (only t) (record { copied = k; cleared = 0 }) (bytes_in first) (bytes_in (laid first t k))
 
--- ---- among other transfers
+-- ---- among other programs
 
--- the channel has no program, or executes one that this transfer explains; without a transfer, it may have any program
-abbrev pub Holds : Option Descriptor → ChannelValue → Type 0
+-- the channel has no program, or executes one that this work explains; without a work, it may have any program
+abbrev pub Holds : Option Work → ChannelValue → Type 0
 Holds None c = Unit {0}
-Holds (Some t) c =
+Holds (Some w) c =
     (c.program ≡ None)
-    ⊎ ((start : Registers) × (program : List ℕ) × (n : ℕ) × Explains start program t n × Executes start program n c)
+    ⊎ ((start : Registers) × (program : List ℕ) × (n : ℕ) × Explains start program w n × Executes start program n c)
 
--- which transfers the channels have before and after a change
-abbrev pub Gives : Change → (ℕ → Option Descriptor) → (ℕ → Option Descriptor) → Type 0
+-- which works the channels have before and after a change
+abbrev pub Gives : Change → (ℕ → Option Work) → (ℕ → Option Work) → Type 0
 Gives (Sets ch c) before after = Holds (after ch) c × ((other : ℕ) → other ≢ ch → after other ≡ before other)
 Gives change before after = (ch : ℕ) → after ch ≡ before ch
 
--- Before change number k, the transfer of channel number ch is `own k ch`, or None for a channel of whose program
+-- Before change number k, the work of channel number ch is `own k ch`, or None for a channel of whose program
 -- nothing is known, as of a guest's. This holds before change number `from`, and after each change up to `count`.
-pub record HaveTransfers (own : ℕ → ℕ → Option Descriptor) (changes : ℕ → Change) (states : ℕ → System)
+pub record HaveWorks (own : ℕ → ℕ → Option Work) (changes : ℕ → Change) (states : ℕ → System)
     (from count : ℕ) : Type 0 where
   pub first : (ch : ℕ) → Holds (own from ch) ((states from).channels ch)
   pub gives : (k : ℕ) → from ≤ k → k < count → Gives (changes k) (own k) (own (k + 1))
 
--- A call on a channel with this transfer writes elsewhere than a transfer t touches, if no destination lies there. If
--- nothing is known of the channel's program, no such address may lie in the range that the call reports as written.
-abbrev pub WritesElsewhere : Descriptor → Option Descriptor → Call → Type 0
-WritesElsewhere t None call = (a : ℕ) → Touches t a → ¬ LiesIn call.written a
-WritesElsewhere t (Some other) call = (a : ℕ) → Touches t a → ¬ Contains (destinations other) a
+-- A call on a channel with this work writes elsewhere than a work w uses, if it writes no such address. If nothing is
+-- known of the channel's program, no such address may lie in the range that the call reports as written.
+abbrev pub WritesElsewhere : Work → Option Work → Call → Type 0
+WritesElsewhere w None call = (a : ℕ) → Uses w a → ¬ LiesIn call.written a
+WritesElsewhere w (Some other) call = (a : ℕ) → Uses w a → ¬ Contains (written other) a
 
--- A change is apart from the transfer t of a channel: it gives the channel no other value than it has; a call on the
--- channel is lent what t touches; and a call on another channel and the guest write elsewhere.
-abbrev pub IsApart : Descriptor → ℕ → (ℕ → Option Descriptor) → Change → System → System → Type 0
-IsApart t ch own (Sets other c) before after = other ≡ ch → c ≡ before.channels ch
-IsApart t ch own (Calls call) before after =
-    (call.channel ≡ ch → LendsAll t call) × (call.channel ≢ ch → WritesElsewhere t (own call.channel) call)
-IsApart t ch own Guest before after = KeepsTouched t before after
+-- A change is apart from the work w of a channel: it gives the channel no other value than it has; a call on the channel
+-- is lent what w uses; and a call on another channel and the guest write elsewhere.
+abbrev pub IsApart : Work → ℕ → (ℕ → Option Work) → Change → System → System → Type 0
+IsApart w ch own (Sets other c) before after = other ≡ ch → c ≡ before.channels ch
+IsApart w ch own (Calls call) before after =
+    (call.channel ≡ ch → LendsAll w call) × (call.channel ≢ ch → WritesElsewhere w (own call.channel) call)
+IsApart w ch own Guest before after = KeepsUsed w before after
 
 -- Any number of channels get transfers' and guests' programs at any time, and are stepped in any order. Each call on a
--- channel has copied its transfer, if since its load all changes were apart from it. What was before the load, and what
--- is written to other transfers' ranges, doesn't matter.
+-- channel has done its part of the work, if since its load all changes were apart from it. What was before the load, and
+-- what is written to other works' ranges, doesn't matter.
 abbrev pub ChannelsCopy : Type 0
 ChannelsCopy =
-    (start : Registers) (program : List ℕ) (t : Descriptor) (n : ℕ) (own : ℕ → ℕ → Option Descriptor) (changes : ℕ → Change)
-    (states : ℕ → System) (load now : ℕ) (call : Call) → Explains start program t n →
-    DoesAll changes states load (now + 1) → HaveTransfers own changes states load (now + 1) →
-    SinceLoad start program t changes states load now call (λ k. IsApart t call.channel (own k)) →
-    HasCopied start program t n (states load).memory (states (now + 1)).memory call
+    (start : Registers) (program : List ℕ) (w : Work) (n : ℕ) (own : ℕ → ℕ → Option Work) (changes : ℕ → Change)
+    (states : ℕ → System) (load now : ℕ) (call : Call) → Explains start program w n →
+    DoesAll changes states load (now + 1) → HaveWorks own changes states load (now + 1) →
+    SinceLoad start program w changes states load now call (λ k. IsApart w call.channel (own k)) →
+    HasCopied start program w n (states load).memory (states (now + 1)).memory call

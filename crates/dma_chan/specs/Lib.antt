@@ -20,6 +20,7 @@ pub mod Layer
 pub mod Ready
 pub mod Fails
 pub mod Explains
+pub mod OnBuses
 pub mod RunPages
 pub mod Others
 pub mod Alone

@@ -1,7 +1,7 @@
 -- Channels that execute steps over a memory that others write between the steps.
-use Rattle.std.specs.Prelude.{◌≡◌, ◌≢◌, ℕ, ◌+◌, ◌≤◌, ◌<◌, ◌⊎◌, Bool, true, false, List, length, slice_index, Option, Some, IsSome}
+use Rattle.std.specs.Prelude.{◌≡◌, ◌≢◌, ℕ, ◌+◌, ◌≤◌, ◌<◌, ◌⊎◌, ◌&&◌, Bool, true, false, List, length, slice_index, Option, Some, IsSome}
 use Rattle.std.specs.List.{Contains}
-use Rattle.dma_mem.specs.Places.{Descriptor, sources, destinations, size_of, lies_below}
+use Rattle.dma_mem.specs.Places.{Descriptor, all_below, sources, destinations, size_of, lies_below}
 use Rattle.dma_mem.specs.Image.{laid}
 use Rattle.dma_mem.specs.declared.marks.MarkKind.TheVariants.{Reading, Writing}
 use Rattle.dma_mem.specs.Marking.{MarkList, is_marked}
@@ -10,7 +10,7 @@ use Rattle.dma_chan.specs.declared.turn.ChanTurn.{ChanTurn}
 use Rattle.dma_chan.specs.declared.turn.ChanTurn.TheVariants.{Moved, Ended, Fault}
 use Rattle.dma_chan.specs.declared.turn.FaultKind.{FaultKind}
 use Rattle.dma_chan.specs.Channel.{ChannelValue, step_of, stepped}
-use Rattle.dma_chan.specs.Explains.{Explains, IsLoadedWith}
+use Rattle.dma_chan.specs.Explains.{Explains, IsLoadedWith, Work, cleared}
 use Rattle.dma_chan.specs.Stepping.{Machine, TakesSteps}
 use Rattle.dma_chan.specs.NextWrites.{written_next}
 
@@ -24,27 +24,45 @@ pub record Misses (marks : MarkList) (t : Descriptor) : Type 0 where
   pub reads : (a : ℕ) → Contains (sources t) a → is_marked Reading marks a ≡ false
   pub writes : (a : ℕ) → Contains (destinations t) a → is_marked Writing marks a ≡ false
 
--- A channel executes the n instructions before DMAEND of a program that copies t. `channel k` is the channel before
--- instruction number k, which is executed with these marks and flags and with a memory that contains the ranges of t.
--- Between two instructions others may write any byte that t neither reads nor writes, and may change the memory's size,
--- any flag and any mark.
-pub record RunsAmongOthers (start : Registers) (program : List ℕ) (t : Descriptor) (n : ℕ) (marks : ℕ → MarkList)
+-- whether a program's work reads or writes an address
+abbrev pub Uses : Work → ℕ → Type 0
+Uses w a = Touches w.copy a ⊎ Contains (cleared w) a
+
+-- No mark lies at an address that the work uses.
+pub record MissesAll (marks : MarkList) (w : Work) : Type 0 where
+  pub copy : Misses marks w.copy
+  pub zeros : (a : ℕ) → Contains (cleared w) a → is_marked Writing marks a ≡ false
+
+-- whether all ranges of the work lie below a memory's size
+abbrev pub work_below : Work → ℕ → Bool
+work_below w size = lies_below w.copy size && all_below w.zeros size
+
+-- The work is done: each address that the copy touches has the same byte as after one simultaneous copy of all its bytes
+-- in the memory `first`, and each address that is set to 0 has 0.
+pub record IsWorked (w : Work) (first image : List ℕ) : Type 0 where
+  pub copied : (a : ℕ) → Touches w.copy a → slice_index image a ≡ slice_index (laid first w.copy (size_of w.copy)) a
+  pub zeros : (a : ℕ) → Contains (cleared w) a → slice_index image a ≡ 0
+
+-- A channel executes the n instructions before DMAEND of a program that this work explains. `channel k` is the channel
+-- before instruction number k, which is executed with these marks and flags and with a memory that contains the ranges
+-- of the work. Between two instructions others may write any byte that the work neither reads nor writes, and may change
+-- the memory's size, any flag and any mark.
+pub record RunsAmongOthers (start : Registers) (program : List ℕ) (w : Work) (n : ℕ) (marks : ℕ → MarkList)
     (channel : ℕ → ChannelValue) (image : ℕ → List ℕ) (flags : ℕ → List Bool) : Type 0 where
   pub begins : IsLoadedWith start program (channel 0)
-  pub below : (k : ℕ) → k ≤ n → lies_below t (length (image k)) ≡ true
+  pub below : (k : ℕ) → k ≤ n → work_below w (length (image k)) ≡ true
   pub moves : (k : ℕ) → k < n → (step_of (marks k) (channel k) (image k) (flags k)).0 ≡ Moved
   pub goes_on : (k : ℕ) → k < n → channel (k + 1) ≡ stepped (marks k) (channel k) (image k) (flags k)
-  pub unchanged : (k a : ℕ) → k < n → Touches t a →
+  pub unchanged : (k a : ℕ) → k < n → Uses w a →
       slice_index (image (k + 1)) a ≡ slice_index (step_of (marks k) (channel k) (image k) (flags k)).1.image a
 
--- Before DMAEND, each address that t touches has the same byte as after one simultaneous copy of all its bytes in the
--- memory at the start.
+-- Before DMAEND, the work is done.
 abbrev pub CopiesAmongOthers : Type 0
 CopiesAmongOthers =
-    (start : Registers) (program : List ℕ) (t : Descriptor) (n : ℕ) (marks : ℕ → MarkList) (channel : ℕ → ChannelValue)
+    (start : Registers) (program : List ℕ) (w : Work) (n : ℕ) (marks : ℕ → MarkList) (channel : ℕ → ChannelValue)
     (image : ℕ → List ℕ) (flags : ℕ → List Bool) →
-    Explains start program t n → RunsAmongOthers start program t n marks channel image flags →
-    (a : ℕ) → Touches t a → slice_index (image n) a ≡ slice_index (laid (image 0) t (size_of t)) a
+    Explains start program w n → RunsAmongOthers start program w n marks channel image flags →
+    IsWorked w (image 0) (image n)
 
 -- After an instruction, the memory has the same size, and all bytes are the same except those that the channel's next
 -- instruction writes. This applies to every program, including one that was not compiled.
@@ -60,33 +78,31 @@ WritesNoOther =
 
 -- ---- by calls, each of which executes several steps
 
--- Calls on a channel that starts with a program that copies t. Each call has its own marks, its program is loaded, and
--- its memory contains the ranges of t. It executes steps from `before` to `after`. Between two calls others may write
--- any byte that t neither reads nor writes, and may change the memory's size and any flag.
-pub record CalledAmongOthers (start : Registers) (program : List ℕ) (t : Descriptor) (marks : ℕ → MarkList) (calls : ℕ)
+-- Calls on a channel that starts with a program that this work explains. Each call has its own marks, its program is
+-- loaded, and its memory contains the ranges of the work. It executes steps from `before` to `after`. Between two calls
+-- others may write any byte that the work neither reads nor writes, and may change the memory's size and any flag.
+pub record CalledAmongOthers (start : Registers) (program : List ℕ) (w : Work) (marks : ℕ → MarkList) (calls : ℕ)
     (before after : ℕ → Machine) (last : ℕ → Option ChanTurn) : Type 0 where
   pub begins : IsLoadedWith start program (before 0).channel
   pub is_loaded : (k : ℕ) → k < calls → IsSome (before k).channel.program
-  pub below : (k : ℕ) → k < calls → lies_below t (length (before k).image) ≡ true
+  pub below : (k : ℕ) → k < calls → work_below w (length (before k).image) ≡ true
   pub steps : (k : ℕ) → k < calls →
       (most : ℕ) × (taken : ℕ) × TakesSteps (marks k) (before k) most taken (last k) (after k)
   pub goes_on : (k : ℕ) → k + 1 < calls → (before (k + 1)).channel ≡ (after k).channel
-  pub unchanged : (k a : ℕ) → k + 1 < calls → Touches t a →
+  pub unchanged : (k a : ℕ) → k + 1 < calls → Uses w a →
       slice_index (before (k + 1)).image a ≡ slice_index (after k).image a
 
--- The result of these calls. After a call that ends, each address that the transfer touches has the same byte as after
--- one simultaneous copy of all the transfer's bytes in the memory before the first call. And a call doesn't fail if
--- none of its marks lies at an address that the transfer touches.
-pub record CallsCopy (t : Descriptor) (marks : ℕ → MarkList) (calls : ℕ) (before after : ℕ → Machine)
+-- The result of these calls. After a call that ends, the work is done from the memory before the first call. And a call
+-- doesn't fail if none of its marks lies at an address that the work uses.
+pub record CallsCopy (w : Work) (marks : ℕ → MarkList) (calls : ℕ) (before after : ℕ → Machine)
     (last : ℕ → Option ChanTurn) : Type 0 where
-  pub copies : (k a : ℕ) → k < calls → last k ≡ Some Ended → Touches t a →
-      slice_index (after k).image a ≡ slice_index (laid (before 0).image t (size_of t)) a
-  pub never_fails : (k : ℕ) (kind : FaultKind) → k < calls → Misses (marks k) t → last k ≢ Some (Fault kind)
+  pub works : (k : ℕ) → k < calls → last k ≡ Some Ended → IsWorked w (before 0).image (after k).image
+  pub never_fails : (k : ℕ) (kind : FaultKind) → k < calls → MissesAll (marks k) w → last k ≢ Some (Fault kind)
 
 -- Calls among others have the result of `CallsCopy`.
 abbrev pub CallsCopyAmongOthers : Type 0
 CallsCopyAmongOthers =
-    (start : Registers) (program : List ℕ) (t : Descriptor) (n : ℕ) (marks : ℕ → MarkList) (calls : ℕ)
-    (before after : ℕ → Machine) (last : ℕ → Option ChanTurn) → Explains start program t n →
-    CalledAmongOthers start program t marks calls before after last →
-    CallsCopy t marks calls before after last
+    (start : Registers) (program : List ℕ) (w : Work) (n : ℕ) (marks : ℕ → MarkList) (calls : ℕ)
+    (before after : ℕ → Machine) (last : ℕ → Option ChanTurn) → Explains start program w n →
+    CalledAmongOthers start program w marks calls before after last →
+    CallsCopy w marks calls before after last

@@ -1,11 +1,11 @@
-//! What a program copies, found by one run without memory.
+//! What a program copies and what it sets to 0, found by one run without memory.
 
 ghost use Rattle.std.specs.Prelude.{◌≡◌, ◌≢◌, ◌-◌, ◌<◌, ◌↔◌, IfErr, IfOk, IsErrAnd, length};
 ghost use Rattle.dma_insn.specs.AssemblyText.{most_program_bytes};
 ghost use Rattle.dma_insn.specs.declared.chip.ChipInsn.TheVariants.{End};
 ghost use Rattle.dma_mem.specs.Places.{places};
-ghost use Rattle.dma_chan.specs.Explains.{Finds, HasAddress, Refuses, bursts_in, unrolled};
-ghost use Rattle.dma_chan.specs.inner.Tracing.{IsCopied, IsTracer, Stops};
+ghost use Rattle.dma_chan.specs.Explains.{Finds, HasAddress, Refuses, bursts_in, unrolled, written_in};
+ghost use Rattle.dma_chan.specs.inner.Tracing.{IsCopied, IsTracer, Stops, trace_of};
 
 mod counts;
 mod ranges;
@@ -41,11 +41,18 @@ pub enum Sync {
     Signals(u8),
 }
 
-/// A DMAWFE or DMASEV that a program executes, and how many bytes it has stored before.
+/// How many bytes a program copies, and how many it sets to 0.
+#[derive(Clone, Copy)]
+pub struct Amounts {
+    pub copied: u64,
+    pub cleared: u64,
+}
+
+/// A DMAWFE or DMASEV that a program executes, and what it has done before.
 #[derive(Clone, Copy)]
 pub struct Happening {
     pub sync: Sync,
-    pub stored: u64,
+    pub done: Amounts,
 }
 
 /// How many bursts a program executes.
@@ -63,13 +70,15 @@ pub struct BurstCounts {
     pub in_blocks: u64,
 }
 
-/// What a program copies: byte number p of the sources' places to byte number p of the destinations'.
+/// What a program copies, byte number p of the sources' places to byte number p of the destinations', and what it sets
+/// to 0.
 #[derive(Drop)]
 pub struct Explained {
     pub src: Vec<Repeated>,
     pub dst: Vec<Segment>,
-    /// How many bytes it copies.
-    pub size: u64,
+    /// What its DMASTZ set to 0, in order.
+    pub zeros: Vec<Segment>,
+    pub size: Amounts,
     /// The events that it waits for and signals, in order.
     pub events: Vec<Happening>,
     /// How many instructions it executes, with DMAEND.
@@ -78,7 +87,7 @@ pub struct Explained {
     pub bursts: BurstCounts,
 }
 
-/// Why no copy explains a program.
+/// Why nothing explains a program. A DMASTZ is a store too.
 #[derive(Clone, Copy, PartialEq, Eq)]
 pub enum Cause {
     /// The program has more than [`MAX_PROGRAM_BYTES`].
@@ -93,8 +102,6 @@ pub enum Cause {
     StoresPast,
     /// A store's address doesn't increment.
     StoresFixed,
-    /// Only on a chip's bus: a DMASTZ, which stores zeros and no bytes that were loaded.
-    StoresZeros,
     /// Only on a chip's bus: a DMAMOV, DMAADDH or DMAADNH of DAR, or a DMAMOV CCR, after which a chip drops the bytes
     /// that are loaded and not stored: it moves the destination to other byte lanes of the bus, or changes whether it
     /// rises, or the size of beats that don't rise (DMA-330 manual, updating DMA channel control registers during a DMA
@@ -112,7 +119,7 @@ pub enum Cause {
     NoMemory,
 }
 
-/// Why no copy explains a program, and at which instruction. If the cause is `TooLong` or `NoMemory`, the other fields
+/// Why nothing explains a program, and at which instruction. If the cause is `TooLong` or `NoMemory`, the other fields
 /// have no meaning.
 #[derive(Clone, Copy, PartialEq, Eq)]
 pub struct Unexplained {
@@ -141,7 +148,7 @@ fn finish(alloc: Global, tracer: Tracer, steps: u32) -> Result<Explained, Stop>
     ensures ok { IfOk result (λ x. IsCopied tracer steps x) }
     ensures err { IfErr result (λ stop. Stops End tracer stop.cause) }
     ensures addr { IfErr result (λ stop. HasAddress stop.cause
-        (places (unrolled tracer.src.items)) (places tracer.dst.items) stop.addr) }
+        (places (unrolled tracer.src.items)) (written_in (trace_of tracer)) stop.addr) }
 {
     if tracer.held > 0 {
         return Err(Stop {
@@ -149,11 +156,17 @@ fn finish(alloc: Global, tracer: Tracer, steps: u32) -> Result<Explained, Stop>
             addr: 0,
         });
     }
-    overlap(alloc, tracer.src.as_slice(), tracer.dst.as_slice())?;
+    overlap(
+        alloc,
+        tracer.src.as_slice(),
+        tracer.dst.as_slice(),
+        tracer.zeros.as_slice(),
+    )?;
     let Tracer {
         src,
         dst,
-        stored,
+        zeros,
+        done,
         events,
         bursts,
         ..
@@ -161,7 +174,8 @@ fn finish(alloc: Global, tracer: Tracer, steps: u32) -> Result<Explained, Stop>
     Ok(Explained {
         src,
         dst,
-        size: stored,
+        zeros,
+        size: done,
         events,
         steps,
         bursts,
@@ -169,11 +183,12 @@ fn finish(alloc: Global, tracer: Tracer, steps: u32) -> Result<Explained, Stop>
 }
 
 /// Explains a program that begins with these registers: runs it without memory for at most `most` instructions, and
-/// returns what it copies, or why and where no copy explains it. Only `pc` has no meaning: it starts at 0.
+/// returns what it copies and sets to 0, or why and where nothing explains it. Only `pc` has no meaning: it starts
+/// at 0.
 ///
 /// It takes a few nanoseconds for each instruction that is executed, so `most` also bounds its time. Long loops of
 /// DMALD, DMAST, DMARMB, DMAWMB and DMANOP take less than a tenth of that, if the addresses of each turn continue those
-/// of the turn before: many turns are one step. It allocates 16 bytes for each DMASEV and DMAWFE that is executed, 12
+/// of the turn before: many turns are one step. It allocates 24 bytes for each DMASEV and DMAWFE that is executed, 12
 /// bytes for each load whose range doesn't continue or repeat the one before, and 16 bytes for each store whose range
 /// doesn't continue the one before; a list that grows takes up to three times as much for a moment.
 pub fn explain(
@@ -208,7 +223,7 @@ pub fn explain(
             pc,
             steps,
             addr: 0,
-            stored: tracer.stored,
+            stored: tracer.stored(),
         };
         let next = match Next::on(tracer.registers.bus, program, pc) {
             Ok(next) => next,
@@ -239,6 +254,6 @@ pub fn explain(
         pc: tracer.registers.pc,
         steps: most,
         addr: 0,
-        stored: tracer.stored,
+        stored: tracer.stored(),
     })
 }

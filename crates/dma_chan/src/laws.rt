@@ -5,8 +5,9 @@ ghost use Rattle.dma_chan.specs.Layer.{StartsAt, AheadIs, LeftIs, StepIs, TurnRe
 ghost use Rattle.dma_chan.specs.CallWrites.{CallWritesNoOther, LoadExecutes, CallStaysIn};
 ghost use Rattle.dma_chan.specs.Changes.{CopiesSinceLoad, ChannelsCopy, LaidByPlace};
 ghost use Rattle.dma_chan.specs.Aligned.{AddressesAlign};
-ghost use Rattle.dma_chan.specs.Explains.{CompiledEvents, CompiledExplained, CompiledOnBus, ExplainedOnBus, ExplainedOnce, RefusedUnexplained};
+ghost use Rattle.dma_chan.specs.Explains.{ExplainedOnce, RefusedUnexplained};
 ghost use Rattle.dma_chan.specs.LentRegions.{GapsMiss};
+ghost use Rattle.dma_chan.specs.OnBuses.{CompiledEvents, CompiledExplained, CompiledOnBus, ExplainedOnBus};
 ghost use Rattle.dma_chan.specs.Others.{CallsCopyAmongOthers, CopiesAmongOthers, WritesNoOther};
 ghost use Rattle.dma_chan.specs.Reads.{CallReadsIn, CallReadsNoOther, ReadsNoOther};
 ghost use Rattle.dma_chan.specs.Ready.{ReadyIs};
@@ -56,7 +57,7 @@ pub fn compiled_is_explained()
     ensures events { CompiledEvents }
 {}
 
-/// A copy that explains a program on the ideal bus explains it on each bus that the program's beats fit, if each burst
+/// What explains a program on the ideal bus explains it on each bus that the program's beats fit, if each burst
 /// begins at a multiple of its beat's size and no DMAMOV drops bytes.
 pub fn aligned_is_explained()
     ensures { ExplainedOnBus }
@@ -68,14 +69,14 @@ pub fn addresses_align()
     ensures { AddressesAlign }
 {}
 
-/// All copies that explain a program have the same places in the same order. So what `explain::explain` returns is the
+/// All works that explain a program have the same places in the same order. So what `explain::explain` returns is the
 /// only explanation, up to how its ranges are cut into segments.
 #[tactic(auto, using(crate::proofs::Explaining::explained_once))]
 pub fn is_explained_once()
     ensures { ExplainedOnce }
 {}
 
-/// No copy explains a program that `explain::explain` refuses, with fewer instructions before DMAEND than its limit.
+/// Nothing explains a program that `explain::explain` refuses, with fewer instructions before DMAEND than its limit.
 pub fn refused_is_unexplained()
     ensures { RefusedUnexplained }
 {}

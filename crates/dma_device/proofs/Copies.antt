@@ -1,22 +1,22 @@
 -- What a program that a DMAGO starts copies.
-use Rattle.std.proofs.Common.{◌≡◌, ◌≢◌, ◌∙◌, ◌⊎◌, ℕ, suc, ◌<◌, ◌≤◌, true, false, List, get_or, length, Some, ap, refl, sym, subst, arith, inl, inr, true≢false, zero, Option, length-append}
+use Rattle.std.proofs.Common.{◌≡◌, ◌≢◌, ◌∙◌, ◌⊎◌, ℕ, suc, ◌<◌, ◌≤◌, true, false, List, [], length, Some, ap, refl, sym, subst, arith, inl, inr, true≢false, zero, Option, length-append}
 use Rattle.std.specs.Prelude.{nat_lt}
-use Rattle.std.proofs.lemmas.List.Elements.{Contains-get_or}
+use Rattle.std.proofs.lemmas.List.Elements.{Contains-append_left, Contains-append_right}
 use Rattle.std.proofs.lemmas.Bool.{and_parts, cases_eq}
 use borrow.Author.Tests.{ltb-true}
-use Rattle.dma_mem.specs.Image.{laid}
 use Rattle.dma_mem.specs.Marking.{MarkList}
-use Rattle.dma_mem.specs.Places.{Descriptor, destinations, size_of}
+use Rattle.dma_mem.specs.Places.{destinations, size_of}
 use Rattle.dma_mem.specs.declared.regions.Region.{Region}
 use Rattle.dma_mem.proofs.OverTransfers.{Contains_take}
-use Rattle.dma_chan.specs.Explains.{IsSignal, IsWait, traced, Explains}
-use Rattle.dma_chan.specs.Others.{Misses, Touches}
+use Rattle.dma_chan.specs.Explains.{IsSignal, IsWait, Work, all_of, amounts_of, cleared, traced, Explains}
+use Rattle.dma_chan.specs.Others.{IsWorked, MissesAll}
+use Rattle.dma_chan.specs.declared.explain.Amounts.{Amounts}
 use Rattle.dma_chan.specs.Channel.{ChannelValue, ahead_of}
-use Rattle.dma_chan.proofs.CallsAmongOthers.{call_answers, call_fails, call_waits, signalled, Leads, Runs, call, many, moved_on}
-use Rattle.dma_chan.proofs.LaidPlaces.{laid_by_fits}
+use Rattle.dma_chan.proofs.CallsAmongOthers.{call_answers, call_fails, call_waits, done_at, signalled, Runs, many, moved_on}
+use Rattle.dma_chan.proofs.SinceLoads.{IsPart, part_first, runs_so, worked_part}
 use Rattle.dma_chan.proofs.RegionsHave.{gaps_miss}
 use Rattle.dma_device.specs.CallSteps.{first_in, marks_in}
-use Rattle.dma_device.specs.Copies.{AreCopied, DmagoCopies, DmagoInterrupts, DmagoNeverFails, HasRisen, IsFit}
+use Rattle.dma_device.specs.Copies.{AreDone, IsAtLeast, DmagoCopies, DmagoInterrupts, DmagoNeverFails, HasRisen, IsFit}
 use Rattle.dma_device.specs.Device.{DeviceValue, irqs}
 use Rattle.dma_device.specs.Dmago.{Go, RunsCopy, GivenTurns, csr_status, image_in, start_of}
 use Rattle.dma_device.specs.Interrupts.{HasLine, IsHigh}
@@ -32,7 +32,6 @@ use Rattle.dma_chan.specs.Stepping.{Machine, TakesSteps, after_step, after_steps
 use Rattle.dma_chan.specs.declared.turn.ChanTurn.{ChanTurn}
 use Rattle.dma_chan.specs.declared.turn.ChanTurn.TheVariants.{Moved, Ended}
 use Rattle.dma_chan.proofs.AmongOthers.{Among, Fits}
-use Rattle.dma_chan.proofs.CallWrites.{inside}
 use Rattle.dma_chan.proofs.Traced.{grows_to}
 use Rattle.dma_chan.proofs.StepsTaken.{steps_move}
 use Rattle.dma_chan.proofs.SteppedOver.{is_still, was_moved, went_before}
@@ -42,67 +41,59 @@ use Rattle.dma_device.proofs.Driven.{After, Before, Call, Copying, Going, Has, S
 use Rattle.dma_device.proofs.Starts.{reads_fine, reads_stopped, stopped_fine}
 use Rattle.dma_device.proofs.Interrupts.{turn_raises}
 
--- ---- the bytes that a program has stored become no fewer
+-- ---- a program does no less as it goes on
 
-is_end : (turn : ChanTurn) → (turn ≡ Ended) ⊎ (turn ≢ Ended)
-is_end Ended = inl refl
-is_end turn = inr (λ e. cc)
+-- at least this is done after so many instructions
+abbrev pub DoneAt : Registers → List ℕ → Amounts → ℕ → Type 0
+DoneAt start program least k = IsAtLeast least (amounts_of (traced start program k))
 
-module _ (start : Registers) (program : List ℕ) (t : Descriptor) (count : ℕ) (marks : MarkList) (first : List ℕ) (h : Explains start program t count) (low : Fits t (length first)) where
-  grows : (k : ℕ) → length (traced start program k).stores ≤ length (traced start program (suc k)).stores
-  grows k =
-      let g = grows_to start program k (suc k) (omega arith) in
-      omega (arith, ap length g.stores, length-append (traced start program k).stores g.more_stores)
+later : (start : Registers) (program : List ℕ) (least : Amounts) (k m : ℕ) → k ≤ m → DoneAt start program least k → DoneAt start program least m
+later start program least k m l w =
+    let x = traced start program k in
+    let g = grows_to start program k m l in
+    record {
+      copied = omega (arith, w.copied, ap length g.stores, length-append x.stores g.more_stores);
+      cleared = omega (arith, w.cleared, ap length g.zeros, length-append x.zeros g.more_zeros);
+    }
 
-  -- not more than all
-  pub at_most : (v : Machine) → Runs start program t count first v → v.channel.stored ≤ size_of t
-  at_most v r =
-      let g = inside start program t count h r.0 r.1.within in
-      omega (arith, r.1.stored, ap length g.stores, length-append (traced start program r.0).stores g.stores_rest)
+module _ (start : Registers) (program : List ℕ) (work : Work) (count : ℕ) (marks : MarkList) (first : List ℕ) (h : Explains start program work count) (low : Fits work (length first)) where
+  moved_later : (n : ℕ) (u : Machine) → Among start program work count first n u.image u.channel → answer_at marks u ≡ Moved → u.channel.taken ≤ (after_step marks u).channel.taken
+  moved_later n u w moved = let next = moved_on start program work count marks first h low n u w moved in omega (arith, w.taken, next.taken)
 
-  moved_grows : (n : ℕ) (u : Machine) → Among start program t count first n u.image u.channel → answer_at marks u ≡ Moved → u.channel.stored ≤ (after_step marks u).channel.stored
-  moved_grows n u w moved = let next = moved_on start program t count marks first h low n u w moved in omega (arith, w.stored, next.stored, grows n)
-
-  many_grow : (j : ℕ) (s : Machine) → Runs start program t count first s → ((k : ℕ) → k < suc j → goes_on_after marks s k ≡ true) → s.channel.stored ≤ (after_steps marks s j).channel.stored
-  many_grow zero s r moves = omega arith
-  many_grow (suc j) s r moves =
+  many_later : (j : ℕ) (s : Machine) → Runs start program work count first s → ((k : ℕ) → k < suc j → goes_on_after marks s k ≡ true) → s.channel.taken ≤ (after_steps marks s j).channel.taken
+  many_later zero s r moves = omega arith
+  many_later (suc j) s r moves =
       let u = after_steps marks s j in
-      let w = many start program t count marks first h low j s r (λ k l. moves k (omega arith)) in
+      let w = many start program work count marks first h low j s r (λ k l. moves k (omega arith)) in
       let moved = was_moved (ahead_of u.channel) (answer_at marks u) (went_before marks s (suc j) (moves (suc j) (omega arith))) in
-      omega (arith, many_grow j s r (λ k l. moves k (omega arith)), moved_grows w.0 u w.1 moved)
+      omega (arith, many_later j s r (λ k l. moves k (omega arith)), moved_later w.0 u w.1 moved)
 
-  still_same : (u : Machine) → ChangesNothing (answer_at marks u) → u.channel.stored ≤ (after_step marks u).channel.stored
-  still_same u nothing = let same = ap (λ (m : Machine). m.channel.stored) (is_still marks u nothing) in omega arith
+  still_same : (u : Machine) → ChangesNothing (answer_at marks u) → u.channel.taken ≤ (after_step marks u).channel.taken
+  still_same u nothing = let same = ap (λ (m : Machine). m.channel.taken) (is_still marks u nothing) in omega arith
 
-  one_grows : (n : ℕ) (u : Machine) (turn : ChanTurn) → turn ≢ Ended → Among start program t count first n u.image u.channel → answer_at marks u ≡ turn → u.channel.stored ≤ (after_step marks u).channel.stored
-  one_grows n u turn h1 h2 h3 = grind (arith, moved_grows, still_same)
+  one_later : (n : ℕ) (u : Machine) (turn : ChanTurn) → turn ≢ Ended → Among start program work count first n u.image u.channel → answer_at marks u ≡ turn → u.channel.taken ≤ (after_step marks u).channel.taken
+  one_later n u turn h1 h2 h3 = grind (arith, moved_later, still_same)
 
-  -- after a call there are no fewer than before it
-  pub call_grows : (s v : Machine) (most taken : ℕ) (last : Option ChanTurn) → Runs start program t count first s → TakesSteps marks s most taken last v → s.channel.stored ≤ v.channel.stored
-  call_grows s v most zero last r steps = let same = ap (λ (m : Machine). m.channel.stored) steps.ends_at in omega arith
-  call_grows s v most (suc p) last r steps =
+  -- a call that doesn't end the program leads from before its instructions to behind them
+  pub call_later : (s v : Machine) (most taken : ℕ) (last : Option ChanTurn) → last ≢ Some Ended → Runs start program work count first s → TakesSteps marks s most taken last v → s.channel.taken ≤ v.channel.taken
+  call_later s v most zero last goes r steps = let same = ap (λ (m : Machine). m.channel.taken) steps.ends_at in omega arith
+  call_later s v most (suc p) last goes r steps =
       let u = after_steps marks s p in
-      elim (is_end (answer_at marks u)) [
-        | inl over ↦
-            let is : last ≡ Some Ended = steps.answer ∙ ap Some over in
-            let all : v.channel.stored ≡ size_of t = (subst (λ (o : Option ChanTurn). Leads start program t count first o v) is (call start program t count marks first h low s v most (suc p) last r steps)).stored in
-            omega (arith, at_most s r)
-        | inr other ↦
-            let w = many start program t count marks first h low p s r (steps_move steps) in
-            let same = ap (λ (m : Machine). m.channel.stored) steps.ends_at in
-            omega (arith, many_grow p s r (steps_move steps), one_grows w.0 u (answer_at marks u) other w.1 refl)
-      ]
+      let w = many start program work count marks first h low p s r (steps_move steps) in
+      let same = ap (λ (m : Machine). m.channel.taken) steps.ends_at in
+      let other : answer_at marks u ≢ Ended = λ over. goes (steps.answer ∙ ap (λ (a : ChanTurn). Some a) over) in
+      omega (arith, same, many_later p s r (steps_move steps), one_later w.0 u (answer_at marks u) other w.1 refl)
 
--- ---- how many bytes are stored
+-- ---- how much is done
 
 -- a call that isn't made signals nothing
 none_sent : (called : Called) (i : ℕ) → called ≡ nothing → called.signal ≡ Some i → ⊥
 none_sent called i none is = let bad = sym (ap (λ (c : Called). c.signal) none) ∙ is in cc
 
-module _ (c : Copying) (n i least : ℕ) (sev : (stored : ℕ) → IsSignal c.start c.program c.count i stored → least ≤ stored) where
-  -- if F, this number of bytes is stored
+module _ (c : Copying) (n i : ℕ) (least : Amounts) (sev : (done : Amounts) → IsSignal c.start c.program c.count i done → IsAtLeast least done) where
+  -- if F, this is done
   abbrev Stores : Type 0 → Thread → Type 0
-  Stores F th = F → least ≤ th.channel.stored
+  Stores F th = F → DoneAt c.start c.program least th.channel.taken
 
   steps_stores : (F : Type 0) (k : Call) → Steps c n (Unit {0}) (Stores F) (Unit {0}) (Stores (F ⊎ (sent_by n k ≡ Some i))) k
   steps_stores F k = record {
@@ -110,12 +101,12 @@ module _ (c : Copying) (n i least : ℕ) (sev : (stored : ℕ) → IsSignal c.st
     rests = λ off none th found g known why. elim why [ inl f ↦ known f | inr is ↦ absurd (none_sent (result_of n k).called i none is) ];
     ends = λ th g known sent ended. tt;
     goes = λ made th found g known sent goes why.
-        let grows = call_grows c.start c.program c.t c.count k.marks c.first c.explains c.fits (from k th) (to k th) k.most (count_in k th) (last_answer k th) g.runs (steps_of k th) in
-        let enough : least ≤ (to k th).channel.stored = elim why [
-          | inl f ↦ omega (arith, known f, grows)
-          | inr is ↦ sev (to k th).channel.stored (signalled c.start c.program c.t c.count k.marks c.first c.explains c.fits (from k th) (to k th) k.most (count_in k th) (last_answer k th) i g.runs (steps_of k th) (sym sent ∙ is))
+        let on = call_later c.start c.program c.work c.count k.marks c.first c.explains c.fits (from k th) (to k th) k.most (count_in k th) (last_answer k th) goes g.runs (steps_of k th) in
+        let enough : DoneAt c.start c.program least (to k th).channel.taken = elim why [
+          | inl f ↦ later c.start c.program least th.channel.taken (to k th).channel.taken on (known f)
+          | inr is ↦ sev (done_at c.start c.program (to k th)) (signalled c.start c.program c.work c.count k.marks c.first c.explains c.fits (from k th) (to k th) k.most (count_in k th) (last_answer k th) i g.runs (steps_of k th) (sym sent ∙ is))
         ] in
-        omega (arith, ap (λ (v : ChannelValue). v.stored) (channel_after k th), enough);
+        subst (λ (v : ChannelValue). DoneAt c.start c.program least v.taken) (sym (channel_after k th)) enough;
   }
 
   turn_stores : (F : Type 0) (d : DeviceValue) (regions : List Region) (most : ℕ) (e : DeviceValue) (left : List Region) (turn : Turn) → TakesTurn d regions n most e left turn → Has c n (Unit {0}) (Stores F) (setup_of d regions) → Has c n (Unit {0}) (Stores ((F ⊎ (sent_by n (one_of d regions n most) ≡ Some i)) ⊎ (sent_by n (two_of d regions n most) ≡ Some i))) (setup_of e left)
@@ -127,13 +118,18 @@ module _ (c : Copying) (n i least : ℕ) (sev : (stored : ℕ) → IsSignal c.st
 
 -- ---- what is copied
 
--- a memory with at least this many bytes laid over the first one
-laid_copied : (c : Copying) (image : List ℕ) (least stored : ℕ) → ((a : ℕ) → Touches c.t a → get_or image a 0 ≡ get_or (laid c.first c.t stored) a 0) → ((p : ℕ) → p < least → p < size_of c.t → p < stored) → AreCopied c.t least c.first image
-laid_copied c image least stored same enough =
-    let w = laid_by_fits c.t c.first stored c.explains.copy c.fits in
+-- a memory in which at least so much is done
+are_done : (c : Copying) (image : List ℕ) (least done : Amounts) → IsPart c.work c.first done image → ((p : ℕ) → p < least.copied → p < size_of c.work.copy → p < done.copied) → ((p : ℕ) → p < least.cleared → p < length (cleared c.work) → p < done.cleared) → AreDone c.work least c.first image
+are_done c image least done part copied zeros =
+    let w = part_first c.work c.first done image c.explains.work c.fits part in
+    let ds = destinations c.work.copy in
+    let zs = cleared c.work in
     record {
-      copied = λ p few within. same (get_or (destinations c.t) p 0) (inr (Contains-get_or (destinations c.t) p 0 within)) ∙ w.copied p (enough p few within) within;
-      kept = λ a i. same a (inl i) ∙ w.kept a (inl i) (λ j. c.explains.copy.apart a i (Contains_take stored (destinations c.t) a j));
+      copied = λ p few within. w.copied p (copied p few within) within;
+      zeros = λ p few within. w.zeros p (zeros p few within) within;
+      kept = λ a i.
+          w.kept a (inl (inl i)) (λ j. c.explains.work.apart a i (Contains-append_left ds zs a (Contains_take done.copied ds a j)))
+          (λ j. c.explains.work.apart a i (Contains-append_right ds zs a (Contains_take done.cleared zs a j)));
     }
 
 -- ---- without a failure
@@ -142,11 +138,11 @@ module _ (c : Copying) (n : ℕ) where
   -- the device has the events of the program
   pub record Knows (d : DeviceValue) : Type 0 where
     pub waits : (e : ℕ) → IsWait c.start c.program c.count e → e < d.config.events
-    pub signals : (e stored : ℕ) → IsSignal c.start c.program c.count e stored → e < d.config.events
+    pub signals : (e : ℕ) (done : Amounts) → IsSignal c.start c.program c.count e done → e < d.config.events
 
   -- no burst of the program meets one of these marks, and the device has its events
   pub record Fit (d : DeviceValue) (marks : MarkList) : Type 0 where
-    pub misses : Misses marks c.t
+    pub misses : MissesAll marks c.work
     pub knows : Knows d
 
   -- and so it is after a call
@@ -157,7 +153,7 @@ module _ (c : Copying) (n : ℕ) where
         misses = fit.misses;
         knows = record {
           waits = λ i w. subst (λ (g : Config). i < g.events) (sym config) (fit.knows.waits i w);
-          signals = λ i stored w. subst (λ (g : Config). i < g.events) (sym config) (fit.knows.signals i stored w);
+          signals = λ i done w. subst (λ (g : Config). i < g.events) (sym config) (fit.knows.signals i done w);
         };
       }
 
@@ -169,10 +165,10 @@ module _ (c : Copying) (n : ℕ) where
       let last = last_answer k th in
       let steps = steps_of k th in
       answer_fine k.before.device.config.events (at_answer k th) last (sets k th)
-      (call_answers c.start c.program c.t c.count k.marks c.first c.explains c.fits s v k.most count last some g.runs steps)
-      (λ kind. call_fails c.start c.program c.t c.count k.marks c.first c.explains c.fits s v k.most count last kind fit.misses g.runs steps)
-      (λ e is. fit.knows.waits e (call_waits c.start c.program c.t c.count k.marks c.first c.explains c.fits s v k.most count e last g.runs steps is))
-      (λ e is. fit.knows.signals e v.channel.stored (signalled c.start c.program c.t c.count k.marks c.first c.explains c.fits s v k.most count last e g.runs steps is))
+      (call_answers c.start c.program c.work c.count k.marks c.first c.explains c.fits s v k.most count last some g.runs steps)
+      (λ kind. call_fails c.start c.program c.work c.count k.marks c.first c.explains c.fits s v k.most count last kind fit.misses g.runs steps)
+      (λ e is. fit.knows.waits e (call_waits c.start c.program c.work c.count k.marks c.first c.explains c.fits s v k.most count e last g.runs steps is))
+      (λ e is. fit.knows.signals e (done_at c.start c.program v) (signalled c.start c.program c.work c.count k.marks c.first c.explains c.fits s v k.most count last e g.runs steps is))
 
   abbrev Fine : Thread → Type 0
   Fine th = is_faulting th ≡ false
@@ -193,9 +189,9 @@ module _ (c : Copying) (n : ℕ) where
 
 -- ---- along the turns
 
-module _ (go : Go) (t : Descriptor) (count : ℕ) (run : GivenTurns) (h : RunsCopy go t count run) (some : 0 < run.count) where
+module _ (go : Go) (work : Work) (count : ℕ) (run : GivenTurns) (h : RunsCopy go work count run) (some : 0 < run.count) where
   abbrev c : Copying
-  c = copying go t count run h some
+  c = copying go work count run h some
 
   -- line i rose in a turn before number j
   record Rose (i j : ℕ) : Type 0 where
@@ -203,10 +199,10 @@ module _ (go : Go) (t : Descriptor) (count : ℕ) (run : GivenTurns) (h : RunsCo
     early : turn < j
     raises : HasRisen run i turn
 
-  module _ (i least : ℕ) (sev : (stored : ℕ) → IsSignal (start_of go) go.program count i stored → least ≤ stored) where
-    -- if line i rose, this number of bytes is stored
+  module _ (i : ℕ) (least : Amounts) (sev : (done : Amounts) → IsSignal (start_of go) go.program count i done → IsAtLeast least done) where
+    -- if line i rose, this is done
     abbrev IsStored : ℕ → Thread → Type 0
-    IsStored j th = Rose i j → least ≤ th.channel.stored
+    IsStored j th = Rose i j → DoneAt (start_of go) go.program least th.channel.taken
 
     -- a line that a turn raises is that of the event that one of its calls signals
     raised_by : (j : ℕ) (turn : Turn) → TakesTurn (run.before j) (run.lent j) go.channel (run.most j) (run.after j) (run.left j) turn → Rose i (suc j) → (Rose i j ⊎ (sent_by go.channel (one_of (run.before j) (run.lent j) go.channel (run.most j)) ≡ Some i)) ⊎ (sent_by go.channel (two_of (run.before j) (run.lent j) go.channel (run.most j)) ≡ Some i)
@@ -225,7 +221,7 @@ module _ (go : Go) (t : Descriptor) (count : ℕ) (run : GivenTurns) (h : RunsCo
               ]
         ]
 
-    stored_turn : (j : ℕ) → j < run.count → Before go t count run h some (Unit {0}) (IsStored j) j → After go t count run h some (Unit {0}) (IsStored (suc j)) j
+    stored_turn : (j : ℕ) → j < run.count → Before go work count run h some (Unit {0}) (IsStored j) j → After go work count run h some (Unit {0}) (IsStored (suc j)) j
     stored_turn j less g =
         let x = h.takes j less in
         let w = turn_stores c go.channel i least sev (Rose i j) (run.before j) (run.lent j) (run.most j) (run.after j) (run.left j) x.0 x.1 g in
@@ -238,48 +234,52 @@ module _ (go : Go) (t : Descriptor) (count : ℕ) (run : GivenTurns) (h : RunsCo
           ];
         }
 
-    none_rose : IsStored 0 (new go t count run h some)
+    none_rose : IsStored 0 (new go work count run h some)
     none_rose none = let early = none.early in absurd (omega (arith, early))
 
-    stored_along : (j : ℕ) → j < run.count → After go t count run h some (Unit {0}) (IsStored (suc j)) j
-    stored_along j less = along go t count run h some (λ j. Unit {0}) IsStored none_rose stored_turn j less
+    stored_along : (j : ℕ) → j < run.count → After go work count run h some (Unit {0}) (IsStored (suc j)) j
+    stored_along j less = along go work count run h some (λ j. Unit {0}) IsStored none_rose stored_turn j less
 
-    first_copied : (k : ℕ) → k < run.count → HasRisen run i k → AreCopied t least (image_in (run.lent 0)) (image_in (run.left k))
+    first_copied : (k : ℕ) → k < run.count → HasRisen run i k → AreDone work least (image_in (run.lent 0)) (image_in (run.left k))
     first_copied k less risen =
         elim (stored_along k less).stands [
-          | inl over ↦ laid_copied c (image_in (run.left k)) least (size_of t) over.0.copied (λ p few within. within)
+          | inl over ↦ are_done c (image_in (run.left k)) least (all_of work) (worked_part work c.first (image_in (run.left k)) over.0.done) (λ p few within. within) (λ p few within. within)
           | inr going ↦
-              let r = going.0.runs in
+              let so = runs_so c.start c.program work count c.first c.explains _ going.0.runs in
               let enough = going.1 (record { turn = k; early = omega arith; raises = risen }) in
-              let is = r.1.stored in
-              laid_copied c (image_in (run.left k)) least (length (traced (start_of go) go.program r.0).stores) r.1.mirrors.same (λ p few within. omega (arith, few, enough, is))
+              are_done c (image_in (run.left k)) least _ so.part (λ p few within. omega (arith, few, enough.copied)) (λ p few within. omega (arith, few, enough.cleared))
         ]
 
   -- once the thread is stopped it has ended
-  copied : (k a : ℕ) → k < run.count → csr_status (run.after k) go.channel ≡ 0 → Touches t a → get_or (image_in (run.left k)) a 0 ≡ get_or (laid (image_in (run.lent 0)) t (size_of t)) a 0
-  copied k a less stopped touches =
-      let g = stored_along 0 0 (λ stored w. omega arith) k less in
+  copied : (k : ℕ) → k < run.count → csr_status (run.after k) go.channel ≡ 0 → IsWorked work (image_in (run.lent 0)) (image_in (run.left k))
+  copied k less stopped =
+      let g = stored_along 0 (record { copied = 0; cleared = 0 }) (λ done w. record { copied = omega arith; cleared = omega arith }) k less in
       elim g.stands [
-        | inl over ↦ over.0.copied a touches
+        | inl over ↦ over.0.done
         | inr going ↦ absurd (true≢false (sym (reads_stopped (run.after k) go.channel g.thread h.may_go.few g.is stopped) ∙ going.0.busy))
       ]
 
-  pub fits_all : (k : ℕ) → IsFit go t count (run.before k) (run.lent k) → Fit c go.channel (run.before k) (marks_in (run.lent k))
-  fits_all k fit = grind (arith, gaps_miss)
+  pub fits_all : (k : ℕ) → IsFit go work count (run.before k) (run.lent k) → Fit c go.channel (run.before k) (marks_in (run.lent k))
+  fits_all k fit =
+      let none : MissesAll [] work = record { copy = record { reads = λ a i. refl; writes = λ a i. refl }; zeros = λ a i. refl } in
+      record {
+        misses = gaps_miss (run.lent k) [] work fit.order fit.have none;
+        knows = record { waits = fit.events.waits; signals = fit.events.signals };
+      }
 
-  never_fails : ((k : ℕ) → k < run.count → IsFit go t count (run.before k) (run.lent k)) → (k : ℕ) → k < run.count → csr_status (run.after k) go.channel ≢ 15
+  never_fails : ((k : ℕ) → k < run.count → IsFit go work count (run.before k) (run.lent k)) → (k : ℕ) → k < run.count → csr_status (run.after k) go.channel ≢ 15
   never_fails fit k less =
-      let g = along go t count run h some (λ j. Unit {0}) (λ j th. is_faulting th ≡ false) refl (λ j l b. turn_fine c go.channel (run.before j) (run.lent j) (run.most j) (run.after j) (run.left j) (h.takes j l).0 (h.takes j l).1 (fits_all j (fit j l)) b) k less in
+      let g = along go work count run h some (λ j. Unit {0}) (λ j th. is_faulting th ≡ false) refl (λ j l b. turn_fine c go.channel (run.before j) (run.lent j) (run.most j) (run.after j) (run.left j) (h.takes j l).0 (h.takes j l).1 (fits_all j (fit j l)) b) k less in
       reads_fine (run.after k) go.channel g.thread h.may_go.few g.is (elim g.stands [
         | inl over ↦ stopped_fine g.thread.status over.0.stopped
         | inr going ↦ going.1
       ])
 
 pub dmago_copies : DmagoCopies
-dmago_copies go t n run h k a less stopped touches = copied go t n run h (omega (arith, less)) k a less stopped touches
+dmago_copies go work n run h k less stopped = copied go work n run h (omega (arith, less)) k less stopped
 
 pub dmago_interrupts : DmagoInterrupts
-dmago_interrupts go t n run i least h sev k less risen = first_copied go t n run h (omega (arith, less)) i least sev k less risen
+dmago_interrupts go work n run i least h sev k less risen = first_copied go work n run h (omega (arith, less)) i least sev k less risen
 
 pub dmago_never_fails : DmagoNeverFails
-dmago_never_fails go t n run h fit k less = never_fails go t n run h (omega (arith, less)) fit k less
+dmago_never_fails go work n run h fit k less = never_fails go work n run h (omega (arith, less)) fit k less

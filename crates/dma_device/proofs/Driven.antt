@@ -1,19 +1,17 @@
 -- What a channel that a DMAGO started is after a turn: it executes a program that copies, or has ended it.
 use Rattle.std.proofs.Common.{◌≡◌, ◌≢◌, ◌∙◌, ◌⊎◌, ℕ, zero, suc, ◌+◌, ◌%◌, ◌^◌, ◌<◌, Bool, true, false, ◌&&◌, List, [], length, get_or, Option, Some, None, ap, refl, sym, subst, arith, inl, inr, true≢false}
 use Rattle.std.specs.Prelude.{is_some, not, slice_get}
-use Rattle.dma_mem.specs.Image.{laid}
 use Rattle.dma_mem.specs.Marking.{MarkList}
-use Rattle.dma_mem.specs.Places.{Descriptor, size_of}
 use Rattle.dma_mem.specs.declared.regions.Region.{Region}
 use Rattle.dma_chan.specs.declared.exec.Registers.{Registers}
 use Rattle.dma_chan.specs.Channel.{ChannelValue}
-use Rattle.dma_chan.specs.Explains.{Explains}
-use Rattle.dma_chan.specs.Others.{Touches}
+use Rattle.dma_chan.specs.Explains.{Explains, Work}
+use Rattle.dma_chan.specs.Others.{IsWorked}
 use Rattle.dma_chan.specs.Programs.{ProgramValue}
 use Rattle.dma_chan.specs.Stepping.{Machine, TakesSteps, machine}
 use Rattle.dma_chan.specs.declared.turn.ChanTurn.{ChanTurn}
 use Rattle.dma_chan.specs.declared.turn.ChanTurn.TheVariants.{Ended}
-use Rattle.dma_chan.proofs.AmongOthers.{Fits, touched_below}
+use Rattle.dma_chan.proofs.AmongOthers.{Fits, uses_below}
 use Rattle.dma_chan.proofs.CallsAmongOthers.{Leads, Runs, at_first, call, survived}
 use Rattle.dma_device.specs.CallSteps.{Executes, first_in, last_in, marks_in, signal_in}
 use Rattle.dma_device.specs.Device.{DeviceValue, program_at}
@@ -28,15 +26,15 @@ use Rattle.dma_device.proofs.InMemory.{program_is_read}
 use Rattle.dma_device.proofs.Starts.{dmago_starts}
 use Rattle.dma_device.proofs.Found.{set_found}
 
--- a program, the copy that explains it, and the memory at first
+-- a program, the work that explains it, and the memory at first
 pub record Copying : Type 0 where
   pub start : Registers
   pub program : List ℕ
-  pub t : Descriptor
+  pub work : Work
   pub count : ℕ
   pub first : List ℕ
-  pub explains : Explains start program t count
-  pub fits : Fits t (length first)
+  pub explains : Explains start program work count
+  pub fits : Fits work (length first)
 
 -- a call that a turn makes or doesn't make
 pub record Call : Type 0 where
@@ -94,24 +92,24 @@ module _ (k : Call) (th : Thread) where
 
 module _ (c : Copying) where
   abbrev pub RunsOn : Machine → Type 0
-  RunsOn u = Runs c.start c.program c.t c.count c.first u
+  RunsOn u = Runs c.start c.program c.work c.count c.first u
 
   -- its program is not finished
   pub record Going (image : List ℕ) (th : Thread) : Type 0 where
     pub runs : RunsOn (machine th.channel image [])
     pub busy : is_stopped th ≡ false
 
-  -- its program has ended, and all bytes are copied
+  -- its program has ended, and its work is done
   pub record Over (image : List ℕ) (th : Thread) : Type 0 where
     pub stopped : is_stopped th ≡ true
     pub gone : th.channel.program ≡ None
-    pub copied : (a : ℕ) → Touches c.t a → get_or image a 0 ≡ get_or (laid c.first c.t (size_of c.t)) a 0
+    pub done : IsWorked c.work c.first image
 
   -- it has ended, and O is known; or it goes on, and E is known of the thread
   abbrev pub Stands : (O : Type 0) (E : Thread → Type 0) → List ℕ → Thread → Type 0
   Stands O E image th = (Over image th × O) ⊎ (Going image th × E th)
 
-  leads_runs : (last : Option ChanTurn) (w : Machine) → Leads c.start c.program c.t c.count c.first last w → last ≢ Some Ended → RunsOn w
+  leads_runs : (last : Option ChanTurn) (w : Machine) → Leads c.start c.program c.work c.count c.first last w → last ≢ Some Ended → RunsOn w
   leads_runs (Some Ended) w l goes = absurd (goes refl)
   leads_runs last w l goes = l
 
@@ -137,15 +135,15 @@ module _ (c : Copying) where
     stands_after O E P F k th made found g e sent steps =
         let is = channel_after k th in
         let events = k.before.device.config.events in
-        let leads = call c.start c.program c.t c.count k.marks c.first c.explains c.fits (from k th) (to k th) k.most (count_in k th) (last_answer k th) g.runs (steps_of k th) in
+        let leads = call c.start c.program c.work c.count k.marks c.first c.explains c.fits (from k th) (to k th) k.most (count_in k th) (last_answer k th) g.runs (steps_of k th) in
         elim (is_ended (last_answer k th)) [
           | inl ended ↦
-              let done = subst (λ (o : Option ChanTurn). Leads c.start c.program c.t c.count c.first o (to k th)) ended leads in
+              let done = subst (λ (o : Option ChanTurn). Leads c.start c.program c.work c.count c.first o (to k th)) ended leads in
               inl (
                 record {
                   stopped = subst (λ (l : Option ChanTurn). is_stopped (answer events (at_answer k th) l (sets k th)) ≡ true) (sym ended) refl;
                   gone = ap (λ (v : ChannelValue). v.program) is ∙ done.dropped;
-                  copied = done.all;
+                  done = done.all;
                 },
                 steps.ends th g e sent ended,
               )
@@ -204,16 +202,16 @@ module _ (c : Copying) where
 
 -- ---- along the turns
 
-module _ (go : Go) (t : Descriptor) (count : ℕ) (run : GivenTurns) (h : RunsCopy go t count run) (some : 0 < run.count) where
+module _ (go : Go) (work : Work) (count : ℕ) (run : GivenTurns) (h : RunsCopy go work count run) (some : 0 < run.count) where
   abbrev pub copying : Copying
   copying = record {
     start = start_of go;
     program = go.program;
-    t = t;
+    work = work;
     count = count;
     first = image_in (run.lent 0);
     explains = h.explains;
-    fits = λ a i. touched_below t (length (image_in (run.lent 0))) a (h.below 0 some) i;
+    fits = λ a i. uses_below work (length (image_in (run.lent 0))) a (h.below 0 some) i;
   }
 
   abbrev pub new : Thread
@@ -232,7 +230,7 @@ module _ (go : Go) (t : Descriptor) (count : ℕ) (run : GivenTurns) (h : RunsCo
     is = h.begins ∙ dmago_starts go h.may_go;
     stands = inr (
       record {
-        runs = at_first (start_of go) go.program t count (image_in (run.lent 0)) (machine new.channel (image_in (run.lent 0)) []) copying.fits (record { bytes = program_at go.ram go.addr; cost = None }, program_is_read go.ram go.addr go.program h.in_ram, refl) refl;
+        runs = at_first (start_of go) go.program work count (image_in (run.lent 0)) (machine new.channel (image_in (run.lent 0)) []) copying.fits (record { bytes = program_at go.ram go.addr; cost = None }, program_is_read go.ram go.addr go.program h.in_ram, refl) refl;
         busy = refl;
       },
       known,
@@ -248,11 +246,11 @@ module _ (go : Go) (t : Descriptor) (count : ℕ) (run : GivenTurns) (h : RunsCo
         thread = g.thread;
         is = h.goes_on j next ∙ g.is;
         stands = elim g.stands [
-          | inl over ↦ inl (record { stopped = over.0.stopped; gone = over.0.gone; copied = λ a i. h.unchanged j a next i ∙ over.0.copied a i }, over.1)
+          | inl over ↦ inl (record { stopped = over.0.stopped; gone = over.0.gone; done = record { copied = λ a i. h.unchanged j a next (inl i) ∙ over.0.done.copied a i; zeros = λ a i. h.unchanged j a next (inr i) ∙ over.0.done.zeros a i } }, over.1)
           | inr going ↦
               inr (
                 record {
-                  runs = survived (start_of go) go.program t count copying.first (machine g.thread.channel image []) (machine g.thread.channel other []) going.0.runs refl (λ a i. h.unchanged j a next i) (λ a i. touched_below t (length other) a (h.below (j + 1) next) i);
+                  runs = survived (start_of go) go.program work count copying.first (machine g.thread.channel image []) (machine g.thread.channel other []) going.0.runs refl (λ a i. h.unchanged j a next i) (λ a i. uses_below work (length other) a (h.below (j + 1) next) i);
                   busy = going.0.busy;
                 },
                 going.1,

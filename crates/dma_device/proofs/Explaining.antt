@@ -1,4 +1,4 @@
--- A channel's turns stay in the copy that explains its program.
+-- A channel's turns stay in the work that explains its program.
 use Rattle.std.proofs.Common.{◌≡◌, ◌∙◌, ◌⊎◌, ℕ, suc, ◌+◌, ◌-◌, ◌%◌, ◌/◌, ◌^◌, ◌<◌, Bool, true, List, [], append-nil, Option, Some, None, ap, refl, sym, subst, arith, inl, inr}
 use Rattle.std.specs.Prelude.{IsSomeAnd, replicate, slice_get}
 use Rattle.std.proofs.lemmas.Bool.{cases_eq}
@@ -6,14 +6,14 @@ use Rattle.std.specs.List.{Contains}
 use Rattle.std.specs.Option.{option_and_then, option_map}
 use Rattle.dma_insn.specs.ControlWord.{field}
 use Rattle.dma_mem.specs.Marking.{MarkList}
-use Rattle.dma_mem.specs.Places.{Descriptor, destinations, sources}
+use Rattle.dma_mem.specs.Places.{sources}
 use Rattle.dma_mem.specs.Regions.{Piece, pieces_of}
 use Rattle.dma_mem.specs.declared.regions.Region.{Region}
 use Rattle.dma_chan.specs.declared.exec.Registers.{Registers}
 use Rattle.dma_chan.specs.declared.bus.BusWidth.{BusWidth}
 use Rattle.dma_chan.specs.declared.explain.Explained.{Explained}
 use Rattle.dma_chan.specs.Channel.{ChannelValue, code_of}
-use Rattle.dma_chan.specs.Explains.{Executes, Explains, Finds}
+use Rattle.dma_chan.specs.Explains.{Executes, Explains, Finds, Work, work_of, written as writes_of}
 use Rattle.dma_chan.specs.Programs.{ProgramValue}
 use Rattle.dma_chan.specs.Stepping.{after_steps}
 use Rattle.dma_chan.proofs.CallWrites.{call_stays_in, load_executes, many_in, next_inside, nexts}
@@ -22,7 +22,7 @@ use Rattle.dma_chan.proofs.StepsTaken.{steps_move}
 use Rattle.dma_device.specs.Accesses.{Access, Answer, Does, Happen, Resets, Restores, Turns, Writes}
 use Rattle.dma_device.specs.CallSteps.{Executes as Steps, first_in, last_in, marks_in, signal_in}
 use Rattle.dma_device.specs.Device.{DeviceValue, is_interrupt, program_at, signalled, with_thread, written}
-use Rattle.dma_device.specs.Explaining.{CallReads, GivesNone, IsUnderway, OnlyDmagoGives, StaysIn, TurnsStayIn, channel_of, copy_of, program_of}
+use Rattle.dma_device.specs.Explaining.{CallReads, GivesNone, IsUnderway, OnlyDmagoGives, StaysIn, TurnsStayIn, channel_of, program_of}
 use Rattle.dma_device.specs.Thread.{failed, killed, reset_thread, started}
 use Rattle.dma_device.specs.Turns.{Setup, TakesTurn, begins, called_if, follows, machine_in, runs_at, setup_of, steps_in}
 use Rattle.dma_device.specs.Writes.{CallWrote}
@@ -44,7 +44,7 @@ program_if channel = option_and_then (λ c. c.program) channel
 
 -- ---- a channel that executes a program that copies, or has ended it
 
-module _ (start : Registers) (program : List ℕ) (t : Descriptor) (count : ℕ) (h : Explains start program t count) (n : ℕ) where
+module _ (start : Registers) (program : List ℕ) (work : Work) (count : ℕ) (h : Explains start program work count) (n : ℕ) where
   -- the channel still executes the program, or has no program
   abbrev InCopy : Option ChannelValue → Type 0
   InCopy None = Unit {0}
@@ -68,24 +68,24 @@ module _ (start : Registers) (program : List ℕ) (t : Descriptor) (count : ℕ)
       let th = acts.thread in
       let to = machine_left marks most th s in
       let w = runs_copy d th acts.found (on acts.on) g in
-      let stays = call_stays_in start program t count marks (machine_in s th) most (steps_in marks most th s) (last_in marks most th s) to h w (takes marks most th s) in
+      let stays = call_stays_in start program work count marks (machine_in s th) most (steps_in marks most th s) (last_in marks most th s) to h w (takes marks most th s) in
       let same : (thread_left marks most th s).channel ≡ to.channel = answer_channel d.config.events (record th { channel = to.channel; pc = (th.base + to.channel.registers.pc) % 2 ^ 32 }) (last_in marks most th s) (signal_in marks most th s) in
       subst (λ (o : Option Thread). InCopy (channel_if o)) (sym (set_found d.threads n th (thread_left marks most th s) acts.found)) (subst (λ (c : ChannelValue). Executes start program count c ⊎ (c.program ≡ None)) (sym same) stays.channel))
 
   step_at : (marks : MarkList) (made : Bool) (most : ℕ) (s : Setup) → (made ≡ true → runs_at s.device n ≡ true) → HasCopy s.device → (x : Steps made n s) (j : ℕ) → j < steps_in marks most x.thread s → Executes start program count (after_steps marks (machine_in s x.thread) j).channel
   step_at marks made most s on g x j less =
-      many_in start program t count h marks (machine_in s x.thread) j (runs_copy s.device x.thread x.found (on x.on) g) (λ k l. steps_move (takes marks most x.thread s) k (omega (arith, less)))
+      many_in start program work count h marks (machine_in s x.thread) j (runs_copy s.device x.thread x.found (on x.on) g) (λ k l. steps_move (takes marks most x.thread s) k (omega (arith, less)))
 
   -- what one of its steps writes and reads
-  wrote_in : (marks : MarkList) (made : Bool) (most : ℕ) (s : Setup) (a : ℕ) → (made ≡ true → runs_at s.device n ≡ true) → HasCopy s.device → CallWrote marks n a made most s → Contains (destinations t) a
+  wrote_in : (marks : MarkList) (made : Bool) (most : ℕ) (s : Setup) (a : ℕ) → (made ≡ true → runs_at s.device n ≡ true) → HasCopy s.device → CallWrote marks n a made most s → Contains (writes_of work) a
   wrote_in marks made most s a on g x =
       let v = step_at marks made most s on g x.0 x.1.0 x.1.1 in
-      next_inside start program t count h v.0 _ a v.1 (nexts start program t count h v.0 v.1.within) x.1.3
+      next_inside start program work count h v.0 _ a v.1 (nexts start program work count h v.0 v.1.within) x.1.3
 
-  read_in : (marks : MarkList) (made : Bool) (most : ℕ) (s : Setup) (a : ℕ) → (made ≡ true → runs_at s.device n ≡ true) → HasCopy s.device → CallReads marks n a made most s → Contains (sources t) a
+  read_in : (marks : MarkList) (made : Bool) (most : ℕ) (s : Setup) (a : ℕ) → (made ≡ true → runs_at s.device n ≡ true) → HasCopy s.device → CallReads marks n a made most s → Contains (sources work.copy) a
   read_in marks made most s a on g x =
       let v = step_at marks made most s on g x.0 x.1.0 x.1.1 in
-      reads_inside start program t count h v.0 _ a v.1 x.1.2
+      reads_inside start program work count h v.0 _ a v.1 x.1.2
 
   -- ---- a turn
 
@@ -99,7 +99,7 @@ module _ (start : Registers) (program : List ℕ) (t : Descriptor) (count : ℕ)
       subst HasCopy (turn_device x)
       (after_call (marks_in regions) (follows m n first.called) 1 first.left (follows_runs m n first.called) (middle_copy d regions most g))
 
-  pub turn_stays : (d : DeviceValue) (regions : List Region) (most : ℕ) (e : DeviceValue) (left : List Region) (turn : Turn) → HasCopy d → TakesTurn d regions n most e left turn → StaysIn t d regions n most turn
+  pub turn_stays : (d : DeviceValue) (regions : List Region) (most : ℕ) (e : DeviceValue) (left : List Region) (turn : Turn) → HasCopy d → TakesTurn d regions n most e left turn → StaysIn work d regions n most turn
   turn_stays d regions most e left turn g x =
       let marks = marks_in regions in
       let s = setup_of d regions in
@@ -149,7 +149,7 @@ record Starts (x : Explained) (o : Option ChannelValue) : Type 0 where
   is : o ≡ Some channel
   program : List ℕ
   count : ℕ
-  explains : Explains start program (copy_of x) count
+  explains : Explains start program (work_of x) count
   executes : Executes start program count channel
 
 starts_with : (start : Registers) (limit : ℕ) (x : Explained) (c : ChannelValue) (o : Option ProgramValue) → c.program ≡ o → IsSomeAnd o (λ p. Finds start p.bytes limit x) → Executes start (code_of c) (x.steps - 1) c → Starts x (Some c)
@@ -163,12 +163,12 @@ pub turns_stay_in : TurnsStayIn
 turns_stay_in access answer before lent left all n k most limit x turn happen finds underway none less is reply =
     let d = before 0 in
     let s = starts_at limit x (channel_of d n) finds underway in
-    let first : InCopy s.start s.program (copy_of x) s.count s.explains n (channel_of d n) =
-    subst (InCopy s.start s.program (copy_of x) s.count s.explains n) (sym s.is) (inl s.executes) in
-    let here = along s.start s.program (copy_of x) s.count s.explains n access answer before lent left all k happen none (omega arith) first in
+    let first : InCopy s.start s.program (work_of x) s.count s.explains n (channel_of d n) =
+    subst (InCopy s.start s.program (work_of x) s.count s.explains n) (sym s.is) (inl s.executes) in
+    let here = along s.start s.program (work_of x) s.count s.explains n access answer before lent left all k happen none (omega arith) first in
     let does = subst (λ (a : Access). Does a (before k) (lent k) (answer k) (before (k + 1)) (left k)) is (happen k less) in
     let same : does.0 ≡ turn = let given = sym does.1.0 ∙ reply in cc in
-    turn_stays s.start s.program (copy_of x) s.count s.explains n (before k) (lent k) most (before (k + 1)) (left k) turn here
+    turn_stays s.start s.program (work_of x) s.count s.explains n (before k) (lent k) most (before (k + 1)) (left k) turn here
     (subst (TakesTurn (before k) (lent k) n most (before (k + 1)) (left k)) same does.1.1)
 
 -- ---- what gives a channel a program

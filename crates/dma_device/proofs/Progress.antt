@@ -14,8 +14,9 @@ use Rattle.dma_mem.specs.declared.regions.Region.{Region}
 use Rattle.dma_chan.specs.declared.exec.Registers.{Registers}
 use Rattle.dma_chan.specs.Channel.{ChannelValue, ahead_of, step_of, stored_by}
 use Rattle.dma_chan.specs.Exec.{ChangesNothing}
-use Rattle.dma_chan.specs.Explains.{Explains, HasEvents as HasTheEvents, IsIn, IsSignal, IsWait, StartsWith, next_in, traced}
-use Rattle.dma_chan.specs.Others.{Misses}
+use Rattle.dma_chan.specs.Explains.{Explains, HasEvents as HasTheEvents, IsIn, IsSignal, IsWait, StartsWith, Work, next_in, traced}
+use Rattle.dma_chan.specs.Others.{MissesAll}
+use Rattle.dma_chan.specs.declared.explain.Amounts.{Amounts}
 use Rattle.dma_chan.specs.Programs.{ProgramValue}
 use Rattle.dma_chan.specs.Stepping.{Machine, TakesSteps, after_step, after_steps, answer_at, goes_on, goes_on_after, signal_after, signal_of}
 use Rattle.dma_chan.specs.declared.turn.ChanTurn.{ChanTurn}
@@ -47,10 +48,10 @@ use Rattle.dma_device.proofs.Interrupts.{seen_bit, turn_raises}
 -- ---- a call of a channel with a program that copies
 
 -- what a program executes before its DMAEND
-before_end : (start : Registers) (program : List ℕ) (t : Descriptor) (n : ℕ) → Explains start program t n → (k : ℕ) (i : ChipInsn) → k ≤ n → i ≢ End → next_in program (traced start program k) ≡ Ok i → k < n
-before_end start program t n h k i within other next = grind arith
+before_end : (start : Registers) (program : List ℕ) (work : Work) (n : ℕ) → Explains start program work n → (k : ℕ) (i : ChipInsn) → k ≤ n → i ≢ End → next_in program (traced start program k) ≡ Ok i → k < n
+before_end start program work n h k i within other next = grind arith
 
-module _ (start : Registers) (program : List ℕ) (t : Descriptor) (count : ℕ) (marks : MarkList) (first : List ℕ) (h : Explains start program t count) (low : Fits t (length first)) where
+module _ (start : Registers) (program : List ℕ) (work : Work) (count : ℕ) (marks : MarkList) (first : List ℕ) (h : Explains start program work count) (low : Fits work (length first)) where
   step_count : (u : Machine) → answer_at marks u ≡ Moved → (after_step marks u).channel.taken ≡ u.channel.taken + 1
   step_count u moved = moved_count (answer_at marks u) (step_of marks u.channel u.image u.flags).1 (stored_by (ahead_of u.channel) u.channel.registers) u.channel moved
 
@@ -65,8 +66,8 @@ module _ (start : Registers) (program : List ℕ) (t : Descriptor) (count : ℕ)
 
   -- a call that may take a step ends the program or counts one, if its first instruction doesn't wait, and no mark is
   -- met
-  progress : (s v : Machine) (most taken : ℕ) (last : Option ChanTurn) (least more : ℕ) → 0 < most → Misses marks t → (r : Runs start program t count first s) → least ≤ s.channel.taken → (more ≤ least) ⊎ ((more ≤ least + 1) × ((e : ℕ) → (w : IsWait start program count e) → w.step ≡ r.0 → get_or s.flags e false ≡ true)) → TakesSteps marks s most taken last v → (last ≡ Some Ended) ⊎ (more ≤ v.channel.taken)
-  progress s v most zero last least more some misses r few awake x = absurd (call_answers start program t count marks first h low s v most zero last some r x x.answer)
+  progress : (s v : Machine) (most taken : ℕ) (last : Option ChanTurn) (least more : ℕ) → 0 < most → MissesAll marks work → (r : Runs start program work count first s) → least ≤ s.channel.taken → (more ≤ least) ⊎ ((more ≤ least + 1) × ((e : ℕ) → (w : IsWait start program count e) → w.step ≡ r.0 → get_or s.flags e false ≡ true)) → TakesSteps marks s most taken last v → (last ≡ Some Ended) ⊎ (more ≤ v.channel.taken)
+  progress s v most zero last least more some misses r few awake x = absurd (call_answers start program work count marks first h low s v most zero last some r x x.answer)
   progress s v most (suc p) last least more some misses r few awake x = by p (answer_at marks (after_steps marks s p)) refl x
     where
       still : (p : ℕ) (a : ChanTurn) → answer_at marks (after_steps marks s p) ≡ a → ChangesNothing a → TakesSteps marks s most (suc p) last v → v.channel.taken ≡ s.channel.taken + p
@@ -77,8 +78,8 @@ module _ (start : Registers) (program : List ℕ) (t : Descriptor) (count : ℕ)
       awakes : (e : ℕ) → ((e : ℕ) → (w : IsWait start program count e) → w.step ≡ r.0 → get_or s.flags e false ≡ true) → answer_at marks s ≡ Waiting e → ⊥
       awakes e awake is =
           let w = waits_at marks s e is in
-          let next = sym (next_ahead start program t count marks first h low r.0 s (next_in program (traced start program r.0)) r.1 refl) ∙ w.1.0 in
-          let wait : IsWait start program count e = record { step = r.0; within = before_end start program t count h r.0 (Wfe e w.0) r.1.within (λ bad. cc) next; invalid = w.0; waits = next } in
+          let next = sym (next_ahead start program work count marks first h low r.0 s (next_in program (traced start program r.0)) r.1 refl) ∙ w.1.0 in
+          let wait : IsWait start program count e = record { step = r.0; within = before_end start program work count h r.0 (Wfe e w.0) r.1.within (λ bad. cc) next; invalid = w.0; waits = next } in
           true≢false (sym (awake e wait refl) ∙ w.1.1)
 
       waits : (p e : ℕ) → answer_at marks (after_steps marks s p) ≡ Waiting e → TakesSteps marks s most (suc p) last v → (more ≤ least) ⊎ ((more ≤ least + 1) × ((e : ℕ) → (w : IsWait start program count e) → w.step ≡ r.0 → get_or s.flags e false ≡ true)) → more ≤ v.channel.taken
@@ -99,21 +100,21 @@ module _ (start : Registers) (program : List ℕ) (t : Descriptor) (count : ℕ)
       by p Moved e x = inr (counted p x e)
       by p Ended e x = inl (x.answer ∙ ap (λ (a : ChanTurn). Some a) e)
       by p (Waiting k) e x = inr (waits p k e x awake)
-      by p (Fault kind) e x = absurd (call_fails start program t count marks first h low s v most (suc p) last kind misses r x (x.answer ∙ ap (λ (a : ChanTurn). Some a) e))
+      by p (Fault kind) e x = absurd (call_fails start program work count marks first h low s v most (suc p) last kind misses r x (x.answer ∙ ap (λ (a : ChanTurn). Some a) e))
 
-  module _ (i stored : ℕ) (sev : IsSignal start program count i stored) where
+  module _ (i : ℕ) (done : Amounts) (sev : IsSignal start program count i done) where
     -- the next instruction of a channel that has executed this many is the DMASEV
-    is_sev : (u : Machine) (r : Runs start program t count first u) → u.channel.taken ≡ sev.step → ahead_of u.channel ≡ Ok (Sev i)
+    is_sev : (u : Machine) (r : Runs start program work count first u) → u.channel.taken ≡ sev.step → ahead_of u.channel ≡ Ok (Sev i)
     is_sev u r place =
         let same : sev.step ≡ r.0 = sym place ∙ r.1.taken in
-        next_ahead start program t count marks first h low r.0 u (Ok (Sev i)) r.1 (subst (λ (k : ℕ). next_in program (traced start program k) ≡ Ok (Sev i)) same sev.signals)
+        next_ahead start program work count marks first h low r.0 u (Ok (Sev i)) r.1 (subst (λ (k : ℕ). next_in program (traced start program k) ≡ Ok (Sev i)) same sev.signals)
 
     -- a step that goes on from before the DMASEV stays before it
-    before_sev : (s : Machine) (j : ℕ) → Runs start program t count first s → s.channel.taken ≤ sev.step → ((k : ℕ) → k < suc j → goes_on_after marks s k ≡ true) → (after_steps marks s j).channel.taken ≤ sev.step
+    before_sev : (s : Machine) (j : ℕ) → Runs start program work count first s → s.channel.taken ≤ sev.step → ((k : ℕ) → k < suc j → goes_on_after marks s k ≡ true) → (after_steps marks s j).channel.taken ≤ sev.step
     before_sev s zero r early moves = early
     before_sev s (suc j) r early moves =
         let u = after_steps marks s j in
-        let w = many start program t count marks first h low j s r (λ k l. moves k (omega arith)) in
+        let w = many start program work count marks first h low j s r (λ k l. moves k (omega arith)) in
         let counts = step_count u (went_moved s j (moves (suc j) (omega arith))) in
         elim (cases_eq u.channel.taken sev.step) [
           | inl place ↦
@@ -129,7 +130,7 @@ module _ (start : Registers) (program : List ℕ) (t : Descriptor) (count : ℕ)
         none (Fault kind) = refl
 
     -- a call that begins before the DMASEV executes it as its last step, or is still before it
-    call_signals : (s v : Machine) (most taken : ℕ) (last : Option ChanTurn) → Runs start program t count first s → s.channel.taken ≤ sev.step → TakesSteps marks s most taken last v → (signal_after marks s taken ≡ Some i) ⊎ ((last ≢ Some Ended) × (v.channel.taken ≤ sev.step))
+    call_signals : (s v : Machine) (most taken : ℕ) (last : Option ChanTurn) → Runs start program work count first s → s.channel.taken ≤ sev.step → TakesSteps marks s most taken last v → (signal_after marks s taken ≡ Some i) ⊎ ((last ≢ Some Ended) × (v.channel.taken ≤ sev.step))
     call_signals s v most zero last r early x =
         inr ((λ bad. let none = sym x.answer ∙ bad in cc), omega (arith, ap (λ (m : Machine). m.channel.taken) x.ends_at, early))
     call_signals s v most (suc p) last r early x = by (answer_at marks (after_steps marks s p)) refl
@@ -137,8 +138,8 @@ module _ (start : Registers) (program : List ℕ) (t : Descriptor) (count : ℕ)
         here : (after_steps marks s p).channel.taken ≤ sev.step
         here = before_sev s p r early (steps_move x)
 
-        runs_there : Runs start program t count first (after_steps marks s p)
-        runs_there = many start program t count marks first h low p s r (steps_move x)
+        runs_there : Runs start program work count first (after_steps marks s p)
+        runs_there = many start program work count marks first h low p s r (steps_move x)
 
         still : (a : ChanTurn) → answer_at marks (after_steps marks s p) ≡ a → ChangesNothing a → v.channel.taken ≤ sev.step
         still a is nothing =
@@ -160,7 +161,7 @@ module _ (start : Registers) (program : List ℕ) (t : Descriptor) (count : ℕ)
         by (Fault kind) is = inr ((λ bad. let a = sym (answered_as (Fault kind) is) ∙ bad in cc), still (Fault kind) is tt)
         by Ended is =
             let taken : (after_steps marks s p).channel.taken ≡ runs_there.0 = runs_there.1.taken in
-            absurd (goes_on_at start program t count marks first h low runs_there.0 (after_steps marks s p) Ended is runs_there.1 (omega (arith, taken, here, sev.within)))
+            absurd (goes_on_at start program work count marks first h low runs_there.0 (after_steps marks s p) Ended is runs_there.1 (omega (arith, taken, here, sev.within)))
 
 -- ---- that it finishes
 
@@ -199,11 +200,11 @@ module _ (c : Copying) (n : ℕ) where
         let long = known.enough in
         let sees : (more ≤ least) ⊎ ((more ≤ least + 1) × ((e : ℕ) → (w : IsWait c.start c.program c.count e) → w.step ≡ g.runs.0 → get_or (from k th).flags e false ≡ true)) = elim can [
           | inl fewer ↦ inl fewer
-          | inr w ↦ inr (w.0, λ e wait is. w.1 th e wait found (subst (λ (j : ℕ). IsIn c.start c.program c.count j th.channel) (sym is) (is_in c.start c.program c.t c.count c.first g.runs.0 k.before.image th.channel g.runs.1)) (omega (arith, count_is, long, is)))
+          | inr w ↦ inr (w.0, λ e wait is. w.1 th e wait found (subst (λ (j : ℕ). IsIn c.start c.program c.count j th.channel) (sym is) (is_in c.start c.program c.work c.count c.first g.runs.0 k.before.image th.channel g.runs.1)) (omega (arith, count_is, long, is)))
         ] in
         record {
           fine = call_fine c n k th (some made) fit g;
-          enough = elim (progress c.start c.program c.t c.count k.marks c.first c.explains c.fits (from k th) (to k th) k.most (count_in k th) (last_answer k th) least more (some made) fit.misses g.runs long sees (steps_of k th)) [
+          enough = elim (progress c.start c.program c.work c.count k.marks c.first c.explains c.fits (from k th) (to k th) k.most (count_in k th) (last_answer k th) least more (some made) fit.misses g.runs long sees (steps_of k th)) [
             | inl ended ↦ absurd (goes ended)
             | inr many ↦ omega (arith, ap (λ (v : ChannelValue). v.taken) (channel_after k th), many)
           ];
@@ -223,7 +224,7 @@ module _ (c : Copying) (n : ℕ) where
 
 -- ---- that its line was high
 
-module _ (c : Copying) (n i stored : ℕ) (sev : IsSignal c.start c.program c.count i stored) where
+module _ (c : Copying) (n i : ℕ) (done : Amounts) (sev : IsSignal c.start c.program c.count i done) where
   -- the DMASEV comes later, or S
   abbrev Signs : Type 0 → Thread → Type 0
   Signs S th = (th.channel.taken ≤ sev.step) ⊎ S
@@ -245,7 +246,7 @@ module _ (c : Copying) (n i stored : ℕ) (sev : IsSignal c.start c.program c.co
   }
     where
       sends : (th : Thread) → Going c k.before.image th → th.channel.taken ≤ sev.step → (sets k th ≡ Some i) ⊎ ((last_answer k th ≢ Some Ended) × ((to k th).channel.taken ≤ sev.step))
-      sends th g early = call_signals c.start c.program c.t c.count k.marks c.first c.explains c.fits i stored sev (from k th) (to k th) k.most (count_in k th) (last_answer k th) g.runs early (steps_of k th)
+      sends th g early = call_signals c.start c.program c.work c.count k.marks c.first c.explains c.fits i done sev (from k th) (to k th) k.most (count_in k th) (last_answer k th) g.runs early (steps_of k th)
 
   turn_signs : (S : Type 0) (d : DeviceValue) (regions : List Region) (most : ℕ) (e : DeviceValue) (left : List Region) (turn : Turn) → TakesTurn d regions n most e left turn → Has c n S (Signs S) (setup_of d regions) → let T = (S ⊎ (sent_by n (one_of d regions n most) ≡ Some i)) ⊎ (sent_by n (two_of d regions n most) ≡ Some i) in Has c n T (Signs T) (setup_of e left)
   turn_signs S d regions most e left turn x g =
@@ -267,9 +268,9 @@ csr_stopped d n th few is stopped =
 
 -- ---- along the turns
 
-module _ (go : Go) (t : Descriptor) (count : ℕ) (run : GivenTurns) (h : RunsCopy go t count run) (some : 0 < run.count) where
+module _ (go : Go) (work : Work) (count : ℕ) (run : GivenTurns) (h : RunsCopy go work count run) (some : 0 < run.count) where
   abbrev c : Copying
-  c = copying go t count run h some
+  c = copying go work count run h some
 
   awake : (j : ℕ) → MayPass go count (run.before j) j → Awake c go.channel (run.before j) j
   awake j may th e wait is in_program long =
@@ -279,11 +280,11 @@ module _ (go : Go) (t : Descriptor) (count : ℕ) (run : GivenTurns) (h : RunsCo
       let bit : bit_at d.inten e ≡ 0 = omega (arith, w.1.1, bit_at-lt d.inten e) in
       flag_of_bit (visible_events d) e below (omega (arith, seen_bit d e below w.0.inten, bit, w.1.0))
 
-  finishes : ((k : ℕ) → k < run.count → IsReady go t count run k) → (k : ℕ) → k < run.count → count ≤ k → csr_status (run.after k) go.channel ≡ 0
+  finishes : ((k : ℕ) → k < run.count → IsReady go work count run k) → (k : ℕ) → k < run.count → count ≤ k → csr_status (run.after k) go.channel ≡ 0
   finishes goes k less long =
-      let g = along go t count run h some (λ j. Unit {0}) (λ j th. Reached c go.channel j th) (record { fine = refl; enough = omega arith }) (λ j l b. (let on = goes j l in let e : j + 1 ≡ suc j = omega arith in
-      subst (λ (m : ℕ). After go t count run h some (Unit {0}) (Reached c go.channel m) j) e
-      (turn_reached c go.channel (run.before j) (run.lent j) (run.most j) (run.after j) (run.left j) (h.takes j l).0 (h.takes j l).1 j on.some (fits_all go t count run h some j on.fit) (awake j on.passes) b))) k less in
+      let g = along go work count run h some (λ j. Unit {0}) (λ j th. Reached c go.channel j th) (record { fine = refl; enough = omega arith }) (λ j l b. (let on = goes j l in let e : j + 1 ≡ suc j = omega arith in
+      subst (λ (m : ℕ). After go work count run h some (Unit {0}) (Reached c go.channel m) j) e
+      (turn_reached c go.channel (run.before j) (run.lent j) (run.most j) (run.after j) (run.left j) (h.takes j l).0 (h.takes j l).1 j on.some (fits_all go work count run h some j on.fit) (awake j on.passes) b))) k less in
       elim g.stands [
         | inl over ↦ csr_stopped (run.after k) go.channel g.thread h.may_go.few g.is over.0.stopped
         | inr going ↦
@@ -291,17 +292,17 @@ module _ (go : Go) (t : Descriptor) (count : ℕ) (run : GivenTurns) (h : RunsCo
             absurd (omega (arith, long, taken_is, going.1.enough, going.0.runs.1.within))
       ]
 
-  module _ (i stored : ℕ) (sev : IsSignal (start_of go) go.program count i stored) (on : (k : ℕ) → k < run.count → HasLine (run.before k) i × IsHigh (run.before k).inten i) where
+  module _ (i : ℕ) (done : Amounts) (sev : IsSignal (start_of go) go.program count i done) (on : (k : ℕ) → k < run.count → HasLine (run.before k) i × IsHigh (run.before k).inten i) where
     -- its line was high after a turn before number j
     record Was (j : ℕ) : Type 0 where
       turn : ℕ
       early : turn < j
       high : WasHigh run i turn
 
-    turned : (j : ℕ) → j < run.count → Before go t count run h some (Was j) (Signs c go.channel i stored sev (Was j)) j → After go t count run h some (Was (suc j)) (Signs c go.channel i stored sev (Was (suc j))) j
+    turned : (j : ℕ) → j < run.count → Before go work count run h some (Was j) (Signs c go.channel i done sev (Was j)) j → After go work count run h some (Was (suc j)) (Signs c go.channel i done sev (Was (suc j))) j
     turned j less g =
         let x = h.takes j less in
-        let w = turn_signs c go.channel i stored sev (Was j) (run.before j) (run.lent j) (run.most j) (run.after j) (run.left j) x.0 x.1 g in
+        let w = turn_signs c go.channel i done sev (Was j) (run.before j) (run.lent j) (run.most j) (run.after j) (run.left j) x.0 x.1 g in
         let one = sent_by go.channel (one_of (run.before j) (run.lent j) go.channel (run.most j)) in
         let two = sent_by go.channel (two_of (run.before j) (run.lent j) go.channel (run.most j)) in
         let high : (one ≡ Some i) ⊎ (two ≡ Some i) → Was (suc j) = (λ is.
@@ -321,7 +322,7 @@ module _ (go : Go) (t : Descriptor) (count : ℕ) (run : GivenTurns) (h : RunsCo
 
     signals : (k : ℕ) → k < run.count → csr_status (run.after k) go.channel ≡ 0 → WasHigh run i k
     signals k less stopped =
-        let g = along go t count run h some (λ j. Was j) (λ j. Signs c go.channel i stored sev (Was j)) (inl (omega arith)) turned k less in
+        let g = along go work count run h some (λ j. Was j) (λ j. Signs c go.channel i done sev (Was j)) (inl (omega arith)) turned k less in
         elim g.stands [
           | inl over ↦
               let w = over.1 in
@@ -331,10 +332,10 @@ module _ (go : Go) (t : Descriptor) (count : ℕ) (run : GivenTurns) (h : RunsCo
         ]
 
 pub dmago_finishes : DmagoFinishes
-dmago_finishes go t n run h goes k less long = finishes go t n run h (omega (arith, less)) goes k less long
+dmago_finishes go work n run h goes k less long = finishes go work n run h (omega (arith, less)) goes k less long
 
 pub dmago_signals : DmagoSignals
-dmago_signals go t n run i stored h sev on k less stopped = signals go t n run h (omega (arith, less)) i stored sev on k less stopped
+dmago_signals go work n run i done h sev on k less stopped = signals go work n run h (omega (arith, less)) i done sev on k less stopped
 
 -- ---- compiled programs
 
@@ -346,7 +347,7 @@ compiled_has_events go t d is wait signal =
     let all = events_of go t is in
     record {
       waits = λ e w. subst (λ (o : Option ℕ). IfSome o (λ i. i < d.config.events)) (all.waits e w).1 wait;
-      signals = λ e stored w. subst (λ (o : Option ℕ). IfSome o (λ i. i < d.config.events)) (all.signals e stored w).0 signal;
+      signals = λ e done w. subst (λ (o : Option ℕ). IfSome o (λ i. i < d.config.events)) (all.signals e done w).0 signal;
     }
 
 pub compiled_goes_on : CompiledGoesOn
@@ -358,5 +359,5 @@ compiled_goes_on go t before is begin k th e w found in_program long =
 pub compiled_signals : CompiledSignals
 compiled_signals = record {
   has_sev = λ go t i is signal. (events_of go t is).has_signal i signal;
-  all_stored = λ go t i stored is w. omega (arith, ((events_of go t is).signals i stored w).1);
+  all_stored = λ go t i done is w. ((events_of go t is).signals i done w).1;
 }

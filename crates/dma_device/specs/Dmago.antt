@@ -4,13 +4,12 @@ use Rattle.std.specs.List.{list_any}
 use Rattle.dma_insn.specs.AssemblyText.{most_program_bytes}
 use Rattle.dma_insn.specs.ControlWord.{flag}
 use Rattle.dma_mem.specs.Limits.{most_channels}
-use Rattle.dma_mem.specs.Places.{Descriptor, lies_below}
 use Rattle.dma_mem.specs.Regions.{Piece, has, image_of, in_order, pieces_of}
 use Rattle.dma_mem.specs.declared.regions.Region.{Region}
 use Rattle.dma_chan.specs.declared.bus.Bus.{Bus}
 use Rattle.dma_chan.specs.declared.exec.Registers.{Registers}
-use Rattle.dma_chan.specs.Explains.{Explains}
-use Rattle.dma_chan.specs.Others.{Touches}
+use Rattle.dma_chan.specs.Explains.{Explains, Work}
+use Rattle.dma_chan.specs.Others.{Uses, work_below}
 use Rattle.dma_device.specs.Device.{DeviceValue, read_at, written}
 use Rattle.dma_device.specs.Offsets as offset
 use Rattle.dma_device.specs.Thread.{reset_thread}
@@ -87,19 +86,19 @@ pub record GivenTurns : Type 0 where
   pub lent : ℕ → List Region
   pub left : ℕ → List Region
 
--- A driver has put a program into RAM and starts it by a DMAGO; t explains the program, begun with the channel's
+-- A driver has put a program into RAM and starts it by a DMAGO; w explains the program, begun with the channel's
 -- registers, with n instructions before its DMAEND; and then a host gives the channel turns. Between two turns the
--- guest and other channels may do anything to the device except to the channel's thread, and may write any byte that t
--- neither reads nor writes. In each turn the ranges of t lie below the end of the regions.
-pub record RunsCopy (go : Go) (t : Descriptor) (n : ℕ) (run : GivenTurns) : Type 0 where
+-- guest and other channels may do anything to the device except to the channel's thread, and may write any byte that w
+-- neither reads nor writes. In each turn the ranges of w lie below the end of the regions.
+pub record RunsCopy (go : Go) (w : Work) (n : ℕ) (run : GivenTurns) : Type 0 where
   pub in_ram : HasProgram go.ram go.addr go.program
   pub may_go : MayGo go
-  pub explains : Explains (start_of go) go.program t n
+  pub explains : Explains (start_of go) go.program w n
   pub begins : slice_get (run.before 0).threads go.channel ≡ slice_get (started_by go).threads go.channel
   pub takes : (k : ℕ) → k < run.count →
       (turn : Turn) × TakesTurn (run.before k) (run.lent k) go.channel (run.most k) (run.after k) (run.left k) turn
-  pub below : (k : ℕ) → k < run.count → lies_below t (length (image_in (run.lent k))) ≡ true
+  pub below : (k : ℕ) → k < run.count → work_below w (length (image_in (run.lent k))) ≡ true
   pub goes_on : (k : ℕ) → k + 1 < run.count →
       slice_get (run.before (k + 1)).threads go.channel ≡ slice_get (run.after k).threads go.channel
-  pub unchanged : (k a : ℕ) → k + 1 < run.count → Touches t a →
+  pub unchanged : (k a : ℕ) → k + 1 < run.count → Uses w a →
       slice_index (image_in (run.lent (k + 1))) a ≡ slice_index (image_in (run.left k)) a

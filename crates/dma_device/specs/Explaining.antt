@@ -1,15 +1,15 @@
--- What the program of a channel copies, as the device explains it, and that the channel's turns stay in that copy.
+-- What the program of a channel copies and sets to 0, as the device explains it, and that its turns stay in that.
 use Rattle.std.specs.Prelude.{◌≡◌, ◌≢◌, ◌⊎◌, ℕ, ◌+◌, ◌-◌, ◌<◌, ◌≤◌, Bool, List, length, Option, None, slice_get, IsSomeAnd}
 use Rattle.std.specs.List.{Contains}
 use Rattle.std.specs.Option.{option_and_then, option_map}
 use Rattle.dma_mem.specs.Marking.{MarkList}
-use Rattle.dma_mem.specs.Places.{Descriptor, copying, destinations, sources}
+use Rattle.dma_mem.specs.Places.{sources}
 use Rattle.dma_mem.specs.declared.regions.Region.{Region}
 use Rattle.dma_chan.specs.declared.exec.Registers.{Registers}
 use Rattle.dma_chan.specs.declared.explain.Cause.TheVariants.{NoMemory, TooLong}
 use Rattle.dma_chan.specs.declared.explain.Explained.{Explained}
 use Rattle.dma_chan.specs.Channel.{ChannelValue, code_of}
-use Rattle.dma_chan.specs.Explains.{Executes, Finds, Refuses, unrolled}
+use Rattle.dma_chan.specs.Explains.{Executes, Finds, Refuses, Work, work_of, written}
 use Rattle.dma_chan.specs.Programs.{ProgramValue}
 use Rattle.dma_chan.specs.Reads.{Reads}
 use Rattle.dma_chan.specs.Written.{LiesIn}
@@ -35,11 +35,7 @@ IsLoadedAnd d n P = IsSomeAnd (channel_of d n) (λ c. IsSomeAnd c.program (λ p.
 
 -- ---- what the device answers
 
--- the copy that was found
-abbrev pub copy_of : Explained → Descriptor
-copy_of x = copying (unrolled x.src.items) x.dst.items None None
-
--- What is found for channel n with a limit of instructions: a copy that explains the channel's program, if it begins
+-- What is found for channel n with a limit of instructions: a work that explains the channel's program, if it begins
 -- with the registers that the channel has.
 abbrev pub FindsFor : DeviceValue → ℕ → ℕ → Explained → Type 0
 FindsFor d n limit x = IsLoadedAnd d n (λ start program. Finds start program limit x)
@@ -63,10 +59,10 @@ CallReads marks n a made most s =
 abbrev pub TurnReads : DeviceValue → List Region → ℕ → ℕ → ℕ → Type 0
 TurnReads d regions n most a = InTurn (CallReads (marks_in regions) n a) d regions n most
 
--- A turn stays in a copy: it writes only destinations and reads only sources.
-pub record StaysIn (t : Descriptor) (d : DeviceValue) (regions : List Region) (n most : ℕ) (turn : Turn) : Type 0 where
-  pub writes : (a : ℕ) → LiesIn turn.written a → Contains (destinations t) a
-  pub reads : (a : ℕ) → TurnReads d regions n most a → Contains (sources t) a
+-- A turn stays in a work: it writes only what the work writes and reads only the sources of its copy.
+pub record StaysIn (w : Work) (d : DeviceValue) (regions : List Region) (n most : ℕ) (turn : Turn) : Type 0 where
+  pub writes : (a : ℕ) → LiesIn turn.written a → Contains (written w) a
+  pub reads : (a : ℕ) → TurnReads d regions n most a → Contains (sources w.copy) a
 
 -- Channel n executes its program from the program's start on, begun with the registers that it has now: of `steps`
 -- instructions, with DMAEND, it has executed none or some, and not yet all. After a DMAGO it has executed none. Later
@@ -79,8 +75,8 @@ abbrev pub GivesNone : Access → ℕ → DeviceValue → DeviceValue → Type 0
 GivesNone (Turns m most) n d e = Unit {0}
 GivesNone a n d e = (channel_of e n ≡ channel_of d n) ⊎ (program_of e n ≡ None)
 
--- A copy was found for channel n, which is underway. Until an access gives it a program, each of its turns stays in the
--- copy, whatever the guest, the processor and other channels do, and whatever regions each access is lent.
+-- A work was found for channel n, which is underway. Until an access gives it a program, each of its turns stays in the
+-- work, whatever the guest, the processor and other channels do, and whatever regions each access is lent.
 abbrev pub TurnsStayIn : Type 0
 TurnsStayIn =
     (access : ℕ → Access) (answer : ℕ → Answer) (before : ℕ → DeviceValue) (lent left : ℕ → List Region)
@@ -88,7 +84,7 @@ TurnsStayIn =
     Happen access answer before lent left count → FindsFor (before 0) n limit x → IsUnderway (before 0) n x.steps →
     ((j : ℕ) → j < k → GivesNone (access j) n (before j) (before (j + 1))) →
     k < count → access k ≡ Turns n most → answer k ≡ Turned turn →
-    StaysIn (copy_of x) (before k) (lent k) n most turn
+    StaysIn (work_of x) (before k) (lent k) n most turn
 
 -- After an access that isn't a restore and gives channel n a program, as a DMAGO does, the channel is underway in it.
 abbrev pub OnlyDmagoGives : Type 0

@@ -1,9 +1,10 @@
 -- A program that copies, and that a DMAGO starts, finishes.
 use Rattle.std.specs.Prelude.{◌≡◌, ℕ, ◌-◌, ◌<◌, ◌≤◌, Some, IfSome, slice_get}
-use Rattle.dma_mem.specs.Places.{Descriptor, size_of}
+use Rattle.dma_mem.specs.Places.{Descriptor}
 use Rattle.dma_mem.specs.Rules.{IsTransfer}
 use Rattle.dma_chan.specs.Compiled.{compiled_on, cost_on}
-use Rattle.dma_chan.specs.Explains.{IsIn, IsSignal, IsWait}
+use Rattle.dma_chan.specs.Explains.{IsIn, IsSignal, IsWait, Work, all_of, only}
+use Rattle.dma_chan.specs.declared.explain.Amounts.{Amounts}
 use Rattle.dma_device.specs.Copies.{HasEvents, IsFit}
 use Rattle.dma_device.specs.Device.{DeviceValue, irqs}
 use Rattle.dma_device.specs.Dmago.{Go, RunsCopy, GivenTurns, bus_of, csr_status, start_of}
@@ -23,17 +24,17 @@ MayPass go n d least =
     IsIn (start_of go) go.program n wait.step th.channel → least ≤ wait.step → IsVisible d e
 
 -- Turn number k is ready: it may take a step, the device and the regions are fit, and the channel doesn't wait.
-pub record IsReady (go : Go) (t : Descriptor) (n : ℕ) (run : GivenTurns) (k : ℕ) : Type 0 where
+pub record IsReady (go : Go) (w : Work) (n : ℕ) (run : GivenTurns) (k : ℕ) : Type 0 where
   pub some : 1 ≤ run.most k
-  pub fit : IsFit go t n (run.before k) (run.lent k)
+  pub fit : IsFit go w n (run.before k) (run.lent k)
   pub passes : MayPass go n (run.before k) k
 
 -- If each turn is ready, then the channel's CSR reads as stopped after as many turns as the program executes
--- instructions with its DMAEND, and from then on. (By `DmagoCopies` all bytes are then copied.)
+-- instructions with its DMAEND, and from then on. (By `DmagoCopies` the work is then done.)
 abbrev pub DmagoFinishes : Type 0
 DmagoFinishes =
-    (go : Go) (t : Descriptor) (n : ℕ) (run : GivenTurns) → RunsCopy go t n run →
-    ((k : ℕ) → k < run.count → IsReady go t n run k) →
+    (go : Go) (w : Work) (n : ℕ) (run : GivenTurns) → RunsCopy go w n run →
+    ((k : ℕ) → k < run.count → IsReady go w n run k) →
     (k : ℕ) → k < run.count → n ≤ k → csr_status (run.after k) go.channel ≡ 0
 
 -- the line of event i was high after one of the turns up to number k
@@ -47,8 +48,8 @@ pub record WasHigh (run : GivenTurns) (i k : ℕ) : Type 0 where
 -- INTCLR clears it, a reset, or a restore of a device in which it is low.)
 abbrev pub DmagoSignals : Type 0
 DmagoSignals =
-    (go : Go) (t : Descriptor) (n : ℕ) (run : GivenTurns) (i stored : ℕ) → RunsCopy go t n run →
-    IsSignal (start_of go) go.program n i stored →
+    (go : Go) (w : Work) (n : ℕ) (run : GivenTurns) (i : ℕ) (done : Amounts) → RunsCopy go w n run →
+    IsSignal (start_of go) go.program n i done →
     ((k : ℕ) → k < run.count → HasLine (run.before k) i × IsHigh (run.before k).inten i) →
     (k : ℕ) → k < run.count → csr_status (run.after k) go.channel ≡ 0 → WasHigh run i k
 
@@ -78,6 +79,6 @@ CompiledGoesOn =
 -- bytes.
 pub record CompiledSignals : Type 0 where
   pub has_sev : (go : Go) (t : Descriptor) (i : ℕ) → IsCompiled go t → t.signal ≡ Some i →
-      IsSignal (start_of go) go.program (compiled_count go t) i (size_of t)
-  pub all_stored : (go : Go) (t : Descriptor) (i stored : ℕ) → IsCompiled go t →
-      IsSignal (start_of go) go.program (compiled_count go t) i stored → size_of t ≤ stored
+      IsSignal (start_of go) go.program (compiled_count go t) i (all_of (only t))
+  pub all_stored : (go : Go) (t : Descriptor) (i : ℕ) (done : Amounts) → IsCompiled go t →
+      IsSignal (start_of go) go.program (compiled_count go t) i done → done ≡ all_of (only t)

@@ -1,6 +1,6 @@
 //! Lists of ranges that a run reads and writes.
 
-ghost use Rattle.std.specs.Prelude.{◌≡◌, ◌≢◌, ◌++◌, ◌∷◌, ◌≤◌, ◌<◌, [], ℕ, All, IfErr, IfOk, OnOk, OnSome, IfSome, None, Some, is_some, true};
+ghost use Rattle.std.specs.Prelude.{◌≡◌, ◌≢◌, ◌++◌, ◌∷◌, ◌≤◌, ◌<◌, [], ℕ, All, IfErr, IfOk, OnOk, IfSome, None, Some, is_some, true};
 ghost use Rattle.std.specs.List.{list_any, range_with_len};
 ghost use Rattle.std.specs.List.Sorted.{IsNonDecreasingBy, IsPermutation};
 ghost use Rattle.dma_mem.specs.declared.segment.Segment.{Segment};
@@ -109,13 +109,14 @@ pub(super) fn push_read(list: &mut Vec<Repeated>, item: Repeated) -> Result<(), 
     Ok(())
 }
 
-// Returns the segments, sorted by their first addresses.
-fn sorted(alloc: Global, list: &[Segment]) -> Result<Vec<Segment>, AllocError>
-    ensures same { IfOk result (λ sorted. IsPermutation list.now sorted.items) }
+// Returns the segments of both lists, sorted by their first addresses.
+fn sorted(alloc: Global, list: &[Segment], more: &[Segment]) -> Result<Vec<Segment>, AllocError>
+    ensures same { IfOk result (λ sorted. IsPermutation (list.now ++ more.now) sorted.items) }
     ensures rising { IfOk result (λ sorted.
         IsNonDecreasingBy (λ (s : Segment). s.addr) sorted.items) }
 {
     let mut sorted = Vec::from_slice(alloc, list)?;
+    sorted.extend_from_slice(more)?;
     sort_by_address(&mut sorted);
     Ok(sorted)
 }
@@ -179,17 +180,25 @@ fn lowest_read(ranges: &[Segment], items: &[Repeated]) -> u32
     lowest
 }
 
-// Tests that no address is in `dst` twice, and none in both lists.
-pub(super) fn overlap(alloc: Global, src: &[Repeated], dst: &[Segment]) -> Result<(), Stop>
+// Tests that no address is in `dst` and `zeros` twice, and none of them in `src`.
+pub(super) fn overlap(
+    alloc: Global,
+    src: &[Repeated],
+    dst: &[Segment],
+    zeros: &[Segment],
+) -> Result<(), Stop>
     requires items { All IsRead src.now }
     requires runs { All IsRun dst.now }
-    ensures ok { OnOk result (stop_of_lists (places (unrolled src.now)) (places dst.now) ≡ None) }
+    requires zeros { All IsRun zeros.now }
+    ensures ok { OnOk result (stop_of_lists (places (unrolled src.now))
+        (places dst.now ++ places zeros.now) ≡ None) }
     ensures err { IfErr result (λ stop. stop.cause ≢ Cause.NoMemory
-        → stop_of_lists (places (unrolled src.now)) (places dst.now) ≡ Some stop.cause) }
-    ensures addr { IfErr result (λ stop.
-        HasAddress stop.cause (places (unrolled src.now)) (places dst.now) stop.addr) }
+        → stop_of_lists (places (unrolled src.now)) (places dst.now ++ places zeros.now)
+        ≡ Some stop.cause) }
+    ensures addr { IfErr result (λ stop. HasAddress stop.cause (places (unrolled src.now))
+        (places dst.now ++ places zeros.now) stop.addr) }
 {
-    let Ok(ranges) = sorted(alloc, dst) else {
+    let Ok(ranges) = sorted(alloc, dst, zeros) else {
         return Err(Stop {
             cause: Cause::NoMemory,
             addr: 0,

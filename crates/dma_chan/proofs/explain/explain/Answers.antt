@@ -2,7 +2,7 @@ use Rattle.std.proofs.Common.{◌≡◌, ℕ, ◌+◌, arith, inr, refl, ap, sym
 use Rattle.dma_insn.specs.declared.chip.ChipInsn.TheVariants.{End}
 use Rattle.dma_mem.specs.Places.{places}
 use Rattle.dma_chan.specs.declared.explain.Cause.TheVariants.{Fails, NoEnd, NoMemory, TooLong}
-use Rattle.dma_chan.specs.Explains.{unrolled}
+use Rattle.dma_chan.specs.Explains.{unrolled, written_in}
 use Rattle.dma_chan.specs.inner.Tracing.{Follows, trace_of}
 use Rattle.dma_chan.proofs.Explaining.{counts_bursts, finds, follows_new, has_none, never_long, refuses, stops_here}
 use Rattle.dma_chan.proofs.explain.explain.Goals as goal
@@ -28,7 +28,7 @@ run-requires c = record {
 
 pub loop-steps-init : goal.loop-steps-init
 loop-steps-init c = record {
-  follows = follows_new c.args.start c.args.program.now c.new-tracer.result c.new-tracer.ensures.new c.new-tracer.ensures.stored;
+  follows = follows_new c.args.start c.args.program.now c.new-tracer.result c.new-tracer.ensures;
   few = omega arith;
   last = c.none-last.ensures c.args.program.now;
 }
@@ -47,7 +47,7 @@ returns-in-Err-clause-err c = λ _ _.
     let now = c.loop-steps in
     let cause = Fails c.in-Err.kind in
     let stops = stops_here start program c.args.most now.steps now.tracer (Err c.in-Err.kind) cause now.invariant.follows c.in-Err.ensures c.loop-steps-test.true refl in
-    refuses start program c.args.most now.steps now.tracer cause 0 now.invariant.follows stops refl
+    refuses start program c.args.most now.steps now.tracer cause 0 c.stored.result now.invariant.follows stops refl c.stored.ensures
 
 pub returns-in-Err-finish-clause-err : goal.returns-in-Err-finish-clause-err
 returns-in-Err-finish-clause-err c = λ memory _.
@@ -56,7 +56,7 @@ returns-in-Err-finish-clause-err c = λ memory _.
     let now = c.loop-steps in
     let stop = c.in-Err-finish.stop in
     let stops = stops_here start program c.args.most now.steps now.tracer (Ok End) stop.cause now.invariant.follows (ap Ok c.in-End.ensures ∙ c.in-Ok.ensures) c.loop-steps-test.true (c.in-Err-finish.ensures.err memory) in
-    refuses start program c.args.most now.steps now.tracer stop.cause stop.addr now.invariant.follows stops c.in-Err-finish.ensures.addr
+    refuses start program c.args.most now.steps now.tracer stop.cause stop.addr c.stored.result now.invariant.follows stops c.in-Err-finish.ensures.addr c.stored.ensures
 
 pub returns-in-Err-run-clause-err : goal.returns-in-Err-run-clause-err
 returns-in-Err-run-clause-err c = λ memory _.
@@ -67,15 +67,15 @@ returns-in-Err-run-clause-err c = λ memory _.
     let cause = c.in-Err-run.cause in
     let stop = c.in-Err-run.ensures.err memory in
     let stops = stops_here start program c.args.most now.steps x (Ok c.in-Ok.next) cause now.invariant.follows c.in-Ok.ensures c.loop-steps-test.true stop in
-    let none = has_none c.in-Ok.next (trace_of x) (λ e. c.in_default.not-End (c.insn.ensures ∙ e)) cause (places (unrolled x.src.items)) (places x.dst.items) stop in
-    refuses start program c.args.most now.steps x cause 0 now.invariant.follows stops none
+    let none = has_none c.in-Ok.next (trace_of x) (λ e. c.in_default.not-End (c.insn.ensures ∙ e)) cause (places (unrolled x.src.items)) (written_in (trace_of x)) stop in
+    refuses start program c.args.most now.steps x cause 0 c.stored.result now.invariant.follows stops none c.stored.ensures
 
 pub returns-clause-err : goal.returns-clause-err
 returns-clause-err c = λ _ _.
     let now = c.loop-steps in
     let all : now.steps ≡ c.args.most = omega (arith, now.invariant.few, c.loop-steps-test.false) in
     let follows = subst (λ (n : ℕ). Follows c.args.start c.args.program.now n now.tracer) all now.invariant.follows in
-    refuses c.args.start c.args.program.now c.args.most c.args.most now.tracer NoEnd 0 follows (inr (refl, refl)) refl
+    refuses c.args.start c.args.program.now c.args.most c.args.most now.tracer NoEnd 0 c.stored-2.result follows (inr (refl, refl)) refl c.stored-2.ensures
 
 pub returns-in-Err-run-clause-long : goal.returns-in-Err-run-clause-long
 returns-in-Err-run-clause-long c = (

@@ -1,5 +1,5 @@
 use Rattle.std.proofs.Common.{arith}
-use Rattle.dma_chan.proofs.TracerSteps.{read_touched}
+use Rattle.dma_chan.proofs.TracerBursts.{read_touched}
 use Rattle.dma_chan.proofs.explain.tracer.read_of.Goals as goal
 
 pub returns-clause-read : goal.returns-clause-read
