@@ -28,7 +28,7 @@ use Rattle.dma_device.specs.declared.device.turns.Turn.{Turn}
 use Rattle.dma_device.specs.declared.thread.Thread.{Thread}
 use Rattle.dma_chan.specs.declared.exec.Registers.{Registers}
 use Rattle.dma_chan.specs.Exec.{ChangesNothing}
-use Rattle.dma_chan.specs.Stepping.{Machine, TakesSteps, after_step, after_steps, answer_at, goes_on_after}
+use Rattle.dma_chan.specs.Stepping.{Machine, TakesSteps, machine, after_step, after_steps, answer_at, goes_on_after}
 use Rattle.dma_chan.specs.declared.turn.ChanTurn.{ChanTurn}
 use Rattle.dma_chan.specs.declared.turn.ChanTurn.TheVariants.{Moved, Ended}
 use Rattle.dma_chan.proofs.AmongOthers.{Among, Fits}
@@ -242,12 +242,13 @@ module _ (go : Go) (work : Work) (count : ℕ) (run : GivenTurns) (h : RunsCopy 
 
     first_copied : (k : ℕ) → k < run.count → HasRisen run i k → AreDone work least (image_in (run.lent 0)) (image_in (run.left k))
     first_copied k less risen =
-        elim (stored_along k less).stands [
+        let g = stored_along k less in
+        elim g.stands [
           | inl over ↦ are_done c (image_in (run.left k)) least (all_of work) (worked_part work c.first (image_in (run.left k)) over.0.done) (λ p few within. within) (λ p few within. within)
           | inr going ↦
-              let so = runs_so c.start c.program work count c.first c.explains _ going.0.runs in
+              let so = runs_so c.start c.program work count c.first c.explains (machine g.thread.channel (image_in (run.left k)) []) going.0.runs in
               let enough = going.1 (record { turn = k; early = omega arith; raises = risen }) in
-              are_done c (image_in (run.left k)) least _ so.part (λ p few within. omega (arith, few, enough.copied)) (λ p few within. omega (arith, few, enough.cleared))
+              are_done c (image_in (run.left k)) least (done_at c.start c.program (machine g.thread.channel (image_in (run.left k)) [])) so.part (λ p few within. omega (arith, few, enough.copied)) (λ p few within. omega (arith, few, enough.cleared))
         ]
 
   -- once the thread is stopped it has ended

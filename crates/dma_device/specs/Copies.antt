@@ -41,8 +41,8 @@ pub record AreDone (w : Work) (least : Amounts) (first memory : List ℕ) : Type
       slice_index memory (slice_index (cleared w) p) ≡ 0
   pub kept : (a : ℕ) → Contains (sources w.copy) a → slice_index memory a ≡ slice_index first a
 
--- Once line i rose in a turn, the first `least` bytes are copied and set to 0, if the program does as many before each of
--- its DMASEVs of event i.
+-- Once line i rose in a turn, the first `least` bytes are copied and set to 0, if the program does as many before each
+-- of its DMASEVs of event i.
 abbrev pub DmagoInterrupts : Type 0
 DmagoInterrupts =
     (go : Go) (w : Work) (n : ℕ) (run : GivenTurns) (i : ℕ) (least : Amounts) → RunsCopy go w n run →

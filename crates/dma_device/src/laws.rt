@@ -17,16 +17,17 @@ pub fn memory_has_bytes()
     ensures { ImageHasBytes }
 {}
 
-/// A driver puts a program that a copy explains from the channel's registers into RAM, and starts it there by a DMAGO.
-/// The program makes one simultaneous copy of all bytes, whatever the guest and other channels do meanwhile to other
-/// bytes and registers. It is done once the channel's CSR reads as stopped. Once a line that was low is high after a
-/// turn of the channel, at least as many bytes are copied as the program stores before each DMASEV of the line's event.
+/// A driver puts a program that is explained from the channel's registers into RAM, and starts it there by a DMAGO. The
+/// program makes one simultaneous copy of all bytes and sets its ranges of zeros to 0, whatever the guest and other
+/// channels do meanwhile to other bytes and registers. It is done once the channel's CSR reads as stopped. Once a line
+/// that was low is high after a turn of the channel, at least as many bytes are copied and set to 0 as before each
+/// DMASEV of the line's event.
 pub fn a_dmago_copies()
     ensures copies { DmagoCopies }
     ensures interrupts { DmagoInterrupts }
 {}
 
-/// Such a program never fails if the regions contain all addresses that the copy touches, none that it writes is
+/// Such a program never fails if the regions contain all addresses that it reads and writes, none that it writes is
 /// read-only, and the device has the events of the program's DMAWFEs and DMASEVs.
 pub fn a_dmago_never_fails()
     ensures { DmagoNeverFails }
@@ -46,9 +47,9 @@ pub fn a_dmago_finishes()
     ensures has_sev { CompiledSignals }
 {}
 
-/// While a channel executes the program that a DMAGO gave it, its turns write only destinations of the copy that
-/// [`crate::device::Device::explain`] found before the first of them, and read only its sources. After an access other
-/// than a restore that gives the channel a program, as a DMAGO does, the channel is underway in that program.
+/// While a channel executes the program that a DMAGO gave it, its turns write only destinations and ranges of zeros
+/// that [`crate::device::Device::explain`] found before the first of them, and read only the sources. After an access
+/// other than a restore that gives the channel a program, as a DMAGO does, the channel is underway in that program.
 pub fn turns_stay_in()
     ensures turns { TurnsStayIn }
     ensures only { OnlyDmagoGives }

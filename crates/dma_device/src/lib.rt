@@ -16,20 +16,20 @@
 //! exactly if they are the save of no device (`save`, `restore`), as is each save in which a bit is flipped
 //! (`laws::damage_is_refused`).
 //!
-//! A program that a copy explains from the registers that its channel has (`dma_chan`'s specs/Explains.antt), put into
-//! RAM and started by a DMAGO, makes one simultaneous copy, whatever events it waits for and signals; from any
-//! registers a transfer explains its program that is compiled for the bus. The copy is done once the channel's CSR
-//! reads as stopped. Once a line that was low is high after one of its turns, as many bytes are copied as the program
-//! stores before the DMASEV (`laws::a_dmago_copies`). Of other programs the laws of interrupts hold, and what
-//! specs/Turns.antt says of each turn. The program never fails, if the regions contain all addresses that the copy
-//! touches, none that it writes is read-only, and the device has the program's events (`laws::a_dmago_never_fails`). It
+//! A program that is explained from the registers that its channel has (`dma_chan`'s specs/Explains.antt), put into RAM
+//! and started by a DMAGO, makes one simultaneous copy and sets its ranges of zeros to 0, whatever events it waits for
+//! and signals; from any registers a transfer explains its program that is compiled for the bus. All is done once the
+//! channel's CSR reads as stopped. Once a line that was low is high after one of its turns, as much is done as before
+//! the DMASEV (`laws::a_dmago_copies`). Of other programs the laws of interrupts hold, and what
+//! specs/Turns.antt says of each turn. The program never fails, if the regions contain all addresses that it reads and
+//! writes, none that it writes is read-only, and the device has the program's events (`laws::a_dmago_never_fails`). It
 //! then finishes after as many turns as it executes instructions, if no turn begins at a DMAWFE of an event that isn't
 //! set, and the line of the event of each DMASEV was high (`laws::a_dmago_finishes`).
 //!
-//! [`device::Device::explain`] returns what the program of a channel copies, or why no copy explains it: for a
-//! debugger, and for a host that refuses a DMAGO whose program touches what it must not. From the DMAGO on, until the
-//! channel gets another program, its turns write only destinations of that copy and read only its sources, whatever the
-//! guest writes meanwhile (`laws::turns_stay_in`).
+//! [`device::Device::explain`] returns what the program of a channel copies and sets to 0, or why nothing explains it:
+//! for a debugger, and for a host that refuses a DMAGO whose program touches what it must not. From the DMAGO on, until
+//! the channel gets another program, its turns write only what was found and read only its sources, whatever the guest
+//! writes meanwhile (`laws::turns_stay_in`).
 //!
 //! An interrupt is neither lost nor invented: from a reset on, its line is high exactly if a turn or the debug
 //! registers executed its DMASEV while INTEN made it an interrupt, or a restored device had it high, and no write to

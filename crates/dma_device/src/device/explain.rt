@@ -1,4 +1,4 @@
-//! What the program of a channel copies.
+//! What the program of a channel copies and sets to 0.
 
 ghost use Rattle.std.specs.Prelude.{◌≡◌, ◌-◌, IfErr, IfOk};
 ghost use Rattle.dma_chan.specs.Explains.{bursts_in};
@@ -8,25 +8,25 @@ use crate::device::Device;
 use dma_chan::explain::{Explained, Unexplained, explain};
 use std::alloc::Global;
 
-/// Why a device finds no copy that explains a channel's program.
+/// Why a device can't explain a channel's program.
 #[derive(Clone, Copy, PartialEq, Eq)]
 pub enum ExplainFault {
     /// The device doesn't have the channel.
     NoChannel,
     /// The channel has no program.
     NoProgram,
-    /// No copy explains the program, or memory ran out.
+    /// Nothing explains the program, or memory ran out.
     Unexplained(Unexplained),
 }
 
 impl Device {
-    /// Returns what the program of channel `n` copies from its start, if it begins with the registers that the channel
-    /// has now, or why no copy explains it with at most `most` instructions. A DMAGO has copied the program, so what
-    /// the guest writes to RAM later doesn't change the answer. Until the channel gets another program, its turns stay
-    /// in the copy (`laws::turns_stay_in`). This needs a channel that a DMAGO started and that has had no turn yet: its
-    /// turns change the registers, so that a program which leaves out a DMAMOV has another answer then, and a channel
-    /// from a save that isn't trusted may have any registers. An event that the device doesn't have is no reason to
-    /// refuse a program: its DMAWFE or DMASEV fails.
+    /// Returns what the program of channel `n` copies and sets to 0 from its start, if it begins with the registers
+    /// that the channel has now, or why nothing explains it with at most `most` instructions. A DMAGO has copied the
+    /// program, so what the guest writes to RAM later doesn't change the answer. Until the channel gets another
+    /// program, its turns stay in that (`laws::turns_stay_in`). This needs a channel that a DMAGO started and that has
+    /// had no turn yet: its turns change the registers, so that a program which leaves out a DMAMOV has another answer
+    /// then, and a channel from a save that isn't trusted may have any registers. An event that the device doesn't have
+    /// is no reason to refuse a program: its DMAWFE or DMASEV fails.
     pub fn explain(&self, alloc: Global, n: u8, most: u32) -> Result<Explained, ExplainFault>
         ensures ok { IfOk result (λ x. FindsFor self.now n most x) }
         ensures bursts { IfOk result (λ x. IsLoadedAnd self.now n
