@@ -43,7 +43,7 @@ Assembles to_file text p =
     (p.out ≡ (if to_file then [] else assembled_out (read_text text))) × (p.err ≡ assembled_err text (read_text text))
     × (p.file ≡ (if to_file then program_of text else [])) × (p.succeeds ≡ is_ok (read_text text))
 
--- `explain` says what the program copies, or on standard error why it is no copy.
+-- `explain` says what the program copies and sets to 0, or on standard error why nothing explains it.
 abbrev pub Explains : Bus → ℕ → List ℕ → Printed → Type 0
 Explains bus most program p = Appends bus program most p.succeeds [] [] p.out p.err × (p.file ≡ [])
 

@@ -69,7 +69,7 @@ end_grown r c b end place jump fits q =
       next = record r {
         code = r.code ++ spelling (LpEnd c b);
         loops = with_loop r.loops (Counted c) None;
-        stray = first_stray r.stray (is_closed_by (slot r.loops (Counted c)) (length r.code) b) place;
+        stray = first_stray r.stray (is_closed_by (slot r.loops (Counted c)) (length r.code) b) (record { place = place; kind = Counted c });
       };
       is = rw (jump, bytes_fit r.code (spelling (LpEnd c b)) place fits) refl;
       code = refl;
@@ -84,7 +84,7 @@ again_grown r c b place fits q =
       next = record r {
         code = r.code ++ spelling (LoopAgain c b);
         loops = with_loop r.loops Endless None;
-        stray = first_stray r.stray (is_free_or_closed r.loops.endless (length r.code) b) place;
+        stray = first_stray r.stray (is_free_or_closed r.loops.endless (length r.code) b) (record { place = place; kind = Endless });
       };
       is = rw (bytes_fit r.code (spelling (LoopAgain c b)) place fits) refl;
       code = refl;

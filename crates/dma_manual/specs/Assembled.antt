@@ -21,19 +21,20 @@ use Rattle.dma_manual.specs.declared.loops.LoopKind.{LoopKind}
 use Rattle.dma_manual.specs.declared.loops.LoopKind.TheVariants.{Counted, Endless}
 use Rattle.dma_manual.specs.declared.loops.Loops.{Loops}
 use Rattle.dma_manual.specs.declared.loops.Open.{Open}
+use Rattle.dma_manual.specs.declared.loops.Stray.{Stray}
 use Rattle.dma_manual.specs.declared.statements.End.{End as LoopTo}
 use Rattle.dma_manual.specs.declared.statements.End.TheVariants as ends
 use Rattle.dma_manual.specs.declared.statements.Statement.{Statement}
 use Rattle.dma_manual.specs.declared.statements.Statement.TheVariants as says
 
 -- What the lines so far say: the program's bytes, the labels, the loops that are open, whether an instruction is DMAEND
--- or a `DCB` is 0, and the place of the first DMALPEND that doesn't jump to the start of its counter's open loop.
+-- or a `DCB` is 0, and the first DMALPEND that doesn't jump to the start of the open loop of its kind.
 pub record Read : Type 0 where
   pub code : List ℕ
   pub labels : List Label
   pub loops : Loops
   pub stops : Bool
-  pub stray : Option Place
+  pub stray : Option Stray
 
 abbrev pub draft_view : Draft → Read
 draft_view d = record {
@@ -163,12 +164,11 @@ abbrev pub is_closed_by : Option Open → ℕ → ℕ → Bool
 is_closed_by None here back = false
 is_closed_by (Some loop) here back = nat_le back here && (here - back) == loop.start
 
--- The place of the first DMALPEND that closes no loop: that of an earlier one, else this place, unless the DMALPEND
--- there closes its loop.
-abbrev pub first_stray : Option Place → Bool → Place → Option Place
-first_stray (Some first) closes place = Some first
-first_stray None true place = None
-first_stray None false place = Some place
+-- The first DMALPEND that closes no loop: an earlier one, else this one, unless it closes its loop.
+abbrev pub first_stray : Option Stray → Bool → Stray → Option Stray
+first_stray (Some first) closes this = Some first
+first_stray None true this = None
+first_stray None false this = Some this
 
 -- What the lines say if a DMALPEND follows them: it ends the open loop of its kind.
 abbrev pub ended : Read → LoopTo → Place → Result Read Located
@@ -178,7 +178,8 @@ ended r end place = do
   Ok (record r {
     code = code;
     loops = with_loop r.loops jump.0 None;
-    stray = first_stray r.stray (is_closed_by (slot r.loops jump.0) (length r.code) jump.1) place;
+    stray = first_stray r.stray (is_closed_by (slot r.loops jump.0) (length r.code) jump.1)
+        (record { place = place; kind = jump.0 });
   })
 
 -- whether a jump of this many bytes back from an offset leads to the start of the open loop, if there is one
@@ -193,7 +194,8 @@ ended_again r counter back place = do
   Ok (record r {
     code = code;
     loops = with_loop r.loops Endless None;
-    stray = first_stray r.stray (is_free_or_closed r.loops.endless (length r.code) back) place;
+    stray = first_stray r.stray (is_free_or_closed r.loops.endless (length r.code) back)
+        (record { place = place; kind = Endless });
   })
 
 -- What the lines say if more bytes follow them; `stops` is whether these are DMAEND.

@@ -2,9 +2,9 @@
 use Rattle.std.specs.Prelude.{ℕ, Bool, ◌==◌, ◌||◌, if◌then◌else◌, List, codes, Option, Some, None}
 use Rattle.std.specs.Str.{bytes_eq}
 
--- The name of the instruction that begins with this byte, if no channel executes it, or none on the ideal bus: DMASTZ,
--- DMAADDH, DMAADNH and the DMALPEND of a DMALPFE. S and B are for single and for burst requests of a peripheral, of
--- which the model has none; DMAGO and DMAKILL are for the chip's manager.
+-- The name of the instruction that begins with this byte, if no channel executes it, or none on the ideal bus. S and B
+-- are for single and for burst requests of a peripheral, of which the model has none; DMAGO and DMAKILL are for the
+-- chip's manager.
 abbrev pub chip_only_name : ℕ → Option (List ℕ)
 chip_only_name b =
     if b == 0x01 then Some (codes "DMAKILL") else (
@@ -27,6 +27,12 @@ chip_only_name b =
     if b == 0x54 || b == 0x56 then Some (codes "DMAADDH") else (
     if b == 0x5c || b == 0x5e then Some (codes "DMAADNH") else (
     if b == 0xa0 || b == 0xa2 then Some (codes "DMAGO") else None)))))))))))))))))))
+
+-- whether a channel executes the instruction that begins with this byte on a chip's bus, and not on the ideal bus:
+-- DMASTZ, the DMALPEND of a DMALPFE, DMAADDH and DMAADNH
+abbrev pub needs_chip_bus : ℕ → Bool
+needs_chip_bus b =
+    b == 0x0c || b == 0x28 || b == 0x2c || b == 0x54 || b == 0x56 || b == 0x5c || b == 0x5e
 
 -- whether a word in lower case is the name of an instruction that no channel executes
 abbrev pub is_chip_only : List ℕ → Bool

@@ -18,6 +18,9 @@ use Rattle.dma_manual.specs.declared.errors.AsmError.{AsmError}
 use Rattle.dma_manual.specs.declared.errors.AsmError.TheVariants as errors
 use Rattle.dma_manual.specs.declared.errors.Note.{Note}
 use Rattle.dma_manual.specs.declared.errors.Note.TheVariants as notes
+use Rattle.dma_manual.specs.declared.loops.LoopKind.{LoopKind}
+use Rattle.dma_manual.specs.declared.loops.LoopKind.TheVariants.{Counted, Endless}
+use Rattle.dma_manual.specs.declared.loops.Stray.{Stray}
 use Rattle.dma_manual.specs.declared.manual.Side.{Side}
 use Rattle.dma_manual.specs.declared.manual.Side.TheVariants.{Source, Destination}
 
@@ -156,12 +159,17 @@ IsAssembled view text (Err errors.NoMemory) = Unit {0}
 abbrev pub stops_or_empty : Read → Bool
 stops_or_empty r = r.stops || length r.code == 0
 
--- The first warning about a program: a DMALPEND doesn't jump to the start of its counter's open loop, or the text has
+-- the name of the instruction that begins a loop of a kind
+abbrev pub start_name : LoopKind → List ℕ
+start_name (Counted counter) = codes "DMALP"
+start_name Endless = codes "DMALPFE"
+
+-- The first warning about a program: a DMALPEND doesn't jump to the start of the open loop of its kind, or the text has
 -- no DMAEND.
-abbrev pub warning_text : Option Place → Bool → List ℕ
-warning_text (Some place) stops =
-    decimal place.line ++ codes ":" ++ decimal place.column
-    ++ codes ": warning: 'DMALPEND' does not jump to the instruction after its DMALP\n"
+abbrev pub warning_text : Option Stray → Bool → List ℕ
+warning_text (Some s) stops =
+    decimal s.place.line ++ codes ":" ++ decimal s.place.column
+    ++ (codes ": warning: 'DMALPEND' does not jump to the instruction after its " ++ start_name s.kind ++ codes "\n")
 warning_text None true = []
 warning_text None false = codes " warning: the text has no DMAEND\n"
 

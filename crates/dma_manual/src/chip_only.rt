@@ -2,7 +2,7 @@
 
 ghost use Rattle.std.specs.Prelude.{◌≡◌};
 ghost use Rattle.std.specs.Option.{option_map};
-ghost use Rattle.dma_manual.specs.ChipOnly.{chip_only_name, is_chip_only};
+ghost use Rattle.dma_manual.specs.ChipOnly.{chip_only_name, is_chip_only, needs_chip_bus};
 
 use dma_text::bytes::is_text;
 
@@ -33,6 +33,13 @@ pub fn chip_only_name(first: u8) -> Option<&'static str>
         0xa0 | 0xa2 => Some("DMAGO"),
         _ => None,
     }
+}
+
+/// Returns whether an instruction that begins with this byte is executed on a chip's bus, and not on the ideal bus.
+pub fn needs_chip_bus(first: u8) -> bool
+    ensures { result ≡ needs_chip_bus first }
+{
+    matches!(first, 0x0c | 0x28 | 0x2c | 0x54 | 0x56 | 0x5c | 0x5e)
 }
 
 /// Returns whether a word in lower case is the name of an instruction that no channel executes.

@@ -10,7 +10,7 @@ ghost use Rattle.dma_manual.specs.Statements.{label_view};
 
 use crate::assembler::{AsmCause, Fault, Located, Place, Stop};
 use crate::listing::is_end;
-use crate::loops::{LoopKind, Loops, Open, chosen, jump_of};
+use crate::loops::{LoopKind, Loops, Open, Stray, chosen, jump_of};
 use crate::statements::{End, Named, Statement, label_of, statement_at};
 use crate::words::next_word;
 use dma_insn::assembler::MAX_PROGRAM_BYTES;
@@ -26,8 +26,8 @@ pub struct Draft {
     pub loops: Loops,
     /// Whether an instruction is DMAEND, or a `DCB` is 0, which is DMAEND's byte.
     pub stops: bool,
-    /// The place of the first DMALPEND that doesn't jump to the start of its counter's open loop.
-    pub stray: Option<Place>,
+    /// The first DMALPEND that doesn't jump to the start of the open loop of its kind.
+    pub stray: Option<Stray>,
 }
 
 impl Draft {
@@ -132,15 +132,15 @@ fn begin_loop(
     Ok(())
 }
 
-// Returns the place of the first DMALPEND that closes no loop: `stray` if there already is one, else `place`, unless
-// the DMALPEND there closes its loop.
-fn first_stray(stray: Option<Place>, closes: bool, place: Place) -> Option<Place>
-    ensures { result ≡ first_stray stray closes place }
+// Returns the first DMALPEND that closes no loop: `stray` if there already is one, else this one, unless it closes its
+// loop.
+fn first_stray(stray: Option<Stray>, closes: bool, this: Stray) -> Option<Stray>
+    ensures { result ≡ first_stray stray closes this }
 {
     match stray {
         Some(first) => Some(first),
         None if closes => None,
-        None => Some(place),
+        None => Some(this),
     }
 }
 
@@ -154,7 +154,7 @@ fn end_loop(draft: &mut Draft, end: End, place: Place) -> Result<(), Stop>
     let closes = draft.loops.is_closed_by(kind, here, back);
     push_insn(&mut draft.code, kind.end(back), place)?;
     draft.loops = draft.loops.with(kind, None);
-    draft.stray = first_stray(draft.stray, closes, place);
+    draft.stray = first_stray(draft.stray, closes, Stray { place, kind });
     Ok(())
 }
 
@@ -188,8 +188,9 @@ fn end_endless(draft: &mut Draft, counter: Counter, back: u8, place: Place) -> R
         ChipInsn::LoopAgain { counter, back },
         place,
     )?;
-    draft.loops = draft.loops.with(LoopKind::Endless, None);
-    draft.stray = first_stray(draft.stray, closes, place);
+    let kind = LoopKind::Endless;
+    draft.loops = draft.loops.with(kind, None);
+    draft.stray = first_stray(draft.stray, closes, Stray { place, kind });
     Ok(())
 }
 

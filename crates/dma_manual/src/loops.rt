@@ -41,6 +41,13 @@ impl LoopKind {
     }
 }
 
+/// A DMALPEND that doesn't jump to the start of the open loop of its kind.
+#[derive(Clone, Copy)]
+pub struct Stray {
+    pub place: Place,
+    pub kind: LoopKind,
+}
+
 /// The open loops: one of each kind.
 #[derive(Clone, Copy)]
 pub struct Loops {

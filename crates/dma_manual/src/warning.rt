@@ -2,20 +2,30 @@
 
 ghost use Rattle.std.specs.Prelude.{◌≡◌};
 ghost use Rattle.dma_manual.specs.Assembled.{draft_view};
-ghost use Rattle.dma_manual.specs.Errors.{stops_or_empty, warning_text};
+ghost use Rattle.dma_manual.specs.Errors.{start_name, stops_or_empty, warning_text};
 
-use crate::assembler::Place;
 use crate::draft::Draft;
+use crate::loops::{LoopKind, Stray};
 use dma_text::text::Text;
 use std::alloc::AllocError;
 
 /// The first warning about a program, if there is one.
 #[derive(Clone, Copy)]
 pub struct Warning {
-    /// The place of the first DMALPEND that doesn't jump to the start of its counter's open loop.
-    pub stray: Option<Place>,
+    /// The first DMALPEND that doesn't jump to the start of the open loop of its kind.
+    pub stray: Option<Stray>,
     /// Whether the text has a DMAEND or a `DCB` of 0, or the program has no bytes.
     pub stops: bool,
+}
+
+// Returns the name of the instruction that begins a loop of a kind.
+fn start_name(kind: LoopKind) -> &'static str
+    ensures { result.now ≡ start_name kind }
+{
+    match kind {
+        LoopKind::Counted(_) => "DMALP",
+        LoopKind::Endless => "DMALPFE",
+    }
 }
 
 impl Text for Warning {
@@ -23,10 +33,16 @@ impl Text for Warning {
 
     fn push(&self, out: &mut Vec<u8>) -> Result<(), AllocError> {
         match self.stray {
-            Some(Place { line, column, .. }) => {
-                let words =
-                    ": warning: 'DMALPEND' does not jump to the instruction after its DMALP\n";
-                (line, ":", column, words).push(out)
+            Some(stray) => {
+                let place = stray.place;
+                let words = ": warning: 'DMALPEND' does not jump to the instruction after its ";
+                (
+                    place.line,
+                    ":",
+                    place.column,
+                    (words, start_name(stray.kind), "\n"),
+                )
+                    .push(out)
             }
             None if self.stops => "".push(out),
             None => " warning: the text has no DMAEND\n".push(out),

@@ -19,7 +19,7 @@ use Rattle.dma_chan.specs.Explains.{GoesOn, Trace, after_fetch, after_insn, held
 use Rattle.dma_chan.specs.Next.{next_on}
 use Rattle.dma_chan.proofs.ControlWords.{moves_some}
 use Rattle.dma_chan.proofs.GoingOn.{can, dropped, none_first}
-use Rattle.dma_chan.proofs.TracerSteps.{length_touched}
+use Rattle.dma_chan.proofs.TracerBursts.{length_touched}
 use Rattle.dma_trace.specs.declared.front.Front.{Front}
 use Rattle.dma_trace.specs.Explained.{unexplained_text}
 use Rattle.dma_trace.specs.Touches.{after_next, after_touch, conflict_text, touches_in}
@@ -49,12 +49,12 @@ pub record Follows (i : ChipInsn) (x : Trace) : Type 0 where
   pub room : held_after i x.registers (held x) ≤ buffer_size
   pub within : Within (after_insn i x)
 
-same : (i : ChipInsn) (x : Trace) → Within x → after_insn i x ≡ record { registers = moved i x.registers; loads = x.loads; stores = x.stores } → held_after i x.registers (held x) ≡ held x → Follows i x
-same i x w to kept =
-    let loads : length (after_insn i x).loads ≡ length x.loads = ap (λ (y : Trace). length y.loads) to in
-    let stores : length (after_insn i x).stores ≡ length x.stores = ap (λ (y : Trace). length y.stores) to in
+same : (i : ChipInsn) (x : Trace) → Within x → (after_insn i x).registers ≡ moved i x.registers → (after_insn i x).loads ≡ x.loads → (after_insn i x).stores ≡ x.stores → held_after i x.registers (held x) ≡ held x → Follows i x
+same i x w to reads writes kept =
+    let loads : length (after_insn i x).loads ≡ length x.loads = ap length reads in
+    let stores : length (after_insn i x).stores ≡ length x.stores = ap length writes in
     record {
-      registers = ap (λ (y : Trace). y.registers) to;
+      registers = to;
       more = omega (arith, loads, stores, kept);
       room = omega (arith, kept, w.room);
       within = record { few = omega (arith, loads, stores, w.few); room = omega (arith, loads, stores, w.room) };
@@ -90,17 +90,17 @@ follows_store x w e =
 kept : (b : Bool) (n : ℕ) → (nat_lt 0 n && b) ≡ false → cond b 0 n ≡ n
 kept b n e = grind (arith, nat_tests)
 
-follows_kept : (i : ChipInsn) (x : Trace) → Within x → after_insn i x ≡ record { registers = moved i x.registers; loads = x.loads; stores = x.stores } → held_after i x.registers (held x) ≡ held_kept i x.registers (held x) → dropped i x ≡ false → Follows i x
-follows_kept i x w to held none = same i x w to (held ∙ kept _ _ none)
+follows_kept : (i : ChipInsn) (x : Trace) → Within x → (after_insn i x).registers ≡ moved i x.registers → (after_insn i x).loads ≡ x.loads → (after_insn i x).stores ≡ x.stores → held_after i x.registers (held x) ≡ held_kept i x.registers (held x) → dropped i x ≡ false → Follows i x
+follows_kept i x w to reads writes held none = same i x w to reads writes (held ∙ kept _ _ none)
 
 pub follows : (i : ChipInsn) (x : Trace) → Within x → stop_of_insn i x ≡ None → Follows i x
 follows Ld x w e = follows_load x w e
 follows St x w e = follows_store x w e
-follows (Mov Dar v) x w e = follows_kept (Mov Dar v) x w refl refl (can (Mov Dar v) x w.few (λ f. cc) e)
-follows (Mov Ccr v) x w e = follows_kept (Mov Ccr v) x w refl refl (can (Mov Ccr v) x w.few (λ f. cc) e).1
+follows (Mov Dar v) x w e = follows_kept (Mov Dar v) x w refl refl refl refl (can (Mov Dar v) x w.few (λ f. cc) e)
+follows (Mov Ccr v) x w e = follows_kept (Mov Ccr v) x w refl refl refl refl (can (Mov Ccr v) x w.few (λ f. cc) e).1
 follows (AddHalfword Destination half negative) x w e =
-    let i = AddHalfword Destination half negative in follows_kept i x w refl refl (can i x w.few (λ f. cc) e)
-follows i x w e = same i x w refl refl
+    let i = AddHalfword Destination half negative in follows_kept i x w refl refl refl refl (can i x w.few (λ f. cc) e)
+follows i x w e = same i x w refl refl refl refl
 
 -- ---- in a program
 

@@ -1,8 +1,9 @@
 -- What `explain` prints (profile).
-use Rattle.std.specs.Prelude.{◌≡◌, ℕ, ◌-◌, ◌++◌, ◌<◌, ◌⊎◌, Bool, true, false, List, [], length, flat_map, slice_get, if◌then◌else◌, codes, decimal}
+use Rattle.std.specs.Prelude.{◌≡◌, ℕ, ◌-◌, ◌==◌, ◌++◌, ◌<◌, ◌⊎◌, Bool, true, false, List, [], length, flat_map, slice_get, if◌then◌else◌, codes, decimal}
 use Rattle.dma_mem.specs.declared.segment.Segment.{Segment}
 use Rattle.dma_insn.specs.AssemblyText.{most_program_bytes}
 use Rattle.dma_chan.specs.declared.bus.Bus.{Bus}
+use Rattle.dma_chan.specs.declared.explain.Amounts.{Amounts}
 use Rattle.dma_chan.specs.declared.explain.BurstCounts.{BurstCounts}
 use Rattle.dma_chan.specs.declared.explain.Explained.{Explained}
 use Rattle.dma_chan.specs.declared.explain.Happening.{Happening}
@@ -20,17 +21,23 @@ use Rattle.dma_trace.specs.Words.{bytes_text, cause_text, count_text, line_feed,
 abbrev pub source_line : Repeated → List ℕ
 source_line r = codes "  from " ++ range_text r.addr r.len r.times ++ line_feed
 
--- `  to 0x00004000 + 2048 bytes`
-abbrev pub destination_line : Segment → List ℕ
-destination_line s = codes "  to " ++ range_text s.addr s.len 1 ++ line_feed
+-- `  to 0x00004000 + 2048 bytes` or `  zeros 0x00004000 + 2048 bytes`: these words, and the range
+abbrev pub segment_line : List ℕ → Segment → List ℕ
+segment_line words s = words ++ range_text s.addr s.len 1 ++ line_feed
 
 abbrev pub sync_text : Sync → List ℕ
 sync_text (Waits e) = codes "waits for event " ++ decimal e
 sync_text (Signals e) = codes "signals event " ++ decimal e
 
+-- how many bytes are copied and set to 0: `2048 bytes`, `2048 bytes and 512 bytes of zeros`
+abbrev pub amounts_text : Amounts → List ℕ
+amounts_text a =
+    if a.cleared == 0 then bytes_text a.copied
+    else bytes_text a.copied ++ (codes " and " ++ bytes_text a.cleared ++ codes " of zeros")
+
 -- `  after 2048 bytes: signals event 3`
 abbrev pub event_line : Happening → List ℕ
-event_line h = codes "  after " ++ bytes_text h.stored ++ (codes ": " ++ sync_text h.sync ++ line_feed)
+event_line h = codes "  after " ++ amounts_text h.done ++ (codes ": " ++ sync_text h.sync ++ line_feed)
 
 -- `, stores 9`, and the end of the line
 abbrev pub stores_text : ℕ → List ℕ
@@ -42,13 +49,16 @@ bursts_text b =
     (codes "  bursts: loads " ++ decimal b.loads ++ stores_text b.stores)
     ++ (codes "  in blocks: loads " ++ decimal b.in_blocks ++ stores_text b.in_blocks)
 
--- what a program copies: how much, by which bursts, from where, to where, and its events
+-- what a program copies: how much, by which bursts, from where and to where; what it sets to 0; and its events
 abbrev pub explained_text : Explained → List ℕ
 explained_text x =
-    ((codes "copies " ++ bytes_text x.size ++ (codes ", with " ++ count_text x.steps ++ line_feed)) ++ bursts_text x.bursts)
-    ++ flat_map source_line x.src.items ++ flat_map destination_line x.dst.items ++ flat_map event_line x.events.items
+    ((codes "copies " ++ bytes_text x.size.copied ++ (codes ", with " ++ count_text x.steps ++ line_feed))
+    ++ bursts_text x.bursts)
+    ++ (flat_map source_line x.src.items ++ flat_map (segment_line (codes "  to ")) x.dst.items
+    ++ flat_map (segment_line (codes "  zeros ")) x.zeros.items)
+    ++ flat_map event_line x.events.items
 
--- why no copy explains a program on a bus, where, the registers there, and how many bytes were stored before
+-- why nothing explains a program on a bus, where, the registers there, and how many bytes were stored before
 abbrev pub unexplained_text : Bus → List ℕ → Unexplained → List ℕ
 unexplained_text bus program u =
     let x = traced (start_on bus) program u.steps in
@@ -65,19 +75,19 @@ pub record PrintsCopy (bus : Bus) (program : List ℕ) (most : ℕ) (printed : L
   pub bursts : explained.bursts ≡ bursts_in (start_on bus) program (explained.steps - 1)
   pub text : printed ≡ explained_text explained
 
--- It prints why and where there is no copy.
+-- It prints why and where nothing explains a program.
 pub record PrintsCause (bus : Bus) (program : List ℕ) (most : ℕ) (printed : List ℕ) : Type 0 where
   pub unexplained : Unexplained
   pub refuses : Refuses (start_on bus) program most unexplained
   pub text : printed ≡ unexplained_text bus program unexplained
 
--- What `explain` prints if it succeeds or fails: a copy, or that the program is too long, or else a cause.
+-- What `explain` prints if it succeeds or fails: what it finds, or that the program is too long, or else a cause.
 abbrev pub Prints : Bus → List ℕ → ℕ → Bool → List ℕ → Type 0
 Prints bus program most true printed = PrintsCopy bus program most printed
 Prints bus program most false printed =
     ((most_program_bytes < length program) × (printed ≡ long_text)) ⊎ PrintsCause bus program most printed
 
--- What is printed is appended to `out` if there is a copy, else to `err`; the other stays as it is.
+-- What is printed is appended to `out` if the program is explained, else to `err`; the other stays as it is.
 pub record Appends (bus : Bus) (program : List ℕ) (most : ℕ) (copies : Bool)
     (out err new_out new_err : List ℕ) : Type 0 where
   pub printed : List ℕ

@@ -1,9 +1,9 @@
--- Which instructions of a program load and store an address (profile).
+-- Which instructions of a program load and store an address (profile). DMASTZ stores too.
 use Rattle.std.specs.Prelude.{ℕ, zero, suc, ◌+◌, ◌-◌, ◌++◌, ◌&&◌, nat_le, nat_lt, Bool, List, [], Option, Some, None, Result, Ok, Err, if◌then◌else◌, codes, decimal}
 use Rattle.std.specs.Option.{option_and, option_or}
 use Rattle.dma_text.specs.Digits.{hex_digits}
 use Rattle.dma_insn.specs.declared.chip.ChipInsn.{ChipInsn}
-use Rattle.dma_insn.specs.declared.chip.ChipInsn.TheVariants.{Ld, St}
+use Rattle.dma_insn.specs.declared.chip.ChipInsn.TheVariants.{Ld, St, StoreZeros}
 use Rattle.dma_chan.specs.declared.bus.Bus.{Bus}
 use Rattle.dma_chan.specs.declared.explain.Cause.{Cause}
 use Rattle.dma_chan.specs.declared.explain.Cause.TheVariants.{StoresTwice, StoresSource}
@@ -36,13 +36,18 @@ with_store access t = record t {
   second_store = option_and t.store (option_or t.second_store (Some access));
 }
 
+-- Adds a store by instruction number n, if it touches the address.
+abbrev pub after_store : ℕ → ℕ → Front → Touches → Touches
+after_store a n f t =
+    if has_addr (span_at (destination_of (registers_of f))) a then with_store (record { number = n; pc = f.pc }) t
+    else t
+
 -- Adds instruction number n, by the registers before it.
 abbrev pub after_touch : ChipInsn → ℕ → ℕ → Front → Touches → Touches
 after_touch Ld a n f t =
     if has_addr (span_at (source_of (registers_of f))) a then with_load (record { number = n; pc = f.pc }) t else t
-after_touch St a n f t =
-    if has_addr (span_at (destination_of (registers_of f))) a then with_store (record { number = n; pc = f.pc }) t
-    else t
+after_touch St a n f t = after_store a n f t
+after_touch StoreZeros a n f t = after_store a n f t
 after_touch i a n f t = t
 
 -- Adds an instruction that was fetched. A fault adds nothing.

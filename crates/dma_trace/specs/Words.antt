@@ -5,7 +5,7 @@ use Rattle.dma_text.specs.Digits.{hex_digits, hex_pair}
 use Rattle.dma_insn.specs.declared.chip.ChipInsn.{ChipInsn}
 use Rattle.dma_insn.specs.declared.chip.ChipInsn.TheVariants.{Mov}
 use Rattle.dma_insn.specs.ControlWord.{field}
-use Rattle.dma_manual.specs.ChipOnly.{chip_only_name}
+use Rattle.dma_manual.specs.ChipOnly.{chip_only_name, needs_chip_bus}
 use Rattle.dma_manual.specs.ManualText.{manual_text}
 use Rattle.dma_chan.specs.declared.bus.Bus.{Bus}
 use Rattle.dma_chan.specs.declared.explain.Cause.{Cause}
@@ -64,10 +64,15 @@ front_text f =
     (codes "SAR 0x" ++ hex_digits f.sar) ++ (codes " DAR 0x" ++ hex_digits f.dar)
     ++ (codes " LC0 " ++ decimal f.lc0 ++ codes " LC1 " ++ decimal f.lc1) ++ (codes " buffer " ++ decimal f.held)
 
--- The name of the chip's instruction that begins with this byte, if no channel of the model executes it. `first` below
--- is the first byte of the next instruction, if the program has one there.
+-- The name of the chip's instruction that begins with this byte, if no channel executes it on the ideal bus. `first`
+-- below is the first byte of the next instruction, if the program has one there.
 abbrev pub chip_only_at : Option ℕ → Option (List ℕ)
 chip_only_at first = option_and_then chip_only_name first
+
+-- whether a channel executes the instruction that begins with this byte on a chip's bus alone
+abbrev pub on_chip_bus : Option ℕ → Bool
+on_chip_bus (Some b) = needs_chip_bus b
+on_chip_bus None = false
 
 -- what the model has in place of an instruction, by the name of the chip's instruction
 abbrev pub absent_text : Option (List ℕ) → List ℕ
@@ -112,14 +117,17 @@ abbrev pub fetch_words : Result ChipInsn FaultKind → List ℕ
 fetch_words (Ok i) = codes "it jumps to before the program's start"
 fetch_words (Err kind) = codes "the program has no whole instruction here"
 
--- why an instruction is undefined, by the name of the chip's instruction
-abbrev pub undefined_words : Option (List ℕ) → List ℕ
-undefined_words (Some name) = codes "an instruction of the chip that no channel of this model executes"
-undefined_words None = codes "no instruction begins with this byte"
+-- why an instruction is undefined, by the name of the chip's instruction, and whether a channel executes it on a chip's
+-- bus
+abbrev pub undefined_words : Option (List ℕ) → Bool → List ℕ
+undefined_words (Some name) true =
+    codes "an instruction that a channel executes only on a chip's bus (--bus 32, 64 or 128)"
+undefined_words (Some name) false = codes "an instruction of the chip that no channel of this model executes"
+undefined_words None on_chip = codes "no instruction begins with this byte"
 
 -- What is wrong with an instruction that fails, by the registers and the buffer before it
 unfoldable pub fault_words : FaultKind → Option ℕ → Result ChipInsn FaultKind → Front → List ℕ
-fault_words UndefInstr first next f = undefined_words (chip_only_at first)
+fault_words UndefInstr first next f = undefined_words (chip_only_at first) (on_chip_bus first)
 fault_words OperandInvalid first next f = refused_words next f
 fault_words MfifoErr first next f =
     codes "the buffer holds " ++ bytes_text f.held ++ (codes ", the load adds " ++ decimal (burst_len (source_of (registers_of f))))
@@ -145,7 +153,6 @@ cause_text (causes.Fails kind) first next n f = fault_text kind first next f
 cause_text causes.LoadsPast first next n f = codes "the load ends above 2^32: " ++ span_text (span_at (source_of (registers_of f)))
 cause_text causes.StoresPast first next n f = codes "the store ends above 2^32: " ++ span_text (span_at (destination_of (registers_of f)))
 cause_text causes.StoresFixed first next n f = codes "the destination is fixed: each beat overwrites the one before"
-cause_text causes.StoresZeros first next n f = codes "it stores zeros, and nothing that was loaded"
 cause_text causes.DropsBytes first next n f = codes "a chip drops what the buffer holds: " ++ bytes_text f.held
 cause_text causes.BytesLeft first next n f = codes "left over in the buffer: " ++ bytes_text f.held
 cause_text causes.StoresTwice first next n f = codes "a byte is stored twice"

@@ -1,4 +1,4 @@
-//! What a program copies, as text.
+//! What a program copies and sets to 0, as text.
 #![tactic(auto, using(dma_text::proofs::Begun::begins_same, dma_text::proofs::Begun::begins_appended, dma_text::proofs::Begun::begins_more))]
 
 ghost use Rattle.std.specs.Prelude.{◌≡◌, ◌<◌, ◌≤◌, ◌++◌, ℕ, OnOk, OnErr, IfOk, flat_map, length};
@@ -7,7 +7,7 @@ ghost use Rattle.dma_chan.specs.Exec.{start_on};
 ghost use Rattle.dma_chan.specs.Explains.{GoesOn, next_in, traced};
 ghost use Rattle.dma_chan.specs.Next.{next_on};
 ghost use Rattle.dma_text.specs.Text.{Begins};
-ghost use Rattle.dma_trace.specs.Explained.{Appends, bursts_text, unexplained_text, destination_line, event_line, explained_text, source_line};
+ghost use Rattle.dma_trace.specs.Explained.{Appends, amounts_text, bursts_text, unexplained_text, event_line, explained_text, segment_line, source_line};
 ghost use Rattle.dma_trace.specs.Front.{front_at};
 ghost use Rattle.dma_trace.specs.Touches.{touches_in};
 
@@ -19,7 +19,9 @@ use crate::words::{LongProgram, Place, Point, State, Why, first_byte};
 use dma_chan::bus::Bus;
 use dma_chan::exec::Registers;
 use dma_chan::explain as runs;
-use dma_chan::explain::{BurstCounts, Cause, Explained, Happening, Repeated, Sync, Unexplained};
+use dma_chan::explain::{
+    Amounts, BurstCounts, Cause, Explained, Happening, Repeated, Sync, Unexplained,
+};
 use dma_chan::turn::FaultKind;
 use dma_insn::chip::{ChipInsn, decode_chip, decode_core};
 use dma_insn::codec::DecodeFault;
@@ -57,9 +59,9 @@ impl Text for Sources<'_> {
     }
 }
 
-// Appends the line of a segment that is written.
-fn push_destination(segment: Segment, out: &mut Vec<u8>) -> Result<(), AllocError>
-    ensures ok { OnOk result (out.new.items ≡ out.old.items ++ destination_line segment) }
+// Appends the line of a segment that is written, which begins with these words.
+fn push_segment(words: &str, segment: Segment, out: &mut Vec<u8>) -> Result<(), AllocError>
+    ensures ok { OnOk result (out.new.items ≡ out.old.items ++ segment_line words.now segment) }
     ensures begins { Begins out.new.items out.old.items }
 {
     let range = Range {
@@ -67,22 +69,41 @@ fn push_destination(segment: Segment, out: &mut Vec<u8>) -> Result<(), AllocErro
         len: segment.len,
         times: 1,
     };
-    ("  to ", range, "\n").push(out)
+    (words, range, "\n").push(out)
 }
 
-/// A line for each segment that is written.
+/// A line for each segment that is written, each of which begins with these words.
 #[derive(Drop)]
-struct Destinations<'a>(&'a [Segment]);
+struct Segments<'a> {
+    words: &'static str,
+    segments: &'a [Segment],
+}
 
-impl Text for Destinations<'_> {
-    ghost text = { λ destinations. flat_map destination_line destinations.0.now };
+impl Text for Segments<'_> {
+    ghost text = { λ all. flat_map (segment_line all.words.now) all.segments.now };
 
     fn push(&self, out: &mut Vec<u8>) -> Result<(), AllocError> {
-        let Destinations(segments) = *self;
+        let Segments { words, segments } = *self;
         for segment in segments {
-            push_destination(*segment, out)?;
+            push_segment(words, *segment, out)?;
         }
         Ok(())
+    }
+}
+
+/// How many bytes are copied, and how many are set to 0 if there are any.
+#[derive(Drop)]
+struct Done(Amounts);
+
+impl Text for Done {
+    ghost text = { λ done. amounts_text done.0 };
+
+    fn push(&self, out: &mut Vec<u8>) -> Result<(), AllocError> {
+        let Amounts { copied, cleared } = self.0;
+        if cleared == 0 {
+            return Bytes(copied).push(out);
+        }
+        (Bytes(copied), (" and ", Bytes(cleared), " of zeros")).push(out)
     }
 }
 
@@ -91,18 +112,13 @@ fn push_event(happening: Happening, out: &mut Vec<u8>) -> Result<(), AllocError>
     ensures ok { OnOk result (out.new.items ≡ out.old.items ++ event_line happening) }
     ensures begins { Begins out.new.items out.old.items }
 {
-    let stored = Bytes(happening.stored);
+    let done = Done(happening.done);
     match happening.sync {
         Sync::Waits(event) => {
-            (
-                "  after ",
-                stored,
-                (": ", ("waits for event ", event), "\n"),
-            )
-                .push(out)
+            ("  after ", done, (": ", ("waits for event ", event), "\n")).push(out)
         }
         Sync::Signals(event) => {
-            ("  after ", stored, (": ", ("signals event ", event), "\n")).push(out)
+            ("  after ", done, (": ", ("signals event ", event), "\n")).push(out)
         }
     }
 }
@@ -143,7 +159,7 @@ impl Text for Bursts<'_> {
     }
 }
 
-/// What a program copies.
+/// What a program copies and sets to 0.
 #[derive(Drop)]
 struct Copies<'a>(&'a Explained);
 
@@ -152,16 +168,24 @@ impl Text for Copies<'_> {
 
     fn push(&self, out: &mut Vec<u8>) -> Result<(), AllocError> {
         let Copies(explained) = *self;
-        let size = Bytes(explained.size);
+        let size = Bytes(explained.size.copied);
         let first = (
             "copies ",
             size,
             (", with ", Instructions(u64::from(explained.steps)), "\n"),
         );
         let sources = Sources(&explained.src);
-        let destinations = Destinations(&explained.dst);
+        let destinations = Segments {
+            words: "  to ",
+            segments: &explained.dst,
+        };
+        let zeros = Segments {
+            words: "  zeros ",
+            segments: &explained.zeros,
+        };
         let head = (first, Bursts(&explained.bursts));
-        (head, sources, destinations, Happenings(&explained.events)).push(out)
+        let ranges = (sources, destinations, zeros);
+        (head, ranges, Happenings(&explained.events)).push(out)
     }
 }
 
@@ -214,7 +238,7 @@ fn reached<P: Progress>(
     (front, touches)
 }
 
-// Appends why and where no copy explains a program.
+// Appends why and where nothing explains a program.
 fn print_cause<P: Progress>(
     program: &[u8],
     bus: Bus,
@@ -254,8 +278,8 @@ fn print_cause<P: Progress>(
     print(err, &(place, (why, conflict), state))
 }
 
-/// Explains a program on a bus, executing at most `most` instructions: appends to `out` what it copies for every
-/// memory, and returns whether it is a copy. If it isn't, appends to `err` why and where.
+/// Explains a program on a bus, executing at most `most` instructions: appends to `out` what it copies and sets to 0 for
+/// every memory, and returns whether it is explained. If it isn't, appends to `err` why and where.
 ///
 /// If memory runs out, it fails and appends nothing.
 pub fn explain<P: Progress>(

@@ -1,4 +1,4 @@
-//! Which instructions of a program load and store an address.
+//! Which instructions of a program load and store an address. DMASTZ stores too.
 #![tactic(auto, using(dma_text::proofs::Begun::begins_same, dma_text::proofs::Begun::begins_appended, dma_text::proofs::Begun::begins_more))]
 
 ghost use Rattle.std.specs.Prelude.{◌≡◌};
@@ -67,7 +67,7 @@ impl Touches {
                     self.add_load(access);
                 }
             }
-            ChipInsn::St => {
+            ChipInsn::St | ChipInsn::StoreZeros => {
                 if before.stores().has(addr) {
                     self.add_store(access);
                 }

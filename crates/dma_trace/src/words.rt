@@ -5,7 +5,7 @@ ghost use Rattle.std.specs.Prelude.{◌≡◌, ◌<◌, ◌++◌, OnOk, Result, 
 ghost use Rattle.std.specs.Option.{option_map};
 ghost use Rattle.dma_chan.specs.declared.turn.FaultKind.{FaultKind};
 ghost use Rattle.dma_text.specs.Text.{Begins};
-ghost use Rattle.dma_trace.specs.Words.{cause_text, chip_only_at, control_text, control_words, end_text, fault_name, fault_text, fault_words, fetch_words, front_text, long_text, next_text, operand_words, place_text, refused_words, state_text, undefined_words};
+ghost use Rattle.dma_trace.specs.Words.{cause_text, chip_only_at, control_text, control_words, end_text, fault_name, fault_text, fault_words, fetch_words, front_text, long_text, next_text, operand_words, on_chip_bus, place_text, refused_words, state_text, undefined_words};
 
 use crate::amounts::{Bytes, Instructions, Offset};
 use crate::front::Front;
@@ -13,7 +13,7 @@ use dma_chan::bus::Bus;
 use dma_chan::explain::Cause;
 use dma_chan::turn::FaultKind;
 use dma_insn::chip::ChipInsn;
-use dma_manual::chip_only::chip_only_name;
+use dma_manual::chip_only::{chip_only_name, needs_chip_bus};
 use dma_manual::manual::Manual;
 use dma_text::text::{Address, Text};
 use std::alloc::AllocError;
@@ -97,11 +97,21 @@ pub fn first_byte(program: &[u8], pc: u32) -> Option<u8>
     program.get(pc as usize).copied()
 }
 
-// Returns the name of the chip's instruction that begins with this byte, if no channel of the model executes it.
+// Returns the name of the chip's instruction that begins with this byte, if no channel executes it on the ideal bus.
 fn chip_only_at(first: Option<u8>) -> Option<&'static str>
     ensures { option_map (λ name. name.now) result ≡ chip_only_at first }
 {
     chip_only_name(first?)
+}
+
+// Returns whether a channel executes the instruction that begins with this byte on a chip's bus alone.
+fn on_chip_bus(first: Option<u8>) -> bool
+    ensures { result ≡ on_chip_bus first }
+{
+    match first {
+        Some(byte) => needs_chip_bus(byte),
+        None => false,
+    }
 }
 
 /// The next instruction, or that there is none, with its first byte.
@@ -186,9 +196,12 @@ fn fetch_words(ahead: &Result<ChipInsn, FaultKind>) -> &'static str
 
 // Returns why an instruction is undefined.
 fn undefined_words(first: Option<u8>) -> &'static str
-    ensures { result.now ≡ undefined_words (chip_only_at first) }
+    ensures { result.now ≡ undefined_words (chip_only_at first) (on_chip_bus first) }
 {
     match chip_only_at(first) {
+        Some(_) if on_chip_bus(first) => {
+            "an instruction that a channel executes only on a chip's bus (--bus 32, 64 or 128)"
+        }
         Some(_) => "an instruction of the chip that no channel of this model executes",
         None => "no instruction begins with this byte",
     }
@@ -282,7 +295,6 @@ impl Text for Why<'_> {
             Cause::StoresFixed => {
                 "the destination is fixed: each beat overwrites the one before".push(out)
             }
-            Cause::StoresZeros => "it stores zeros, and nothing that was loaded".push(out),
             Cause::DropsBytes => ("a chip drops what the buffer holds: ", held).push(out),
             Cause::BytesLeft => ("left over in the buffer: ", held).push(out),
             Cause::StoresTwice => "a byte is stored twice".push(out),
