@@ -62,25 +62,27 @@ static void fail_at(uint32_t channel, uint32_t offset, const char *why)
          why, (unsigned long)offset, text_of_instruction(channel, addr + offset, text));
 }
 
-/* Expects that a program uses only the ranges of running copies. */
-static void expect_range(uint32_t channel, uint32_t addr, uint32_t len, bool is_store)
+/* Expects that a program reads, stores or clears only ranges of running copies. */
+static void expect_range(uint32_t channel, uint32_t addr, uint32_t len, const char *does)
 {
+    bool is_store = strcmp(does, "reads") != 0;
+
     if (may_use(addr, len, is_store))
         return;
     fail("the program of channel %lu at 0x%08lX %s %lu bytes at 0x%08lX, which aren't inside a running copy's %s",
-         (unsigned long)channel, (unsigned long)machine.programs[channel].addr, is_store ? "stores" : "reads",
-         (unsigned long)len, (unsigned long)addr, is_store ? "destination" : "source");
+         (unsigned long)channel, (unsigned long)machine.programs[channel].addr, does, (unsigned long)len,
+         (unsigned long)addr, is_store ? "destination" : "source");
 }
 
 /* Expects that the library explains a program. Some causes are left to the comparison of bytes. */
 static void expect_explained(uint32_t channel)
 {
     static dma330_repeated src[MOST_RANGES];
-    static dma330_segment dst[MOST_RANGES];
-    static dma330_happening events[MOST_RANGES];
-    dma330_explanation found;
-    int32_t code = dma330_device_explain(&machine.device, (uint8_t)channel, MOST_INSTRUCTIONS, src, MOST_RANGES, dst,
-                                         MOST_RANGES, events, MOST_RANGES, &found);
+    static dma330_segment dst[MOST_RANGES], zeros[MOST_RANGES];
+    static dma330_moment events[MOST_RANGES];
+    dma330_work found;
+    int32_t code = dma330_device_explain_work(&machine.device, (uint8_t)channel, MOST_INSTRUCTIONS, src, MOST_RANGES,
+                                              dst, MOST_RANGES, zeros, MOST_RANGES, events, MOST_RANGES, &found);
 
     if (code == DMA330_UNEXPLAINED && found.cause != DMA330_CAUSE_STORES_TWICE &&
         found.cause != DMA330_CAUSE_STORES_SOURCE && found.cause != DMA330_CAUSE_STORES_FIXED)
@@ -88,9 +90,11 @@ static void expect_explained(uint32_t channel)
     if (code != DMA330_OK)
         return;
     for (size_t n = 0; n < found.src_len; n++)
-        expect_range(channel, src[n].addr, src[n].len, false);
+        expect_range(channel, src[n].addr, src[n].len, "reads");
     for (size_t n = 0; n < found.dst_len; n++)
-        expect_range(channel, dst[n].addr, dst[n].len, true);
+        expect_range(channel, dst[n].addr, dst[n].len, "stores");
+    for (size_t n = 0; n < found.zeros_len; n++)
+        expect_range(channel, zeros[n].addr, zeros[n].len, "clears");
 }
 
 void program_starts(uint32_t channel, uint32_t addr)

@@ -12,8 +12,8 @@
  * A call returns DMA330_OK, which is 0, or a negative code; dma330_status returns a state instead of DMA330_OK. A
  * call's comment lists its codes in the order in which they are tested; the first that applies is returned.
  * DMA330_NOT_OPEN comes before all others. A refused call, which returns a negative code, changes nothing and writes no
- * output, except `*place` where the code has a place, `*conflict` for DMA330_BUSY and DMA330_RUNNING, `*explanation` for
- * DMA330_UNEXPLAINED and DMA330_BUFFER_TOO_SMALL, and a device for DMA330_BAD_SAVE.
+ * output, except `*place` where the code has a place, `*conflict` for DMA330_BUSY and DMA330_RUNNING, `*explanation` and
+ * `*work` for DMA330_UNEXPLAINED and DMA330_BUFFER_TOO_SMALL, and a device for DMA330_BAD_SAVE.
  *
  * Further duties: 32 KiB of stack are free; no call comes from a signal handler or from the child of a fork of a program with
  * threads; malloc, realloc and free are one allocator. Addresses and lengths of segments have 32 bits, channels and events 8:
@@ -213,6 +213,29 @@ typedef struct dma330_explanation {
     uint32_t cause;        /* enum dma330_cause */
 } dma330_explanation;
 
+/* A DMAWFE or a DMASEV that a program executes, as dma330_explain_work writes it. Since 1.6.0. */
+typedef struct dma330_moment {
+    uint32_t kind;    /* enum dma330_happening_kind */
+    uint32_t event;
+    uint64_t copied;  /* the numbers of bytes that the program has copied, and set to 0, before it */
+    uint64_t cleared;
+} dma330_moment;
+
+/* What a program copies and sets to 0, or why nothing explains it. Since 1.6.0. */
+typedef struct dma330_work {
+    size_t src_len;     /* the numbers of items of the four lists, each 0 if there is a cause */
+    size_t dst_len;
+    size_t zeros_len;
+    size_t moments_len;
+    uint64_t copied;    /* the numbers of bytes that it copies, and sets to 0; 0 if there is a cause */
+    uint64_t cleared;
+    uint32_t steps;     /* as in dma330_explanation */
+    uint32_t pc;
+    uint32_t cause;     /* enum dma330_cause, never DMA330_CAUSE_STORES_ZEROS */
+    uint32_t addr;      /* of DMA330_CAUSE_STORES_TWICE the lowest address that is stored twice, of STORES_SOURCE the lowest
+                         * that is read and stored, else 0 */
+} dma330_work;
+
 /* What the last of some steps did: the member `turn` of a dma330_report, and of nothing else. A halted channel reports
  * DMA330_HALTED, paused or not; a paused one reports DMA330_PAUSED, whatever its next step is. */
 enum dma330_turn {
@@ -267,8 +290,8 @@ enum dma330_fault {
 
 enum dma330_happening_kind { DMA330_WAITS = 0, DMA330_SIGNALS = 1 };
 
-/* Why no copy explains a program. Causes 1 to 5 have the numbers of enum dma330_fault: in every memory the instruction
- * fails so. */
+/* Why nothing explains a program. Causes 1 to 5 have the numbers of enum dma330_fault: in every memory the instruction
+ * fails so. A DMASTZ is a store too. */
 enum dma330_cause {
     DMA330_CAUSE_NONE = 0,
     DMA330_CAUSE_UNDEF_INSTR = 1,
@@ -286,7 +309,8 @@ enum dma330_cause {
     DMA330_CAUSE_STORES_TWICE = 13,       /* at DMAEND a byte was stored twice */
     DMA330_CAUSE_STORES_SOURCE = 14,      /* at DMAEND a byte was stored at an address that was read */
     DMA330_CAUSE_NO_END = 15,             /* no DMAEND is among the first `most` instructions */
-    DMA330_CAUSE_STORES_ZEROS = 16        /* a DMASTZ, which stores zeros and no bytes that were loaded */
+    DMA330_CAUSE_STORES_ZEROS = 16        /* it also sets bytes to 0, by DMASTZ, for which this call has no list:
+                                           * dma330_explain_work explains it. Steps and pc are 0 */
 };
 
 /* The status of a channel, bits 3:0 of CSR (manual, channel status registers). A device of this library has those whose
@@ -372,7 +396,7 @@ enum dma330_code {
     DMA330_CUT_INSTRUCTION = -60,     /* disassembly: the bytes end within an instruction */
     DMA330_UNKNOWN_INSTRUCTION = -61, /* disassembly: no instruction begins with this byte */
     DMA330_BAD_FIELD = -62,           /* disassembly: a field is outside its range */
-    DMA330_UNEXPLAINED = -70          /* no copy explains the program; the explanation has the cause */
+    DMA330_UNEXPLAINED = -70          /* nothing explains the program; the explanation has the cause */
 };
 
 /* ---- names of numbers, for messages ---- */
@@ -720,8 +744,8 @@ int32_t dma330_device_write(dma330_device *device, uint32_t offset, uint32_t val
 int32_t dma330_device_step(dma330_device *device, uint8_t channel, uint32_t most, const dma330_region *regions,
                            size_t region_count, dma330_device_turn *turn) DMA330_NO_NULLS;
 
-/* Explains the program that a DMAGO loaded into a channel, as dma330_explain_from does on the device's bus: from its
- * first instruction on, wherever the channel is in it, with the registers that the channel has now. A DMAGO keeps the
+/* Explains the program that a DMAGO loaded into a channel, as dma330_explain does on the device's bus, but from the
+ * registers that the channel has now: from its first instruction on, wherever the channel is in it. A DMAGO keeps the
  * registers, so before the channel's first turn they are those with which the program begins. Later the answer is the
  * same if the program sets each register before it uses it. A channel has a program from the DMAGO until the DMAEND or a
  * DMAKILL, also while it waits or is faulting. After a restore nothing is promised of the channel's turns, since a save
@@ -730,6 +754,13 @@ int32_t dma330_device_step(dma330_device *device, uint8_t channel, uint32_t most
 int32_t dma330_device_explain(dma330_device *device, uint8_t channel, uint32_t most, dma330_repeated *src,
                               size_t src_room, dma330_segment *dst, size_t dst_room, dma330_happening *happenings,
                               size_t happenings_room, dma330_explanation *explanation) DMA330_NO_NULLS;
+
+/* Explains the same program with all that it does, as dma330_explain_work. Codes: those of dma330_device_explain. Since
+ * 1.6.0. */
+int32_t dma330_device_explain_work(dma330_device *device, uint8_t channel, uint32_t most, dma330_repeated *src,
+                                   size_t src_room, dma330_segment *dst, size_t dst_room, dma330_segment *zeros,
+                                   size_t zeros_room, dma330_moment *moments, size_t moments_room,
+                                   dma330_work *work) DMA330_NO_NULLS;
 
 /* Writes the lines irq[31:0]. A high line stays high until the guest clears its interrupt. */
 int32_t dma330_device_irqs(dma330_device *device, uint32_t *lines) DMA330_NO_NULLS;
@@ -793,22 +824,24 @@ int32_t dma330_run_program(const uint8_t *program, size_t len, uint8_t *memory, 
  * that is needed. Only DMA330_OK writes the lists, from their fronts.
  *
  * `most` bounds what a program of somebody else can cost. The time is proportional to the executed instructions, and at
- * the end the ranges that are stored are sorted. The call allocates up to 16 bytes for each executed DMAWFE and DMASEV,
- * 12 for a DMALD and 8 for a DMAST that doesn't continue the range before it, at the end 8 more for each range that is
- * stored, and up to three times that while a list grows; all is freed when it returns.
+ * the end the ranges that are stored are sorted. The call allocates up to 24 bytes for each executed DMAWFE and DMASEV,
+ * 12 for a DMALD and 8 for a DMAST or DMASTZ that doesn't continue the range before it, at the end 8 more for each range
+ * that is stored, and up to three times that while a list grows; all is freed when it returns.
  *
  * Codes: BAD_CONFIG for another bus, PROGRAM_TOO_LONG, NO_MEMORY, UNEXPLAINED, BUFFER_TOO_SMALL. */
 int32_t dma330_explain(const uint8_t *program, size_t len, uint32_t bus, uint32_t most, dma330_repeated *src,
                        size_t src_room, dma330_segment *dst, size_t dst_room, dma330_happening *happenings,
                        size_t happenings_room, dma330_explanation *explanation) DMA330_NO_NULLS;
 
-/* Explains in the same way a program that begins with the SAR, DAR, CCR, LC0 and LC1 of `start`, whose other members
- * aren't read: so a device's channel runs it, whose registers keep their values over a DMAGO. Codes: those of
- * dma330_explain, and BAD_CONFIG also for a CCR that no channel on the bus has. Since 1.6.0. */
-int32_t dma330_explain_from(const uint8_t *program, size_t len, uint32_t bus, const dma330_registers *start, uint32_t most,
+/* Explains a program with all that it does: also which bytes its DMASTZ set to 0 (`zeros`), in the order of the run. No
+ * byte is both copied and set to 0, or set to 0 twice, or read and set to 0. It begins with the SAR, DAR, CCR, LC0 and LC1
+ * of `start`, whose other members aren't read: so a device's channel runs it, whose registers keep their values over a
+ * DMAGO. Else it is as dma330_explain. Codes: those of dma330_explain, and BAD_CONFIG also for a CCR that no channel on
+ * the bus has. Since 1.6.0. */
+int32_t dma330_explain_work(const uint8_t *program, size_t len, uint32_t bus, const dma330_registers *start, uint32_t most,
                             dma330_repeated *src, size_t src_room, dma330_segment *dst, size_t dst_room,
-                            dma330_happening *happenings, size_t happenings_room,
-                            dma330_explanation *explanation) DMA330_NO_NULLS;
+                            dma330_segment *zeros, size_t zeros_room, dma330_moment *moments, size_t moments_room,
+                            dma330_work *work) DMA330_NO_NULLS;
 
 /* Writes the program of a copy, the one that dma330_channel_load_copy loads if `bus` is 0; else one for a device with a bus
  * of 32, 64 or 128 bits, which never moves a beat that is wider. DMA330_MAX_PROGRAM bytes are room for each program.
@@ -856,6 +889,8 @@ DMA330_ASSERT(repeated, sizeof(dma330_repeated) == 12 && offsetof(dma330_repeate
 DMA330_ASSERT(happening, sizeof(dma330_happening) == 16 && offsetof(dma330_happening, stored) == 8);
 DMA330_ASSERT(explanation, sizeof(dma330_explanation) == 48 && offsetof(dma330_explanation, size) == 24
               && offsetof(dma330_explanation, cause) == 40);
+DMA330_ASSERT(moment, sizeof(dma330_moment) == 24 && offsetof(dma330_moment, cleared) == 16);
+DMA330_ASSERT(work, sizeof(dma330_work) == 64 && offsetof(dma330_work, copied) == 32 && offsetof(dma330_work, addr) == 60);
 #undef DMA330_ASSERT
 
 #ifdef __cplusplus

@@ -18,7 +18,7 @@ void expect(const char *wrong, const char *what, uint32_t n)
 enum { MOST_STEPS = 20000 };
 
 /* Small programs of each form, which a change easily makes to read or store other bytes, or the same ones twice. */
-enum { LINUX = 4, VENDOR = 8, BOOT = 10, FILLS = 12, AT_THE_END = 14, BASES = 14 };
+enum { LINUX = 4, VENDOR = 8, BOOT = 10, FILLS = 12, AT_THE_END = 14, ZEROS = 16, BASES = 18 };
 
 static void write_base(program *p, uint32_t n)
 {
@@ -42,8 +42,15 @@ static void write_base(program *p, uint32_t n)
         if (n < BOOT)
             add_boot(p, shapes[n % 4], copy);
         add_fill(p, shapes[n % 4], (const uint32_t[]){from + 0x2040, to + 0x3000, 333});
-    } else {
+    } else if (n < AT_THE_END) {
         add_boot(p, shapes[n % 4], (const uint32_t[]){n % 2 ? high : from, n % 2 ? to : high, 1200});
+    } else {
+        if (n >= ZEROS)
+            add_vendor(p, shapes[n % 4], 1, copy);
+        add_zeros(p, shapes[n % 4], to + 1200, 600);
+        add_signal(p, 8);
+        add_zeros(p, shapes[(n + 1) % 4], to + 0x4000, 333);
+        add_signal(p, 9);
     }
     end_program(p);
 }
@@ -78,14 +85,14 @@ static void change(uint8_t *bytes, uint32_t len, uint32_t *seed)
         change_byte(&bytes[any(seed, len)], seed);
 }
 
-/* How many changed programs are explained, how many have each cause, and how many copies have too many ranges or bytes
- * to be run. */
-static unsigned long causes[DMA330_CAUSE_STORES_ZEROS + 1], too_large;
+/* How many changed programs are explained, how many have each cause, how many set bytes to 0, and how many have too many
+ * ranges or bytes to be run. */
+static unsigned long causes[DMA330_CAUSE_NO_END + 1], with_zeros, too_large;
 
 /* A program that isn't explained has a cause. The original's memory is lent. */
 static void check_cause(const program *p, uint32_t bus, const explained *original, uint32_t n)
 {
-    bool is_cause = e.cause > DMA330_CAUSE_NONE && e.cause <= DMA330_CAUSE_STORES_ZEROS;
+    bool is_cause = e.cause > DMA330_CAUSE_NONE && e.cause <= DMA330_CAUSE_NO_END;
     uint32_t place;
 
     check(e.code == DMA330_UNEXPLAINED && is_cause && strcmp(dma330_cause_name(e.cause), "?") != 0, "a cause", n);
@@ -103,12 +110,14 @@ static void check_changed(const program *p, uint32_t bus, const explained *origi
     uint32_t place, most = 1 + n % 300;
 
     explain(&e, p->bytes, p->len, bus, MOST_STEPS);
+    expect(explain_without_zeros(&e, p->bytes, p->len, bus, MOST_STEPS), "a changed program", n);
     if (e.code != DMA330_OK && e.code != DMA330_BUFFER_TOO_SMALL) {
         check_cause(p, bus, original, n);
         return;
     }
     check(e.cause == DMA330_CAUSE_NONE && e.pc == 0, "no cause", n);
     causes[DMA330_CAUSE_NONE]++;
+    with_zeros += e.is.zeros_len > 0;
     if (e.code == DMA330_BUFFER_TOO_SMALL || !lend_ranges(&e.is, p->bytes, p->len, &place)) {
         too_large++;
     } else if (bus == 0) {
@@ -126,7 +135,7 @@ void check_seeds(uint32_t first, uint32_t last)
 
     for (uint32_t k = 0; k < BASES; k++) {
         write_base(&bases[k], k);
-        explain(&originals[k], bases[k].bytes, bases[k].len, 0, bases[k].means.steps);
+        explain(&originals[k], bases[k].bytes, bases[k].len, k < AT_THE_END ? 0 : 128, bases[k].means.steps);
         check(is_meant(&originals[k], &bases[k].means), "an original", k);
     }
     for (uint32_t n = first; n <= last; n++)
@@ -142,8 +151,9 @@ void check_seeds(uint32_t first, uint32_t last)
 
 void print_causes(void)
 {
-    for (uint32_t n = 0; n <= DMA330_CAUSE_STORES_ZEROS; n++)
+    for (uint32_t n = 0; n <= DMA330_CAUSE_NO_END; n++)
         if (causes[n] > 0)
             printf("%8lu %s\n", causes[n], n == 0 ? "explained" : dma330_cause_name(n));
+    printf("%8lu explained with zeros\n", with_zeros);
     printf("%8lu explained, but not run: too many ranges or bytes\n", too_large);
 }

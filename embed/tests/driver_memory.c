@@ -20,7 +20,7 @@ typedef struct piece {
     bool is_written;
 } piece;
 
-static piece pieces[2 * MOST_ITEMS + 1];
+static piece pieces[3 * MOST_ITEMS + 1];
 static size_t piece_count;
 
 static void add_piece(uint32_t addr, uint64_t len, bool is_written)
@@ -112,12 +112,12 @@ static void fill_before(void)
     }
 }
 
-/* Makes the wanted bytes: what the sources are before the run, stored to the destinations. Returns whether both lists
- * have as many bytes as is explained. */
-static bool want_copied(const meaning *is)
+/* Makes the wanted bytes: what the sources are before the run, stored to the destinations, and zeros. Returns whether
+ * the lists have as many bytes as is explained. */
+static bool want_worked(const meaning *is)
 {
     static uint8_t moved[MOST_MOVED];
-    size_t size = 0, stored = 0;
+    size_t size = 0, stored = 0, cleared = 0;
 
     memcpy(wanted, before, used);
     for (size_t n = 0; n < is->src_len; n++)
@@ -133,7 +133,11 @@ static bool want_copied(const meaning *is)
         memcpy(wanted + at_address(is->dst[n].addr), moved + stored, is->dst[n].len);
         stored += is->dst[n].len;
     }
-    return size == is->size && stored == is->size;
+    for (size_t n = 0; n < is->zeros_len; n++) {
+        memset(wanted + at_address(is->zeros[n].addr), 0, is->zeros[n].len);
+        cleared += is->zeros[n].len;
+    }
+    return size == is->copied && stored == is->copied && cleared == is->cleared;
 }
 
 bool lend_ranges(const meaning *is, const uint8_t *bytes, size_t len, uint32_t *place)
@@ -143,29 +147,37 @@ bool lend_ranges(const meaning *is, const uint8_t *bytes, size_t len, uint32_t *
         add_piece(is->src[n].addr, is->src[n].len, false);
     for (size_t n = 0; n < is->dst_len; n++)
         add_piece(is->dst[n].addr, is->dst[n].len, true);
+    for (size_t n = 0; n < is->zeros_len; n++)
+        add_piece(is->zeros[n].addr, is->zeros[n].len, true);
     *place = free_place(len);
     add_piece(*place, len, false);
     join_pieces();
     memcpy(lent_program, bytes, len);
-    if (is->size > MOST_MOVED || !make_regions(*place))
+    if (is->copied > MOST_MOVED || is->cleared > MOST_MOVED || !make_regions(*place))
         return false;
     fill_before();
     return true;
 }
 
-bool has_stored(const meaning *is, uint64_t count)
+/* Returns whether this number of the first bytes of a list are as they should be, and the others as before the run. */
+static bool has_first(const dma330_segment *list, size_t len, uint64_t count)
 {
     bool has = true;
 
-    for (size_t n = 0; n < is->dst_len; n++) {
-        uint32_t len = is->dst[n].len, done = count < len ? (uint32_t)count : len;
-        size_t at = at_address(is->dst[n].addr);
+    for (size_t n = 0; n < len; n++) {
+        uint32_t done = count < list[n].len ? (uint32_t)count : list[n].len;
+        size_t at = at_address(list[n].addr);
 
         has = has && memcmp(memory + at, wanted + at, done) == 0;
-        has = has && memcmp(memory + at + done, before + at + done, len - done) == 0;
+        has = has && memcmp(memory + at + done, before + at + done, list[n].len - done) == 0;
         count -= done;
     }
-    return has;
+    return has && count == 0;
+}
+
+bool has_done(const meaning *is, uint64_t copied, uint64_t cleared)
+{
+    return has_first(is->dst, is->dst_len, copied) && has_first(is->zeros, is->zeros_len, cleared);
 }
 
 void forget_run(void)
@@ -176,7 +188,7 @@ void forget_run(void)
 bool begin_run(const meaning *is)
 {
     forget_run();
-    return want_copied(is);
+    return want_worked(is);
 }
 
 bool is_memory_wanted(void)

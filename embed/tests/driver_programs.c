@@ -85,16 +85,28 @@ static void add_moves(program *p, uint32_t loads, uint32_t stores)
 
 /* ---- what a program means ---- */
 
-/* Adds a range to the destinations, or lets the last one grow if this one continues it. */
-static void means_store(meaning *m, uint32_t addr, uint32_t len)
+/* Adds a range to a list, or lets the last one grow if this one continues it. */
+static void means_range(dma330_segment *list, size_t *count, uint32_t addr, uint32_t len)
 {
-    dma330_segment *last = m->dst_len > 0 ? &m->dst[m->dst_len - 1] : NULL;
+    dma330_segment *last = *count > 0 ? &list[*count - 1] : NULL;
 
-    m->size += len;
     if (last != NULL && (uint64_t)last->addr + last->len == addr)
         last->len += len;
     else
-        m->dst[m->dst_len++] = (dma330_segment){addr, len};
+        list[(*count)++] = (dma330_segment){addr, len};
+}
+
+/* Adds a range to the destinations, or to what is set to 0. */
+static void means_store(meaning *m, uint32_t addr, uint32_t len)
+{
+    m->copied += len;
+    means_range(m->dst, &m->dst_len, addr, len);
+}
+
+static void means_zeros(meaning *m, uint32_t addr, uint32_t len)
+{
+    m->cleared += len;
+    means_range(m->zeros, &m->zeros_len, addr, len);
 }
 
 /* Adds a range to the sources, or lets the last one grow, or be read once more, if this one continues or repeats it. */
@@ -116,9 +128,9 @@ static void means_copy(meaning *m, const uint32_t copy[3])
     means_store(m, copy[1], copy[2]);
 }
 
-static void means_happening(meaning *m, uint32_t kind, uint32_t event)
+static void means_moment(meaning *m, uint32_t kind, uint32_t event)
 {
-    m->happenings[m->happenings_len++] = (dma330_happening){kind, event, m->size};
+    m->moments[m->moments_len++] = (dma330_moment){kind, event, m->copied, m->cleared};
 }
 
 void begin_program(program *p)
@@ -136,13 +148,13 @@ void end_program(program *p)
 void add_wait(program *p, uint32_t event)
 {
     add_two(p, DMAWFE, event << 3);
-    means_happening(&p->means, DMA330_WAITS, event);
+    means_moment(&p->means, DMA330_WAITS, event);
 }
 
 void add_signal(program *p, uint32_t event)
 {
     add_two(p, DMASEV, event << 3);
-    means_happening(&p->means, DMA330_SIGNALS, event);
+    means_moment(&p->means, DMA330_SIGNALS, event);
 }
 
 /* ---- Linux's form ---- */
@@ -288,6 +300,35 @@ void add_fill(program *p, shape s, const uint32_t copy[3])
     means_store(&p->means, copy[1], copy[2]);
 }
 
+/* Adds bursts of zeros of one shape, in a loop, or in one in another for more than 256. */
+static void add_zero_bursts(program *p, shape s, uint32_t bursts)
+{
+    if (bursts > 0)
+        add_control(p, s, true);
+    while (bursts > 0) {
+        uint32_t outer = bursts / 256 < 256 ? bursts / 256 : 256, inner = bursts < 256 ? bursts : 256;
+
+        if (bursts > 256)
+            begin_loop(p, 0, outer);
+        begin_loop(p, 1, inner);
+        bursts -= bursts > 256 ? outer * inner : inner;
+        add(p, DMASTZ);
+        while (p->depth > 0)
+            end_loop(p);
+    }
+}
+
+void add_zeros(program *p, shape s, uint32_t to, uint32_t len)
+{
+    uint32_t rest = len % (s.beat * s.beats);
+
+    add_move(p, TO_DAR, to);
+    add_zero_bursts(p, s, len / (s.beat * s.beats));
+    add_zero_bursts(p, (shape){s.beat, 1}, rest / s.beat);
+    add_zero_bursts(p, (shape){1, 1}, rest % s.beat);
+    means_zeros(&p->means, to, len);
+}
+
 /* ---- the manual's form ---- */
 
 static void add_loop(program *p, uint32_t times, uint32_t loads, uint32_t stores)
@@ -368,13 +409,13 @@ bool write_plan(program *p, uint32_t bus, const dma330_segment *src, size_t src_
 
     begin_program(p);
     if (wait >= 0)
-        means_happening(&p->means, DMA330_WAITS, (uint32_t)wait);
+        means_moment(&p->means, DMA330_WAITS, (uint32_t)wait);
     for (size_t n = 0; n < src_len; n++)
         means_load(&p->means, src[n].addr, src[n].len, 1);
     for (size_t n = 0; n < dst_len; n++)
         means_store(&p->means, dst[n].addr, dst[n].len);
     if (signal >= 0)
-        means_happening(&p->means, DMA330_SIGNALS, (uint32_t)signal);
+        means_moment(&p->means, DMA330_SIGNALS, (uint32_t)signal);
     allocations_left = 1000;
     code = dma330_plan(src, src_len, dst, dst_len, wait, signal, bus, p->bytes, sizeof p->bytes, &len);
     return has_made(p, code, len, bus);

@@ -8,8 +8,43 @@
 
 enum { ALLOCATIONS = 1000000 };
 
+static bool has_same_ranges(const dma330_segment *a, const dma330_segment *b, size_t count)
+{
+    bool is_same = true;
+
+    for (size_t n = 0; n < count; n++)
+        is_same = is_same && a[n].addr == b[n].addr && a[n].len == b[n].len;
+    return is_same;
+}
+
+static bool has_same_lists(const meaning *a, const meaning *b)
+{
+    bool is_same = a->src_len == b->src_len && a->dst_len == b->dst_len && a->zeros_len == b->zeros_len &&
+                   a->moments_len == b->moments_len && has_same_ranges(a->dst, b->dst, a->dst_len) &&
+                   has_same_ranges(a->zeros, b->zeros, a->zeros_len);
+
+    for (size_t n = 0; is_same && n < a->src_len; n++)
+        is_same = a->src[n].addr == b->src[n].addr && a->src[n].len == b->src[n].len && a->src[n].times == b->src[n].times;
+    for (size_t n = 0; is_same && n < a->moments_len; n++)
+        is_same = a->moments[n].kind == b->moments[n].kind && a->moments[n].event == b->moments[n].event &&
+                  a->moments[n].copied == b->moments[n].copied && a->moments[n].cleared == b->moments[n].cleared;
+    return is_same;
+}
+
+static bool has_same_numbers(const meaning *a, const meaning *b)
+{
+    return a->copied == b->copied && a->cleared == b->cleared && a->steps == b->steps;
+}
+
+/* Whether both calls say the same. Lists that had no room aren't written. */
+static bool is_same(const explained *e, const explained *f)
+{
+    return e->code == f->code && e->cause == f->cause && e->pc == f->pc && has_same_numbers(&e->is, &f->is) &&
+           (e->code == DMA330_BUFFER_TOO_SMALL || has_same_lists(&e->is, &f->is));
+}
+
 /* Keeps what a call wrote besides the lists. */
-static void keep(explained *e, int32_t code, const dma330_explanation *x)
+static void keep(explained *e, int32_t code, const dma330_work *x)
 {
     allocations_left = 0;
     e->code = code;
@@ -17,46 +52,58 @@ static void keep(explained *e, int32_t code, const dma330_explanation *x)
     e->pc = x->pc;
     e->is.src_len = x->src_len;
     e->is.dst_len = x->dst_len;
-    e->is.happenings_len = x->happenings_len;
-    e->is.size = x->size;
+    e->is.zeros_len = x->zeros_len;
+    e->is.moments_len = x->moments_len;
+    e->is.copied = x->copied;
+    e->is.cleared = x->cleared;
     e->is.steps = x->steps;
 }
 
+static const dma330_work no_work = {0, 0, 0, 0, 0, 0, 0, 0, 0, 0};
+
 void explain(explained *e, const uint8_t *bytes, size_t len, uint32_t bus, uint32_t most)
 {
-    dma330_explanation x = {0, 0, 0, 0, 0, 0, 0};
+    static const dma330_registers start = {0, 0, 0, 0, 0, 0, 0, 0, 0};
+    dma330_work x = no_work;
     int32_t code;
 
     allocations_left = ALLOCATIONS;
-    code = dma330_explain(bytes, len, bus, most, e->is.src, MOST_ITEMS, e->is.dst, MOST_ITEMS, e->is.happenings, MOST_ITEMS,
-                          &x);
+    code = dma330_explain_work(bytes, len, bus, &start, most, e->is.src, MOST_ITEMS, e->is.dst, MOST_ITEMS, e->is.zeros,
+                               MOST_ITEMS, e->is.moments, MOST_ITEMS, &x);
     keep(e, code, &x);
 }
 
-static bool has_same_lists(const meaning *a, const meaning *b)
+const char *explain_without_zeros(const explained *e, const uint8_t *bytes, size_t len, uint32_t bus, uint32_t most)
 {
-    bool is_same = a->src_len == b->src_len && a->dst_len == b->dst_len && a->happenings_len == b->happenings_len;
+    static explained other;
+    static dma330_happening happenings[MOST_ITEMS];
+    dma330_explanation x = {0, 0, 0, 0, 0, 0, 0};
+    dma330_work as_work = no_work;
+    int32_t code;
 
-    for (size_t n = 0; is_same && n < a->src_len; n++)
-        is_same = a->src[n].addr == b->src[n].addr && a->src[n].len == b->src[n].len && a->src[n].times == b->src[n].times;
-    for (size_t n = 0; is_same && n < a->dst_len; n++)
-        is_same = a->dst[n].addr == b->dst[n].addr && a->dst[n].len == b->dst[n].len;
-    for (size_t n = 0; is_same && n < a->happenings_len; n++)
-        is_same = a->happenings[n].kind == b->happenings[n].kind && a->happenings[n].event == b->happenings[n].event &&
-                  a->happenings[n].stored == b->happenings[n].stored;
-    return is_same;
+    allocations_left = ALLOCATIONS;
+    code = dma330_explain(bytes, len, bus, most, other.is.src, MOST_ITEMS, other.is.dst, MOST_ITEMS, happenings, MOST_ITEMS,
+                          &x);
+    if (e->is.zeros_len > 0)
+        return code == DMA330_UNEXPLAINED && x.cause == DMA330_CAUSE_STORES_ZEROS && x.pc == 0 && x.steps == 0 &&
+               x.size == 0 ? NULL : "zeros aren't refused";
+    as_work.src_len = x.src_len;
+    as_work.dst_len = x.dst_len;
+    as_work.moments_len = x.happenings_len;
+    as_work.copied = x.size;
+    as_work.steps = x.steps;
+    as_work.pc = x.pc;
+    as_work.cause = x.cause;
+    for (size_t n = 0; code == DMA330_OK && n < x.happenings_len; n++)
+        other.is.moments[n] = (dma330_moment){happenings[n].kind, happenings[n].event, happenings[n].stored, 0};
+    keep(&other, code, &as_work);
+    return is_same(&other, e) ? NULL : "the call without zeros says something else";
 }
 
 bool is_meant(const explained *e, const meaning *means)
 {
-    return e->code == DMA330_OK && e->cause == DMA330_CAUSE_NONE && e->pc == 0 && e->is.size == means->size &&
-           e->is.steps == means->steps && has_same_lists(&e->is, means);
-}
-
-static bool is_same(const explained *e, const explained *f)
-{
-    return e->code == f->code && e->cause == f->cause && e->pc == f->pc && e->is.size == f->is.size &&
-           e->is.steps == f->is.steps && has_same_lists(&e->is, &f->is);
+    return e->code == DMA330_OK && e->cause == DMA330_CAUSE_NONE && e->pc == 0 && has_same_numbers(&e->is, means) &&
+           has_same_lists(&e->is, means);
 }
 
 /* Returns NULL, or what is wrong after a run that executed this number of instructions and stored this number of bytes.
@@ -65,7 +112,7 @@ static const char *end_run(const explained *e, uint32_t taken, uint64_t stored)
 {
     if (taken != e->is.steps)
         return "another number of steps";
-    if (stored != e->is.size)
+    if (stored != e->is.copied + e->is.cleared)
         return "another number of bytes is stored";
     return is_memory_wanted() ? NULL : "other bytes in memory";
 }
@@ -87,10 +134,10 @@ static bool load(const uint8_t *bytes, size_t len)
 /* Returns whether a wait or a signal is explained, and as many bytes are stored as is explained. */
 static bool is_explained(const explained *e, size_t n, uint32_t kind, uint32_t event, uint64_t stored)
 {
-    const dma330_happening *is = &e->is.happenings[n];
+    const dma330_moment *is = &e->is.moments[n];
 
-    return n < e->is.happenings_len && is->kind == kind && is->event == event && is->stored == stored &&
-           has_stored(&e->is, stored);
+    return n < e->is.moments_len && is->kind == kind && is->event == event && is->copied == stored && is->cleared == 0 &&
+           has_done(&e->is, stored, 0);
 }
 
 const char *run_on_channel(const explained *e, const uint8_t *bytes, size_t len, uint32_t most)
@@ -118,7 +165,7 @@ const char *run_on_channel(const explained *e, const uint8_t *bytes, size_t len,
             return "another wait or signal";
         flags = waits ? 1u << r.event : 0; /* each wait is seen, since nothing else sets a flag */
     }
-    return happened == e->is.happenings_len ? end_run(e, now.taken, now.stored) : "a wait or signal is missing";
+    return happened == e->is.moments_len ? end_run(e, now.taken, now.stored) : "a wait or signal is missing";
 }
 
 /* Returns whether a cause is what the next step shows. */
@@ -173,11 +220,11 @@ static uint32_t interrupts_of(const meaning *is)
 {
     uint32_t waits = 0, signals = 0;
 
-    for (size_t n = 0; n < is->happenings_len; n++)
-        if (is->happenings[n].kind == DMA330_WAITS)
-            waits |= 1u << is->happenings[n].event;
+    for (size_t n = 0; n < is->moments_len; n++)
+        if (is->moments[n].kind == DMA330_WAITS)
+            waits |= 1u << is->moments[n].event;
         else
-            signals |= 1u << is->happenings[n].event;
+            signals |= 1u << is->moments[n].event;
     return signals & ~waits;
 }
 
@@ -226,13 +273,13 @@ const char *explain_on_device(const explained *e, uint32_t place, uint32_t bus, 
 {
     static explained same;
     machine *m = machine_of(bus);
-    dma330_explanation x = {0, 0, 0, 0, 0, 0, 0};
+    dma330_work x = no_work;
     int32_t code;
 
     start(m, 0, place);
     allocations_left = ALLOCATIONS;
-    code = dma330_device_explain(&m->device, 0, most, same.is.src, MOST_ITEMS, same.is.dst, MOST_ITEMS, same.is.happenings,
-                                 MOST_ITEMS, &x);
+    code = dma330_device_explain_work(&m->device, 0, most, same.is.src, MOST_ITEMS, same.is.dst, MOST_ITEMS, same.is.zeros,
+                                      MOST_ITEMS, same.is.moments, MOST_ITEMS, &x);
     keep(&same, code, &x);
     return is_same(&same, e) ? NULL : "the device's explanation is another one";
 }
@@ -240,29 +287,33 @@ const char *explain_on_device(const explained *e, uint32_t place, uint32_t bus, 
 /* Which of the signals that are explained were seen as interrupts. */
 static bool was_seen[MOST_ITEMS];
 
-/* Finds the signals that the interrupts after a turn are: after a DMASEV it took at most one step, so it stored at most
- * 256 bytes. Returns whether each interrupt is one of them, and the bytes that the channel counts are stored. */
+/* Finds the signals that the interrupts after a turn are: after a DMASEV it took at most one step, so it copied, or set
+ * to 0, at most 256 bytes. Returns whether each interrupt is one of them, and the bytes that the channel counts are
+ * stored. */
 static bool sees(const meaning *is, uint32_t lines, uint64_t count)
 {
     uint32_t left = lines;
+    bool has = false;
 
-    for (size_t n = 0; n < is->happenings_len; n++) {
-        const dma330_happening *h = &is->happenings[n];
+    for (size_t n = 0; n < is->moments_len; n++) {
+        const dma330_moment *h = &is->moments[n];
+        uint64_t more = count - h->copied - h->cleared;
 
-        if (h->kind == DMA330_SIGNALS && (lines >> h->event & 1) != 0 && h->stored <= count && count - h->stored <= 256) {
+        if (h->kind == DMA330_SIGNALS && (lines >> h->event & 1) != 0 && h->copied + h->cleared <= count && more <= 256) {
             was_seen[n] = true;
             left &= ~(1u << h->event);
+            has = has || has_done(is, h->copied + more, h->cleared) || has_done(is, h->copied, h->cleared + more);
         }
     }
-    return left == 0 && has_stored(is, count);
+    return left == 0 && has;
 }
 
 static bool has_seen_all(const meaning *is, uint32_t interrupts)
 {
     bool has = true;
 
-    for (size_t n = 0; n < is->happenings_len; n++)
-        has = has && (was_seen[n] || (interrupts >> is->happenings[n].event & 1) == 0);
+    for (size_t n = 0; n < is->moments_len; n++)
+        has = has && (was_seen[n] || (interrupts >> is->moments[n].event & 1) == 0);
     return has;
 }
 

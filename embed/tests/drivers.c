@@ -27,6 +27,7 @@ static void check_on_bus(uint32_t bus, const char *what, uint32_t n)
     uint32_t place, most = 1 + (n * 7 + bus) % 5000, len = p.len + n % 9;
 
     explain(&e, p.bytes, len, bus, p.means.steps);
+    expect(explain_without_zeros(&e, p.bytes, len, bus, p.means.steps), what, n);
     if (bus != 0 && 8 * p.widest > bus) {
         check(e.code == DMA330_UNEXPLAINED && e.cause == DMA330_CAUSE_OPERAND_INVALID && e.is.src_len == 0, what, n);
         return;
@@ -159,6 +160,32 @@ static void boots(void)
     }
 }
 
+/* A boot loader clears memory by DMASTZ, which only devices have: alone, and behind a copy and its signal. */
+static void clears(void)
+{
+    static const uint32_t sizes[] = {1, 15, 16, 255, 256, 257, 1000, 4096, 65535, 65536, 65537, MIB, 2 * MIB + 5};
+
+    for (uint32_t n = 0; n < sizeof sizes / sizeof sizes[0]; n++) {
+        const shape s = {4u << n % 3, 16 >> n % 2};
+        const uint32_t copy[3] = {from, to, 1 + sizes[n] % 1000};
+
+        for (uint32_t k = 1; k < sizeof buses / sizeof buses[0]; k++) {
+            begin_program(&p);
+            add_zeros(&p, s, to + 16 * n, sizes[n]);
+            add_signal(&p, n);
+            end_program(&p);
+            check_on_bus(buses[k], "zeros", n);
+            begin_program(&p);
+            add_zeros(&p, s, to + 4 * MIB, sizes[n]);
+            add_boot(&p, s, copy);
+            add_signal(&p, n);
+            add_zeros(&p, s, to + 0x1000, 16 + 16 * n);
+            end_program(&p);
+            check_on_bus(buses[k], "zeros beside a copy", n);
+        }
+    }
+}
+
 /* Explains a program that the library made, and runs it, on a channel, and on the buses from its own on. */
 static void check_plan(bool is_made, uint32_t bus, const char *what, uint32_t n)
 {
@@ -218,6 +245,7 @@ static void check_drivers(void)
             check_on_bus(bus, "the manual's", n);
         }
     boots();
+    clears();
     for (uint32_t n = 0; n < 60; n++)
         boots_by_plan(n);
     goes_to_the_ends();

@@ -13,13 +13,13 @@
 
 enum { MOST_ITEMS = 1024 };
 
-/* What a program reads, stores, waits for and signals, as dma330_explain writes it. */
+/* What a program reads, stores, sets to 0, waits for and signals, as dma330_explain_work writes it. */
 typedef struct meaning {
     dma330_repeated src[MOST_ITEMS];
-    dma330_segment dst[MOST_ITEMS];
-    dma330_happening happenings[MOST_ITEMS];
-    size_t src_len, dst_len, happenings_len;
-    uint64_t size;
+    dma330_segment dst[MOST_ITEMS], zeros[MOST_ITEMS];
+    dma330_moment moments[MOST_ITEMS];
+    size_t src_len, dst_len, zeros_len, moments_len;
+    uint64_t copied, cleared;
     uint32_t steps;
 } meaning;
 
@@ -69,6 +69,10 @@ void add_boot(program *p, shape s, const uint32_t copy[3]);
 /* Adds a fill: a beat at a fixed address is read again and again, and a rest of bytes at the same address. */
 void add_fill(program *p, shape s, const uint32_t copy[3]);
 
+/* Adds zeros as a boot loader writes them, by DMASTZ, which only a device has: loops of whole bursts, of single beats
+ * and of bytes. The address is a multiple of the beat. */
+void add_zeros(program *p, shape s, uint32_t to, uint32_t len);
+
 /* The manual's examples of how the buffer is used, on a bus of 64 bits or more. From DESTINATION_UNALIGNED on, an
  * address is no multiple of the beat's size: the bus shortens the first burst, and the rest of its bytes comes at the
  * end, after a DMAMOV CCR that keeps what the buffer holds. */
@@ -104,8 +108,9 @@ bool lend_ranges(const meaning *is, const uint8_t *bytes, size_t len, uint32_t *
 void forget_run(void);
 bool begin_run(const meaning *is);
 
-/* Returns whether the first `count` bytes of the destinations are as they should be, and the others as before the run. */
-bool has_stored(const meaning *is, uint64_t count);
+/* Returns whether these numbers of the first bytes of the destinations, and of what is set to 0, are as they should be,
+ * and the others as before the run. */
+bool has_done(const meaning *is, uint64_t copied, uint64_t cleared);
 
 /* Returns whether all bytes are as they should be, also those beside the regions. */
 bool is_memory_wanted(void);
@@ -115,7 +120,7 @@ bool is_memory_wanted(void);
 /* Explains programs, and compares what they do with what is explained, on a channel and on a device, over the memory
  * above. */
 
-/* What dma330_explain returned and wrote. */
+/* What dma330_explain_work returned and wrote. */
 typedef struct explained {
     int32_t code;
     uint32_t cause, pc;
@@ -124,6 +129,9 @@ typedef struct explained {
 
 /* Explains a program on a bus of this many bits, 0 for a channel. */
 void explain(explained *e, const uint8_t *bytes, size_t len, uint32_t bus, uint32_t most);
+
+/* Returns NULL if dma330_explain says the same of this program, or refuses it for its zeros; or what is otherwise. */
+const char *explain_without_zeros(const explained *e, const uint8_t *bytes, size_t len, uint32_t bus, uint32_t most);
 
 /* Returns whether a program is explained, as its author means it. */
 bool is_meant(const explained *e, const meaning *means);

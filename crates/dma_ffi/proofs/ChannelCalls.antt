@@ -1,12 +1,13 @@
 -- Calls from C that load a transfer into a channel and step it.
-use Rattle.std.proofs.Common.{◌≡◌, ◌≢◌, ℕ, zero, suc, ◌+◌, ◌-◌, ◌<◌, Bool, true, false, ◌||◌, List, [], ◌∷◌, ◌++◌, length, take, Option, Some, None, refl, sym, ap, ◌∙◌, subst, arith, inl, inr}
+use Rattle.std.proofs.Common.{◌≡◌, ◌≢◌, ℕ, zero, suc, ◌+◌, ◌-◌, ◌<◌, ◌≤◌, Bool, true, false, ◌||◌, List, [], ◌∷◌, ◌++◌, length, take, Option, Some, None, refl, sym, ap, ◌∙◌, subst, arith, inl, inr}
 use Rattle.std.specs.Prelude.{IsSome}
-use Rattle.std.specs.List.{list_any}
+use Rattle.std.specs.List.{Contains, list_any}
 use Rattle.std.proofs.Math.Bool.{or-false}
 use Rattle.std.proofs.lemmas.Bool.{le-ltb}
 use Rattle.std.proofs.lemmas.List.{append-nil}
 use Rattle.dma_insn.specs.AssemblyText.{most_program_bytes}
-use Rattle.dma_mem.specs.Places.{Descriptor, copying, filling}
+use Rattle.dma_mem.specs.Marking.{MarkList}
+use Rattle.dma_mem.specs.Places.{Descriptor, copying, destinations, filling}
 use Rattle.dma_mem.specs.Refusals.{refusal_of, refusal_of_fill}
 use Rattle.dma_mem.specs.Regions.{Piece, bytes_above, end_of, has, in_order, pieces_of, rises_from, run_from}
 use Rattle.dma_mem.specs.Rules.{IsTransfer}
@@ -20,8 +21,9 @@ use Rattle.dma_chan.specs.Channel.{ChannelValue}
 use Rattle.dma_chan.specs.Changes as chan
 use Rattle.dma_chan.specs.Compiled.{compiled, cost}
 use Rattle.dma_chan.specs.Exec.{start_on}
-use Rattle.dma_chan.specs.Explains.{Explains, HasEvents, IsLoadedWith}
-use Rattle.dma_chan.specs.Others.{Misses}
+use Rattle.dma_chan.specs.Explains.{Explains, HasEvents, IsLoadedWith, IsSignal, Work, cleared, only, written}
+use Rattle.dma_chan.specs.Others.{Misses, MissesAll, Touches, Uses}
+use Rattle.dma_chan.specs.declared.explain.Amounts.{Amounts}
 use Rattle.dma_chan.specs.Stepping.{Wrote}
 use Rattle.dma_chan.specs.Written.{KeepsOutside, LiesIn}
 use Rattle.dma_chan.specs.declared.lent.Taken.{Taken}
@@ -38,7 +40,7 @@ use Rattle.dma_chan.proofs.StepsTaken.{steps_move}
 use Rattle.dma_chan.proofs.SteppedOver.{writes_each}
 use Rattle.dma_ffi.specs.declared.channel_steps.ChannelReport.{ChannelReport}
 use Rattle.dma_ffi.specs.declared.marked_channel.MarkedChannel.{MarkedChannel}
-use Rattle.dma_ffi.specs.ChannelLaws.{HasCopied, HasTransfer, IsMade, KeepsEvents, LoadsATransfer, StepCall, StepsCopy, StepsAreCalls, StepsKeepTheRest, StepsSinceLoad, channel_of, machine_of, marked_of, marks_in, memory_of}
+use Rattle.dma_ffi.specs.ChannelLaws.{HasCopied, HasTransfer, IsMade, KeepsEvents, LoadsATransfer, StepCall, StepsCopy, StepsAreCalls, StepsKeepTheRest, StepsSinceLoad, channel_of, machine_of, marked_of, marks_in, memory_of, copied as copied_bytes}
 use Rattle.dma_ffi.specs.Channels.{LoadsFrom, LoadsTransfer, StepsOver, marks_over, report_of}
 use Rattle.dma_ffi.specs.Codes.{ok_code, transfer_code}
 
@@ -185,11 +187,32 @@ steps_keep_the_rest call made = record {
   refused = λ bad. was_refused call bad made;
 }
 
+-- ---- a copy alone
+
+only_none : (t : Descriptor) (a : ℕ) → ¬ Contains (cleared (only t)) a
+only_none t a i = grind arith
+
+only_touched : (t : Descriptor) (a : ℕ) → Uses (only t) a → Touches t a
+only_touched t a (inl touches) = touches
+only_touched t a (inr i) = absurd (only_none t a i)
+
+only_written : (t : Descriptor) (a : ℕ) → Contains (written (only t)) a → Contains (destinations t) a
+only_written t a i = rw append-nil at i
+
+only_missed : (t : Descriptor) (marks : MarkList) → Misses marks t → MissesAll marks (only t)
+only_missed t marks none = record { copy = none; zeros = λ a i. absurd (only_none t a i) }
+
+only_done : (d : Amounts) (n : ℕ) → n ≡ d.copied + d.cleared → d.cleared ≤ 0 → d ≡ copied_bytes n
+only_done d n e le = grind arith
+
 module _ (program : List ℕ) (last_number : ℕ) (t : Descriptor) (count : ℕ) (calls : ℕ → StepCall) (run : StepsSinceLoad program last_number t count calls) where
+  abbrev w : Work
+  w = only t
+
   abbrev first : List ℕ
   first = memory_of (calls 0).lent
 
-  explains : Explains (start_on Ideal) program t last_number
+  explains : Explains (start_on Ideal) program w last_number
   explains = run.begins.explains
 
   does : (k : ℕ) → k < count → Took (calls k)
@@ -198,10 +221,10 @@ module _ (program : List ℕ) (last_number : ℕ) (t : Descriptor) (count : ℕ)
   ordered : (k : ℕ) → k < count → in_order (pieces_of (calls k).lent.regions) ≡ true
   ordered k l = ordered_in (calls k) (does k l)
 
-  below : (k : ℕ) → k < count → Fits t (length (memory_of (calls k).lent))
+  below : (k : ℕ) → k < count → Fits w (length (memory_of (calls k).lent))
   below k l = λ a i. omega (arith, ends_after 0 (pieces_of (calls k).lent.regions) a (ordered k l) ((run.have k l).touched a i))
 
-  first_below : (k : ℕ) → k < count → Fits t (length first)
+  first_below : (k : ℕ) → k < count → Fits w (length first)
   first_below k l = below 0 (omega arith)
 
   abbrev the_call : (k : ℕ) → k < count → chan.Call
@@ -210,40 +233,43 @@ module _ (program : List ℕ) (last_number : ℕ) (t : Descriptor) (count : ℕ)
   does_it : (k : ℕ) (l : k < count) → chan.DoesCall (the_call k l)
   does_it k l = does_call 0 (calls k) (does k l)
 
-  along : (k : ℕ) → k < count → Runs (start_on Ideal) program t last_number first (machine_of (calls k).lent)
-  along zero l = at_first (start_on Ideal) program t last_number first (machine_of (calls 0).lent) (first_below 0 l) run.begins.loaded refl
+  along : (k : ℕ) → k < count → Runs (start_on Ideal) program w last_number first (machine_of (calls k).lent)
+  along zero l = at_first (start_on Ideal) program w last_number first (machine_of (calls 0).lent) (first_below 0 l) run.begins.loaded refl
   along (suc k) l =
       let e : k + 1 ≡ suc k = omega arith in
       let less : k + 1 < count = omega arith in
       let here : k < count = omega arith in
-      let led = leads (start_on Ideal) program t last_number first explains (first_below k here) (the_call k here) (along k here) (does_it k here) in
+      let led = leads (start_on Ideal) program w last_number first explains (first_below k here) (the_call k here) (along k here) (does_it k here) in
       let some : IsSome (channel_of (calls k).left).program = subst (λ (c : ChannelValue). IsSome c.program) (run.goes_on k less) (does_it (k + 1) less).is_loaded in
-      subst (λ (j : ℕ). Runs (start_on Ideal) program t last_number first (machine_of (calls j).lent)) e
-      (survived (start_on Ideal) program t last_number first (machine_of (calls k).left) (machine_of (calls (k + 1)).lent) (goes (start_on Ideal) program t last_number first (the_call k here).last (machine_of (calls k).left) led some) (run.goes_on k less) (λ a i. run.unchanged k a less i) (below (k + 1) less))
+      subst (λ (j : ℕ). Runs (start_on Ideal) program w last_number first (machine_of (calls j).lent)) e
+      (survived (start_on Ideal) program w last_number first (machine_of (calls k).left) (machine_of (calls (k + 1)).lent) (goes (start_on Ideal) program w last_number first (the_call k here).last (machine_of (calls k).left) led some) (run.goes_on k less) (λ a i. run.unchanged k a less (only_touched t a i)) (below (k + 1) less))
 
   copied : (k : ℕ) → k < count → HasCopied program last_number t first (calls k)
   copied k l =
       let d = does k l in
       let call = calls k in
-      let all = has_copied (start_on Ideal) program t last_number first explains (first_below k l) (the_call k l) (along k l) (does_it k l) in
+      let all = has_copied (start_on Ideal) program w last_number first explains (first_below k l) (the_call k l) (along k l) (does_it k l) in
       let said = d.3.reported in
       let pc = d.1.channel.registers.pc in
+      let done : all.done ≡ copied_bytes (channel_of call.left).stored = only_done all.done (channel_of call.left).stored all.count all.within in
       record {
-        bytes = all.bytes;
-        writes = λ a i. all.writes a (subst (λ (w : Segment). LiesIn w a) (reported_range call d) i);
-        signals = λ e. all.signals call.report.event (signalled call.report d.2.count pc d.2.written d.2.last d.2.signal said e);
-        ends = λ e. all.ends (ended call.report d.2.count pc d.2.written d.2.last d.2.signal said e);
+        bytes = subst (λ (x : Amounts). chan.HasFirst w x (chan.bytes_in first) (chan.bytes_in (memory_of call.left))) done all.bytes;
+        writes = λ a i. only_written t a (all.writes a (subst (λ (w : Segment). LiesIn w a) (reported_range call d) i));
+        signals = λ e. subst (IsSignal (start_on Ideal) program last_number call.report.event) done (all.signals call.report.event (signalled call.report d.2.count pc d.2.written d.2.last d.2.signal said e));
+        ends = λ e. ap (λ (x : Amounts). x.copied) (sym done ∙ all.ends (ended call.report d.2.count pc d.2.written d.2.last d.2.signal said e));
         waits = λ e. all.waits call.report.event (waited call.report d.2.count pc d.2.written d.2.last d.2.signal said e);
         never_fails = λ none e.
             let f = failed call.report d.2.count pc d.2.written d.2.last d.2.signal said e in
             let own = subst (λ (o : Option MarkedChannel). Misses (marked_of o).marks t) d.3.before none in
-            all.never_fails f.0 (gaps_miss call.lent.regions d.0.marks t (ordered k l) (run.have k l) own) f.1;
+            all.never_fails f.0 (gaps_miss call.lent.regions d.0.marks w (ordered k l) (run.have k l) (only_missed t d.0.marks own)) f.1;
       }
 
 -- a signal and a wait are the transfer's, if the program's are
 keeps_events : (program : List ℕ) (n : ℕ) (t : Descriptor) (before : List ℕ) (call : StepCall) → HasEvents (start_on Ideal) program t n → HasCopied program n t before call → KeepsEvents t call
 keeps_events program n t before call has did = record {
-  signals = λ e. has.signals call.report.event (channel_of call.left).stored (did.signals e);
+  signals = λ e.
+      let s = has.signals call.report.event (copied_bytes (channel_of call.left).stored) (did.signals e) in
+      (s.0, ap (λ (x : Amounts). x.copied) s.1);
   waits = λ e. (has.waits call.report.event (did.waits e)).1;
 }
 

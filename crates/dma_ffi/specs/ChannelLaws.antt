@@ -13,11 +13,12 @@ use Rattle.dma_chan.specs.Changes.{Call, DoesCall, HasFirst, bytes_in}
 use Rattle.dma_chan.specs.Channel.{ChannelValue, unloaded}
 use Rattle.dma_chan.specs.Compiled.{compiled, cost}
 use Rattle.dma_chan.specs.Exec.{start_on}
-use Rattle.dma_chan.specs.Explains.{Explains, HasEvents, IsLoadedWith, IsSignal, IsWait}
+use Rattle.dma_chan.specs.Explains.{Explains, HasEvents, IsLoadedWith, IsSignal, IsWait, only}
 use Rattle.dma_chan.specs.LentRegions.{HaveAll}
 use Rattle.dma_chan.specs.Others.{Misses, Touches}
 use Rattle.dma_chan.specs.Stepping.{Machine, Wrote, machine}
 use Rattle.dma_chan.specs.Written.{KeepsOutside, LiesIn}
+use Rattle.dma_chan.specs.declared.explain.Amounts.{Amounts}
 use Rattle.dma_ffi.specs.declared.channel_steps.ChannelReport.{ChannelReport}
 use Rattle.dma_ffi.specs.declared.marked_channel.MarkedChannel.{MarkedChannel}
 use Rattle.dma_ffi.specs.Channels.{Lent, LoadsCopy, LoadsFill, LoadsFrom, ReportsSteps, ended_turn, fault_turn, marks_over, report_of, signalled_turn, waiting_turn}
@@ -26,9 +27,9 @@ use Rattle.dma_ffi.specs.Codes.{ok_code}
 -- ---- loads
 
 -- A channel into which a program was just loaded that begins with this one, which a transfer explains with n
--- instructions before DMAEND.
+-- instructions before DMAEND. It is a copy alone: the channels of C have no DMASTZ.
 pub record HasProgram (program : List ℕ) (n : ℕ) (t : Descriptor) (c : ChannelValue) : Type 0 where
-  pub explains : Explains (start_on Ideal) program t n
+  pub explains : Explains (start_on Ideal) program (only t) n
   pub loaded : IsLoadedWith (start_on Ideal) program c
 
 -- A channel into which the program of a transfer was just loaded. The transfer explains it, and it has the transfer's
@@ -46,7 +47,7 @@ pub record LoadsATransfer : Type 0 where
   pub fill : (src : ℕ) (dst : List Segment) (wait signal : Option ℕ) (c d : ChannelValue) → src < end_of_addresses →
       LoadsFill src dst wait signal c ok_code d → HasTransfer (filling src dst wait signal) d
   pub from : (program : List ℕ) (t : Descriptor) (n : ℕ) (regions : List Region) (addr : ℕ) (rest : List ℕ)
-      (c d : ChannelValue) → Explains (start_on Ideal) program t n →
+      (c d : ChannelValue) → Explains (start_on Ideal) program (only t) n →
       take most_program_bytes (run_from (pieces_of regions) addr) ≡ program ++ rest →
       LoadsFrom regions addr c ok_code d → HasProgram program n t d
 
@@ -131,10 +132,14 @@ pub record StepsSinceLoad (program : List ℕ) (n : ℕ) (t : Descriptor) (count
   pub begins : HasProgram program n t (channel_of (calls 0).lent)
   pub steps : (k : ℕ) → k < count → IsMade (calls k)
   pub succeeds : (k : ℕ) → k < count → (calls k).code ≡ ok_code
-  pub have : (k : ℕ) → k < count → HaveAll (calls k).lent.regions t
+  pub have : (k : ℕ) → k < count → HaveAll (calls k).lent.regions (only t)
   pub goes_on : (k : ℕ) → k + 1 < count → channel_of (calls (k + 1)).lent ≡ channel_of (calls k).left
   pub unchanged : (k a : ℕ) → k + 1 < count → Touches t a →
       slice_index (memory_of (calls (k + 1)).lent) a ≡ slice_index (memory_of (calls k).left) a
+
+-- this number of bytes copied, and none set to 0
+abbrev pub copied : ℕ → Amounts
+copied n = record { copied = n; cleared = 0 }
 
 -- The result of such a call, if `first` is the memory that the first call was lent. As many bytes are copied as the
 -- channel counts in `stored`, which its registers show, and all when the report's turn is the end. The range that the
@@ -142,10 +147,11 @@ pub record StepsSinceLoad (program : List ℕ) (n : ℕ) (t : Descriptor) (count
 -- DMAWFE of the event that is reported, the DMASEV after as many bytes. The turn is no fault if no mark of the channel
 -- lies at an address that the transfer touches.
 pub record HasCopied (program : List ℕ) (n : ℕ) (t : Descriptor) (first : List ℕ) (call : StepCall) : Type 0 where
-  pub bytes : HasFirst t (channel_of call.left).stored (bytes_in first) (bytes_in (memory_of call.left))
+  pub bytes :
+      HasFirst (only t) (copied (channel_of call.left).stored) (bytes_in first) (bytes_in (memory_of call.left))
   pub writes : (a : ℕ) → LiesIn call.report.written a → Contains (destinations t) a
   pub signals : call.report.turn ≡ signalled_turn →
-      IsSignal (start_on Ideal) program n call.report.event (channel_of call.left).stored
+      IsSignal (start_on Ideal) program n call.report.event (copied (channel_of call.left).stored)
   pub ends : call.report.turn ≡ ended_turn → (channel_of call.left).stored ≡ size_of t
   pub waits : call.report.turn ≡ waiting_turn → IsWait (start_on Ideal) program n call.report.event
   pub never_fails : Misses (marked_of call.lent.channel).marks t → call.report.turn ≢ fault_turn

@@ -1,5 +1,5 @@
 -- What the calls return and write that explain a program.
-use Rattle.std.specs.Prelude.{◌≡◌, ℕ, ◌<◌, ◌≤◌, ◌⊎◌, ◌==◌, ◌&&◌, Bool, nat_le, if◌then◌else◌, ℤ, Option, None, Some, List, ◌++◌, length, drop, map}
+use Rattle.std.specs.Prelude.{◌≡◌, ◌≢◌, ℕ, ◌<◌, ◌≤◌, ◌⊎◌, ◌==◌, ◌&&◌, Bool, nat_le, if◌then◌else◌, ℤ, Option, None, Some, List, [], ◌++◌, length, drop, map}
 use Rattle.std.specs.Option.{option_map}
 use Rattle.dma_mem.specs.declared.segment.Segment.{Segment}
 use Rattle.dma_insn.specs.AssemblyText.{most_program_bytes}
@@ -11,7 +11,7 @@ use Rattle.dma_chan.specs.declared.exec.Registers.{Registers}
 use Rattle.dma_chan.specs.Bus.{accepts}
 use Rattle.dma_chan.specs.Exec.{start_on}
 use Rattle.dma_chan.specs.declared.explain.Cause.{Cause}
-use Rattle.dma_chan.specs.declared.explain.Cause.TheVariants.{TooLong, Fails, LoadsPast, StoresPast, StoresFixed, DropsBytes, BytesLeft, StoresTwice, StoresSource, NoEnd, NoMemory, StoresZeros}
+use Rattle.dma_chan.specs.declared.explain.Cause.TheVariants.{TooLong, Fails, LoadsPast, StoresPast, StoresFixed, DropsBytes, BytesLeft, StoresTwice, StoresSource, NoEnd, NoMemory}
 use Rattle.dma_chan.specs.declared.explain.Explained.{Explained}
 use Rattle.dma_chan.specs.declared.explain.Happening.{Happening}
 use Rattle.dma_chan.specs.declared.explain.Repeated.{Repeated}
@@ -23,6 +23,8 @@ use Rattle.dma_device.specs.Explaining.{IsLoadedAnd, program_of}
 use Rattle.dma_ffi.specs.declared.channel_calls.ChannelRegisters.{ChannelRegisters}
 use Rattle.dma_ffi.specs.declared.explaining.DmaHappening.{DmaHappening}
 use Rattle.dma_ffi.specs.declared.explaining.Explanation.{Explanation}
+use Rattle.dma_ffi.specs.declared.works.Moment.{Moment}
+use Rattle.dma_ffi.specs.declared.works.WorkFound.{WorkFound}
 use Rattle.dma_ffi.specs.Codes.{bad_config, buffer_too_small, kind_number, no_channel, no_memory, no_program, ok_code, program_too_long, unexplained}
 use Rattle.dma_ffi.specs.Devices.{bus_of}
 
@@ -63,18 +65,46 @@ cause_number BytesLeft = 12
 cause_number StoresTwice = 13
 cause_number StoresSource = 14
 cause_number NoEnd = 15
-cause_number StoresZeros = 16
 
--- ---- what is written
+-- the number of the cause of a program that also sets bytes to 0, in a call that has no list for them
+abbrev pub stores_zeros : ℕ
+stores_zeros = 16
 
--- what an instruction did with an event: 0 for a wait, 1 for a signal, and the event
-abbrev pub happened : Sync → ℕ → DmaHappening
-happened (Waits event) stored = record { kind = 0; event = event; stored = stored }
-happened (Signals event) stored = record { kind = 1; event = event; stored = stored }
+-- what an instruction does with an event: 0 for a wait, 1 for a signal, and the event
+abbrev pub sync_numbers : Sync → ℕ × ℕ
+sync_numbers (Waits event) = (0, event)
+sync_numbers (Signals event) = (1, event)
+
+-- ---- lists
+
+-- a list with these items at its front; what is behind them is unchanged
+abbrev pub laid_over : {A : Type 0} → List A → List A → List A
+laid_over items list = items ++ drop (length items) list
+
+-- whether each list has room for what was found
+abbrev pub have_room : {A : Type 0} → Explained → List Repeated → List Segment → List A → Bool
+have_room x src dst happenings =
+    nat_le (length x.src.items) (length src)
+    && nat_le (length x.dst.items) (length dst)
+    && nat_le (length x.events.items) (length happenings)
+
+-- These lists of what was found are written, with its events as C sees them, and the code is `ok_code`; or not all
+-- lists have room, the code is `buffer_too_small`, and these are unchanged.
+abbrev pub WritesIf : {A : Type 0} → Bool → (Happening → A) → Explained → ℤ → List Repeated → List Repeated
+    → List Segment → List Segment → List A → List A → Type 0
+WritesIf fits as_c x code src src' dst dst' happenings happenings' =
+    (code ≡ (if fits then ok_code else buffer_too_small))
+    × (src' ≡ (if fits then laid_over x.src.items src else src))
+    × (dst' ≡ (if fits then laid_over x.dst.items dst else dst))
+    × (happenings' ≡ (if fits then laid_over (map as_c x.events.items) happenings else happenings))
+
+-- ---- what a call writes that has no list of what is set to 0
 
 -- a happening as C sees it
 abbrev pub happening_of : Happening → DmaHappening
-happening_of h = happened h.sync h.stored
+happening_of h =
+    let numbers = sync_numbers h.sync in
+    record { kind = numbers.0; event = numbers.1; stored = h.done.copied }
 
 -- the numbers of what was found
 abbrev pub explanation_of : Explained → Explanation
@@ -82,22 +112,22 @@ explanation_of x = record {
   src_len = length x.src.items;
   dst_len = length x.dst.items;
   happenings_len = length x.events.items;
-  size = x.size;
+  size = x.size.copied;
   steps = x.steps;
   pc = 0;
   cause = 0;
 }
 
--- the cause and the place of a program that no copy explains
-abbrev pub unexplained_of : Unexplained → Explanation
-unexplained_of u = record {
+-- a cause, and its place
+abbrev pub unexplained_with : ℕ → ℕ → ℕ → Explanation
+unexplained_with cause steps pc = record {
   src_len = 0;
   dst_len = 0;
   happenings_len = 0;
   size = 0;
-  steps = u.steps;
-  pc = u.pc;
-  cause = cause_number u.cause;
+  steps = steps;
+  pc = pc;
+  cause = cause;
 }
 
 -- Everything that such a call writes.
@@ -107,61 +137,119 @@ pub record Outputs : Type 0 where
   pub happenings : List DmaHappening
   pub explanation : Explanation
 
--- a list with these items at its front; what is behind them is unchanged
-abbrev pub laid_over : {A : Type 0} → List A → List A → List A
-laid_over items list = items ++ drop (length items) list
-
--- whether each list has room for what was found
-abbrev pub have_room : Explained → List Repeated → List Segment → List DmaHappening → Bool
-have_room x src dst happenings =
-    nat_le (length x.src.items) (length src)
-    && nat_le (length x.dst.items) (length dst)
-    && nat_le (length x.events.items) (length happenings)
-
--- The lists of what was found are written, and the code is `ok_code`; or a list has no room, the code is
--- `buffer_too_small`, and all are unchanged.
+-- the lists of what was found
 abbrev pub WritesLists : Explained → ℤ → List Repeated → List Repeated → List Segment → List Segment
     → List DmaHappening → List DmaHappening → Type 0
 WritesLists x code src src' dst dst' happenings happenings' =
-    let fits = have_room x src dst happenings in
-    (code ≡ (if fits then ok_code else buffer_too_small))
-    × (src' ≡ (if fits then laid_over x.src.items src else src))
-    × (dst' ≡ (if fits then laid_over x.dst.items dst else dst))
-    × (happenings' ≡ (if fits then laid_over (map happening_of x.events.items) happenings else happenings))
+    WritesIf (have_room x src dst happenings) happening_of x code src src' dst dst' happenings happenings'
 
 -- What was found is written: its numbers in any case, the lists if they have room.
 pub record WritesFound (x : Explained) (code : ℤ) (before after : Outputs) : Type 0 where
   pub lists : WritesLists x code before.src after.src before.dst after.dst before.happenings after.happenings
   pub explanation : after.explanation ≡ explanation_of x
 
--- what is written if no copy explains a program: the cause and the place, and no list
-abbrev pub with_cause : Unexplained → Outputs → Outputs
-with_cause u before = record before { explanation = unexplained_of u }
+-- So if nothing is set to 0. Else the code is `unexplained`, and this cause is written, with the start as its place.
+abbrev pub WritesCopy : Explained → ℤ → Outputs → Outputs → Type 0
+WritesCopy x code before after =
+    ((x.zeros.items ≡ []) × WritesFound x code before after)
+    ⊎ ((x.zeros.items ≢ []) × (code ≡ unexplained)
+    × (after ≡ record before { explanation = unexplained_with stores_zeros 0 0 }))
 
--- ---- calls
+-- what is written if nothing explains the program: the cause and the place, and no list
+abbrev pub with_cause : Unexplained → Outputs → Outputs
+with_cause u before = record before { explanation = unexplained_with (cause_number u.cause) u.steps u.pc }
+
+-- ---- what a call writes that has one
+
+-- a happening as C sees it
+abbrev pub moment_of : Happening → Moment
+moment_of h =
+    let numbers = sync_numbers h.sync in
+    record { kind = numbers.0; event = numbers.1; copied = h.done.copied; cleared = h.done.cleared }
+
+-- the numbers of what was found
+abbrev pub work_found_of : Explained → WorkFound
+work_found_of x = record {
+  src_len = length x.src.items;
+  dst_len = length x.dst.items;
+  zeros_len = length x.zeros.items;
+  moments_len = length x.events.items;
+  copied = x.size.copied;
+  cleared = x.size.cleared;
+  steps = x.steps;
+  pc = 0;
+  cause = 0;
+  addr = 0;
+}
+
+-- the cause, the place and the address
+abbrev pub unexplained_work_of : Unexplained → WorkFound
+unexplained_work_of u = record {
+  src_len = 0;
+  dst_len = 0;
+  zeros_len = 0;
+  moments_len = 0;
+  copied = 0;
+  cleared = 0;
+  steps = u.steps;
+  pc = u.pc;
+  cause = cause_number u.cause;
+  addr = u.addr;
+}
+
+-- Everything that such a call writes.
+pub record WorkOutputs : Type 0 where
+  pub src : List Repeated
+  pub dst : List Segment
+  pub zeros : List Segment
+  pub moments : List Moment
+  pub work : WorkFound
+
+-- the lists of what was found
+abbrev pub WritesWorkLists : Explained → ℤ → List Repeated → List Repeated → List Segment → List Segment
+    → List Segment → List Segment → List Moment → List Moment → Type 0
+WritesWorkLists x code src src' dst dst' zeros zeros' moments moments' =
+    let fits = have_room x src dst moments && nat_le (length x.zeros.items) (length zeros) in
+    WritesIf fits moment_of x code src src' dst dst' moments moments'
+    × (zeros' ≡ (if fits then laid_over x.zeros.items zeros else zeros))
+
+-- What was found is written: its numbers in any case, the lists if they have room.
+pub record WritesWork (x : Explained) (code : ℤ) (before after : WorkOutputs) : Type 0 where
+  pub lists : WritesWorkLists x code before.src after.src before.dst after.dst before.zeros after.zeros
+      before.moments after.moments
+  pub work : after.work ≡ work_found_of x
+
+-- what is written if nothing explains the program
+abbrev pub with_work_cause : Unexplained → WorkOutputs → WorkOutputs
+with_work_cause u before = record before { work = unexplained_work_of u }
+
+-- ---- calls, by how they write what was found, or the cause
 
 -- What a call returns and writes that explains a program of at most 8,192 bytes that begins with these registers, with
--- at most this number of instructions. It writes a copy that explains the program (`Finds`); or returns `unexplained`
--- and writes why no copy does, and where (`Refuses`); or returns `no_memory` and writes nothing.
-abbrev pub ExplainsFrom : Registers → List ℕ → ℕ → ℤ → Outputs → Outputs → Type 0
-ExplainsFrom start program most code before after =
-    ((x : Explained) × Finds start program most x × WritesFound x code before after)
-    ⊎ (((u : Unexplained) × Refuses start program most u × (code ≡ unexplained) × (after ≡ with_cause u before))
+-- at most this number of instructions. It writes what explains the program (`Finds`); or returns `unexplained` and
+-- writes why nothing does, and where (`Refuses`); or returns `no_memory` and writes nothing.
+abbrev pub ExplainsFrom : {Out : Type 0} → (Explained → ℤ → Out → Out → Type 0) → (Unexplained → Out → Out)
+    → Registers → List ℕ → ℕ → ℤ → Out → Out → Type 0
+ExplainsFrom Writes causes start program most code before after =
+    ((x : Explained) × Finds start program most x × Writes x code before after)
+    ⊎ (((u : Unexplained) × Refuses start program most u × (code ≡ unexplained) × (after ≡ causes u before))
     ⊎ ((code ≡ no_memory) × (after ≡ before)))
 
 -- The same of any program, from registers that C gives, if a channel can have them. Else the call returns `bad_config`,
 -- and then `program_too_long` exactly above 8,192 bytes. In both cases it writes nothing.
-abbrev pub ExplainsProgram : List ℕ → Option Registers → ℕ → ℤ → Outputs → Outputs → Type 0
-ExplainsProgram program None most code before after = (code ≡ bad_config) × (after ≡ before)
-ExplainsProgram program (Some start) most code before after =
+abbrev pub ExplainsProgram : {Out : Type 0} → (Explained → ℤ → Out → Out → Type 0) → (Unexplained → Out → Out)
+    → List ℕ → Option Registers → ℕ → ℤ → Out → Out → Type 0
+ExplainsProgram Writes causes program None most code before after = (code ≡ bad_config) × (after ≡ before)
+ExplainsProgram Writes causes program (Some start) most code before after =
     ((code ≡ program_too_long) × (most_program_bytes < length program) × (after ≡ before))
-    ⊎ ((length program ≤ most_program_bytes) × ExplainsFrom start program most code before after)
+    ⊎ ((length program ≤ most_program_bytes) × ExplainsFrom Writes causes start program most code before after)
 
 -- What a call returns and writes that explains the program of channel `n` of a device, begun with the registers that
 -- the channel has. If the device doesn't have the channel, or the channel no program, it returns the code for that and
 -- writes nothing.
-abbrev pub ExplainsChannel : ℕ → ℕ → DeviceValue → ℤ → Outputs → Outputs → Type 0
-ExplainsChannel n most d code before after =
+abbrev pub ExplainsChannel : {Out : Type 0} → (Explained → ℤ → Out → Out → Type 0) → (Unexplained → Out → Out)
+    → ℕ → ℕ → DeviceValue → ℤ → Out → Out → Type 0
+ExplainsChannel Writes causes n most d code before after =
     ((code ≡ no_channel) × (length d.threads ≤ n) × (after ≡ before))
     ⊎ (((code ≡ no_program) × (n < length d.threads) × (program_of d n ≡ None) × (after ≡ before))
-    ⊎ IsLoadedAnd d n (λ start program. ExplainsFrom start program most code before after))
+    ⊎ IsLoadedAnd d n (λ start program. ExplainsFrom Writes causes start program most code before after))

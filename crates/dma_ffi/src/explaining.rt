@@ -1,11 +1,11 @@
-//! The calls that explain programs: one of the caller's, and the one that a device's channel has.
+//! The calls that explain programs which copy, and set nothing to 0: one of the caller's, and the one that a device's
+//! channel has.
 
 ghost use Rattle.std.specs.Prelude.{◌≡◌, ◌≤◌, ◌++◌, length, drop, map};
 ghost use Rattle.dma_ffi.specs.Calls.{ReadsOpen};
-ghost use Rattle.dma_ffi.specs.Explaining.{ExplainsChannel, ExplainsProgram, WritesLists, any_bus, cause_number, explanation_of, given_on, happening_of, unexplained_of, zeros_on};
+ghost use Rattle.dma_ffi.specs.Explaining.{ExplainsChannel, ExplainsProgram, WritesCopy, WritesLists, any_bus, cause_number, explanation_of, happening_of, sync_numbers, unexplained_with, with_cause, zeros_on};
 ghost use Rattle.dma_ffi.specs.inner.Found.{Answers, AnswersDevice};
 
-use crate::channel_calls::ChannelRegisters;
 use crate::codes::{
     BAD_CONFIG, BUFFER_TOO_SMALL, NO_CHANNEL, NO_MEMORY, NO_PROGRAM, NOT_OPEN, OK,
     PROGRAM_TOO_LONG, UNEXPLAINED, number_of_kind,
@@ -15,7 +15,6 @@ use crate::kept_device::KeptDevice;
 use dma_chan::exec::Registers;
 use dma_chan::explain::{Cause, Explained, Happening, Repeated, Sync, Unexplained, explain};
 use dma_device::device::explain::ExplainFault;
-use dma_insn::control::ControlWord;
 use dma_mem::segment::Segment;
 use std::alloc::Global;
 
@@ -30,6 +29,9 @@ pub struct DmaHappening {
     /// The number of bytes that the program has stored before it.
     pub stored: u64,
 }
+
+/// The number of the cause of a program that sets bytes to 0, for which these calls have no list.
+const STORES_ZEROS: u32 = 16;
 
 /// What a program copies, or why and where no copy explains it.
 #[repr(C)]
@@ -54,7 +56,7 @@ pub struct Explanation {
 
 // Returns the number of a cause; a fault's is the one that it has elsewhere. A program that is too long, and out of
 // memory, have codes and no number.
-fn number_of_cause(cause: Cause) -> u32
+pub(crate) fn number_of_cause(cause: Cause) -> u32
     ensures { result ≡ cause_number cause }
 {
     match cause {
@@ -68,22 +70,29 @@ fn number_of_cause(cause: Cause) -> u32
         Cause::StoresTwice => 13,
         Cause::StoresSource => 14,
         Cause::NoEnd => 15,
-        Cause::StoresZeros => 16,
     }
+}
+
+// Returns what an instruction does with an event, 0 for a wait and 1 for a signal, and the event.
+pub(crate) fn sync_numbers(sync: Sync) -> (u32, u32)
+    ensures { result ≡ sync_numbers sync }
+{
+    let (kind, event) = match sync {
+        Sync::Waits(event) => (0, event),
+        Sync::Signals(event) => (1, event),
+    };
+    (kind, u32::from(event))
 }
 
 // Returns a happening as C sees it.
 fn happening_of(happening: Happening) -> DmaHappening
     ensures { result ≡ happening_of happening }
 {
-    let (kind, event) = match happening.sync {
-        Sync::Waits(event) => (0, event),
-        Sync::Signals(event) => (1, event),
-    };
+    let (kind, event) = sync_numbers(happening.sync);
     DmaHappening {
         kind,
-        event: u32::from(event),
-        stored: happening.stored,
+        event,
+        stored: happening.done.copied,
     }
 }
 
@@ -95,7 +104,7 @@ fn explanation_of(found: &Explained) -> Explanation
         src_len: found.src.len(),
         dst_len: found.dst.len(),
         happenings_len: found.events.len(),
-        size: found.size,
+        size: found.size.copied,
         steps: found.steps,
         pc: 0,
         cause: 0,
@@ -103,48 +112,24 @@ fn explanation_of(found: &Explained) -> Explanation
 }
 
 // Returns the cause and the place of a program that no copy explains.
-fn unexplained_of(why: Unexplained) -> Explanation
-    ensures { result ≡ unexplained_of why }
+fn unexplained_with(cause: u32, steps: u32, pc: u32) -> Explanation
+    ensures { result ≡ unexplained_with cause steps pc }
 {
     Explanation {
         src_len: 0,
         dst_len: 0,
         happenings_len: 0,
         size: 0,
-        steps: why.steps,
-        pc: why.pc,
-        cause: number_of_cause(why.cause),
+        steps,
+        pc,
+        cause,
     }
-}
-
-// ---- registers
-
-// Returns registers as given by C, on a bus, or `None` if no bus has this number or the bus doesn't accept CCR.
-fn given_on(given: &ChannelRegisters, bus: u32) -> Option<Registers>
-    ensures { result ≡ given_on given.now (any_bus bus) }
-{
-    let bus = any_bus(bus)?;
-    let Ok(ccr) = ControlWord::from_bits(given.ccr) else {
-        return None;
-    };
-    if !bus.fits(given.ccr) {
-        return None;
-    }
-    Some(Registers {
-        pc: 0,
-        sar: given.sar,
-        dar: given.dar,
-        ccr,
-        lc0: given.lc0,
-        lc1: given.lc1,
-        bus,
-    })
 }
 
 // ---- lists
 
 // Copies items to the front of a list that has room for them.
-fn copy_out<T: Copy>(items: &[T], out: &mut [T])
+pub(crate) fn copy_out<T: Copy>(items: &[T], out: &mut [T])
     requires { length items.now ≤ length out.old }
     ensures { out.new ≡ items.now ++ drop (length items.now) out.old }
 {
@@ -192,7 +177,7 @@ fn answer(
     happenings: &mut [DmaHappening],
     explanation: &mut Explanation,
 ) -> i32
-    ensures { Answers found result
+    ensures { Answers WritesCopy with_cause found result
         (record {
           src = src.old;
           dst = dst.old;
@@ -208,14 +193,18 @@ fn answer(
 {
     match found {
         Ok(found) => {
+            if !found.zeros.is_empty() {
+                *explanation = unexplained_with(STORES_ZEROS, 0, 0);
+                return UNEXPLAINED;
+            }
             *explanation = explanation_of(&found);
             write_lists(&found, src, dst, happenings)
         }
         Err(why) => match why.cause {
             Cause::TooLong => PROGRAM_TOO_LONG,
             Cause::NoMemory => NO_MEMORY,
-            _ => {
-                *explanation = unexplained_of(why);
+            cause => {
+                *explanation = unexplained_with(number_of_cause(cause), why.steps, why.pc);
                 UNEXPLAINED
             }
         },
@@ -230,7 +219,7 @@ fn answer_device(
     happenings: &mut [DmaHappening],
     explanation: &mut Explanation,
 ) -> i32
-    ensures { AnswersDevice found result
+    ensures { AnswersDevice WritesCopy with_cause found result
         (record {
           src = src.old;
           dst = dst.old;
@@ -257,9 +246,10 @@ fn answer_device(
 /// Explains a program that begins with registers that are 0 by one run without memory, for at most `most` instructions,
 /// on the ideal bus or a chip's. Writes what it reads, what it writes and its happenings to the fronts of the lists, in
 /// the order of the run, and their numbers, the number of bytes and of instructions to `explanation`. If no copy
-/// explains the program, it returns `UNEXPLAINED`, and `explanation` has the cause and the place. If a list is too
-/// small, no list changes, and `explanation` has the numbers. Fails too if no bus has this number, if the program is
-/// longer than 8,192 bytes, or if out of memory; then nothing is written.
+/// explains the program, it returns `UNEXPLAINED`, and `explanation` has the cause and the place; so if the program
+/// also sets bytes to 0, with a cause of its own and no place. If a list is too small, no list changes, and
+/// `explanation` has the numbers. Fails too if no bus has this number, if the program is longer than 8,192 bytes, or if
+/// out of memory; then nothing is written.
 #[unsafe(no_mangle)]
 pub extern "C" fn dma330_explain(
     alloc: Global,
@@ -271,7 +261,8 @@ pub extern "C" fn dma330_explain(
     happenings: &mut [DmaHappening],
     explanation: &mut Explanation,
 ) -> i32
-    ensures { ExplainsProgram program.now (zeros_on (any_bus bus)) most result
+    ensures { ExplainsProgram WritesCopy with_cause program.now
+        (zeros_on (any_bus bus)) most result
         (record {
           src = src.old;
           dst = dst.old;
@@ -292,45 +283,9 @@ pub extern "C" fn dma330_explain(
     answer(found, src, dst, happenings, explanation)
 }
 
-/// Explains a program like [`dma330_explain`], but one that begins with the given SAR, DAR, CCR and loop counters. What
-/// else `start` has doesn't matter. Fails too if the bus doesn't accept CCR, with the same code as if no bus has this
-/// number.
-#[unsafe(no_mangle)]
-pub extern "C" fn dma330_explain_from(
-    alloc: Global,
-    program: &[u8],
-    bus: u32,
-    start: &ChannelRegisters,
-    most: u32,
-    src: &mut [Repeated],
-    dst: &mut [Segment],
-    happenings: &mut [DmaHappening],
-    explanation: &mut Explanation,
-) -> i32
-    ensures { ExplainsProgram program.now (given_on start.now (any_bus bus)) most result
-        (record {
-          src = src.old;
-          dst = dst.old;
-          happenings = happenings.old;
-          explanation = explanation.old;
-        })
-        (record {
-          src = src.new;
-          dst = dst.new;
-          happenings = happenings.new;
-          explanation = explanation.new;
-        }) }
-{
-    let Some(start) = given_on(start, bus) else {
-        return BAD_CONFIG;
-    };
-    let found = explain(alloc, start, program, most);
-    answer(found, src, dst, happenings, explanation)
-}
-
-/// Explains the program of a channel as [`dma330_explain_from`] does on the device's bus: from its first instruction
-/// on, with the registers that the channel has. Fails too if the device doesn't have the channel, or the channel has no
-/// program; then nothing is written.
+/// Explains the program of a channel in the same way on the device's bus: from its first instruction on, with the
+/// registers that the channel has. Fails too if the device doesn't have the channel, or the channel has no program;
+/// then nothing is written.
 #[unsafe(no_mangle)]
 pub extern "C" fn dma330_device_explain(
     alloc: Global,
@@ -342,7 +297,7 @@ pub extern "C" fn dma330_device_explain(
     happenings: &mut [DmaHappening],
     explanation: &mut Explanation,
 ) -> i32
-    ensures { ReadsOpen (ExplainsChannel channel most) kept.old.device.value result
+    ensures { ReadsOpen (ExplainsChannel WritesCopy with_cause channel most) kept.old.device.value result
         (record {
           src = src.old;
           dst = dst.old;

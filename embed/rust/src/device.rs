@@ -1,7 +1,7 @@
 //! The registers of a DMA-330 over memory of the caller.
 
-use crate::explain::explanation_of;
-use crate::{sys, Error, Explanation, Region, Segment};
+use crate::explain::{explanation_of, work_of};
+use crate::{sys, Error, Explanation, Region, Segment, Work};
 use std::fmt;
 
 /// The width of a [`Device`]'s data bus. A wider beat is an invalid operand.
@@ -97,7 +97,8 @@ pub struct Device {
 const MAX_SAVE: usize = 68204;
 
 impl Device {
-    /// Opens a device in its state after a reset. No other call but [`Device::explain`] allocates memory in the library.
+    /// Opens a device in its state after a reset. Of the other calls only [`Device::explain`] and
+    /// [`Device::explain_work`] allocate memory in the library.
     ///
     /// Fails with `BadConfig` or `NoMemory`.
     pub fn open(config: DeviceConfig) -> Result<Device, Error> {
@@ -145,8 +146,8 @@ impl Device {
         Ok(DeviceTurn { written: turn.written, lines_changed, can_step })
     }
 
-    /// Returns what the program copies that a DMAGO loaded into a channel, as [`explain_from`](crate::explain_from) does
-    /// on the device's bus: from its first instruction on, with the registers that the channel has now. A DMAGO keeps the
+    /// Returns what the program copies that a DMAGO loaded into a channel, as [`explain`](crate::explain) does on the
+    /// device's bus, but from the registers that the channel has now: from its first instruction on. A DMAGO keeps the
     /// registers, so ask before the channel's first turn. Later the answer is the same only if the program sets each
     /// register before it uses it. A channel has a program from the DMAGO until the DMAEND or a DMAKILL.
     ///
@@ -173,6 +174,13 @@ impl Device {
     /// ```
     pub fn explain(&self, channel: u8, most: u32) -> Result<Explanation, Error> {
         self.handle.explain(channel, most).and_then(explanation_of)
+    }
+
+    /// Returns all that the same program does, as [`explain_work`](crate::explain_work).
+    ///
+    /// Fails as [`Device::explain`] does.
+    pub fn explain_work(&self, channel: u8, most: u32) -> Result<Work, Error> {
+        self.handle.explain_work(channel, most).and_then(work_of)
     }
 
     /// Returns the lines irq\[31:0\]. A high line stays high until the guest clears its interrupt.

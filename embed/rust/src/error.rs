@@ -1,7 +1,6 @@
 //! Why a call was refused.
 
 use crate::explain::Cause;
-use crate::sys::RawExplanation;
 use std::error;
 use std::fmt;
 
@@ -90,7 +89,7 @@ pub enum Error {
         /// Why none begins there.
         fault: DisassemblyFault,
     },
-    /// No copy explains a program.
+    /// Nothing explains a program.
     Unexplained {
         /// Why.
         cause: Cause,
@@ -194,12 +193,12 @@ impl Error {
         found(&DISASSEMBLY_CODES, code).map_or_else(|| Error::of(code), |fault| Error::Disassembly { offset, fault })
     }
 
-    /// Returns the error of a code of `dma330_explain`.
-    pub(crate) fn of_explanation(code: i32, explanation: &RawExplanation) -> Error {
+    /// Returns the error of a code of a call that explains a program. `why` is the cause, its offset, and the number of
+    /// instructions before it.
+    pub(crate) fn of_explanation(code: i32, why: [u32; 3]) -> Error {
+        let [cause, pc, steps] = why;
         match code {
-            UNEXPLAINED => {
-                Error::Unexplained { cause: Cause::of(explanation.cause), pc: explanation.pc, steps: explanation.steps }
-            }
+            UNEXPLAINED => Error::Unexplained { cause: Cause::of(cause), pc, steps },
             _ => Error::of(code),
         }
     }

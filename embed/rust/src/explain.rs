@@ -84,7 +84,40 @@ pub struct Explanation {
     pub steps: u32,
 }
 
-/// Why no copy explains a program.
+/// A DMAWFE or a DMASEV that a program executes, among all that it does.
+#[derive(Clone, Copy, Debug, PartialEq, Eq, Hash)]
+pub struct Moment {
+    /// Which of the two it is.
+    pub kind: HappeningKind,
+    /// The event.
+    pub event: u8,
+    /// The number of bytes that the program has copied before it.
+    pub copied: u64,
+    /// The number of bytes that it has set to 0 before it.
+    pub cleared: u64,
+}
+
+/// What a program does: it copies as an [`Explanation`] says, and its DMASTZ set other bytes to 0, each once, and none
+/// that it reads.
+#[derive(Clone, Debug, PartialEq, Eq, Hash)]
+pub struct Work {
+    /// What it reads, in its order.
+    pub src: Vec<Repeated>,
+    /// Where it stores that, in its order.
+    pub dst: Vec<Segment>,
+    /// What it sets to 0, in its order.
+    pub zeros: Vec<Segment>,
+    /// The events that it waits for and signals, in its order.
+    pub moments: Vec<Moment>,
+    /// The number of bytes that it copies.
+    pub copied: u64,
+    /// The number of bytes that it sets to 0.
+    pub cleared: u64,
+    /// The number of instructions that it executes, DMAEND included.
+    pub steps: u32,
+}
+
+/// Why nothing explains a program. A DMASTZ is a store too.
 #[derive(Clone, Copy, Debug, PartialEq, Eq, Hash)]
 #[non_exhaustive]
 pub enum Cause {
@@ -115,7 +148,7 @@ pub enum Cause {
     StoresSource,
     /// No DMAEND is among the first `most` instructions.
     NoEnd,
-    /// A DMASTZ stores zeros, and no bytes that were loaded. Not for [`Bus::Channel`].
+    /// By DMASTZ it also sets bytes to 0: [`explain_work`] explains it. The offset is 0. Not for [`Bus::Channel`].
     StoresZeros,
 }
 
@@ -160,7 +193,7 @@ impl fmt::Display for Cause {
             Cause::StoresTwice => "a byte was stored twice",
             Cause::StoresSource => "a byte was stored at an address that was read",
             Cause::NoEnd => "no DMAEND is among the instructions that were allowed",
-            Cause::StoresZeros => "a DMASTZ stores zeros, and no bytes that were loaded",
+            Cause::StoresZeros => "it also sets bytes to 0",
         })
     }
 }
@@ -170,16 +203,32 @@ fn happening_of(raw: &sys::RawHappening) -> Happening {
     Happening { kind, event: small(raw.event), stored: raw.stored }
 }
 
-pub(crate) fn explanation_of(raw: sys::RawExplained) -> Result<Explanation, Error> {
-    let mut happenings = Vec::new();
-    happenings.try_reserve_exact(raw.happenings.len()).map_err(|_| Error::NoMemory)?;
-    happenings.extend(raw.happenings.iter().map(happening_of));
-    let (size, steps) = (raw.explanation.size, raw.explanation.steps);
+fn moment_of(raw: &sys::RawMoment) -> Moment {
+    let kind = named(&[HappeningKind::Waits, HappeningKind::Signals], raw.kind);
+    Moment { kind, event: small(raw.event), copied: raw.copied, cleared: raw.cleared }
+}
+
+fn each<T, U>(list: &[T], of: fn(&T) -> U) -> Result<Vec<U>, Error> {
+    let mut out = Vec::new();
+    out.try_reserve_exact(list.len()).map_err(|_| Error::NoMemory)?;
+    out.extend(list.iter().map(of));
+    Ok(out)
+}
+
+pub(crate) fn explanation_of(raw: sys::RawExplained<sys::RawExplanation>) -> Result<Explanation, Error> {
+    let happenings = each(&raw.happenings, happening_of)?;
+    let (size, steps) = (raw.answer.size, raw.answer.steps);
     Ok(Explanation { src: raw.src, dst: raw.dst, happenings, size, steps })
 }
 
+pub(crate) fn work_of(raw: sys::RawExplained<sys::RawWork>) -> Result<Work, Error> {
+    let moments = each(&raw.happenings, moment_of)?;
+    let sys::RawWork { copied, cleared, steps, .. } = raw.answer;
+    Ok(Work { src: raw.src, dst: raw.dst, zeros: raw.zeros, moments, copied, cleared, steps })
+}
+
 /// Returns what a program copies on a bus, by one run without memory for at most `most` instructions. It begins with
-/// registers that are 0, as a [`Channel`](crate::Channel) does; a device's channel may have others: see [`explain_from`].
+/// registers that are 0, as a [`Channel`](crate::Channel) does; a device's channel may have others: see [`explain_work`].
 ///
 /// The order and the addresses of a program's instructions are the same in each memory. So a channel that runs the
 /// program copies these bytes, if the regions have all these addresses, none that it writes is read-only, no mark lies
@@ -207,25 +256,33 @@ pub fn explain(program: &[u8], bus: Bus, most: u32) -> Result<Explanation, Error
     sys::explain(program, bus.number(), most).and_then(explanation_of)
 }
 
-/// Like [`explain`], but the program begins with the `sar`, `dar`, `ccr`, `lc0` and `lc1` of these registers, and not
-/// with zeros.
+/// Returns all that a program does: what it copies, as [`explain`] does, and what its DMASTZ set to 0. It begins with the
+/// `sar`, `dar`, `ccr`, `lc0` and `lc1` of these registers: a device's channel keeps its registers over a DMAGO, so a
+/// driver's program may leave out a DMAMOV.
 ///
-/// A device's channel keeps its registers over a DMAGO, so a driver's program may leave out a DMAMOV.
-///
-/// Fails as [`explain`] does, and with `BadConfig` if no channel on the bus has this `ccr`.
+/// Fails as [`explain`] does, but never with `StoresZeros`, and with `BadConfig` if no channel on the bus has this `ccr`.
 ///
 /// ```
-/// use dma330::{assemble, explain_from, Bus, Error, Registers, Repeated, Segment};
+/// use dma330::{explain, explain_work, Bus, BusWidth, Cause, Error, HappeningKind, Moment, Registers, Repeated, Segment};
+/// let bus = Bus::Device(BusWidth::Bits32);
 /// let start = Registers { sar: 0x1000, dar: 0x2000, ccr: 0x0001_4005, ..Registers::default() };
-/// let found = explain_from(&assemble("DMALD\nDMAST\nDMAEND\n")?, Bus::Channel, &start, 1000)?;
+/// let program = [0x04, 0x08, 0x0C, 0x34, 7 << 3, 0x00]; // DMALD, DMAST, DMASTZ, DMASEV 7, DMAEND
+/// let found = explain_work(&program, bus, &start, 1000)?;
 /// assert_eq!(found.src, [Repeated { addr: 0x1000, len: 4, times: 1 }]);
 /// assert_eq!(found.dst, [Segment::new(0x2000, 4)]);
+/// assert_eq!(found.zeros, [Segment::new(0x2004, 4)]);
+/// assert_eq!(found.moments, [Moment { kind: HappeningKind::Signals, event: 7, copied: 4, cleared: 4 }]);
+/// assert_eq!((found.copied, found.cleared, found.steps), (4, 4, 5));
+///
+/// let zeros = [0xBC, 1, 0x05, 0x40, 0x01, 0x00, 0x0C, 0x00]; // DMAMOV CCR, DMASTZ, DMAEND
+/// let error = explain(&zeros, bus, 1000).unwrap_err();
+/// assert_eq!(error, Error::Unexplained { cause: Cause::StoresZeros, pc: 0, steps: 0 });
 /// # Ok::<(), Error>(())
 /// ```
-pub fn explain_from(program: &[u8], bus: Bus, start: &Registers, most: u32) -> Result<Explanation, Error> {
+pub fn explain_work(program: &[u8], bus: Bus, start: &Registers, most: u32) -> Result<Work, Error> {
     let Registers { sar, dar, ccr, lc0, lc1, .. } = *start;
     let start = sys::RawRegisters { sar, dar, ccr, lc0, lc1, ..Default::default() };
-    sys::explain_from(program, bus.number(), &start, most).and_then(explanation_of)
+    sys::explain_work(program, bus.number(), &start, most).and_then(work_of)
 }
 
 // Returns the program that a call writes.

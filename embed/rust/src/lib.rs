@@ -38,7 +38,8 @@ mod sys;
 pub use channel::{Channel, ChannelSteps, ChannelTurn, Registers};
 pub use device::{BusWidth, Device, DeviceConfig, DeviceTurn, Revision};
 pub use error::{AssemblyFault, DisassemblyFault, Error};
-pub use explain::{explain, explain_from, plan, plan_fill, Bus, Cause, Explanation, Happening, HappeningKind, Repeated};
+pub use explain::{explain, explain_work, plan, plan_fill};
+pub use explain::{Bus, Cause, Explanation, Happening, HappeningKind, Moment, Repeated, Work};
 pub use sys::Region;
 
 use std::fmt;

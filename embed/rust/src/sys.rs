@@ -96,6 +96,30 @@ pub struct RawHappening {
     pub stored: u64,
 }
 
+#[repr(C)]
+#[derive(Clone, Copy, Default)]
+pub struct RawWork {
+    pub src_len: usize,
+    pub dst_len: usize,
+    pub zeros_len: usize,
+    pub moments_len: usize,
+    pub copied: u64,
+    pub cleared: u64,
+    pub steps: u32,
+    pub pc: u32,
+    pub cause: u32,
+    pub addr: u32,
+}
+
+#[repr(C)]
+#[derive(Clone, Copy, Default)]
+pub struct RawMoment {
+    pub kind: u32,
+    pub event: u32,
+    pub copied: u64,
+    pub cleared: u64,
+}
+
 // Only the library reads and writes them.
 #[allow(dead_code)]
 #[repr(C)]
@@ -331,6 +355,20 @@ extern "C" {
         happenings_room: usize,
         explanation: *mut RawExplanation,
     ) -> i32;
+    fn dma330_device_explain_work(
+        device: *mut RawDevice,
+        channel: u8,
+        most: u32,
+        src: *mut Repeated,
+        src_room: usize,
+        dst: *mut Segment,
+        dst_room: usize,
+        zeros: *mut Segment,
+        zeros_room: usize,
+        moments: *mut RawMoment,
+        moments_room: usize,
+        work: *mut RawWork,
+    ) -> i32;
     fn dma330_device_irqs(device: *mut RawDevice, lines: *mut u32) -> i32;
     fn dma330_device_irq_abort(device: *mut RawDevice, line: *mut u32) -> i32;
     fn dma330_device_can_step(device: *mut RawDevice, can_step: *mut u32) -> i32;
@@ -358,7 +396,7 @@ extern "C" {
         happenings_room: usize,
         explanation: *mut RawExplanation,
     ) -> i32;
-    fn dma330_explain_from(
+    fn dma330_explain_work(
         program: *const u8,
         len: usize,
         bus: u32,
@@ -368,9 +406,11 @@ extern "C" {
         src_room: usize,
         dst: *mut Segment,
         dst_room: usize,
-        happenings: *mut RawHappening,
-        happenings_room: usize,
-        explanation: *mut RawExplanation,
+        zeros: *mut Segment,
+        zeros_room: usize,
+        moments: *mut RawMoment,
+        moments_room: usize,
+        work: *mut RawWork,
     ) -> i32;
     fn dma330_plan(
         src: *const Segment,
@@ -723,8 +763,8 @@ impl DeviceHandle {
         checked(code, turn)
     }
 
-    pub fn explain(&self, channel: u8, most: u32) -> Result<RawExplained, Error> {
-        RawExplained::by(|src, dst, happenings, explanation| unsafe {
+    pub fn explain(&self, channel: u8, most: u32) -> Result<RawExplained<RawExplanation>, Error> {
+        RawExplained::by(|src, dst, _, happenings, explanation| unsafe {
             let raw = self.raw.get();
             dma330_device_explain(
                 raw,
@@ -737,6 +777,26 @@ impl DeviceHandle {
                 happenings.as_mut_ptr(),
                 happenings.len(),
                 explanation,
+            )
+        })
+    }
+
+    pub fn explain_work(&self, channel: u8, most: u32) -> Result<RawExplained<RawWork>, Error> {
+        RawExplained::by(|src, dst, zeros, moments, work| unsafe {
+            let raw = self.raw.get();
+            dma330_device_explain_work(
+                raw,
+                channel,
+                most,
+                src.as_mut_ptr(),
+                src.len(),
+                dst.as_mut_ptr(),
+                dst.len(),
+                zeros.as_mut_ptr(),
+                zeros.len(),
+                moments.as_mut_ptr(),
+                moments.len(),
+                work,
             )
         })
     }
@@ -805,12 +865,54 @@ pub fn disassemble(program: &[u8], out: &mut [u8]) -> Result<usize, Error> {
     }
 }
 
-/// What a call of `dma330_explain` or `dma330_device_explain` writes.
-pub struct RawExplained {
+/// What a call that explains a program writes besides its lists.
+pub trait Answer: Default {
+    /// The items of its last list.
+    type Happening: Clone + Default;
+
+    /// The room that its four lists have at first.
+    const ROOM: [usize; 4];
+
+    /// Returns the numbers of items of the lists.
+    fn lens(&self) -> [usize; 4];
+
+    /// Returns the cause, its offset, and the number of instructions before it.
+    fn why(&self) -> [u32; 3];
+}
+
+impl Answer for RawExplanation {
+    type Happening = RawHappening;
+    const ROOM: [usize; 4] = [256, 256, 0, 64];
+
+    fn lens(&self) -> [usize; 4] {
+        [self.src_len, self.dst_len, 0, self.happenings_len]
+    }
+
+    fn why(&self) -> [u32; 3] {
+        [self.cause, self.pc, self.steps]
+    }
+}
+
+impl Answer for RawWork {
+    type Happening = RawMoment;
+    const ROOM: [usize; 4] = [256, 256, 256, 64];
+
+    fn lens(&self) -> [usize; 4] {
+        [self.src_len, self.dst_len, self.zeros_len, self.moments_len]
+    }
+
+    fn why(&self) -> [u32; 3] {
+        [self.cause, self.pc, self.steps]
+    }
+}
+
+/// What a call that explains a program writes. Only those of `RawWork` write `zeros`.
+pub struct RawExplained<A: Answer> {
     pub src: Vec<Repeated>,
     pub dst: Vec<Segment>,
-    pub happenings: Vec<RawHappening>,
-    pub explanation: RawExplanation,
+    pub zeros: Vec<Segment>,
+    pub happenings: Vec<A::Happening>,
+    pub answer: A,
 }
 
 // Returns a list of this length, or `NoMemory`: a guest's program determines how long the lists of an explanation are.
@@ -821,33 +923,38 @@ fn list_of<T: Clone + Default>(len: usize) -> Result<Vec<T>, Error> {
     Ok(list)
 }
 
-impl RawExplained {
+impl<A: Answer> RawExplained<A> {
     // Makes a call with lists of some room. If that is too small, as it is for few programs, repeats it, and so the run
-    // of the program, with the room that the explanation has.
+    // of the program, with the room that the answer has.
     fn by(
-        call: impl Fn(&mut [Repeated], &mut [Segment], &mut [RawHappening], &mut RawExplanation) -> i32,
-    ) -> Result<RawExplained, Error> {
-        let mut explanation = RawExplanation { src_len: 256, dst_len: 256, happenings_len: 64, ..Default::default() };
+        call: impl Fn(&mut [Repeated], &mut [Segment], &mut [Segment], &mut [A::Happening], &mut A) -> i32,
+    ) -> Result<RawExplained<A>, Error> {
+        let mut answer = A::default();
+        let mut room = A::ROOM;
         loop {
-            let mut src = list_of::<Repeated>(explanation.src_len)?;
-            let mut dst = list_of::<Segment>(explanation.dst_len)?;
-            let mut happenings = list_of::<RawHappening>(explanation.happenings_len)?;
-            match call(&mut src, &mut dst, &mut happenings, &mut explanation) {
+            let mut src = list_of::<Repeated>(room[0])?;
+            let mut dst = list_of::<Segment>(room[1])?;
+            let mut zeros = list_of::<Segment>(room[2])?;
+            let mut happenings = list_of::<A::Happening>(room[3])?;
+            let code = call(&mut src, &mut dst, &mut zeros, &mut happenings, &mut answer);
+            room = answer.lens();
+            match code {
                 OK => {
-                    src.truncate(explanation.src_len);
-                    dst.truncate(explanation.dst_len);
-                    happenings.truncate(explanation.happenings_len);
-                    return Ok(RawExplained { src, dst, happenings, explanation });
+                    src.truncate(room[0]);
+                    dst.truncate(room[1]);
+                    zeros.truncate(room[2]);
+                    happenings.truncate(room[3]);
+                    return Ok(RawExplained { src, dst, zeros, happenings, answer });
                 }
                 BUFFER_TOO_SMALL => {}
-                code => return Err(Error::of_explanation(code, &explanation)),
+                code => return Err(Error::of_explanation(code, answer.why())),
             }
         }
     }
 }
 
-pub fn explain(program: &[u8], bus: u32, most: u32) -> Result<RawExplained, Error> {
-    RawExplained::by(|src, dst, happenings, explanation| unsafe {
+pub fn explain(program: &[u8], bus: u32, most: u32) -> Result<RawExplained<RawExplanation>, Error> {
+    RawExplained::by(|src, dst, _, happenings, explanation| unsafe {
         dma330_explain(
             program.as_ptr(),
             program.len(),
@@ -864,9 +971,9 @@ pub fn explain(program: &[u8], bus: u32, most: u32) -> Result<RawExplained, Erro
     })
 }
 
-pub fn explain_from(program: &[u8], bus: u32, start: &RawRegisters, most: u32) -> Result<RawExplained, Error> {
-    RawExplained::by(|src, dst, happenings, explanation| unsafe {
-        dma330_explain_from(
+pub fn explain_work(program: &[u8], bus: u32, start: &RawRegisters, most: u32) -> Result<RawExplained<RawWork>, Error> {
+    RawExplained::by(|src, dst, zeros, moments, work| unsafe {
+        dma330_explain_work(
             program.as_ptr(),
             program.len(),
             bus,
@@ -876,9 +983,11 @@ pub fn explain_from(program: &[u8], bus: u32, start: &RawRegisters, most: u32) -
             src.len(),
             dst.as_mut_ptr(),
             dst.len(),
-            happenings.as_mut_ptr(),
-            happenings.len(),
-            explanation,
+            zeros.as_mut_ptr(),
+            zeros.len(),
+            moments.as_mut_ptr(),
+            moments.len(),
+            work,
         )
     })
 }

@@ -1,6 +1,7 @@
-//! An explanation whose lists are longer than those of a first call.
+//! Explanations whose lists are longer than those of a first call, and of what DMASTZ sets to 0.
 
-use dma330::{assemble, explain, Bus, Error, Happening, HappeningKind, Repeated, Segment};
+use dma330::{assemble, explain, explain_work, Bus, BusWidth, Cause, Device, DeviceConfig, Error, Happening, HappeningKind};
+use dma330::{Moment, Region, Registers, Repeated, Revision, Segment};
 
 #[test]
 fn long_lists_are_whole() -> Result<(), Error> {
@@ -13,5 +14,50 @@ fn long_lists_are_whole() -> Result<(), Error> {
     assert!(found.dst.into_iter().eq(places(0x8000).map(|addr| Segment::new(addr, 4))));
     assert_eq!(found.happenings, [Happening { kind: HappeningKind::Signals, event: 7, stored: 1200 }; 100]);
     assert_eq!((found.size, found.steps), (1200, 1302));
+    Ok(())
+}
+
+const ZEROS: Error = Error::Unexplained { cause: Cause::StoresZeros, pc: 0, steps: 0 };
+
+// Returns the bytes of a program that sets 4 bytes to 0 at each of these addresses: a DMAMOV CCR, then a DMAMOV DAR and a
+// DMASTZ for each.
+fn clears(places: impl Iterator<Item = u32>) -> Vec<u8> {
+    let mut program = vec![0xBC, 1, 0x05, 0x40, 0x01, 0x00];
+    for place in places {
+        program.extend([0xBC, 2]);
+        program.extend(place.to_le_bytes());
+        program.push(0x0C);
+    }
+    program
+}
+
+#[test]
+fn long_lists_of_zeros_are_whole() -> Result<(), Error> {
+    let places = (0..300).map(|n| 0x8000 + 32 * n);
+    let bus = Bus::Device(BusWidth::Bits32);
+    let program = [clears(places.clone()), [0x34, 7 << 3].repeat(100), vec![0x00]].concat();
+    let found = explain_work(&program, bus, &Registers::default(), 2000)?;
+    assert!(found.zeros.into_iter().eq(places.map(|addr| Segment::new(addr, 4))));
+    assert_eq!(found.moments, [Moment { kind: HappeningKind::Signals, event: 7, copied: 0, cleared: 1200 }; 100]);
+    assert_eq!((found.src, found.dst), (vec![], vec![]));
+    assert_eq!((found.copied, found.cleared, found.steps), (0, 1200, 702));
+    assert_eq!(explain(&program, bus, 2000), Err(ZEROS));
+    Ok(())
+}
+
+#[test]
+fn a_device_explains_zeros() -> Result<(), Error> {
+    let (bus, revision) = (BusWidth::Bits64, Revision::R1p2);
+    let config = DeviceConfig { channels: 1, events: 16, nonsecure: false, bus, lines: 64, revision };
+    let mut device = Device::open(config)?;
+    assert_eq!(device.explain_work(0, 100), Err(Error::NoProgram));
+    let mut ram = [clears([0x9000, 0x9004].into_iter()), vec![0x00]].concat();
+    // DMAGO of channel 0, by DBGINST0, DBGINST1 and DBGCMD
+    for (offset, value) in [(0xD08, 0x00A0_0000), (0xD0C, 0x8000_0000), (0xD04, 0)] {
+        device.write(offset, value, &[Region::new(0x8000_0000, &mut ram)])?;
+    }
+    let found = device.explain_work(0, 100)?;
+    assert_eq!((found.zeros, found.copied, found.cleared, found.steps), (vec![Segment::new(0x9000, 8)], 0, 8, 6));
+    assert_eq!(device.explain(0, 100), Err(ZEROS));
     Ok(())
 }

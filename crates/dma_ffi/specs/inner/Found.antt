@@ -1,4 +1,4 @@
--- The answer to a program that a copy explains, or none.
+-- The answer to a program that is explained, or not.
 use Rattle.std.specs.Prelude.{◌≡◌, ◌≢◌, ◌⊎◌, ℤ, Result, Ok, Err}
 use Rattle.dma_chan.specs.declared.explain.Cause.TheVariants.{TooLong, NoMemory}
 use Rattle.dma_chan.specs.declared.explain.Explained.{Explained}
@@ -6,20 +6,22 @@ use Rattle.dma_chan.specs.declared.explain.Unexplained.{Unexplained}
 use Rattle.dma_device.specs.declared.device.explain.ExplainFault.{ExplainFault}
 use Rattle.dma_device.specs.declared.device.explain.ExplainFault.TheVariants as faults
 use Rattle.dma_ffi.specs.Codes.{no_channel, no_memory, no_program, program_too_long, unexplained}
-use Rattle.dma_ffi.specs.Explaining.{Outputs, WritesFound, with_cause}
 
 -- What was found is written, or the cause, except of a program that is too long and if memory ran out; the code says
 -- which.
-abbrev pub Answers : Result Explained Unexplained → ℤ → Outputs → Outputs → Type 0
-Answers (Ok x) code before after = WritesFound x code before after
-Answers (Err u) code before after =
+abbrev pub Answers : {Out : Type 0} → (Explained → ℤ → Out → Out → Type 0) → (Unexplained → Out → Out)
+    → Result Explained Unexplained → ℤ → Out → Out → Type 0
+Answers Writes causes (Ok x) code before after = Writes x code before after
+Answers Writes causes (Err u) code before after =
     ((u.cause ≡ TooLong) × (code ≡ program_too_long) × (after ≡ before))
     ⊎ (((u.cause ≡ NoMemory) × (code ≡ no_memory) × (after ≡ before))
-    ⊎ ((u.cause ≢ TooLong) × (u.cause ≢ NoMemory) × (code ≡ unexplained) × (after ≡ with_cause u before)))
+    ⊎ ((u.cause ≢ TooLong) × (u.cause ≢ NoMemory) × (code ≡ unexplained) × (after ≡ causes u before)))
 
 -- The same of a device's channel; a channel that doesn't exist, or has no program, has a code of its own.
-abbrev pub AnswersDevice : Result Explained ExplainFault → ℤ → Outputs → Outputs → Type 0
-AnswersDevice (Ok x) code before after = Answers (Ok x) code before after
-AnswersDevice (Err (faults.Unexplained u)) code before after = Answers (Err u) code before after
-AnswersDevice (Err faults.NoChannel) code before after = (code ≡ no_channel) × (after ≡ before)
-AnswersDevice (Err faults.NoProgram) code before after = (code ≡ no_program) × (after ≡ before)
+abbrev pub AnswersDevice : {Out : Type 0} → (Explained → ℤ → Out → Out → Type 0) → (Unexplained → Out → Out)
+    → Result Explained ExplainFault → ℤ → Out → Out → Type 0
+AnswersDevice Writes causes (Ok x) code before after = Writes x code before after
+AnswersDevice Writes causes (Err (faults.Unexplained u)) code before after =
+    Answers Writes causes (Err u) code before after
+AnswersDevice Writes causes (Err faults.NoChannel) code before after = (code ≡ no_channel) × (after ≡ before)
+AnswersDevice Writes causes (Err faults.NoProgram) code before after = (code ≡ no_program) × (after ≡ before)
