@@ -216,6 +216,33 @@ static void keeps_its_registers(void)
     tear_down(&m);
 }
 
+/* So does a DMAKILL through the debug registers, but it drops the bytes that are loaded. */
+static void a_kill_keeps_them(void)
+{
+    static const uint8_t first[] = {
+        MOVE(TO_SAR, FROM), MOVE(TO_DAR, TO), MOVE(TO_CCR, BURSTS_16), DMALP, 4, DMALD, DMAWFE, 1 << 3, DMAEND
+    };
+    static const uint8_t stores[] = {DMAST, DMAEND};
+    static const uint8_t copies[] = {DMALD, DMAST, DMALPEND, 2, DMAEND};
+
+    set_up(&m, plain(1, 4, false));
+    memcpy(byte_at(m.bytes, LOW), first, sizeof first);
+    memcpy(byte_at(m.bytes, LOW + 0x100), stores, sizeof stores);
+    memcpy(byte_at(m.bytes, LOW + 0x200), copies, sizeof copies);
+    want_ram(&m);
+    start(&m, 0, LOW);
+    check(run(&m, 0), "it waits", 0);
+    stop(&m, 0);
+    check(get(&m, SAR) == FROM + 16 && get(&m, DAR) == TO && get(&m, CCR) == BURSTS_16 && get(&m, LC0) == 4, "a kill", 0);
+    start(&m, 0, LOW + 0x100);
+    check(!run(&m, 0) && get(&m, FTR) == 1 << 13 && is_ram_wanted(&m), "nothing is left to store", 0);
+    stop(&m, 0);
+    start(&m, 0, LOW + 0x200);
+    memcpy(byte_at(m.wanted, TO), byte_at(m.bytes, FROM + 16), 80);
+    check(!run(&m, 0) && get(&m, SAR) == FROM + 96 && get(&m, DAR) == TO + 80 && is_ram_wanted(&m), "five bursts", 0);
+    tear_down(&m);
+}
+
 /* Each event clears 16 bytes more, as long as the program isn't killed. */
 static void repeats_at_each_event(void)
 {
@@ -275,6 +302,7 @@ int main(void)
     }
     fails_in_rom();
     keeps_its_registers();
+    a_kill_keeps_them();
     repeats_at_each_event();
     has_no_others();
     return end_checks();

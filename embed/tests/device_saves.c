@@ -359,6 +359,20 @@ static void needs_room(void)
     tear_down(&m);
 }
 
+/* A program that sets no CCR copies a byte at fixed addresses, since CCR is 0 in a save of 1.5.0. */
+static void goes_on_with_its_registers(void)
+{
+    uint32_t at = put_move(&m, put_move(&m, LOW, TO_SAR, LOW + 0x400), TO_DAR, NEXT + 0x800);
+
+    put(&m, put(&m, put(&m, at, DMALD), DMAST), DMAEND);
+    want_ram(&m);
+    *byte_at(m.wanted, NEXT + 0x800) = *byte_at(m.bytes, LOW + 0x400);
+    start(&m, 0, LOW);
+    check(!run(&m, 0) && get(&m, CSR) == 0 && get(&m, CCR) == 0 && get(&m, SAR) == LOW + 0x400 &&
+          get(&m, DAR) == NEXT + 0x800 && is_ram_wanted(&m), "a DMAGO after an old save", 0);
+    dma330_device_reset(&m.device);
+}
+
 /* A save of this layout's version 1, byte by byte as docs/FORMATS.md says: INTEN and interrupt 0 are set, and the registers
  * of its one channel are 0, as they were after a reset. Later versions have to restore it; the save of what is restored is
  * of version 2. */
@@ -387,6 +401,8 @@ static void restores_this_layout(void)
     set_up(&m, plain(1, 1, false));
     check(dma330_device_restore(&m.device, kept, sizeof kept) == DMA330_OK, "a kept save", 0);
     check(get(&m, INTMIS) == 1 && get(&m, INTEN) == 1, "its interrupt", get(&m, INTMIS));
+    goes_on_with_its_registers();
+    check(dma330_device_restore(&m.device, kept, sizeof kept) == DMA330_OK, "once more", 0);
     check(has(&m, &wanted), "its save in this version", 0);
     dma330_device_reset(&m.device);
     check(dma330_device_restore(&m.device, wanted.bytes, wanted.len) == DMA330_OK && has(&m, &wanted), "restored again", 0);
