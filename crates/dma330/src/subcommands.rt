@@ -132,7 +132,7 @@ static ASM: Usage = Usage {
 
 static EXPLAIN: Usage = Usage {
     name: "explain",
-    about: "Prints what a program copies in every memory, or the first thing that is wrong with it",
+    about: "Prints what a program copies and sets to 0, or the first thing that is wrong with it",
     example: "Example:\n  dma330 explain --hex --bus 64 examples/linux.hex",
     arguments: &[
         HEX,

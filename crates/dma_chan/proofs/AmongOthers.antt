@@ -122,7 +122,7 @@ pub record IsDone (start : Registers) (program : List ℕ) (work : Work) (first 
   pub stored : u.channel.stored ≡ size_of work.copy + length (cleared work)
   pub all : IsWorked work first u.image
 
-abbrev amounts : ℕ → ℕ → Amounts
+abbrev pub amounts : ℕ → ℕ → Amounts
 amounts copied cleared = record { copied = copied; cleared = cleared }
 
 -- how many bytes an instruction stores

@@ -7,7 +7,7 @@ use Rattle.std.proofs.lemmas.Bool.{cases_Bool, cases_eq}
 use Rattle.std.proofs.lemmas.List.Elements.{Contains-get_or}
 use Rattle.std.proofs.lemmas.List.FromFn.{get_or-map-range_with_len, length-map-range_with_len}
 use Rattle.dma_mem.specs.declared.segment.Segment.{Segment}
-use Rattle.dma_mem.specs.Places.{destinations, sources}
+use Rattle.dma_mem.specs.Places.{destinations, size_of, sources}
 use Rattle.dma_mem.specs.Image.{laid}
 use Rattle.dma_chan.specs.declared.exec.Registers.{Registers}
 use Rattle.dma_chan.specs.declared.turn.ChanTurn.{ChanTurn}
@@ -17,9 +17,9 @@ use Rattle.dma_chan.specs.Stepping.{Machine}
 use Rattle.dma_chan.specs.Written.{LiesIn}
 use Rattle.dma_chan.specs.declared.explain.Amounts.{Amounts}
 use Rattle.dma_chan.specs.Others.{IsWorked, Touches, Uses}
-use Rattle.dma_chan.specs.Explains.{Executes, Explains, IsLoadedWith, IsWork, Work, all_of, amounts_of, cleared, traced}
+use Rattle.dma_chan.specs.Explains.{Executes, Explains, IsLoadedWith, IsReached, IsWork, Work, all_of, amounts_of, cleared, traced}
 use Rattle.dma_chan.specs.Changes.{System, Call, Change, Sets, Calls, Guest, DoesCall, TakesCall, Does, DoesAll, LendsAll, SinceLoad, KeepsUsed, LeavesAlone, HasFirst, HasCopied, CopiesSinceLoad, bytes_in, Holds, Gives, HaveWorks, WritesElsewhere, IsApart, ChannelsCopy}
-use Rattle.dma_chan.proofs.AmongOthers.{Fits, is_in}
+use Rattle.dma_chan.proofs.AmongOthers.{Fits, amounts, is_in}
 use Rattle.dma_chan.proofs.CallsAmongOthers.{done_at, Leads, Runs, at_first, call, call_fails, call_waits, either_way, not_none, signalled, survived}
 use Rattle.dma_chan.proofs.CallWrites.{call_stays_in, call_writes_no_other, inside}
 use Rattle.dma_chan.proofs.LaidPlaces.{laid_copied, laid_kept}
@@ -64,6 +64,13 @@ part_first work first done image h low part =
       ];
     }
 
+-- what is reached is no more than all
+pub cleared_within : (start : Registers) (program : List ℕ) (work : Work) (n : ℕ) (done : Amounts) → Explains start program work n → IsReached start program n done → done.cleared ≤ length (cleared work)
+cleared_within start program work n done h r =
+    let x = traced start program r.0 in
+    let inner = inside start program work n h r.0 r.1 in
+    omega (arith, ap (λ (d : Amounts). d.cleared) r.2, ap length inner.zeros, length-append x.zeros inner.zeros_rest)
+
 -- so is all of it, once it is done
 pub worked_part : (work : Work) (first image : List ℕ) → IsWorked work first image → IsPart work first (all_of work) image
 worked_part work first image h =
@@ -79,13 +86,13 @@ module _ (start : Registers) (program : List ℕ) (work : Work) (n : ℕ) (first
   -- what a machine's channel has done, and its image
   pub record IsSoFar (v : Machine) : Type 0 where
     pub count : let done = done_at start program v in v.channel.stored ≡ done.copied + done.cleared
-    pub within : (done_at start program v).cleared ≤ length (cleared work)
+    pub reached : IsReached start program n (done_at start program v)
     pub part : IsPart work first (done_at start program v) v.image
 
-  so_far : (v : Machine) (done : Amounts) → done_at start program v ≡ done → v.channel.stored ≡ done.copied + done.cleared → done.cleared ≤ length (cleared work) → IsPart work first done v.image → IsSoFar v
-  so_far v done e count within part = record {
+  so_far : (v : Machine) (done : Amounts) → done_at start program v ≡ done → v.channel.stored ≡ done.copied + done.cleared → IsReached start program n done → IsPart work first done v.image → IsSoFar v
+  so_far v done e count reached part = record {
     count = subst (λ (d : Amounts). v.channel.stored ≡ d.copied + d.cleared) (sym e) count;
-    within = subst (λ (d : Amounts). d.cleared ≤ length (cleared work)) (sym e) within;
+    reached = subst (IsReached start program n) (sym e) reached;
     part = subst (λ (d : Amounts). IsPart work first d v.image) (sym e) part;
   }
 
@@ -97,15 +104,21 @@ module _ (start : Registers) (program : List ℕ) (work : Work) (n : ℕ) (first
       let inner = inside start program work n h k r.1.within in
       let zeros : take (length x.zeros) (cleared work) ≡ x.zeros = ap (take (length x.zeros)) inner.zeros ∙ take_at x.zeros inner.zeros_rest (length x.zeros) refl in
       so_far v (amounts_of x) (ap (λ (j : ℕ). amounts_of (traced start program j)) r.1.taken) r.1.stored
-      (omega (arith, ap length inner.zeros, length-append x.zeros inner.zeros_rest))
+      (k, r.1.within, refl)
       (record {
         same = m.same;
         zeros = λ a i. m.zeros a (subst (λ (xs : List ℕ). Contains xs a) zeros i);
         rest = λ a i off. m.rest a i (λ j. off (subst (λ (xs : List ℕ). Contains xs a) (sym zeros) j));
       })
 
+  -- all is done behind the n instructions
+  all_done : amounts_of (traced start program n) ≡ all_of work
+  all_done =
+      ap (λ (xs : List ℕ). amounts (length xs) (length (traced start program n).zeros)) h.stores
+      ∙ ap (λ (xs : List ℕ). amounts (size_of work.copy) (length xs)) h.zeros
+
   leads_so : (o : Option ChanTurn) (v : Machine) → Leads start program work n first o v → IsSoFar v
-  leads_so (Some Ended) v d = so_far v (all_of work) d.done d.stored (omega arith) (worked_part work first v.image d.all)
+  leads_so (Some Ended) v d = so_far v (all_of work) d.done d.stored (n, omega arith, all_done) (worked_part work first v.image d.all)
   leads_so o v r = runs_so v r
 
 module _ (start : Registers) (program : List ℕ) (work : Work) (n : ℕ) (first : List ℕ) (h : Explains start program work n) (low : Fits work (length first)) where
@@ -118,7 +131,7 @@ module _ (start : Registers) (program : List ℕ) (work : Work) (n : ℕ) (first
       record {
         done = done_at start program c.left;
         count = so.count;
-        within = so.within;
+        reached = so.reached;
         bytes = part_first work first (done_at start program c.left) c.left.image h.work low so.part;
         writes = λ a i.
             let stays = call_stays_in start program work n c.marks c.found c.most c.taken c.last c.left h (r.0, is_in start program work n first r.0 c.found.image c.found.channel r.1) does.steps in
@@ -192,7 +205,7 @@ module _ (start : Registers) (program : List ℕ) (work : Work) (n : ℕ) (size 
       record {
         done = all.done;
         count = all.count;
-        within = all.within;
+        reached = all.reached;
         bytes = first_agrees work all.done (bytes_in first) (bytes_in c.left.image) memory v.memory h.work
             (λ a touches. sym (shows memory a touches)) (λ a touches. takes.leaves a (lent a touches)) all.bytes;
         writes = all.writes;

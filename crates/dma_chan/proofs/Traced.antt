@@ -193,7 +193,7 @@ put_zeros image b a up low i =
     let n = burst_len b in
     let span : span_of b ≡ n = rw up refl in
     let within = range_in b.addr n a (subst (λ (xs : List ℕ). Contains xs a) (touched_up b up) i) in
-    let zeros = replicate n 0 in
+    let zeros : List ℕ = replicate n 0 in
     let k = a - b.addr in
     let less : k < n = omega arith in
     let found : lookup (nat_eq a) (bytes_at b.addr zeros) ≡ Some (get_or zeros k 0) = lookup_bytes_at b.addr zeros k a (omega (arith, less, length-replicate {A = ℕ} n 0)) (omega (arith, within.0)) in

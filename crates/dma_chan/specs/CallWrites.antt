@@ -31,8 +31,8 @@ LoadExecutes =
     (start : Registers) (program : List ℕ) (n : ℕ) (c : ChannelValue) → IsLoadedWith start program c →
     Executes start program n c
 
--- Each call on a channel that executes a program that a work explains stays in it, whatever the memory's size and bytes,
--- the marks and the flags are, and whatever others wrote before.
+-- Each call on a channel that executes a program that a work explains stays in it, whatever the memory's size and
+-- bytes, the marks and the flags are, and whatever others wrote before.
 abbrev pub CallStaysIn : Type 0
 CallStaysIn =
     (start : Registers) (program : List ℕ) (w : Work) (n : ℕ) (marks : MarkList) (s : Machine) (most taken : ℕ)

@@ -14,7 +14,7 @@ use Rattle.dma_chan.specs.Stepping.{Machine, TakesSteps, signal_after, written_a
 use Rattle.dma_chan.specs.Written.{LiesIn}
 use Rattle.dma_chan.specs.declared.explain.Amounts.{Amounts}
 use Rattle.dma_chan.specs.Others.{MissesAll, Uses}
-use Rattle.dma_chan.specs.Explains.{Executes, Explains, IsCopy, IsLoadedWith, IsSignal, IsWait, Work, all_of, cleared, only, written}
+use Rattle.dma_chan.specs.Explains.{Executes, Explains, IsCopy, IsLoadedWith, IsReached, IsSignal, IsWait, Work, all_of, cleared, only, written}
 
 -- Channels by number, and the memory that they share: the byte at each address.
 pub record System : Type 0 where
@@ -108,8 +108,8 @@ LeavesAlone w ch (Calls call) before after =
 LeavesAlone w ch Guest before after = KeepsUsed w before after
 
 -- A memory after the first part of a work, from the memory `first`: the first destinations, as many as are copied, have
--- the bytes that the sources with the same numbers had; the first addresses to be set to 0, as many as are cleared, have
--- 0; and each other address that the work uses has its own byte.
+-- the bytes that the sources with the same numbers had; the first zeros, as many as are cleared, have 0; and each other
+-- address that the work uses has its own byte.
 pub record HasFirst (w : Work) (done : Amounts) (first memory : ℕ → ℕ) : Type 0 where
   pub copied : (p : ℕ) → p < done.copied → p < size_of w.copy →
       memory (slice_index (destinations w.copy) p) ≡ first (slice_index (sources w.copy) p)
@@ -118,8 +118,8 @@ pub record HasFirst (w : Work) (done : Amounts) (first memory : ℕ → ℕ) : T
       ¬ Contains (take done.cleared (cleared w)) a → memory a ≡ first a
 
 -- The result of a call, if `first` is the memory at the load of a program of which this work explains n instructions,
--- and `memory` the one after the call. This part of the work is done: as many bytes as the channel counts in `stored`,
--- also if the program is stopped there, waits or has failed, and all when it ends. Each address in the range that the
+-- and `memory` the one after the call. This part of the work is done: the program has got there, with as many bytes as
+-- the channel counts in `stored`, also if the program is stopped there, waits or has failed, and all when it ends. Each address in the range that the
 -- call reports as written is one that the work writes. A signal that the call reports is one of the program's DMASEVs,
 -- and is set when this part is done. A call waits only for the event of one of the program's DMAWFEs, and doesn't fail
 -- if no mark lies at an address that the work uses.
@@ -127,7 +127,7 @@ pub record HasCopied (start : Registers) (program : List ℕ) (w : Work) (n : �
     (call : Call) : Type 0 where
   pub done : Amounts
   pub count : call.left.channel.stored ≡ done.copied + done.cleared
-  pub within : done.cleared ≤ length (cleared w)
+  pub reached : IsReached start program n done
   pub bytes : HasFirst w done first memory
   pub writes : (a : ℕ) → LiesIn call.written a → Contains (written w) a
   pub signals : (e : ℕ) → call.signal ≡ Some e → IsSignal start program n e done
@@ -135,7 +135,7 @@ pub record HasCopied (start : Registers) (program : List ℕ) (w : Work) (n : �
   pub waits : (e : ℕ) → call.last ≡ Some (Waiting e) → IsWait start program n e
   pub never_fails : (kind : FaultKind) → MissesAll call.marks w → call.last ≢ Some (Fault kind)
 
--- Each call on a channel has copied, if a work explains its program and was left alone since its load.
+-- Each call on a channel has done its part, if a work explains its program and was left alone since its load.
 abbrev pub CopiesSinceLoad : Type 0
 CopiesSinceLoad =
     (start : Registers) (program : List ℕ) (w : Work) (n : ℕ) (changes : ℕ → Change) (states : ℕ → System)
@@ -180,8 +180,8 @@ abbrev pub WritesElsewhere : Work → Option Work → Call → Type 0
 WritesElsewhere w None call = (a : ℕ) → Uses w a → ¬ LiesIn call.written a
 WritesElsewhere w (Some other) call = (a : ℕ) → Uses w a → ¬ Contains (written other) a
 
--- A change is apart from the work w of a channel: it gives the channel no other value than it has; a call on the channel
--- is lent what w uses; and a call on another channel and the guest write elsewhere.
+-- A change is apart from the work w of a channel: it gives the channel no other value than it has; a call on the
+-- channel is lent what w uses; and a call on another channel and the guest write elsewhere.
 abbrev pub IsApart : Work → ℕ → (ℕ → Option Work) → Change → System → System → Type 0
 IsApart w ch own (Sets other c) before after = other ≡ ch → c ≡ before.channels ch
 IsApart w ch own (Calls call) before after =
@@ -189,8 +189,8 @@ IsApart w ch own (Calls call) before after =
 IsApart w ch own Guest before after = KeepsUsed w before after
 
 -- Any number of channels get transfers' and guests' programs at any time, and are stepped in any order. Each call on a
--- channel has done its part of the work, if since its load all changes were apart from it. What was before the load, and
--- what is written to other works' ranges, doesn't matter.
+-- channel has done its part of the work, if since its load all changes were apart from it. What was before the load,
+-- and what is written to other works' ranges, doesn't matter.
 abbrev pub ChannelsCopy : Type 0
 ChannelsCopy =
     (start : Registers) (program : List ℕ) (w : Work) (n : ℕ) (own : ℕ → ℕ → Option Work) (changes : ℕ → Change)

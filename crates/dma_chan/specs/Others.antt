@@ -37,16 +37,16 @@ pub record MissesAll (marks : MarkList) (w : Work) : Type 0 where
 abbrev pub work_below : Work → ℕ → Bool
 work_below w size = lies_below w.copy size && all_below w.zeros size
 
--- The work is done: each address that the copy touches has the same byte as after one simultaneous copy of all its bytes
--- in the memory `first`, and each address that is set to 0 has 0.
+-- The work is done: each address that the copy touches has the same byte as after one simultaneous copy of all its
+-- bytes in the memory `first`, and each address that is set to 0 has 0.
 pub record IsWorked (w : Work) (first image : List ℕ) : Type 0 where
   pub copied : (a : ℕ) → Touches w.copy a → slice_index image a ≡ slice_index (laid first w.copy (size_of w.copy)) a
   pub zeros : (a : ℕ) → Contains (cleared w) a → slice_index image a ≡ 0
 
 -- A channel executes the n instructions before DMAEND of a program that this work explains. `channel k` is the channel
 -- before instruction number k, which is executed with these marks and flags and with a memory that contains the ranges
--- of the work. Between two instructions others may write any byte that the work neither reads nor writes, and may change
--- the memory's size, any flag and any mark.
+-- of the work. Between two instructions others may write any byte that the work neither reads nor writes, and may
+-- change the memory's size, any flag and any mark.
 pub record RunsAmongOthers (start : Registers) (program : List ℕ) (w : Work) (n : ℕ) (marks : ℕ → MarkList)
     (channel : ℕ → ChannelValue) (image : ℕ → List ℕ) (flags : ℕ → List Bool) : Type 0 where
   pub begins : IsLoadedWith start program (channel 0)

@@ -87,7 +87,7 @@ pub struct Explained {
     pub bursts: BurstCounts,
 }
 
-/// Why nothing explains a program. A DMASTZ is a store too.
+/// Why nothing explains a program. In all but `Fails`, a DMASTZ is a store too.
 #[derive(Clone, Copy, PartialEq, Eq)]
 pub enum Cause {
     /// The program has more than [`MAX_PROGRAM_BYTES`].
@@ -142,7 +142,7 @@ struct Stop {
     addr: u32,
 }
 
-// Returns what a run to DMAEND has copied.
+// Returns what a run to DMAEND has done.
 fn finish(alloc: Global, tracer: Tracer, steps: u32) -> Result<Explained, Stop>
     requires { IsTracer tracer }
     ensures ok { IfOk result (λ x. IsCopied tracer steps x) }

@@ -81,9 +81,9 @@ pub fn refused_is_unexplained()
     ensures { RefusedUnexplained }
 {}
 
-/// A program that a transfer explains, and that runs while others write the memory between its steps, makes one
-/// simultaneous copy of all the transfer's bytes, at the transfer's own places. Each step may have different marks and
-/// a memory of another size.
+/// A program that a work explains, and that runs while others write the memory between its steps, makes one
+/// simultaneous copy of all bytes of its copy and sets its zeros to 0. Each step may have different marks and a memory
+/// of another size.
 pub fn copies_among_others()
     ensures { CopiesAmongOthers }
 {}
@@ -93,7 +93,7 @@ pub fn calls_copy_among_others()
     ensures { CallsCopyAmongOthers }
 {}
 
-/// If regions contain all addresses that a transfer touches, and those that it writes aren't read-only, then no gap
+/// If regions contain all addresses that a work uses, and those that it writes aren't read-only, then no gap
 /// between them and no read-only region lies where one of its bursts would fail. So the calls of
 /// [`calls_copy_among_others`] don't fail there.
 pub fn gaps_miss()
@@ -116,8 +116,8 @@ pub fn call_writes_no_other()
     ensures { CallWritesNoOther }
 {}
 
-/// From the load of a program that a transfer explains to its end, the range that a call reports as written has only
-/// destinations of the transfer, whatever others write.
+/// From the load of a program that a work explains to its end, the range that a call reports as written has only what
+/// the work writes, whatever others write.
 pub fn writes_its_destinations()
     ensures load { LoadExecutes }
     ensures call { CallStaysIn }
@@ -128,24 +128,24 @@ pub fn reads_no_other()
     ensures { ReadsNoOther }
 {}
 
-/// From the load of a program that a transfer explains to its end, the steps of a call read only sources of the
-/// transfer, whatever others write. Bytes elsewhere have no effect: after each step of the call the channel, the flags
+/// From the load of a program that a work explains to its end, the steps of a call read only sources of its copy,
+/// whatever others write. Bytes elsewhere have no effect: after each step of the call the channel, the flags
 /// and what was written are the same. (By `reads_no_other` the answers are.)
 pub fn reads_its_sources()
     ensures within { CallReadsIn }
     ensures no_other { CallReadsNoOther }
 {}
 
-/// A program that a transfer explains copies if, between its own load and a call on its channel, nobody else writes
-/// what the transfer reads or writes. After each call the destinations have the bytes that are stored so far: at a
-/// signal as many as the program stores before that DMASEV, and all when the call ends. Each call may be lent other
-/// regions, and other bytes may follow the program.
+/// A program that a work explains does it if, between its own load and a call on its channel, nobody else writes what
+/// the work reads or writes. After each call the bytes that are stored so far are copied or 0: at a signal as many as
+/// the program stores before that DMASEV, and all when the call ends. Each call may be lent other regions, and other
+/// bytes may follow the program.
 pub fn copies_since_load()
     ensures { CopiesSinceLoad }
 {}
 
 /// The same of any number of channels, which are loaded at any time and stepped in any order. Of another channel with a
-/// program that a transfer explains it is enough that the transfer writes elsewhere, and of one with any program that
+/// program that a work explains it is enough that the work writes elsewhere, and of one with any program that
 /// its calls report other addresses as written.
 pub fn channels_copy()
     ensures { ChannelsCopy }

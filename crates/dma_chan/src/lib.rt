@@ -10,13 +10,13 @@
 //! `copy::copy_at_once` makes it without the program. A call over lent memory is a chain of single steps
 //! (`lent::step_regions`: `TakesSteps`). It changes no byte outside the range that it reports (`kept`,
 //! `laws::call_writes_no_other`), and each address in it was written (`writes_each`). A program, compiled or not, that
-//! a copy explains (`Explains`) has copied as many bytes as the channel counts, and all of them at its end, if since
-//! its load nobody else wrote what the copy reads or writes; its signals and waits are the program's
-//! (`copies_since_load`, `channels_copy`). Until its end it writes only the copy's destinations and reads only its
-//! sources (`writes_its_destinations`, `reads_its_sources`); what a step doesn't read has no effect on it
-//! (`reads_no_other`). `explain::explain` finds the copy and the events, or why and where there is none
-//! (`refused_is_unexplained`). A save restores its channel, and nothing else is accepted (`Channel::save`, `restore`).
-//! No page is made except for a store (`run_program`).
+//! a work explains (`Explains`) has copied and set to 0 as many bytes as the channel counts, and all of them at its
+//! end, if since its load nobody else wrote what the work reads or writes; its signals and waits are the program's
+//! (`copies_since_load`, `channels_copy`). Until its end it writes only what the work writes and reads only its sources
+//! (`writes_its_destinations`, `reads_its_sources`); what a step doesn't read has no effect on it (`reads_no_other`).
+//! `explain::explain` finds the work and the events, or why and where there is none (`refused_is_unexplained`). A save
+//! restores its channel, and nothing else is accepted (`Channel::save`, `restore`). No page is made except for a store
+//! (`run_program`).
 //!
 //! Not proved: that an allocation succeeds, and that blocks are moved. A `run_bodies` that moves nothing satisfies its
 //! contract.

@@ -27,7 +27,7 @@ pub record HasRisen (run : GivenTurns) (i k : ℕ) : Type 0 where
   pub low : ¬ IsHigh (irqs (run.before turn)) i
   pub high : IsHigh (irqs (run.after turn)) i
 
--- At least these numbers of bytes are done.
+-- At least this is done.
 pub record IsAtLeast (least done : Amounts) : Type 0 where
   pub copied : least.copied ≤ done.copied
   pub cleared : least.cleared ≤ done.cleared
@@ -41,8 +41,7 @@ pub record AreDone (w : Work) (least : Amounts) (first memory : List ℕ) : Type
       slice_index memory (slice_index (cleared w) p) ≡ 0
   pub kept : (a : ℕ) → Contains (sources w.copy) a → slice_index memory a ≡ slice_index first a
 
--- Once line i rose in a turn, the first `least` bytes are copied and set to 0, if the program does as many before each
--- of its DMASEVs of event i.
+-- Once line i rose in a turn, `least` is done, if the program does as much before each of its DMASEVs of event i.
 abbrev pub DmagoInterrupts : Type 0
 DmagoInterrupts =
     (go : Go) (w : Work) (n : ℕ) (run : GivenTurns) (i : ℕ) (least : Amounts) → RunsCopy go w n run →

@@ -1,4 +1,4 @@
--- What the program of a channel copies and sets to 0, as the device explains it, and that its turns stay in that.
+-- What the program of a channel copies and sets to 0, as the device explains it, and that its turns stay in this work.
 use Rattle.std.specs.Prelude.{◌≡◌, ◌≢◌, ◌⊎◌, ℕ, ◌+◌, ◌-◌, ◌<◌, ◌≤◌, Bool, List, length, Option, None, slice_get, IsSomeAnd}
 use Rattle.std.specs.List.{Contains}
 use Rattle.std.specs.Option.{option_and_then, option_map}

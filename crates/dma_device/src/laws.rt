@@ -17,8 +17,8 @@ pub fn memory_has_bytes()
     ensures { ImageHasBytes }
 {}
 
-/// A driver puts a program that is explained from the channel's registers into RAM, and starts it there by a DMAGO. The
-/// program makes one simultaneous copy of all bytes and sets its ranges of zeros to 0, whatever the guest and other
+/// A driver puts into RAM a program that is explained from the channel's registers, and starts it there by a DMAGO. The
+/// program makes one simultaneous copy of all bytes and sets its other ranges to 0, whatever the guest and other
 /// channels do meanwhile to other bytes and registers. It is done once the channel's CSR reads as stopped. Once a line
 /// that was low is high after a turn of the channel, at least as many bytes are copied and set to 0 as before each
 /// DMASEV of the line's event.

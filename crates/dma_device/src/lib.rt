@@ -17,10 +17,10 @@
 //! (`laws::damage_is_refused`).
 //!
 //! A program that is explained from the registers that its channel has (`dma_chan`'s specs/Explains.antt), put into RAM
-//! and started by a DMAGO, makes one simultaneous copy and sets its ranges of zeros to 0, whatever events it waits for
+//! and started by a DMAGO, makes one simultaneous copy and sets its other ranges to 0, whatever events it waits for
 //! and signals; from any registers a transfer explains its program that is compiled for the bus. All is done once the
-//! channel's CSR reads as stopped. Once a line that was low is high after one of its turns, as much is done as before
-//! the DMASEV (`laws::a_dmago_copies`). Of other programs the laws of interrupts hold, and what
+//! channel's CSR reads as stopped. Once a line that was low is high after one of its turns, as much is done as the
+//! program does before the DMASEV (`laws::a_dmago_copies`). Of other programs the laws of interrupts hold, and what
 //! specs/Turns.antt says of each turn. The program never fails, if the regions contain all addresses that it reads and
 //! writes, none that it writes is read-only, and the device has the program's events (`laws::a_dmago_never_fails`). It
 //! then finishes after as many turns as it executes instructions, if no turn begins at a DMAWFE of an event that isn't
@@ -28,8 +28,8 @@
 //!
 //! [`device::Device::explain`] returns what the program of a channel copies and sets to 0, or why nothing explains it:
 //! for a debugger, and for a host that refuses a DMAGO whose program touches what it must not. From the DMAGO on, until
-//! the channel gets another program, its turns write only what was found and read only its sources, whatever the guest
-//! writes meanwhile (`laws::turns_stay_in`).
+//! the channel gets another program, its turns write only the destinations and zeros that were found, and read only the
+//! sources, whatever the guest writes meanwhile (`laws::turns_stay_in`).
 //!
 //! An interrupt is neither lost nor invented: from a reset on, its line is high exactly if a turn or the debug
 //! registers executed its DMASEV while INTEN made it an interrupt, or a restored device had it high, and no write to

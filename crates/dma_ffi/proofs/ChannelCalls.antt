@@ -35,7 +35,7 @@ use Rattle.dma_chan.proofs.CompiledExplained.{compiled_events, compiled_explaine
 use Rattle.dma_chan.proofs.CallsAmongOthers.{Runs, at_first, goes, survived}
 use Rattle.dma_chan.proofs.PlacesKept.{long_above}
 use Rattle.dma_chan.proofs.RegionsHave.{gaps_miss}
-use Rattle.dma_chan.proofs.SinceLoads.{has_copied, leads}
+use Rattle.dma_chan.proofs.SinceLoads.{cleared_within, has_copied, leads}
 use Rattle.dma_chan.proofs.StepsTaken.{steps_move}
 use Rattle.dma_chan.proofs.SteppedOver.{writes_each}
 use Rattle.dma_ffi.specs.declared.channel_steps.ChannelReport.{ChannelReport}
@@ -251,7 +251,7 @@ module _ (program : List ℕ) (last_number : ℕ) (t : Descriptor) (count : ℕ)
       let all = has_copied (start_on Ideal) program w last_number first explains (first_below k l) (the_call k l) (along k l) (does_it k l) in
       let said = d.3.reported in
       let pc = d.1.channel.registers.pc in
-      let done : all.done ≡ copied_bytes (channel_of call.left).stored = only_done all.done (channel_of call.left).stored all.count all.within in
+      let done : all.done ≡ copied_bytes (channel_of call.left).stored = only_done all.done (channel_of call.left).stored all.count (cleared_within (start_on Ideal) program w last_number all.done explains all.reached) in
       record {
         bytes = subst (λ (x : Amounts). chan.HasFirst w x (chan.bytes_in first) (chan.bytes_in (memory_of call.left))) done all.bytes;
         writes = λ a i. only_written t a (all.writes a (subst (λ (w : Segment). LiesIn w a) (reported_range call d) i));

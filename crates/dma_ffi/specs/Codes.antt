@@ -103,7 +103,7 @@ bad_save = minus 42
 abbrev pub other_device : ℤ
 other_device = minus 43
 
--- no copy explains the program
+-- the program isn't explained
 abbrev pub unexplained : ℤ
 unexplained = minus 70
 

@@ -98,7 +98,7 @@ WritesIf fits as_c x code src src' dst dst' happenings happenings' =
     × (dst' ≡ (if fits then laid_over x.dst.items dst else dst))
     × (happenings' ≡ (if fits then laid_over (map as_c x.events.items) happenings else happenings))
 
--- ---- what a call writes that has no list of what is set to 0
+-- ---- what a call writes without a list of zeros
 
 -- a happening as C sees it
 abbrev pub happening_of : Happening → DmaHappening
@@ -148,7 +148,7 @@ pub record WritesFound (x : Explained) (code : ℤ) (before after : Outputs) : T
   pub lists : WritesLists x code before.src after.src before.dst after.dst before.happenings after.happenings
   pub explanation : after.explanation ≡ explanation_of x
 
--- So if nothing is set to 0. Else the code is `unexplained`, and this cause is written, with the start as its place.
+-- The same if nothing is set to 0. Else the code is `unexplained`, and `stores_zeros` is written, at offset 0.
 abbrev pub WritesCopy : Explained → ℤ → Outputs → Outputs → Type 0
 WritesCopy x code before after =
     ((x.zeros.items ≡ []) × WritesFound x code before after)
@@ -159,9 +159,9 @@ WritesCopy x code before after =
 abbrev pub with_cause : Unexplained → Outputs → Outputs
 with_cause u before = record before { explanation = unexplained_with (cause_number u.cause) u.steps u.pc }
 
--- ---- what a call writes that has one
+-- ---- what a call writes with a list of zeros
 
--- a happening as C sees it
+-- a moment as C sees it
 abbrev pub moment_of : Happening → Moment
 moment_of h =
     let numbers = sync_numbers h.sync in
@@ -226,8 +226,8 @@ with_work_cause u before = record before { work = unexplained_work_of u }
 -- ---- calls, by how they write what was found, or the cause
 
 -- What a call returns and writes that explains a program of at most 8,192 bytes that begins with these registers, with
--- at most this number of instructions. It writes what explains the program (`Finds`); or returns `unexplained` and
--- writes why nothing does, and where (`Refuses`); or returns `no_memory` and writes nothing.
+-- at most this number of instructions. What is found (`Finds`) is written in the call's way; or it returns
+-- `unexplained` and writes why nothing is, and where (`Refuses`); or it returns `no_memory` and writes nothing.
 abbrev pub ExplainsFrom : {Out : Type 0} → (Explained → ℤ → Out → Out → Type 0) → (Unexplained → Out → Out)
     → Registers → List ℕ → ℕ → ℤ → Out → Out → Type 0
 ExplainsFrom Writes causes start program most code before after =

@@ -87,7 +87,7 @@ pub const CUT_INSTRUCTION: i32 = -60;
 pub const UNKNOWN_INSTRUCTION: i32 = -61;
 /// A field of an instruction is outside its range.
 pub const BAD_FIELD: i32 = -62;
-/// No copy explains the program.
+/// The program isn't explained.
 pub const UNEXPLAINED: i32 = -70;
 
 /// Returns the code of a refused call.

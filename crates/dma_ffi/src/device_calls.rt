@@ -222,7 +222,8 @@ fn code_of_restore(answer: Result<(), RestoreFault>) -> i32
 }
 
 /// Restores the device from a save of this version or of version 1. Fails if the save is of a device of another version
-/// or configuration. Fails too if the bytes are the save of no device, and then the device is in its state after a reset.
+/// or configuration. Fails too if the bytes are the save of no device, and then the device is in its state after a
+/// reset.
 #[unsafe(no_mangle)]
 pub extern "C" fn dma330_device_restore(kept: &mut KeptDevice, save: &[u8]) -> i32
     ensures { OnOpen (Restores save.now) kept.old.device.value result kept.new.device.value }

@@ -246,8 +246,8 @@ fn answer_device(
 /// Explains a program that begins with registers that are 0 by one run without memory, for at most `most` instructions,
 /// on the ideal bus or a chip's. Writes what it reads, what it writes and its happenings to the fronts of the lists, in
 /// the order of the run, and their numbers, the number of bytes and of instructions to `explanation`. If no copy
-/// explains the program, it returns `UNEXPLAINED`, and `explanation` has the cause and the place; so if the program
-/// also sets bytes to 0, with a cause of its own and no place. If a list is too small, no list changes, and
+/// explains the program, it returns `UNEXPLAINED`, and `explanation` has the cause and the place; a program
+/// that also sets bytes to 0 has a cause of its own, at offset 0. If a list is too small, no list changes, and
 /// `explanation` has the numbers. Fails too if no bus has this number, if the program is longer than 8,192 bytes, or if
 /// out of memory; then nothing is written.
 #[unsafe(no_mangle)]

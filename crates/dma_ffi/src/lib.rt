@@ -6,8 +6,8 @@
 //! channel is a sequence of single steps over the caller's memory and flags, each code has its cause, and a refused
 //! call changes nothing (`specs/Channels.antt`). Calls that load a transfer into a channel and step it have copied as
 //! many bytes as the channel counts, and all when a report says that it signalled or ended, if nobody else writes what
-//! the transfer reads or writes meanwhile (`laws::channel_calls_copy`). A call that explains a program writes the work
-//! that explains it, or why and where none does (`specs/Explaining.antt`); a call that plans writes the program of its
+//! the transfer reads or writes meanwhile (`laws::channel_calls_copy`). A call that explains a program writes what
+//! explains it, or why and where it can't (`specs/Explaining.antt`); a call that plans writes the program of its
 //! transfer for a bus (`PlansTransfer`).
 //!
 //! The proofs assume that the caller fulfils its duties (docs/EMBEDDING.md). Controllers and channels are zeros before

@@ -58,7 +58,7 @@ pub struct WorkFound {
 
 // ---- numbers
 
-// Returns a happening as C sees it.
+// Returns a moment as C sees it.
 fn moment_of(happening: Happening) -> Moment
     ensures { result ≡ moment_of happening }
 {

@@ -146,7 +146,7 @@ fault_text kind first next f =
 
 -- ---- causes
 
--- why an instruction is part of no copy, by the registers and the buffer before it, after this number of others
+-- why an instruction is part of no work, by the registers and the buffer before it, after this number of others
 unfoldable pub cause_text : Cause → Option ℕ → Result ChipInsn FaultKind → ℕ → Front → List ℕ
 cause_text causes.TooLong first next n f = codes "the program has more than 8192 bytes"
 cause_text (causes.Fails kind) first next n f = fault_text kind first next f

@@ -278,8 +278,8 @@ fn print_cause<P: Progress>(
     print(err, &(place, (why, conflict), state))
 }
 
-/// Explains a program on a bus, executing at most `most` instructions: appends to `out` what it copies and sets to 0 for
-/// every memory, and returns whether it is explained. If it isn't, appends to `err` why and where.
+/// Explains a program on a bus, executing at most `most` instructions: appends to `out` what it copies and sets to 0
+/// for every memory, and returns whether it is explained. If it isn't, appends to `err` why and where.
 ///
 /// If memory runs out, it fails and appends nothing.
 pub fn explain<P: Progress>(

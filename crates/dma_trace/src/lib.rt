@@ -1,11 +1,11 @@
 //! What a program copies and sets to 0, and a trace of its instructions, as text.
 //!
 //! Proved: `explain::explain` prints what `dma_chan::explain::explain` finds (`Finds`) and the counts of its bursts
-//! (`bursts_in`) or, if nothing explains the program, the cause and the place (`Refuses`) with the registers there. If a
-//! byte is stored twice or over a source, it also prints the lowest such address and the instructions that touch it
-//! first (`touches_in`). `trace::trace` prints the lines of the steps of one channel over the lent regions, how the program
-//! ends, and the memory then, and writes the waveform of the run: a function of the program, the memory and the options
-//! (`Traces`, by `Stepping::after_steps` of `dma_chan`).
+//! (`bursts_in`) or, if nothing explains the program, the cause and the place (`Refuses`) with the registers there. If
+//! a byte is stored twice or over a source, it also prints the lowest such address and the instructions that touch it
+//! first (`touches_in`). `trace::trace` prints the lines of the steps of one channel over the lent regions, how the
+//! program ends, and the memory then, and writes the waveform of the run: a function of the program, the memory and the
+//! options (`Traces`, by `Stepping::after_steps` of `dma_chan`).
 //!
 //! Not proved: that memory is available.
 #![tactic(auto)]

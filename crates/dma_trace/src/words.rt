@@ -269,7 +269,7 @@ impl Text for Failure<'_> {
     }
 }
 
-/// Why an instruction is part of no copy.
+/// Why an instruction is part of no work.
 #[derive(Drop)]
 pub struct Why<'a> {
     pub cause: Cause,

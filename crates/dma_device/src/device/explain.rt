@@ -23,10 +23,10 @@ impl Device {
     /// Returns what the program of channel `n` copies and sets to 0 from its start, if it begins with the registers
     /// that the channel has now, or why nothing explains it with at most `most` instructions. A DMAGO has copied the
     /// program, so what the guest writes to RAM later doesn't change the answer. Until the channel gets another
-    /// program, its turns stay in that (`laws::turns_stay_in`). This needs a channel that a DMAGO started and that has
-    /// had no turn yet: its turns change the registers, so that a program which leaves out a DMAMOV has another answer
-    /// then, and a channel from a save that isn't trusted may have any registers. An event that the device doesn't have
-    /// is no reason to refuse a program: its DMAWFE or DMASEV fails.
+    /// program, its turns read and write nothing else (`laws::turns_stay_in`). This needs a channel that a DMAGO
+    /// started and that has had no turn yet: its turns change the registers, so that a program which leaves out a
+    /// DMAMOV has another answer then, and a channel from a save that isn't trusted may have any registers. An event
+    /// that the device doesn't have is no reason to refuse a program: its DMAWFE or DMASEV fails.
     pub fn explain(&self, alloc: Global, n: u8, most: u32) -> Result<Explained, ExplainFault>
         ensures ok { IfOk result (λ x. FindsFor self.now n most x) }
         ensures bursts { IfOk result (λ x. IsLoadedAnd self.now n
