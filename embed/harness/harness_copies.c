@@ -158,7 +158,7 @@ static void end(uint32_t n, bool is_stopped)
         memcpy(machine.wanted + index_of(it->dst), machine.ram + index_of(it->src), it->len);
     expect_bytes(it);
     if (it->stored >= 2 * it->len && !is_disturbed())
-        fail("a copy of %lu bytes to 0x%08lX was made twice without need", (unsigned long)it->len,
+        fail("the destination of %lu bytes at 0x%08lX was stored twice without need", (unsigned long)it->len,
              (unsigned long)it->dst);
 }
 

@@ -12,7 +12,7 @@
  * A call returns DMA330_OK, which is 0, or a negative code; dma330_status returns a state instead of DMA330_OK. A
  * call's comment lists its codes in the order in which they are tested; the first that applies is returned.
  * DMA330_NOT_OPEN comes before all others. A refused call, which returns a negative code, changes nothing and writes no
- * output, except `*place` where the code has a place, `*conflict` for DMA330_BUSY and DMA330_RUNNING, `*explanation` and
+ * output, except `*place` where the code has a place, `*conflict` for DMA330_BUSY and DMA330_RUNNING, `*explanation` or
  * `*work` for DMA330_UNEXPLAINED and DMA330_BUFFER_TOO_SMALL, and a device for DMA330_BAD_SAVE.
  *
  * Further duties: 32 KiB of stack are free; no call comes from a signal handler or from the child of a fork of a program with
@@ -202,14 +202,14 @@ typedef struct dma330_happening {
     uint64_t stored; /* the number of bytes that the program has stored before it */
 } dma330_happening;
 
-/* What a program copies, or why no copy explains it. */
+/* What a program copies, or why it isn't explained. */
 typedef struct dma330_explanation {
     size_t src_len;        /* the numbers of items of the three lists, each 0 if there is a cause */
     size_t dst_len;
     size_t happenings_len;
     uint64_t size;         /* the number of bytes that it copies, 0 if there is a cause */
     uint32_t steps;        /* the number of instructions executed, DMAEND included; for a cause, of those before `pc` */
-    uint32_t pc;           /* for a cause the offset of the instruction that has it, else 0 */
+    uint32_t pc;           /* for a cause the offset of the instruction that has it (0 for STORES_ZEROS), else 0 */
     uint32_t cause;        /* enum dma330_cause */
 } dma330_explanation;
 
@@ -221,7 +221,7 @@ typedef struct dma330_moment {
     uint64_t cleared;
 } dma330_moment;
 
-/* What a program copies and sets to 0, or why nothing explains it. Since 1.6.0. */
+/* What a program copies and sets to 0, or why it isn't explained. Since 1.6.0. */
 typedef struct dma330_work {
     size_t src_len;     /* the numbers of items of the four lists, each 0 if there is a cause */
     size_t dst_len;
@@ -232,8 +232,8 @@ typedef struct dma330_work {
     uint32_t steps;     /* as in dma330_explanation */
     uint32_t pc;
     uint32_t cause;     /* enum dma330_cause, never DMA330_CAUSE_STORES_ZEROS */
-    uint32_t addr;      /* of DMA330_CAUSE_STORES_TWICE the lowest address that is stored twice, of STORES_SOURCE the lowest
-                         * that is read and stored, else 0 */
+    uint32_t addr;      /* for STORES_TWICE the lowest address that is stored twice, for STORES_SOURCE the lowest that is
+                         * read and stored, else 0 */
 } dma330_work;
 
 /* What the last of some steps did: the member `turn` of a dma330_report, and of nothing else. A halted channel reports
@@ -290,8 +290,8 @@ enum dma330_fault {
 
 enum dma330_happening_kind { DMA330_WAITS = 0, DMA330_SIGNALS = 1 };
 
-/* Why nothing explains a program. Causes 1 to 5 have the numbers of enum dma330_fault: in every memory the instruction
- * fails so. A DMASTZ is a store too. */
+/* Why a call doesn't explain a program. Causes 1 to 5 have the numbers of enum dma330_fault: in every memory the instruction
+ * fails so. From 9 on, a store may be a DMASTZ. */
 enum dma330_cause {
     DMA330_CAUSE_NONE = 0,
     DMA330_CAUSE_UNDEF_INSTR = 1,
@@ -309,8 +309,8 @@ enum dma330_cause {
     DMA330_CAUSE_STORES_TWICE = 13,       /* at DMAEND a byte was stored twice */
     DMA330_CAUSE_STORES_SOURCE = 14,      /* at DMAEND a byte was stored at an address that was read */
     DMA330_CAUSE_NO_END = 15,             /* no DMAEND is among the first `most` instructions */
-    DMA330_CAUSE_STORES_ZEROS = 16        /* it also sets bytes to 0, by DMASTZ, for which this call has no list:
-                                           * dma330_explain_work explains it. Steps and pc are 0 */
+    DMA330_CAUSE_STORES_ZEROS = 16        /* a DMASTZ sets bytes to 0, which only dma330_explain_work lists. `steps` and
+                                           * `pc` are 0 */
 };
 
 /* The status of a channel, bits 3:0 of CSR (manual, channel status registers). A device of this library has those whose
@@ -396,7 +396,7 @@ enum dma330_code {
     DMA330_CUT_INSTRUCTION = -60,     /* disassembly: the bytes end within an instruction */
     DMA330_UNKNOWN_INSTRUCTION = -61, /* disassembly: no instruction begins with this byte */
     DMA330_BAD_FIELD = -62,           /* disassembly: a field is outside its range */
-    DMA330_UNEXPLAINED = -70          /* nothing explains the program; the explanation has the cause */
+    DMA330_UNEXPLAINED = -70          /* the program isn't explained; the explanation, or work, has the cause */
 };
 
 /* ---- names of numbers, for messages ---- */
@@ -713,7 +713,7 @@ int32_t dma330_channel_restore(dma330_channel *channel, const uint8_t *save, siz
  * execute the guest's programs in the caller's memory, which is lent as for a channel. An emulator forwards the guest's
  * accesses to read and write, lets channels take turns by step while can_step writes 1, and sets its interrupt lines
  * from irqs and irq_abort after each write, reset and restore, and after each turn that reports lines_changed.
- * docs/CHIP.md lists what differs from the chip. Only open and explain allocate. Each call but open and close fails with
+ * docs/CHIP.md lists what differs from the chip. Only open and the calls that explain allocate. Each call but open and close fails with
  * NOT_OPEN if the device isn't open; a call that fails changes nothing, except a restore that returns BAD_SAVE. */
 
 /* Opens a device in its state after a reset. Codes: ALREADY_OPEN, BAD_CONFIG, NO_MEMORY. */
@@ -744,8 +744,8 @@ int32_t dma330_device_write(dma330_device *device, uint32_t offset, uint32_t val
 int32_t dma330_device_step(dma330_device *device, uint8_t channel, uint32_t most, const dma330_region *regions,
                            size_t region_count, dma330_device_turn *turn) DMA330_NO_NULLS;
 
-/* Explains the program that a DMAGO loaded into a channel, as dma330_explain does on the device's bus, but from the
- * registers that the channel has now: from its first instruction on, wherever the channel is in it. A DMAGO keeps the
+/* Explains the program that a DMAGO loaded into a channel, as dma330_explain does on the device's bus: from its first
+ * instruction on, wherever the channel is in it, but with the registers that the channel has now. A DMAGO keeps the
  * registers, so before the channel's first turn they are those with which the program begins. Later the answer is the
  * same if the program sets each register before it uses it. A channel has a program from the DMAGO until the DMAEND or a
  * DMAKILL, also while it waits or is faulting. After a restore nothing is promised of the channel's turns, since a save
@@ -755,8 +755,8 @@ int32_t dma330_device_explain(dma330_device *device, uint8_t channel, uint32_t m
                               size_t src_room, dma330_segment *dst, size_t dst_room, dma330_happening *happenings,
                               size_t happenings_room, dma330_explanation *explanation) DMA330_NO_NULLS;
 
-/* Explains the same program with all that it does, as dma330_explain_work. Codes: those of dma330_device_explain. Since
- * 1.6.0. */
+/* As dma330_device_explain, but with all that the program does, as dma330_explain_work. Codes: those of
+ * dma330_device_explain. Since 1.6.0. */
 int32_t dma330_device_explain_work(dma330_device *device, uint8_t channel, uint32_t most, dma330_repeated *src,
                                    size_t src_room, dma330_segment *dst, size_t dst_room, dma330_segment *zeros,
                                    size_t zeros_room, dma330_moment *moments, size_t moments_room,
@@ -818,8 +818,8 @@ int32_t dma330_run_program(const uint8_t *program, size_t len, uint8_t *memory, 
  * twice, or where one is read. `bus` is 0 for a channel of this library, or 32, 64 or 128 for one of a device. The call
  * runs the program once, without a memory, for at most `most` instructions: their order and addresses are the same in
  * each memory. So a channel that runs the program from these registers copies these bytes, if the regions have all these addresses, none that
- * it writes is read-only, no mark lies there, and nobody else writes there meanwhile. If UNEXPLAINED is returned, no copy
- * explains the program in at most `most` instructions: the explanation has the cause, the offset, and how many
+ * it writes is read-only, no mark lies there, and nobody else writes there meanwhile. If UNEXPLAINED is returned, the
+ * program isn't such a copy in at most `most` instructions: the explanation has the cause, the offset, and how many
  * instructions come before it. For BUFFER_TOO_SMALL the explanation is that of DMA330_OK, so the numbers are the room
  * that is needed. Only DMA330_OK writes the lists, from their fronts.
  *
@@ -834,9 +834,9 @@ int32_t dma330_explain(const uint8_t *program, size_t len, uint32_t bus, uint32_
                        size_t happenings_room, dma330_explanation *explanation) DMA330_NO_NULLS;
 
 /* Explains a program with all that it does: also which bytes its DMASTZ set to 0 (`zeros`), in the order of the run. No
- * byte is both copied and set to 0, or set to 0 twice, or read and set to 0. It begins with the SAR, DAR, CCR, LC0 and LC1
- * of `start`, whose other members aren't read: so a device's channel runs it, whose registers keep their values over a
- * DMAGO. Else it is as dma330_explain. Codes: those of dma330_explain, and BAD_CONFIG also for a CCR that no channel on
+ * byte is set to 0 twice, or also read or copied to. The program begins with the SAR, DAR, CCR, LC0 and LC1 of `start`,
+ * whose other members aren't read, as in a device's channel, whose registers stay over a DMAGO. The rest is as in
+ * dma330_explain. Codes: those of dma330_explain, and BAD_CONFIG also for a CCR that no channel on
  * the bus has. Since 1.6.0. */
 int32_t dma330_explain_work(const uint8_t *program, size_t len, uint32_t bus, const dma330_registers *start, uint32_t most,
                             dma330_repeated *src, size_t src_room, dma330_segment *dst, size_t dst_room,

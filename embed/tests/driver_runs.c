@@ -19,9 +19,7 @@ static bool has_same_ranges(const dma330_segment *a, const dma330_segment *b, si
 
 static bool has_same_lists(const meaning *a, const meaning *b)
 {
-    bool is_same = a->src_len == b->src_len && a->dst_len == b->dst_len && a->zeros_len == b->zeros_len &&
-                   a->moments_len == b->moments_len && has_same_ranges(a->dst, b->dst, a->dst_len) &&
-                   has_same_ranges(a->zeros, b->zeros, a->zeros_len);
+    bool is_same = has_same_ranges(a->dst, b->dst, a->dst_len) && has_same_ranges(a->zeros, b->zeros, a->zeros_len);
 
     for (size_t n = 0; is_same && n < a->src_len; n++)
         is_same = a->src[n].addr == b->src[n].addr && a->src[n].len == b->src[n].len && a->src[n].times == b->src[n].times;
@@ -33,7 +31,8 @@ static bool has_same_lists(const meaning *a, const meaning *b)
 
 static bool has_same_numbers(const meaning *a, const meaning *b)
 {
-    return a->copied == b->copied && a->cleared == b->cleared && a->steps == b->steps;
+    return a->src_len == b->src_len && a->dst_len == b->dst_len && a->zeros_len == b->zeros_len &&
+           a->moments_len == b->moments_len && a->copied == b->copied && a->cleared == b->cleared && a->steps == b->steps;
 }
 
 /* Whether both calls say the same. Lists that had no room aren't written. */

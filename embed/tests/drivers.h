@@ -104,7 +104,7 @@ extern size_t lent_count;
 bool lend_ranges(const meaning *is, const uint8_t *bytes, size_t len, uint32_t *place);
 
 /* Gives the memory the bytes that it has before each run. begin_run also works out what they should be after a run, and
- * returns whether as many are read as stored. */
+ * returns whether the lists have as many bytes as is explained. */
 void forget_run(void);
 bool begin_run(const meaning *is);
 

@@ -1,4 +1,4 @@
-/* Tests dma330_explain, dma330_device_explain, dma330_plan and dma330_plan_fill: each cause, each code, the events, items
+/* Tests dma330_explain, dma330_device_explain, dma330_plan and dma330_plan_fill: each cause but one, each code, the events, items
  * that are read several times, and plans for all four buses. What each test expects is worked out by hand from the manual
  * of the DMA-330 and docs/FORMATS.md. Link it with heap.h's flags. */
 #include "guest.h"
@@ -101,7 +101,7 @@ static bool happens(size_t n, uint32_t kind, uint32_t event, uint64_t stored)
 #define BEAT_8 "DMAMOV CCR 0x0001C007\n"
 #define BEAT_16 "DMAMOV CCR 0x00024009\n"
 
-/* Programs that no copy explains, on a bus, with the cause, the offset and the instructions before it. */
+/* Programs that aren't explained, on a bus, with the cause, the offset and the instructions before it. */
 static const struct {
     const char *what, *text;
     uint32_t bus, cause, pc, steps;

@@ -188,9 +188,12 @@ fn end_endless(draft: &mut Draft, counter: Counter, back: u8, place: Place) -> R
         ChipInsn::LoopAgain { counter, back },
         place,
     )?;
-    let kind = LoopKind::Endless;
-    draft.loops = draft.loops.with(kind, None);
-    draft.stray = first_stray(draft.stray, closes, Stray { place, kind });
+    draft.loops = draft.loops.with(LoopKind::Endless, None);
+    let this = Stray {
+        place,
+        kind: LoopKind::Endless,
+    };
+    draft.stray = first_stray(draft.stray, closes, this);
     Ok(())
 }
 

@@ -132,9 +132,9 @@ impl Device {
     }
 
     /// Takes a turn of a channel: at most `most` steps, until one ends, waits, fails or executes a DMASEV, or before a
-    /// store that neither overlaps nor touches the range written so far, or with which it would have all 2^32 addresses.
-    /// After the DMASEV of an interrupt it takes one more, but a store apart from the range is left to the next turn, here
-    /// too. It does nothing for a channel that is stopped or faulting, or that the device doesn't have.
+    /// store that neither overlaps nor touches the range written so far, or with which it would have all 2^32
+    /// addresses. After the DMASEV of an interrupt it takes one more, but a store apart from the range is left to the
+    /// next turn, here too. It does nothing for a channel that is stopped or faulting, or that the device doesn't have.
     ///
     /// So each address in the range was written, and lies in a region that isn't read-only, and no byte elsewhere has
     /// changed, whatever the guest's program is.
@@ -147,11 +147,11 @@ impl Device {
     }
 
     /// Returns what the program copies that a DMAGO loaded into a channel, as [`explain`](crate::explain) does on the
-    /// device's bus, but from the registers that the channel has now: from its first instruction on. A DMAGO keeps the
+    /// device's bus: from its first instruction on, but with the registers that the channel has now. A DMAGO keeps the
     /// registers, so ask before the channel's first turn. Later the answer is the same only if the program sets each
     /// register before it uses it. A channel has a program from the DMAGO until the DMAEND or a DMAKILL.
     ///
-    /// Fails with `NoChannel`; with `NoProgram`; with `Unexplained` if no copy explains the program in at most `most`
+    /// Fails with `NoChannel`; with `NoProgram`; with `Unexplained` if the program is no copy in at most `most`
     /// instructions; or with `NoMemory`.
     ///
     /// ```
@@ -176,7 +176,7 @@ impl Device {
         self.handle.explain(channel, most).and_then(explanation_of)
     }
 
-    /// Returns all that the same program does, as [`explain_work`](crate::explain_work).
+    /// Returns all that a channel's program does, as [`explain_work`](crate::explain_work).
     ///
     /// Fails as [`Device::explain`] does.
     pub fn explain_work(&self, channel: u8, most: u32) -> Result<Work, Error> {
@@ -193,9 +193,9 @@ impl Device {
         self.handle.irq_abort()
     }
 
-    /// Returns whether any channel runs and doesn't wait for an event that is clear, or that INTEN makes an interrupt. If
-    /// not, nothing happens until the guest's next write of a register, a reset or a restore: a turn changes nothing, and
-    /// reports no byte and no line.
+    /// Returns whether any channel runs and doesn't wait for an event that is clear, or that INTEN makes an interrupt.
+    /// If not, nothing happens until the guest's next write of a register, a reset or a restore: a turn changes
+    /// nothing, and reports no byte and no line.
     pub fn can_step(&self) -> bool {
         self.handle.can_step()
     }
@@ -208,8 +208,8 @@ impl Device {
         out
     }
 
-    /// Makes the device the one that was saved, by this version or an earlier one. Bytes that are the save of no device of
-    /// this configuration are refused, so each save of this version with a flipped bit.
+    /// Makes the device the one that was saved, by this version or an earlier one. Bytes that are the save of no device
+    /// of this configuration are refused, so each save of this version with a flipped bit.
     ///
     /// Fails with `OtherDevice`; or with `BadSave`, after which the device is in its state after a reset.
     pub fn restore(&mut self, save: &[u8]) -> Result<(), Error> {

@@ -89,7 +89,7 @@ pub enum Error {
         /// Why none begins there.
         fault: DisassemblyFault,
     },
-    /// Nothing explains a program.
+    /// A program isn't explained.
     Unexplained {
         /// Why.
         cause: Cause,
@@ -275,7 +275,7 @@ impl fmt::Display for Error {
             Error::OtherDevice => "the save is of a device of another version or configuration",
             Error::Assembly { line, fault } => return write!(f, "line {line}: {fault}"),
             Error::Disassembly { offset, fault } => return write!(f, "offset {offset}: {fault}"),
-            Error::Unexplained { cause, pc, .. } => return write!(f, "no copy explains the program: offset {pc}: {cause}"),
+            Error::Unexplained { cause, pc, .. } => return write!(f, "the program isn't explained: offset {pc}: {cause}"),
         };
         f.write_str(text)
     }

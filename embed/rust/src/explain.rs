@@ -1,4 +1,4 @@
-//! What programs copy, and the programs of transfers.
+//! What programs copy and set to 0, and the programs of transfers.
 
 use crate::{event, named, small, sys, BusWidth, Error, Events, Registers, Segment, MAX_PROGRAM};
 use std::fmt;
@@ -68,8 +68,8 @@ pub struct Happening {
     pub stored: u64,
 }
 
-/// What a program copies: byte number p that it reads is byte number p that it stores. No byte is stored twice, or where
-/// one is read.
+/// What a program copies: byte number p that it reads is byte number p that it stores. No byte is stored twice, or
+/// where one is read.
 #[derive(Clone, Debug, PartialEq, Eq, Hash)]
 pub struct Explanation {
     /// What it reads, in its order.
@@ -97,8 +97,8 @@ pub struct Moment {
     pub cleared: u64,
 }
 
-/// What a program does: it copies as an [`Explanation`] says, and its DMASTZ set other bytes to 0, each once, and none
-/// that it reads.
+/// What a program copies, as an [`Explanation`] says, and what it sets to 0: other bytes, each once, and none that it
+/// reads.
 #[derive(Clone, Debug, PartialEq, Eq, Hash)]
 pub struct Work {
     /// What it reads, in its order.
@@ -117,7 +117,7 @@ pub struct Work {
     pub steps: u32,
 }
 
-/// Why nothing explains a program. A DMASTZ is a store too.
+/// Why a program isn't explained. Except for `StDataUnavailable`, a DMASTZ is a store too.
 #[derive(Clone, Copy, Debug, PartialEq, Eq, Hash)]
 #[non_exhaustive]
 pub enum Cause {
@@ -137,8 +137,9 @@ pub enum Cause {
     StoresPast,
     /// A store's address doesn't rise.
     StoresFixed,
-    /// A chip, and a device, drops bytes that are loaded and not stored at this DMAMOV, DMAADDH or DMAADNH: DAR moves to other byte lanes of the
-    /// bus, begins or ceases to rise, or doesn't rise and the beats get another size. Not for [`Bus::Channel`].
+    /// A chip, and a device, drops bytes that are loaded and not stored at this DMAMOV, DMAADDH or DMAADNH: DAR moves
+    /// to other byte lanes of the bus, begins or ceases to rise, or doesn't rise and the beats get another size. Not
+    /// for [`Bus::Channel`].
     DropsBytes,
     /// At DMAEND loaded bytes aren't stored.
     BytesLeft,
@@ -228,14 +229,15 @@ pub(crate) fn work_of(raw: sys::RawExplained<sys::RawWork>) -> Result<Work, Erro
 }
 
 /// Returns what a program copies on a bus, by one run without memory for at most `most` instructions. It begins with
-/// registers that are 0, as a [`Channel`](crate::Channel) does; a device's channel may have others: see [`explain_work`].
+/// registers that are 0, as a [`Channel`](crate::Channel) does; a device's channel may have others: see
+/// [`explain_work`].
 ///
 /// The order and the addresses of a program's instructions are the same in each memory. So a channel that runs the
 /// program copies these bytes, if the regions have all these addresses, none that it writes is read-only, no mark lies
 /// there, and nobody else writes there meanwhile.
 ///
-/// Fails with `ProgramTooLong`; with `Unexplained` if no copy explains the program in at most `most` instructions; or
-/// with `NoMemory`.
+/// Fails with `ProgramTooLong`; with `Unexplained` if the program is no copy in at most `most` instructions; or with
+/// `NoMemory`.
 ///
 /// ```
 /// use dma330::{assemble, explain, Bus, Cause, Error, Happening, HappeningKind, Repeated, Segment};
@@ -256,23 +258,20 @@ pub fn explain(program: &[u8], bus: Bus, most: u32) -> Result<Explanation, Error
     sys::explain(program, bus.number(), most).and_then(explanation_of)
 }
 
-/// Returns all that a program does: what it copies, as [`explain`] does, and what its DMASTZ set to 0. It begins with the
-/// `sar`, `dar`, `ccr`, `lc0` and `lc1` of these registers: a device's channel keeps its registers over a DMAGO, so a
-/// driver's program may leave out a DMAMOV.
+/// Returns all that a program does: what it copies, as [`explain`] does, and what its DMASTZ set to 0. It begins with
+/// the `sar`, `dar`, `ccr`, `lc0` and `lc1` of these registers: a device's channel keeps its registers over a DMAGO, so
+/// a driver's program may leave out a DMAMOV.
 ///
-/// Fails as [`explain`] does, but never with `StoresZeros`, and with `BadConfig` if no channel on the bus has this `ccr`.
+/// Fails as [`explain`] does, but never with `StoresZeros`, and with `BadConfig` if no channel on the bus has this
+/// `ccr`.
 ///
-/// ```
-/// use dma330::{explain, explain_work, Bus, BusWidth, Cause, Error, HappeningKind, Moment, Registers, Repeated, Segment};
-/// let bus = Bus::Device(BusWidth::Bits32);
-/// let start = Registers { sar: 0x1000, dar: 0x2000, ccr: 0x0001_4005, ..Registers::default() };
-/// let program = [0x04, 0x08, 0x0C, 0x34, 7 << 3, 0x00]; // DMALD, DMAST, DMASTZ, DMASEV 7, DMAEND
-/// let found = explain_work(&program, bus, &start, 1000)?;
-/// assert_eq!(found.src, [Repeated { addr: 0x1000, len: 4, times: 1 }]);
-/// assert_eq!(found.dst, [Segment::new(0x2000, 4)]);
-/// assert_eq!(found.zeros, [Segment::new(0x2004, 4)]);
-/// assert_eq!(found.moments, [Moment { kind: HappeningKind::Signals, event: 7, copied: 4, cleared: 4 }]);
-/// assert_eq!((found.copied, found.cleared, found.steps), (4, 4, 5));
+/// ``` use dma330::{explain, explain_work, Bus, BusWidth, Cause, Error, HappeningKind, Moment, Registers, Repeated,
+/// Segment}; let bus = Bus::Device(BusWidth::Bits32); let start = Registers { sar: 0x1000, dar: 0x2000, ccr:
+/// 0x0001_4005, ..Registers::default() }; let program = [0x04, 0x08, 0x0C, 0x34, 7 << 3, 0x00]; // DMALD, DMAST,
+/// DMASTZ, DMASEV 7, DMAEND let found = explain_work(&program, bus, &start, 1000)?; assert_eq!(found.src, [Repeated {
+/// addr: 0x1000, len: 4, times: 1 }]); assert_eq!(found.dst, [Segment::new(0x2000, 4)]); assert_eq!(found.zeros,
+/// [Segment::new(0x2004, 4)]); assert_eq!(found.moments, [Moment { kind: HappeningKind::Signals, event: 7, copied: 4,
+/// cleared: 4 }]); assert_eq!((found.copied, found.cleared, found.steps), (4, 4, 5));
 ///
 /// let zeros = [0xBC, 1, 0x05, 0x40, 0x01, 0x00, 0x0C, 0x00]; // DMAMOV CCR, DMASTZ, DMAEND
 /// let error = explain(&zeros, bus, 1000).unwrap_err();
