@@ -348,21 +348,33 @@ static void explains_on_a_device(void)
     }
 }
 
-/* At each interrupt as many bytes are copied and set to 0 as the moment says, and no others. */
-static void clears_up_to_each_moment(void)
+/* Makes the wanted bytes those at a moment: the first destinations copied, and the first zeros 0. */
+static void want_so_far(machine *m, size_t n, const dma330_moment *at)
+{
+    uint64_t left = at->cleared;
+
+    for (uint64_t k = 0; k < at->copied; k++)
+        *byte_at(m->wanted, rows[n].dst.addr + (uint32_t)k) = *byte_at(m->bytes, rows[n].src.addr + (uint32_t)k);
+    for (size_t part = 0; part < PARTS; part++)
+        for (uint32_t k = 0; k < rows[n].zeros[part].len && left > 0; k++, left--)
+            *byte_at(m->wanted, rows[n].zeros[part].addr + k) = 0;
+}
+
+/* A turn ends at each moment. As many bytes are copied and set to 0 there as it says, and no others. */
+static void is_so_far_at_each_moment(size_t n)
 {
     static machine m;
 
-    set_up(&m, plain(2, 16, false));
-    memcpy(byte_at(m.bytes, LOW), rows[5].program, sizeof rows[5].program);
+    set_up(&m, plain(1, 16, false));
+    memcpy(byte_at(m.bytes, LOW), rows[n].program, sizeof rows[n].program);
     want_ram(&m);
     start(&m, 0, LOW);
-    for (uint32_t n = 1; n <= 2; n++) {
-        memset(byte_at(m.wanted, TO + 16 * (n - 1)), 0, 16);
+    for (size_t k = 0; k < PARTS && (rows[n].moments[k].copied > 0 || rows[n].moments[k].cleared > 0); k++) {
+        want_so_far(&m, n, &rows[n].moments[k]);
         turn(&m, 0, 1000);
-        check(is_ram_wanted(&m), "the first zeros", n);
+        check(is_ram_wanted(&m), rows[n].what, (uint32_t)k);
     }
-    check(!run(&m, 0) && is_ram_wanted(&m), "all zeros", 0);
+    stop(&m, 0);
     tear_down(&m);
 }
 
@@ -374,6 +386,7 @@ int main(void)
     needs_room();
     needs_memory();
     explains_on_a_device();
-    clears_up_to_each_moment();
+    is_so_far_at_each_moment(4);
+    is_so_far_at_each_moment(5);
     return end_checks();
 }
