@@ -265,13 +265,17 @@ pub fn explain(program: &[u8], bus: Bus, most: u32) -> Result<Explanation, Error
 /// Fails as [`explain`] does, but never with `StoresZeros`, and with `BadConfig` if no channel on the bus has this
 /// `ccr`.
 ///
-/// ``` use dma330::{explain, explain_work, Bus, BusWidth, Cause, Error, HappeningKind, Moment, Registers, Repeated,
-/// Segment}; let bus = Bus::Device(BusWidth::Bits32); let start = Registers { sar: 0x1000, dar: 0x2000, ccr:
-/// 0x0001_4005, ..Registers::default() }; let program = [0x04, 0x08, 0x0C, 0x34, 7 << 3, 0x00]; // DMALD, DMAST,
-/// DMASTZ, DMASEV 7, DMAEND let found = explain_work(&program, bus, &start, 1000)?; assert_eq!(found.src, [Repeated {
-/// addr: 0x1000, len: 4, times: 1 }]); assert_eq!(found.dst, [Segment::new(0x2000, 4)]); assert_eq!(found.zeros,
-/// [Segment::new(0x2004, 4)]); assert_eq!(found.moments, [Moment { kind: HappeningKind::Signals, event: 7, copied: 4,
-/// cleared: 4 }]); assert_eq!((found.copied, found.cleared, found.steps), (4, 4, 5));
+/// ```
+/// use dma330::{explain, explain_work, Bus, BusWidth, Cause, Error, HappeningKind, Moment, Registers, Repeated, Segment};
+/// let bus = Bus::Device(BusWidth::Bits32);
+/// let start = Registers { sar: 0x1000, dar: 0x2000, ccr: 0x0001_4005, ..Registers::default() };
+/// let program = [0x04, 0x08, 0x0C, 0x34, 7 << 3, 0x00]; // DMALD, DMAST, DMASTZ, DMASEV 7, DMAEND
+/// let found = explain_work(&program, bus, &start, 1000)?;
+/// assert_eq!(found.src, [Repeated { addr: 0x1000, len: 4, times: 1 }]);
+/// assert_eq!(found.dst, [Segment::new(0x2000, 4)]);
+/// assert_eq!(found.zeros, [Segment::new(0x2004, 4)]);
+/// assert_eq!(found.moments, [Moment { kind: HappeningKind::Signals, event: 7, copied: 4, cleared: 4 }]);
+/// assert_eq!((found.copied, found.cleared, found.steps), (4, 4, 5));
 ///
 /// let zeros = [0xBC, 1, 0x05, 0x40, 0x01, 0x00, 0x0C, 0x00]; // DMAMOV CCR, DMASTZ, DMAEND
 /// let error = explain(&zeros, bus, 1000).unwrap_err();
