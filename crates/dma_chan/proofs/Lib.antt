@@ -25,6 +25,7 @@ pub mod RoundCounts
 pub mod WrittenRanges
 pub mod StepsTaken
 pub mod SteppedOver
+pub mod RowMoves
 pub mod AmongOthers
 pub mod TraceParts
 pub mod GoingOn

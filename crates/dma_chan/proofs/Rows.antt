@@ -23,8 +23,11 @@ use Rattle.dma_chan.specs.Changes.{Call, HasCopied}
 use Rattle.dma_chan.specs.declared.exec.Registers.{Registers}
 use Rattle.dma_chan.specs.declared.explain.Amounts.{Amounts}
 use Rattle.dma_chan.specs.declared.explain.Cause.TheVariants.{StoresFixed}
+use Rattle.dma_chan.specs.declared.rowwise.Rows.{Rows}
 use Rattle.dma_chan.specs.Explains.{Explains, GoesOn, Work, next_in, only, stop_of_insn, traced, untraced}
 use Rattle.dma_chan.proofs.LowestPlaces.{once_of}
+use Rattle.dma_chan.specs.Rowwise.{RunsRows, WritesRow, row_of}
+use Rattle.dma_chan.specs.Stepping.{Machine, after_steps}
 use Rattle.dma_chan.specs.Written.{adjoins, range_at}
 use Rattle.dma_chan.specs.Exec.{act, buffer_size, start, start_on, state, moved}
 use Rattle.dma_chan.specs.Compiled.{beat_of, parts, members, cost, compiled, compiled_on, cost_on, most_compiled}
@@ -208,6 +211,58 @@ zeros_are_explained = record {
 zeros_of_one_address : stop_of_insn StoreZeros (untraced (record (start_on (Chip Bits32)) { ccr = 0x40000 })) ≡ Some StoresFixed
 unfolding burst_at
 zeros_of_one_address = refl
+
+-- ---- two rows of one byte, whose sources are 2 apart and whose destinations are 3 apart
+
+-- the body: DMALD, DMAST, DMAADDH SAR 1, DMAADDH DAR 2, DMALPEND; two rounds follow the first
+two_rows : Machine
+two_rows = record {
+  channel = record {
+    program = Some (record { bytes = 4 ∷ 8 ∷ 0x54 ∷ 1 ∷ 0 ∷ 0x56 ∷ 2 ∷ 0 ∷ 0x38 ∷ 8 ∷ []; cost = None });
+    registers = record (start_on (Chip Bits32)) { sar = 5; ccr = 0x4001; lc0 = 2 };
+    buffer = [];
+    taken = 0;
+    stored = 0;
+  };
+  image = 9 ∷ 9 ∷ 9 ∷ 9 ∷ 9 ∷ 1 ∷ 5 ∷ 2 ∷ [];
+  flags = [];
+}
+
+after_two : Machine
+after_two = record two_rows {
+  channel = record (two_rows.channel) {
+    registers = record (start_on (Chip Bits32)) { sar = 9; dar = 6; ccr = 0x4001; lc0 = 0 };
+    taken = 10;
+    stored = 2;
+  };
+  image = 1 ∷ 9 ∷ 9 ∷ 2 ∷ 9 ∷ 1 ∷ 5 ∷ 2 ∷ [];
+}
+
+first_row : WritesRow [] two_rows 5 (range_at 0 1) (after_steps [] two_rows 5)
+unfolding burst_at reaches put two_rows
+first_row = record { taken = record { count = refl; answer = refl; ends_at = refl }; signal = refl; written = refl }
+
+second_row : WritesRow [] (after_steps [] two_rows 5) 5 (range_at 3 1) after_two
+unfolding burst_at reaches put two_rows after_two
+second_row = record { taken = record { count = refl; answer = refl; ends_at = refl }; signal = refl; written = refl }
+
+between_rows : ℕ → Machine
+between_rows zero = two_rows
+between_rows (suc zero) = after_steps [] two_rows 5
+between_rows (suc (suc k)) = after_two
+
+the_rows : Rows
+the_rows = record { first = range_at 0 1; pitch = 3; count = 2; steps = 5 }
+
+rows_called : (k : ℕ) → k < 2 → WritesRow [] (between_rows k) 5 (row_of the_rows k) (between_rows (suc k))
+unfolding the_rows between_rows two_rows
+rows_called zero l = first_row
+rows_called (suc zero) l = second_row
+rows_called (suc (suc k)) l = absurd (omega (arith, l))
+
+rows_are_calls : RunsRows [] two_rows the_rows after_two
+unfolding the_rows two_rows between_rows
+rows_are_calls = record { between = between_rows; begins = refl; ends = refl; calls = rows_called }
 
 -- ---- what a law refuses
 

@@ -17,13 +17,13 @@ use Rattle.dma_chan.specs.Stepping.{Machine}
 use Rattle.dma_chan.specs.Written.{LiesIn}
 use Rattle.dma_chan.specs.declared.explain.Amounts.{Amounts}
 use Rattle.dma_chan.specs.Others.{IsWorked, Touches, Uses}
-use Rattle.dma_chan.specs.Explains.{Executes, Explains, IsLoadedWith, IsReached, IsWork, Work, all_of, amounts_of, cleared, traced}
+use Rattle.dma_chan.specs.Explains.{DoneGrows, Executes, Explains, IsLoadedWith, IsReached, IsWork, Work, all_of, amounts_of, cleared, traced}
 use Rattle.dma_chan.specs.Changes.{System, Call, Change, Sets, Calls, Guest, DoesCall, TakesCall, Does, DoesAll, LendsAll, SinceLoad, KeepsUsed, LeavesAlone, HasFirst, HasCopied, CopiesSinceLoad, bytes_in, Holds, Gives, HaveWorks, WritesElsewhere, IsApart, ChannelsCopy}
 use Rattle.dma_chan.proofs.AmongOthers.{Fits, amounts, is_in}
 use Rattle.dma_chan.proofs.CallsAmongOthers.{done_at, Leads, Runs, at_first, call, call_fails, call_waits, either_way, not_none, signalled, survived}
 use Rattle.dma_chan.proofs.CallWrites.{call_stays_in, call_writes_no_other, inside}
 use Rattle.dma_chan.proofs.LaidPlaces.{laid_copied, laid_kept}
-use Rattle.dma_chan.proofs.Traced.{copy_of}
+use Rattle.dma_chan.proofs.Traced.{copy_of, grows_to}
 
 -- ---- one call
 
@@ -62,6 +62,16 @@ part_first work first done image h low part =
         | inl touches ↦ part.same a touches ∙ laid_kept t first done.copied copy a off
         | inr i ↦ part.rest a i still
       ];
+    }
+
+-- what is done never becomes less
+pub done_grows : DoneGrows
+done_grows start program k m l =
+    let x = traced start program k in
+    let g = grows_to start program k m l in
+    record {
+      copied = omega (arith, ap length g.stores, length-append x.stores g.more_stores);
+      cleared = omega (arith, ap length g.zeros, length-append x.zeros g.more_zeros);
     }
 
 -- what is reached is no more than all

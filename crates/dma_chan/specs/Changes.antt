@@ -119,10 +119,10 @@ pub record HasFirst (w : Work) (done : Amounts) (first memory : ℕ → ℕ) : T
 
 -- The result of a call, if `first` is the memory at the load of a program of which this work explains n instructions,
 -- and `memory` the one after the call. This part of the work is done: the program has got there, with as many bytes as
--- the channel counts in `stored`, also if the program is stopped there, waits or has failed, and all when it ends. Each address in the range that the
--- call reports as written is one that the work writes. A signal that the call reports is one of the program's DMASEVs,
--- and is set when this part is done. A call waits only for the event of one of the program's DMAWFEs, and doesn't fail
--- if no mark lies at an address that the work uses.
+-- the channel counts in `stored`, also if the program is stopped there, waits or has failed, and all when it ends. Each
+-- address in the range that the call reports as written is one that the work writes. A signal that the call reports is
+-- one of the program's DMASEVs, and is set when this part is done. A call waits only for the event of one of the
+-- program's DMAWFEs, and doesn't fail if no mark lies at an address that the work uses.
 pub record HasCopied (start : Registers) (program : List ℕ) (w : Work) (n : ℕ) (first memory : ℕ → ℕ)
     (call : Call) : Type 0 where
   pub done : Amounts

@@ -13,6 +13,7 @@ pub mod NextWrites
 pub mod Run
 pub mod InRow
 pub mod Stepping
+pub mod Rowwise
 pub mod Tree
 pub mod Compiled
 pub mod Traffic

@@ -9,6 +9,7 @@ pub mod Calls
 pub mod Compiling
 pub mod Cutting
 pub mod Blocks
+pub mod Grids
 pub mod Acts
 pub mod Tracing
 pub mod Turns

@@ -5,7 +5,7 @@ ghost use Rattle.dma_chan.specs.Layer.{StartsAt, AheadIs, LeftIs, StepIs, TurnRe
 ghost use Rattle.dma_chan.specs.CallWrites.{CallWritesNoOther, LoadExecutes, CallStaysIn};
 ghost use Rattle.dma_chan.specs.Changes.{CopiesSinceLoad, ChannelsCopy, LaidByPlace};
 ghost use Rattle.dma_chan.specs.Aligned.{AddressesAlign};
-ghost use Rattle.dma_chan.specs.Explains.{ExplainedOnce, RefusedUnexplained};
+ghost use Rattle.dma_chan.specs.Explains.{DoneGrows, ExplainedOnce, RefusedUnexplained};
 ghost use Rattle.dma_chan.specs.LentRegions.{GapsMiss};
 ghost use Rattle.dma_chan.specs.OnBuses.{CompiledEvents, CompiledExplained, CompiledOnBus, ExplainedOnBus};
 ghost use Rattle.dma_chan.specs.Others.{CallsCopyAmongOthers, CopiesAmongOthers, WritesNoOther};
@@ -138,10 +138,11 @@ pub fn reads_its_sources()
 
 /// A program that a work explains does it if, between its own load and a call on its channel, nobody else writes what
 /// the work reads or writes. After each call the bytes that are stored so far are copied or 0: at a signal as many as
-/// the program stores before that DMASEV, and all when the call ends. Each call may be lent other regions, and other
-/// bytes may follow the program.
+/// the program stores before that DMASEV, and all when the call ends. What a program has done never becomes less. Each
+/// call may be lent other regions, and other bytes may follow the program.
 pub fn copies_since_load()
-    ensures { CopiesSinceLoad }
+    ensures copies { CopiesSinceLoad }
+    ensures grows { DoneGrows }
 {}
 
 /// The same of any number of channels, which are loaded at any time and stepped in any order. Of another channel with a

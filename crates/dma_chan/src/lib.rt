@@ -9,7 +9,8 @@
 //! alone, a program without DMAWFE makes one simultaneous copy (`laws::explained_copies_alone`, `run_program`);
 //! `copy::copy_at_once` makes it without the program. A call over lent memory is a chain of single steps
 //! (`lent::step_regions`: `TakesSteps`). It changes no byte outside the range that it reports (`kept`,
-//! `laws::call_writes_no_other`), and each address in it was written (`writes_each`). A program, compiled or not, that
+//! `laws::call_writes_no_other`), and each address in it was written (`writes_each`). `lent::step_rows` makes many such
+//! calls at once, one for each row of a rectangle (`RunsRows`). A program, compiled or not, that
 //! a work explains (`Explains`) has copied and set to 0 as many bytes as the channel counts, and all of them at its
 //! end, if since its load nobody else wrote what the work reads or writes; its signals and waits are the program's
 //! (`copies_since_load`, `channels_copy`). Until its end it writes only what the work writes and reads only its sources
@@ -18,8 +19,8 @@
 //! restores its channel, and nothing else is accepted (`Channel::save`, `restore`). No page is made except for a store
 //! (`run_program`).
 //!
-//! Not proved: that an allocation succeeds, and that blocks are moved. A `run_bodies` that moves nothing satisfies its
-//! contract.
+//! Not proved: that an allocation succeeds, and that blocks and rows are moved. A `run_bodies` or a `run_rows` that
+//! moves nothing satisfies its contract.
 #![tactic(auto)]
 
 mod blocks;
@@ -37,6 +38,7 @@ pub mod next;
 mod pages;
 mod pieces;
 pub mod program;
+pub mod rowwise;
 pub mod run;
 pub mod save;
 pub mod turn;

@@ -25,6 +25,10 @@ static CLEARED_TWICE: &[u8] =
 static ROWS: &[u8] =
     b"\xbc\0\0\x02\0\0\xbc\x02\0\x01\0\0\xbc\x01\x31\x40\x0c\0\x20\x02\x04\x08\x04\x08\x54\x08\0\x38\x07\0";
 
+// The same rows, which are stored 16 bytes apart too: a DMAADDH DAR 8 follows that of SAR.
+static ROWS_APART: &[u8] =
+    b"\xbc\0\0\x02\0\0\xbc\x02\0\x01\0\0\xbc\x01\x31\x40\x0c\0\x20\x02\x04\x08\x04\x08\x54\x08\0\x56\x08\0\x38\x0a\0";
+
 // Returns a channel on a bus of 32 bits that has executed this many instructions of a program.
 fn channel_after(
     alloc: Global,
@@ -82,6 +86,28 @@ fn rows_are_a_block(rt: HostRuntime) -> Result<(), Fail> {
     assert!(rt; channel.stored() == 24 && channel.pc() == 29);
     let mut addr: u32 = 0x100;
     for byte in b"abcdefghijklmnopqrstuvwx\xff" {
+        assert!(rt; memory.byte(addr) == Some(*byte), "{addr}");
+        addr = addr.wrapping_add(1);
+    }
+    Ok(())
+}
+
+#[test]
+fn rows_apart_are_calls(rt: HostRuntime) -> Result<(), Fail> {
+    let mut memory = memory_of(rt.alloc())?;
+    memory.write(0x200, b"abcdefgh--------ijklmnop--------qrstuvwx--------")?;
+    let mut channel = channel_after(rt.alloc(), ROWS_APART, &mut memory, 4)?;
+    let marks = Marks::new(rt.alloc());
+    assert!(rt; channel.run_rows(6, &mut memory, &marks).is_none());
+    let Some(rows) = channel.run_rows(100, &mut memory, &marks) else {
+        panic!(rt; "no rows");
+    };
+    assert!(rt; rows.first.addr == 0x100 && rows.first.len == 8);
+    assert!(rt; rows.pitch == 16 && rows.count == 2 && rows.steps == 7);
+    assert!(rt; channel.source_addr() == 0x220 && channel.destination_addr() == 0x120);
+    assert!(rt; channel.stored() == 16 && channel.taken() == 18 && channel.pc() == 20);
+    let mut addr: u32 = 0x100;
+    for byte in b"abcdefgh\xff\xff\xff\xff\xff\xff\xff\xffijklmnop\xff" {
         assert!(rt; memory.byte(addr) == Some(*byte), "{addr}");
         addr = addr.wrapping_add(1);
     }
