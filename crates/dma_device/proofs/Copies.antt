@@ -1,5 +1,5 @@
 -- What a program that a DMAGO starts copies.
-use Rattle.std.proofs.Common.{◌≡◌, ◌≢◌, ◌∙◌, ◌⊎◌, ℕ, suc, ◌<◌, ◌≤◌, true, false, List, [], length, Some, ap, refl, sym, subst, arith, inl, inr, true≢false, zero, Option, length-append}
+use Rattle.std.proofs.Common.{◌≡◌, ◌≢◌, ◌∙◌, ◌⊎◌, ℕ, suc, ◌<◌, ◌≤◌, true, false, List, [], length, Some, ap, refl, sym, subst, arith, inl, inr, true≢false, zero, Option}
 use Rattle.std.specs.Prelude.{nat_lt}
 use Rattle.std.proofs.lemmas.List.Elements.{Contains-append_left, Contains-append_right}
 use Rattle.std.proofs.lemmas.Bool.{and_parts, cases_eq}
@@ -8,7 +8,7 @@ use Rattle.dma_mem.specs.Marking.{MarkList}
 use Rattle.dma_mem.specs.Places.{destinations, size_of}
 use Rattle.dma_mem.specs.declared.regions.Region.{Region}
 use Rattle.dma_mem.proofs.OverTransfers.{Contains_take}
-use Rattle.dma_chan.specs.Explains.{IsSignal, IsWait, Work, all_of, amounts_of, cleared, traced, Explains}
+use Rattle.dma_chan.specs.Explains.{IsAtLeast, IsSignal, IsWait, Work, all_of, amounts_of, cleared, traced, Explains}
 use Rattle.dma_chan.specs.Others.{IsWorked, MissesAll}
 use Rattle.dma_chan.specs.declared.explain.Amounts.{Amounts}
 use Rattle.dma_chan.specs.Channel.{ChannelValue, ahead_of}
@@ -16,7 +16,7 @@ use Rattle.dma_chan.proofs.CallsAmongOthers.{call_answers, call_fails, call_wait
 use Rattle.dma_chan.proofs.SinceLoads.{IsPart, part_first, runs_so, worked_part}
 use Rattle.dma_chan.proofs.RegionsHave.{gaps_miss}
 use Rattle.dma_device.specs.CallSteps.{first_in, marks_in}
-use Rattle.dma_device.specs.Copies.{AreDone, IsAtLeast, DmagoCopies, DmagoInterrupts, DmagoNeverFails, HasRisen, IsFit}
+use Rattle.dma_device.specs.Copies.{AreDone, DmagoCopies, DmagoInterrupts, DmagoNeverFails, HasRisen, IsFit}
 use Rattle.dma_device.specs.Device.{DeviceValue, irqs}
 use Rattle.dma_device.specs.Dmago.{Go, RunsCopy, GivenTurns, csr_status, image_in, start_of}
 use Rattle.dma_device.specs.Interrupts.{HasLine, IsHigh}
@@ -32,7 +32,7 @@ use Rattle.dma_chan.specs.Stepping.{Machine, TakesSteps, machine, after_step, af
 use Rattle.dma_chan.specs.declared.turn.ChanTurn.{ChanTurn}
 use Rattle.dma_chan.specs.declared.turn.ChanTurn.TheVariants.{Moved, Ended}
 use Rattle.dma_chan.proofs.AmongOthers.{Among, Fits}
-use Rattle.dma_chan.proofs.Traced.{grows_to}
+use Rattle.dma_chan.proofs.SinceLoads.{done_grows}
 use Rattle.dma_chan.proofs.StepsTaken.{steps_move}
 use Rattle.dma_chan.proofs.SteppedOver.{is_still, was_moved, went_before}
 use Rattle.dma_device.proofs.Answered.{answer_fine}
@@ -49,12 +49,8 @@ DoneAt start program least k = IsAtLeast least (amounts_of (traced start program
 
 later : (start : Registers) (program : List ℕ) (least : Amounts) (k m : ℕ) → k ≤ m → DoneAt start program least k → DoneAt start program least m
 later start program least k m l w =
-    let x = traced start program k in
-    let g = grows_to start program k m l in
-    record {
-      copied = omega (arith, w.copied, ap length g.stores, length-append x.stores g.more_stores);
-      cleared = omega (arith, w.cleared, ap length g.zeros, length-append x.zeros g.more_zeros);
-    }
+    let g = done_grows start program k m l in
+    record { copied = omega (arith, w.copied, g.copied); cleared = omega (arith, w.cleared, g.cleared) }
 
 module _ (start : Registers) (program : List ℕ) (work : Work) (count : ℕ) (marks : MarkList) (first : List ℕ) (h : Explains start program work count) (low : Fits work (length first)) where
   moved_later : (n : ℕ) (u : Machine) → Among start program work count first n u.image u.channel → answer_at marks u ≡ Moved → u.channel.taken ≤ (after_step marks u).channel.taken

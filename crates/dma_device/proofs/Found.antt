@@ -1,11 +1,15 @@
 -- The thread that `get` finds, if any, also once a thread is replaced.
-use Rattle.std.proofs.Common.{◌≡◌, ℕ, ◌<◌, List, length, Some, None, true, false, ltb, get_or, refl, sym, ◌≢◌, ◌∙◌, zero, suc, Bool, [], ◌∷◌, ap, arith, subst}
+use Rattle.std.proofs.Common.{◌≡◌, ℕ, ◌<◌, List, length, Some, None, true, false, ltb, get_or, refl, sym, ◌≢◌, ◌∙◌, zero, suc, Bool, [], ◌∷◌, ap, arith, subst, true≢false}
 use Rattle.std.proofs.lemmas.List.Elements.{All-get_or}
 use Rattle.std.proofs.lemmas.List.{get_or-set_same, length-set, set-get_or}
 use Rattle.std.specs.List.{All, list_any}
 use Rattle.std.specs.Prelude.{slice_get, slice_set}
 use Rattle.std.proofs.lemmas.Bool.{ltb-false, ltb-true, or_parts}
 use Rattle.std.proofs.lemmas.Option.{slice_get_past, slice_get_read, get_or_from_slice_get, slice_get-get_or, slice_get_within}
+use Rattle.std.specs.Option.{option_map_or}
+use Rattle.dma_device.specs.Device.{DeviceValue}
+use Rattle.dma_device.specs.Thread.{runs}
+use Rattle.dma_device.specs.Turns.{runs_at}
 use Rattle.dma_device.specs.declared.thread.Thread.{Thread}
 
 pub found_at : (ts l : List Thread) (n : ℕ) (t : Thread) → l ≡ ts → true ≡ ltb n (length l) → t ≡ get_or l n t → (n < length ts) × (slice_get ts n ≡ Some t)
@@ -13,6 +17,16 @@ found_at ts l n t same within is = grind (arith, ltb-true, slice_get_read)
 
 pub none_at : (ts l : List Thread) (n : ℕ) → l ≡ ts → false ≡ ltb n (length l) → slice_get ts n ≡ None
 none_at ts l n same out = slice_get_past ts n (ltb-false n (length ts) (sym (rw same at out)))
+
+-- a thread that runs is one of the device's
+runs_within : (ts : List Thread) (n : ℕ) → option_map_or runs (slice_get ts n) false ≡ true → n < length ts
+runs_within [] n on = absurd (true≢false (sym on))
+runs_within (t ∷ ts) zero on = omega arith
+runs_within (t ∷ ts) (suc n) on = omega (arith, runs_within ts n on)
+
+pub found_running : (d e : DeviceValue) (n : ℕ) (t : Thread) → e ≡ d → runs_at d n ≡ true → t ≡ get_or e.threads n t → slice_get e.threads n ≡ Some t
+found_running d e n t same on is =
+    slice_get_read e.threads (length e.threads) n t refl (runs_within e.threads n (ap (λ (v : DeviceValue). runs_at v n) same ∙ on)) is
 
 -- ---- in lists of threads
 

@@ -19,7 +19,7 @@ after_gap at p ps k rises from = grind (arith, first, get_or-append_right, lengt
 in_first : (at : ℕ) (p : Piece) (ps : List Piece) (k : ℕ) → rises_from at (p ∷ ps) ≡ true → p.addr ≤ k → k < end_of p → get_or (bytes_above at (p ∷ ps)) (k - at) 0 ≡ get_or p.bytes (k - p.addr) 0
 in_first at p ps k rises from to = after_gap at p ps k rises from ∙ get_or_append_left p.bytes (bytes_above (end_of p) ps) 0 (k - p.addr) (omega arith)
 
-in_later : (at : ℕ) (p : Piece) (ps : List Piece) (k : ℕ) → rises_from at (p ∷ ps) ≡ true → end_of p ≤ k → get_or (bytes_above at (p ∷ ps)) (k - at) 0 ≡ get_or (bytes_above (end_of p) ps) (k - end_of p) 0
+pub in_later : (at : ℕ) (p : Piece) (ps : List Piece) (k : ℕ) → rises_from at (p ∷ ps) ≡ true → end_of p ≤ k → get_or (bytes_above at (p ∷ ps)) (k - at) 0 ≡ get_or (bytes_above (end_of p) ps) (k - end_of p) 0
 in_later at p ps k rises past = grind (arith, after_gap, get_or-append_right)
 
 -- pieces that rise from an address begin there or later

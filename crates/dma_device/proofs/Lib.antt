@@ -18,8 +18,12 @@ pub mod InMemory
 pub mod Driven
 pub mod Copies
 pub mod Runs
+pub mod RegionBytes
+pub mod RowMachines
 pub mod Waits
 pub mod Idle
+pub mod RowTurns
+pub mod RowWrites
 pub mod TurnChanges
 pub mod History
 pub mod Events

@@ -117,7 +117,7 @@ still_call marks s w most (suc (suc j)) e v last some x next few waits =
 -- ---- the device
 
 -- the events that a channel sees, written back, change nothing
-events_back : (d : DeviceValue) → IsSoundDevice d → with_flags (visible_events d) d ≡ d
+pub events_back : (d : DeviceValue) → IsSoundDevice d → with_flags (visible_events d) d ≡ d
 events_back d h =
     let n = d.config.events in
     let e = d.events in

@@ -158,19 +158,23 @@ in_piece at (p ∷ ps) a order from below gaps =
     ]
 
 -- an address of a region that isn't read-only
-abbrev IsWritable : List Region → ℕ → Type 0
+abbrev pub IsWritable : List Region → ℕ → Type 0
 IsWritable regions a = (list_any (has a) (pieces_of regions) ≡ true) × (lies_in_any (read_only_of regions) a ≡ false)
 
-call_within : (regions : List Region) (n a : ℕ) (made : Bool) (most : ℕ) (s : Setup) → in_order (pieces_of regions) ≡ true → length s.image ≡ length (image_of (pieces_of regions)) → CallWrote (marks_in regions) n a made most s → IsWritable regions a
-call_within regions n a made most s order size w =
+-- an address that steps over regions wrote
+pub wrote_within : (regions : List Region) (s : Machine) (k a : ℕ) → in_order (pieces_of regions) ≡ true → length s.image ≡ length (image_of (pieces_of regions)) → Wrote (marks_in regions) s k a → IsWritable regions a
+wrote_within regions s k a order size w =
     let marks = marks_in regions in
-    let test = wrote_fits marks (machine_in s w.0.thread) (steps_in marks most w.0.thread s) a w.1 in
-    let parts = and_parts (nat_lt a (length s.image)) (not (is_marked Writing marks a)) test in
+    let parts = and_parts (nat_lt a (length s.image)) (not (is_marked Writing marks a)) (wrote_fits marks s k a w) in
     let free : is_marked Writing marks a ≡ false = not-true (is_marked Writing marks a) parts.1 in
     let others = stores_at (read_only_of regions) ++ [] in
     let both = or_parts (lies_in_any (gaps_of (pieces_of regions)) a) (is_marked Writing others a) (sym (is_marked_at Writing (gaps_of (pieces_of regions)) others a) ∙ free) in
     let writable = or_parts (lies_in_any (read_only_of regions) a) (is_marked Writing [] a) (sym (stores_in (read_only_of regions) [] a) ∙ both.1) in
     (in_piece 0 (pieces_of regions) a order (omega arith) (omega (arith, size, ltb-true a (length s.image) parts.0)) both.0, writable.0)
+
+call_within : (regions : List Region) (n a : ℕ) (made : Bool) (most : ℕ) (s : Setup) → in_order (pieces_of regions) ≡ true → length s.image ≡ length (image_of (pieces_of regions)) → CallWrote (marks_in regions) n a made most s → IsWritable regions a
+call_within regions n a made most s order size w =
+    wrote_within regions (machine_in s w.0.thread) (steps_in (marks_in regions) most w.0.thread s) a order size w.1
 
 pub turn_writes_in_regions : TurnWritesInRegions
 turn_writes_in_regions d regions n most e left turn a order x i =

@@ -4,7 +4,7 @@ use Rattle.std.specs.List.{Contains}
 use Rattle.dma_mem.specs.Places.{destinations, size_of, sources}
 use Rattle.dma_mem.specs.Regions.{in_order, pieces_of}
 use Rattle.dma_mem.specs.declared.regions.Region.{Region}
-use Rattle.dma_chan.specs.Explains.{IsSignal, IsWait, Work, cleared}
+use Rattle.dma_chan.specs.Explains.{IsAtLeast, IsSignal, IsWait, Work, cleared}
 use Rattle.dma_chan.specs.declared.explain.Amounts.{Amounts}
 use Rattle.dma_chan.specs.LentRegions.{HaveAll}
 use Rattle.dma_chan.specs.Others.{IsWorked}
@@ -26,11 +26,6 @@ pub record HasRisen (run : GivenTurns) (i k : ℕ) : Type 0 where
   pub line : HasLine (run.before turn) i
   pub low : ¬ IsHigh (irqs (run.before turn)) i
   pub high : IsHigh (irqs (run.after turn)) i
-
--- At least this is done.
-pub record IsAtLeast (least done : Amounts) : Type 0 where
-  pub copied : least.copied ≤ done.copied
-  pub cleared : least.cleared ≤ done.cleared
 
 -- The first destinations of a work have the bytes that their sources had in the memory at first, the first addresses
 -- that it sets to 0 have 0, and each source has the byte that it had.

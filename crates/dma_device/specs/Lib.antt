@@ -8,6 +8,7 @@ pub mod CallSteps
 pub mod Writes
 pub mod Snapshot
 pub mod Accesses
+pub mod RowTurns
 pub mod Idle
 pub mod Run
 pub mod Interrupts

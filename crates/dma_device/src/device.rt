@@ -18,6 +18,7 @@ use std::marker::Model;
 mod debug;
 pub mod explain;
 mod registers;
+pub mod rows;
 mod saving;
 pub mod turns;
 

@@ -8,6 +8,7 @@ ghost use Rattle.dma_device.specs.Faults.{AbortIsFaulting, AbortsAreExact, Fault
 ghost use Rattle.dma_device.specs.Idle.{NothingHappens, StaySound, TurnChanges};
 ghost use Rattle.dma_device.specs.Interrupts.{InterruptsAreExact};
 ghost use Rattle.dma_device.specs.Progress.{CompiledGoesOn, CompiledHasEvents, CompiledSignals, DmagoFinishes, DmagoSignals};
+ghost use Rattle.dma_device.specs.RowTurns.{RowsWriteEach};
 ghost use Rattle.dma_device.specs.Snapshot.{DamageIsRefused};
 ghost use Rattle.dma_device.specs.Run.{RunsStepByStep};
 ghost use Rattle.dma_device.specs.Writes.{TurnWritesEach, TurnWritesInRegions};
@@ -66,10 +67,11 @@ pub fn interrupts_are_exact()
 {}
 
 /// A turn of a channel with any program writes each address in the range that it reports as written, and no other. Each
-/// of them lies in a region that isn't read-only.
+/// of them lies in a region that isn't read-only. The same holds of turns in a row and their ranges.
 pub fn a_turn_writes_each()
     ensures each { TurnWritesEach }
     ensures within { TurnWritesInRegions }
+    ensures rows { RowsWriteEach }
 {}
 
 /// An event is neither lost nor invented. For every list of accesses after a reset, event n is set exactly if a

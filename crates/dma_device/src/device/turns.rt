@@ -77,7 +77,7 @@ impl Device {
     }
 
     // Returns whether the device has thread `n`, and it runs.
-    fn runs(&self, n: usize) -> bool
+    pub(super) fn runs(&self, n: usize) -> bool
         ensures { result ≡ runs_at self.now n }
     {
         match self.threads.get(n) {

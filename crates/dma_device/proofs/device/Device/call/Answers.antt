@@ -1,7 +1,5 @@
-use Rattle.std.proofs.Common.{◌≡◌, ◌∙◌, ℕ, zero, suc, ◌+◌, ◌%◌, ◌^◌, ◌<◌, true, false, List, [], ◌∷◌, length, Some, ap, refl, rules, subst, sym, arith, true≢false}
+use Rattle.std.proofs.Common.{◌≡◌, ◌∙◌, ◌+◌, ◌%◌, ◌^◌, ◌<◌, Some, ap, refl, rules, subst, sym, arith}
 use Rattle.std.specs.Prelude.{slice_get}
-use Rattle.std.specs.Option.{option_map_or}
-use Rattle.std.proofs.lemmas.Option.{slice_get_read}
 use Rattle.dma_mem.specs.Flags.{flags_of}
 use Rattle.dma_chan.specs.declared.bus.Bus.TheVariants.{Chip}
 use Rattle.dma_chan.specs.Bus.{fits}
@@ -9,12 +7,13 @@ use Rattle.dma_chan.specs.Channel.{ChannelValue}
 use Rattle.dma_chan.specs.Stepping.{Machine}
 use Rattle.dma_chan.proofs.BusKept.{steps_bus}
 use Rattle.dma_device.specs.Device.{DeviceValue, with_thread}
-use Rattle.dma_device.specs.Thread.{IsOn, IsSound, answered, runs}
-use Rattle.dma_device.specs.Turns.{runs_at, visible_events, with_flags}
+use Rattle.dma_device.specs.Thread.{IsOn, IsSound, answered}
+use Rattle.dma_device.specs.Turns.{visible_events, with_flags}
 use Rattle.dma_device.specs.declared.thread.Thread.{Thread}
 use Rattle.dma_device.specs.inner.Fields.{device_value}
 use Rattle.dma_device.proofs.Answered.{answer_channel}
 use Rattle.dma_device.proofs.Calls.{called_is}
+use Rattle.dma_device.proofs.Found.{found_running}
 use Rattle.dma_device.proofs.Sound.{steps_fit, answered_sound, with_new}
 use Rattle.dma_device.proofs.device.Device.call.Goals as goal
 
@@ -39,22 +38,14 @@ invariant_of-self c =
     (answered_sound _ _ _ _ c.step_regions-taken.result.count d.config.events c.step_regions-taken.result.last
     (record t { channel = channel }) c.step_regions-taken.result.signal steps refl))
 
--- a thread that runs is one of the device's
-runs_within : (ts : List Thread) (n : ℕ) → option_map_or runs (slice_get ts n) false ≡ true → n < length ts
-runs_within [] n on = absurd (true≢false (sym on))
-runs_within (t ∷ ts) zero on = omega arith
-runs_within (t ∷ ts) (suc n) on = omega (arith, runs_within ts n on)
-
 pub returns-clause-calls : goal.returns-clause-calls
 returns-clause-calls c =
     let d = c.args.self.now in
     let t = c.index_mut-thread.result.now in
     let taken = c.step_regions-taken in
     let n = c.args.n in
-    let items = c.self.inside.threads.items in
     let view : device_value c.self.inside ≡ d = c.self.view_is in
-    let within : n < length items = runs_within items n (ap (λ (v : DeviceValue). runs_at v n) view ∙ c.requires.runs) in
-    let found : slice_get d.threads n ≡ Some t = ap (λ (v : DeviceValue). slice_get v.threads n) (sym view) ∙ slice_get_read items (length items) n t refl within c.index_mut-thread.ensures.value in
+    let found : slice_get d.threads n ≡ Some t = ap (λ (v : DeviceValue). slice_get v.threads n) (sym view) ∙ found_running d (device_value c.self.inside) n t view c.requires.runs c.index_mut-thread.ensures.value in
     let seen : c.from_bits-events.result ≡ flags_of (visible_events d) = c.from_bits-events.ensures ∙ ap flags_of c.visible_events.ensures in
     let few : c.bits.result < 2 ^ 32 = omega arith in
     let device : c.set_flags.new.self ≡ with_thread c.args.n (answered d.config.events (record t { channel = taken.new.channel }) taken.result.last taken.result.signal) (with_flags c.bits.result d) = search rules in
