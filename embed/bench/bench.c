@@ -8,7 +8,9 @@
  *     bench MOST COPIES SHAPE BURST    by a channel over the caller's memory, with a program as drivers write it, of
  *                                      BURST bytes a burst; SHAPE is `linux` (one nest of loops), `barriers` (the same
  *                                      with DMARMB and DMAWMB) or `nests` (three nests)
+ *     bench MOST COPIES rows BYTES     by a device, rows of BYTES bytes that lie twice as far apart, in all 512 KiB
  *     bench 0 COPIES                   memcpy of as many bytes
+ *     bench 0 COPIES rows BYTES        memcpy of each such row
  *
  * It prints the number of steps and of calls, and the nanoseconds that they took by the clock and by the processor. */
 #define _POSIX_C_SOURCE 199309L
@@ -229,6 +231,93 @@ static void run_programs(const char *shape, uint32_t burst, uint32_t most, long 
     dma330_channel_close(&channel);
 }
 
+/* ---- rows of a rectangle, by a device */
+
+/* Each writes a register of the device. */
+static void write_register(dma330_device *device, const dma330_region *region, uint32_t offset, uint32_t value)
+{
+    expect(dma330_device_write(device, offset, value, region, 1) == DMA330_OK, "no register");
+}
+
+static void start_program(dma330_device *device, const dma330_region *region, uint32_t at)
+{
+    write_register(device, region, 0xD08, 0x00A00000); /* DMAGO of channel 0 */
+    write_register(device, region, 0xD0C, at);
+    write_register(device, region, 0xD04, 0);
+}
+
+/* MIB / 2 / len rows of len bytes, which is at most 256, by two loops */
+static void write_rows(program *p, uint32_t len)
+{
+    const uint32_t half = 1 | 3 << 1 | (len / 8 > 16 ? 15 : len / 8 - 1) << 4; /* of the control word */
+    const unsigned pairs = len / 128 > 1 ? len / 128 : 1, rounds = MIB / 2 / len / 256;
+    unsigned n;
+    p->len = 0;
+    append_move(p, 1, half | half << 14);
+    append_move(p, 0, RAM_ADDR);
+    append_move(p, 2, RAM_ADDR + MIB);
+    append(p, 0x22);
+    append(p, rounds - 1);
+    append(p, 0x20);
+    append(p, 255);
+    for (n = 0; n < pairs; n++) {
+        append(p, 0x04);
+        append(p, 0x08);
+    }
+    for (n = 0; n < 2; n++) {
+        append(p, n == 0 ? 0x54 : 0x56); /* DMAADDH of SAR, then of DAR */
+        append(p, len & 0xFF);
+        append(p, len >> 8);
+    }
+    append(p, 0x38);
+    append(p, 2 * pairs + 6);
+    append(p, 0x3C);
+    append(p, 2 * pairs + 10);
+    append(p, 0);
+}
+
+static void step_rows(dma330_device *device, const dma330_region *region, uint32_t most, measured *m)
+{
+    dma330_device_rows rows;
+    uint64_t bytes = 0;
+    do {
+        expect(dma330_device_step_rows(device, 0, most, region, 1, &rows) == DMA330_OK, "a step failed");
+        bytes += (uint64_t)rows.count * rows.written.len;
+        m->calls++;
+    } while (rows.can_step);
+    expect(bytes == MIB / 2, "not all rows were written");
+}
+
+static void run_rows(uint32_t len, uint32_t most, long copies, measured *m)
+{
+    static const dma330_device_config chip = {1, 1, 0, 64, 128, 3};
+    static uint8_t memory[2 * MIB + 4096];
+    dma330_region region = {RAM_ADDR, memory, sizeof memory, 0};
+    dma330_device device = DMA330_DEVICE_INIT;
+    void *(*volatile copy)(void *, const void *, size_t) = memcpy;
+    program p;
+    uint32_t at;
+    memset(memory, 1, sizeof memory);
+    memcpy(memory, from, MIB);
+    write_rows(&p, len);
+    memcpy(memory + 2 * MIB, p.code, p.len);
+    expect(dma330_device_open(&device, &chip) == DMA330_OK, "no device");
+    begin(m);
+    for (; copies > 0; copies--) {
+        if (most > 0) {
+            start_program(&device, &region, RAM_ADDR + 2 * MIB);
+            step_rows(&device, &region, most, m);
+        } else {
+            for (at = 0; at < MIB; at += 2 * len)
+                copy(memory + MIB + at, memory + at, len);
+        }
+    }
+    end(m);
+    for (at = 0; at < MIB; at += 2 * len)
+        expect(memcmp(memory + MIB + at, memory + at, len) == 0, "not copied");
+    dma330_device_close(&device);
+}
+
 int main(int count, char **words)
 {
     measured m;
@@ -240,7 +329,9 @@ int main(int count, char **words)
     for (n = 0; n < MIB; n++)
         from[n] = (uint8_t)(n % 251);
     memset(to, 1, MIB); /* so that its pages exist before the timing begins */
-    if (most == 0)
+    if (count > 4 && strcmp(words[3], "rows") == 0)
+        run_rows((uint32_t)atol(words[4]), (uint32_t)most, copies, &m);
+    else if (most == 0)
         copy_all(copies, &m);
     else if (count > 4)
         run_programs(words[3], (uint32_t)atol(words[4]), (uint32_t)most, copies, &m);

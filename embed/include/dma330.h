@@ -177,6 +177,16 @@ typedef struct dma330_device_turn {
     uint32_t can_step;      /* what dma330_device_can_step writes now */
 } dma330_device_turn;
 
+/* What dma330_device_step_rows did. */
+typedef struct dma330_device_rows {
+    dma330_segment written; /* what the first turn wrote, as in a dma330_device_turn */
+    uint32_t pitch;         /* turn k, from 0 on, wrote the written.len bytes from written.addr + k * pitch on */
+    uint32_t count;         /* the number of turns, at least 1; no byte elsewhere has changed */
+    uint32_t steps;         /* each turn is what dma330_device_step does with this `most` */
+    uint32_t lines_changed; /* 1 if a line of irq[31:0], or irq_abort, has changed, else 0 */
+    uint32_t can_step;      /* what dma330_device_can_step writes now */
+} dma330_device_rows;
+
 /* How a program that ran alone ended. A member is 0 unless its comment names the end. */
 typedef struct dma330_run_end {
     uint32_t end;   /* enum dma330_end */
@@ -744,6 +754,13 @@ int32_t dma330_device_write(dma330_device *device, uint32_t offset, uint32_t val
 int32_t dma330_device_step(dma330_device *device, uint8_t channel, uint32_t most, const dma330_region *regions,
                            size_t region_count, dma330_device_turn *turn) DMA330_NO_NULLS;
 
+/* Takes turns of a channel in a row, at least one, together at most `most` steps. In a loop that copies the rows of a
+ * rectangle, each by pairs of DMALD and DMAST, then DMAADDH SAR or not, then DMAADDH DAR, it takes a turn for each row at
+ * once, where dma330_device_step would take a call for each. Else it takes a single turn, which ends early where rows may
+ * begin. What it does is what dma330_device_step would do in `rows->count` calls. Codes: BAD_REGIONS. Since 1.6.0. */
+int32_t dma330_device_step_rows(dma330_device *device, uint8_t channel, uint32_t most, const dma330_region *regions,
+                                size_t region_count, dma330_device_rows *rows) DMA330_NO_NULLS;
+
 /* Explains the program that a DMAGO loaded into a channel, as dma330_explain does on the device's bus: from its first
  * instruction on, wherever the channel is in it, but with the registers that the channel has now. A DMAGO keeps the
  * registers, so before the channel's first turn they are those with which the program begins. Later the answer is the
@@ -884,6 +901,7 @@ DMA330_ASSERT(registers, sizeof(dma330_registers) == 32 && offsetof(dma330_regis
 DMA330_ASSERT(device, sizeof(dma330_device) == 16 && offsetof(dma330_device, is_open) == 8);
 DMA330_ASSERT(device_config, sizeof(dma330_device_config) == 24 && offsetof(dma330_device_config, revision) == 20);
 DMA330_ASSERT(device_turn, sizeof(dma330_device_turn) == 16 && offsetof(dma330_device_turn, can_step) == 12);
+DMA330_ASSERT(device_rows, sizeof(dma330_device_rows) == 28 && offsetof(dma330_device_rows, can_step) == 24);
 DMA330_ASSERT(run_end, sizeof(dma330_run_end) == 20 && offsetof(dma330_run_end, pc) == 16);
 DMA330_ASSERT(repeated, sizeof(dma330_repeated) == 12 && offsetof(dma330_repeated, times) == 8);
 DMA330_ASSERT(happening, sizeof(dma330_happening) == 16 && offsetof(dma330_happening, stored) == 8);

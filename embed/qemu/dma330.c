@@ -220,24 +220,30 @@ static void pl330_mark_written(PL330State *s, dma330_segment written)
     }
 }
 
-/* Lets the next channel take a turn. Returns whether any can step after it. */
+/*
+ * Lets the next channel take a turn, or one for each row of a rectangle. Returns
+ * whether any can step after it.
+ */
 static bool pl330_turn(PL330State *s)
 {
     uint32_t n = s->next_channel;
     uint32_t most = s->step_ns ? PL330_TIMED_STEPS : PL330_STEPS;
-    dma330_device_turn turn = { 0 };
+    dma330_device_rows rows = { 0 };
 
-    pl330_check(dma330_device_step(&s->device, n, most, s->lent.regions,
-                                   s->lent.count, &turn));
-    if (turn.written.len) {
-        trace_dma330_store(n, turn.written.addr, turn.written.len);
-        pl330_mark_written(s, turn.written);
+    pl330_check(dma330_device_step_rows(&s->device, n, most, s->lent.regions,
+                                        s->lent.count, &rows));
+    for (uint32_t k = 0; rows.written.len && k < rows.count; k++) {
+        dma330_segment row = { rows.written.addr + k * rows.pitch,
+                               rows.written.len };
+
+        trace_dma330_store(n, row.addr, row.len);
+        pl330_mark_written(s, row);
     }
-    if (turn.lines_changed) {
+    if (rows.lines_changed) {
         pl330_set_irqs(s);
     }
     s->next_channel = (n + 1) % s->config.channels;
-    return turn.can_step;
+    return rows.can_step;
 }
 
 /*

@@ -49,11 +49,19 @@ static uint32_t put_loop(uint32_t at, uint32_t times)
     return put_two(&m, at, DMALPEND, 2);
 }
 
+/* Writes a loop that copies rows. */
+static uint32_t put_rows(uint32_t at, uint32_t times, uint32_t half)
+{
+    at = put(&m, put(&m, put_two(&m, at, DMALP, times - 1), DMALD), DMAST);
+    at = put(&m, put_two(&m, put(&m, put_two(&m, at, DMAADDH, half), 0), DMAADDH | 2, half), 0);
+    return put_two(&m, at, DMALPEND, 8);
+}
+
 /* Writes an instruction that a channel may execute, or some, or at times another one. */
 static uint32_t put_anything(uint32_t at, uint32_t *seed)
 {
     static const uint8_t of_one[] = {DMALD, DMAST, DMARMB, DMAWMB};
-    uint32_t kind = any(seed, 27), n = any(seed, 0x10000), bit = n >> 15, event = n % 4 == 0 ? n % 33 : 0;
+    uint32_t kind = any(seed, 28), n = any(seed, 0x10000), bit = n >> 15, event = n % 4 == 0 ? n % 33 : 0;
 
     switch (kind) {
     case 0: case 1: return put_move(&m, at, TO_SAR, any_address(seed));
@@ -69,6 +77,7 @@ static uint32_t put_anything(uint32_t at, uint32_t *seed)
     case 20: case 21: return put(&m, at, DMASTZ);
     case 22: return put(&m, put_two(&m, at, DMAADDH | bit << 1 | (n & 1) << 3, n >> 4), n >> 8);
     case 23: return n % 8 == 0 ? put_two(&m, at, DMALPEND_FE | (n & 16) >> 2, n >> 8 & 31) : at;
+    case 24: return put_rows(at, 1 + n % 16, n >> 8 & 0x70);
     case 16: case 17: case 18: case 19: return put(&m, at, n % 4 == 0 ? of_one[kind - 16] : DMANOP);
     default: return put(&m, put(&m, at, DMALD), DMAST);
     }
@@ -226,13 +235,16 @@ static void check_by_steps(uint32_t channel, uint32_t most)
     check(marked(first) == first.len + left.len && marked(left) == first.len + left.len, "each byte is written", first.addr);
 }
 
-/* Both devices, one a copy of the other, are the same after the same turn. */
+static uint32_t several_turns;
+
+/* Both devices, one a copy of the other, are the same after the same turn, and after turns in a row. */
 static void check_copy(uint32_t channel, uint32_t most)
 {
     copy(&other, &m);
     turn(&m, channel, most);
     turn(&other, channel, most);
     check(are_same(&m, &other), "a copy of the device does the same", channel);
+    several_turns += take_rows(&m, &other, channel, most);
 }
 
 /* Lends RAM in many parts, some of them empty or of a byte, with gaps, and with ROM. */
@@ -302,5 +314,6 @@ int main(void)
     for (uint32_t seed = 1; seed <= 200; seed++)
         outlives_anything(seed * 2654435761u);
     check(stores_left > 0, "stores are left to a next turn", stores_left);
+    check(several_turns > 0, "some turns are taken in a row", several_turns);
     return end_checks();
 }

@@ -301,6 +301,27 @@ bool turn(machine *m, uint32_t channel, uint32_t most)
     return status == 1 || status == 4;
 }
 
+bool take_rows(machine *m, machine *by_one, uint32_t channel, uint32_t most)
+{
+    dma330_device_rows r = {{1, 1}, 2, 3, 4, 5, 6};
+    uint32_t lines = irqs(m);
+    bool line = irq_abort(m), same = true;
+
+    must(dma330_device_step_rows(&m->device, (uint8_t)channel, most, m->regions, m->region_count, &r),
+         "dma330_device_step_rows");
+    for (uint32_t k = 0; k < r.count; k++) {
+        turn(by_one, channel, r.steps);
+        same = same && by_one->written.addr == r.written.addr + k * r.pitch && by_one->written.len == r.written.len;
+        same = same && (k == 0 || by_one->written.addr > r.written.addr);
+    }
+    m->written = r.written;
+    always(r.count > 0 && (uint64_t)r.count * r.steps <= most, "turns in a row are as few as asked for", r.count);
+    always(r.lines_changed == (lines != irqs(m) || line != irq_abort(m)), "they report a change of the lines", channel);
+    always(r.can_step == can_step(m), "they report whether there is more to do", channel);
+    always(same && are_same(m, by_one), "they do what turns do one by one", channel);
+    return r.count > 1;
+}
+
 bool run(machine *m, uint32_t channel)
 {
     for (int n = 0; n < 100000 && get(m, CSR + 8 * channel) % 16 != 0; n++) {

@@ -7,10 +7,12 @@ use Rattle.dma_mem.specs.declared.segment.Segment.{Segment}
 use Rattle.dma_chan.specs.LentRegions.{AreKept}
 use Rattle.dma_chan.specs.Written.{KeepsOutside, LiesIn}
 use Rattle.dma_device.specs.Device.{DeviceValue}
+use Rattle.dma_device.proofs.RowWrites.{rows_write_each}
 use Rattle.dma_device.proofs.Writes.{turn_writes_each}
+use Rattle.dma_ffi.specs.declared.device_rows.DeviceRows.{DeviceRows}
 use Rattle.dma_ffi.specs.declared.device_calls.DeviceTurn.{DeviceTurn}
 use Rattle.dma_ffi.specs.Codes.{ok_code}
-use Rattle.dma_ffi.specs.Devices.{KeepsTheRest, TurnsKeepTheRest}
+use Rattle.dma_ffi.specs.Devices.{KeepsOtherRows, KeepsTheRest, RowsKeepTheRest, TurnsKeepTheRest}
 
 stay : (regions left : List Region) → left ≡ regions → AreKept left regions
 stay regions left same = subst (λ (l : List Region). AreKept l regions) (sym same) (record { places = refl; read_only = refl; names = refl })
@@ -34,3 +36,26 @@ turns_keep_the_rest n most (Some d) regions before code (Some e) left report (in
       in_place = record { places = w.places; read_only = w.read_only; names = w.names };
       refused = λ no. absurd (no x.0);
     }
+
+-- ---- turns in a row
+
+-- the call is refused
+rows_refused : (old : Option DeviceValue) (regions : List Region) (before : DeviceRows) (code : ℤ) (new : Option DeviceValue) (left : List Region) (report : DeviceRows) → ¬ (code ≡ ok_code) → new ≡ old → left ≡ regions → report ≡ before → KeepsOtherRows old regions before code new left report
+rows_refused old regions before code new left report bad device same former = grind (arith, stay)
+
+pub rows_keep_the_rest : RowsKeepTheRest
+rows_keep_the_rest n most None regions before code new left report order x =
+    rows_refused None regions before code new left report (λ ok. let is = x.0 in cc) x.1 x.2 x.3
+rows_keep_the_rest n most (Some d) regions before code new left report order (inl x) =
+    rows_refused (Some d) regions before code new left report (λ ok. let is = x.0 in cc) x.2 x.3 x.4
+rows_keep_the_rest n most (Some d) regions before code None left report order (inr x) = absurd x.2
+rows_keep_the_rest n most (Some d) regions before code (Some e) left report order (inr x) =
+    let took = x.2 in
+    let w = rows_write_each d regions n e left took.turns took.takes in
+    let Kept : DeviceRows → Type 0 = λ r. KeepsOtherRows (Some d) regions before code (Some e) left r in
+    subst Kept (sym took.reported) (record {
+      kept = λ a ok off. w.no_other a off;
+      within = λ k a ok less i. w.within k a order less i;
+      in_place = took.takes.kept;
+      refused = λ no. absurd (no x.0);
+    })

@@ -1,13 +1,16 @@
 -- What a call from C on a device does and returns.
-use Rattle.std.specs.Prelude.{◌≡◌, ◌≢◌, ℕ, ◌≤◌, ◌⊎◌, ◌==◌, Bool, true, false, not, ℤ, Option, Some, None, IsSomeAnd, if◌then◌else◌, List, Result, Ok, Err, length, min}
+use Rattle.std.specs.Prelude.{◌≡◌, ◌≢◌, ℕ, ◌+◌, ◌*◌, ◌^◌, ◌≤◌, ◌<◌, ◌⊎◌, ◌==◌, Bool, true, false, not, ℤ, Option, Some, None, IsSomeAnd, if◌then◌else◌, List, Result, Ok, Err, IsTrue, length, min, slice_index}
 use Rattle.std.specs.List.{list_any}
-use Rattle.dma_mem.specs.Regions.{image_of, pieces_of}
+use Rattle.dma_mem.specs.Lent.{lies_in_any}
+use Rattle.dma_mem.specs.Regions.{has, image_of, in_order, pieces_of, read_only_of}
 use Rattle.dma_mem.specs.declared.regions.Region.{Region}
+use Rattle.dma_mem.specs.declared.segment.Segment.{Segment}
 use Rattle.dma_chan.specs.LentRegions.{AreKept}
-use Rattle.dma_chan.specs.Written.{KeepsOutside, LiesIn}
+use Rattle.dma_chan.specs.Written.{KeepsOutside, LiesIn, range_at}
 use Rattle.dma_device.specs.Accesses.{Does, Done, Reads, Resets, Restores as RestoresTo, Turned, Turns, Value, Writes}
 use Rattle.dma_device.specs.Config.{is_valid}
 use Rattle.dma_device.specs.Device.{DeviceValue, irq_abort, read_at, reset_device, written}
+use Rattle.dma_device.specs.RowTurns.{TakesRowTurns}
 use Rattle.dma_device.specs.Snapshot.{IsDeviceValue, IsOfOther, IsSavedAs, most_saved, saved_device}
 use Rattle.dma_device.specs.Thread.{can_step}
 use Rattle.dma_device.specs.Turns.{TakesTurn, visible_events}
@@ -17,11 +20,13 @@ use Rattle.dma_chan.specs.declared.bus.BusWidth.TheVariants.{Bits32, Bits64, Bit
 use Rattle.dma_device.specs.declared.config.Config.{Config}
 use Rattle.dma_device.specs.declared.config.Revision.{Revision}
 use Rattle.dma_device.specs.declared.config.Revision.TheVariants.{R0p0, R1p0, R1p1, R1p2}
+use Rattle.dma_device.specs.declared.device.rows.RowTurns.{RowTurns}
 use Rattle.dma_device.specs.declared.device.turns.Turn.{Turn}
 use Rattle.dma_device.specs.declared.save.RestoreFault.{RestoreFault}
 use Rattle.dma_device.specs.declared.save.RestoreFault.TheVariants.{BadSave, OtherDevice}
 use Rattle.dma_ffi.specs.declared.device_config.DeviceConfig.{DeviceConfig}
 use Rattle.dma_ffi.specs.declared.device_calls.DeviceTurn.{DeviceTurn}
+use Rattle.dma_ffi.specs.declared.device_rows.DeviceRows.{DeviceRows}
 use Rattle.dma_ffi.specs.Calls.{Becomes, OnOpen, WritesValue}
 use Rattle.dma_ffi.specs.Channels.{are_usable}
 use Rattle.dma_ffi.specs.Codes.{already_open, bad_config, bad_regions, bad_save, no_memory, not_open, ok_code, other_device}
@@ -101,17 +106,49 @@ report_of turn e = record {
   can_step = any_can_step e;
 }
 
--- A call from C that takes a turn of channel `n`, of at most `most` steps: the device, if it is open, the regions that
--- C lends, and the report, before and after. On a device that isn't open, else over regions that aren't usable, it
--- returns the code for that and changes nothing.
+-- A call from C that does this over regions and reports it: the device, if it is open, the regions that C lends, and the
+-- report, before and after. On a device that isn't open, else over regions that aren't usable, it returns the code for
+-- that and changes nothing.
+abbrev pub Reports : {R : Type 0} → (DeviceValue → List Region → DeviceValue → List Region → R → Type 0)
+    → Option DeviceValue → List Region → R → ℤ → Option DeviceValue → List Region → R → Type 0
+Reports Makes None regions before code new left report =
+    (code ≡ not_open) × (new ≡ None) × (left ≡ regions) × (report ≡ before)
+Reports Makes (Some d) regions before code new left report =
+    ((code ≡ bad_regions) × (are_usable regions ≡ false) × (new ≡ Some d) × (left ≡ regions) × (report ≡ before))
+    ⊎ ((code ≡ ok_code) × (are_usable regions ≡ true) × IsSomeAnd new (λ e. Makes d regions e left report))
+
+-- A call from C that takes a turn of channel `n`, of at most `most` steps.
 abbrev pub ReportsTurn : ℕ → ℕ → Option DeviceValue → List Region → DeviceTurn → ℤ
     → Option DeviceValue → List Region → DeviceTurn → Type 0
-ReportsTurn n most None regions before code new left report =
-    (code ≡ not_open) × (new ≡ None) × (left ≡ regions) × (report ≡ before)
-ReportsTurn n most (Some d) regions before code new left report =
-    ((code ≡ bad_regions) × (are_usable regions ≡ false) × (new ≡ Some d) × (left ≡ regions) × (report ≡ before))
-    ⊎ ((code ≡ ok_code) × (are_usable regions ≡ true) × IsSomeAnd new (λ e. (turn : Turn)
-    × TakesTurn d regions n most e left turn × (report ≡ report_of turn e)))
+ReportsTurn n most =
+    Reports (λ d regions e left report. (turn : Turn) × TakesTurn d regions n most e left turn × (report ≡ report_of turn e))
+
+-- the report of turns in a row that left a device like this
+abbrev pub rows_report_of : RowTurns → DeviceValue → DeviceRows
+rows_report_of turns e = record {
+  written = turns.rows.first;
+  pitch = turns.rows.pitch;
+  count = turns.rows.count;
+  steps = turns.rows.steps;
+  lines_changed = if turns.lines_changed then 1 else 0;
+  can_step = any_can_step e;
+}
+
+-- Turns of channel `n` in a row, at least one, that together take at most `most` steps. No row begins above the last
+-- address.
+pub record TakesRows (n most : ℕ) (d : DeviceValue) (regions : List Region) (e : DeviceValue) (left : List Region)
+    (report : DeviceRows) : Type 0 where
+  pub turns : RowTurns
+  pub takes : TakesRowTurns d regions n e left turns
+  pub reported : report ≡ rows_report_of turns e
+  pub some : 1 ≤ report.count
+  pub few : report.count * report.steps ≤ most
+  pub low : (k : ℕ) → k < report.count → report.written.addr + k * report.pitch < 2 ^ 32
+
+-- A call from C that takes such turns.
+abbrev pub ReportsRows : ℕ → ℕ → Option DeviceValue → List Region → DeviceRows → ℤ
+    → Option DeviceValue → List Region → DeviceRows → Type 0
+ReportsRows n most = Reports (TakesRows n most)
 
 -- A call from C that takes a turn, of a channel with any program: if it returns `ok_code`, one of the turn's steps wrote
 -- each address in the range that it reports as written, and no byte outside the range has changed. Else nothing has
@@ -131,6 +168,30 @@ TurnsKeepTheRest =
     (new : Option DeviceValue) (left : List Region) (report : DeviceTurn) →
     ReportsTurn n most old regions before code new left report →
     KeepsTheRest n most old regions before code new left report
+
+-- the range of row k of a report, from 0 on
+abbrev pub row_in : DeviceRows → ℕ → Segment
+row_in r k = range_at (r.written.addr + k * r.pitch) r.written.len
+
+-- A call from C that takes turns in a row, of a channel with any program: if it returns `ok_code`, no byte outside the
+-- rows that it reports has changed, and each address in them lies in a region, and in none that is read-only. Else
+-- nothing has changed. In either case the regions keep their places.
+pub record KeepsOtherRows (old : Option DeviceValue) (regions : List Region) (before : DeviceRows) (code : ℤ)
+    (new : Option DeviceValue) (left : List Region) (report : DeviceRows) : Type 0 where
+  pub kept : (a : ℕ) → code ≡ ok_code → ((k : ℕ) → k < report.count → ¬ LiesIn (row_in report k) a) →
+      slice_index (image_of (pieces_of left)) a ≡ slice_index (image_of (pieces_of regions)) a
+  pub within : (k a : ℕ) → code ≡ ok_code → k < report.count → LiesIn (row_in report k) a →
+      IsTrue (list_any (has a) (pieces_of regions)) × (lies_in_any (read_only_of regions) a ≡ false)
+  pub in_place : AreKept left regions
+  pub refused : code ≢ ok_code → (new ≡ old) × (left ≡ regions) × (report ≡ before)
+
+-- Each such call keeps the rest, over regions in order.
+abbrev pub RowsKeepTheRest : Type 0
+RowsKeepTheRest =
+    (n most : ℕ) (old : Option DeviceValue) (regions : List Region) (before : DeviceRows) (code : ℤ)
+    (new : Option DeviceValue) (left : List Region) (report : DeviceRows) →
+    IsTrue (in_order (pieces_of regions)) → ReportsRows n most old regions before code new left report →
+    KeepsOtherRows old regions before code new left report
 
 -- ---- saves
 
@@ -165,8 +226,9 @@ Restores save d code e =
 -- ---- as accesses
 
 -- Calls from C on an open device are accesses (specs/Accesses.antt of dma_device): a read; a write that returns
--- `ok_code`; a turn that returns `ok_code`, of which C gets the report; a reset; a restore that returns `ok_code`, as it
--- does for the save of any device of the same configuration; and a restore that returns `bad_save`, which is a reset.
+-- `ok_code`; a turn that returns `ok_code`, or turns in a row, of which C gets the report; a reset; a restore that
+-- returns `ok_code`, as it does for the save of any device of the same configuration; and a restore that returns
+-- `bad_save`, which is a reset.
 pub record CallsAreAccesses : Type 0 where
   pub reads : (d : DeviceValue) (at before value : ℕ) (code : ℤ) (new : Option DeviceValue) (regions : List Region) →
       WritesValue (λ (e : DeviceValue). read_at e at) (Some d) code before value new →
@@ -177,6 +239,9 @@ pub record CallsAreAccesses : Type 0 where
   pub turns : (d e : DeviceValue) (n most : ℕ) (regions left : List Region) (before report : DeviceTurn) →
       ReportsTurn n most (Some d) regions before ok_code (Some e) left report →
       (turn : Turn) × (report ≡ report_of turn e) × Does (Turns n most) d regions (Turned turn) e left
+  pub rows : (d e : DeviceValue) (n most : ℕ) (regions left : List Region) (before report : DeviceRows) →
+      ReportsRows n most (Some d) regions before ok_code (Some e) left report →
+      (turns : RowTurns) × (report ≡ rows_report_of turns e) × TakesRowTurns d regions n e left turns
   pub resets : (d : DeviceValue) (code : ℤ) (new : Option DeviceValue) (regions : List Region) →
       Becomes (λ (e : DeviceValue). reset_device e.config) (Some d) code new →
       (e : DeviceValue) × (new ≡ Some e) × Does Resets d regions Done e regions

@@ -1,7 +1,7 @@
 //! Laws about what calls from C return and write. Each law is the clause of a function that does nothing.
 
 ghost use Rattle.dma_ffi.specs.ChannelLaws.{LoadsATransfer, StepsAreCalls, StepsCopy, StepsKeepTheRest};
-ghost use Rattle.dma_ffi.specs.Devices.{CallsAreAccesses, TurnsKeepTheRest};
+ghost use Rattle.dma_ffi.specs.Devices.{CallsAreAccesses, RowsKeepTheRest, TurnsKeepTheRest};
 ghost use Rattle.dma_ffi.specs.Laws.{CallsAreTheEngines, ExchangesAreTheEngines, SessionsAreTheEngines};
 
 /// A call from C on an open controller is answered by a list of the engine's own calls. So what is proved of such
@@ -37,7 +37,9 @@ pub fn device_calls_are_accesses()
 {}
 
 /// A turn of a device's channel from C, whatever its program is, changes no byte outside the range that it reports, and
-/// one of its steps wrote each address in this range.
+/// one of its steps wrote each address in this range. Turns in a row change no byte outside their rows, each of which
+/// lies in regions that aren't read-only.
 pub fn device_turns_keep_the_rest()
-    ensures { TurnsKeepTheRest }
+    ensures turn { TurnsKeepTheRest }
+    ensures rows { RowsKeepTheRest }
 {}

@@ -24,6 +24,7 @@ mod controller;
 pub mod controller_calls;
 pub mod device_calls;
 mod device_config;
+pub mod device_rows;
 pub mod explaining;
 mod heap_pointer;
 mod kept;

@@ -53,6 +53,30 @@ pub struct DeviceTurn {
     pub can_step: bool,
 }
 
+/// What turns in a row of a channel of a [`Device`] did.
+#[derive(Clone, Copy, Debug, PartialEq, Eq, Hash)]
+pub struct DeviceRows {
+    /// The range that the first turn wrote, as in a [`DeviceTurn`].
+    pub written: Segment,
+    /// How far the range of each turn begins behind that of the turn before.
+    pub pitch: u32,
+    /// The number of turns, at least 1.
+    pub count: u32,
+    /// Each turn is what [`Device::step`] does with this `most`.
+    pub steps: u32,
+    /// Whether a line of [`Device::irqs`], or [`Device::irq_abort`], has changed.
+    pub lines_changed: bool,
+    /// What [`Device::can_step`] returns now.
+    pub can_step: bool,
+}
+
+impl DeviceRows {
+    /// Returns the range that each turn wrote, in order. No byte elsewhere has changed.
+    pub fn ranges(self) -> impl Iterator<Item = Segment> {
+        (0..self.count).map(move |k| Segment { addr: self.written.addr + k * self.pitch, ..self.written })
+    }
+}
+
 /// The registers of a DMA-330 as a guest's driver sees them (ARM DDI 0424), over channels that run the guest's programs
 /// in memory of the caller.
 ///
@@ -144,6 +168,24 @@ impl Device {
         let turn = self.handle.step(channel, most, regions)?;
         let (lines_changed, can_step) = (turn.lines_changed != 0, turn.can_step != 0);
         Ok(DeviceTurn { written: turn.written, lines_changed, can_step })
+    }
+
+    /// Takes turns of a channel in a row, at least one, together at most `most` steps. In a loop that copies the rows of
+    /// a rectangle, each by pairs of DMALD and DMAST, then DMAADDH SAR or not, then DMAADDH DAR, it takes a turn for each
+    /// row at once. Else it takes a single turn, which ends early where rows may begin. What it does is what
+    /// [`Device::step`] would do in as many calls.
+    ///
+    /// Fails with `BadRegions`.
+    pub fn step_rows(&mut self, channel: u8, most: u32, regions: &mut [Region<'_>]) -> Result<DeviceRows, Error> {
+        let rows = self.handle.step_rows(channel, most, regions)?;
+        Ok(DeviceRows {
+            written: rows.written,
+            pitch: rows.pitch,
+            count: rows.count,
+            steps: rows.steps,
+            lines_changed: rows.lines_changed != 0,
+            can_step: rows.can_step != 0,
+        })
     }
 
     /// Returns what the program copies that a DMAGO loaded into a channel, as [`explain`](crate::explain) does on the

@@ -36,7 +36,7 @@ mod explain;
 mod sys;
 
 pub use channel::{Channel, ChannelSteps, ChannelTurn, Registers};
-pub use device::{BusWidth, Device, DeviceConfig, DeviceTurn, Revision};
+pub use device::{BusWidth, Device, DeviceConfig, DeviceRows, DeviceTurn, Revision};
 pub use error::{AssemblyFault, DisassemblyFault, Error};
 pub use explain::{explain, explain_work, plan, plan_fill};
 pub use explain::{Bus, Cause, Explanation, Happening, HappeningKind, Moment, Repeated, Work};

@@ -154,6 +154,17 @@ pub struct RawDeviceTurn {
     pub can_step: u32,
 }
 
+#[repr(C)]
+#[derive(Default)]
+pub struct RawDeviceRows {
+    pub written: Segment,
+    pub pitch: u32,
+    pub count: u32,
+    pub steps: u32,
+    pub lines_changed: u32,
+    pub can_step: u32,
+}
+
 /// A part of the caller's memory, which a channel reads and writes while it is stepped: bytes, and the address of the
 /// first.
 ///
@@ -342,6 +353,14 @@ extern "C" {
         regions: *const Region<'_>,
         count: usize,
         turn: *mut RawDeviceTurn,
+    ) -> i32;
+    fn dma330_device_step_rows(
+        device: *mut RawDevice,
+        channel: u8,
+        most: u32,
+        regions: *const Region<'_>,
+        count: usize,
+        rows: *mut RawDeviceRows,
     ) -> i32;
     fn dma330_device_explain(
         device: *mut RawDevice,
@@ -761,6 +780,13 @@ impl DeviceHandle {
         let (lent, count) = (regions.as_ptr(), regions.len());
         let code = unsafe { dma330_device_step(self.raw.get_mut(), channel, most, lent, count, &mut turn) };
         checked(code, turn)
+    }
+
+    pub fn step_rows(&mut self, channel: u8, most: u32, regions: &mut [Region<'_>]) -> Result<RawDeviceRows, Error> {
+        let mut rows = RawDeviceRows::default();
+        let (lent, count) = (regions.as_ptr(), regions.len());
+        let code = unsafe { dma330_device_step_rows(self.raw.get_mut(), channel, most, lent, count, &mut rows) };
+        checked(code, rows)
     }
 
     pub fn explain(&self, channel: u8, most: u32) -> Result<RawExplained<RawExplanation>, Error> {

@@ -34,7 +34,7 @@
 
 #![deny(missing_docs, unsafe_code)]
 
-use dma330::{Channel, ChannelSteps, Device, DeviceTurn, Error, Region, Segment};
+use dma330::{Channel, ChannelSteps, Device, DeviceRows, DeviceTurn, Error, Region, Segment};
 use libc::{PROT_READ, PROT_WRITE};
 use std::ops::Range;
 use vm_memory::bitmap::Bitmap;
@@ -137,6 +137,14 @@ impl<'a, B: Bitmap + 'static> LentMemory<'a, B> {
         let turn = device.step(channel, most, &mut self.regions).expect(USABLE);
         self.mark(turn.written);
         turn
+    }
+
+    /// Takes turns of a device's channel in a row, as [`Device::step_rows`] does, and then marks each byte that they wrote
+    /// as dirty, and no other.
+    pub fn step_rows(&mut self, device: &mut Device, channel: u8, most: u32) -> DeviceRows {
+        let rows = device.step_rows(channel, most, &mut self.regions).expect(USABLE);
+        rows.ranges().for_each(|written| self.mark(written));
+        rows
     }
 
     /// Loads the program that begins at an address of the memory, as [`Channel::load_from`] does.

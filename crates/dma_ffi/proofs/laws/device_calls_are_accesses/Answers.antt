@@ -18,6 +18,10 @@ returns c = record {
   reads = λ d at before value code new regions h. grind arith;
   writes = λ d e at value regions h. grind arith;
   turns = λ d e n most regions left before report h. grind arith;
+  rows = λ d e n most regions left before report h. elim h [
+    | inl bad ↦ absurd (let is = bad.0 in cc)
+    | inr x ↦ (x.2.turns, x.2.reported, x.2.takes)
+  ];
   resets = λ d code new regions h. grind arith;
   restores = λ d e save regions h. grind arith;
   saves_restore = λ d e saved save code h is. grind (arith, no_other save d.config saved is);

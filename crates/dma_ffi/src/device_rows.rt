@@ -1,0 +1,68 @@
+//! Turns in a row of a device that C keeps.
+
+ghost use Rattle.std.specs.Prelude.{◌≡◌};
+ghost use Rattle.dma_ffi.specs.Devices.{ReportsRows, rows_report_of};
+
+use crate::channel_calls::are_usable;
+use crate::codes::{BAD_REGIONS, NOT_OPEN, OK};
+use crate::kept_device::KeptDevice;
+use dma_device::device::Device;
+use dma_device::device::rows::RowTurns;
+use dma_mem::regions::Region;
+use dma_mem::segment::Segment;
+
+/// What turns in a row of a device's channel did.
+#[repr(C)]
+#[derive(Clone, Copy)]
+pub struct DeviceRows {
+    /// The range that the first turn wrote. Each byte in it was written.
+    pub written: Segment,
+    /// How far the range of each turn begins behind that of the turn before.
+    pub pitch: u32,
+    /// The number of turns, at least 1. No byte outside their ranges was written.
+    pub count: u32,
+    /// Each turn was like one of at most this many steps.
+    pub steps: u32,
+    /// 1 if a line of irq[31:0], or irq_abort, has changed, else 0.
+    pub lines_changed: u32,
+    /// 1 if any channel runs and, by its status, doesn't wait for an event whose flag is clear, else 0.
+    pub can_step: u32,
+}
+
+// Returns the report of turns that left the device like this.
+fn rows_report_of(turns: RowTurns, device: &Device) -> DeviceRows
+    ensures { result ≡ rows_report_of turns device.now }
+{
+    DeviceRows {
+        written: turns.rows.first,
+        pitch: turns.rows.pitch,
+        count: turns.rows.count,
+        steps: turns.rows.steps,
+        lines_changed: u32::from(turns.lines_changed),
+        can_step: u32::from(device.can_step()),
+    }
+}
+
+/// Takes turns of a channel over the regions, together at most `most` steps, and writes their report: one turn for each
+/// row where the channel copies rows of a rectangle, else a single turn. Fails if the regions aren't usable.
+#[unsafe(no_mangle)]
+pub extern "C" fn dma330_device_step_rows(
+    kept: &mut KeptDevice,
+    channel: u8,
+    most: u32,
+    regions: &mut [Region<'_>],
+    rows: &mut DeviceRows,
+) -> i32
+    ensures { ReportsRows channel most kept.old.device.value regions.old rows.old result
+        kept.new.device.value regions.new rows.new }
+{
+    let Some(device) = kept.get_mut() else {
+        return NOT_OPEN;
+    };
+    if !are_usable(regions) {
+        return BAD_REGIONS;
+    }
+    let taken = device.step_rows(channel, most, regions);
+    *rows = rows_report_of(taken, device);
+    OK
+}
