@@ -1,7 +1,7 @@
 -- What a turn of a device's channel from C changes.
 use Rattle.std.proofs.Common.{◌≡◌, ℕ, List, Option, Some, None, refl, sym, ap, subst, inl, inr, arith}
-use Rattle.std.specs.Prelude.{ℤ}
-use Rattle.dma_mem.specs.Regions.{image_of, pieces_of}
+use Rattle.std.specs.Prelude.{ℤ, IsTrue}
+use Rattle.dma_mem.specs.Regions.{image_of, in_order, pieces_of}
 use Rattle.dma_mem.specs.declared.regions.Region.{Region}
 use Rattle.dma_mem.specs.declared.segment.Segment.{Segment}
 use Rattle.dma_chan.specs.LentRegions.{AreKept}
@@ -40,21 +40,23 @@ turns_keep_the_rest n most (Some d) regions before code (Some e) left report (in
 -- ---- turns in a row
 
 -- the call is refused
-rows_refused : (old : Option DeviceValue) (regions : List Region) (before : DeviceRows) (code : ℤ) (new : Option DeviceValue) (left : List Region) (report : DeviceRows) → ¬ (code ≡ ok_code) → new ≡ old → left ≡ regions → report ≡ before → KeepsOtherRows old regions before code new left report
-rows_refused old regions before code new left report bad device same former = grind (arith, stay)
+rows_refused : (n : ℕ) (old : Option DeviceValue) (regions : List Region) (before : DeviceRows) (code : ℤ) (new : Option DeviceValue) (left : List Region) (report : DeviceRows) → ¬ (code ≡ ok_code) → new ≡ old → left ≡ regions → report ≡ before → KeepsOtherRows n old regions before code new left report
+rows_refused n old regions before code new left report bad device same former = grind (arith, stay)
 
 pub rows_keep_the_rest : RowsKeepTheRest
-rows_keep_the_rest n most None regions before code new left report order x =
-    rows_refused None regions before code new left report (λ ok. let is = x.0 in cc) x.1 x.2 x.3
-rows_keep_the_rest n most (Some d) regions before code new left report order (inl x) =
-    rows_refused (Some d) regions before code new left report (λ ok. let is = x.0 in cc) x.2 x.3 x.4
-rows_keep_the_rest n most (Some d) regions before code None left report order (inr x) = absurd x.2
-rows_keep_the_rest n most (Some d) regions before code (Some e) left report order (inr x) =
+rows_keep_the_rest n most None regions before code new left report x =
+    rows_refused n None regions before code new left report (λ ok. let is = x.0 in cc) x.1 x.2 x.3
+rows_keep_the_rest n most (Some d) regions before code new left report (inl x) =
+    rows_refused n (Some d) regions before code new left report (λ ok. let is = x.0 in cc) x.2 x.3 x.4
+rows_keep_the_rest n most (Some d) regions before code None left report (inr x) = absurd x.2
+rows_keep_the_rest n most (Some d) regions before code (Some e) left report (inr x) =
+    let order : IsTrue (in_order (pieces_of regions)) = grind (arith, x.1) in
     let took = x.2 in
     let w = rows_write_each d regions n e left took.turns took.takes in
-    let Kept : DeviceRows → Type 0 = λ r. KeepsOtherRows (Some d) regions before code (Some e) left r in
+    let Kept : DeviceRows → Type 0 = λ r. KeepsOtherRows n (Some d) regions before code (Some e) left r in
     subst Kept (sym took.reported) (record {
       kept = λ a ok off. w.no_other a off;
+      each = λ k a ok less i. (took.takes.before k, (took.takes.lent k, w.each k a less i));
       within = λ k a ok less i. w.within k a order less i;
       in_place = took.takes.kept;
       refused = λ no. absurd (no x.0);

@@ -2,7 +2,7 @@
 use Rattle.std.specs.Prelude.{◌≡◌, ◌≢◌, ℕ, ◌+◌, ◌*◌, ◌^◌, ◌≤◌, ◌<◌, ◌⊎◌, ◌==◌, Bool, true, false, not, ℤ, Option, Some, None, IsSomeAnd, if◌then◌else◌, List, Result, Ok, Err, IsTrue, length, min, slice_index}
 use Rattle.std.specs.List.{list_any}
 use Rattle.dma_mem.specs.Lent.{lies_in_any}
-use Rattle.dma_mem.specs.Regions.{has, image_of, in_order, pieces_of, read_only_of}
+use Rattle.dma_mem.specs.Regions.{has, image_of, pieces_of, read_only_of}
 use Rattle.dma_mem.specs.declared.regions.Region.{Region}
 use Rattle.dma_mem.specs.declared.segment.Segment.{Segment}
 use Rattle.dma_chan.specs.LentRegions.{AreKept}
@@ -134,14 +134,16 @@ rows_report_of turns e = record {
   can_step = any_can_step e;
 }
 
--- Turns of channel `n` in a row, at least one, that together take at most `most` steps. No row begins above the last
--- address.
+-- Turns of channel `n` in a row, at least one, and no more than one if `most` is 0. Their number times the most steps of
+-- each is at most `most`, and each may take a step if `most` isn't 0. No row begins above the last address.
 pub record TakesRows (n most : ℕ) (d : DeviceValue) (regions : List Region) (e : DeviceValue) (left : List Region)
     (report : DeviceRows) : Type 0 where
   pub turns : RowTurns
   pub takes : TakesRowTurns d regions n e left turns
   pub reported : report ≡ rows_report_of turns e
   pub some : 1 ≤ report.count
+  pub one : most ≡ 0 → report.count ≡ 1
+  pub moves : 0 < most → 0 < report.steps
   pub few : report.count * report.steps ≤ most
   pub low : (k : ℕ) → k < report.count → report.written.addr + k * report.pitch < 2 ^ 32
 
@@ -173,25 +175,26 @@ TurnsKeepTheRest =
 abbrev pub row_in : DeviceRows → ℕ → Segment
 row_in r k = range_at (r.written.addr + k * r.pitch) r.written.len
 
--- A call from C that takes turns in a row, of a channel with any program: if it returns `ok_code`, no byte outside the
--- rows that it reports has changed, and each address in them lies in a region, and in none that is read-only. Else
--- nothing has changed. In either case the regions keep their places.
-pub record KeepsOtherRows (old : Option DeviceValue) (regions : List Region) (before : DeviceRows) (code : ℤ)
+-- A call from C that takes turns in a row, of a channel with any program: if it returns `ok_code`, one of the turns' steps
+-- wrote each address in the rows that it reports, each lies in a region, and in none that is read-only, and no byte
+-- outside the rows has changed. Else nothing has changed. In either case the regions keep their places.
+pub record KeepsOtherRows (n : ℕ) (old : Option DeviceValue) (regions : List Region) (before : DeviceRows) (code : ℤ)
     (new : Option DeviceValue) (left : List Region) (report : DeviceRows) : Type 0 where
   pub kept : (a : ℕ) → code ≡ ok_code → ((k : ℕ) → k < report.count → ¬ LiesIn (row_in report k) a) →
       slice_index (image_of (pieces_of left)) a ≡ slice_index (image_of (pieces_of regions)) a
+  pub each : (k a : ℕ) → code ≡ ok_code → k < report.count → LiesIn (row_in report k) a →
+      (d : DeviceValue) × ((lent : List Region) × TurnWrote d lent n report.steps a)
   pub within : (k a : ℕ) → code ≡ ok_code → k < report.count → LiesIn (row_in report k) a →
       IsTrue (list_any (has a) (pieces_of regions)) × (lies_in_any (read_only_of regions) a ≡ false)
   pub in_place : AreKept left regions
   pub refused : code ≢ ok_code → (new ≡ old) × (left ≡ regions) × (report ≡ before)
 
--- Each such call keeps the rest, over regions in order.
+-- Each such call keeps the rest.
 abbrev pub RowsKeepTheRest : Type 0
 RowsKeepTheRest =
     (n most : ℕ) (old : Option DeviceValue) (regions : List Region) (before : DeviceRows) (code : ℤ)
     (new : Option DeviceValue) (left : List Region) (report : DeviceRows) →
-    IsTrue (in_order (pieces_of regions)) → ReportsRows n most old regions before code new left report →
-    KeepsOtherRows old regions before code new left report
+    ReportsRows n most old regions before code new left report → KeepsOtherRows n old regions before code new left report
 
 -- ---- saves
 

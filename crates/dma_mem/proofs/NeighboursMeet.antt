@@ -1,5 +1,5 @@
 -- Of segments that are sorted by their first addresses, two meet exactly if two neighbours do.
-use Rattle.std.proofs.Common.{◌≡◌, ◌≢◌, ℕ, ◌+◌, ◌<◌, ◌≤◌, List, [], ◌∷◌, length, get_or, Bool, true, false, ◌||◌, refl, ap, sym, ◌∙◌, arith, inl, inr, All, suc, cond}
+use Rattle.std.proofs.Common.{◌≡◌, ℕ, ◌+◌, ◌<◌, ◌≤◌, List, [], ◌∷◌, length, get_or, Bool, true, false, ◌||◌, refl, ap, sym, ◌∙◌, arith, inl, inr, All, suc, cond}
 use Rattle.std.specs.Prelude.{AllPairs, None}
 use Rattle.std.specs.List.{list_any, sum_by}
 use Rattle.std.specs.List.Sorted.{IsPermutation, IsNonDecreasingBy}

@@ -1,5 +1,5 @@
 -- Two lists and two events that no rule refuses make a transfer.
-use Rattle.std.proofs.Common.{◌≡◌, ◌≢◌, ℕ, ◌+◌, ◌-◌, ◌<◌, ◌≤◌, List, [], ◌∷◌, ◌++◌, length, Option, Some, None, Bool, true, false, ◌||◌, ◌&&◌, nat_lt, refl, zero, suc, ap, sym, ◌∙◌, arith, inl, inr, IfSome, get_or}
+use Rattle.std.proofs.Common.{◌≡◌, ◌≢◌, ℕ, ◌+◌, ◌<◌, ◌≤◌, List, [], ◌∷◌, ◌++◌, length, Option, Some, None, Bool, true, false, ◌||◌, ◌&&◌, nat_lt, refl, zero, suc, ap, sym, ◌∙◌, arith, inl, inr, IfSome, get_or}
 use Rattle.std.specs.Prelude.{◌==◌, ◌↔◌, All, AllPairs, not, if◌then◌else◌}
 use Rattle.std.specs.Bool.{then_some}
 use Rattle.std.specs.List.{Contains, list_any, range_with_len, flat_map, slice_get}

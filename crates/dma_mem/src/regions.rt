@@ -9,7 +9,7 @@ ghost use Rattle.dma_mem.specs.inner.Rewritten.{bars, Holds, Writable, Rewritten
 use crate::marks::MarkKind;
 use crate::memory::MemFault;
 use crate::ram::Ram;
-use crate::regions::search::{clear_of, place, region_with_range, size_of};
+use crate::regions::search::{clear_of, has_range, place, region_with_range, size_of};
 use crate::segment::Segment;
 use crate::table::blocks::{copy_bytes_apart, fill_bytes};
 use crate::table::put_parts;
@@ -232,6 +232,7 @@ fn fill(regions: &mut [Region<'_>], addr: u32, len: u32, byte: u8)
 }
 
 // Copies `len` bytes from `from` to `to` within the region at an index. The two ranges share no address.
+#[inline(always)]
 fn copy_in_region(regions: &mut [Region<'_>], index: usize, from: u32, to: u32, len: u32)
     requires order { IsTrue (in_order (pieces_of regions.old)) }
     requires index { index < length regions.old }
@@ -275,6 +276,7 @@ fn copy_block(regions: &mut [Region<'_>], from: u32, to: u32, len: usize)
 }
 
 // Copies `len` bytes from `from` to `to`, a block at a time. The two ranges share no address.
+#[inline(never)]
 fn copy_by_blocks(regions: &mut [Region<'_>], from: u32, to: u32, len: u32)
     requires writable { Writable regions.old to len }
     requires source { from + len ≤ length (image_of (pieces_of regions.old)) }
@@ -290,7 +292,9 @@ fn copy_by_blocks(regions: &mut [Region<'_>], from: u32, to: u32, len: u32)
     }
 }
 
-// Copies `len` bytes from `from` to `to`. The two ranges share no address.
+// Copies `len` bytes from `from` to `to`. The two ranges share no address. Inlined up to the first look at other
+// regions, since rows of a few bytes are copied so.
+#[inline(always)]
 fn copy(regions: &mut [Region<'_>], from: u32, to: u32, len: u32)
     requires writable { Writable regions.old to len }
     requires source { from + len ≤ length (image_of (pieces_of regions.old)) }
@@ -298,10 +302,9 @@ fn copy(regions: &mut [Region<'_>], from: u32, to: u32, len: u32)
     ensures { Rewritten regions.old regions.new to
         (take len (drop from (image_of (pieces_of regions.old)))) }
 {
-    let source = region_with_range(regions, from, len as usize);
-    let target = region_with_range(regions, to, len as usize);
-    if source == target && source < regions.len() {
-        copy_in_region(regions, source, from, to, len);
+    let index = region_with_range(regions, from, len as usize);
+    if index < regions.len() && has_range(regions, index, to, len as usize) {
+        copy_in_region(regions, index, from, to, len);
     } else {
         copy_by_blocks(regions, from, to, len);
     }
@@ -380,6 +383,7 @@ impl Ram for LentRegions<'_, '_> {
         write(self.regions, addr, front, back);
     }
 
+    #[inline(always)]
     fn copy_apart(&mut self, from: u32, to: u32, len: u32) {
         copy(self.regions, from, to, len);
     }

@@ -90,6 +90,16 @@ pub(crate) fn region_with_range(regions: &[Region<'_>], addr: u32, len: usize) -
     }
 }
 
+/// Returns whether the region at an index has all `len` addresses from `addr` on.
+#[inline(always)]
+pub(crate) fn has_range(regions: &[Region<'_>], index: usize, addr: u32, len: usize) -> bool
+    requires { index < length regions.now }
+    ensures { IsTrue result → Holds (pieces_of regions.now) index addr len }
+{
+    let region = &regions[index];
+    region.has(u64::from(addr)) && len <= region.bytes.len() - (addr - region.addr) as usize
+}
+
 // Returns how many addresses of a segment come before the first at which a burst of this kind fails, or the segment's
 // length if it fails at none. Bursts fail in gaps, and stores also in read-only regions.
 #[inline(never)]
