@@ -754,10 +754,11 @@ int32_t dma330_device_write(dma330_device *device, uint32_t offset, uint32_t val
 int32_t dma330_device_step(dma330_device *device, uint8_t channel, uint32_t most, const dma330_region *regions,
                            size_t region_count, dma330_device_turn *turn) DMA330_NO_NULLS;
 
-/* Takes turns of a channel in a row, at least one, together at most `most` steps. In a loop that copies the rows of a
- * rectangle, each by pairs of DMALD and DMAST, then DMAADDH SAR or not, then DMAADDH DAR, it takes a turn for each row at
- * once, where dma330_device_step would take a call for each. Else it takes a single turn, which ends early where rows may
- * begin. What it does is what dma330_device_step would do in `rows->count` calls. Codes: BAD_REGIONS. Since 1.6.0. */
+/* Takes turns of a channel in a row, at least one. In a loop that copies the rows of a rectangle, each by pairs of DMALD
+ * and DMAST, then DMAADDH SAR or not, then DMAADDH DAR, it takes a turn for each row at once, where dma330_device_step
+ * takes a call for each. Else it takes a single turn, which may end early where rows begin. It does what dma330_device_step
+ * would do in `rows->count` calls of at most `rows->steps` steps each, and `count` times `steps` is at most `most`. Codes:
+ * BAD_REGIONS. Since 1.6.0. */
 int32_t dma330_device_step_rows(dma330_device *device, uint8_t channel, uint32_t most, const dma330_region *regions,
                                 size_t region_count, dma330_device_rows *rows) DMA330_NO_NULLS;
 

@@ -93,9 +93,8 @@ static void test_rectangles(void)
 
         set_up_both(rectangles[n].program, sizeof rectangles[n].program);
         for (uint32_t row = 0; row < rectangles[n].rows; row++)
-            for (uint32_t at = 0; at < len; at++)
-                *byte_at(m.wanted, rectangles[n].dst + row * rectangles[n].dst_pitch + at) =
-                    *byte_at(m.wanted, rectangles[n].src + row * rectangles[n].src_pitch + at);
+            memmove(byte_at(m.wanted, rectangles[n].dst + row * rectangles[n].dst_pitch),
+                    byte_at(m.wanted, rectangles[n].src + row * rectangles[n].src_pitch), len);
         calls = run_both(100000, 1000, &several);
         check(is_ram_wanted(&m) && get(&m, CSR) % 16 == 0, rectangles[n].what, n);
         check(calls <= rectangles[n].calls, rectangles[n].what, calls);

@@ -1,5 +1,6 @@
 //! Memory that a caller lends in several regions.
 
+mod copies;
 mod search;
 
 ghost use Rattle.std.specs.Prelude.{◌≡◌, ◌+◌, ◌-◌, ◌<◌, ◌≤◌, ◌⊎◌, ◌++◌, ◌∷◌, [], ◌&&◌, ◌||◌, nat_lt, length, take, drop, replicate, IsTrue, slice_index, vec_capacity};
@@ -9,13 +10,11 @@ ghost use Rattle.dma_mem.specs.inner.Rewritten.{bars, Holds, Writable, Rewritten
 use crate::marks::MarkKind;
 use crate::memory::MemFault;
 use crate::ram::Ram;
-use crate::regions::search::{clear_of, has_range, place, region_with_range, size_of};
+use crate::regions::copies::copy;
+use crate::regions::search::{clear_of, place, region_with_range, size_of};
 use crate::segment::Segment;
-use crate::table::blocks::{copy_bytes_apart, fill_bytes};
+use crate::table::blocks::fill_bytes;
 use crate::table::put_parts;
-
-// How many bytes are copied at once from one region to another.
-const BLOCK_SIZE: usize = 1024;
 
 // The largest end of a region: the end of the 32-bit addresses.
 const LARGEST_END: u64 = 1 << 32;
@@ -181,7 +180,7 @@ fn put_by_bytes(regions: &mut [Region<'_>], addr: u32, bytes: &[u8])
 }
 
 // Writes the bytes of `front` and then those of `back` from `addr` on.
-fn write(regions: &mut [Region<'_>], addr: u32, front: &[u8], back: &[u8])
+pub(crate) fn write(regions: &mut [Region<'_>], addr: u32, front: &[u8], back: &[u8])
     requires { Writable regions.old addr (length front.now + length back.now) }
     ensures { Rewritten regions.old regions.new addr (front.now ++ back.now) }
 {
@@ -231,24 +230,8 @@ fn fill(regions: &mut [Region<'_>], addr: u32, len: u32, byte: u8)
     }
 }
 
-// Copies `len` bytes from `from` to `to` within the region at an index. The two ranges share no address.
-#[inline(always)]
-fn copy_in_region(regions: &mut [Region<'_>], index: usize, from: u32, to: u32, len: u32)
-    requires order { IsTrue (in_order (pieces_of regions.old)) }
-    requires index { index < length regions.old }
-    requires reads { Holds (pieces_of regions.old) index from len }
-    requires writes { Holds (pieces_of regions.old) index to len }
-    requires apart { (from + len ≤ to) ⊎ (to + len ≤ from) }
-    ensures { Rewritten regions.old regions.new to
-        (take len (drop from (image_of (pieces_of regions.old)))) }
-{
-    let region = &mut regions[index];
-    let (source, target) = ((from - region.addr) as usize, (to - region.addr) as usize);
-    copy_bytes_apart(region.bytes, source, target, len as usize);
-}
-
 // Fills a block with the bytes from `addr` on.
-fn read_into(regions: &[Region<'_>], addr: u32, block: &mut [u8])
+pub(crate) fn read_into(regions: &[Region<'_>], addr: u32, block: &mut [u8])
     requires order { IsTrue (in_order (pieces_of regions.now)) }
     requires within { addr + length block.old ≤ length (image_of (pieces_of regions.now)) }
     ensures { block.new ≡ take (length block.old) (drop addr (image_of (pieces_of regions.now))) }
@@ -258,55 +241,6 @@ fn read_into(regions: &[Region<'_>], addr: u32, block: &mut [u8])
         block.copy_from_slice(&bytes[..block.len()]);
     } else {
         gather(regions, addr, block);
-    }
-}
-
-// Copies `len` bytes, at most a block, from `from` to `to`.
-fn copy_block(regions: &mut [Region<'_>], from: u32, to: u32, len: usize)
-    requires few { len ≤ 1024 }
-    requires writable { Writable regions.old to len }
-    requires source { from + len ≤ length (image_of (pieces_of regions.old)) }
-    ensures { Rewritten regions.old regions.new to
-        (take len (drop from (image_of (pieces_of regions.old)))) }
-{
-    let mut block = [0; BLOCK_SIZE];
-    let part = &mut block[..len];
-    read_into(regions, from, part);
-    write(regions, to, part, &[]);
-}
-
-// Copies `len` bytes from `from` to `to`, a block at a time. The two ranges share no address.
-#[inline(never)]
-fn copy_by_blocks(regions: &mut [Region<'_>], from: u32, to: u32, len: u32)
-    requires writable { Writable regions.old to len }
-    requires source { from + len ≤ length (image_of (pieces_of regions.old)) }
-    requires apart { (from + len ≤ to) ⊎ (to + len ≤ from) }
-    ensures { Rewritten regions.old regions.new to
-        (take len (drop from (image_of (pieces_of regions.old)))) }
-{
-    let mut done = 0;
-    while done < len {
-        let count = (len - done).min(BLOCK_SIZE as u32);
-        copy_block(regions, from + done, to + done, count as usize);
-        done += count;
-    }
-}
-
-// Copies `len` bytes from `from` to `to`. The two ranges share no address. Inlined up to the first look at other
-// regions, since rows of a few bytes are copied so.
-#[inline(always)]
-fn copy(regions: &mut [Region<'_>], from: u32, to: u32, len: u32)
-    requires writable { Writable regions.old to len }
-    requires source { from + len ≤ length (image_of (pieces_of regions.old)) }
-    requires apart { (from + len ≤ to) ⊎ (to + len ≤ from) }
-    ensures { Rewritten regions.old regions.new to
-        (take len (drop from (image_of (pieces_of regions.old)))) }
-{
-    let index = region_with_range(regions, from, len as usize);
-    if index < regions.len() && has_range(regions, index, to, len as usize) {
-        copy_in_region(regions, index, from, to, len);
-    } else {
-        copy_by_blocks(regions, from, to, len);
     }
 }
 

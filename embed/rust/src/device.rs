@@ -170,10 +170,10 @@ impl Device {
         Ok(DeviceTurn { written: turn.written, lines_changed, can_step })
     }
 
-    /// Takes turns of a channel in a row, at least one, together at most `most` steps. In a loop that copies the rows of
-    /// a rectangle, each by pairs of DMALD and DMAST, then DMAADDH SAR or not, then DMAADDH DAR, it takes a turn for each
-    /// row at once. Else it takes a single turn, which ends early where rows may begin. What it does is what
-    /// [`Device::step`] would do in as many calls.
+    /// Takes turns of a channel in a row, at least one. In a loop that copies the rows of a rectangle, each by pairs of
+    /// DMALD and DMAST, then DMAADDH SAR or not, then DMAADDH DAR, it takes a turn for each row at once. Else it takes a
+    /// single turn, which may end early where rows begin. It does what [`Device::step`] would do in `count` calls of at
+    /// most `steps` steps each, and `count` times `steps` is at most `most`.
     ///
     /// Fails with `BadRegions`.
     pub fn step_rows(&mut self, channel: u8, most: u32, regions: &mut [Region<'_>]) -> Result<DeviceRows, Error> {

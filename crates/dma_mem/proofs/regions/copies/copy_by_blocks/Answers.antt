@@ -6,7 +6,7 @@ use Rattle.dma_mem.specs.inner.Rewritten.{Rewritten}
 use Rattle.dma_mem.proofs.BlockCopies.{read_outside}
 use Rattle.dma_mem.proofs.Pieces.{image_of_most}
 use Rattle.dma_mem.proofs.PieceWrites.{rewritten_none, rewritten_more, rewritten_length, writable_part, writable_after, writable_most}
-use Rattle.dma_mem.proofs.regions.copy_by_blocks.Goals as goal
+use Rattle.dma_mem.proofs.regions.copies.copy_by_blocks.Goals as goal
 
 pub loop-done-init : goal.loop-done-init
 loop-done-init c = record { within = omega arith; copied = rewritten_none c.args.regions.now c.args.to }

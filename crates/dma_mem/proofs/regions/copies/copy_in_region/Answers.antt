@@ -5,7 +5,7 @@ use Rattle.dma_mem.specs.inner.Rewritten.{Holds}
 use Rattle.dma_mem.specs.Image.{put, bytes_at}
 use Rattle.dma_mem.proofs.Pieces.{no_region}
 use Rattle.dma_mem.proofs.PieceWrites.{rewritten_at, region_shown, ends_in}
-use Rattle.dma_mem.proofs.regions.copy_in_region.Goals as goal
+use Rattle.dma_mem.proofs.regions.copies.copy_in_region.Goals as goal
 
 pub returns : goal.returns
 returns c =
