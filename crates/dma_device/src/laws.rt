@@ -67,7 +67,7 @@ pub fn interrupts_are_exact()
 {}
 
 /// A turn of a channel with any program writes each address in the range that it reports as written, and no other. Each
-/// of them lies in a region that isn't read-only. The same holds of turns in a row and their ranges.
+/// of them lies in a region that isn't read-only. The same holds of the turns of `step_rows`.
 pub fn a_turn_writes_each()
     ensures each { TurnWritesEach }
     ensures within { TurnWritesInRegions }

@@ -12,7 +12,7 @@ use Rattle.dma_device.proofs.Writes.{turn_writes_each}
 use Rattle.dma_ffi.specs.declared.device_rows.DeviceRows.{DeviceRows}
 use Rattle.dma_ffi.specs.declared.device_calls.DeviceTurn.{DeviceTurn}
 use Rattle.dma_ffi.specs.Codes.{ok_code}
-use Rattle.dma_ffi.specs.Devices.{KeepsOtherRows, KeepsTheRest, RowsKeepTheRest, TurnsKeepTheRest}
+use Rattle.dma_ffi.specs.Devices.{KeepsOutsideRows, KeepsTheRest, RowsKeepTheRest, TurnsKeepTheRest}
 
 stay : (regions left : List Region) → left ≡ regions → AreKept left regions
 stay regions left same = subst (λ (l : List Region). AreKept l regions) (sym same) (record { places = refl; read_only = refl; names = refl })
@@ -37,10 +37,10 @@ turns_keep_the_rest n most (Some d) regions before code (Some e) left report (in
       refused = λ no. absurd (no x.0);
     }
 
--- ---- turns in a row
+-- ---- several turns
 
 -- the call is refused
-rows_refused : (n : ℕ) (old : Option DeviceValue) (regions : List Region) (before : DeviceRows) (code : ℤ) (new : Option DeviceValue) (left : List Region) (report : DeviceRows) → ¬ (code ≡ ok_code) → new ≡ old → left ≡ regions → report ≡ before → KeepsOtherRows n old regions before code new left report
+rows_refused : (n : ℕ) (old : Option DeviceValue) (regions : List Region) (before : DeviceRows) (code : ℤ) (new : Option DeviceValue) (left : List Region) (report : DeviceRows) → ¬ (code ≡ ok_code) → new ≡ old → left ≡ regions → report ≡ before → KeepsOutsideRows n old regions before code new left report
 rows_refused n old regions before code new left report bad device same former = grind (arith, stay)
 
 pub rows_keep_the_rest : RowsKeepTheRest
@@ -53,7 +53,7 @@ rows_keep_the_rest n most (Some d) regions before code (Some e) left report (inr
     let order : IsTrue (in_order (pieces_of regions)) = grind (arith, x.1) in
     let took = x.2 in
     let w = rows_write_each d regions n e left took.turns took.takes in
-    let Kept : DeviceRows → Type 0 = λ r. KeepsOtherRows n (Some d) regions before code (Some e) left r in
+    let Kept : DeviceRows → Type 0 = λ r. KeepsOutsideRows n (Some d) regions before code (Some e) left r in
     subst Kept (sym took.reported) (record {
       kept = λ a ok off. w.no_other a off;
       each = λ k a ok less i. (took.takes.before k, (took.takes.lent k, w.each k a less i));

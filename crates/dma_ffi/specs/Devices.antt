@@ -106,9 +106,8 @@ report_of turn e = record {
   can_step = any_can_step e;
 }
 
--- A call from C that does this over regions and reports it: the device, if it is open, the regions that C lends, and the
--- report, before and after. On a device that isn't open, else over regions that aren't usable, it returns the code for
--- that and changes nothing.
+-- A call from C on a device over regions, with a report, before and after. `Makes` is what it does on an open device
+-- over usable regions. Otherwise it returns `not_open`, else `bad_regions`, and changes nothing.
 abbrev pub Reports : {R : Type 0} → (DeviceValue → List Region → DeviceValue → List Region → R → Type 0)
     → Option DeviceValue → List Region → R → ℤ → Option DeviceValue → List Region → R → Type 0
 Reports Makes None regions before code new left report =
@@ -121,9 +120,10 @@ Reports Makes (Some d) regions before code new left report =
 abbrev pub ReportsTurn : ℕ → ℕ → Option DeviceValue → List Region → DeviceTurn → ℤ
     → Option DeviceValue → List Region → DeviceTurn → Type 0
 ReportsTurn n most =
-    Reports (λ d regions e left report. (turn : Turn) × TakesTurn d regions n most e left turn × (report ≡ report_of turn e))
+    Reports (λ d regions e left report. (turn : Turn) × TakesTurn d regions n most e left turn
+    × (report ≡ report_of turn e))
 
--- the report of turns in a row that left a device like this
+-- the report of several turns that left a device like this
 abbrev pub rows_report_of : RowTurns → DeviceValue → DeviceRows
 rows_report_of turns e = record {
   written = turns.rows.first;
@@ -134,8 +134,8 @@ rows_report_of turns e = record {
   can_step = any_can_step e;
 }
 
--- Turns of channel `n` in a row, at least one, and no more than one if `most` is 0. Their number times the most steps of
--- each is at most `most`, and each may take a step if `most` isn't 0. No row begins above the last address.
+-- Turns of channel `n` one after another, at least one, and just one if `most` is 0. Their number times the most steps
+-- of each is at most `most`, and each may take a step if `most` isn't 0. No range begins above the last address.
 pub record TakesRows (n most : ℕ) (d : DeviceValue) (regions : List Region) (e : DeviceValue) (left : List Region)
     (report : DeviceRows) : Type 0 where
   pub turns : RowTurns
@@ -152,9 +152,9 @@ abbrev pub ReportsRows : ℕ → ℕ → Option DeviceValue → List Region → 
     → Option DeviceValue → List Region → DeviceRows → Type 0
 ReportsRows n most = Reports (TakesRows n most)
 
--- A call from C that takes a turn, of a channel with any program: if it returns `ok_code`, one of the turn's steps wrote
--- each address in the range that it reports as written, and no byte outside the range has changed. Else nothing has
--- changed. In either case the regions keep their places.
+-- A call from C that takes a turn, of a channel with any program: if it returns `ok_code`, one of the turn's steps
+-- wrote each address in the range that it reports as written, and no byte outside the range has changed. Else nothing
+-- has changed. In either case the regions keep their places.
 pub record KeepsTheRest (n most : ℕ) (old : Option DeviceValue) (regions : List Region) (before : DeviceTurn) (code : ℤ)
     (new : Option DeviceValue) (left : List Region) (report : DeviceTurn) : Type 0 where
   pub kept : code ≡ ok_code → KeepsOutside report.written (image_of (pieces_of regions)) (image_of (pieces_of left))
@@ -175,10 +175,10 @@ TurnsKeepTheRest =
 abbrev pub row_in : DeviceRows → ℕ → Segment
 row_in r k = range_at (r.written.addr + k * r.pitch) r.written.len
 
--- A call from C that takes turns in a row, of a channel with any program: if it returns `ok_code`, one of the turns' steps
--- wrote each address in the rows that it reports, each lies in a region, and in none that is read-only, and no byte
--- outside the rows has changed. Else nothing has changed. In either case the regions keep their places.
-pub record KeepsOtherRows (n : ℕ) (old : Option DeviceValue) (regions : List Region) (before : DeviceRows) (code : ℤ)
+-- A call from C that takes several turns, of a channel with any program: if it returns `ok_code`, one of the turns'
+-- steps wrote each address in the rows that it reports, each lies in a region, and in none that is read-only, and no
+-- byte outside the rows has changed. Else nothing has changed. In either case the regions keep their places.
+pub record KeepsOutsideRows (n : ℕ) (old : Option DeviceValue) (regions : List Region) (before : DeviceRows) (code : ℤ)
     (new : Option DeviceValue) (left : List Region) (report : DeviceRows) : Type 0 where
   pub kept : (a : ℕ) → code ≡ ok_code → ((k : ℕ) → k < report.count → ¬ LiesIn (row_in report k) a) →
       slice_index (image_of (pieces_of left)) a ≡ slice_index (image_of (pieces_of regions)) a
@@ -194,7 +194,8 @@ abbrev pub RowsKeepTheRest : Type 0
 RowsKeepTheRest =
     (n most : ℕ) (old : Option DeviceValue) (regions : List Region) (before : DeviceRows) (code : ℤ)
     (new : Option DeviceValue) (left : List Region) (report : DeviceRows) →
-    ReportsRows n most old regions before code new left report → KeepsOtherRows n old regions before code new left report
+    ReportsRows n most old regions before code new left report →
+    KeepsOutsideRows n old regions before code new left report
 
 -- ---- saves
 
@@ -214,10 +215,10 @@ restore_code (Ok x) = ok_code
 restore_code (Err OtherDevice) = other_device
 restore_code (Err BadSave) = bad_save
 
--- Makes the device the one of a save: these bytes are its save, it satisfies what every device does, and no other device
--- of its configuration has this save. Fails with `other_device` exactly if the bytes begin as the save of a device of
--- another version or configuration, and then nothing changes; else with `bad_save` exactly if they are the save of no
--- device, and then the device is in its state after a reset.
+-- Makes the device the one of a save: these bytes are its save, it satisfies what every device does, and no other
+-- device of its configuration has this save. Fails with `other_device` exactly if the bytes begin as the save of a
+-- device of another version or configuration, and then nothing changes; else with `bad_save` exactly if they are the
+-- save of no device, and then the device is in its state after a reset.
 abbrev pub Restores : List ℕ → DeviceValue → ℤ → DeviceValue → Type 0
 Restores save d code e =
     ((code ≡ ok_code) × IsSaveOf save d.config e
@@ -229,7 +230,7 @@ Restores save d code e =
 -- ---- as accesses
 
 -- Calls from C on an open device are accesses (specs/Accesses.antt of dma_device): a read; a write that returns
--- `ok_code`; a turn that returns `ok_code`, or turns in a row, of which C gets the report; a reset; a restore that
+-- `ok_code`; a turn that returns `ok_code`, or several, of which C gets the report; a reset; a restore that
 -- returns `ok_code`, as it does for the save of any device of the same configuration; and a restore that returns
 -- `bad_save`, which is a reset.
 pub record CallsAreAccesses : Type 0 where

@@ -1,4 +1,4 @@
-//! Turns in a row of a device that C keeps.
+//! Several turns of a device that C keeps.
 
 ghost use Rattle.std.specs.Prelude.{◌≡◌};
 ghost use Rattle.dma_ffi.specs.Devices.{ReportsRows, rows_report_of};
@@ -11,17 +11,17 @@ use dma_device::device::rows::RowTurns;
 use dma_mem::regions::Region;
 use dma_mem::segment::Segment;
 
-/// What turns in a row of a device's channel did.
+/// What several turns of a device's channel did. No byte outside their ranges has changed.
 #[repr(C)]
 #[derive(Clone, Copy)]
 pub struct DeviceRows {
     /// The range that the first turn wrote. Each byte in it was written.
     pub written: Segment,
-    /// How far the range of each turn begins behind that of the turn before.
+    /// The distance from the beginning of each turn's range to that of the next.
     pub pitch: u32,
-    /// The number of turns, at least 1. No byte outside their ranges was written.
+    /// The number of turns, at least 1.
     pub count: u32,
-    /// Each turn was like one of at most this many steps.
+    /// Each turn is what `dma330_device_step` does with this `most`.
     pub steps: u32,
     /// 1 if a line of irq[31:0], or irq_abort, has changed, else 0.
     pub lines_changed: u32,
@@ -43,8 +43,8 @@ fn rows_report_of(turns: RowTurns, device: &Device) -> DeviceRows
     }
 }
 
-/// Takes turns of a channel over the regions, together at most `most` steps, and writes their report: one turn for each
-/// row where the channel copies rows of a rectangle, else a single turn. Fails if the regions aren't usable.
+/// Takes several turns of a channel over the regions, one for each row, where a loop copies the rows of a rectangle,
+/// else one turn, and writes their report. Fails if the regions aren't usable.
 #[unsafe(no_mangle)]
 pub extern "C" fn dma330_device_step_rows(
     kept: &mut KeptDevice,

@@ -37,8 +37,8 @@ pub fn device_calls_are_accesses()
 {}
 
 /// A turn of a device's channel from C, whatever its program is, changes no byte outside the range that it reports, and
-/// one of its steps wrote each address in this range. Turns in a row change no byte outside their rows, each of which
-/// lies in regions that aren't read-only.
+/// one of its steps wrote each address in this range. The turns of one call change no byte outside their ranges, each
+/// of which lies in regions that aren't read-only.
 pub fn device_turns_keep_the_rest()
     ensures turn { TurnsKeepTheRest }
     ensures rows { RowsKeepTheRest }
