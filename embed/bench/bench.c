@@ -8,7 +8,7 @@
  *     bench MOST COPIES SHAPE BURST    by a channel over the caller's memory, with a program as drivers write it, of
  *                                      BURST bytes a burst; SHAPE is `linux` (one nest of loops), `barriers` (the same
  *                                      with DMARMB and DMAWMB) or `nests` (three nests)
- *     bench MOST COPIES rows BYTES     by a device, rows of BYTES bytes that lie twice as far apart, in all 512 KiB
+ *     bench MOST COPIES rows BYTES     by a device, rows of BYTES bytes with a pitch of 2 * BYTES, 512 KiB in all
  *     bench 0 COPIES                   memcpy of as many bytes
  *     bench 0 COPIES rows BYTES        memcpy of each such row
  *

@@ -177,11 +177,11 @@ typedef struct dma330_device_turn {
     uint32_t can_step;      /* what dma330_device_can_step writes now */
 } dma330_device_turn;
 
-/* What dma330_device_step_rows did. */
+/* What dma330_device_step_rows did. No byte outside the ranges of its turns has changed. */
 typedef struct dma330_device_rows {
-    dma330_segment written; /* what the first turn wrote, as in a dma330_device_turn */
-    uint32_t pitch;         /* turn k, from 0 on, wrote the written.len bytes from written.addr + k * pitch on */
-    uint32_t count;         /* the number of turns, at least 1; no byte elsewhere has changed */
+    dma330_segment written; /* what the first turn wrote, as in a dma330_device_turn: its len may be 0 */
+    uint32_t pitch;         /* turn k, counted from 0, wrote written.len bytes from written.addr + k * pitch on */
+    uint32_t count;         /* the number of turns, at least 1 */
     uint32_t steps;         /* each turn is what dma330_device_step does with this `most` */
     uint32_t lines_changed; /* 1 if a line of irq[31:0], or irq_abort, has changed, else 0 */
     uint32_t can_step;      /* what dma330_device_can_step writes now */
@@ -754,11 +754,10 @@ int32_t dma330_device_write(dma330_device *device, uint32_t offset, uint32_t val
 int32_t dma330_device_step(dma330_device *device, uint8_t channel, uint32_t most, const dma330_region *regions,
                            size_t region_count, dma330_device_turn *turn) DMA330_NO_NULLS;
 
-/* Takes turns of a channel in a row, at least one. In a loop that copies the rows of a rectangle, each by pairs of DMALD
- * and DMAST, then DMAADDH SAR or not, then DMAADDH DAR, it takes a turn for each row at once, where dma330_device_step
- * takes a call for each. Else it takes a single turn, which may end early where rows begin. It does what dma330_device_step
- * would do in `rows->count` calls of at most `rows->steps` steps each, and `count` times `steps` is at most `most`. Codes:
- * BAD_REGIONS. Since 1.6.0. */
+/* Takes several turns of a channel, one for each row, where a loop copies the rows of a rectangle by pairs of DMALD and
+ * DMAST, then DMAADDH SAR or not, then DMAADDH DAR. Else it takes one turn, which may end early where rows begin. The result
+ * is that of `rows->count` calls of dma330_device_step with a `most` of `rows->steps`; `count` times `steps` is at most
+ * `most`. Codes: BAD_REGIONS. Since 1.6.0. */
 int32_t dma330_device_step_rows(dma330_device *device, uint8_t channel, uint32_t most, const dma330_region *regions,
                                 size_t region_count, dma330_device_rows *rows) DMA330_NO_NULLS;
 

@@ -30,7 +30,7 @@ OBJECT_DECLARE_SIMPLE_TYPE(PL330State, PL330)
 #define PL330_SLICE_NS 200000
 #define PL330_PAUSE_NS 50000
 
-/* If step-ns isn't 0, a slice is one turn of each channel of this many steps. */
+/* If step-ns isn't 0, a slice lets each channel take at most this many steps. */
 #define PL330_TIMED_STEPS 16
 
 /* The bits 3:0 of a thread's status register */

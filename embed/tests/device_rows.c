@@ -36,8 +36,8 @@ static void tear_down_both(void)
     tear_down(&other);
 }
 
-/* Runs the program of both machines, to its end or fault or for so many calls. Returns the number of calls, and writes how
- * many of them took several turns. */
+/* Runs the program of both machines to its end or fault, for at most `limit` calls. Returns the number of calls, and adds
+ * to `several` how many of them took several turns. */
 static uint32_t run_both(uint32_t most, uint32_t limit, uint32_t *several)
 {
     uint32_t calls = 0;
@@ -51,8 +51,8 @@ static uint32_t run_both(uint32_t most, uint32_t limit, uint32_t *several)
 
 /* ---- rectangles ---- */
 
-/* Rows that a program copies: how many bytes each has, how far they lie apart, how many there are, and in how many calls
- * they are copied at most. A row is a call where rows aren't copied at once. */
+/* Rows that a program copies: how many bytes each has, their pitches, how many there are, and in how many calls they are
+ * copied at most. A row is a call where rows aren't copied at once. */
 #define FROM (LOW + 0x100)
 #define TO (NEXT + 0x20)
 static const struct {

@@ -237,7 +237,7 @@ static void check_by_steps(uint32_t channel, uint32_t most)
 
 static uint32_t several_turns;
 
-/* Both devices, one a copy of the other, are the same after the same turn, and after turns in a row. */
+/* Both devices, one a copy of the other, are the same after the same turn, and after several turns. */
 static void check_copy(uint32_t channel, uint32_t most)
 {
     copy(&other, &m);
@@ -314,6 +314,6 @@ int main(void)
     for (uint32_t seed = 1; seed <= 200; seed++)
         outlives_anything(seed * 2654435761u);
     check(stores_left > 0, "stores are left to a next turn", stores_left);
-    check(several_turns > 0, "some turns are taken in a row", several_turns);
+    check(several_turns > 0, "some calls take several turns", several_turns);
     return end_checks();
 }

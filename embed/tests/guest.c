@@ -315,7 +315,7 @@ bool take_rows(machine *m, machine *by_one, uint32_t channel, uint32_t most)
         same = same && (k == 0 || by_one->written.addr > r.written.addr);
     }
     m->written = r.written;
-    always(r.count > 0 && (uint64_t)r.count * r.steps <= most, "turns in a row are as few as asked for", r.count);
+    always(r.count > 0 && (uint64_t)r.count * r.steps <= most, "the turns are as few as asked for", r.count);
     always(r.lines_changed == (lines != irqs(m) || line != irq_abort(m)), "they report a change of the lines", channel);
     always(r.can_step == can_step(m), "they report whether there is more to do", channel);
     always(same && are_same(m, by_one), "they do what turns do one by one", channel);

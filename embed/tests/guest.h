@@ -117,7 +117,7 @@ void stop(machine *m, int thread);
  * machine is then the range that the turn reports. */
 bool turn(machine *m, uint32_t channel, uint32_t most);
 
-/* Lets a channel take turns in a row, by dma330_device_step_rows, and that of another machine, which is the same, take them
+/* Lets a channel take several turns, by dma330_device_step_rows, and that of another machine, which is the same, take them
  * one by one. Checks the report, and that both machines are the same then. Returns whether there were several turns. */
 bool take_rows(machine *m, machine *by_one, uint32_t channel, uint32_t most);
 

@@ -53,12 +53,12 @@ pub struct DeviceTurn {
     pub can_step: bool,
 }
 
-/// What turns in a row of a channel of a [`Device`] did.
+/// What several turns of a channel of a [`Device`] did. No byte outside their ranges has changed.
 #[derive(Clone, Copy, Debug, PartialEq, Eq, Hash)]
 pub struct DeviceRows {
     /// The range that the first turn wrote, as in a [`DeviceTurn`].
     pub written: Segment,
-    /// How far the range of each turn begins behind that of the turn before.
+    /// The distance from the beginning of each turn's range to that of the next.
     pub pitch: u32,
     /// The number of turns, at least 1.
     pub count: u32,
@@ -71,7 +71,7 @@ pub struct DeviceRows {
 }
 
 impl DeviceRows {
-    /// Returns the range that each turn wrote, in order. No byte elsewhere has changed.
+    /// Returns the range that each turn wrote, in order. A turn that wrote nothing has a range of length 0.
     pub fn ranges(self) -> impl Iterator<Item = Segment> {
         (0..self.count).map(move |k| Segment { addr: self.written.addr + k * self.pitch, ..self.written })
     }
@@ -170,10 +170,10 @@ impl Device {
         Ok(DeviceTurn { written: turn.written, lines_changed, can_step })
     }
 
-    /// Takes turns of a channel in a row, at least one. In a loop that copies the rows of a rectangle, each by pairs of
-    /// DMALD and DMAST, then DMAADDH SAR or not, then DMAADDH DAR, it takes a turn for each row at once. Else it takes a
-    /// single turn, which may end early where rows begin. It does what [`Device::step`] would do in `count` calls of at
-    /// most `steps` steps each, and `count` times `steps` is at most `most`.
+    /// Takes several turns of a channel, one for each row, where a loop copies the rows of a rectangle by pairs of DMALD
+    /// and DMAST, then DMAADDH SAR or not, then DMAADDH DAR. Else it takes one turn, which may end early where rows
+    /// begin. The result is that of `count` calls of [`Device::step`] with a `most` of `steps`; `count` times `steps` is
+    /// at most `most`.
     ///
     /// Fails with `BadRegions`.
     pub fn step_rows(&mut self, channel: u8, most: u32, regions: &mut [Region<'_>]) -> Result<DeviceRows, Error> {

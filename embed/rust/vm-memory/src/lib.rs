@@ -139,7 +139,7 @@ impl<'a, B: Bitmap + 'static> LentMemory<'a, B> {
         turn
     }
 
-    /// Takes turns of a device's channel in a row, as [`Device::step_rows`] does, and then marks each byte that they wrote
+    /// Takes several turns of a device's channel, as [`Device::step_rows`] does, and then marks each byte that they wrote
     /// as dirty, and no other.
     pub fn step_rows(&mut self, device: &mut Device, channel: u8, most: u32) -> DeviceRows {
         let rows = device.step_rows(channel, most, &mut self.regions).expect(USABLE);
