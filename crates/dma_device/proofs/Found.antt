@@ -1,5 +1,5 @@
 -- The thread that `get` finds, if any, also once a thread is replaced.
-use Rattle.std.proofs.Common.{◌≡◌, ℕ, ◌<◌, List, length, Some, None, true, false, ltb, get_or, refl, sym, ◌≢◌, ◌∙◌, zero, suc, Bool, [], ◌∷◌, ap, arith, subst, true≢false}
+use Rattle.std.proofs.Common.{◌≡◌, ℕ, ◌<◌, List, length, Some, None, true, false, ltb, get_or, refl, sym, ◌≢◌, ◌∙◌, zero, suc, Bool, ◌||◌, [], ◌∷◌, ap, arith, subst, true≢false}
 use Rattle.std.proofs.lemmas.List.Elements.{All-get_or}
 use Rattle.std.proofs.lemmas.List.{get_or-set_same, length-set, set-get_or}
 use Rattle.std.specs.List.{All, list_any}
@@ -45,6 +45,14 @@ pub any_at : (p : Thread → Bool) (ts : List Thread) (n : ℕ) (t : Thread) →
 any_at p [] n t none found = absurd (cc)
 any_at p (u ∷ us) zero t none found = let same : u ≡ t = cc in subst (λ (v : Thread). p v ≡ false) same (or_parts (p u) (list_any p us) none).0
 any_at p (u ∷ us) (suc n) t none found = any_at p us n t (or_parts (p u) (list_any p us) none).1 found
+
+-- a thread that is replaced by one alike changes no answer
+pub any_set : (p : Thread → Bool) (ts : List Thread) (n : ℕ) (t u : Thread) → slice_get ts n ≡ Some t → p u ≡ p t → list_any p (slice_set ts n u) ≡ list_any p ts
+any_set p [] n t u found alike = refl
+any_set p (v ∷ vs) zero t u found alike =
+    let same : v ≡ t = cc in
+    ap (λ (b : Bool). b || list_any p vs) (alike ∙ ap p (sym same))
+any_set p (v ∷ vs) (suc n) t u found alike = ap (λ (b : Bool). p v || b) (any_set p vs n t u found alike)
 
 pub put_back : (ts : List Thread) (n : ℕ) (t : Thread) → slice_get ts n ≡ Some t → slice_set ts n t ≡ ts
 put_back ts n t found = ap (slice_set ts n) (sym (get_or_from_slice_get ts n t t found)) ∙ set-get_or ts n t

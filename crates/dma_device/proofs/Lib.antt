@@ -30,4 +30,6 @@ pub mod Events
 pub mod Faults
 pub mod Explaining
 pub mod Progress
+pub mod Signalled
 pub mod Rows
+pub mod Readiness

@@ -23,7 +23,7 @@ use Rattle.dma_device.specs.Run.{Board, next, run}
 use Rattle.dma_chan.specs.Written.{range_at}
 
 -- eight channels, 32 events, and 16 lines of 16 bytes for each channel
-abbrev largest : Config
+abbrev pub largest : Config
 largest = record { channels = 8; events = 32; nonsecure = false; bus = Bits128; lines = 128; revision = R1p2 }
 
 -- ---- after a reset

@@ -1,11 +1,12 @@
--- A call of a thread that waits by its status, for an event that it doesn't see, does nothing.
+-- A call of a thread that waits by its status, for an event that it doesn't see, does nothing. One of a thread that
+-- begins to wait changes its status and CPC.
 use Rattle.std.proofs.Common.{is_some, ◌≡◌, ◌∙◌, ℕ, zero, suc, ◌+◌, ◌%◌, ◌^◌, ◌<◌, ◌≤◌, Bool, true, false, ◌&&◌, List, get_or, map, Option, Some, None, Result, Ok, ap, refl, sym, subst, arith, inl, inr, true≢false, bit_and, bit_or, w32}
-use Rattle.std.specs.Prelude.{nat_eq, nat_lt, slice_get}
+use Rattle.std.specs.Prelude.{nat_eq, nat_lt, not, slice_get}
 use Rattle.std.specs.Int.{bit_at, bit_not}
 use Rattle.std.specs.List.{list_any}
 use borrow.Author.Tests.{ltb-true}
 use Rattle.std.proofs.Math.Pow.{pow_mono}
-use Rattle.std.proofs.lemmas.Bool.{cases_lt, eq-eqb, eqb-true, lt-ltb, and_parts}
+use Rattle.std.proofs.lemmas.Bool.{cases_lt, eq-eqb, eqb-true, lt-ltb, and_parts, ne_eqb, not-true}
 use Rattle.std.proofs.lemmas.Nat.{and_le_l, or_lt}
 use Rattle.std.proofs.lemmas.Nat.Bits.{bit_at-lt, bit_at_above, bit_at_and, bit_at_not, bit_at_ones, bit_at_or, same_from_bits_below}
 use Rattle.dma_insn.specs.ControlWord.{flag}
@@ -14,12 +15,13 @@ use Rattle.dma_insn.specs.declared.chip.ChipInsn.TheVariants.{Wfe}
 use Rattle.dma_mem.specs.Marking.{MarkList}
 use Rattle.dma_mem.specs.Regions.{image_of, pieces_of, read_only_of}
 use Rattle.dma_mem.specs.declared.regions.Region.{Region}
+use Rattle.dma_mem.specs.declared.segment.Segment.{Segment}
 use Rattle.dma_mem.proofs.FlagBits.{get_or_flags_of}
 use Rattle.dma_chan.specs.Channel.{ahead_of, last_count}
 use Rattle.dma_chan.specs.Exec.{ChangesNothing}
 use Rattle.dma_chan.specs.LentRegions.{segment_of}
 use Rattle.dma_chan.specs.Stepping.{Machine, TakesSteps, answer_at, signal_after, signal_of, written_after}
-use Rattle.dma_chan.specs.Written.{also_written, range_at, store_ahead}
+use Rattle.dma_chan.specs.Written.{also_written, joined, range_at, store_ahead}
 use Rattle.dma_chan.specs.declared.turn.ChanTurn.{ChanTurn}
 use Rattle.dma_chan.specs.declared.turn.ChanTurn.TheVariants.{Waiting}
 use Rattle.dma_chan.specs.declared.turn.FaultKind.{FaultKind}
@@ -30,27 +32,34 @@ use Rattle.dma_device.specs.declared.thread.Status.{Status}
 use Rattle.dma_device.specs.declared.thread.Status.TheVariants.{WaitingForEvent}
 use Rattle.dma_device.specs.declared.thread.Thread.{Thread}
 use Rattle.dma_device.specs.Accesses.{AreAlike}
-use Rattle.dma_device.specs.CallSteps.{last_in}
-use Rattle.dma_device.specs.Device.{DeviceValue, all_events, irq_abort, irqs}
-use Rattle.dma_device.specs.Idle.{IsSoundDevice, no_turn}
+use Rattle.dma_device.specs.CallSteps.{Executes, first_in, last_in, marks_in, second_in}
+use Rattle.dma_device.specs.Device.{DeviceValue, all_events, irq_abort, irqs, with_thread}
+use Rattle.dma_device.specs.Events.{IsVisible}
+use Rattle.dma_device.specs.Interrupts.{HasLine}
+use Rattle.dma_device.specs.Idle.{IsSoundDevice, WaitsInVain, no_turn, waiting}
 use Rattle.dma_device.specs.Run.{put_from}
-use Rattle.dma_device.specs.Thread.{IsSound, answered, can_step, has_status, is_signalled, runs, waits_for}
-use Rattle.dma_device.specs.Turns.{Setup, TakesTurn, called_if, idle, lines_differ, machine_in, runs_at, stepped, steps_in, visible_events, with_flags}
+use Rattle.dma_device.specs.Thread.{IsSound, answered, can_step, has_status, is_faulting, is_signalled, runs, waits_for}
+use Rattle.dma_device.specs.Turns.{Outcome, Setup, TakesTurn, begins, called_if, follows, idle, lines_differ, machine_in, runs_at, setup_of, stepped, steps_in, visible_events, with_flags}
 use Rattle.dma_device.proofs.Calls.{call_acts, call_is, follows_runs, machine_left, nothing, runs_found, stepped_is, takes, turn_device, turn_image, turn_lines, turn_written}
 use Rattle.dma_device.proofs.Runs.{put_is}
-use Rattle.dma_device.proofs.Found.{all_at, any_at, put_back}
+use Rattle.dma_device.proofs.Found.{all_at, any_at, any_set, put_back}
+use Rattle.dma_device.proofs.Interrupts.{seen_bit}
 
 -- ---- a thread that waits
 
--- a thread waits by its status, for an event whose flag is clear
-pub record Waits (events flags : ℕ) (t : Thread) : Type 0 where
+-- a thread's next instruction is a DMAWFE of an event whose flag is clear
+pub record AtWait (events flags : ℕ) (t : Thread) : Type 0 where
   pub event : ℕ
   pub invalid : Bool
-  pub status : t.status ≡ WaitingForEvent event
   pub clear : nat_eq (bit_at flags event) 1 ≡ false
   pub known : event < events
   pub next : ahead_of t.channel ≡ Ok (Wfe event invalid)
   pub few : t.channel.taken < last_count
+
+-- it waits for the event by its status
+pub record Waits (events flags : ℕ) (t : Thread) : Type 0 where
+  pub at : AtWait events flags t
+  pub status : t.status ≡ WaitingForEvent at.event
   pub here : t.pc ≡ (t.base + t.channel.registers.pc) % 2 ^ 32
 
 is_wfe : (next : Result ChipInsn FaultKind) (e : ℕ) → waits_for e next ≡ true → (v : Bool) × (next ≡ Ok (Wfe e v))
@@ -65,13 +74,8 @@ waits_by events flags t (WaitingForEvent e) h1 h2 h3 =
     let counts = and_parts (nat_lt t.channel.taken last_count) _ before.1 in
     let w = is_wfe (ahead_of t.channel) e before.0 in
     record {
-      event = e;
-      invalid = w.0;
+      at = record { event = e; invalid = w.0; clear = h3; known = ltb-true e events known.0; next = w.1; few = ltb-true t.channel.taken last_count counts.0 };
       status = h1;
-      clear = h3;
-      known = ltb-true e events known.0;
-      next = w.1;
-      few = ltb-true t.channel.taken last_count counts.0;
       here = eqb-true t.pc ((t.base + t.channel.registers.pc) % 2 ^ 32) counts.1;
     }
 waits_by events flags t s h1 h2 h3 = absurd (true≢false h3)
@@ -139,8 +143,12 @@ events_back d h =
     rw (events, raised) refl
 
 -- the thread after such a call
-same_thread : (events flags : ℕ) (t : Thread) (w : Waits events flags t) → answered events (record t { channel = t.channel }) (Some (Waiting w.event)) None ≡ t
-same_thread events flags t w = rw (lt-ltb w.event events w.known, sym w.here, sym w.status) refl
+waits_now : (events : ℕ) (t : Thread) (e : ℕ) → e < events → answered events (record t { channel = t.channel }) (Some (Waiting e)) None ≡ waiting e t
+waits_now events t e known = rw (lt-ltb e events known) refl
+
+-- it is the same if it waits by its status
+same_thread : (events flags : ℕ) (t : Thread) (w : Waits events flags t) → waiting w.at.event t ≡ t
+same_thread events flags t w = rw (sym w.here, sym w.status) refl
 
 pub alike_is : (regions left : List Region) → map segment_of left ≡ map segment_of regions → read_only_of left ≡ read_only_of regions → image_of (pieces_of left) ≡ image_of (pieces_of regions) → AreAlike left regions
 alike_is regions left places access image = record {
@@ -148,8 +156,12 @@ alike_is regions left places access image = record {
   read_only = access;
 }
 
-waits_still : (marks : MarkList) (n most : ℕ) (t : Thread) (s : Setup) → IsSoundDevice s.device → slice_get s.device.threads n ≡ Some t → 0 < most → Waits s.device.config.events (visible_events s.device) t → stepped marks n most t s ≡ idle s
-waits_still marks n most t s h found some w =
+-- what a call leaves that begins to wait
+abbrev wait_of : ℕ → ℕ → Thread → Setup → Outcome
+wait_of n e t s = record { left = record { device = with_thread n (waiting e t) s.device; image = s.image }; called = nothing }
+
+only_waits : (marks : MarkList) (n most : ℕ) (t : Thread) (s : Setup) → IsSoundDevice s.device → 0 < most → (w : AtWait s.device.config.events (visible_events s.device) t) → stepped marks n most t s ≡ wait_of n w.event t s
+only_waits marks n most t s h some w =
     let d = s.device in
     let from = machine_in s t in
     let count = steps_in marks most t s in
@@ -161,7 +173,13 @@ waits_still marks n most t s h found some w =
     let few : seen < 2 ^ 32 = omega (arith, and_le_l d.events (bit_not w32 d.inten), h.known.events) in
     let waits : TakesSteps marks from most count (Some (Waiting w.event)) from = record { count = refl; answer = sym still.answer; ends_at = sym still.machine } in
     stepped_is marks n most t s t.channel s.image seen count (Some (Waiting w.event)) nothing few waits (sym still.signal) (sym still.written)
-    ∙ simp (same_thread d.config.events seen t w, events_back d h, put_back d.threads n t found)
+    ∙ ap (λ (u : Thread). record { left = record { device = with_thread n u (with_flags seen d); image = s.image }; called = nothing }) (waits_now d.config.events t w.event w.known)
+    ∙ ap (λ (f : DeviceValue). record { left = record { device = with_thread n (waiting w.event t) f; image = s.image }; called = nothing }) (events_back d h)
+
+waits_still : (marks : MarkList) (n most : ℕ) (t : Thread) (s : Setup) → IsSoundDevice s.device → slice_get s.device.threads n ≡ Some t → 0 < most → Waits s.device.config.events (visible_events s.device) t → stepped marks n most t s ≡ idle s
+waits_still marks n most t s h found some w =
+    let d = s.device in
+    only_waits marks n most t s h some w.at ∙ simp (same_thread d.config.events (visible_events d) t w, put_back d.threads n t found)
 
 -- the thread of a call waits
 waits_here : (d : DeviceValue) (n : ℕ) (t : Thread) → IsSoundDevice d → list_any (can_step (visible_events d)) d.threads ≡ false → slice_get d.threads n ≡ Some t → runs_at d n ≡ true → Waits d.config.events (visible_events d) t
@@ -184,3 +202,42 @@ pub record Rests (d : DeviceValue) (regions : List Region) (e : DeviceValue) (le
 
 pub turn_rests : (d : DeviceValue) (regions : List Region) (n most : ℕ) (e : DeviceValue) (left : List Region) (turn : Turn) → IsSoundDevice d → list_any (can_step (visible_events d)) d.threads ≡ false → TakesTurn d regions n most e left turn → Rests d regions e left turn
 turn_rests d regions n most e left turn h none x = grind (arith, alike_is, call_rests, follows_runs, lines_same, ltb-true, turn_device, turn_image, turn_lines, turn_written)
+
+-- ---- a turn at a DMAWFE that waits
+
+-- channels don't see its event
+unseen_clear : (d : DeviceValue) (event : ℕ) → IsSoundDevice d → event < d.config.events → ¬ IsVisible d event → nat_eq (bit_at (visible_events d) event) 1 ≡ false
+unseen_clear d event h known unseen = ne_eqb (bit_at (visible_events d) event) 1 (λ high.
+    let all : 2 ^ d.config.events ≤ 2 ^ 32 = pow_mono {i = d.config.events} {j = 32} h.few in
+    let line : HasLine d event = record { events = h.few; event = known; inten = omega (arith, h.known.inten, all) } in
+    let seen = seen_bit d event (omega (arith, known, h.few)) line.inten in
+    unseen (line, (omega (arith, seen, high, bit_at-lt d.events event), (λ on. omega (arith, seen, high, on)))))
+
+-- a thread that begins to wait isn't faulting, and wasn't
+same_lines : (d : DeviceValue) (n e : ℕ) (t : Thread) → slice_get d.threads n ≡ Some t → runs t ≡ true → lines_differ d (with_thread n (waiting e t) d) ≡ false
+same_lines d n e t found on =
+    let fine : is_faulting t ≡ false = not-true (is_faulting t) (and_parts (is_some t.channel.program) (not (is_faulting t)) on).1 in
+    let same = any_set is_faulting d.threads n t (waiting e t) found (sym fine) in
+    rw (same, eq-eqb (irqs d) (irqs d) refl, eq-eqb (flag (irq_abort d)) (flag (irq_abort d)) refl) refl
+
+-- what a turn reports that writes nothing and changes no line
+reports_none : (turn : Turn) → turn.written ≡ range_at 0 0 → turn.lines_changed ≡ false → turn ≡ no_turn
+reports_none turn written lines =
+    ap (λ (r : Segment). record { written = r; lines_changed = turn.lines_changed }) written
+    ∙ ap (λ (b : Bool). record { written = range_at 0 0; lines_changed = b }) lines
+
+pub waits_in_vain : WaitsInVain
+waits_in_vain d e regions left n most event turn t x h w some =
+    let marks = marks_in regions in
+    let s = setup_of d regions in
+    let first = first_in d regions n most in
+    let at : AtWait d.config.events (visible_events d) t = record { event = event; invalid = w.invalid; clear = unseen_clear d event h w.known w.unseen; known = w.known; next = w.next; few = w.few } in
+    let starts : begins d n most ≡ true = ap (λ (b : Bool). b && runs_at d n) (lt-ltb 0 most some) ∙ runs_found d n t w.found ∙ w.running in
+    let one : Executes (begins d n most) n s = record { on = starts; thread = t; found = w.found } in
+    let is : first ≡ wait_of n event t s = call_acts marks most one ∙ only_waits marks n most t s h some at in
+    let second : second_in d regions n most ≡ wait_of n event t s = ap (λ (o : Outcome). called_if (follows o.left.device n o.called) marks n 1 o.left) is in
+    let device : with_thread n (waiting event t) d ≡ e = ap (λ (o : Outcome). o.left.device) (sym second) ∙ turn_device x in
+    let image = ap (λ (o : Outcome). o.left.image) (sym second) ∙ turn_image x in
+    let written : turn.written ≡ range_at 0 0 = sym (turn_written x) ∙ ap (λ (o : Outcome). joined o.called.written (called_if (follows o.left.device n o.called) marks n 1 o.left).called.written) is in
+    let lines : turn.lines_changed ≡ false = sym (turn_lines x) ∙ ap (lines_differ d) (turn_device x ∙ sym device) ∙ same_lines d n event t w.found w.running in
+    (sym device, alike_is regions left x.kept.places x.kept.read_only (sym image), reports_none turn written lines)

@@ -19,6 +19,10 @@ use Rattle.dma_device.specs.Turns.{Setup, TakesTurn, begins, steps_in}
 abbrev pub IsSet : DeviceValue → ℕ → Type 0
 IsSet d k = IsHigh d.events k
 
+-- event k is set, and INTEN makes it an event: channels see it
+abbrev pub IsVisible : DeviceValue → ℕ → Type 0
+IsVisible d k = HasLine d k × (IsSet d k × (¬ IsHigh d.inten k))
+
 -- ---- what sets and takes an event
 
 -- An access sets event k: it executes a DMASEV of event k while bit k of INTEN is 0; or it restores a device in which

@@ -1,16 +1,20 @@
--- When nothing happens until the guest's next write.
-use Rattle.std.specs.Prelude.{◌≡◌, ◌≢◌, ℕ, ◌+◌, ◌<◌, ◌≤◌, true, false, List, Some, slice_get}
+-- When nothing happens until the guest's next write, and what a turn does at a DMAWFE that waits.
+use Rattle.std.specs.Prelude.{◌≡◌, ◌≢◌, ℕ, ◌+◌, ◌%◌, ◌^◌, ◌<◌, ◌≤◌, Bool, true, false, List, Some, Ok, slice_get}
 use Rattle.std.specs.List.{All, list_any}
 use Rattle.dma_mem.specs.declared.regions.Region.{Region}
+use Rattle.dma_insn.specs.declared.chip.ChipInsn.TheVariants.{Wfe}
+use Rattle.dma_chan.specs.Channel.{ahead_of, last_count}
 use Rattle.dma_chan.specs.Written.{range_at}
 use Rattle.dma_device.specs.declared.config.Config.{Config}
 use Rattle.dma_device.specs.declared.device.turns.Turn.{Turn}
 use Rattle.dma_device.specs.Accesses.{Access, Answer, AreAlike, Does, Happen, Turned, Turns}
 use Rattle.dma_device.specs.Config.{is_valid}
-use Rattle.dma_device.specs.Device.{DeviceValue, reset_device}
+use Rattle.dma_device.specs.Device.{DeviceValue, reset_device, with_thread}
+use Rattle.dma_device.specs.Events.{IsVisible}
 use Rattle.dma_device.specs.Snapshot.{HasKnownEvents, IsDeviceValue, head_of}
-use Rattle.dma_device.specs.Thread.{IsSound, can_step}
+use Rattle.dma_device.specs.Thread.{IsSound, can_step, runs}
 use Rattle.dma_device.specs.Turns.{TakesTurn, visible_events}
+use Rattle.dma_device.specs.declared.thread.Status.TheVariants.{WaitingForEvent}
 use Rattle.dma_device.specs.declared.thread.Thread.{Thread}
 
 -- A device has at most 32 events, those that are set are among them, and each thread has a status that goes with its
@@ -49,3 +53,30 @@ TurnChanges =
     (d e : DeviceValue) (regions left : List Region) (n most : ℕ) (turn : Turn) (t : Thread) →
     TakesTurn d regions n most e left turn → IsSoundDevice d → slice_get d.threads n ≡ Some t →
     can_step (visible_events d) t ≡ true → 0 < most → e ≢ d
+
+-- ---- a turn at a DMAWFE that waits
+
+-- Thread n is at a DMAWFE that waits: it runs, and its next instruction, which it may execute, is a DMAWFE of an event
+-- of the device that isn't set, or that INTEN makes an interrupt.
+pub record IsAtWait (d : DeviceValue) (n : ℕ) (t : Thread) (event : ℕ) : Type 0 where
+  pub found : slice_get d.threads n ≡ Some t
+  pub running : runs t ≡ true
+  pub invalid : Bool
+  pub next : ahead_of t.channel ≡ Ok (Wfe event invalid)
+  pub few : t.channel.taken < last_count
+  pub known : event < d.config.events
+  pub unseen : ¬ IsVisible d event
+
+-- a thread that waits for an event, with CPC the address of its next instruction
+abbrev pub waiting : ℕ → Thread → Thread
+waiting event t =
+    record t { status = WaitingForEvent event; pc = (t.base + t.channel.registers.pc) % 2 ^ 32 }
+
+-- If a thread of a sound device is at a DMAWFE that waits, then a turn of its channel that may take a step changes
+-- nothing but the thread's status and CPC: it waits for the event. No byte of the regions is changed, and the turn
+-- reports so.
+abbrev pub WaitsInVain : Type 0
+WaitsInVain =
+    (d e : DeviceValue) (regions left : List Region) (n most event : ℕ) (turn : Turn) (t : Thread) →
+    TakesTurn d regions n most e left turn → IsSoundDevice d → IsAtWait d n t event → 0 < most →
+    (e ≡ with_thread n (waiting event t) d) × AreAlike left regions × (turn ≡ no_turn)

@@ -1,5 +1,5 @@
 -- A program that copies, and that a DMAGO starts, finishes.
-use Rattle.std.specs.Prelude.{◌≡◌, ℕ, ◌-◌, ◌<◌, ◌≤◌, Some, IfSome, slice_get}
+use Rattle.std.specs.Prelude.{◌≡◌, ℕ, ◌+◌, ◌-◌, ◌<◌, ◌≤◌, Some, IfSome, slice_get}
 use Rattle.dma_mem.specs.Places.{Descriptor}
 use Rattle.dma_mem.specs.Rules.{IsTransfer}
 use Rattle.dma_chan.specs.Compiled.{compiled_on, cost_on}
@@ -8,13 +8,9 @@ use Rattle.dma_chan.specs.declared.explain.Amounts.{Amounts}
 use Rattle.dma_device.specs.Copies.{HasEvents, IsFit}
 use Rattle.dma_device.specs.Device.{DeviceValue, irqs}
 use Rattle.dma_device.specs.Dmago.{Go, RunsCopy, GivenTurns, bus_of, csr_status, start_of}
-use Rattle.dma_device.specs.Events.{IsSet}
+use Rattle.dma_device.specs.Events.{IsVisible}
 use Rattle.dma_device.specs.Interrupts.{HasLine, IsHigh}
 use Rattle.dma_device.specs.declared.thread.Thread.{Thread}
-
--- event e is set, and INTEN makes it an event
-abbrev pub IsVisible : DeviceValue → ℕ → Type 0
-IsVisible d e = HasLine d e × (IsSet d e × (¬ IsHigh d.inten e))
 
 -- If the channel's next instruction is a DMAWFE, and it has executed at least `least` instructions before, then it
 -- doesn't wait: the event is set, and INTEN makes it an event.
@@ -23,19 +19,28 @@ MayPass go n d least =
     (th : Thread) (e : ℕ) (wait : IsWait (start_of go) go.program n e) → slice_get d.threads go.channel ≡ Some th →
     IsIn (start_of go) go.program n wait.step th.channel → least ≤ wait.step → IsVisible d e
 
--- Turn number k is ready: it may take a step, the device and the regions are fit, and the channel doesn't wait.
-pub record IsReady (go : Go) (w : Work) (n : ℕ) (run : GivenTurns) (k : ℕ) : Type 0 where
+-- Turn number k is ready: it may take a step, and doesn't begin at a DMAWFE that waits, if the channel has executed at
+-- least `least` instructions before.
+pub record IsReady (go : Go) (n : ℕ) (run : GivenTurns) (k least : ℕ) : Type 0 where
   pub some : 1 ≤ run.most k
-  pub fit : IsFit go w n (run.before k) (run.lent k)
-  pub passes : MayPass go n (run.before k) k
+  pub passes : MayPass go n (run.before k) least
 
--- If each turn is ready, then the channel's CSR reads as stopped after as many turns as the program executes
--- instructions with its DMAEND, and from then on. (By `DmagoCopies` the work is then done.)
+-- Some turns are ready, in rising order: number `turn 0` to number `turn n`, as many as the program executes
+-- instructions with its DMAEND. Each executes at least one, so at least j come before number `turn j`. In the other
+-- turns the channel may wait (`WaitsInVain`), or take no step.
+pub record ReadyTurns (go : Go) (n : ℕ) (run : GivenTurns) : Type 0 where
+  pub turn : ℕ → ℕ
+  pub rising : (j : ℕ) → j < n → turn j < turn (j + 1)
+  pub ready : (j : ℕ) → j ≤ n → IsReady go n run (turn j) j
+
+-- If the device and the regions are fit in each turn, and these turns are ready, then the channel's CSR reads as
+-- stopped after the last of them, and from then on. (By `DmagoCopies` the work is then done.)
 abbrev pub DmagoFinishes : Type 0
 DmagoFinishes =
     (go : Go) (w : Work) (n : ℕ) (run : GivenTurns) → RunsCopy go w n run →
-    ((k : ℕ) → k < run.count → IsReady go w n run k) →
-    (k : ℕ) → k < run.count → n ≤ k → csr_status (run.after k) go.channel ≡ 0
+    ((k : ℕ) → k < run.count → IsFit go w n (run.before k) (run.lent k)) →
+    (ready : ReadyTurns go n run) →
+    (k : ℕ) → ready.turn n ≤ k → k < run.count → csr_status (run.after k) go.channel ≡ 0
 
 -- the line of event i was high after one of the turns up to number k
 pub record WasHigh (run : GivenTurns) (i k : ℕ) : Type 0 where
@@ -69,7 +74,8 @@ CompiledHasEvents =
     (go : Go) (t : Descriptor) (d : DeviceValue) → IsCompiled go t → IfSome t.wait (λ e. e < d.config.events) →
     IfSome t.signal (λ e. e < d.config.events) → HasEvents d go (compiled_count go t)
 
--- A compiled program waits only at its first instruction, so its event must be visible only at the first turn.
+-- A compiled program waits only at its first instruction, so of its ready turns only the first needs a visible event.
+-- (Here `before j` is the device before turn number `turn j` of `ReadyTurns`.)
 abbrev pub CompiledGoesOn : Type 0
 CompiledGoesOn =
     (go : Go) (t : Descriptor) (before : ℕ → DeviceValue) → IsCompiled go t → IfSome t.wait (IsVisible (before 0)) →

@@ -5,7 +5,7 @@ ghost use Rattle.dma_device.specs.Dmago.{ImageHasBytes};
 ghost use Rattle.dma_device.specs.Events.{EventsAreExact, TakenWasSet, WaitsForUnset};
 ghost use Rattle.dma_device.specs.Explaining.{OnlyDmagoGives, TurnsStayIn};
 ghost use Rattle.dma_device.specs.Faults.{AbortIsFaulting, AbortsAreExact, FaultsAreExact};
-ghost use Rattle.dma_device.specs.Idle.{NothingHappens, StaySound, TurnChanges};
+ghost use Rattle.dma_device.specs.Idle.{NothingHappens, StaySound, TurnChanges, WaitsInVain};
 ghost use Rattle.dma_device.specs.Interrupts.{InterruptsAreExact};
 ghost use Rattle.dma_device.specs.Progress.{CompiledGoesOn, CompiledHasEvents, CompiledSignals, DmagoFinishes, DmagoSignals};
 ghost use Rattle.dma_device.specs.RowTurns.{RowsWriteEach};
@@ -34,12 +34,13 @@ pub fn a_dmago_never_fails()
     ensures { DmagoNeverFails }
 {}
 
-/// Such a program finishes: CSR reads as stopped after as many turns as the program executes instructions with its
-/// DMAEND, if each turn may take a step, the regions and the device are as for `a_dmago_never_fails`, and no turn
-/// begins at a DMAWFE of an event that isn't set. If the program has a DMASEV of an event that INTEN makes an
-/// interrupt, the event's line was high after one of the turns. For a program that is compiled for the device's bus,
-/// the event that its transfer waits for must be set only at first, and it has a DMASEV of the event that its transfer
-/// signals, when all bytes are stored.
+/// Such a program finishes: CSR reads as stopped after as many ready turns as the program executes instructions with
+/// its DMAEND, if the regions and the device are as for `a_dmago_never_fails` in each turn. A turn is ready if it may
+/// take a step and doesn't begin at a DMAWFE of an event that isn't set, or that INTEN makes an interrupt. A host may
+/// give the channel any other turns between them, as while it waits (`nothing_happens`). If the program has a DMASEV of
+/// an event that INTEN makes an interrupt, the event's line was high after one of the turns. Of a program that is
+/// compiled for the device's bus only the first ready turn needs the event that its transfer waits for, and it has a
+/// DMASEV of the event that its transfer signals, when all bytes are stored.
 pub fn a_dmago_finishes()
     ensures finishes { DmagoFinishes }
     ensures signals { DmagoSignals }
@@ -99,11 +100,13 @@ pub fn faults_are_exact()
 /// If no thread can step, a turn of any channel changes neither the device nor a byte of the regions, and reports no
 /// change. So nothing happens until the guest's next write, a reset or a restore. This holds of every list of accesses
 /// after a reset, whatever regions each is lent. If a thread can step, each turn of its channel that may take a step
-/// changes the device.
+/// changes the device. At a DMAWFE of an event that isn't set, or that INTEN makes an interrupt, such a turn changes
+/// only the status and CPC of the thread, which waits: it changes no byte of the regions, and reports no change.
 pub fn nothing_happens()
     ensures sound { StaySound }
     ensures nothing { NothingHappens }
     ensures changes { TurnChanges }
+    ensures waits { WaitsInVain }
 {}
 
 /// A save in which one byte is another byte is the save of no device, unless the byte is the version and became 1. So a

@@ -25,8 +25,9 @@
 //! program does before the DMASEV (`laws::a_dmago_copies`). Of other programs the laws of interrupts hold, and what
 //! specs/Turns.antt says of each turn. The program never fails, if the regions contain all addresses that it reads and
 //! writes, none that it writes is read-only, and the device has the program's events (`laws::a_dmago_never_fails`). It
-//! then finishes after as many turns as it executes instructions, if no turn begins at a DMAWFE of an event that isn't
-//! set, and the line of the event of each DMASEV was high (`laws::a_dmago_finishes`).
+//! then finishes after as many ready turns as it executes instructions, whatever turns it gets besides, and the line of
+//! the event of each DMASEV was high (`laws::a_dmago_finishes`). A turn is ready that doesn't begin at a DMAWFE of an
+//! event that isn't set; one that does only waits (`laws::nothing_happens`).
 //!
 //! [`device::Device::explain`] returns what the program of a channel copies and sets to 0, or why nothing explains it:
 //! for a debugger, and for a host that refuses a DMAGO whose program touches what it must not. From the DMAGO on, until

@@ -1,4 +1,5 @@
-use Rattle.dma_device.proofs.Progress.{compiled_goes_on, compiled_has_events, compiled_signals, dmago_finishes, dmago_signals}
+use Rattle.dma_device.proofs.Progress.{compiled_goes_on, compiled_has_events, compiled_signals, dmago_finishes}
+use Rattle.dma_device.proofs.Signalled.{dmago_signals}
 use Rattle.dma_device.proofs.laws.a_dmago_finishes.Goals as goal
 
 pub returns : goal.returns

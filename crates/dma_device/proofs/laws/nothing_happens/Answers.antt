@@ -1,6 +1,7 @@
 use Rattle.dma_device.proofs.Idle.{nothing_happens, stay_sound}
 use Rattle.dma_device.proofs.TurnChanges.{turn_changes}
+use Rattle.dma_device.proofs.Waits.{waits_in_vain}
 use Rattle.dma_device.proofs.laws.nothing_happens.Goals as goal
 
 pub returns : goal.returns
-returns c = record { sound = stay_sound; nothing = nothing_happens; changes = turn_changes }
+returns c = record { sound = stay_sound; nothing = nothing_happens; changes = turn_changes; waits = waits_in_vain }
