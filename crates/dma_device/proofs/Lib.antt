@@ -28,6 +28,9 @@ pub mod TurnChanges
 pub mod History
 pub mod Events
 pub mod Faults
+pub mod Frame
+pub mod StepsAlike
+pub mod TurnsAlike
 pub mod Explaining
 pub mod Progress
 pub mod Signalled

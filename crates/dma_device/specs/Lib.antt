@@ -14,6 +14,7 @@ pub mod Run
 pub mod Interrupts
 pub mod Events
 pub mod Faults
+pub mod Frame
 pub mod Dmago
 pub mod Copies
 pub mod Explaining

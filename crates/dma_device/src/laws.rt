@@ -5,6 +5,7 @@ ghost use Rattle.dma_device.specs.Dmago.{ImageHasBytes};
 ghost use Rattle.dma_device.specs.Events.{EventsAreExact, TakenWasSet, WaitsForUnset};
 ghost use Rattle.dma_device.specs.Explaining.{OnlyDmagoGives, TurnsStayIn};
 ghost use Rattle.dma_device.specs.Faults.{AbortIsFaulting, AbortsAreExact, FaultsAreExact};
+ghost use Rattle.dma_device.specs.Frame.{BytesDontMatter, LikeReadsLike, RegionBytesDontMatter, TurnLeavesOthers, WriteLeavesThreads};
 ghost use Rattle.dma_device.specs.Idle.{NothingHappens, StaySound, TurnChanges, WaitsInVain};
 ghost use Rattle.dma_device.specs.Interrupts.{InterruptsAreExact};
 ghost use Rattle.dma_device.specs.Progress.{CompiledGoesOn, CompiledHasEvents, CompiledSignals, DmagoFinishes, DmagoSignals};
@@ -120,4 +121,16 @@ pub fn damage_is_refused()
 /// `run` of the definitions gives, step by step, if each access is lent the memory that the one before it left.
 pub fn runs_step_by_step()
     ensures { RunsStepByStep }
+{}
+
+/// A turn of a channel leaves each other thread, the manager, INTEN and the debug registers as they are. A write to any
+/// register but DBGCMD leaves all threads, and one to DBGCMD all but the one that the debug registers name. The bytes
+/// of memory have no effect on a turn's report, nor on the registers and lines after it: these depend only on the
+/// device but for the bytes in its channels' buffers, and on where the regions are and which of them are read-only.
+pub fn others_are_left_alone()
+    ensures turns { TurnLeavesOthers }
+    ensures writes { WriteLeavesThreads }
+    ensures reads { LikeReadsLike }
+    ensures bytes { BytesDontMatter }
+    ensures regions { RegionBytesDontMatter }
 {}

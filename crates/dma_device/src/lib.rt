@@ -39,7 +39,9 @@
 //! INTCLR, reset or restore has cleared it since (`laws::interrupts_are_exact`). The same holds of events, which a
 //! DMAWFE takes (`laws::events_are_exact`), and of faulting threads and irq_abort, which a DMAKILL ends
 //! (`laws::faults_are_exact`). If no thread can step, nothing happens until the guest's next write
-//! (`laws::nothing_happens`).
+//! (`laws::nothing_happens`). A turn leaves all threads but its channel's as they are, a write all but the one that the
+//! debug registers name, and the bytes of memory have no effect on a turn's report and on the registers and lines after
+//! it (`laws::others_are_left_alone`).
 //!
 //! Not proved: that an allocation succeeds. Only [`device::Device::new`] allocates: no other method gets an allocator.
 //!
