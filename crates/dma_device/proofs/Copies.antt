@@ -56,7 +56,7 @@ module _ (start : Registers) (program : List ℕ) (work : Work) (count : ℕ) (m
   moved_later : (n : ℕ) (u : Machine) → Among start program work count first n u.image u.channel → answer_at marks u ≡ Moved → u.channel.taken ≤ (after_step marks u).channel.taken
   moved_later n u w moved = let next = moved_on start program work count marks first h low n u w moved in omega (arith, w.taken, next.taken)
 
-  many_later : (j : ℕ) (s : Machine) → Runs start program work count first s → ((k : ℕ) → k < suc j → goes_on_after marks s k ≡ true) → s.channel.taken ≤ (after_steps marks s j).channel.taken
+  pub many_later : (j : ℕ) (s : Machine) → Runs start program work count first s → ((k : ℕ) → k < suc j → goes_on_after marks s k ≡ true) → s.channel.taken ≤ (after_steps marks s j).channel.taken
   many_later zero s r moves = omega arith
   many_later (suc j) s r moves =
       let u = after_steps marks s j in
@@ -83,7 +83,7 @@ module _ (start : Registers) (program : List ℕ) (work : Work) (count : ℕ) (m
 -- ---- how much is done
 
 -- a call that isn't made signals nothing
-none_sent : (called : Called) (i : ℕ) → called ≡ nothing → called.signal ≡ Some i → ⊥
+pub none_sent : (called : Called) (i : ℕ) → called ≡ nothing → called.signal ≡ Some i → ⊥
 none_sent called i none is = let bad = sym (ap (λ (c : Called). c.signal) none) ∙ is in cc
 
 module _ (c : Copying) (n i : ℕ) (least : Amounts) (sev : (done : Amounts) → IsSignal c.start c.program c.count i done → IsAtLeast least done) where
@@ -115,7 +115,7 @@ module _ (c : Copying) (n i : ℕ) (least : Amounts) (sev : (done : Amounts) →
 -- ---- what is copied
 
 -- a memory in which at least so much is done
-are_done : (c : Copying) (image : List ℕ) (least done : Amounts) → IsPart c.work c.first done image → ((p : ℕ) → p < least.copied → p < size_of c.work.copy → p < done.copied) → ((p : ℕ) → p < least.cleared → p < length (cleared c.work) → p < done.cleared) → AreDone c.work least c.first image
+pub are_done : (c : Copying) (image : List ℕ) (least done : Amounts) → IsPart c.work c.first done image → ((p : ℕ) → p < least.copied → p < size_of c.work.copy → p < done.copied) → ((p : ℕ) → p < least.cleared → p < length (cleared c.work) → p < done.cleared) → AreDone c.work least c.first image
 are_done c image least done part copied zeros =
     let w = part_first c.work c.first done image c.explains.work c.fits part in
     let ds = destinations c.work.copy in
@@ -207,12 +207,12 @@ module _ (go : Go) (work : Work) (count : ℕ) (run : GivenTurns) (h : RunsCopy 
         elim (cases_eq raises.turn j) [
           | inr other ↦
               let early : raises.turn < j = omega (arith, other, raises.early, rose.early) in
-              inl (inl (record { turn = raises.turn; early = early; raises = record { turn = raises.turn; early = omega arith; line = raises.line; low = raises.low; high = raises.high } }))
+              inl (inl (record { turn = raises.turn; early = early; raises = record { turn = raises.turn; early = omega arith; rises = raises.rises } }))
           | inl same ↦
-              let line = subst (λ (k : ℕ). HasLine (run.before k) i) same raises.line in
-              let high = subst (λ (k : ℕ). IsHigh (irqs (run.after k)) i) same raises.high in
+              let line = subst (λ (k : ℕ). HasLine (run.before k) i) same raises.rises.line in
+              let high = subst (λ (k : ℕ). IsHigh (irqs (run.after k)) i) same raises.rises.high in
               elim ((turn_raises (run.before j) (run.after j) (run.lent j) (run.left j) go.channel (run.most j) i turn x line).0 high) [
-                | inl before ↦ absurd ((subst (λ (k : ℕ). ¬ IsHigh (irqs (run.before k)) i) same raises.low) before)
+                | inl before ↦ absurd ((subst (λ (k : ℕ). ¬ IsHigh (irqs (run.before k)) i) same raises.rises.low) before)
                 | inr new ↦ elim (new.1) [ inl is ↦ inl (inr is) | inr is ↦ inr is ]
               ]
         ]

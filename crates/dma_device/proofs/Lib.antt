@@ -17,6 +17,7 @@ pub mod Found
 pub mod InMemory
 pub mod Driven
 pub mod Copies
+pub mod Signals
 pub mod Runs
 pub mod RegionBytes
 pub mod RowMachines

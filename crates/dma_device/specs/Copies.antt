@@ -1,11 +1,14 @@
 -- What a program that a DMAGO starts copies and sets to 0, if a work explains it.
-use Rattle.std.specs.Prelude.{◌≡◌, ◌≢◌, ℕ, ◌<◌, ◌≤◌, List, length, slice_index, IsTrue}
-use Rattle.std.specs.List.{Contains}
+use Rattle.std.specs.Prelude.{◌≡◌, ◌≢◌, ℕ, ◌+◌, ◌<◌, ◌≤◌, Bool, false, nat_eq, List, length, slice_index, IsTrue}
+use Rattle.std.specs.List.{Contains, count_by}
 use Rattle.dma_mem.specs.Places.{destinations, size_of, sources}
 use Rattle.dma_mem.specs.Regions.{in_order, pieces_of}
 use Rattle.dma_mem.specs.declared.regions.Region.{Region}
-use Rattle.dma_chan.specs.Explains.{IsAtLeast, IsSignal, IsWait, Work, cleared}
+use Rattle.dma_chan.specs.Explains.{IsAtLeast, IsSignal, IsWait, Work, cleared, events_in}
+use Rattle.dma_chan.specs.declared.exec.Registers.{Registers}
 use Rattle.dma_chan.specs.declared.explain.Amounts.{Amounts}
+use Rattle.dma_chan.specs.declared.explain.Sync.{Sync}
+use Rattle.dma_chan.specs.declared.explain.Sync.TheVariants.{Signals, Waits}
 use Rattle.dma_chan.specs.LentRegions.{HaveAll}
 use Rattle.dma_chan.specs.Others.{IsWorked}
 use Rattle.dma_device.specs.Device.{DeviceValue, irqs}
@@ -19,13 +22,17 @@ DmagoCopies =
     (k : ℕ) → k < run.count → csr_status (run.after k) go.channel ≡ 0 →
     IsWorked w (image_in (run.lent 0)) (image_in (run.left k))
 
--- line i rose in one of the turns up to number k: it was low before the turn and high after it
+-- Line i rose in turn number k: it was low before the turn and high after it.
+pub record Rises (run : GivenTurns) (i k : ℕ) : Type 0 where
+  pub line : HasLine (run.before k) i
+  pub low : ¬ IsHigh (irqs (run.before k)) i
+  pub high : IsHigh (irqs (run.after k)) i
+
+-- line i rose in one of the turns up to number k
 pub record HasRisen (run : GivenTurns) (i k : ℕ) : Type 0 where
   pub turn : ℕ
   pub early : turn ≤ k
-  pub line : HasLine (run.before turn) i
-  pub low : ¬ IsHigh (irqs (run.before turn)) i
-  pub high : IsHigh (irqs (run.after turn)) i
+  pub rises : Rises run i turn
 
 -- The first destinations of a work have the bytes that their sources had in the memory at first, the first addresses
 -- that it sets to 0 have 0, and each source has the byte that it had.
@@ -42,6 +49,34 @@ DmagoInterrupts =
     (go : Go) (w : Work) (n : ℕ) (run : GivenTurns) (i : ℕ) (least : Amounts) → RunsCopy go w n run →
     ((done : Amounts) → IsSignal (start_of go) go.program n i done → IsAtLeast least done) →
     (k : ℕ) → k < run.count → HasRisen run i k → AreDone w least (image_in (run.lent 0)) (image_in (run.left k))
+
+-- whether what an instruction does with an event is to signal event e
+abbrev pub is_signal_of : ℕ → Sync → Bool
+is_signal_of e (Signals d) = nat_eq d e
+is_signal_of e (Waits d) = false
+
+-- the number of DMASEVs of event e among a program's first n instructions
+abbrev pub signals_in : Registers → List ℕ → ℕ → ℕ → ℕ
+signals_in start program e n = count_by (λ h. is_signal_of e h.sync) (events_in start program n)
+
+-- One of a program's first n instructions is its DMASEV number j of event e, counted from 0, and the program has
+-- copied and set to 0 these numbers of bytes before it.
+pub record IsSignalNumber (start : Registers) (program : List ℕ) (n e j : ℕ) (done : Amounts) : Type 0 where
+  pub signal : IsSignal start program n e done
+  pub number : signals_in start program e signal.step ≡ j
+
+-- Line i rose in turns with these numbers, each later than the one before, up to the one of index j.
+pub record RisesInEach (run : GivenTurns) (i j : ℕ) (turn : ℕ → ℕ) : Type 0 where
+  pub rises : (l : ℕ) → l ≤ j → Rises run i (turn l)
+  pub later : (l : ℕ) → l < j → turn l < turn (l + 1)
+
+-- Once line i rose j + 1 times, in turns up to `turn j`, at least as much is done as before DMASEV number j of event i,
+-- and so it is after each later turn. (Between two of these turns something cleared the line, as a handler does.)
+abbrev pub DmagoInterruptsEach : Type 0
+DmagoInterruptsEach =
+    (go : Go) (w : Work) (n : ℕ) (run : GivenTurns) (i j : ℕ) (done : Amounts) (turn : ℕ → ℕ) →
+    RunsCopy go w n run → IsSignalNumber (start_of go) go.program n i j done → RisesInEach run i j turn →
+    (k : ℕ) → turn j ≤ k → k < run.count → AreDone w done (image_in (run.lent 0)) (image_in (run.left k))
 
 -- A device has each event of a program's DMAWFEs and DMASEVs.
 pub record HasEvents (d : DeviceValue) (go : Go) (n : ℕ) : Type 0 where

@@ -1,6 +1,6 @@
 //! Laws of devices. Each law is the postcondition of a function that does nothing.
 
-ghost use Rattle.dma_device.specs.Copies.{DmagoCopies, DmagoInterrupts, DmagoNeverFails};
+ghost use Rattle.dma_device.specs.Copies.{DmagoCopies, DmagoInterrupts, DmagoInterruptsEach, DmagoNeverFails};
 ghost use Rattle.dma_device.specs.Dmago.{ImageHasBytes};
 ghost use Rattle.dma_device.specs.Events.{EventsAreExact, TakenWasSet, WaitsForUnset};
 ghost use Rattle.dma_device.specs.Explaining.{OnlyDmagoGives, TurnsStayIn};
@@ -23,10 +23,12 @@ pub fn memory_has_bytes()
 /// program makes one simultaneous copy of all bytes and sets its other ranges to 0, whatever the guest and other
 /// channels do meanwhile to other bytes and registers. It is done once the channel's CSR reads as stopped. Once a line
 /// that was low is high after a turn of the channel, at least as many bytes are copied and set to 0 as before each
-/// DMASEV of the line's event.
+/// DMASEV of the line's event. Once the line rose in j turns of the channel, as it does if a handler clears it between
+/// them, at least as many bytes are copied and set to 0 as before the j-th DMASEV of the event.
 pub fn a_dmago_copies()
     ensures copies { DmagoCopies }
     ensures interrupts { DmagoInterrupts }
+    ensures interrupts_each { DmagoInterruptsEach }
 {}
 
 /// Such a program never fails if the regions contain all addresses that it reads and writes, none that it writes is
