@@ -779,7 +779,8 @@ int32_t dma330_device_explain_work(dma330_device *device, uint8_t channel, uint3
                                    size_t zeros_room, dma330_moment *moments, size_t moments_room,
                                    dma330_work *work) DMA330_NO_NULLS;
 
-/* Writes the lines irq[31:0]. A high line stays high until the guest clears its interrupt. */
+/* Writes the lines irq[31:0]. A high line stays high until the guest clears its interrupt by INTCLR, a reset, or a restore of
+ * a device in which it is low. */
 int32_t dma330_device_irqs(dma330_device *device, uint32_t *lines) DMA330_NO_NULLS;
 
 /* Writes 1 if the line irq_abort is high, else 0. It is high until the guest kills each faulting thread. */
