@@ -32,5 +32,6 @@ pub mod Frame
 pub mod StepsAlike
 pub mod TurnsAlike
 pub mod Explaining
+pub mod Underway
 pub mod Progress
 pub mod Rows
