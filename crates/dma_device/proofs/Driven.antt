@@ -2,10 +2,11 @@
 use Rattle.std.proofs.Common.{◌≡◌, ◌≢◌, ◌∙◌, ◌⊎◌, ℕ, zero, suc, ◌+◌, ◌%◌, ◌^◌, ◌<◌, Bool, true, false, ◌&&◌, List, [], length, get_or, Option, Some, None, ap, refl, sym, subst, arith, inl, inr, true≢false}
 use Rattle.std.specs.Prelude.{is_some, not, slice_get}
 use Rattle.dma_mem.specs.Marking.{MarkList}
+use Rattle.dma_mem.specs.Places.{size_of}
 use Rattle.dma_mem.specs.declared.regions.Region.{Region}
 use Rattle.dma_chan.specs.declared.exec.Registers.{Registers}
 use Rattle.dma_chan.specs.Channel.{ChannelValue}
-use Rattle.dma_chan.specs.Explains.{Explains, Work}
+use Rattle.dma_chan.specs.Explains.{Explains, Work, cleared}
 use Rattle.dma_chan.specs.Others.{IsWorked}
 use Rattle.dma_chan.specs.Programs.{ProgramValue}
 use Rattle.dma_chan.specs.Stepping.{Machine, TakesSteps, machine}
@@ -104,6 +105,7 @@ module _ (c : Copying) where
     pub stopped : is_stopped th ≡ true
     pub gone : th.channel.program ≡ None
     pub done : IsWorked c.work c.first image
+    pub stored : th.channel.stored ≡ size_of c.work.copy + length (cleared c.work)
 
   -- it has ended, and O is known; or it goes on, and E is known of the thread
   abbrev pub Stands : (O : Type 0) (E : Thread → Type 0) → List ℕ → Thread → Type 0
@@ -144,6 +146,7 @@ module _ (c : Copying) where
                   stopped = subst (λ (l : Option ChanTurn). is_stopped (answer events (at_answer k th) l (sets k th)) ≡ true) (sym ended) refl;
                   gone = ap (λ (v : ChannelValue). v.program) is ∙ done.dropped;
                   done = done.all;
+                  stored = ap (λ (v : ChannelValue). v.stored) is ∙ done.stored;
                 },
                 steps.ends th g e sent ended,
               )
@@ -246,7 +249,19 @@ module _ (go : Go) (work : Work) (count : ℕ) (run : GivenTurns) (h : RunsCopy 
         thread = g.thread;
         is = h.goes_on j next ∙ g.is;
         stands = elim g.stands [
-          | inl over ↦ inl (record { stopped = over.0.stopped; gone = over.0.gone; done = record { copied = λ a i. h.unchanged j a next (inl i) ∙ over.0.done.copied a i; zeros = λ a i. h.unchanged j a next (inr i) ∙ over.0.done.zeros a i } }, over.1)
+          | inl over ↦
+              inl (
+                record {
+                  stopped = over.0.stopped;
+                  gone = over.0.gone;
+                  done = record {
+                    copied = λ a i. h.unchanged j a next (inl i) ∙ over.0.done.copied a i;
+                    zeros = λ a i. h.unchanged j a next (inr i) ∙ over.0.done.zeros a i;
+                  };
+                  stored = over.0.stored;
+                },
+                over.1,
+              )
           | inr going ↦
               inr (
                 record {

@@ -1,6 +1,6 @@
 -- A channel's turns stay in the work that explains its program.
 use Rattle.std.proofs.Common.{◌≡◌, ◌∙◌, ◌⊎◌, ℕ, suc, ◌+◌, ◌-◌, ◌%◌, ◌/◌, ◌^◌, ◌<◌, Bool, true, List, [], append-nil, Option, Some, None, ap, refl, sym, subst, arith, inl, inr}
-use Rattle.std.specs.Prelude.{IsSomeAnd, replicate, slice_get}
+use Rattle.std.specs.Prelude.{IfSome, IsSomeAnd, replicate, slice_get}
 use Rattle.std.proofs.lemmas.Bool.{cases_eq}
 use Rattle.std.specs.List.{Contains}
 use Rattle.std.specs.Option.{option_and_then, option_map}
@@ -12,7 +12,8 @@ use Rattle.dma_mem.specs.declared.regions.Region.{Region}
 use Rattle.dma_chan.specs.declared.exec.Registers.{Registers}
 use Rattle.dma_chan.specs.declared.bus.BusWidth.{BusWidth}
 use Rattle.dma_chan.specs.declared.explain.Explained.{Explained}
-use Rattle.dma_chan.specs.Channel.{ChannelValue, code_of}
+use Rattle.dma_chan.specs.Changes.{Holds}
+use Rattle.dma_chan.specs.Channel.{ChannelValue, bytes_of_program, code_of}
 use Rattle.dma_chan.specs.Explains.{Executes, Explains, Finds, Work, work_of, written as writes_of}
 use Rattle.dma_chan.specs.Programs.{ProgramValue}
 use Rattle.dma_chan.specs.Stepping.{after_steps}
@@ -22,7 +23,7 @@ use Rattle.dma_chan.proofs.StepsTaken.{steps_move}
 use Rattle.dma_device.specs.Accesses.{Access, Answer, Does, Happen, Resets, Restores, Turns, Writes}
 use Rattle.dma_device.specs.CallSteps.{Executes as Steps, first_in, last_in, marks_in, signal_in}
 use Rattle.dma_device.specs.Device.{DeviceValue, is_interrupt, program_at, signalled, with_thread, written}
-use Rattle.dma_device.specs.Explaining.{CallReads, GivesNone, IsUnderway, OnlyDmagoGives, StaysIn, TurnsStayIn, channel_of, program_of}
+use Rattle.dma_device.specs.Explaining.{CallReads, GivesNone, HasWork, IsUnderway, OnlyDmagoGives, RestoreKeepsUnderway, StaysIn, TurnStaysInWork, TurnsStayIn, UnderwayHasWork, UnderwayStays, channel_of, program_of}
 use Rattle.dma_device.specs.Thread.{failed, killed, reset_thread, started}
 use Rattle.dma_device.specs.Turns.{Setup, TakesTurn, begins, called_if, follows, machine_in, runs_at, setup_of, steps_in}
 use Rattle.dma_device.specs.Writes.{CallWrote}
@@ -42,22 +43,24 @@ channel_if thread = option_map (λ t. t.channel) thread
 abbrev program_if : Option ChannelValue → Option ProgramValue
 program_if channel = option_and_then (λ c. c.program) channel
 
--- ---- a channel that executes a program that copies, or has ended it
+-- ---- a channel that executes a program that a work explains, or has none
 
-module _ (start : Registers) (program : List ℕ) (work : Work) (count : ℕ) (h : Explains start program work count) (n : ℕ) where
-  -- the channel still executes the program, or has no program
+-- it executes such a program
+abbrev Copies : Work → ChannelValue → Type 0
+Copies work c = (start : Registers) × (program : List ℕ) × (count : ℕ) × Explains start program work count × Executes start program count c
+
+module _ (work : Work) (n : ℕ) where
   abbrev InCopy : Option ChannelValue → Type 0
-  InCopy None = Unit {0}
-  InCopy (Some c) = Executes start program count c ⊎ (c.program ≡ None)
+  InCopy o = IfSome o (Holds (Some work))
 
   abbrev HasCopy : DeviceValue → Type 0
-  HasCopy d = InCopy (channel_of d n)
+  HasCopy d = HasWork work d n
 
-  found_copy : (d : DeviceValue) (th : Thread) → slice_get d.threads n ≡ Some th → HasCopy d → Executes start program count th.channel ⊎ (th.channel.program ≡ None)
+  found_copy : (d : DeviceValue) (th : Thread) → slice_get d.threads n ≡ Some th → HasCopy d → (th.channel.program ≡ None) ⊎ Copies work th.channel
   found_copy d th is g = subst (λ (o : Option Thread). InCopy (channel_if o)) is g
 
   -- a channel that is called executes the program
-  runs_copy : (d : DeviceValue) (th : Thread) → slice_get d.threads n ≡ Some th → runs_at d n ≡ true → HasCopy d → Executes start program count th.channel
+  runs_copy : (d : DeviceValue) (th : Thread) → slice_get d.threads n ≡ Some th → runs_at d n ≡ true → HasCopy d → Copies work th.channel
   runs_copy d th is on g = grind (arith, found_copy)
 
   -- ---- a call
@@ -68,24 +71,27 @@ module _ (start : Registers) (program : List ℕ) (work : Work) (count : ℕ) (h
       let th = acts.thread in
       let to = machine_left marks most th s in
       let w = runs_copy d th acts.found (on acts.on) g in
-      let stays = call_stays_in start program work count marks (machine_in s th) most (steps_in marks most th s) (last_in marks most th s) to h w (takes marks most th s) in
+      let stays = call_stays_in w.0 w.1 work w.2 marks (machine_in s th) most (steps_in marks most th s) (last_in marks most th s) to w.3 w.4 (takes marks most th s) in
       let same : (thread_left marks most th s).channel ≡ to.channel = answer_channel d.config.events (record th { channel = to.channel; pc = (th.base + to.channel.registers.pc) % 2 ^ 32 }) (last_in marks most th s) (signal_in marks most th s) in
-      subst (λ (o : Option Thread). InCopy (channel_if o)) (sym (set_found d.threads n th (thread_left marks most th s) acts.found)) (subst (λ (c : ChannelValue). Executes start program count c ⊎ (c.program ≡ None)) (sym same) stays.channel))
+      let holds : Holds (Some work) to.channel = elim stays.channel [ inl v ↦ inr (w.0, w.1, w.2, w.3, v) | inr none ↦ inl none ] in
+      subst (λ (o : Option Thread). InCopy (channel_if o)) (sym (set_found d.threads n th (thread_left marks most th s) acts.found)) (subst (Holds (Some work)) (sym same) holds))
 
-  step_at : (marks : MarkList) (made : Bool) (most : ℕ) (s : Setup) → (made ≡ true → runs_at s.device n ≡ true) → HasCopy s.device → (x : Steps made n s) (j : ℕ) → j < steps_in marks most x.thread s → Executes start program count (after_steps marks (machine_in s x.thread) j).channel
+  step_at : (marks : MarkList) (made : Bool) (most : ℕ) (s : Setup) → (made ≡ true → runs_at s.device n ≡ true) → HasCopy s.device → (x : Steps made n s) (j : ℕ) → j < steps_in marks most x.thread s → Copies work (after_steps marks (machine_in s x.thread) j).channel
   step_at marks made most s on g x j less =
-      many_in start program work count h marks (machine_in s x.thread) j (runs_copy s.device x.thread x.found (on x.on) g) (λ k l. steps_move (takes marks most x.thread s) k (omega (arith, less)))
+      let w = runs_copy s.device x.thread x.found (on x.on) g in
+      (w.0, w.1, w.2, w.3, many_in w.0 w.1 work w.2 w.3 marks (machine_in s x.thread) j w.4 (λ k l. steps_move (takes marks most x.thread s) k (omega (arith, less))))
 
   -- what one of its steps writes and reads
   wrote_in : (marks : MarkList) (made : Bool) (most : ℕ) (s : Setup) (a : ℕ) → (made ≡ true → runs_at s.device n ≡ true) → HasCopy s.device → CallWrote marks n a made most s → Contains (writes_of work) a
   wrote_in marks made most s a on g x =
-      let v = step_at marks made most s on g x.0 x.1.0 x.1.1 in
-      next_inside start program work count h v.0 _ a v.1 (nexts start program work count h v.0 v.1.within) x.1.3
+      let w = step_at marks made most s on g x.0 x.1.0 x.1.1 in
+      let v = w.4 in
+      next_inside w.0 w.1 work w.2 w.3 v.0 _ a v.1 (nexts w.0 w.1 work w.2 w.3 v.0 v.1.within) x.1.3
 
   read_in : (marks : MarkList) (made : Bool) (most : ℕ) (s : Setup) (a : ℕ) → (made ≡ true → runs_at s.device n ≡ true) → HasCopy s.device → CallReads marks n a made most s → Contains (sources work.copy) a
   read_in marks made most s a on g x =
-      let v = step_at marks made most s on g x.0 x.1.0 x.1.1 in
-      reads_inside start program work count h v.0 _ a v.1 x.1.2
+      let w = step_at marks made most s on g x.0 x.1.0 x.1.1 in
+      reads_inside w.0 w.1 work w.2 w.3 w.4.0 _ a w.4.1 x.1.2
 
   -- ---- a turn
 
@@ -142,34 +148,39 @@ module _ (start : Registers) (program : List ℕ) (work : Work) (count : ℕ) (h
 
 -- ---- from where the copy was found
 
--- a channel executes a program that the copy explains
-record Starts (x : Explained) (o : Option ChannelValue) : Type 0 where
-  start : Registers
-  channel : ChannelValue
-  is : o ≡ Some channel
-  program : List ℕ
-  count : ℕ
-  explains : Explains start program (work_of x) count
-  executes : Executes start program count channel
+-- a channel executes the program from the registers for which the work was found
+has_found : (start : Registers) (limit : ℕ) (x : Explained) (c : ChannelValue) (o : Option ProgramValue) → c.program ≡ o → IsSomeAnd o (λ p. Finds start p.bytes limit x) → Executes start (code_of c) (x.steps - 1) c → Copies (work_of x) c
+has_found start limit x c None is f w = absurd f
+has_found start limit x c (Some p) is f w =
+    let code : code_of c ≡ p.bytes = ap bytes_of_program is in
+    let count : x.steps - 1 ≡ f.before = (let steps = f.steps in omega arith) in
+    (start, p.bytes, f.before, f.explains, subst (λ (k : ℕ). Executes start p.bytes k c) count (subst (λ (bytes : List ℕ). Executes start bytes (x.steps - 1) c) code w))
 
-starts_with : (start : Registers) (limit : ℕ) (x : Explained) (c : ChannelValue) (o : Option ProgramValue) → c.program ≡ o → IsSomeAnd o (λ p. Finds start p.bytes limit x) → Executes start (code_of c) (x.steps - 1) c → Starts x (Some c)
-starts_with start limit x c o h1 h2 h3 = grind arith
+has_found_at : (limit : ℕ) (x : Explained) (o : Option ChannelValue) → IsSomeAnd o (λ c. IsSomeAnd c.program (λ p. Finds c.registers p.bytes limit x)) → IsSomeAnd o (λ c. Executes c.registers (code_of c) (x.steps - 1) c) → IfSome o (Holds (Some (work_of x)))
+has_found_at limit x None f w = absurd w
+has_found_at limit x (Some c) f w = inr (has_found c.registers limit x c c.program refl f w)
 
-starts_at : (limit : ℕ) (x : Explained) (o : Option ChannelValue) → IsSomeAnd o (λ c. IsSomeAnd c.program (λ p. Finds c.registers p.bytes limit x)) → IsSomeAnd o (λ c. Executes c.registers (code_of c) (x.steps - 1) c) → Starts x o
-starts_at limit x None f w = absurd w
-starts_at limit x (Some c) f w = starts_with c.registers limit x c c.program refl f w
+pub underway_has_work : UnderwayHasWork
+underway_has_work d n limit x finds underway = has_found_at limit x (channel_of d n) finds underway
+
+pub underway_stays : UnderwayStays
+underway_stays w a d e regions left answer n does none g = after_access w n a d e regions left answer does none g
+
+pub turn_stays_in_work : TurnStaysInWork
+turn_stays_in_work w d e regions left n most turn g x = turn_stays w n d regions most e left turn g x
 
 pub turns_stay_in : TurnsStayIn
 turns_stay_in access answer before lent left all n k most limit x turn happen finds underway none less is reply =
-    let d = before 0 in
-    let s = starts_at limit x (channel_of d n) finds underway in
-    let first : InCopy s.start s.program (work_of x) s.count s.explains n (channel_of d n) =
-    subst (InCopy s.start s.program (work_of x) s.count s.explains n) (sym s.is) (inl s.executes) in
-    let here = along s.start s.program (work_of x) s.count s.explains n access answer before lent left all k happen none (omega arith) first in
+    let w = work_of x in
+    let here = along w n access answer before lent left all k happen none (omega arith) (underway_has_work (before 0) n limit x finds underway) in
     let does = subst (λ (a : Access). Does a (before k) (lent k) (answer k) (before (k + 1)) (left k)) is (happen k less) in
     let same : does.0 ≡ turn = let given = sym does.1.0 ∙ reply in cc in
-    turn_stays s.start s.program (work_of x) s.count s.explains n (before k) (lent k) most (before (k + 1)) (left k) turn here
-    (subst (TakesTurn (before k) (lent k) n most (before (k + 1)) (left k)) same does.1.1)
+    turn_stays w n (before k) (lent k) most (before (k + 1)) (left k) turn here (subst (TakesTurn (before k) (lent k) n most (before (k + 1)) (left k)) same does.1.1)
+
+pub restore_keeps_underway : RestoreKeepsUnderway
+restore_keeps_underway w saved d e regions left answer n steps does =
+    let same = does.1 in
+    (λ underway. subst (λ (v : DeviceValue). IsUnderway v n steps) (sym same) underway, λ has. subst (λ (v : DeviceValue). HasWork w v n) (sym same) has)
 
 -- ---- what gives a channel a program
 

@@ -33,6 +33,7 @@ pub mod Frame
 pub mod StepsAlike
 pub mod TurnsAlike
 pub mod Explaining
+pub mod Underway
 pub mod Progress
 pub mod Signalled
 pub mod Rows

@@ -1,5 +1,5 @@
 -- What the program of a channel copies and sets to 0, as the device explains it, and that its turns stay in this work.
-use Rattle.std.specs.Prelude.{◌≡◌, ◌≢◌, ◌⊎◌, ℕ, ◌+◌, ◌-◌, ◌<◌, ◌≤◌, Bool, List, length, Option, None, slice_get, IsSomeAnd}
+use Rattle.std.specs.Prelude.{◌≡◌, ◌≢◌, ◌⊎◌, ℕ, ◌+◌, ◌-◌, ◌<◌, ◌≤◌, Bool, List, length, Option, Some, None, slice_get, IfSome, IsSomeAnd}
 use Rattle.std.specs.List.{Contains}
 use Rattle.std.specs.Option.{option_and_then, option_map}
 use Rattle.dma_mem.specs.Marking.{MarkList}
@@ -8,6 +8,7 @@ use Rattle.dma_mem.specs.declared.regions.Region.{Region}
 use Rattle.dma_chan.specs.declared.exec.Registers.{Registers}
 use Rattle.dma_chan.specs.declared.explain.Cause.TheVariants.{NoMemory, TooLong}
 use Rattle.dma_chan.specs.declared.explain.Explained.{Explained}
+use Rattle.dma_chan.specs.Changes.{Holds}
 use Rattle.dma_chan.specs.Channel.{ChannelValue, code_of}
 use Rattle.dma_chan.specs.Explains.{Executes, Finds, Refuses, Work, work_of, written}
 use Rattle.dma_chan.specs.Programs.{ProgramValue}
@@ -16,7 +17,7 @@ use Rattle.dma_chan.specs.Written.{LiesIn}
 use Rattle.dma_device.specs.Accesses.{Access, Answer, Does, Happen, Restores, Turned, Turns}
 use Rattle.dma_device.specs.CallSteps.{Executes as Steps, InTurn, marks_in}
 use Rattle.dma_device.specs.Device.{DeviceValue}
-use Rattle.dma_device.specs.Turns.{Setup, machine_in, steps_in}
+use Rattle.dma_device.specs.Turns.{Setup, TakesTurn, machine_in, steps_in}
 use Rattle.dma_device.specs.declared.device.explain.ExplainFault.{ExplainFault}
 use Rattle.dma_device.specs.declared.device.explain.ExplainFault.TheVariants.{NoChannel, NoProgram, Unexplained}
 use Rattle.dma_device.specs.declared.device.turns.Turn.{Turn}
@@ -92,3 +93,36 @@ OnlyDmagoGives =
     (a : Access) (d e : DeviceValue) (regions left : List Region) (answer : Answer) (n : ℕ) →
     Does a d regions answer e left → ((saved : DeviceValue) → a ≢ Restores saved) →
     GivesNone a n d e ⊎ ((steps : ℕ) → IsUnderway e n steps)
+
+-- ---- the same from any later moment on, as after a migration
+
+-- Channel n has a work, if the device has the channel: it has no program, or it executes one that the work explains
+-- from the registers with which the program began.
+abbrev pub HasWork : Work → DeviceValue → ℕ → Type 0
+HasWork w d n = IfSome (channel_of d n) (Holds (Some w))
+
+-- A channel that is underway has the work that is found for it.
+abbrev pub UnderwayHasWork : Type 0
+UnderwayHasWork =
+    (d : DeviceValue) (n limit : ℕ) (x : Explained) → FindsFor d n limit x → IsUnderway d n x.steps →
+    HasWork (work_of x) d n
+
+-- Each access that gives the channel no program, as a turn, keeps its work. (`IsUnderway` needn't stay: a turn may
+-- change registers with which the program began.)
+abbrev pub UnderwayStays : Type 0
+UnderwayStays =
+    (w : Work) (a : Access) (d e : DeviceValue) (regions left : List Region) (answer : Answer) (n : ℕ) →
+    Does a d regions answer e left → GivesNone a n d e → HasWork w d n → HasWork w e n
+
+-- A restore leaves each channel as it was in the saved device, with its work, whatever the device was before.
+abbrev pub RestoreKeepsUnderway : Type 0
+RestoreKeepsUnderway =
+    (w : Work) (saved d e : DeviceValue) (regions left : List Region) (answer : Answer) (n steps : ℕ) →
+    Does (Restores saved) d regions answer e left →
+    (IsUnderway saved n steps → IsUnderway e n steps) × (HasWork w saved n → HasWork w e n)
+
+-- Each turn of a channel stays in its work.
+abbrev pub TurnStaysInWork : Type 0
+TurnStaysInWork =
+    (w : Work) (d e : DeviceValue) (regions left : List Region) (n most : ℕ) (turn : Turn) →
+    HasWork w d n → TakesTurn d regions n most e left turn → StaysIn w d regions n most turn

@@ -18,5 +18,6 @@ pub mod Frame
 pub mod Dmago
 pub mod Copies
 pub mod Explaining
+pub mod Underway
 pub mod Progress
 pub mod inner

@@ -3,7 +3,7 @@
 ghost use Rattle.dma_device.specs.Copies.{DmagoCopies, DmagoInterrupts, DmagoInterruptsEach, DmagoNeverFails};
 ghost use Rattle.dma_device.specs.Dmago.{ImageHasBytes};
 ghost use Rattle.dma_device.specs.Events.{EventsAreExact, TakenWasSet, WaitsForUnset};
-ghost use Rattle.dma_device.specs.Explaining.{OnlyDmagoGives, TurnsStayIn};
+ghost use Rattle.dma_device.specs.Explaining.{OnlyDmagoGives, RestoreKeepsUnderway, TurnStaysInWork, TurnsStayIn, UnderwayHasWork, UnderwayStays};
 ghost use Rattle.dma_device.specs.Faults.{AbortIsFaulting, AbortsAreExact, FaultsAreExact};
 ghost use Rattle.dma_device.specs.Frame.{BytesDontMatter, LikeReadsLike, RegionBytesDontMatter, TurnLeavesOthers, WriteLeavesThreads};
 ghost use Rattle.dma_device.specs.Idle.{NothingHappens, StaySound, TurnChanges, WaitsInVain};
@@ -12,6 +12,7 @@ ghost use Rattle.dma_device.specs.Progress.{CompiledGoesOn, CompiledHasEvents, C
 ghost use Rattle.dma_device.specs.RowTurns.{RowsWriteEach};
 ghost use Rattle.dma_device.specs.Snapshot.{DamageIsRefused};
 ghost use Rattle.dma_device.specs.Run.{RunsStepByStep};
+ghost use Rattle.dma_device.specs.Underway.{DmagoUnderway, KilledKeepsCounts};
 ghost use Rattle.dma_device.specs.Writes.{TurnWritesEach, TurnWritesInRegions};
 
 /// In the memory that regions in order lend, each address of a region has the region's byte.
@@ -29,6 +30,16 @@ pub fn a_dmago_copies()
     ensures copies { DmagoCopies }
     ensures interrupts { DmagoInterrupts }
     ensures interrupts_each { DmagoInterruptsEach }
+{}
+
+/// After each turn of such a program, whether the channel then executes, waits, is faulting or has ended, a part of the
+/// copy is done: what the program does before one of its instructions. As many bytes are copied or set to 0 as the
+/// channel counts, the first ones, and each other byte that the program reads or writes is as it was at the first turn.
+/// The turns may go on in a restored device, if it has the same thread. A thread that is killed keeps its registers and
+/// counts, so they still say how far its program got.
+pub fn a_dmago_is_underway()
+    ensures part { DmagoUnderway }
+    ensures killed { KilledKeepsCounts }
 {}
 
 /// Such a program never fails if the regions contain all addresses that it reads and writes, none that it writes is
@@ -54,10 +65,17 @@ pub fn a_dmago_finishes()
 
 /// While a channel executes the program that a DMAGO gave it, its turns write only destinations and ranges of zeros
 /// that [`crate::device::Device::explain`] found before the first of them, and read only the sources. After an access
-/// other than a restore that gives the channel a program, as a DMAGO does, the channel is underway in that program.
+/// other than a restore that gives the channel a program, as a DMAGO does, the channel is underway in that program, and
+/// so has the work that is found then. It keeps the work at each access that gives it no program, and a restored
+/// channel has the work that it had when it was saved. Each turn of a channel stays in its work. So the law may be
+/// taken up again after a migration: what was found on the first host still holds of the turns on the second.
 pub fn turns_stay_in()
     ensures turns { TurnsStayIn }
     ensures only { OnlyDmagoGives }
+    ensures has { UnderwayHasWork }
+    ensures stays { UnderwayStays }
+    ensures restored { RestoreKeepsUnderway }
+    ensures each { TurnStaysInWork }
 {}
 
 /// An interrupt is neither lost nor invented. For every list of accesses after a reset, line n, and with it bit n of

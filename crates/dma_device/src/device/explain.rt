@@ -1,10 +1,12 @@
-//! What the program of a channel copies and sets to 0.
+//! The channels of a device, and what their programs copy and set to 0.
 
+ghost use Rattle.std.specs.Option.{option_copied};
 ghost use Rattle.std.specs.Prelude.{◌≡◌, ◌-◌, IfErr, IfOk};
 ghost use Rattle.dma_chan.specs.Explains.{bursts_in};
-ghost use Rattle.dma_device.specs.Explaining.{FailsFor, FindsFor, IsLoadedAnd};
+ghost use Rattle.dma_device.specs.Explaining.{FailsFor, FindsFor, IsLoadedAnd, channel_of};
 
 use crate::device::Device;
+use dma_chan::channel::Channel;
 use dma_chan::explain::{Explained, Unexplained, explain};
 use std::alloc::Global;
 
@@ -20,6 +22,17 @@ pub enum ExplainFault {
 }
 
 impl Device {
+    /// Returns channel `n`, or `None` if the device doesn't have it. Its registers and counts say how far its program
+    /// has got (`laws::a_dmago_is_underway`).
+    pub fn channel(&self, n: u8) -> Option<&Channel>
+        ensures { option_copied result ≡ channel_of self.now n }
+    {
+        let Some(thread) = self.threads.get(usize::from(n)) else {
+            return None;
+        };
+        Some(&thread.channel)
+    }
+
     /// Returns what the program of channel `n` copies and sets to 0 from its start, if it begins with the registers
     /// that the channel has now, or why nothing explains it with at most `most` instructions. A DMAGO has copied the
     /// program, so what the guest writes to RAM later doesn't change the answer. Until the channel gets another
@@ -33,18 +46,13 @@ impl Device {
             (λ start program. x.bursts ≡ bursts_in start program (x.steps - 1))) }
         ensures err { IfErr result (λ fault. FailsFor self.now n most fault) }
     {
-        let Some(thread) = self.threads.get(usize::from(n)) else {
+        let Some(channel) = self.channel(n) else {
             return Err(ExplainFault::NoChannel);
         };
-        if !thread.channel.is_loaded() {
+        if !channel.is_loaded() {
             return Err(ExplainFault::NoProgram);
         }
-        match explain(
-            alloc,
-            thread.channel.registers(),
-            thread.channel.program(),
-            most,
-        ) {
+        match explain(alloc, channel.registers(), channel.program(), most) {
             Ok(explained) => Ok(explained),
             Err(unexplained) => Err(ExplainFault::Unexplained(unexplained)),
         }
