@@ -10,6 +10,7 @@ use Rattle.dma_chan.specs.Written.{KeepsOutside, LiesIn, range_at}
 use Rattle.dma_device.specs.Accesses.{Does, Done, Reads, Resets, Restores as RestoresTo, Turned, Turns, Value, Writes}
 use Rattle.dma_device.specs.Config.{is_valid}
 use Rattle.dma_device.specs.Device.{DeviceValue, irq_abort, read_at, reset_device, written}
+use Rattle.dma_device.specs.Explaining.{channel_of}
 use Rattle.dma_device.specs.RowTurns.{TakesRowTurns}
 use Rattle.dma_device.specs.Snapshot.{IsDeviceValue, IsOfOther, IsSavedAs, most_saved, saved_device}
 use Rattle.dma_device.specs.Thread.{can_step}
@@ -24,12 +25,13 @@ use Rattle.dma_device.specs.declared.device.rows.RowTurns.{RowTurns}
 use Rattle.dma_device.specs.declared.device.turns.Turn.{Turn}
 use Rattle.dma_device.specs.declared.save.RestoreFault.{RestoreFault}
 use Rattle.dma_device.specs.declared.save.RestoreFault.TheVariants.{BadSave, OtherDevice}
+use Rattle.dma_ffi.specs.declared.channel_calls.ChannelRegisters.{ChannelRegisters}
 use Rattle.dma_ffi.specs.declared.device_config.DeviceConfig.{DeviceConfig}
 use Rattle.dma_ffi.specs.declared.device_calls.DeviceTurn.{DeviceTurn}
 use Rattle.dma_ffi.specs.declared.device_rows.DeviceRows.{DeviceRows}
 use Rattle.dma_ffi.specs.Calls.{Becomes, OnOpen, WritesValue}
-use Rattle.dma_ffi.specs.Channels.{are_usable}
-use Rattle.dma_ffi.specs.Codes.{already_open, bad_config, bad_regions, bad_save, no_memory, not_open, ok_code, other_device}
+use Rattle.dma_ffi.specs.Channels.{are_usable, registers_of}
+use Rattle.dma_ffi.specs.Codes.{already_open, bad_config, bad_regions, bad_save, no_channel, no_memory, not_open, ok_code, other_device}
 
 -- ---- the configuration
 
@@ -87,6 +89,15 @@ abbrev pub WritesRegister : List Region → ℕ → ℕ → DeviceValue → ℤ 
 WritesRegister regions at value d code e =
     ((code ≡ bad_regions) × (are_usable regions ≡ false) × (e ≡ d))
     ⊎ ((code ≡ ok_code) × (are_usable regions ≡ true) × (e ≡ written (pieces_of regions) at value d))
+
+-- Writes the registers and counts of channel `n` of an open device. Fails with `no_channel` exactly if the device doesn't
+-- have the channel, and then writes nothing.
+abbrev pub WritesRegisters : ℕ → Option DeviceValue → ChannelRegisters → ℤ → Option DeviceValue → ChannelRegisters
+    → Type 0
+WritesRegisters n None before code new after = (code ≡ not_open) × (new ≡ None) × (after ≡ before)
+WritesRegisters n (Some d) before code new after =
+    (new ≡ Some d) × (((code ≡ no_channel) × (channel_of d n ≡ None) × (after ≡ before))
+    ⊎ ((code ≡ ok_code) × IsSomeAnd (channel_of d n) (λ c. after ≡ registers_of c)))
 
 -- ---- turns and lines
 

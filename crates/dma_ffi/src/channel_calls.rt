@@ -201,7 +201,7 @@ pub extern "C" fn dma330_channel_stop(kept: &mut KeptChannel) -> i32
 // ---- registers and marks
 
 // Returns the registers and counts of a channel.
-fn registers_of(channel: &Channel) -> ChannelRegisters
+pub(crate) fn registers_of(channel: &Channel) -> ChannelRegisters
     ensures { result ≡ registers_of channel.now }
 {
     let (lc0, lc1) = channel.loop_counters();

@@ -5,12 +5,12 @@ ghost use Rattle.std.specs.Prelude.{◌≡◌, None};
 ghost use Rattle.dma_device.specs.Device.{irqs, read_at, reset_device};
 ghost use Rattle.dma_device.specs.Snapshot.{saved_device};
 ghost use Rattle.dma_ffi.specs.Calls.{Becomes, OnOpen, WritesSave, WritesValue};
-ghost use Rattle.dma_ffi.specs.Devices.{FitsSave, Opens, ReportsTurn, Restores, WritesRegister, abort_line, any_can_step, report_of, restore_code};
+ghost use Rattle.dma_ffi.specs.Devices.{FitsSave, Opens, ReportsTurn, Restores, WritesRegister, WritesRegisters, abort_line, any_can_step, report_of, restore_code};
 
-use crate::channel_calls::are_usable;
+use crate::channel_calls::{ChannelRegisters, are_usable, registers_of};
 use crate::codes::{
-    ALREADY_OPEN, BAD_CONFIG, BAD_REGIONS, BAD_SAVE, BUFFER_TOO_SMALL, NO_MEMORY, NOT_OPEN, OK,
-    OTHER_DEVICE, code_of_device, found,
+    ALREADY_OPEN, BAD_CONFIG, BAD_REGIONS, BAD_SAVE, BUFFER_TOO_SMALL, NO_CHANNEL, NO_MEMORY,
+    NOT_OPEN, OK, OTHER_DEVICE, code_of_device, found,
 };
 use crate::device_config::{DeviceConfig, config_of};
 use crate::kept_device::KeptDevice;
@@ -154,6 +154,26 @@ pub extern "C" fn dma330_device_step(
     }
     let taken = device.step(channel, most, regions);
     *turn = report_of(taken, device);
+    OK
+}
+
+/// Writes the registers and counts of a channel. Fails if the device doesn't have the channel.
+#[unsafe(no_mangle)]
+pub extern "C" fn dma330_device_registers(
+    kept: &mut KeptDevice,
+    channel: u8,
+    registers: &mut ChannelRegisters,
+) -> i32
+    ensures { WritesRegisters channel kept.old.device.value registers.old result
+        kept.new.device.value registers.new }
+{
+    let Some(device) = kept.get_mut() else {
+        return NOT_OPEN;
+    };
+    let Some(channel) = device.channel(channel) else {
+        return NO_CHANNEL;
+    };
+    *registers = registers_of(channel);
     OK
 }
 
