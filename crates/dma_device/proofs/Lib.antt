@@ -34,5 +34,7 @@ pub mod TurnsAlike
 pub mod Explaining
 pub mod Progress
 pub mod Signalled
+pub mod Vain
 pub mod Rows
 pub mod Readiness
+pub mod OneByte
