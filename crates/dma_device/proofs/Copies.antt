@@ -177,7 +177,7 @@ module _ (c : Copying) (n : ℕ) where
     goes = λ made th found g fine sent goes. call_fine k th (some made) fit g;
   }
 
-  turn_fine : (d : DeviceValue) (regions : List Region) (most : ℕ) (e : DeviceValue) (left : List Region) (turn : Turn) → TakesTurn d regions n most e left turn → Fit d (marks_in regions) → Has c n (Unit {0}) Fine (setup_of d regions) → Has c n (Unit {0}) Fine (setup_of e left)
+  pub turn_fine : (d : DeviceValue) (regions : List Region) (most : ℕ) (e : DeviceValue) (left : List Region) (turn : Turn) → TakesTurn d regions n most e left turn → Fit d (marks_in regions) → Has c n (Unit {0}) Fine (setup_of d regions) → Has c n (Unit {0}) Fine (setup_of e left)
   turn_fine d regions most e left turn x fit g =
       after_turn c n d regions most e left turn x (Unit {0}) Fine (Unit {0}) Fine (Unit {0}) Fine
       (steps_fine (one_of d regions n most) (λ made. ltb-true 0 most (and_parts (nat_lt 0 most) (runs_at d n) made).0) fit)

@@ -273,10 +273,14 @@ module _ (go : Go) (work : Work) (count : ℕ) (run : GivenTurns) (h : RunsCopy 
         ];
       }
 
-  -- what each turn keeps is known after each turn
-  pub along : (O : ℕ → Type 0) (E : ℕ → Thread → Type 0) → E 0 new → ((j : ℕ) → j < run.count → Before (O j) (E j) j → After (O (suc j)) (E (suc j)) j) → (j : ℕ) → j < run.count → After (O (suc j)) (E (suc j)) j
-  along O E known turn zero less = turn 0 less (at_start (O 0) (E 0) known)
-  along O E known turn (suc j) less =
+  -- what each turn keeps is known before each turn
+  pub before_each : (O : ℕ → Type 0) (E : ℕ → Thread → Type 0) → E 0 new → ((j : ℕ) → j < run.count → Before (O j) (E j) j → After (O (suc j)) (E (suc j)) j) → (j : ℕ) → j < run.count → Before (O j) (E j) j
+  before_each O E known turn zero less = at_start (O 0) (E 0) known
+  before_each O E known turn (suc j) less =
       let e : j + 1 ≡ suc j = omega arith in
-      let there = stays (O (suc j)) (E (suc j)) j (omega (arith, less)) (along O E known turn j (omega (arith, less))) in
-      turn (suc j) less (subst (Before (O (suc j)) (E (suc j))) e there)
+      let after = turn j (omega (arith, less)) (before_each O E known turn j (omega (arith, less))) in
+      subst (Before (O (suc j)) (E (suc j))) e (stays (O (suc j)) (E (suc j)) j (omega (arith, less)) after)
+
+  -- and after each turn
+  pub along : (O : ℕ → Type 0) (E : ℕ → Thread → Type 0) → E 0 new → ((j : ℕ) → j < run.count → Before (O j) (E j) j → After (O (suc j)) (E (suc j)) j) → (j : ℕ) → j < run.count → After (O (suc j)) (E (suc j)) j
+  along O E known turn j less = turn j less (before_each O E known turn j less)

@@ -36,5 +36,7 @@ pub mod Explaining
 pub mod Underway
 pub mod Progress
 pub mod Signalled
+pub mod Vain
 pub mod Rows
 pub mod Readiness
+pub mod OneByte

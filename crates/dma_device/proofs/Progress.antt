@@ -49,7 +49,7 @@ use Rattle.dma_device.proofs.Interrupts.{seen_bit}
 -- ---- a call of a channel with a program that copies
 
 -- what a program executes before its DMAEND
-before_end : (start : Registers) (program : List ℕ) (work : Work) (n : ℕ) → Explains start program work n → (k : ℕ) (i : ChipInsn) → k ≤ n → i ≢ End → next_in program (traced start program k) ≡ Ok i → k < n
+pub before_end : (start : Registers) (program : List ℕ) (work : Work) (n : ℕ) → Explains start program work n → (k : ℕ) (i : ChipInsn) → k ≤ n → i ≢ End → next_in program (traced start program k) ≡ Ok i → k < n
 before_end start program work n h k i within other next = grind arith
 
 module _ (start : Registers) (program : List ℕ) (work : Work) (count : ℕ) (marks : MarkList) (first : List ℕ) (h : Explains start program work count) (low : Fits work (length first)) where
@@ -111,12 +111,12 @@ loaded program (Some p) b = refl
 
 module _ (c : Copying) (n : ℕ) where
   -- it isn't faulting, and has executed at least this many instructions
-  record Reached (least : ℕ) (th : Thread) : Type 0 where
-    fine : is_faulting th ≡ false
-    enough : least ≤ th.channel.taken
+  pub record Reached (least : ℕ) (th : Thread) : Type 0 where
+    pub fine : is_faulting th ≡ false
+    pub enough : least ≤ th.channel.taken
 
   -- the event for which it waits is visible
-  abbrev Awake : DeviceValue → ℕ → Type 0
+  abbrev pub Awake : DeviceValue → ℕ → Type 0
   Awake d least = (th : Thread) (e : ℕ) (wait : IsWait c.start c.program c.count e) → slice_get d.threads n ≡ Some th → IsIn c.start c.program c.count wait.step th.channel → least ≤ wait.step → get_or (flags_of (visible_events d)) e false ≡ true
 
   -- a call needs no progress, or it doesn't wait at first
@@ -124,7 +124,7 @@ module _ (c : Copying) (n : ℕ) where
   CanStep d least more = (more ≤ least) ⊎ ((more ≤ least + 1) × Awake d least)
 
   -- a thread that goes on and isn't faulting runs
-  going_runs : (d : DeviceValue) (image : List ℕ) (th : Thread) → slice_get d.threads n ≡ Some th → Going c image th → is_faulting th ≡ false → runs_at d n ≡ true
+  pub going_runs : (d : DeviceValue) (image : List ℕ) (th : Thread) → slice_get d.threads n ≡ Some th → Going c image th → is_faulting th ≡ false → runs_at d n ≡ true
   going_runs d image th is g fine = grind (arith, loaded)
 
   steps_reached : (least more : ℕ) (k : Call) → ((th : Thread) → slice_get k.before.device.threads n ≡ Some th → ¬ Executes k.made n k.before → runs_at k.before.device n ≡ true → more ≤ least) → (k.made ≡ true → 0 < k.most) → Fit c n k.before.device k.marks → CanStep k.before.device least more → Steps c n (Unit {0}) (Reached least) (Unit {0}) (Reached more) k
@@ -152,10 +152,10 @@ module _ (c : Copying) (n : ℕ) where
   }
 
   -- a turn needs to keep what is counted, or is ready to count one more
-  abbrev IsTurn : DeviceValue → ℕ → ℕ → ℕ → Type 0
+  abbrev pub IsTurn : DeviceValue → ℕ → ℕ → ℕ → Type 0
   IsTurn d most least more = (more ≤ least) ⊎ ((0 < most) × ((more ≤ least + 1) × Awake d least))
 
-  turn_reached : (d : DeviceValue) (regions : List Region) (most : ℕ) (e : DeviceValue) (left : List Region) (turn : Turn) → TakesTurn d regions n most e left turn → (least more : ℕ) → IsTurn d most least more → Fit c n d (marks_in regions) → Has c n (Unit {0}) (Reached least) (setup_of d regions) → Has c n (Unit {0}) (Reached more) (setup_of e left)
+  pub turn_reached : (d : DeviceValue) (regions : List Region) (most : ℕ) (e : DeviceValue) (left : List Region) (turn : Turn) → TakesTurn d regions n most e left turn → (least more : ℕ) → IsTurn d most least more → Fit c n d (marks_in regions) → Has c n (Unit {0}) (Reached least) (setup_of d regions) → Has c n (Unit {0}) (Reached more) (setup_of e left)
   turn_reached d regions most e left turn x least more can fit g =
       let one = one_of d regions n most in
       let two = two_of d regions n most in
@@ -176,18 +176,26 @@ stopped_reads : (s : Status) (b : Bool) → is_stopped_status s ≡ true → (st
 stopped_reads Stopped b is = omega arith
 stopped_reads s b is = absurd (true≢false (sym is))
 
-csr_stopped : (d : DeviceValue) (n : ℕ) (th : Thread) → n < 8 → slice_get d.threads n ≡ Some th → is_stopped th ≡ true → csr_status d n ≡ 0
+pub csr_stopped : (d : DeviceValue) (n : ℕ) (th : Thread) → n < 8 → slice_get d.threads n ≡ Some th → is_stopped th ≡ true → csr_status d n ≡ 0
 csr_stopped d n th few is stopped =
     ap (λ (m : ℕ). m % 16) (read_csr d n few ∙ ap (of_thread csr) is) ∙ stopped_reads th.status th.nonsecure stopped
 
 -- ---- along the turns
+
+-- channels see a visible event
+pub visible_bit : (d : DeviceValue) (e : ℕ) → IsVisible d e → bit_at (visible_events d) e ≡ 1
+visible_bit d e see =
+    let line = see.0 in
+    let few : e < 32 = omega (arith, line.events, line.event) in
+    let off : bit_at d.inten e ≡ 0 = omega (arith, see.1.1, bit_at-lt d.inten e) in
+    omega (arith, seen_bit d e few line.inten, off, see.1.0)
 
 module _ (go : Go) (work : Work) (count : ℕ) (run : GivenTurns) (h : RunsCopy go work count run) (some : 0 < run.count) where
   abbrev c : Copying
   c = copying go work count run h some
 
   -- a thread that goes on has executed no more than the program has before its DMAEND
-  within_count : {image : List ℕ} {th : Thread} → Going c image th → th.channel.taken ≤ count
+  pub within_count : {image : List ℕ} {th : Thread} → Going c image th → th.channel.taken ≤ count
   within_count {th = th} g =
       let taken_is : th.channel.taken ≡ g.runs.0 = g.runs.1.taken in
       omega (arith, taken_is, g.runs.1.within)
@@ -196,9 +204,7 @@ module _ (go : Go) (work : Work) (count : ℕ) (run : GivenTurns) (h : RunsCopy 
   awake j least may th e wait is in_program long =
       let d = run.before j in
       let w = may th e wait is in_program long in
-      let below : e < 32 = omega (arith, w.0.events, w.0.event) in
-      let bit : bit_at d.inten e ≡ 0 = omega (arith, w.1.1, bit_at-lt d.inten e) in
-      flag_of_bit (visible_events d) e below (omega (arith, seen_bit d e below w.0.inten, bit, w.1.0))
+      flag_of_bit (visible_events d) e (omega (arith, w.0.events, w.0.event)) (visible_bit d e w)
 
   module _ (fit : (k : ℕ) → k < run.count → IsFit go work count (run.before k) (run.lent k)) (ready : ReadyTurns go count run) where
     rises : (a b : ℕ) → a + b ≤ count → ready.turn a ≤ ready.turn (a + b)

@@ -1,5 +1,5 @@
 -- Turns that are ready: each of a run's turns, and those of a program that waits.
-use Rattle.std.proofs.Common.{◌≡◌, ℕ, zero, suc, ◌+◌, ◌<◌, ◌≤◌, false, List, [], ◌∷◌, get_or, refl, subst, arith, Bool, Result, Ok}
+use Rattle.std.proofs.Common.{◌≡◌, ℕ, zero, suc, ◌+◌, ◌<◌, ◌≤◌, true, false, List, [], ◌∷◌, get_or, refl, subst, arith, Bool, Result, Ok}
 use Rattle.dma_insn.specs.declared.chip.ChipInsn.{ChipInsn}
 use Rattle.dma_insn.specs.declared.chip.ChipInsn.TheVariants.{Wfe}
 use Rattle.dma_mem.specs.Flags.{flags_of}
@@ -11,7 +11,7 @@ use Rattle.dma_device.specs.Copies.{IsFit}
 use Rattle.dma_device.specs.Device.{DeviceValue, reset_device}
 use Rattle.dma_device.specs.Dmago.{GivenTurns, Go, RunsCopy, csr_status, start_of}
 use Rattle.dma_device.specs.Events.{IsVisible}
-use Rattle.dma_device.specs.Progress.{IsReady, MayPass, ReadyTurns}
+use Rattle.dma_device.specs.Progress.{IsReady, MayPass, ReadyTurns, vain, waits_in_vain}
 use Rattle.dma_device.specs.Run.{Board, next, run}
 use Rattle.dma_device.proofs.Progress.{dmago_finishes}
 use Rattle.dma_device.proofs.Rows.{largest}
@@ -76,6 +76,15 @@ hidden_first v = let set = v.1.0 in absurd (omega (arith, set))
 visible_second : IsVisible (turns.before 1) 1
 unfolding flags_of
 visible_second = (record { events = omega arith; event = omega arith; inten = omega arith }, (refl, λ high. absurd (omega (arith, high))))
+
+-- so the first turn waits in vain, and the others don't
+first_in_vain : waits_in_vain (turns.before 0) 3 ≡ true
+unfolding flags_of
+first_in_vain = refl
+
+one_in_vain : vain turns 3 3 ≡ 1
+unfolding flags_of
+one_in_vain = refl
 
 -- the program's first instruction is its DMAWFE, and DMAEND is the second
 first_insn : next_in program (traced (start_of go) program 0) ≡ Ok (Wfe 1 false)

@@ -1,15 +1,25 @@
 -- A program that copies, and that a DMAGO starts, finishes.
-use Rattle.std.specs.Prelude.{◌≡◌, ℕ, ◌+◌, ◌-◌, ◌<◌, ◌≤◌, Some, IfSome, slice_get}
+use Rattle.std.specs.Prelude.{◌≡◌, ◌≢◌, ℕ, zero, suc, ◌+◌, ◌-◌, ◌<◌, ◌≤◌, ◌==◌, ◌&&◌, not, Bool, true, false, Some, Result, Ok, IfSome, slice_get}
+use Rattle.std.specs.Int.{bit_at}
+use Rattle.std.specs.Option.{option_map_or}
+use Rattle.dma_insn.specs.ControlWord.{flag}
+use Rattle.dma_insn.specs.declared.chip.ChipInsn.{ChipInsn}
+use Rattle.dma_insn.specs.declared.chip.ChipInsn.TheVariants.{Wfe}
 use Rattle.dma_mem.specs.Places.{Descriptor}
 use Rattle.dma_mem.specs.Rules.{IsTransfer}
+use Rattle.dma_chan.specs.Channel.{ahead_of}
 use Rattle.dma_chan.specs.Compiled.{compiled_on, cost_on}
 use Rattle.dma_chan.specs.Explains.{IsIn, IsSignal, IsWait, Work, all_of, only}
 use Rattle.dma_chan.specs.declared.explain.Amounts.{Amounts}
+use Rattle.dma_chan.specs.declared.turn.FaultKind.{FaultKind}
 use Rattle.dma_device.specs.Copies.{HasEvents, IsFit}
 use Rattle.dma_device.specs.Device.{DeviceValue, irqs}
 use Rattle.dma_device.specs.Dmago.{Go, RunsCopy, GivenTurns, bus_of, csr_status, start_of}
 use Rattle.dma_device.specs.Events.{IsVisible}
+use Rattle.dma_device.specs.Idle.{IsAtWait}
 use Rattle.dma_device.specs.Interrupts.{HasLine, IsHigh}
+use Rattle.dma_device.specs.Thread.{runs}
+use Rattle.dma_device.specs.Turns.{visible_events}
 use Rattle.dma_device.specs.declared.thread.Thread.{Thread}
 
 -- If the channel's next instruction is a DMAWFE, and it has executed at least `least` instructions before, then it
@@ -41,6 +51,46 @@ DmagoFinishes =
     ((k : ℕ) → k < run.count → IsFit go w n (run.before k) (run.lent k)) →
     (ready : ReadyTurns go n run) →
     (k : ℕ) → ready.turn n ≤ k → k < run.count → csr_status (run.after k) go.channel ≡ 0
+
+-- ---- a host that knows nothing of programs
+
+-- whether an instruction is a DMAWFE of an event whose flag is clear
+abbrev pub is_clear_wait : ℕ → Result ChipInsn FaultKind → Bool
+is_clear_wait flags (Ok (Wfe e invalid)) = not (bit_at flags e == 1)
+is_clear_wait flags next = false
+
+-- Whether thread n runs, and its next instruction is a DMAWFE of an event that isn't set, or that INTEN makes an
+-- interrupt. A turn of at least one step that begins so waits in vain (`WaitsInVain`).
+abbrev pub waits_in_vain : DeviceValue → ℕ → Bool
+waits_in_vain d n =
+    option_map_or (λ t. runs t && is_clear_wait (visible_events d) (ahead_of t.channel)) (slice_get d.threads n) false
+
+-- how many of a channel's first k turns begin so
+abbrev pub vain : GivenTurns → ℕ → ℕ → ℕ
+vain run zero channel = 0
+vain run (suc k) channel = vain run k channel + flag (waits_in_vain (run.before k) channel)
+
+-- If the device and the regions are fit in each turn, and each may take a step, then as long as the channel's CSR
+-- doesn't read as stopped after a turn, at most n of the turns up to this one didn't wait in vain. So after n + 1 turns
+-- that don't wait in vain CSR reads as stopped, however many others there are.
+abbrev pub TheLoopFinishes : Type 0
+TheLoopFinishes =
+    (go : Go) (w : Work) (n : ℕ) (run : GivenTurns) → RunsCopy go w n run →
+    ((k : ℕ) → k < run.count → IsFit go w n (run.before k) (run.lent k)) →
+    ((k : ℕ) → k < run.count → 1 ≤ run.most k) →
+    (k : ℕ) → k < run.count → csr_status (run.after k) go.channel ≢ 0 →
+    k + 1 ≤ n + vain run (k + 1) go.channel
+
+-- Each turn that begins so is at a DMAWFE of which `WaitsInVain` speaks: if the device is sound, and the turn may take
+-- a step, it changes only the thread's status and CPC.
+abbrev pub VainTurnsWait : Type 0
+VainTurnsWait =
+    (go : Go) (w : Work) (n : ℕ) (run : GivenTurns) → RunsCopy go w n run →
+    ((k : ℕ) → k < run.count → IsFit go w n (run.before k) (run.lent k)) →
+    (k : ℕ) → k < run.count → waits_in_vain (run.before k) go.channel ≡ true →
+    (t : Thread) × (event : ℕ) × IsAtWait (run.before k) go.channel t event
+
+-- ---- its interrupts
 
 -- the line of event i was high after one of the turns up to number k
 pub record WasHigh (run : GivenTurns) (i k : ℕ) : Type 0 where

@@ -8,7 +8,7 @@ ghost use Rattle.dma_device.specs.Faults.{AbortIsFaulting, AbortsAreExact, Fault
 ghost use Rattle.dma_device.specs.Frame.{BytesDontMatter, LikeReadsLike, RegionBytesDontMatter, TurnLeavesOthers, WriteLeavesThreads};
 ghost use Rattle.dma_device.specs.Idle.{NothingHappens, StaySound, TurnChanges, WaitsInVain};
 ghost use Rattle.dma_device.specs.Interrupts.{InterruptsAreExact};
-ghost use Rattle.dma_device.specs.Progress.{CompiledGoesOn, CompiledHasEvents, CompiledSignals, DmagoFinishes, DmagoSignals};
+ghost use Rattle.dma_device.specs.Progress.{CompiledGoesOn, CompiledHasEvents, CompiledSignals, DmagoFinishes, DmagoSignals, TheLoopFinishes, VainTurnsWait};
 ghost use Rattle.dma_device.specs.RowTurns.{RowsWriteEach};
 ghost use Rattle.dma_device.specs.Snapshot.{DamageIsRefused};
 ghost use Rattle.dma_device.specs.Run.{RunsStepByStep};
@@ -51,12 +51,16 @@ pub fn a_dmago_never_fails()
 /// Such a program finishes: CSR reads as stopped after as many ready turns as the program executes instructions with
 /// its DMAEND, if the regions and the device are as for `a_dmago_never_fails` in each turn. A turn is ready if it may
 /// take a step and doesn't begin at a DMAWFE of an event that isn't set, or that INTEN makes an interrupt. A host may
-/// give the channel any other turns between them, as while it waits (`nothing_happens`). If the program has a DMASEV of
-/// an event that INTEN makes an interrupt, the event's line was high after one of the turns. Of a program that is
-/// compiled for the device's bus only the first ready turn needs the event that its transfer waits for, and it has a
-/// DMASEV of the event that its transfer signals, when all bytes are stored.
+/// give the channel any other turns between them, as while it waits (`nothing_happens`). So it needn't know the
+/// program: if each turn may take a step, then as long as CSR doesn't read as stopped, no more turns began at anything
+/// but such a DMAWFE than the program executes instructions before its DMAEND. The others only wait. If the program has
+/// a DMASEV of an event that INTEN makes an interrupt, the event's line was high after one of the turns. Of a program
+/// that is compiled for the device's bus only the first ready turn needs the event that its transfer waits for, and it
+/// has a DMASEV of the event that its transfer signals, when all bytes are stored.
 pub fn a_dmago_finishes()
     ensures finishes { DmagoFinishes }
+    ensures loop_finishes { TheLoopFinishes }
+    ensures vain { VainTurnsWait }
     ensures signals { DmagoSignals }
     ensures has_events { CompiledHasEvents }
     ensures goes_on { CompiledGoesOn }
