@@ -36,7 +36,7 @@ use Rattle.dma_device.proofs.Writes.{turn_writes_each}
 use Rattle.dma_device.proofs.Found.{set_found, set_other}
 
 -- the channel of a thread, and the program of a channel, if there is one
-abbrev channel_if : Option Thread → Option ChannelValue
+abbrev pub channel_if : Option Thread → Option ChannelValue
 channel_if thread = option_map (λ t. t.channel) thread
 
 abbrev program_if : Option ChannelValue → Option ProgramValue
@@ -46,11 +46,11 @@ program_if channel = option_and_then (λ c. c.program) channel
 
 module _ (start : Registers) (program : List ℕ) (work : Work) (count : ℕ) (h : Explains start program work count) (n : ℕ) where
   -- the channel still executes the program, or has no program
-  abbrev InCopy : Option ChannelValue → Type 0
+  abbrev pub InCopy : Option ChannelValue → Type 0
   InCopy None = Unit {0}
   InCopy (Some c) = Executes start program count c ⊎ (c.program ≡ None)
 
-  abbrev HasCopy : DeviceValue → Type 0
+  abbrev pub HasCopy : DeviceValue → Type 0
   HasCopy d = InCopy (channel_of d n)
 
   found_copy : (d : DeviceValue) (th : Thread) → slice_get d.threads n ≡ Some th → HasCopy d → Executes start program count th.channel ⊎ (th.channel.program ≡ None)
@@ -92,7 +92,7 @@ module _ (start : Registers) (program : List ℕ) (work : Work) (count : ℕ) (h
   middle_copy : (d : DeviceValue) (regions : List Region) (most : ℕ) → HasCopy d → HasCopy (first_in d regions n most).left.device
   middle_copy d regions most g = after_call (marks_in regions) (begins d n most) most (setup_of d regions) (begins_runs d n most) g
 
-  after_turn : (d : DeviceValue) (regions : List Region) (most : ℕ) (e : DeviceValue) (left : List Region) (turn : Turn) → HasCopy d → TakesTurn d regions n most e left turn → HasCopy e
+  pub after_turn : (d : DeviceValue) (regions : List Region) (most : ℕ) (e : DeviceValue) (left : List Region) (turn : Turn) → HasCopy d → TakesTurn d regions n most e left turn → HasCopy e
   after_turn d regions most e left turn g x =
       let first = first_in d regions n most in
       let m = first.left.device in

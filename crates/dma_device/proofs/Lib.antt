@@ -37,3 +37,4 @@ pub mod Progress
 pub mod Signalled
 pub mod Rows
 pub mod Readiness
+pub mod Boards

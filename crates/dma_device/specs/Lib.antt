@@ -19,4 +19,5 @@ pub mod Dmago
 pub mod Copies
 pub mod Explaining
 pub mod Progress
+pub mod Board
 pub mod inner
