@@ -37,7 +37,7 @@ use Rattle.dma_device.proofs.Writes.{turn_writes_each}
 use Rattle.dma_device.proofs.Found.{set_found, set_other}
 
 -- the channel of a thread, and the program of a channel, if there is one
-abbrev channel_if : Option Thread → Option ChannelValue
+abbrev pub channel_if : Option Thread → Option ChannelValue
 channel_if thread = option_map (λ t. t.channel) thread
 
 abbrev program_if : Option ChannelValue → Option ProgramValue
@@ -50,10 +50,10 @@ abbrev Copies : Work → ChannelValue → Type 0
 Copies work c = (start : Registers) × (program : List ℕ) × (count : ℕ) × Explains start program work count × Executes start program count c
 
 module _ (work : Work) (n : ℕ) where
-  abbrev InCopy : Option ChannelValue → Type 0
+  abbrev pub InCopy : Option ChannelValue → Type 0
   InCopy o = IfSome o (Holds (Some work))
 
-  abbrev HasCopy : DeviceValue → Type 0
+  abbrev pub HasCopy : DeviceValue → Type 0
   HasCopy d = HasWork work d n
 
   found_copy : (d : DeviceValue) (th : Thread) → slice_get d.threads n ≡ Some th → HasCopy d → (th.channel.program ≡ None) ⊎ Copies work th.channel
@@ -98,7 +98,7 @@ module _ (work : Work) (n : ℕ) where
   middle_copy : (d : DeviceValue) (regions : List Region) (most : ℕ) → HasCopy d → HasCopy (first_in d regions n most).left.device
   middle_copy d regions most g = after_call (marks_in regions) (begins d n most) most (setup_of d regions) (begins_runs d n most) g
 
-  after_turn : (d : DeviceValue) (regions : List Region) (most : ℕ) (e : DeviceValue) (left : List Region) (turn : Turn) → HasCopy d → TakesTurn d regions n most e left turn → HasCopy e
+  pub after_turn : (d : DeviceValue) (regions : List Region) (most : ℕ) (e : DeviceValue) (left : List Region) (turn : Turn) → HasCopy d → TakesTurn d regions n most e left turn → HasCopy e
   after_turn d regions most e left turn g x =
       let first = first_in d regions n most in
       let m = first.left.device in

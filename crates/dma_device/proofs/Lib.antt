@@ -40,3 +40,4 @@ pub mod Vain
 pub mod Rows
 pub mod Readiness
 pub mod OneByte
+pub mod Boards

@@ -36,11 +36,15 @@ start_of go = (slice_index_or go.device.threads go.channel (reset_thread go.devi
 abbrev pub bus_of : Go → Bus
 bus_of go = (start_of go).bus
 
+-- what it writes to DBGINST0: the manager is to execute a DMAGO of the channel
+abbrev pub dmago_word : Go → ℕ
+dmago_word go = (0xA0 + 2 * flag go.nonsecure) * 2 ^ 16 + go.channel * 2 ^ 24
+
 -- the device after its writes to DBGINST0, DBGINST1 and DBGCMD
 abbrev pub started_by : Go → DeviceValue
 started_by go =
-    let dmago = (0xA0 + 2 * flag go.nonsecure) * 2 ^ 16 + go.channel * 2 ^ 24 in
-    written go.ram offset.dbgcmd 0 (written go.ram offset.dbginst1 go.addr (written go.ram offset.dbginst0 dmago go.device))
+    let readied = written go.ram offset.dbginst1 go.addr (written go.ram offset.dbginst0 (dmago_word go) go.device) in
+    written go.ram offset.dbgcmd 0 readied
 
 -- bits 3:0 of CSR n, as a read returns them: 0 if the channel is stopped
 abbrev pub csr_status : DeviceValue → ℕ → ℕ

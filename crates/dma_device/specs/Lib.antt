@@ -20,4 +20,5 @@ pub mod Copies
 pub mod Explaining
 pub mod Underway
 pub mod Progress
+pub mod Board
 pub mod inner

@@ -1,5 +1,6 @@
 //! Laws of devices. Each law is the postcondition of a function that does nothing.
 
+ghost use Rattle.dma_device.specs.Board.{ABoardCopies, BoardRunsCopy, BoardSpares, BoardStaysIn};
 ghost use Rattle.dma_device.specs.Copies.{DmagoCopies, DmagoInterrupts, DmagoInterruptsEach, DmagoNeverFails};
 ghost use Rattle.dma_device.specs.Dmago.{ImageHasBytes};
 ghost use Rattle.dma_device.specs.Events.{EventsAreExact, TakenWasSet, WaitsForUnset};
@@ -65,6 +66,20 @@ pub fn a_dmago_finishes()
     ensures has_events { CompiledHasEvents }
     ensures goes_on { CompiledGoesOn }
     ensures has_sev { CompiledSignals }
+{}
+
+/// A board has several devices over one memory. From the DMAGO on, any events on all devices happen in any order:
+/// register accesses, turns of channels, bytes that the processor writes, resets and restores. If of all these only the
+/// channel's own turns change its thread, then each of them writes only destinations and zeros of the work that
+/// explains its program, and reads only the sources. If besides only they write addresses that the work uses, then the
+/// work is done from the memory at the DMAGO once the channel's CSR reads as stopped, and the channel's turns are such
+/// as `a_dmago_copies`, `a_dmago_never_fails` and `a_dmago_finishes` speak of. So several channels copy at once, if the
+/// work of none writes an address that the work of another uses.
+pub fn a_board_copies()
+    ensures copies { ABoardCopies }
+    ensures runs { BoardRunsCopy }
+    ensures stays { BoardStaysIn }
+    ensures spares { BoardSpares }
 {}
 
 /// While a channel executes the program that a DMAGO gave it, its turns write only destinations and ranges of zeros

@@ -29,7 +29,10 @@
 //! reads and writes, none that it writes is read-only, and the device has the program's events
 //! (`laws::a_dmago_never_fails`). It then finishes after as many ready turns as it executes instructions, whatever
 //! turns it gets besides, and the line of the event of each DMASEV was high (`laws::a_dmago_finishes`). A turn is ready
-//! that doesn't begin at a DMAWFE of an event that isn't set; one that does only waits (`laws::nothing_happens`).
+//! that doesn't begin at a DMAWFE of an event that isn't set; one that does only waits (`laws::nothing_happens`). All
+//! this holds on a board with several devices over one memory, whatever happens there in any order, if only the
+//! channel's own turns change its thread and write addresses that the program's work uses; so several channels of any
+//! devices copy at once (`laws::a_board_copies`).
 //!
 //! [`device::Device::explain`] returns what the program of a channel copies and sets to 0, or why nothing explains it:
 //! for a debugger, and for a host that refuses a DMAGO whose program touches what it must not. From the DMAGO on, until
