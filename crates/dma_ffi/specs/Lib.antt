@@ -7,6 +7,7 @@ pub mod Programs
 pub mod Calls
 pub mod Channels
 pub mod Devices
+pub mod DeviceSessions
 pub mod Laws
 pub mod ChannelLaws
 pub mod Explaining

@@ -1,6 +1,7 @@
 //! Laws about what calls from C return and write. Each law is the clause of a function that does nothing.
 
 ghost use Rattle.dma_ffi.specs.ChannelLaws.{LoadsATransfer, StepsAreCalls, StepsCopy, StepsKeepTheRest};
+ghost use Rattle.dma_ffi.specs.DeviceSessions.{DeviceSessionsAreHistories};
 ghost use Rattle.dma_ffi.specs.Devices.{CallsAreAccesses, RowsKeepTheRest, TurnsKeepTheRest};
 ghost use Rattle.dma_ffi.specs.Laws.{CallsAreTheEngines, ExchangesAreTheEngines, SessionsAreTheEngines};
 
@@ -34,6 +35,13 @@ pub fn channel_calls_copy()
 /// holds of C's reads, writes, turns, resets and restores over the same regions.
 pub fn device_calls_are_accesses()
     ensures { CallsAreAccesses }
+{}
+
+/// All calls from C on an open device, one after another, are one history of accesses: its accesses are those of the
+/// calls, in order, and their answers are what the calls returned and wrote. Turns in a row are as many turns as they
+/// report, a restore that fails with `BAD_SAVE` is a reset, and any other call that is refused makes no access.
+pub fn device_sessions_are_histories()
+    ensures { DeviceSessionsAreHistories }
 {}
 
 /// A turn of a device's channel from C, whatever its program is, changes no byte outside the range that it reports, and

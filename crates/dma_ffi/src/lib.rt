@@ -8,7 +8,8 @@
 //! many bytes as the channel counts, and all when a report says that it signalled or ended, if nobody else writes what
 //! the transfer reads or writes meanwhile (`laws::channel_calls_copy`). A call that explains a program writes what
 //! explains it, or why and where it can't (`specs/Explaining.antt`); a call that plans writes the program of its
-//! transfer for a bus (`PlansTransfer`).
+//! transfer for a bus (`PlansTransfer`). All calls on an open device, however many, are one history of the accesses that
+//! the laws of `dma_device` are about (`laws::device_sessions_are_histories`).
 //!
 //! The proofs assume that the caller fulfils its duties (docs/EMBEDDING.md). Controllers and channels are zeros before
 //! their first call, are not copied, and are used by one call at a time, ordered by a lock, a start, a join or a
