@@ -325,9 +325,43 @@ static void takes_all_steps(void)
 
 /* ---- refusals ---- */
 
+/* Returns whether a channel of the device has these registers and counts, and the addresses and loop counters that a read
+ * of its registers returns. */
+static bool has_registers(uint8_t channel, uint32_t pc, bool is_loaded, uint32_t taken, uint64_t stored)
+{
+    dma330_registers r = {7, 7, 7, 7, 7, 7, 7, 7, 7};
+    uint32_t at = 0x20u * channel;
+
+    return dma330_device_registers(&m.device, channel, &r) == DMA330_OK && r.pc == pc && r.is_loaded == is_loaded &&
+           r.taken == taken && r.stored == stored && r.sar == get(&m, SAR + at) && r.dar == get(&m, DAR + at) &&
+           r.ccr == get(&m, CCR + at) && r.lc0 == get(&m, LC0 + at) && r.lc1 == get(&m, LC1 + at);
+}
+
+/* The eighth instruction of a copy is its first store, of 64 bytes (put_copy). */
+static void writes_counts(void)
+{
+    dma330_registers r = {7, 7, 7, 7, 7, 7, 7, 7, 7}, unwritten = r;
+
+    set_up(&m, plain(3, 4, false));
+    put_copy(&m, LOW + 0x2000, NO_EVENT, LOW, NEXT, 1, NO_EVENT);
+    check(has_registers(2, 0, false, 0, 0), "after a reset", 2);
+    start(&m, 2, LOW + 0x2000);
+    check(has_registers(2, 0, true, 0, 0), "after a DMAGO", 2);
+    check(turn(&m, 2, 7) && has_registers(2, 24, true, 7, 0), "before a store", 2);
+    check(turn(&m, 2, 1) && has_registers(2, 25, true, 8, 64), "after it", 2);
+    stop(&m, 2);
+    check(has_registers(2, 25, false, 8, 64) && has_registers(0, 0, false, 0, 0), "after a stop", 2);
+    check(dma330_device_registers(&m.device, 3, &r) == DMA330_NO_CHANNEL, "no such channel", 3);
+    check(dma330_device_registers(&m.device, 255, &r) == DMA330_NO_CHANNEL, "no such channel", 255);
+    check(memcmp(&r, &unwritten, sizeof r) == 0, "which writes nothing", 3);
+    tear_down(&m);
+}
+
 static void refuses_a_closed_device(dma330_device *device)
 {
     dma330_device_turn t = {{7, 7}, 7, 7};
+    dma330_device_rows rows = {{7, 7}, 7, 7, 7, 7, 7}, unwritten = rows;
+    dma330_registers r = {7, 7, 7, 7, 7, 7, 7, 7, 7};
     uint32_t value = 7;
 
     lend(&m);
@@ -337,6 +371,9 @@ static void refuses_a_closed_device(dma330_device *device)
     check(dma330_device_write(device, INTEN, 1, m.regions, REGIONS) == DMA330_NOT_OPEN, "a write", 0);
     check(dma330_device_step(device, 0, 1, m.regions, REGIONS, &t) == DMA330_NOT_OPEN, "a turn", 0);
     check(t.written.addr == 7 && t.written.len == 7 && t.lines_changed == 7 && t.can_step == 7, "its report", 0);
+    check(dma330_device_step_rows(device, 0, 1, m.regions, REGIONS, &rows) == DMA330_NOT_OPEN, "several turns", 0);
+    check(memcmp(&rows, &unwritten, sizeof rows) == 0, "their report", 0);
+    check(dma330_device_registers(device, 0, &r) == DMA330_NOT_OPEN && r.taken == 7, "registers", 0);
     check(dma330_device_irqs(device, &value) == DMA330_NOT_OPEN && value == 7, "the lines", 0);
     check(dma330_device_irq_abort(device, &value) == DMA330_NOT_OPEN && value == 7, "a line", 0);
     check(dma330_device_can_step(device, &value) == DMA330_NOT_OPEN && value == 7, "a question", 0);
@@ -349,6 +386,7 @@ static bool are_refused(const dma330_region *regions, size_t count)
     static const uint32_t offsets[] = {DBGCMD, INTEN, CR0, 1};
     static dma330_region lent[65];
     dma330_device_turn t = {{7, 7}, 7, 7};
+    dma330_device_rows rows = {{7, 7}, 7, 7, 7, 7, 7}, unwritten = rows;
     bool holds = true;
 
     memcpy(lent, regions, count * sizeof regions[0]);
@@ -356,7 +394,9 @@ static bool are_refused(const dma330_region *regions, size_t count)
         holds = holds && dma330_device_write(&m.device, offsets[n], 0, lent, count) == DMA330_BAD_REGIONS;
     for (uint32_t n = 0; n < 256; n += 5)
         holds = holds && dma330_device_step(&m.device, (uint8_t)n, n % 2, lent, count, &t) == DMA330_BAD_REGIONS;
-    return holds && t.written.addr == 7 && t.written.len == 7 && t.lines_changed == 7 && t.can_step == 7;
+    for (uint32_t n = 0; n < 256; n += 5)
+        holds = holds && dma330_device_step_rows(&m.device, (uint8_t)n, n % 2, lent, count, &rows) == DMA330_BAD_REGIONS;
+    return holds && memcmp(&rows, &unwritten, sizeof rows) == 0 && t.written.addr == 7 && t.written.len == 7 && t.lines_changed == 7 && t.can_step == 7;
 }
 
 static void refuses_regions(void)
@@ -404,6 +444,7 @@ int main(void)
         for (uint32_t bus_code = 2; bus_code <= 4; bus_code++)
             has_beats(8u << bus_code, bus_code, code);
     takes_all_steps();
+    writes_counts();
     refuses_a_closed_device(&device);
     refuses_regions();
     return end_checks();

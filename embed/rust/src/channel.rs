@@ -44,7 +44,7 @@ pub struct ChannelSteps {
     pub written: Segment,
 }
 
-/// The registers and counts of a [`Channel`].
+/// The registers and counts of a [`Channel`], or of a channel of a [`Device`](crate::Device).
 #[derive(Clone, Copy, Debug, Default, PartialEq, Eq, Hash)]
 pub struct Registers {
     /// The offset of the next instruction in the program.
@@ -65,6 +65,11 @@ pub struct Registers {
     pub taken: u32,
     /// The number of bytes stored since then.
     pub stored: u64,
+}
+
+pub(crate) fn registers_of(raw: sys::RawRegisters) -> Registers {
+    let sys::RawRegisters { pc, sar, dar, ccr, lc0, lc1, is_loaded, taken, stored } = raw;
+    Registers { pc, sar, dar, ccr, lc0, lc1, is_loaded: is_loaded != 0, taken, stored }
 }
 
 fn turn_of(report: &sys::RawChannelReport) -> ChannelTurn {
@@ -169,8 +174,7 @@ impl Channel {
 
     /// Returns the registers and counts.
     pub fn registers(&self) -> Registers {
-        let sys::RawRegisters { pc, sar, dar, ccr, lc0, lc1, is_loaded, taken, stored } = self.handle.registers();
-        Registers { pc, sar, dar, ccr, lc0, lc1, is_loaded: is_loaded != 0, taken, stored }
+        registers_of(self.handle.registers())
     }
 
     /// Marks a range, inside the memory or not, in which loads or stores of this channel, by `kind`, fail from then on.

@@ -1,7 +1,8 @@
 //! The registers of a DMA-330 over memory of the caller.
 
+use crate::channel::registers_of;
 use crate::explain::{explanation_of, work_of};
-use crate::{sys, Error, Explanation, Region, Segment, Work};
+use crate::{sys, Error, Explanation, Region, Registers, Segment, Work};
 use std::fmt;
 
 /// The width of a [`Device`]'s data bus. A wider beat is an invalid operand.
@@ -186,6 +187,14 @@ impl Device {
             lines_changed: rows.lines_changed != 0,
             can_step: rows.can_step != 0,
         })
+    }
+
+    /// Returns the registers and counts of a channel. After a DMAGO the first `stored` bytes of an explained program are
+    /// done, after each turn, also if the channel then waits or is faulting.
+    ///
+    /// Fails with `NoChannel`.
+    pub fn registers(&self, channel: u8) -> Result<Registers, Error> {
+        self.handle.registers(channel).map(registers_of)
     }
 
     /// Returns what the program copies that a DMAGO loaded into a channel, as [`explain`](crate::explain) does on the

@@ -354,6 +354,7 @@ extern "C" {
         count: usize,
         turn: *mut RawDeviceTurn,
     ) -> i32;
+    fn dma330_device_registers(device: *mut RawDevice, channel: u8, registers: *mut RawRegisters) -> i32;
     fn dma330_device_step_rows(
         device: *mut RawDevice,
         channel: u8,
@@ -780,6 +781,12 @@ impl DeviceHandle {
         let (lent, count) = (regions.as_ptr(), regions.len());
         let code = unsafe { dma330_device_step(self.raw.get_mut(), channel, most, lent, count, &mut turn) };
         checked(code, turn)
+    }
+
+    pub fn registers(&self, channel: u8) -> Result<RawRegisters, Error> {
+        let mut registers = RawRegisters::default();
+        let code = unsafe { dma330_device_registers(self.raw.get(), channel, &mut registers) };
+        checked(code, registers)
     }
 
     pub fn step_rows(&mut self, channel: u8, most: u32, regions: &mut [Region<'_>]) -> Result<RawDeviceRows, Error> {

@@ -1,7 +1,7 @@
 //! Tests of `Device`: embed/tests has the tests of its registers. Here are those of the crate's own code: each call
 //! gives what the library's does.
 
-use dma330::{assemble, BusWidth, Device, DeviceConfig, DeviceTurn, Error, Region, Revision, Segment};
+use dma330::{assemble, BusWidth, Device, DeviceConfig, DeviceRows, DeviceTurn, Error, Region, Revision, Segment};
 use std::thread;
 
 const RAM: u32 = 0x8000_0000;
@@ -148,5 +148,32 @@ fn a_saved_device_goes_on_elsewhere() -> Result<(), Error> {
     device.write(0x020, 5, &[])?;
     assert_eq!(device.restore(&save[1..]), Err(Error::BadSave));
     assert_eq!((device.read(0x020), device.can_step()), (0, false));
+    Ok(())
+}
+
+#[test]
+fn rows_are_turns() -> Result<(), Error> {
+    // The registers of COPY, and four rows of four bytes, 8 bytes apart in the source and 16 in the destination.
+    let mut program = assemble(COPY)?;
+    program.truncate(18);
+    program.extend([0x20, 3, 0x04, 0x08, 0x54, 4, 0, 0x56, 12, 0, 0x38, 8, 0]);
+    let mut ram: Vec<u8> = (0..=255).cycle().take(0x1000).collect();
+    let mut device = Device::open(CONFIG)?;
+    start(&mut device, &mut ram, "DMAEND")?;
+    ram[..program.len()].copy_from_slice(&program);
+    let mut lent = [Region::new(RAM, &mut ram)];
+    device.step(1, 1, &mut lent)?;
+    device.write(0xD04, 0, &lent)?;
+    assert_eq!(device.step_rows(1, 1000, &mut lent)?.ranges().map(|range| range.len).collect::<Vec<u32>>(), [0]);
+    let rows = device.step_rows(1, 1000, &mut lent)?;
+    let written = Segment { addr: RAM + 0x200, len: 4 };
+    assert_eq!(rows, DeviceRows { written, pitch: 16, count: 3, steps: 5, lines_changed: false, can_step: true });
+    let addrs: Vec<u32> = rows.ranges().map(|range| range.addr).collect();
+    assert_eq!(addrs, [RAM + 0x200, RAM + 0x210, RAM + 0x220]);
+    let registers = device.registers(1)?;
+    assert_eq!((registers.taken, registers.stored, registers.lc0), (4 + 3 * 5, 12, 0));
+    assert_eq!(device.registers(2).err(), Some(Error::NoChannel));
+    assert!(!device.step_rows(1, 1000, &mut lent)?.can_step);
+    assert_eq!((&ram[0x200..0x204], &ram[0x230..0x234]), (&[0, 1, 2, 3][..], &[24, 25, 26, 27][..]));
     Ok(())
 }
