@@ -153,7 +153,7 @@ fn a_saved_device_goes_on_elsewhere() -> Result<(), Error> {
 
 #[test]
 fn rows_are_turns() -> Result<(), Error> {
-    // The registers of COPY, and four rows of four bytes, 8 bytes apart in the source and 16 in the destination.
+    // The registers of COPY, and four rows of four bytes, with pitches of 8 in the source and 16 in the destination.
     let mut program = assemble(COPY)?;
     program.truncate(18);
     program.extend([0x20, 3, 0x04, 0x08, 0x54, 4, 0, 0x56, 12, 0, 0x38, 8, 0]);
