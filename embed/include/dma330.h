@@ -779,13 +779,14 @@ int32_t dma330_device_explain_work(dma330_device *device, uint8_t channel, uint3
                                    size_t zeros_room, dma330_moment *moments, size_t moments_room,
                                    dma330_work *work) DMA330_NO_NULLS;
 
-/* Writes the registers and counts of a channel, as dma330_channel_registers does. After a DMAGO the first `stored` bytes of an
- * explained program are done, after each turn, also if the channel then waits or is faulting. Codes: NO_CHANNEL. Since
- * 1.6.0. */
+/* Writes the registers and counts of a channel, as dma330_channel_registers does. After each turn of a program that a DMAGO
+ * started and dma330_device_explain_work explained before the first turn, `stored` bytes of its `dst` and `zeros` are done, of
+ * each list the first ones, also if the channel then waits or is faulting, if nobody else writes what the program reads or
+ * writes. Codes: NO_CHANNEL. Since 1.6.0. */
 int32_t dma330_device_registers(dma330_device *device, uint8_t channel, dma330_registers *registers) DMA330_NO_NULLS;
 
-/* Writes the lines irq[31:0]. A high line stays high until the guest clears its interrupt by INTCLR, a reset, or a restore of
- * a device in which it is low. */
+/* Writes the lines irq[31:0]. A high line stays high until the guest clears its interrupt by INTCLR, a reset, or a restore
+ * of a device in which it is low. */
 int32_t dma330_device_irqs(dma330_device *device, uint32_t *lines) DMA330_NO_NULLS;
 
 /* Writes 1 if the line irq_abort is high, else 0. It is high until the guest kills each faulting thread. */

@@ -53,7 +53,8 @@ thread_same n (Writes at value) d e regions left answer does off spares =
 thread_same n (Turns m most) d e regions left answer does off spares =
     (turn_leaves_others d e regions left m most does.0 does.1.1).threads n (λ same. eqb-false m n off (sym same))
 thread_same n Resets d e regions left answer does off spares = absurd spares
-thread_same n (Restores saved) d e regions left answer does off spares = absurd spares
+thread_same n (Restores saved) d e regions left answer does off spares =
+    ap (λ (v : DeviceValue). slice_get v.threads n) does.1 ∙ spares
 thread_same n a d e regions left answer does off spares = ap (λ (v : DeviceValue). slice_get v.threads n) does.1
 
 -- an access that spares a work leaves each byte that the work uses

@@ -23,7 +23,7 @@ use Rattle.dma_chan.proofs.StepsTaken.{steps_move}
 use Rattle.dma_device.specs.Accesses.{Access, Answer, Does, Happen, Resets, Restores, Turns, Writes}
 use Rattle.dma_device.specs.CallSteps.{Executes as Steps, first_in, last_in, marks_in, signal_in}
 use Rattle.dma_device.specs.Device.{DeviceValue, is_interrupt, program_at, signalled, with_thread, written}
-use Rattle.dma_device.specs.Explaining.{CallReads, GivesNone, HasWork, IsUnderway, OnlyDmagoGives, RestoreKeepsUnderway, StaysIn, TurnStaysInWork, TurnsStayIn, UnderwayHasWork, UnderwayStays, channel_of, program_of}
+use Rattle.dma_device.specs.Explaining.{CallReads, GivesNone, HasWork, IsUnderway, OnlyDmagoGives, RestoreKeepsWork, StaysIn, TurnStaysInWork, TurnsStayIn, UnderwayHasWork, WorkStays, channel_of, program_of}
 use Rattle.dma_device.specs.Thread.{failed, killed, reset_thread, started}
 use Rattle.dma_device.specs.Turns.{Setup, TakesTurn, begins, called_if, follows, machine_in, runs_at, setup_of, steps_in}
 use Rattle.dma_device.specs.Writes.{CallWrote}
@@ -163,7 +163,7 @@ has_found_at limit x (Some c) f w = inr (has_found c.registers limit x c c.progr
 pub underway_has_work : UnderwayHasWork
 underway_has_work d n limit x finds underway = has_found_at limit x (channel_of d n) finds underway
 
-pub underway_stays : UnderwayStays
+pub underway_stays : WorkStays
 underway_stays w a d e regions left answer n does none g = after_access w n a d e regions left answer does none g
 
 pub turn_stays_in_work : TurnStaysInWork
@@ -177,7 +177,7 @@ turns_stay_in access answer before lent left all n k most limit x turn happen fi
     let same : does.0 ≡ turn = let given = sym does.1.0 ∙ reply in cc in
     turn_stays w n (before k) (lent k) most (before (k + 1)) (left k) turn here (subst (TakesTurn (before k) (lent k) n most (before (k + 1)) (left k)) same does.1.1)
 
-pub restore_keeps_underway : RestoreKeepsUnderway
+pub restore_keeps_underway : RestoreKeepsWork
 restore_keeps_underway w saved d e regions left answer n steps does =
     let same = does.1 in
     (λ underway. subst (λ (v : DeviceValue). IsUnderway v n steps) (sym same) underway, λ has. subst (λ (v : DeviceValue). HasWork w v n) (sym same) has)

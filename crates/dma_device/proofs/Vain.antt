@@ -1,6 +1,6 @@
 -- A channel whose turns don't all wait in vain finishes.
-use Rattle.std.proofs.Common.{◌≡◌, ◌≢◌, ◌∙◌, ℕ, suc, ◌+◌, ◌^◌, ◌<◌, ◌≤◌, Bool, true, false, ◌&&◌, [], Option, Some, Result, Ok, ap, refl, sym, subst, arith, inl, inr, true≢false, w32}
-use Rattle.std.specs.Prelude.{is_some, not, slice_get}
+use Rattle.std.proofs.Common.{◌≡◌, ◌≢◌, ◌∙◌, ℕ, suc, ◌+◌, ◌^◌, ◌<◌, ◌≤◌, Bool, true, false, ◌&&◌, ◌||◌, [], Option, Some, Result, Ok, ap, refl, sym, subst, arith, inl, inr, true≢false, w32}
+use Rattle.std.specs.Prelude.{is_some, nat_eq, not, slice_get}
 use Rattle.std.specs.Int.{bit_at, bit_not}
 use Rattle.std.specs.Option.{option_map_or}
 use Rattle.std.proofs.lemmas.Bool.{and_parts, cases_lt, eq-eqb, eqb-true}
@@ -21,7 +21,7 @@ use Rattle.dma_device.specs.Copies.{IsFit}
 use Rattle.dma_device.specs.Device.{DeviceValue}
 use Rattle.dma_device.specs.Dmago.{Go, RunsCopy, GivenTurns, csr_status, image_in}
 use Rattle.dma_device.specs.Idle.{IsAtWait}
-use Rattle.dma_device.specs.Progress.{TheLoopFinishes, VainTurnsWait, is_clear_wait, vain, waits_in_vain}
+use Rattle.dma_device.specs.Progress.{TheLoopFinishes, VainTurnsWait, is_clear_wait, is_vain, vain, waits_in_vain}
 use Rattle.dma_device.specs.Thread.{is_faulting, runs}
 use Rattle.dma_device.specs.Turns.{runs_at, visible_events}
 use Rattle.dma_device.specs.declared.thread.Thread.{Thread}
@@ -99,9 +99,19 @@ module _ (go : Go) (work : Work) (count : ℕ) (run : GivenTurns) (h : RunsCopy 
 pub vain_turns_wait : VainTurnsWait
 vain_turns_wait go work n run h fit k less vain = vain_wait go work n run h (omega (arith, less)) fit k less vain
 
+neither : (a b : Bool) → (a || b) ≡ false → (a ≡ false) × (b ≡ false)
+neither true b is = absurd (true≢false is)
+neither false b is = (refl, is)
+
+busy : (most : ℕ) → nat_eq most 0 ≡ false → 0 < most
+busy most is = elim (cases_lt 0 most) [
+  | inl some ↦ some
+  | inr none ↦ absurd (true≢false (sym (eq-eqb most 0 (omega (arith, none))) ∙ is))
+]
+
 -- ---- along the turns
 
-module _ (go : Go) (work : Work) (count : ℕ) (run : GivenTurns) (h : RunsCopy go work count run) (some : 0 < run.count) (fit : (k : ℕ) → k < run.count → IsFit go work count (run.before k) (run.lent k)) (steps : (k : ℕ) → k < run.count → 1 ≤ run.most k) where
+module _ (go : Go) (work : Work) (count : ℕ) (run : GivenTurns) (h : RunsCopy go work count run) (some : 0 < run.count) (fit : (k : ℕ) → k < run.count → IsFit go work count (run.before k) (run.lent k)) where
   abbrev c : Copying
   c = copying go work count run h some
 
@@ -121,26 +131,28 @@ module _ (go : Go) (work : Work) (count : ℕ) (run : GivenTurns) (h : RunsCopy 
   counts : (j : ℕ) → j < run.count → Before go work count run h some (Unit {0}) (Ahead j) j → Counts j
   counts j less g = elim g.stands [
     | inl over ↦ record { least = suc j; more = suc j; can = inl (omega arith); reached = record { thread = g.thread; is = g.is; stands = inl over }; ahead = omega arith }
-    | inr going ↦ by (waits_in_vain (run.before j) go.channel) refl going.0 going.1
+    | inr going ↦ by (is_vain run j go.channel) refl going.0 going.1
   ]
     where
       here : Going c (image_in (run.lent j)) g.thread → Ahead j g.thread → Before go work count run h some (Unit {0}) (Reached c go.channel g.thread.channel.taken) j
       here going known = record { thread = g.thread; is = g.is; stands = inr (going, record { fine = known.fine; enough = omega arith }) }
 
-      by : (b : Bool) → waits_in_vain (run.before j) go.channel ≡ b → Going c (image_in (run.lent j)) g.thread → Ahead j g.thread → Counts j
+      by : (b : Bool) → is_vain run j go.channel ≡ b → Going c (image_in (run.lent j)) g.thread → Ahead j g.thread → Counts j
       by true is going known =
           let early = known.ahead in
           let one = ap flag is in
           record { least = g.thread.channel.taken; more = g.thread.channel.taken; can = inl (omega arith); reached = here going known; ahead = omega (arith, early, one) }
       by false is going known =
           let early = known.ahead in
+          let one = ap flag is in
+          let calm = neither (nat_eq (run.most j) 0) (waits_in_vain (run.before j) go.channel) is in
           let on = going_runs c go.channel (run.before j) (image_in (run.lent j)) g.thread g.is going known.fine in
           record {
             least = g.thread.channel.taken;
             more = g.thread.channel.taken + 1;
-            can = inr (steps j less, (omega arith, awake c go.channel (run.before j) g.thread.channel.taken on is));
+            can = inr (busy (run.most j) calm.0, (omega arith, awake c go.channel (run.before j) g.thread.channel.taken on calm.1));
             reached = here going known;
-            ahead = omega (arith, early);
+            ahead = omega (arith, early, one);
           }
 
   counted : (j : ℕ) → j < run.count → Before go work count run h some (Unit {0}) (Ahead j) j → After go work count run h some (Unit {0}) (Ahead (suc j)) j
@@ -172,6 +184,6 @@ module _ (go : Go) (work : Work) (count : ℕ) (run : GivenTurns) (h : RunsCopy 
       ]
 
 pub the_loop_finishes : TheLoopFinishes
-the_loop_finishes go work n run h fit steps k less goes =
+the_loop_finishes go work n run h fit k less goes =
     let e : suc k ≡ k + 1 = omega arith in
-    subst (λ (j : ℕ). j ≤ n + vain run j go.channel) e (bounded go work n run h (omega (arith, less)) fit steps k less goes)
+    subst (λ (j : ℕ). j ≤ n + vain run j go.channel) e (bounded go work n run h (omega (arith, less)) fit k less goes)

@@ -1,5 +1,5 @@
 -- A board has several devices over one memory, on one of which a driver starts a program that copies.
-use Rattle.std.specs.Prelude.{◌≡◌, ◌≢◌, ℕ, ◌+◌, ◌-◌, ◌<◌, ◌≤◌, Bool, true, false, ◌&&◌, ◌==◌, List, length, slice_index, if◌then◌else◌}
+use Rattle.std.specs.Prelude.{◌≡◌, ◌≢◌, ℕ, ◌+◌, ◌-◌, ◌<◌, ◌≤◌, Bool, true, false, ◌&&◌, ◌==◌, List, length, slice_get, slice_index, if◌then◌else◌}
 use Rattle.std.specs.List.{Contains}
 use Rattle.dma_mem.specs.Regions.{pieces_of}
 use Rattle.dma_mem.specs.declared.regions.Region.{Region}
@@ -79,12 +79,12 @@ turns_of h b n = record {
 
 -- ---- all other events
 
--- An access to the channel's device leaves its thread alone, if it isn't its turn: it is neither a reset nor a restore
--- nor a write that may change the thread.
+-- An access to the channel's device that isn't its turn leaves its thread alone: it is no reset, no restore of another
+-- thread, and no write that may change the thread.
 abbrev pub SparesThread : ℕ → Access → DeviceValue → Type 0
 SparesThread n (Writes at value) d = ¬ MayChange (TheChannel n) at value d
 SparesThread n Resets d = ⊥
-SparesThread n (Restores saved) d = ⊥
+SparesThread n (Restores saved) d = slice_get saved.threads n ≡ slice_get d.threads n
 SparesThread n a d = Unit {0}
 
 -- An access writes no address that a work uses: neither a byte that the processor writes lies there, nor the range that

@@ -96,8 +96,8 @@ OnlyDmagoGives =
 
 -- ---- the same from any later moment on, as after a migration
 
--- Channel n has a work, if the device has the channel: it has no program, or it executes one that the work explains
--- from the registers with which the program began.
+-- Channel n has a work: the device doesn't have the channel, or the channel has no program, or it executes one that the
+-- work explains from the registers with which the program began. (So a channel without a program has every work.)
 abbrev pub HasWork : Work → DeviceValue → ℕ → Type 0
 HasWork w d n = IfSome (channel_of d n) (Holds (Some w))
 
@@ -109,14 +109,14 @@ UnderwayHasWork =
 
 -- Each access that gives the channel no program, as a turn, keeps its work. (`IsUnderway` needn't stay: a turn may
 -- change registers with which the program began.)
-abbrev pub UnderwayStays : Type 0
-UnderwayStays =
+abbrev pub WorkStays : Type 0
+WorkStays =
     (w : Work) (a : Access) (d e : DeviceValue) (regions left : List Region) (answer : Answer) (n : ℕ) →
     Does a d regions answer e left → GivesNone a n d e → HasWork w d n → HasWork w e n
 
 -- A restore leaves each channel as it was in the saved device, with its work, whatever the device was before.
-abbrev pub RestoreKeepsUnderway : Type 0
-RestoreKeepsUnderway =
+abbrev pub RestoreKeepsWork : Type 0
+RestoreKeepsWork =
     (w : Work) (saved d e : DeviceValue) (regions left : List Region) (answer : Answer) (n steps : ℕ) →
     Does (Restores saved) d regions answer e left →
     (IsUnderway saved n steps → IsUnderway e n steps) × (HasWork w saved n → HasWork w e n)

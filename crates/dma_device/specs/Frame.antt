@@ -1,4 +1,5 @@
--- What turns and writes leave as it is, and that the bytes of memory have no effect on what a device reports.
+-- What turns and writes leave as it is, and that the bytes of memory have no effect on what a turn reports and leaves in
+-- registers.
 use Rattle.std.specs.Prelude.{◌≡◌, ◌≢◌, ◌⊎◌, ℕ, ◌%◌, List, length, map, replicate, slice_get}
 use Rattle.dma_insn.specs.ControlWord.{field}
 use Rattle.dma_mem.specs.Marking.{MarkList}

@@ -1,5 +1,5 @@
 -- A program that copies, and that a DMAGO starts, finishes.
-use Rattle.std.specs.Prelude.{◌≡◌, ◌≢◌, ℕ, zero, suc, ◌+◌, ◌-◌, ◌<◌, ◌≤◌, ◌==◌, ◌&&◌, not, Bool, true, false, Some, Result, Ok, IfSome, slice_get}
+use Rattle.std.specs.Prelude.{◌≡◌, ◌≢◌, ℕ, zero, suc, ◌+◌, ◌-◌, ◌<◌, ◌≤◌, ◌==◌, ◌&&◌, ◌||◌, not, Bool, true, false, Some, Result, Ok, IfSome, slice_get}
 use Rattle.std.specs.Int.{bit_at}
 use Rattle.std.specs.Option.{option_map_or}
 use Rattle.dma_insn.specs.ControlWord.{flag}
@@ -36,8 +36,8 @@ pub record IsReady (go : Go) (n : ℕ) (run : GivenTurns) (k least : ℕ) : Type
   pub passes : MayPass go n (run.before k) least
 
 -- Some turns are ready, in rising order: number `turn 0` to number `turn n`, as many as the program executes
--- instructions with its DMAEND. Each executes at least one, so at least j come before number `turn j`. In the other
--- turns the channel may wait (`WaitsInVain`), or take no step.
+-- instructions with its DMAEND. Until the program ends, each executes at least one, so at least j come before number
+-- `turn j`. The other turns may be any.
 pub record ReadyTurns (go : Go) (n : ℕ) (run : GivenTurns) : Type 0 where
   pub turn : ℕ → ℕ
   pub rising : (j : ℕ) → j < n → turn j < turn (j + 1)
@@ -60,29 +60,33 @@ is_clear_wait flags (Ok (Wfe e invalid)) = not (bit_at flags e == 1)
 is_clear_wait flags next = false
 
 -- Whether thread n runs, and its next instruction is a DMAWFE of an event that isn't set, or that INTEN makes an
--- interrupt. A turn of at least one step that begins so waits in vain (`WaitsInVain`).
+-- interrupt. By `VainTurnsWait` and `WaitsInVain` such a turn of at least one step only waits, if the device has the
+-- event, as in `IsFit`.
 abbrev pub waits_in_vain : DeviceValue → ℕ → Bool
 waits_in_vain d n =
     option_map_or (λ t. runs t && is_clear_wait (visible_events d) (ahead_of t.channel)) (slice_get d.threads n) false
 
--- how many of a channel's first k turns begin so
+-- whether turn number k of a channel begins so, or may take no step
+abbrev pub is_vain : GivenTurns → ℕ → ℕ → Bool
+is_vain run k channel = run.most k == 0 || waits_in_vain (run.before k) channel
+
+-- how many of a channel's first k turns are vain
 abbrev pub vain : GivenTurns → ℕ → ℕ → ℕ
 vain run zero channel = 0
-vain run (suc k) channel = vain run k channel + flag (waits_in_vain (run.before k) channel)
+vain run (suc k) channel = vain run k channel + flag (is_vain run k channel)
 
--- If the device and the regions are fit in each turn, and each may take a step, then as long as the channel's CSR
--- doesn't read as stopped after a turn, at most n of the turns up to this one didn't wait in vain. So after n + 1 turns
--- that don't wait in vain CSR reads as stopped, however many others there are.
+-- If the device and the regions are fit in each turn, then as long as the channel's CSR doesn't read as stopped after a
+-- turn, at most n of the turns up to this one aren't vain: may take a step, and don't begin at a DMAWFE that waits. So
+-- after n + 1 such turns CSR reads as stopped, however many others there are.
 abbrev pub TheLoopFinishes : Type 0
 TheLoopFinishes =
     (go : Go) (w : Work) (n : ℕ) (run : GivenTurns) → RunsCopy go w n run →
     ((k : ℕ) → k < run.count → IsFit go w n (run.before k) (run.lent k)) →
-    ((k : ℕ) → k < run.count → 1 ≤ run.most k) →
     (k : ℕ) → k < run.count → csr_status (run.after k) go.channel ≢ 0 →
     k + 1 ≤ n + vain run (k + 1) go.channel
 
--- Each turn that begins so is at a DMAWFE of which `WaitsInVain` speaks: if the device is sound, and the turn may take
--- a step, it changes only the thread's status and CPC.
+-- Each turn that begins so is at a DMAWFE as in `WaitsInVain`: if the device is sound, and the turn may take a step, it
+-- changes only the thread's status and CPC.
 abbrev pub VainTurnsWait : Type 0
 VainTurnsWait =
     (go : Go) (w : Work) (n : ℕ) (run : GivenTurns) → RunsCopy go w n run →

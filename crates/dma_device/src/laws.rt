@@ -4,7 +4,7 @@ ghost use Rattle.dma_device.specs.Board.{ABoardCopies, BoardRunsCopy, BoardSpare
 ghost use Rattle.dma_device.specs.Copies.{DmagoCopies, DmagoInterrupts, DmagoInterruptsEach, DmagoNeverFails};
 ghost use Rattle.dma_device.specs.Dmago.{ImageHasBytes};
 ghost use Rattle.dma_device.specs.Events.{EventsAreExact, TakenWasSet, WaitsForUnset};
-ghost use Rattle.dma_device.specs.Explaining.{OnlyDmagoGives, RestoreKeepsUnderway, TurnStaysInWork, TurnsStayIn, UnderwayHasWork, UnderwayStays};
+ghost use Rattle.dma_device.specs.Explaining.{OnlyDmagoGives, RestoreKeepsWork, TurnStaysInWork, TurnsStayIn, UnderwayHasWork, WorkStays};
 ghost use Rattle.dma_device.specs.Faults.{AbortIsFaulting, AbortsAreExact, FaultsAreExact};
 ghost use Rattle.dma_device.specs.Frame.{BytesDontMatter, LikeReadsLike, RegionBytesDontMatter, TurnLeavesOthers, WriteLeavesThreads};
 ghost use Rattle.dma_device.specs.Idle.{NothingHappens, StaySound, TurnChanges, WaitsInVain};
@@ -53,11 +53,11 @@ pub fn a_dmago_never_fails()
 /// its DMAEND, if the regions and the device are as for `a_dmago_never_fails` in each turn. A turn is ready if it may
 /// take a step and doesn't begin at a DMAWFE of an event that isn't set, or that INTEN makes an interrupt. A host may
 /// give the channel any other turns between them, as while it waits (`nothing_happens`). So it needn't know the
-/// program: if each turn may take a step, then as long as CSR doesn't read as stopped, no more turns began at anything
-/// but such a DMAWFE than the program executes instructions before its DMAEND. The others only wait. If the program has
-/// a DMASEV of an event that INTEN makes an interrupt, the event's line was high after one of the turns. Of a program
-/// that is compiled for the device's bus only the first ready turn needs the event that its transfer waits for, and it
-/// has a DMASEV of the event that its transfer signals, when all bytes are stored.
+/// program: as long as CSR doesn't read as stopped, at most as many turns were ready as the program executes
+/// instructions before its DMAEND. In the others it only waits, or takes no step. If the program has a DMASEV of an
+/// event that INTEN makes an interrupt, the event's line was high after one of the turns. Of a program that is compiled
+/// for the device's bus only the first ready turn needs the event that its transfer waits for, and it has a DMASEV of
+/// the event that its transfer signals, when all bytes are stored.
 pub fn a_dmago_finishes()
     ensures finishes { DmagoFinishes }
     ensures loop_finishes { TheLoopFinishes }
@@ -69,11 +69,12 @@ pub fn a_dmago_finishes()
 {}
 
 /// A board has several devices over one memory. From the DMAGO on, any events on all devices happen in any order:
-/// register accesses, turns of channels, bytes that the processor writes, resets and restores. If of all these only the
-/// channel's own turns change its thread, then each of them writes only destinations and zeros of the work that
-/// explains its program, and reads only the sources. If besides only they write addresses that the work uses, then the
-/// work is done from the memory at the DMAGO once the channel's CSR reads as stopped, and the channel's turns are such
-/// as `a_dmago_copies`, `a_dmago_never_fails` and `a_dmago_finishes` speak of. So several channels copy at once, if the
+/// register accesses, turns of channels, bytes that the processor writes, resets and restores. If on its device nothing
+/// but the channel's own turns may change its thread (no reset, no restore of another thread, no debug instruction that
+/// names it), then each of its turns writes only destinations and zeros of the work that explains its program, and
+/// reads only the sources. If besides only they write addresses that the work uses, then the work is done from the
+/// memory at the DMAGO once the channel's CSR reads as stopped, and `a_dmago_copies`, `a_dmago_is_underway`,
+/// `a_dmago_never_fails` and `a_dmago_finishes` are about the channel's turns. So several channels copy at once, if the
 /// work of none writes an address that the work of another uses.
 pub fn a_board_copies()
     ensures copies { ABoardCopies }
@@ -86,14 +87,14 @@ pub fn a_board_copies()
 /// that [`crate::device::Device::explain`] found before the first of them, and read only the sources. After an access
 /// other than a restore that gives the channel a program, as a DMAGO does, the channel is underway in that program, and
 /// so has the work that is found then. It keeps the work at each access that gives it no program, and a restored
-/// channel has the work that it had when it was saved. Each turn of a channel stays in its work. So the law may be
-/// taken up again after a migration: what was found on the first host still holds of the turns on the second.
+/// channel has the work that it had when it was saved. Each turn of a channel stays in its work. So the law also
+/// holds after a migration: what was found on the first host holds of the turns on the second.
 pub fn turns_stay_in()
     ensures turns { TurnsStayIn }
     ensures only { OnlyDmagoGives }
     ensures has { UnderwayHasWork }
-    ensures stays { UnderwayStays }
-    ensures restored { RestoreKeepsUnderway }
+    ensures stays { WorkStays }
+    ensures restored { RestoreKeepsWork }
     ensures each { TurnStaysInWork }
 {}
 
@@ -140,8 +141,9 @@ pub fn faults_are_exact()
 /// If no thread can step, a turn of any channel changes neither the device nor a byte of the regions, and reports no
 /// change. So nothing happens until the guest's next write, a reset or a restore. This holds of every list of accesses
 /// after a reset, whatever regions each is lent. If a thread can step, each turn of its channel that may take a step
-/// changes the device. At a DMAWFE of an event that isn't set, or that INTEN makes an interrupt, such a turn changes
-/// only the status and CPC of the thread, which waits: it changes no byte of the regions, and reports no change.
+/// changes the device. At a DMAWFE of one of the device's events that isn't set, or that INTEN makes an interrupt,
+/// which the program may still execute, such a turn changes only the status and CPC of the thread, which waits: it
+/// changes no byte of the regions, and reports no change.
 pub fn nothing_happens()
     ensures sound { StaySound }
     ensures nothing { NothingHappens }
@@ -163,8 +165,8 @@ pub fn runs_step_by_step()
 {}
 
 /// A turn of a channel leaves each other thread, the manager, INTEN and the debug registers as they are. A write to any
-/// register but DBGCMD leaves all threads, and one to DBGCMD all but the one that the debug registers name. The bytes
-/// of memory have no effect on a turn's report, nor on the registers and lines after it: these depend only on the
+/// register but DBGCMD leaves all threads, and one to DBGCMD all but at most one, which the debug registers name. The
+/// bytes of memory have no effect on a turn's report, nor on the registers and lines after it: these depend only on the
 /// device but for the bytes in its channels' buffers, and on where the regions are and which of them are read-only.
 pub fn others_are_left_alone()
     ensures turns { TurnLeavesOthers }

@@ -29,15 +29,15 @@
 //! reads and writes, none that it writes is read-only, and the device has the program's events
 //! (`laws::a_dmago_never_fails`). It then finishes after as many ready turns as it executes instructions, whatever
 //! turns it gets besides, and the line of the event of each DMASEV was high (`laws::a_dmago_finishes`). A turn is ready
-//! that doesn't begin at a DMAWFE of an event that isn't set; one that does only waits (`laws::nothing_happens`). All
-//! this holds on a board with several devices over one memory, whatever happens there in any order, if only the
-//! channel's own turns change its thread and write addresses that the program's work uses; so several channels of any
-//! devices copy at once (`laws::a_board_copies`).
+//! if it may take a step and doesn't begin at a DMAWFE of an event that isn't set, or that INTEN makes an interrupt; at
+//! one it only waits (`laws::nothing_happens`). What is said of such a program holds on a board with several devices
+//! over one memory, whatever happens there in any order, if only the channel's own turns change its thread and write
+//! addresses that the program's work uses; so several channels of any devices copy at once (`laws::a_board_copies`).
 //!
 //! [`device::Device::explain`] returns what the program of a channel copies and sets to 0, or why nothing explains it:
 //! for a debugger, and for a host that refuses a DMAGO whose program touches what it must not. From the DMAGO on, until
 //! the channel gets another program, its turns write only the destinations and zeros that were found, and read only the
-//! sources, whatever the guest writes meanwhile, and on another host that restores a save too
+//! sources, whatever the guest writes meanwhile, also on another host that restores the device's save
 //! (`laws::turns_stay_in`).
 //!
 //! An interrupt is neither lost nor invented: from a reset on, its line is high exactly if a turn or the debug
@@ -45,9 +45,9 @@
 //! INTCLR, reset or restore has cleared it since (`laws::interrupts_are_exact`). The same holds of events, which a
 //! DMAWFE takes (`laws::events_are_exact`), and of faulting threads and irq_abort, which a DMAKILL ends
 //! (`laws::faults_are_exact`). If no thread can step, nothing happens until the guest's next write
-//! (`laws::nothing_happens`). A turn leaves all threads but its channel's as they are, a write all but the one that the
-//! debug registers name, and the bytes of memory have no effect on a turn's report and on the registers and lines after
-//! it (`laws::others_are_left_alone`).
+//! (`laws::nothing_happens`). A turn leaves all threads but its channel's as they are, a write all but at most one,
+//! which the debug registers name, and the bytes of memory have no effect on a turn's report and on the registers and
+//! lines after it (`laws::others_are_left_alone`).
 //!
 //! Not proved: that an allocation succeeds. Only [`device::Device::new`] allocates: no other method gets an allocator.
 //!

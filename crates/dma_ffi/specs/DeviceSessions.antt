@@ -30,8 +30,8 @@ pub data DeviceRequest : Type 0 where
   ask_reset : DeviceRequest
   -- a restore from these bytes
   ask_restore : List ℕ → DeviceRequest
-  -- any other request but a close: the lines, whether a channel can step, a save, what explains a program, or an open,
-  -- which is refused
+  -- any other request but a close: the lines, a channel's registers, whether a channel can step, a save, what explains a
+  -- program, or an open, which is refused
   ask_look : DeviceRequest
 
 -- A call from C on a device as C sees it: the request, the code that it returns, and the regions before and after. C

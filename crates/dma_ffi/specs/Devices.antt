@@ -90,14 +90,12 @@ WritesRegister regions at value d code e =
     ((code ≡ bad_regions) × (are_usable regions ≡ false) × (e ≡ d))
     ⊎ ((code ≡ ok_code) × (are_usable regions ≡ true) × (e ≡ written (pieces_of regions) at value d))
 
--- Writes the registers and counts of channel `n` of an open device. Fails with `no_channel` exactly if the device doesn't
--- have the channel, and then writes nothing.
-abbrev pub WritesRegisters : ℕ → Option DeviceValue → ChannelRegisters → ℤ → Option DeviceValue → ChannelRegisters
-    → Type 0
-WritesRegisters n None before code new after = (code ≡ not_open) × (new ≡ None) × (after ≡ before)
-WritesRegisters n (Some d) before code new after =
-    (new ≡ Some d) × (((code ≡ no_channel) × (channel_of d n ≡ None) × (after ≡ before))
-    ⊎ ((code ≡ ok_code) × IsSomeAnd (channel_of d n) (λ c. after ≡ registers_of c)))
+-- Writes the registers and counts of channel `n` of a device. Fails with `no_channel` exactly if the device doesn't have
+-- the channel, and then writes nothing.
+abbrev pub WritesRegisters : ℕ → DeviceValue → ℤ → ChannelRegisters → ChannelRegisters → Type 0
+WritesRegisters n d code before after =
+    ((code ≡ no_channel) × (channel_of d n ≡ None) × (after ≡ before))
+    ⊎ ((code ≡ ok_code) × IsSomeAnd (channel_of d n) (λ c. after ≡ registers_of c))
 
 -- ---- turns and lines
 

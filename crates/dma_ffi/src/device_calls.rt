@@ -4,7 +4,7 @@
 ghost use Rattle.std.specs.Prelude.{◌≡◌, None};
 ghost use Rattle.dma_device.specs.Device.{irqs, read_at, reset_device};
 ghost use Rattle.dma_device.specs.Snapshot.{saved_device};
-ghost use Rattle.dma_ffi.specs.Calls.{Becomes, OnOpen, WritesSave, WritesValue};
+ghost use Rattle.dma_ffi.specs.Calls.{Becomes, OnOpen, ReadsOpen, WritesSave, WritesValue};
 ghost use Rattle.dma_ffi.specs.Devices.{FitsSave, Opens, ReportsTurn, Restores, WritesRegister, WritesRegisters, abort_line, any_can_step, report_of, restore_code};
 
 use crate::channel_calls::{ChannelRegisters, are_usable, registers_of};
@@ -164,8 +164,8 @@ pub extern "C" fn dma330_device_registers(
     channel: u8,
     registers: &mut ChannelRegisters,
 ) -> i32
-    ensures { WritesRegisters channel kept.old.device.value registers.old result
-        kept.new.device.value registers.new }
+    ensures { ReadsOpen (WritesRegisters channel) kept.old.device.value result registers.old registers.new
+        kept.new.device.value }
 {
     let Some(device) = kept.get_mut() else {
         return NOT_OPEN;

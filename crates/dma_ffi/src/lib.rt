@@ -2,14 +2,14 @@
 //! `dma330.h`.
 //!
 //! Proved: each call returns the code of the engine's answer and writes what the answer has (`Returns`); the calls
-//! between an open and a close are calls of one engine (`laws::exchanges_are_the_engines`); a call that steps a
-//! channel is a sequence of single steps over the caller's memory and flags, each code has its cause, and a refused
-//! call changes nothing (`specs/Channels.antt`). Calls that load a transfer into a channel and step it have copied as
-//! many bytes as the channel counts, and all when a report says that it signalled or ended, if nobody else writes what
-//! the transfer reads or writes meanwhile (`laws::channel_calls_copy`). A call that explains a program writes what
-//! explains it, or why and where it can't (`specs/Explaining.antt`); a call that plans writes the program of its
-//! transfer for a bus (`PlansTransfer`). All calls on an open device, however many, are one history of the accesses that
-//! the laws of `dma_device` are about (`laws::device_sessions_are_histories`).
+//! between an open and a close are calls of one engine (`laws::exchanges_are_the_engines`); a call that steps a channel
+//! is a sequence of single steps over the caller's memory and flags, each code has its cause, and a refused call
+//! changes nothing (`specs/Channels.antt`). Calls that load a transfer into a channel and step it have copied as many
+//! bytes as the channel counts, and all when a report says that it signalled or ended, if nobody else writes what the
+//! transfer reads or writes meanwhile (`laws::channel_calls_copy`). A call that explains a program writes what explains
+//! it, or why and where it can't (`specs/Explaining.antt`); a call that plans writes the program of its transfer for a
+//! bus (`PlansTransfer`). All calls on an open device, however many, are one history of the accesses that the laws of
+//! `dma_device` are about (`laws::device_sessions_are_histories`).
 //!
 //! The proofs assume that the caller fulfils its duties (docs/EMBEDDING.md). Controllers and channels are zeros before
 //! their first call, are not copied, and are used by one call at a time, ordered by a lock, a start, a join or a

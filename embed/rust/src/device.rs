@@ -189,8 +189,10 @@ impl Device {
         })
     }
 
-    /// Returns the registers and counts of a channel. After a DMAGO the first `stored` bytes of an explained program are
-    /// done, after each turn, also if the channel then waits or is faulting.
+    /// Returns the registers and counts of a channel. After each turn of a program that a DMAGO started and
+    /// [`Device::explain_work`] explained before the first turn, `stored` bytes of its destinations and zeros are done,
+    /// of each list the first ones, also if the channel then waits or is faulting, if nobody else writes what the
+    /// program reads or writes.
     ///
     /// Fails with `NoChannel`.
     pub fn registers(&self, channel: u8) -> Result<Registers, Error> {
