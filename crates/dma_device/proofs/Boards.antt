@@ -10,7 +10,7 @@ use Rattle.dma_chan.specs.Others.{IsWorked, Uses, work_below}
 use Rattle.dma_chan.specs.Written.{LiesIn, range_at}
 use Rattle.dma_chan.proofs.CallWrites.{load_executes}
 use Rattle.dma_device.specs.Accesses.{Access, Answer, Does, Resets, Restores, Stores, Turned, Turns, Writes}
-use Rattle.dma_device.specs.Board.{ABoardCopies, BoardRunsCopy, BoardSpares, BoardStaysIn, CopiesOn, History, RunsOn, SparesBytes, SparesThread, WritesApart, is_turn, is_turn_at, later, most_of, turns_of}
+use Rattle.dma_device.specs.Board.{ABoardCopies, BoardRunsCopy, BoardSpares, BoardStaysIn, CopiesOn, Happens, History, RunsOn, SparesBytes, SparesThread, WritesApart, is_turn, is_turn_at, later, most_of, turns_of}
 use Rattle.dma_device.specs.Device.{DeviceValue, program_at, written}
 use Rattle.dma_device.specs.Dmago.{Go, RunsCopy, dmago_word, image_in, start_of, started_by}
 use Rattle.dma_device.specs.Faults.{TheChannel}
@@ -77,6 +77,21 @@ readied : (d : DeviceValue) (word addr : ℕ) → d.dbginst0 ≡ word → d.dbgi
 readied d word addr first second =
     ap (λ (v : ℕ). let e : DeviceValue = record d { dbginst0 = v; dbginst1 = addr } in e) (sym first)
     ∙ ap (λ (v : ℕ). let e : DeviceValue = record d { dbginst1 = v } in e) (sym second)
+
+-- the events from number s on happen
+pub happens_later : (h : History) (s : ℕ) → Happens h → Happens (later s h)
+happens_later h s c = record {
+  does = λ k less. (
+      let b = h.device (s + k) in
+      let e : s + k + 1 ≡ s + (k + 1) = omega arith in
+      subst (λ (j : ℕ). Does (h.access (s + k)) (h.before (s + k) b) (h.lent (s + k)) (h.answer (s + k)) (h.before j b) (h.left (s + k))) e
+      (c.does (s + k) (omega (arith, less)))
+      );
+  others = λ k b less other. (
+      let e : s + k + 1 ≡ s + (k + 1) = omega arith in
+      subst (λ (j : ℕ). h.before j b ≡ h.before (s + k) b) e (c.others (s + k) b (omega (arith, less)) other)
+      );
+}
 
 -- ---- a program that a DMAGO starts
 
@@ -169,7 +184,7 @@ board_stays_in go w n b h (suc k) most turn c less own is reply =
 spares_turn : (w : Work) (a : Access) (answer : Answer) (n most : ℕ) → a ≡ Turns n most → ((turn : Turn) (x : ℕ) → answer ≡ Turned turn → Uses w x → ¬ LiesIn turn.written x) → SparesBytes w a answer
 spares_turn w a answer n most is spares = subst (λ (t : Access). SparesBytes w t answer) (sym is) spares
 
-spares_here : (go : Go) (v w : Work) (n b : ℕ) (h : History) → RunsOn go v n b h → WritesApart v w → (k : ℕ) → k < h.count → is_turn_at h b go.channel k ≡ true → SparesBytes w (h.access k) (h.answer k)
+pub spares_here : (go : Go) (v w : Work) (n b : ℕ) (h : History) → RunsOn go v n b h → WritesApart v w → (k : ℕ) → k < h.count → is_turn_at h b go.channel k ≡ true → SparesBytes w (h.access k) (h.answer k)
 spares_here go v w n b h c apart k less on =
     let both = own_parts h b go.channel k on in
     spares_turn w (h.access k) (h.answer k) go.channel (most_of (h.access k)) both.1

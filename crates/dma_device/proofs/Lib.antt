@@ -41,3 +41,4 @@ pub mod Rows
 pub mod Readiness
 pub mod OneByte
 pub mod Boards
+pub mod TwoDevices

@@ -19,6 +19,7 @@ use Rattle.dma_chan.specs.declared.turn.FaultKind.{FaultKind}
 use Rattle.dma_chan.specs.Bursts.{burst_at, reaches}
 use Rattle.dma_chan.specs.Explains.{Explains, GoesOn, IsWork, Work, next_in, only, traced}
 use Rattle.dma_chan.specs.LentRegions.{HaveAll, with_gaps_of}
+use Rattle.dma_chan.proofs.CallWrites.{load_executes}
 use Rattle.dma_device.specs.declared.config.Config.{Config}
 use Rattle.dma_device.specs.declared.config.Revision.TheVariants.{R1p2}
 use Rattle.dma_device.specs.declared.device.turns.Turn.{Turn}
@@ -26,38 +27,42 @@ use Rattle.dma_device.specs.Config.{is_valid}
 use Rattle.dma_device.specs.Copies.{IsFit}
 use Rattle.dma_device.specs.Device.{reset_device}
 use Rattle.dma_device.specs.Dmago.{GivenTurns, Go, HasProgram, MayGo, RunsCopy, csr_status, image_in, start_of, started_by}
+use Rattle.dma_device.specs.Explaining.{IsUnderway}
 use Rattle.dma_device.specs.Progress.{vain}
 use Rattle.dma_device.proofs.InMemory.{image_has_bytes}
 use Rattle.dma_device.specs.Turns.{Setup, TakesTurn, setup_of, turned}
 
 -- one channel and two events
-abbrev small : Config
+abbrev pub small : Config
 small = record { channels = 1; events = 2; nonsecure = false; bus = Bits32; lines = 8; revision = R1p2 }
 
 valid_small : is_valid small ≡ true
 valid_small = refl
 
 -- DMAMOV SAR, 0x30; DMAMOV DAR, 0x31; DMAMOV CCR, which rises by one byte at both ends; DMALD; DMAST; DMAEND
-abbrev program : List ℕ
+abbrev pub program : List ℕ
 program =
     0xBC ∷ 0x00 ∷ 0x30 ∷ 0x00 ∷ 0x00 ∷ 0x00 ∷ 0xBC ∷ 0x02 ∷ 0x31 ∷ 0x00 ∷ 0x00 ∷ 0x00 ∷ 0xBC ∷ 0x01 ∷ 0x01 ∷ 0x40 ∷ 0x00
     ∷ 0x00 ∷ 0x04 ∷ 0x08 ∷ 0x00 ∷ []
 
-abbrev region : ℕ → ℕ → List ℕ → Region
+abbrev pub region : ℕ → ℕ → List ℕ → Region
 region name addr bytes = record { addr = addr; bytes = record { ref_ptr = (0, 0); ghost_name = name; now = bytes }; read_only = 0 }
 
 -- the program at 0x10, and two bytes at 0x30
 abbrev memory : ℕ → ℕ → List Region
 memory a b = region 0 0x10 program ∷ region 1 0x30 (a ∷ b ∷ []) ∷ []
 
-abbrev go : Go
+abbrev pub go : Go
 go = record { device = reset_device small; ram = pieces_of (memory 7 0); program = program; addr = 0x10; channel = 0; nonsecure = false }
 
--- the byte at 0x30 is copied to 0x31
-abbrev work : Work
-work = only (copying (record { addr = 0x30; len = 1 } ∷ []) (record { addr = 0x31; len = 1 } ∷ []) None None)
+-- the byte at 0x30 is copied to another address, as 0x31
+abbrev pub copied_to : ℕ → Work
+copied_to x = only (copying (record { addr = 0x30; len = 1 } ∷ []) (record { addr = x; len = 1 } ∷ []) None None)
 
-abbrev start : Registers
+abbrev pub work : Work
+work = copied_to 0x31
+
+abbrev pub start : Registers
 start = start_of go
 
 -- ---- the program
@@ -73,21 +78,21 @@ has_program = record {
   bytes = λ k less. image_has_bytes (memory 7 0) 0 k (region 0 0x10 program) refl refl less;
 }
 
-one_place : (x a : ℕ) → Contains (x ∷ []) a → x ≡ a
+pub one_place : (x a : ℕ) → Contains (x ∷ []) a → x ≡ a
 one_place x a i = here i.0 i.1 i.2
   where
     here : (k : ℕ) → k < 1 → slice_index_or (x ∷ []) k a ≡ a → x ≡ a
     here zero less is = is
     here (suc k) less is = absurd (omega arith)
 
-no_place : (a : ℕ) → Contains [] a → ⊥
+pub no_place : (a : ℕ) → Contains [] a → ⊥
 no_place a i = let less = i.1 in omega (arith, less)
 
-is_work : IsWork work
-is_work = record {
+pub is_work : (x : ℕ) → 0x30 < x → IsWork (copied_to x)
+is_work x above = record {
   same_length = refl;
   once = λ i j d less within. absurd (omega arith);
-  apart = λ a i j. (let one = one_place 0x30 a i in let two = one_place 0x31 a j in omega (arith, one, two));
+  apart = λ a i j. (let e = one_place 0x30 a i in let f = one_place x a j in omega (arith, e, f, above));
 }
 
 -- whether an instruction is a DMAWFE or a DMASEV
@@ -114,9 +119,9 @@ no_sync (suc (suc (suc zero))) less = refl
 no_sync (suc (suc (suc (suc zero)))) less = refl
 no_sync (suc (suc (suc (suc (suc k))))) less = absurd (omega arith)
 
-explains : Explains start program work 5
+pub explains : Explains start program work 5
 unfolding is_control control_of end_at burst_at
-explains = record { goes = goes_on; ends = refl; loads = refl; stores = refl; zeros = refl; few = omega arith; work = is_work }
+explains = record { goes = goes_on; ends = refl; loads = refl; stores = refl; zeros = refl; few = omega arith; work = is_work 0x31 (omega arith) }
 
 -- ---- the turns
 
@@ -172,6 +177,16 @@ runs_copy = record {
     left : (k a : ℕ) → k + 1 < 2 → slice_index (image_in (turns.lent (k + 1))) a ≡ slice_index (image_in (turns.left k)) a
     left zero a less = refl
     left (suc k) a less = absurd (omega arith)
+
+-- ---- after the DMAGO the channel is underway, in six instructions with DMAEND
+
+underway : IsUnderway (started_by go) 0 6
+underway = load_executes start program 5 _ (record { bytes = program; cost = None }, ([], refl), refl)
+
+-- It is so after the first turn too, in its third instruction, since the program sets each register before it uses it.
+still_underway : IsUnderway first.0.device 0 6
+unfolding flags_of is_control control_of end_at
+still_underway = (2, record { begins = ([], refl); within = omega arith; registers = refl })
 
 -- ---- the memory and the device are fit
 
