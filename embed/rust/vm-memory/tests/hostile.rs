@@ -2,7 +2,7 @@
 //! the bytes that its report has as written, and no others: all in memory that it was lent for writing, and among them
 //! all that have changed.
 
-use dma330::{BusWidth, Device, DeviceConfig, Error, Revision};
+use dma330::{BusWidth, Device, DeviceConfig, Error, Revision, Segment};
 use dma330_vm_memory::LentMemory;
 use std::collections::BTreeSet;
 use vm_memory::bitmap::{AtomicBitmap, Bitmap};
@@ -210,14 +210,16 @@ impl Machine<'_> {
     fn check_turn(&mut self, channel: u8, most: u32) -> usize {
         self.memory.iter().for_each(|region| region.bitmap().reset());
         let before = bytes_of(self.memory, self.parts);
-        let written = self.lent.step(&mut self.device, channel, most).written;
+        let written: Vec<Segment> = if most % 2 == 0 {
+            self.lent.step_rows(&mut self.device, channel, most).ranges().collect()
+        } else {
+            vec![self.lent.step(&mut self.device, channel, most).written]
+        };
         let dirty = dirty_bytes(self.memory);
-        let start = u64::from(written.addr);
-        assert!(
-            dirty.iter().copied().eq(start..start + u64::from(written.len)),
-            "{written:?}, but {} bytes are dirty",
-            dirty.len()
-        );
+        let addrs = |it: &Segment| u64::from(it.addr)..u64::from(it.addr) + u64::from(it.len);
+        let is_written = written.iter().flat_map(addrs).all(|addr| dirty.contains(&addr));
+        let count: usize = written.iter().map(|it| it.len as usize).sum();
+        assert!(is_written && dirty.len() == count, "{written:?}, but {} bytes are dirty", dirty.len());
         assert!(dirty.iter().all(|addr| self.parts.iter().any(|part| part.can_be_written(*addr))), "{written:?}");
         for ((part, old), new) in self.parts.iter().zip(before).zip(bytes_of(self.memory, self.parts)) {
             let is_marked = |at: usize| dirty.contains(&(part.base + at as u64));
