@@ -174,7 +174,7 @@ signalled n d =
     else record d { events = bit_or d.events (2 ^ n) }
 
 -- the program that begins at an address: the bytes of RAM from there up to the first address that isn't in RAM, at most
--- 8,192
+-- 8,192 (profile)
 abbrev pub program_at : List Piece → ℕ → List ℕ
 program_at ram addr = take most_program_bytes (run_from ram addr)
 
@@ -201,8 +201,8 @@ by_manager ram opcode byte d =
     if opcode == 0xA2 then go ram true byte (slice_get d.threads byte) d else
     manager_failed undef_instr d))))
 
--- A channel thread executes an instruction: DMAKILL or DMASEV. A faulting thread executes only DMAKILL, and nothing
--- happens if the device doesn't have the thread.
+-- A channel thread executes an instruction: DMAKILL or DMASEV, also if it is stopped (profile). A faulting thread
+-- executes only DMAKILL, and nothing happens if the device doesn't have the thread.
 abbrev pub by_thread : ℕ → Option Thread → ℕ → ℕ → DeviceValue → DeviceValue
 by_thread n None opcode byte d = d
 by_thread n (Some t) opcode byte d =

@@ -109,7 +109,7 @@ reset_thread bus =
 abbrev pub failed : ℕ → Thread → Thread
 failed why t = record t { status = Faulting; fault = why }
 
--- a thread after a DMAKILL; its registers and FTR keep their values
+-- a thread after a DMAKILL; its registers and FTR keep their values (profile)
 abbrev pub killed : Thread → Thread
 killed t = record t { channel = record (t.channel) { program = None }; status = Stopped }
 
@@ -140,7 +140,8 @@ abbrev pub waited : ℕ → Thread → ℕ → Thread
 waited events t e = if nat_lt e events then record t { status = WaitingForEvent e } else failed operand_invalid t
 
 -- The thread after a call of its channel, in a device with this number of events, by the answer of the call's last step
--- and the event whose flag it set. A call without a step is a program that has executed 2^32 - 1 instructions.
+-- and the event whose flag it set. A call without a step is a program that has executed 2^32 - 1 instructions
+-- (profile).
 abbrev pub answer : ℕ → Thread → Option ChanTurn → Option ℕ → Thread
 answer events t None signal = failed lockup_err t
 answer events t (Some Moved) signal = moved events t signal

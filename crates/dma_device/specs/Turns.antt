@@ -116,8 +116,8 @@ lines_differ d e = not (irqs d == irqs e && flag (irq_abort d) == flag (irq_abor
 
 -- What a turn of channel `n` leaves and reports: a call of at most `most` steps, if it runs. If the call's last step
 -- raised an interrupt, one more step is taken, which mostly is the program's DMAEND, since a driver's interrupt handler
--- expects its channel to be stopped. A store apart from the range that the call wrote is left to the next turn, so that
--- one range has all that was written.
+-- expects its channel to be stopped (profile). A store apart from the range that the call wrote is left to the next
+-- turn, so that one range has all that was written (profile).
 abbrev pub turned : MarkList → ℕ → ℕ → Setup → Setup × Turn
 turned marks n most s =
     let first = called_if (begins s.device n most) marks n most s in

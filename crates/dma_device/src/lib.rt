@@ -10,13 +10,13 @@
 //! gives (`Device::read`, `write`). A turn is what specs/Turns.antt says (`step`). [`device::Device::step_rows`] takes
 //! several turns at once where a channel copies the rows of a rectangle, one a row, with the device, the memory and the
 //! reports that `step` gives turn by turn (specs/RowTurns.antt). For every list of accesses, turns, bytes that the
-//! processor writes, resets and restores, in any order, each value read, each report, both kinds of lines and all of
-//! RAM are what `run` of specs/Run.antt gives, step by step (`laws::runs_step_by_step`). A turn writes each address in
-//! the range that it reports as written, and no other (`laws::a_turn_writes_each`). A save has the bytes that
-//! specs/Snapshot.antt gives the device, and restores it; so does a save of version 1. `OtherDevice` is the error
-//! exactly for bytes that begin as a save of another version or configuration, and other bytes are refused exactly if
-//! they are the save of no device (`save`, `restore`), as is each save in which a bit is flipped
-//! (`laws::damage_is_refused`).
+//! processor writes, resets and restores, in any order, each of which is lent the memory that the one before it left,
+//! each value read, each report, both kinds of lines and all of RAM are what `run` of specs/Run.antt gives, step by
+//! step (`laws::runs_step_by_step`). A turn writes each address in the range that it reports as written, and no other
+//! (`laws::a_turn_writes_each`). A save has the bytes that specs/Snapshot.antt gives the device, and restores it; so
+//! does a save of version 1. `OtherDevice` is the error exactly for bytes that begin as a save of another version or
+//! configuration, and other bytes are refused exactly if they are the save of no device (`save`, `restore`), as is each
+//! save in which a bit is flipped (`laws::damage_is_refused`).
 //!
 //! A program that is explained from the registers that its channel has (`dma_chan`'s specs/Explains.antt), put into RAM
 //! and started by a DMAGO, makes one simultaneous copy and sets its other ranges to 0, whatever events it waits for
