@@ -249,7 +249,7 @@ static bool pl330_turn(PL330State *s)
 /*
  * Runs the channels for a slice. A timer of the virtual clock calls it: a
  * bottom half would go on while the machine is stopped. With -icount, and if
- * step-ns isn't 0, each channel takes one turn, whatever time that takes: the
+ * step-ns isn't 0, each channel is called once, whatever time that takes: the
  * virtual clock stops meanwhile, and a replay does the same.
  */
 static void pl330_slice(void *opaque)
