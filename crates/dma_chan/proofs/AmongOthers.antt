@@ -15,9 +15,9 @@ use Rattle.dma_chan.specs.declared.turn.ChanTurn.TheVariants.{Moved, Waiting, En
 use Rattle.dma_chan.specs.declared.turn.FaultKind.{FaultKind}
 use Rattle.dma_chan.specs.Bursts.{touched}
 use Rattle.dma_chan.specs.Exec.{State, destination_of, start_on, state, act, exec}
-use Rattle.dma_chan.specs.Channel.{ChannelValue, ahead_of, step_of, stepped, stored_by, bytes_of_program, loaded}
+use Rattle.dma_chan.specs.Channel.{ChannelValue, ahead_of, step_of, stored_by, bytes_of_program, loaded}
 use Rattle.dma_chan.specs.Explains.{Explains, IsIn, IsLoadedWith, IsWait, StartsWith, Trace, Work, after_insn, all_of, amounts_of, cleared, next_in, only, traced, written}
-use Rattle.dma_chan.specs.Others.{IsWorked, MissesAll, Touches, Uses, CopiesAmongOthers, work_below}
+use Rattle.dma_chan.specs.Others.{IsWorked, MissesAll, Touches, Uses, work_below}
 use Rattle.dma_chan.specs.Stepping.{Machine, answer_at, after_step, machine}
 use Rattle.dma_chan.proofs.CallWrites.{Nexts, Goes, Ends, ahead_at, does_next, ends_then, inside, nexts, traced_next, turned, next_inside}
 use Rattle.dma_chan.proofs.LayerLaws.{places_below}
@@ -231,31 +231,6 @@ module _ (start : Registers) (program : List ℕ) (work : Work) (n : ℕ) (marks
 
   pub after_next : (k : ℕ) (u : Machine) (turn : ChanTurn) → answer_at marks u ≡ turn → Among start program work n first k u.image u.channel → After k u turn
   after_next k u turn e w = by_next k u turn e w (nexts start program work n h k w.within)
-
-pub copies_among_others : CopiesAmongOthers
-copies_among_others start program work n marks channel image flags h run = record {
-  copied = λ a touches. last.mirrors.same a touches ∙ ap (λ (k : ℕ). get_or (laid (image 0) work.copy k) a 0) (ap length h.stores);
-  zeros = λ a i. last.mirrors.zeros a (subst (λ (xs : List ℕ). Contains xs a) (sym h.zeros) i);
-}
-  where
-    low : (k : ℕ) → k ≤ n → Fits work (length (image k))
-    low k l a uses = uses_below work (length (image k)) a (run.below k l) uses
-
-    along : (k : ℕ) → k ≤ n → Among start program work n (image 0) k (image k) (channel k)
-    along zero l = at_start start program work n (image 0) (channel 0) (low 0 l) run.begins
-    along (suc k) l =
-        let u : Machine = record { channel = channel k; image = image k; flags = flags k } in
-        let less : k < n = omega arith in
-        let e : k + 1 ≡ suc k = omega arith in
-        let w = along k (omega arith) in
-        let next = after_next start program work n (marks k) (image 0) h (low 0 (omega arith)) k u Moved (run.moves k less) w in
-        kept start program work n (image 0) (suc k) (after_step (marks k) u).image (image (suc k)) (after_step (marks k) u).channel (channel (suc k)) next
-        (subst (λ (j : ℕ). channel j ≡ stepped (marks k) (channel k) (image k) (flags k)) e (run.goes_on k less))
-        (λ b i. subst (λ (j : ℕ). get_or (image j) b 0 ≡ get_or (step_of (marks k) (channel k) (image k) (flags k)).1.image b 0) e (run.unchanged k b less i))
-        (low (suc k) l)
-
-    last : Among start program work n (image 0) n (image n) (channel n)
-    last = along n (omega arith)
 
 -- ---- a program that copies and doesn't wait, run alone
 

@@ -12,7 +12,7 @@ use Rattle.dma_chan.specs.declared.bus.Bus.{Bus}
 use Rattle.dma_chan.specs.Bursts.{burst_at, skip_of}
 
 -- the bytes of a beat are a power of two, by its code
-beat_bytes_power : (s : BeatSize) → beat_bytes s ≡ 2 ^ size_code s
+pub beat_bytes_power : (s : BeatSize) → beat_bytes s ≡ 2 ^ size_code s
 beat_bytes_power One = refl
 beat_bytes_power s = refl
 

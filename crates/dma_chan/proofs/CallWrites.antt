@@ -80,7 +80,7 @@ does_next marks i u ahead = ap (λ r. exec_fetched marks r (state_of u.channel u
 pub ends_then : (marks : MarkList) (u : Machine) → ahead_of u.channel ≡ Ok End → answer_at marks u ≡ Ended
 ends_then marks u ahead = ap (λ (x : ChanTurn × State). x.0) (does_next marks End u ahead)
 
-registers_after : (i : ChipInsn) (x : Trace) → (after_insn i x).registers ≡ moved i x.registers
+pub registers_after : (i : ChipInsn) (x : Trace) → (after_insn i x).registers ≡ moved i x.registers
 registers_after Ld x = refl
 registers_after StoreZeros x = refl
 registers_after i x = refl

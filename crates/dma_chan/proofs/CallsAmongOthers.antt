@@ -1,5 +1,5 @@
 -- Calls that step a channel with a program that copies, over a memory that others write between them.
-use Rattle.std.proofs.Common.{◌≡◌, ◌≢◌, ℕ, zero, suc, ◌+◌, ◌<◌, ◌⊎◌, true, false, true≢false, List, take, drop, length, get_or, Option, Some, None, Result, Ok, refl, sym, ap, ◌∙◌, subst, arith, inl, inr}
+use Rattle.std.proofs.Common.{◌≡◌, ◌≢◌, ℕ, zero, suc, ◌<◌, ◌⊎◌, true, false, true≢false, List, take, drop, length, get_or, Option, Some, None, Result, Ok, refl, sym, ap, ◌∙◌, subst, arith, inl, inr}
 use Rattle.std.specs.Prelude.{IsSome}
 use Rattle.std.specs.List.{Contains}
 use Rattle.std.proofs.lemmas.Bool.{false≢true, false_from_ne_true}
@@ -15,14 +15,14 @@ use Rattle.dma_chan.specs.declared.turn.ChanTurn.{ChanTurn}
 use Rattle.dma_chan.specs.declared.turn.ChanTurn.TheVariants.{Moved, Waiting, Ended, Fault}
 use Rattle.dma_chan.specs.declared.turn.FaultKind.{FaultKind}
 use Rattle.dma_chan.specs.Exec.{ChangesNothing, State}
-use Rattle.dma_chan.specs.Channel.{ChannelValue, ahead_of}
+use Rattle.dma_chan.specs.Channel.{ahead_of}
 use Rattle.dma_chan.specs.Explains.{Explains, IsLoadedWith, IsSignal, IsWait, Work, after_insn, amounts_of, next_in, traced}
 use Rattle.dma_chan.specs.Programs.{ProgramValue}
 use Rattle.dma_chan.specs.Stepping.{Machine, answer_at, after_step, after_steps, goes_on_after, signal_of, signal_after, TakesSteps}
 use Rattle.dma_chan.proofs.StepsTaken.{steps_move, steps_stop}
 use Rattle.dma_chan.proofs.SteppedOver.{is_still, was_moved, went_before}
-use Rattle.dma_chan.specs.Others.{IsWorked, MissesAll, Uses, CalledAmongOthers, CallsCopyAmongOthers}
-use Rattle.dma_chan.proofs.AmongOthers.{After, Among, Fits, IsDone, after_next, at_start, kept, uses_below}
+use Rattle.dma_chan.specs.Others.{MissesAll, Uses}
+use Rattle.dma_chan.proofs.AmongOthers.{After, Among, Fits, IsDone, after_next, at_start, kept}
 use Rattle.dma_chan.proofs.CallWrites.{Nexts, Goes, Ends, ahead_at, does_next, nexts, traced_next}
 
 -- if no mark lies at any of these places, none lies at some of them
@@ -53,7 +53,7 @@ pub not_none : (o : Option ProgramValue) → IsSome o → o ≡ None → ⊥
 not_none o some e = let bad = e in let w = some in grind arith
 
 -- only a DMASEV signals
-is_signal : (next : Result ChipInsn FaultKind) (e : ℕ) → signal_of next ≡ Some e → next ≡ Ok (Sev e)
+pub is_signal : (next : Result ChipInsn FaultKind) (e : ℕ) → signal_of next ≡ Some e → next ≡ Ok (Sev e)
 is_signal (Ok (Sev d)) e h = let same : d ≡ e = cc in ap (λ (k : ℕ). Ok (Sev k)) same
 is_signal next e h = absurd (cc)
 
@@ -61,11 +61,6 @@ module _ (start : Registers) (program : List ℕ) (work : Work) (n : ℕ) (first
   -- a channel into which the program was just loaded, over the first memory
   pub at_first : (u : Machine) → Fits work (length first) → IsLoadedWith start program u.channel → u.image ≡ first → Runs start program work n first u
   at_first u low starts images = (0, subst (λ (x : List ℕ). Among start program work n first 0 x u.channel) (sym images) (at_start start program work n first u.channel low starts))
-
-  -- a channel that still has a program is not finished
-  pub goes : (last : Option ChanTurn) (v : Machine) → Leads start program work n first last v → IsSome v.channel.program → Runs start program work n first v
-  goes (Some Ended) v d some = absurd (let bad = d.dropped in let w = some in grind arith)
-  goes last v r some = r
 
   -- after a call the channel is not finished, or it has ended
   pub either_way : (last : Option ChanTurn) (v : Machine) → Leads start program work n first last v → Runs start program work n first v ⊎ (v.channel.program ≡ None)
@@ -169,41 +164,3 @@ module _ (start : Registers) (program : List ℕ) (work : Work) (n : ℕ) (marks
       let w = many p s r (steps_move steps) in
       let at = at_signal w.0 u e (is_signal (ahead_of u.channel) e signal) w.1 (nexts start program work n h w.0 w.1.within) in
       subst (λ (x : Machine). IsSignal start program n e (done_at start program x)) (sym steps.ends_at) at
-
--- ---- along the calls
-
-module _ (start : Registers) (program : List ℕ) (work : Work) (n : ℕ) (marks : ℕ → MarkList) (calls : ℕ) (before left : ℕ → Machine) (last : ℕ → Option ChanTurn) (h : Explains start program work n) (run : CalledAmongOthers start program work marks calls before left last) where
-  abbrev first : List ℕ
-  first = (before 0).image
-
-  fits : (k : ℕ) → k < calls → Fits work (length (before k).image)
-  fits k l = λ a i. uses_below work (length (before k).image) a (run.below k l) i
-
-  low_first : (k : ℕ) → k < calls → Fits work (length first)
-  low_first k l = fits 0 (omega arith)
-
-  leads : (k : ℕ) → k < calls → Runs start program work n first (before k) → Leads start program work n first (last k) (left k)
-  leads k l r = let s = run.steps k l in call start program work n (marks k) first h (low_first k l) (before k) (left k) s.0 s.1 (last k) r s.2
-
-  along : (k : ℕ) → k < calls → Runs start program work n first (before k)
-  along zero l = at_first start program work n first (before 0) (fits 0 l) run.begins refl
-  along (suc k) l =
-      let e : k + 1 ≡ suc k = omega arith in
-      let less : k + 1 < calls = omega arith in
-      let here : k < calls = omega arith in
-      let some : IsSome (left k).channel.program = subst (λ (c : ChannelValue). IsSome c.program) (run.goes_on k less) (run.is_loaded (k + 1) less) in
-      let led = leads k here (along k here) in
-      subst (λ (j : ℕ). Runs start program work n first (before j)) e
-      (survived start program work n first (left k) (before (k + 1)) (goes start program work n first (last k) (left k) led some) (run.goes_on k less) (λ a i. run.unchanged k a less i) (fits (k + 1) less))
-
-  pub worked : (k : ℕ) → k < calls → last k ≡ Some Ended → IsWorked work first (left k).image
-  worked k l over = (subst (λ (o : Option ChanTurn). Leads start program work n first o (left k)) over (leads k l (along k l))).all
-
-  pub never_failed : (k : ℕ) (kind : FaultKind) → k < calls → MissesAll (marks k) work → last k ≢ Some (Fault kind)
-  never_failed k kind l none = let s = run.steps k l in call_fails start program work n (marks k) first h (low_first k l) (before k) (left k) s.0 s.1 (last k) kind none (along k l) s.2
-
-pub calls_copy_among_others : CallsCopyAmongOthers
-calls_copy_among_others start program work n marks calls before left last h run = record {
-  works = worked start program work n marks calls before left last h run;
-  never_fails = never_failed start program work n marks calls before left last h run;
-}

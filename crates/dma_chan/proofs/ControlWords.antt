@@ -7,17 +7,17 @@ use Rattle.std.proofs.lemmas.Bool.{and_parts, cases_lt, cond_both, eqb-true, le-
 use Rattle.std.proofs.Math.Nat.{add-mod-mod, mod-one, mul-mod_left, zero-mod}
 use Rattle.dma_insn.specs.declared.control.BeatSize.{BeatSize}
 use Rattle.dma_insn.specs.declared.control.BeatSize.TheVariants.{One, Two, Four, Eight, Sixteen}
-use Rattle.dma_insn.specs.declared.control.BurstEnd.{BurstEnd}
-use Rattle.dma_insn.specs.ControlWord.{control_of, is_control, end_at, field, size_of, beat_bytes, bits_of, end_bits}
+use Rattle.dma_insn.specs.ControlWord.{control_of, is_control, end_at, field, size_code, size_of, beat_bytes, bits_of, end_bits}
 use Rattle.dma_chan.specs.declared.bus.Bus.{Bus}
 use Rattle.dma_chan.specs.declared.bus.Bus.TheVariants.{Ideal, Chip}
 use Rattle.dma_chan.specs.Bus.{accepts, bus_code, widest_beat}
 use Rattle.dma_chan.specs.declared.pieces.Piece.{Piece}
-use Rattle.dma_chan.specs.Compiled.{beat_of, control_word, fits, size_code}
+use Rattle.dma_chan.specs.Compiled.{beat_of, control_word, burst_end, fits}
 use Rattle.dma_chan.specs.declared.bursts.Burst.{Burst}
 use Rattle.dma_chan.specs.Bursts.{IsAligned, burst_at, burst_len, skip_of, span_of, touched, advance}
 use Rattle.dma_chan.specs.Traffic.{len_by}
 use Rattle.dma_chan.specs.inner.Spans.{MovesSome}
+use Rattle.dma_chan.proofs.BurstEnds.{beat_bytes_power}
 use Rattle.dma_chan.proofs.BurstRounds.{one_again}
 use Rattle.dma_chan.proofs.CutPlaces.{run_of, way}
 
@@ -120,12 +120,12 @@ pub record Moves (fill : Bool) (b w n : ℕ) : Type 0 where
   pub whole : n % b ≡ 0
   pub accepted : (bus : Bus) → b ≤ widest_beat bus → accepts bus w ≡ true
 
--- what the words of a size of b bytes a beat say
-pub record IsBeat (fill : Bool) (b : ℕ) : Type 0 where
-  pub low : 1 ≤ b
-  pub high : b ≤ 16
-  pub moves : (k : ℕ) → 1 ≤ k → k ≤ 16 → Moves fill b (control_word fill b k) (k * b)
-  pub in_range : (k : ℕ) → k ≤ 16 → control_word fill b k < 2 ^ 32
+-- what the words of bursts with beats of a size say
+pub record IsBeat (fill : Bool) (size : BeatSize) : Type 0 where
+  pub low : 1 ≤ beat_bytes size
+  pub high : beat_bytes size ≤ 16
+  pub moves : (k : ℕ) → 1 ≤ k → k ≤ 16 → Moves fill (beat_bytes size) (control_word fill size k) (k * beat_bytes size)
+  pub in_range : (k : ℕ) → k ≤ 16 → control_word fill size k < 2 ^ 32
 
 size_there : (c : ℕ) → c ≤ 4 → (s : BeatSize) × (size_of c ≡ Some s)
 size_there zero h = (One, refl)
@@ -184,34 +184,38 @@ word_moves fill w i c l beat n e low rising one hc hl p h =
       accepted = λ bus wide. accepted_by w c b f (valid_word w c b f (omega arith) (omega arith) hc) bus (rw p wide);
     }
 
-beat : (b c : ℕ) → size_code b ≡ c → c ≤ 4 → 2 ^ c ≡ b → 1 ≤ b → b ≤ 16 → IsBeat false b
-beat b c e hc p low high = record {
-  low = low;
-  high = high;
-  moves = λ k l h. let n : k - 1 + 1 ≡ k = omega arith in word_moves false (control_word false b k) 1 c (k - 1) b (k * b) (rw e refl) (omega arith) refl (λ z. absurd (cc)) hc (omega arith) p (rw n refl);
-  in_range = λ k h. omega (arith, e);
-}
+-- a size has between 1 and 16 bytes, and a code of at most 4
+bounded : (size : BeatSize) → (1 ≤ beat_bytes size) × (beat_bytes size ≤ 16) × (size_code size ≤ 4)
+bounded One = (omega arith, omega arith, omega arith)
+bounded size = (omega arith, omega arith, omega arith)
 
-filling_beat : IsBeat true 1
+beat : (size : BeatSize) → IsBeat false size
+unfolding bits_of end_bits
+beat size =
+    let (low, high, few) = bounded size in
+    record {
+      low = low;
+      high = high;
+      moves = λ k l h. let n : k - 1 + 1 ≡ k = omega arith in word_moves false (control_word false size k) 1 (size_code size) (k - 1) (beat_bytes size) (k * beat_bytes size) (omega arith) (omega arith) refl (λ z. absurd (cc)) few (omega arith) (sym (beat_bytes_power size)) (rw n refl);
+      in_range = λ k h. omega (arith, few);
+    }
+
+filling_beat : IsBeat true One
+unfolding bits_of end_bits
 filling_beat = record {
   low = omega arith;
   high = omega arith;
-  moves = λ k l h. word_moves true (control_word true 1 k) 0 0 (k - 1) 1 (k * 1) (omega arith) (omega arith) refl (λ z. refl) (omega arith) (omega arith) refl (omega arith);
+  moves = λ k l h. word_moves true (control_word true One k) 0 0 (k - 1) 1 (k * 1) (omega arith) (omega arith) refl (λ z. refl) (omega arith) (omega arith) refl (omega arith);
   in_range = λ k h. omega arith;
 }
 
-by_fill : (fill : Bool) (y : ℕ) → IsBeat false y → IsBeat fill (cond fill 1 y)
-by_fill true y f = filling_beat
-by_fill false y f = f
+by_fill : (fill : Bool) (size : BeatSize) → IsBeat fill (cond fill One size)
+by_fill true size = filling_beat
+by_fill false size = beat size
 
 pub beat_right : (bus : Bus) (p : Piece) → IsBeat p.fill (beat_of bus p)
 unfolding beat_of
-beat_right bus p =
-    by_fill p.fill _ (
-    cond_both (fits bus 16 p) 16 _ (IsBeat false) (λ _. beat 16 4 refl (omega arith) refl (omega arith) (omega arith)) (λ _.
-    cond_both (fits bus 8 p) 8 _ (IsBeat false) (λ _. beat 8 3 refl (omega arith) refl (omega arith) (omega arith)) (λ _.
-    cond_both (fits bus 4 p) 4 _ (IsBeat false) (λ _. beat 4 2 refl (omega arith) refl (omega arith) (omega arith)) (λ _.
-    cond_both (fits bus 2 p) 2 1 (IsBeat false) (λ _. beat 2 1 refl (omega arith) refl (omega arith) (omega arith)) (λ _. beat 1 0 refl (omega arith) refl (omega arith) (omega arith))))))
+beat_right bus p = by_fill p.fill _
 
 -- multiples of c add up to one
 pub mod_sum : (a x c : ℕ) → a % c ≡ 0 → x % c ≡ 0 → (a + x) % c ≡ 0
@@ -243,26 +247,21 @@ some_beat (Chip width) = pow_pos (bus_code width)
 ones : (bus : Bus) (p : Piece) → Divides bus p 1
 ones bus p = record { narrow = some_beat bus; src = mod-one p.src; dst = mod-one p.dst }
 
-pub beat_divides : (bus : Bus) (p : Piece) → Divides bus p (beat_of bus p)
+pub beat_divides : (bus : Bus) (p : Piece) → Divides bus p (beat_bytes (beat_of bus p))
 unfolding beat_of
 beat_divides bus p =
-    cond_both p.fill 1 _ (Divides bus p) (λ _. ones bus p) (λ _.
-    cond_both (fits bus 16 p) 16 _ (Divides bus p) (fits_divides bus 16 p) (λ _.
-    cond_both (fits bus 8 p) 8 _ (Divides bus p) (fits_divides bus 8 p) (λ _.
-    cond_both (fits bus 4 p) 4 _ (Divides bus p) (fits_divides bus 4 p) (λ _.
-    cond_both (fits bus 2 p) 2 1 (Divides bus p) (fits_divides bus 2 p) (λ _. ones bus p)))))
+    let divides = λ (size : BeatSize). Divides bus p (beat_bytes size) in
+    cond_both p.fill One _ divides (λ _. ones bus p) (λ _.
+    cond_both (fits bus 16 p) Sixteen _ divides (fits_divides bus 16 p) (λ _.
+    cond_both (fits bus 8 p) Eight _ divides (fits_divides bus 8 p) (λ _.
+    cond_both (fits bus 4 p) Four _ divides (fits_divides bus 4 p) (λ _.
+    cond_both (fits bus 2 p) Two One divides (fits_divides bus 2 p) (λ _. ones bus p)))))
 
-pub one_beat : (fill : Bool) → IsBeat fill 1
+pub one_beat : (fill : Bool) → IsBeat fill One
 one_beat true = filling_beat
-one_beat false = beat 1 0 refl (omega arith) refl (omega arith) (omega arith)
+one_beat false = beat One
 
--- one end of such bursts: it rises, but for the source of a fill
-abbrev end_of : Bool → BeatSize → ℕ → BurstEnd
-end_of rises s k = record { increments = rises; size = s; beats = k; protection = 0; cache = 0 }
-
--- the word of two such ends
-pub both_ends : (rises : Bool) (s : BeatSize) (k : ℕ) → bits_of (record { src = end_of rises s k; dst = end_of true s k }) ≡ control_word (not rises) (beat_bytes s) k
-unfolding bits_of end_bits
-both_ends false One k = omega arith
-both_ends true One k = omega arith
-both_ends rises s k = omega arith
+-- the word of two ends, by whether the source's address increments
+pub both_ends : (rises : Bool) (size : BeatSize) (k : ℕ) → bits_of (record { src = burst_end rises size k; dst = burst_end true size k }) ≡ control_word (not rises) size k
+both_ends false size k = refl
+both_ends true size k = refl

@@ -25,6 +25,7 @@ pub mod RoundCounts
 pub mod WrittenRanges
 pub mod StepsTaken
 pub mod SteppedOver
+pub mod Pace
 pub mod RowMoves
 pub mod AmongOthers
 pub mod TraceParts
@@ -38,13 +39,18 @@ pub mod SinceLoads
 pub mod LaidPlaces
 pub mod CompiledExplained
 pub mod OnBuses
+pub mod NarrowerBus
 pub mod BusKept
 pub mod AddressesAligned
 pub mod LowestPlaces
+pub mod Items
 pub mod TracerSteps
 pub mod TracerBursts
 pub mod Explaining
+pub mod ItemsInTurn
+pub mod TurnSizes
 pub mod Turns
+pub mod Refusals
 pub mod Rows
 pub mod SavedHeads
 pub mod SavedParts

@@ -9,6 +9,9 @@ use Rattle.std.proofs.lemmas.List.FromFn.{length-range_with_len}
 use Rattle.dma_mem.specs.declared.segment.Segment.{Segment}
 use Rattle.dma_mem.specs.Places.{Descriptor, places, sources, destinations}
 use Rattle.dma_mem.specs.Rules.{IsTransfer, IsSegmentList}
+use Rattle.dma_insn.specs.declared.control.BeatSize.{BeatSize}
+use Rattle.dma_insn.specs.declared.control.BeatSize.TheVariants as sizes
+use Rattle.dma_insn.specs.ControlWord.{beat_bytes}
 use Rattle.dma_chan.specs.declared.bus.Bus.{Bus}
 use Rattle.dma_chan.specs.declared.pieces.Piece.{Piece}
 use Rattle.dma_chan.specs.Compiled.{pieces, fill_piece, fill_pieces, pieces_of, piece_tree, beat_of, parts, where_some, under, control_word, bursts, body, wait_tree, signal_tree, tree_on}
@@ -109,13 +112,14 @@ four_bytes a b c i j k f g h = omega (arith, length-append a (b ++ (c ++ (0 ∷ 
 bursts_bytes : (q : ℕ) → length (bytes_of (bursts q)) ≤ 20
 bursts_bytes q = two_bytes _ _ 12 8 (some_bytes (q / 256) 12 _ (omega arith)) (some_bytes (q % 256) 8 _ (omega arith))
 
-parts_bytes : (fill : Bool) (b n : ℕ) → length (bytes_of (parts fill b n)) ≤ 46
+parts_bytes : (fill : Bool) (size : BeatSize) (n : ℕ) → length (bytes_of (parts fill size n)) ≤ 46
 unfolding parts
-parts_bytes fill b n =
+parts_bytes fill size n =
+    let b = beat_bytes size in
     three_bytes _ _ _ 26 10 10
-    (some_bytes (n / (16 * b)) 26 (under (control_word fill b 16) (bursts (n / (16 * b)))) (omega (arith, bursts_bytes (n / (16 * b)))))
-    (some_bytes (n % (16 * b) / b) 10 (under (control_word fill b (n % (16 * b) / b)) body) (omega arith))
-    (some_bytes (n % (16 * b) % b) 10 (under (control_word fill 1 (n % (16 * b) % b)) body) (omega arith))
+    (some_bytes (n / (16 * b)) 26 (under (control_word fill size 16) (bursts (n / (16 * b)))) (omega (arith, bursts_bytes (n / (16 * b)))))
+    (some_bytes (n % (16 * b) / b) 10 (under (control_word fill size (n % (16 * b) / b)) body) (omega arith))
+    (some_bytes (n % (16 * b) % b) 10 (under (control_word fill sizes.One (n % (16 * b) % b)) body) (omega arith))
 
 piece_bytes : (bus : Bus) (p : Piece) → length (bytes_of (piece_tree bus p)) ≤ 58
 piece_bytes bus p = omega (arith, parts_bytes p.fill (beat_of bus p) p.len)

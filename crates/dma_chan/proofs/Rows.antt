@@ -5,7 +5,7 @@ use Rattle.dma_mem.specs.Places.{Descriptor, copying, filling, size_of}
 use Rattle.dma_mem.specs.Rules.{IsTransfer}
 use Rattle.dma_mem.proofs.TransferRules.{size_of_some}
 use Rattle.dma_insn.specs.AssemblyText.{most_program_bytes}
-use Rattle.dma_insn.specs.ControlWord.{control_of, end_at, is_control}
+use Rattle.dma_insn.specs.ControlWord.{bits_of, control_of, end_at, end_bits, is_control}
 use Rattle.dma_insn.specs.declared.assembler.TheConstants.{MAX_PROGRAM_BYTES}
 use Rattle.dma_insn.specs.Chip.{decoded, decoded_core}
 use Rattle.dma_insn.specs.declared.chip.Address.TheVariants.{Source, Destination}
@@ -117,11 +117,11 @@ four =
 
 -- DMAMOV SAR, DMAMOV DAR, DMAMOV CCR with one beat of four bytes at both ends, DMALD, DMARMB, DMAST, DMAWMB, DMAEND
 four_compiled : (compiled four).bytes ≡ 188 ∷ 0 ∷ 0 ∷ 16 ∷ 0 ∷ 0 ∷ 188 ∷ 2 ∷ 0 ∷ 32 ∷ 0 ∷ 0 ∷ 188 ∷ 1 ∷ 5 ∷ 64 ∷ 1 ∷ 0 ∷ 4 ∷ 18 ∷ 8 ∷ 19 ∷ 0 ∷ []
-unfolding compiled parts beat_of
+unfolding compiled parts beat_of bits_of end_bits
 four_compiled = refl
 
 four_costs : cost four ≡ 8
-unfolding cost members parts beat_of
+unfolding cost members parts beat_of bits_of end_bits
 four_costs = refl
 
 -- 20 bytes from 0x20 on with the byte at 0x10
@@ -130,11 +130,11 @@ twenty = filling 16 (record { addr = 32; len = 20 } ∷ []) None None
 
 -- one burst of 16 beats of a byte, and one of four: their control words are 0x003C40F0 and 0x000C4030, with bit 0 clear
 twenty_compiled : (compiled twenty).bytes ≡ 188 ∷ 0 ∷ 16 ∷ 0 ∷ 0 ∷ 0 ∷ 188 ∷ 2 ∷ 32 ∷ 0 ∷ 0 ∷ 0 ∷ 188 ∷ 1 ∷ 240 ∷ 64 ∷ 60 ∷ 0 ∷ 34 ∷ 0 ∷ 4 ∷ 18 ∷ 8 ∷ 19 ∷ 60 ∷ 4 ∷ 188 ∷ 1 ∷ 48 ∷ 64 ∷ 12 ∷ 0 ∷ 4 ∷ 18 ∷ 8 ∷ 19 ∷ 0 ∷ []
-unfolding compiled parts beat_of
+unfolding compiled parts beat_of bits_of end_bits
 twenty_compiled = refl
 
 twenty_costs : cost twenty ≡ 15
-unfolding cost members parts beat_of
+unfolding cost members parts beat_of bits_of end_bits
 twenty_costs = refl
 
 -- 16 bytes from 0x1000 to 0x2000
@@ -148,15 +148,15 @@ abbrev under_word : List ℕ → List ℕ
 under_word word = 188 ∷ 0 ∷ 0 ∷ 16 ∷ 0 ∷ 0 ∷ 188 ∷ 2 ∷ 0 ∷ 32 ∷ 0 ∷ 0 ∷ 188 ∷ 1 ∷ [] ++ (word ++ 4 ∷ 18 ∷ 8 ∷ 19 ∷ 0 ∷ [])
 
 sixteen_on_32_bits : (compiled_on (Chip Bits32) sixteen).bytes ≡ under_word (53 ∷ 64 ∷ 13 ∷ 0 ∷ [])
-unfolding compiled_on parts beat_of
+unfolding compiled_on parts beat_of bits_of end_bits
 sixteen_on_32_bits = refl
 
 sixteen_on_64_bits : (compiled_on (Chip Bits64) sixteen).bytes ≡ under_word (23 ∷ 192 ∷ 5 ∷ 0 ∷ [])
-unfolding compiled_on parts beat_of
+unfolding compiled_on parts beat_of bits_of end_bits
 sixteen_on_64_bits = refl
 
 sixteen_on_128_bits : (compiled_on (Chip Bits128) sixteen).bytes ≡ under_word (9 ∷ 64 ∷ 2 ∷ 0 ∷ [])
-unfolding compiled_on parts beat_of
+unfolding compiled_on parts beat_of bits_of end_bits
 sixteen_on_128_bits = refl
 
 -- ---- a chip's instructions, by their codes in the manual

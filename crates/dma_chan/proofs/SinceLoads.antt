@@ -18,7 +18,7 @@ use Rattle.dma_chan.specs.Written.{LiesIn}
 use Rattle.dma_chan.specs.declared.explain.Amounts.{Amounts}
 use Rattle.dma_chan.specs.Others.{IsWorked, Touches, Uses}
 use Rattle.dma_chan.specs.Explains.{DoneGrows, Executes, Explains, IsLoadedWith, IsReached, IsWork, Work, all_of, amounts_of, cleared, traced}
-use Rattle.dma_chan.specs.Changes.{System, Call, Change, Sets, Calls, Guest, DoesCall, TakesCall, Does, DoesAll, LendsAll, SinceLoad, KeepsUsed, LeavesAlone, HasFirst, HasCopied, CopiesSinceLoad, bytes_in, Holds, Gives, HaveWorks, WritesElsewhere, IsApart, ChannelsCopy}
+use Rattle.dma_chan.specs.Changes.{System, Call, Change, Sets, Calls, Guest, DoesCall, TakesCall, MakesChange, DoesAll, LendsAll, SinceLoad, KeepsUsed, LeavesAlone, HasFirst, HasCopied, CopiesSinceLoad, bytes_in, Holds, Gives, HaveWorks, WritesElsewhere, IsApart, ChannelsCopy}
 use Rattle.dma_chan.proofs.AmongOthers.{Fits, amounts, is_in}
 use Rattle.dma_chan.proofs.CallsAmongOthers.{done_at, Leads, Runs, at_first, call, call_fails, call_waits, either_way, not_none, signalled, survived}
 use Rattle.dma_chan.proofs.CallWrites.{call_stays_in, call_writes_no_other, inside}
@@ -92,6 +92,12 @@ worked_part work first image h =
       rest = λ a i off. absurd (off (subst (λ (xs : List ℕ). Contains xs a) (sym zeros) i));
     }
 
+-- all is done behind the n instructions
+pub all_done : (start : Registers) (program : List ℕ) (work : Work) (n : ℕ) → Explains start program work n → amounts_of (traced start program n) ≡ all_of work
+all_done start program work n h =
+    ap (λ (xs : List ℕ). amounts (length xs) (length (traced start program n).zeros)) h.stores
+    ∙ ap (λ (xs : List ℕ). amounts (size_of work.copy) (length xs)) h.zeros
+
 module _ (start : Registers) (program : List ℕ) (work : Work) (n : ℕ) (first : List ℕ) (h : Explains start program work n) where
   -- what a machine's channel has done, and its image
   pub record IsSoFar (v : Machine) : Type 0 where
@@ -121,14 +127,8 @@ module _ (start : Registers) (program : List ℕ) (work : Work) (n : ℕ) (first
         rest = λ a i off. m.rest a i (λ j. off (subst (λ (xs : List ℕ). Contains xs a) (sym zeros) j));
       })
 
-  -- all is done behind the n instructions
-  all_done : amounts_of (traced start program n) ≡ all_of work
-  all_done =
-      ap (λ (xs : List ℕ). amounts (length xs) (length (traced start program n).zeros)) h.stores
-      ∙ ap (λ (xs : List ℕ). amounts (size_of work.copy) (length xs)) h.zeros
-
   leads_so : (o : Option ChanTurn) (v : Machine) → Leads start program work n first o v → IsSoFar v
-  leads_so (Some Ended) v d = so_far v (all_of work) d.done d.stored (n, omega arith, all_done) (worked_part work first v.image d.all)
+  leads_so (Some Ended) v d = so_far v (all_of work) d.done d.stored (n, omega arith, all_done start program work n h) (worked_part work first v.image d.all)
   leads_so o v r = runs_so v r
 
 module _ (start : Registers) (program : List ℕ) (work : Work) (n : ℕ) (first : List ℕ) (h : Explains start program work n) (low : Fits work (length first)) where
@@ -198,7 +198,7 @@ module _ (start : Registers) (program : List ℕ) (work : Work) (n : ℕ) (size 
   called c s v takes lent i =
       left c s v takes lent (either_way start program work n first c.last c.left (leads start program work n first h (within memory) c (found c s v takes lent i) takes.does))
 
-  changed : (ch : ℕ) (change : Change) (s v : System) → Does change s v → LeavesAlone work ch change s v → Is ch s → Is ch v
+  changed : (ch : ℕ) (change : Change) (s v : System) → MakesChange change s v → LeavesAlone work ch change s v → Is ch s → Is ch v
   changed ch (Sets other c) s v does alone i = elim (cases_eq other ch) [
     | inl e ↦ kept ch s v (subst (λ (d : ℕ). v.channels d ≡ c) e does.0 ∙ alone e) (λ a touches. does.1.1 a) i
     | inr ne ↦ kept ch s v (does.1.0 ch (λ e. ne (sym e))) (λ a touches. does.1.1 a) i
@@ -227,7 +227,7 @@ module _ (start : Registers) (program : List ℕ) (work : Work) (n : ℕ) (size 
 
 module _ (start : Registers) (program : List ℕ) (work : Work) (n : ℕ) (changes : ℕ → Change) (states : ℕ → System) (load now : ℕ) (c : Call) (h : Explains start program work n) (does : DoesAll changes states load (now + 1)) (since : SinceLoad start program work changes states load now c (λ k. LeavesAlone work c.channel)) where
   takes : TakesCall c (states now) (states (now + 1))
-  takes = let later = since.later in subst (λ (x : Change). Does x (states now) (states (now + 1))) since.is_call (does now (omega arith) (omega arith))
+  takes = let later = since.later in subst (λ (x : Change). MakesChange x (states now) (states (now + 1))) since.is_call (does now (omega arith) (omega arith))
 
   -- the size of the memory that the call is lent
   abbrev size : ℕ
@@ -243,7 +243,7 @@ module _ (start : Registers) (program : List ℕ) (work : Work) (n : ℕ) (chang
   after_load =
       let later = since.later in
       let memory = (states load).memory in
-      let d = subst (λ (x : Change). Does x (states load) (states (load + 1))) since.loads.2 (does load (omega arith) (omega arith)) in
+      let d = subst (λ (x : Change). MakesChange x (states load) (states (load + 1))) since.loads.2 (does load (omega arith) (omega arith)) in
       let is_loaded = subst (IsLoadedWith start program) (sym d.0) since.loads.1 in
       let s = states (load + 1) in
       kept start program work n size memory h low c.channel (record s { memory = memory }) s refl (λ a touches. d.1.1 a)
@@ -314,7 +314,7 @@ module _ (c : Call) (s v : System) (takes : TakesCall c s v) where
 same_held : (o p : Option Work) (c d : ChannelValue) → p ≡ o → d ≡ c → Holds o c → Holds p d
 same_held o p c d e f h = subst (λ (x : Option Work). Holds x d) (sym e) (subst (Holds o) (sym f) h)
 
-one : (change : Change) (before after : ℕ → Option Work) (s v : System) → Does change s v → Gives change before after → ((ch : ℕ) → Holds (before ch) (s.channels ch)) → (ch : ℕ) → Holds (after ch) (v.channels ch)
+one : (change : Change) (before after : ℕ → Option Work) (s v : System) → MakesChange change s v → Gives change before after → ((ch : ℕ) → Holds (before ch) (s.channels ch)) → (ch : ℕ) → Holds (after ch) (v.channels ch)
 one (Sets d c) before after s v does gives holds ch = elim (cases_eq ch d) [
   | inl e ↦ subst (λ (k : ℕ). Holds (after k) (v.channels k)) (sym e) (subst (Holds (after d)) (sym does.0) gives.0)
   | inr ne ↦ same_held (before ch) (after ch) (s.channels ch) (v.channels ch) (gives.1 ch ne) (does.1.0 ch ne) (holds ch)
@@ -328,7 +328,7 @@ one (Calls c) before after s v takes gives holds ch = elim (cases_eq ch c.channe
   | inr ne ↦ same_held (before ch) (after ch) (s.channels ch) (v.channels ch) (gives ch) (takes.others ch ne) (holds ch)
 ]
 
-apart_alone : (work : Work) (ch : ℕ) (own : ℕ → Option Work) (change : Change) (s v : System) → Does change s v → ((d : ℕ) → Holds (own d) (s.channels d)) → IsApart work ch own change s v → LeavesAlone work ch change s v
+apart_alone : (work : Work) (ch : ℕ) (own : ℕ → Option Work) (change : Change) (s v : System) → MakesChange change s v → ((d : ℕ) → Holds (own d) (s.channels d)) → IsApart work ch own change s v → LeavesAlone work ch change s v
 apart_alone work ch own (Calls c) s v takes holds apart = (apart.0, λ ne. elsewhere c s v takes work (own c.channel) (holds c.channel) (apart.1 ne))
 apart_alone work ch own change s v does holds apart = apart
 

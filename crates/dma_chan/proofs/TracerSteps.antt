@@ -1,5 +1,5 @@
 -- The instructions of a run without memory, as its tracer keeps them, but for its bursts.
-use Rattle.std.proofs.Common.{◌≡◌, ◌≢◌, ℕ, Bool, true, false, cond, ◌&&◌, List, [], ◌∷◌, ◌++◌, length, Some, None, Result, Ok, Err, refl, sym, ap, ◌∙◌, subst, arith, append-nil, inl, inr, IfErr, OnOk, All}
+use Rattle.std.proofs.Common.{◌≡◌, ◌≢◌, ℕ, Bool, true, false, cond, ◌&&◌, List, [], ◌∷◌, ◌++◌, length, Some, None, Result, Ok, Err, refl, sym, ap, ◌∙◌, subst, arith, append-nil, inl, inr, IfErr, OnOk}
 use Rattle.std.specs.Prelude.{nat_lt, not}
 use Rattle.std.proofs.lemmas.Bool.{cases_Bool, not-false, not-true}
 use Rattle.dma_insn.specs.declared.insn.Counter.{Counter}
@@ -24,13 +24,14 @@ use Rattle.dma_chan.specs.declared.turn.FaultKind.{FaultKind}
 use Rattle.dma_chan.specs.declared.turn.FaultKind.TheVariants.{InstrFetchErr, OperandInvalid}
 use Rattle.dma_chan.specs.Bursts.{drops}
 use Rattle.dma_chan.specs.Exec.{State, act, destination_of, counter_of, moved, past, state}
-use Rattle.dma_chan.specs.Explains.{IsRead, IsRun, Trace, after_insn, amounts_of, happening_of, held, stop_of_insn, stop_of_mov, unrolled}
+use Rattle.dma_chan.specs.Items.{Items, with_burst}
+use Rattle.dma_chan.specs.Explains.{Trace, after_insn, amounts_of, happening_of, held, stop_of_insn, stop_of_mov, unrolled}
 use Rattle.dma_chan.specs.inner.Acts.{SetsKeeping, SetsRegisters}
-use Rattle.dma_chan.specs.inner.Tracing.{Advances, IsTracer, Stops, trace_of}
+use Rattle.dma_chan.specs.inner.Tracing.{Advances, AreItems, IsTracer, Stops, lists_of, trace_of}
 use Rattle.dma_chan.proofs.CallWrites.{act_leads}
 use Rattle.dma_chan.proofs.GoingOn.{passed}
 use Rattle.dma_chan.proofs.KeptBytes.{drops_same, kept_none}
-use Rattle.dma_chan.proofs.TraceParts.{same_amounts, same_parts}
+use Rattle.dma_chan.proofs.TraceParts.{same_amounts, same_lists, same_parts}
 
 -- ---- instructions that change only registers
 
@@ -56,14 +57,21 @@ quiet_trace St z q = absurd q
 quiet_trace StoreZeros z q = absurd q
 quiet_trace i z q = refl
 
+quiet_lists : (i : ChipInsn) (r : Registers) (x : Items) → IsQuiet i → x ≡ with_burst (Ok i) r x
+quiet_lists Ld r x q = absurd q
+quiet_lists St r x q = absurd q
+quiet_lists StoreZeros r x q = absurd q
+quiet_lists i r x q = refl
+
 quiet_advances : (i : ChipInsn) (x : Tracer) (after : Registers) → IsQuiet i → IsTracer x → after ≡ moved i x.registers → stop_of_insn i (trace_of x) ≡ None → Advances i x (record x { registers = after })
 quiet_advances i x after q h to goes = record {
-  tracer = record { few = h.few; held = h.held; room = h.room; done = h.done; src = h.src; dst = h.dst; zeros = h.zeros };
+  tracer = record { few = h.few; held = h.held; room = h.room; done = h.done; items = h.items };
   goes = goes;
   trace = ap (λ (r : Registers). record (trace_of x) { registers = r }) to ∙ quiet_trace i (trace_of x) q;
   events =
       sym (append-nil x.events.items)
       ∙ ap (λ (es : List Happening). x.events.items ++ es) (sym (quiet_events i (amounts_of (trace_of x)) q));
+  lists = quiet_lists i x.registers (lists_of x) q;
 }
 
 -- an answer that is no fault
@@ -288,13 +296,14 @@ module _ {X : Type 0} (done : Result X Cause) (x : Tracer) (after : Registers) (
 record Syncs (i : ChipInsn) (z : Trace) : Type 0 where
   goes : stop_of_insn i z ≡ None
   trace : record z { registers = past i z.registers } ≡ after_insn i z
+  items : (x : Items) → x ≡ with_burst (Ok i) z.registers x
 
 abbrev pub Happens : ChipInsn → Sync → Type 0
 Happens i s = (done : Amounts) → happening_of (Ok i) done ≡ record { sync = s; done = done } ∷ []
 
 syncs : (i : ChipInsn) (s : Sync) (z : Trace) → Happens i s → Syncs i z
-syncs (Wfe e v) s z h = record { goes = refl; trace = refl }
-syncs (Sev e) s z h = record { goes = refl; trace = refl }
+syncs (Wfe e v) s z h = record { goes = refl; trace = refl; items = λ x. refl }
+syncs (Sev e) s z h = record { goes = refl; trace = refl; items = λ x. refl }
 syncs i s z h =
     let none : Amounts = record { copied = 0; cleared = 0 } in
     absurd (let bad : [] ≡ record { sync = s; done = none } ∷ [] = h none in cc)
@@ -305,15 +314,14 @@ happen_advances i s x y h is registers held_same done src dst zeros events =
     let loads = ap (λ v. places (unrolled v.items)) src in
     let stores = ap (λ v. places v.items) dst in
     let clears = ap (λ v. places v.items) zeros in
+    let lists : lists_of y ≡ lists_of x = same_lists (ap (λ v. v.items) src) (ap (λ v. v.items) dst) (ap (λ v. v.items) zeros) in
     record {
       tracer = record {
         few = omega (arith, h.few, ap length loads, ap length stores);
         held = omega (arith, held_same, h.held, ap length loads, ap length stores);
         room = omega (arith, held_same, h.room);
         done = done ∙ h.done ∙ same_amounts (ap length (sym stores)) (ap length (sym clears));
-        src = subst (λ v. All IsRead v.items) (sym src) h.src;
-        dst = subst (λ v. All IsRun v.items) (sym dst) h.dst;
-        zeros = subst (λ v. All IsRun v.items) (sym zeros) h.zeros;
+        items = subst AreItems (sym lists) h.items;
       };
       goes = w.goes;
       trace = same_parts registers loads stores clears ∙ w.trace;
@@ -321,4 +329,5 @@ happen_advances i s x y h is registers held_same done src dst zeros events =
           events
           ∙ ap (λ (done : Amounts). x.events.items ++ record { sync = s; done = done } ∷ []) h.done
           ∙ ap (λ (es : List Happening). x.events.items ++ es) (sym (is (amounts_of (trace_of x))));
+      lists = lists ∙ w.items (lists_of x);
     }

@@ -5,6 +5,9 @@ use Rattle.dma_insn.specs.declared.insn.Counter.TheVariants.{Lc0, Lc1}
 use Rattle.dma_insn.specs.declared.chip.ChipInsn.{ChipInsn}
 use Rattle.dma_insn.specs.declared.chip.ChipInsn.TheVariants.{LpEnd}
 use Rattle.dma_mem.specs.Places.{Descriptor}
+use Rattle.dma_insn.specs.declared.control.BeatSize.{BeatSize}
+use Rattle.dma_insn.specs.declared.control.BeatSize.TheVariants as sizes
+use Rattle.dma_insn.specs.ControlWord.{beat_bytes}
 use Rattle.dma_chan.specs.declared.bus.Bus.{Bus}
 use Rattle.dma_chan.specs.declared.bus.Bus.TheVariants.{Ideal}
 use Rattle.dma_chan.specs.declared.pieces.Piece.{Piece}
@@ -69,15 +72,16 @@ bursts_below : (q b : ℕ) → 1 ≤ b → 16 * q ≤ q * (16 * b)
 bursts_below zero b low = omega arith
 bursts_below (suc q) b low = omega (arith, bursts_below q b low)
 
-parts_counted : (fill : Bool) (b n : ℕ) → 1 ≤ b → 16 * counted (parts fill b n) ≤ 208 + 6 * n
+parts_counted : (fill : Bool) (size : BeatSize) (n : ℕ) → 1 ≤ beat_bytes size → 16 * counted (parts fill size n) ≤ 208 + 6 * n
 unfolding parts
-parts_counted fill b n low =
+parts_counted fill size n low =
+    let b = beat_bytes size in
     let q = n / (16 * b) in
     let m = n % (16 * b) / b in
     let l = n % (16 * b) % b in
-    let x = under (control_word fill b 16) (bursts q) in
-    let y = under (control_word fill b m) body in
-    let z = under (control_word fill 1 l) body in
+    let x = under (control_word fill size 16) (bursts q) in
+    let y = under (control_word fill size m) body in
+    let z = under (control_word fill sizes.One l) body in
     let one : counted x ≤ 3 + 6 * q = let all = bursts_counted q in omega (arith, all) in
     let two : counted y ≤ 5 = omega arith in
     let three : counted z ≤ 5 = omega arith in

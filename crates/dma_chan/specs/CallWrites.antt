@@ -20,7 +20,7 @@ CallWritesNoOther =
 
 -- What a call on a channel does whose program this work explains: it writes only what the work writes, and the channel
 -- still executes the program or has ended it.
-pub record StaysIn (start : Registers) (program : List ℕ) (w : Work) (n : ℕ) (marks : MarkList) (before : Machine)
+pub record CallStays (start : Registers) (program : List ℕ) (w : Work) (n : ℕ) (marks : MarkList) (before : Machine)
     (taken : ℕ) (after : Machine) : Type 0 where
   pub writes : (a : ℕ) → LiesIn (written_after marks before taken) a → Contains (written w) a
   pub channel : Executes start program n after.channel ⊎ (after.channel.program ≡ None)
@@ -38,4 +38,4 @@ CallStaysIn =
     (start : Registers) (program : List ℕ) (w : Work) (n : ℕ) (marks : MarkList) (s : Machine) (most taken : ℕ)
     (last : Option ChanTurn) (after : Machine) →
     Explains start program w n → Executes start program n s.channel → TakesSteps marks s most taken last after →
-    StaysIn start program w n marks s taken after
+    CallStays start program w n marks s taken after

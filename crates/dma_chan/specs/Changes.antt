@@ -68,15 +68,15 @@ pub record TakesCall (call : Call) (before after : System) : Type 0 where
   pub others : OthersStay call.channel before after
 
 -- what a change does
-abbrev pub Does : Change → System → System → Type 0
-Does (Sets ch c) before after =
+abbrev pub MakesChange : Change → System → System → Type 0
+MakesChange (Sets ch c) before after =
     (after.channels ch ≡ c) × (OthersStay ch before after × ((a : ℕ) → after.memory a ≡ before.memory a))
-Does (Calls call) before after = TakesCall call before after
-Does Guest before after = (ch : ℕ) → after.channels ch ≡ before.channels ch
+MakesChange (Calls call) before after = TakesCall call before after
+MakesChange Guest before after = (ch : ℕ) → after.channels ch ≡ before.channels ch
 
 -- from change number `from` on, up to `count`, change number k leads from state k to state k + 1
 abbrev pub DoesAll : (ℕ → Change) → (ℕ → System) → ℕ → ℕ → Type 0
-DoesAll changes states from count = (k : ℕ) → from ≤ k → k < count → Does (changes k) (states k) (states (k + 1))
+DoesAll changes states from count = (k : ℕ) → from ≤ k → k < count → MakesChange (changes k) (states k) (states (k + 1))
 
 -- ---- one program, since its load
 
@@ -86,7 +86,8 @@ LendsAll w call = (a : ℕ) → Uses w a → call.lends a ≡ true
 
 -- A program that begins with these bytes is loaded into a channel by change number `load`, and change number `now` is a
 -- call on this channel. This call is lent what the work uses, and each change between these two spares the work. What
--- happens before the load or after the call has no influence.
+-- happens before the load or after the call has no influence. `load` may also be a later change, before the channel's
+-- first step, that gives the channel the value that it has: then others may write any byte before it.
 pub record SinceLoad (start : Registers) (program : List ℕ) (w : Work) (changes : ℕ → Change) (states : ℕ → System)
     (load now : ℕ) (call : Call) (Spares : ℕ → Change → System → System → Type 0) : Type 0 where
   pub later : load < now

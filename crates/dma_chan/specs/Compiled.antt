@@ -1,7 +1,11 @@
 -- The compiled form of a transfer for a bus (profile; the instructions are the PL330 manual's).
-use Rattle.std.specs.Prelude.{ℕ, zero, suc, ◌+◌, ◌-◌, ◌*◌, ◌/◌, ◌%◌, ◌^◌, Bool, true, false, ◌&&◌, ◌==◌, nat_le, nat_lt, if◌then◌else◌, List, [], ◌∷◌, ◌++◌, map, length, Option, Some}
+use Rattle.std.specs.Prelude.{ℕ, zero, suc, ◌+◌, ◌-◌, ◌*◌, ◌/◌, ◌%◌, Bool, true, false, not, ◌&&◌, ◌==◌, nat_le, nat_lt, if◌then◌else◌, List, [], ◌∷◌, ◌++◌, map, length, Option, Some}
 use Rattle.std.specs.List.{flat_map}
 use Rattle.std.specs.Option.{option_map_or}
+use Rattle.dma_insn.specs.declared.control.BeatSize.{BeatSize}
+use Rattle.dma_insn.specs.declared.control.BeatSize.TheVariants as sizes
+use Rattle.dma_insn.specs.declared.control.BurstEnd.{BurstEnd}
+use Rattle.dma_insn.specs.ControlWord.{beat_bytes, bits_of}
 use Rattle.dma_insn.specs.declared.insn.Reg.TheVariants.{Sar, Ccr, Dar}
 use Rattle.dma_insn.specs.declared.insn.Counter.TheVariants.{Lc0, Lc1}
 use Rattle.dma_insn.specs.declared.chip.ChipInsn.{ChipInsn}
@@ -55,23 +59,22 @@ pieces_of t = if t.fill then fill_pieces t.src t.dst else pieces t.src t.dst
 abbrev pub fits : Bus → ℕ → Piece → Bool
 fits bus b p = nat_le b (widest_beat bus) && p.src % b == 0 && p.dst % b == 0 && nat_le b p.len
 
--- how many bytes a beat of a piece has on a bus: the largest of 16, 8, 4, 2 and 1 that fits, and in a fill 1
-unfoldable pub beat_of : Bus → Piece → ℕ
+-- the size of a piece's beats on a bus: the largest of 16, 8, 4, 2 and 1 bytes that fits, and in a fill 1
+unfoldable pub beat_of : Bus → Piece → BeatSize
 beat_of bus p =
-    if p.fill then 1 else (
-    if fits bus 16 p then 16 else (
-    if fits bus 8 p then 8 else (if fits bus 4 p then 4 else (if fits bus 2 p then 2 else 1))))
+    if p.fill then sizes.One else (
+    if fits bus 16 p then sizes.Sixteen else (
+    if fits bus 8 p then sizes.Eight else (
+    if fits bus 4 p then sizes.Four else (if fits bus 2 p then sizes.Two else sizes.One))))
 
--- the number that encodes a beat's size in the control word (PL330 manual, channel control register)
-abbrev pub size_code : ℕ → ℕ
-size_code b = if b == 16 then 4 else (if b == 8 then 3 else (if b == 4 then 2 else (if b == 2 then 1 else 0)))
+-- one end of bursts of k beats of this size, whose address increments or not
+abbrev pub burst_end : Bool → BeatSize → ℕ → BurstEnd
+burst_end increments size k = record { increments = increments; size = size; beats = k; protection = 0; cache = 0 }
 
--- The control word of bursts of k beats of b bytes at both ends. Both addresses increment, or in a fill the destination
--- alone: source increment in bit 0, source size from bit 1 and length from bit 4, destination increment in bit 14, size
--- from bit 15 and length from bit 18.
-abbrev pub control_word : Bool → ℕ → ℕ → ℕ
-control_word fill b k =
-    (if fill then 0 else 1) + 2 * size_code b + 2 ^ 4 * (k - 1) + 2 ^ 14 + 2 ^ 15 * size_code b + 2 ^ 18 * (k - 1)
+-- The control word of bursts of k beats of this size at both ends. Both addresses increment, or in a fill the
+-- destination's alone.
+abbrev pub control_word : Bool → BeatSize → ℕ → ℕ
+control_word fill size k = bits_of (record { src = burst_end (not fill) size k; dst = burst_end true size k })
 
 -- The instructions that read and write one burst, each followed by its barrier.
 abbrev pub body : Tree
@@ -93,17 +96,18 @@ bursts q =
 abbrev pub under : ℕ → Tree → Tree
 under w t = Then (One (Mov Ccr w)) t
 
--- n bytes starting at the addresses in the registers: bursts of 16 beats of b bytes, then one burst of the remaining
+-- n bytes starting at the addresses in the registers: bursts of 16 beats of this size, then one burst of the remaining
 -- full beats, then one burst of the remaining bytes, with beats of 1 byte
-unfoldable pub parts : Bool → ℕ → ℕ → Tree
-parts fill b n =
+unfoldable pub parts : Bool → BeatSize → ℕ → Tree
+parts fill size n =
+    let b = beat_bytes size in
     let q = n / (16 * b) in
     let m = n % (16 * b) / b in
     let t = n % (16 * b) % b in
     in_order (
-    where_some q (under (control_word fill b 16) (bursts q))
-    ∷ where_some m (under (control_word fill b m) body)
-    ∷ where_some t (under (control_word fill 1 t) body) ∷ [])
+    where_some q (under (control_word fill size 16) (bursts q))
+    ∷ where_some m (under (control_word fill size m) body)
+    ∷ where_some t (under (control_word fill sizes.One t) body) ∷ [])
 
 -- the code of a piece: it sets both addresses, and then moves the bytes with the beats of `beat_of`
 abbrev pub piece_tree : Bus → Piece → Tree

@@ -4,7 +4,6 @@ pub mod Next
 pub mod Bus
 pub mod Exec
 pub mod Aligned
-pub mod BlockLoops
 pub mod Programs
 pub mod Channel
 pub mod Written
@@ -20,6 +19,7 @@ pub mod Traffic
 pub mod Layer
 pub mod Ready
 pub mod Fails
+pub mod Items
 pub mod Explains
 pub mod OnBuses
 pub mod RunPages
@@ -27,6 +27,8 @@ pub mod Others
 pub mod Alone
 pub mod CallWrites
 pub mod Reads
+pub mod Pace
 pub mod Changes
 pub mod LentRegions
+pub mod Refusals
 pub mod inner

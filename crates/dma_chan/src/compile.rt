@@ -158,7 +158,7 @@ fn push_piece(code: &mut Vec<u8>, bus: Bus, piece: Piece) -> Result<(), AllocErr
 fn push_parts(code: &mut Vec<u8>, beat: Beat, len: u32) -> Result<(), AllocError>
     requires { len ≤ 2 ^ 20 }
     ensures ok { OnOk result (Appends code.old.items code.new.items
-        (parts (not beat.source_rises) (beat_bytes beat.size) len)) }
+        (parts (not beat.source_rises) beat.size len)) }
 {
     let bytes = beat.size.bytes();
     let whole = 16 * bytes;
@@ -285,7 +285,7 @@ fn fits(bus: Bus, size: BeatSize, piece: Piece) -> bool
 // Returns the size of a piece's beats on a bus: one byte in a fill, else the largest size that fits.
 #[tactic(auto, unfolding(crate::specs::Compiled::beat_of))]
 fn beat_of(bus: Bus, piece: Piece) -> BeatSize
-    ensures { beat_bytes result ≡ beat_of bus piece }
+    ensures { result ≡ beat_of bus piece }
 {
     if piece.fill {
         BeatSize::One

@@ -7,13 +7,11 @@ ghost use Rattle.dma_mem.specs.Places.{places};
 ghost use Rattle.dma_chan.specs.Explains.{Finds, HasAddress, Refuses, bursts_in, unrolled, written_in};
 ghost use Rattle.dma_chan.specs.inner.Tracing.{IsCopied, IsTracer, Stops, trace_of};
 
-mod counts;
 mod ranges;
 mod tracer;
 mod turns;
 
 use crate::exec::Registers;
-use crate::explain::counts::LastLoop;
 use crate::explain::ranges::overlap;
 use crate::explain::tracer::Tracer;
 use crate::next::Next;
@@ -62,12 +60,6 @@ pub struct BurstCounts {
     pub loads: u32,
     /// How many DMAST.
     pub stores: u32,
-    /// How many pairs of a DMALD and a DMAST are in turns of loops that a channel runs as blocks, many turns at once.
-    ///
-    /// The body of such a loop is pairs of a DMALD and a DMAST, with any number of DMARMB, DMAWMB and DMANOP between
-    /// and around them. Loads move as many bytes as stores, destinations rise, sources rise too or are one byte, and
-    /// the buffer is empty between turns. Each executed DMALPEND counts the pairs of one turn.
-    pub in_blocks: u64,
 }
 
 /// What a program copies, byte number p of the sources' places to byte number p of the destinations', and what it sets
@@ -214,7 +206,6 @@ pub fn explain(
         });
     }
     let mut tracer = Tracer::new(alloc, start);
-    let mut last = LastLoop::none();
     let mut steps = 0;
     while steps < most {
         let pc = tracer.registers.pc;
@@ -242,7 +233,7 @@ pub fn explain(
                 }),
             };
         }
-        match tracer.run(program, next, most - steps, &mut last) {
+        match tracer.run(program, next, most - steps) {
             Ok(count) => steps += count,
             Err(cause) => {
                 return Err(Unexplained { cause, ..here });

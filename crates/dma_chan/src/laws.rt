@@ -1,16 +1,18 @@
 //! Laws of transfers' programs. Each law is the postcondition of a function that does nothing.
 
 ghost use Rattle.dma_chan.specs.Alone.{ExplainedCopiesAlone};
-ghost use Rattle.dma_chan.specs.Layer.{StartsAt, AheadIs, LeftIs, StepIs, TurnReports, Survives, ShapeIs, CostIs, CostOnBus, StoredIs};
+ghost use Rattle.dma_chan.specs.Layer.{StartsAt, AheadIs, LeftIs, StepIs, TurnReports, Survives, CostIs, CostOnBus};
 ghost use Rattle.dma_chan.specs.CallWrites.{CallWritesNoOther, LoadExecutes, CallStaysIn};
 ghost use Rattle.dma_chan.specs.Changes.{CopiesSinceLoad, ChannelsCopy, LaidByPlace};
 ghost use Rattle.dma_chan.specs.Aligned.{AddressesAlign};
-ghost use Rattle.dma_chan.specs.Explains.{DoneGrows, ExplainedOnce, RefusedUnexplained};
+ghost use Rattle.dma_chan.specs.Explains.{DoneGrows, ExplainedOnce, FoundOnce, RefusedUnexplained};
 ghost use Rattle.dma_chan.specs.LentRegions.{GapsMiss};
-ghost use Rattle.dma_chan.specs.OnBuses.{CompiledEvents, CompiledExplained, CompiledOnBus, ExplainedOnBus};
-ghost use Rattle.dma_chan.specs.Others.{CallsCopyAmongOthers, CopiesAmongOthers, WritesNoOther};
+ghost use Rattle.dma_chan.specs.OnBuses.{CompiledEvents, CompiledExplained, CompiledOnBus, EventsOnWidths, ExplainedNarrower, ExplainedOnBus, TracedOnWidths};
+ghost use Rattle.dma_chan.specs.Others.{WritesNoOther};
+ghost use Rattle.dma_chan.specs.Pace.{OrderIs, StoredIs, StaysInStep, GetsToEnd};
 ghost use Rattle.dma_chan.specs.Reads.{CallReadsIn, CallReadsNoOther, ReadsNoOther};
 ghost use Rattle.dma_chan.specs.Ready.{ReadyIs};
+ghost use Rattle.dma_chan.specs.Refusals.{FaultsAreRefusals, RefusalsAreFaults};
 ghost use Rattle.dma_chan.specs.Stepping.{WritesEach};
 
 /// What a channel does at each step of a transfer's program, in terms of the places of the transfer alone.
@@ -30,10 +32,14 @@ pub fn is_ready_on_pages()
     ensures { ReadyIs }
 {}
 
-/// Which instructions a transfer's program executes, and how the number of bytes stored grows.
-pub fn stores_in_turn()
-    ensures shape { ShapeIs }
+/// How fast a transfer moves: the order of its instructions, and how the number of bytes stored grows. Of `cost`,
+/// `member`, `burst` and `stored_after`, a reader of the engine's contracts needs to know only these two clauses. The
+/// other two say what they are exactly: what a channel executes into which the transfer's program was loaded.
+pub fn pace()
+    ensures order { OrderIs }
     ensures stored { StoredIs }
+    ensures steps { StaysInStep }
+    ensures ends { GetsToEnd }
 {}
 
 /// The limit on the number of instructions that a transfer costs.
@@ -63,6 +69,14 @@ pub fn aligned_is_explained()
     ensures { ExplainedOnBus }
 {}
 
+/// What explains a program on a chip's bus explains it on each narrower one that the program's beats fit. A run without
+/// memory, which no fault stops, is the same on chips' buses of all widths, and so are its events.
+pub fn narrower_is_explained()
+    ensures explained { ExplainedNarrower }
+    ensures traced { TracedOnWidths }
+    ensures events { EventsOnWidths }
+{}
+
 /// On a chip's bus an executed load or store whose address rises leaves the address at a multiple of its beat's size.
 /// Each burst leaves out less than a beat.
 pub fn addresses_align()
@@ -70,10 +84,11 @@ pub fn addresses_align()
 {}
 
 /// All works that explain a program have the same places in the same order. So what `explain::explain` returns is the
-/// only explanation, up to how its ranges are cut into segments.
-#[tactic(auto, using(crate::proofs::Explaining::explained_once))]
+/// only explanation, up to how its ranges are cut into segments; and it cuts them in the same way each time.
+#[tactic(auto, using(crate::proofs::Explaining::explained_once, crate::proofs::Explaining::found_once))]
 pub fn is_explained_once()
-    ensures { ExplainedOnce }
+    ensures explained { ExplainedOnce }
+    ensures found { FoundOnce }
 {}
 
 /// Nothing explains a program that `explain::explain` refuses, with fewer instructions before DMAEND than its limit.
@@ -81,21 +96,19 @@ pub fn refused_is_unexplained()
     ensures { RefusedUnexplained }
 {}
 
-/// A program that a work explains, and that runs while others write the memory between its steps, makes one
-/// simultaneous copy of all bytes of its copy and sets its zeros to 0. Each step may have different marks and a memory
-/// of another size.
-pub fn copies_among_others()
-    ensures { CopiesAmongOthers }
-{}
-
-/// The same for calls that each execute several steps with their own marks, as `lent::step_regions` does.
-pub fn calls_copy_among_others()
-    ensures { CallsCopyAmongOthers }
+/// If `explain::explain` refuses a program for a fault, then a channel into which exactly this program was loaded, with
+/// the same registers, and that gets to the refused instruction, answers this fault there and changes nothing, in all
+/// memories of at most 2^32 bytes, with all marks and all flags. Conversely, a channel that has executed n
+/// instructions, each of which is part of a work, answers at the next one in a memory of 2^32 bytes without marks only
+/// the fault for which the program is refused there.
+pub fn refusals_are_faults()
+    ensures faults { RefusalsAreFaults }
+    ensures no_other { FaultsAreRefusals }
 {}
 
 /// If regions contain all addresses that a work uses, and those that it writes aren't read-only, then no gap
 /// between them and no read-only region lies where one of its bursts would fail. So the calls of
-/// [`calls_copy_among_others`] don't fail there.
+/// [`copies_since_load`] don't fail there.
 pub fn gaps_miss()
     ensures { GapsMiss }
 {}

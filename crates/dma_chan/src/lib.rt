@@ -5,7 +5,7 @@
 //! gaps.
 //!
 //! Proved: a step executes one instruction, or waits or fails and changes nothing (`Channel::step`). A compiled program
-//! moves its transfer's bytes in order and fails only at marks (`compile`, `laws::runs_in_step`, `stores_in_turn`). Run
+//! moves its transfer's bytes in order and fails only at marks (`compile`, `laws::runs_in_step`, `pace`). Run
 //! alone, a program without DMAWFE makes one simultaneous copy (`laws::explained_copies_alone`, `run_program`);
 //! `copy::copy_at_once` makes it without the program. A call over lent memory is a chain of single steps
 //! (`lent::step_regions`: `TakesSteps`). It changes no byte outside the range that it reports (`kept`,

@@ -10,7 +10,7 @@ use Rattle.dma_chan.specs.Others.{IsWorked, Uses, work_below}
 use Rattle.dma_chan.specs.Written.{LiesIn, range_at}
 use Rattle.dma_chan.proofs.CallWrites.{load_executes}
 use Rattle.dma_device.specs.Accesses.{Access, Answer, Does, Resets, Restores, Stores, Turned, Turns, Writes}
-use Rattle.dma_device.specs.Board.{ABoardCopies, BoardRunsCopy, BoardSpares, BoardStaysIn, CopiesOn, Happens, History, RunsOn, SparesBytes, SparesThread, WritesApart, is_turn, is_turn_at, later, most_of, turns_of}
+use Rattle.dma_device.specs.Board.{ABoardCopies, BoardRunsCopy, BoardSpares, BoardStaysIn, CopiesOn, Happens, BoardEvents, RunsOn, SparesBytes, SparesThread, WritesApart, is_turn, is_turn_at, later, most_of, turns_of}
 use Rattle.dma_device.specs.Device.{DeviceValue, program_at, written}
 use Rattle.dma_device.specs.Dmago.{Go, RunsCopy, dmago_word, image_in, start_of, started_by}
 use Rattle.dma_device.specs.Faults.{TheChannel}
@@ -41,7 +41,7 @@ not_both true t is off = off
 not_both false t is off = absurd (true≢false (sym is))
 
 -- a turn of channel n of device b
-own_parts : (h : History) (b n k : ℕ) → is_turn_at h b n k ≡ true → (h.device k ≡ b) × (h.access k ≡ Turns n (most_of (h.access k)))
+own_parts : (h : BoardEvents) (b n k : ℕ) → is_turn_at h b n k ≡ true → (h.device k ≡ b) × (h.access k ≡ Turns n (most_of (h.access k)))
 own_parts h b n k on =
     let both = and_parts (h.device k == b) (is_turn n (h.access k)) on in
     (eqb-true (h.device k) b both.0, turn_access n (h.access k) both.1)
@@ -79,7 +79,7 @@ readied d word addr first second =
     ∙ ap (λ (v : ℕ). let e : DeviceValue = record d { dbginst1 = v } in e) (sym second)
 
 -- the events from number s on happen
-pub happens_later : (h : History) (s : ℕ) → Happens h → Happens (later s h)
+pub happens_later : (h : BoardEvents) (s : ℕ) → Happens h → Happens (later s h)
 happens_later h s c = record {
   does = λ k less. (
       let b = h.device (s + k) in
@@ -95,7 +95,7 @@ happens_later h s c = record {
 
 -- ---- a program that a DMAGO starts
 
-module _ (go : Go) (w : Work) (n b : ℕ) (h : History) (c : RunsOn go w n b h) where
+module _ (go : Go) (w : Work) (n b : ℕ) (h : BoardEvents) (c : RunsOn go w n b h) where
   abbrev is_own : ℕ → Bool
   is_own k = is_turn_at h b go.channel k
 
@@ -184,7 +184,7 @@ board_stays_in go w n b h (suc k) most turn c less own is reply =
 spares_turn : (w : Work) (a : Access) (answer : Answer) (n most : ℕ) → a ≡ Turns n most → ((turn : Turn) (x : ℕ) → answer ≡ Turned turn → Uses w x → ¬ LiesIn turn.written x) → SparesBytes w a answer
 spares_turn w a answer n most is spares = subst (λ (t : Access). SparesBytes w t answer) (sym is) spares
 
-pub spares_here : (go : Go) (v w : Work) (n b : ℕ) (h : History) → RunsOn go v n b h → WritesApart v w → (k : ℕ) → k < h.count → is_turn_at h b go.channel k ≡ true → SparesBytes w (h.access k) (h.answer k)
+pub spares_here : (go : Go) (v w : Work) (n b : ℕ) (h : BoardEvents) → RunsOn go v n b h → WritesApart v w → (k : ℕ) → k < h.count → is_turn_at h b go.channel k ≡ true → SparesBytes w (h.access k) (h.answer k)
 spares_here go v w n b h c apart k less on =
     let both = own_parts h b go.channel k on in
     spares_turn w (h.access k) (h.answer k) go.channel (most_of (h.access k)) both.1
@@ -198,7 +198,7 @@ board_spares go v w n b s h c apart k from less on =
 
 -- ---- a copy
 
-module _ (go : Go) (w : Work) (n b : ℕ) (h : History) (c : CopiesOn go w n b h) where
+module _ (go : Go) (w : Work) (n b : ℕ) (h : BoardEvents) (c : CopiesOn go w n b h) where
   abbrev r : RunsOn go w n b h
   r = c.runs
 

@@ -14,7 +14,7 @@ use Rattle.dma_chan.specs.Stepping.{Machine, TakesSteps, machine, signal_after, 
 use Rattle.dma_chan.specs.Written.{adjoins, joined, range_at, store_ahead}
 use Rattle.dma_chan.specs.declared.lent.Taken.{Taken}
 use Rattle.dma_chan.specs.declared.turn.ChanTurn.{ChanTurn}
-use Rattle.dma_device.specs.CallSteps.{Executes, first_in, last_in, machine_after, marks_in, second_in, signal_in}
+use Rattle.dma_device.specs.CallSteps.{StepsThread, first_in, last_in, machine_after, marks_in, second_in, signal_in}
 use Rattle.dma_device.specs.Device.{DeviceValue, with_thread}
 use Rattle.dma_device.specs.Thread.{answered, runs}
 use Rattle.dma_device.specs.Turns.{Outcome, Setup, TakesTurn, begins, called, called_if, follows, idle, is_beside, lines_differ, machine_in, outcome_of, raises, runs_at, setup_of, stepped, steps_in, visible_events, with_flags}
@@ -42,33 +42,33 @@ nothing = record { written = range_at 0 0; signal = None }
 
 -- nothing is called
 pub record Rests (made : Bool) (marks : MarkList) (n most : ℕ) (s : Setup) : Type 0 where
-  pub off : ¬ Executes made n s
+  pub off : ¬ StepsThread made n s
   pub is : called_if made marks n most s ≡ idle s
 
-by_thread : (marks : MarkList) (n most : ℕ) (s : Setup) (o : Option Thread) → slice_get s.device.threads n ≡ o → Rests true marks n most s ⊎ Executes true n s
+by_thread : (marks : MarkList) (n most : ℕ) (s : Setup) (o : Option Thread) → slice_get s.device.threads n ≡ o → Rests true marks n most s ⊎ StepsThread true n s
 by_thread marks n most s None found = inl (record {
   off = λ x. (let bad = sym found ∙ x.found in cc);
   is = ap (λ (o : Option Thread). called marks n most o s) found;
 })
 by_thread marks n most s (Some t) found = inr (record { on = refl; thread = t; found = found })
 
-pub call_is : (made : Bool) (marks : MarkList) (n most : ℕ) (s : Setup) → Rests made marks n most s ⊎ Executes made n s
+pub call_is : (made : Bool) (marks : MarkList) (n most : ℕ) (s : Setup) → Rests made marks n most s ⊎ StepsThread made n s
 call_is true marks n most s = by_thread marks n most s (slice_get s.device.threads n) refl
 call_is false marks n most s = inl (record { off = λ x. true≢false (sym x.on); is = refl })
 
-pub call_acts : {made : Bool} {n : ℕ} {s : Setup} (marks : MarkList) (most : ℕ) (x : Executes made n s) → called_if made marks n most s ≡ stepped marks n most x.thread s
+pub call_acts : {made : Bool} {n : ℕ} {s : Setup} (marks : MarkList) (most : ℕ) (x : StepsThread made n s) → called_if made marks n most s ≡ stepped marks n most x.thread s
 call_acts {n = n} {s = s} marks most x =
     ap (λ (b : Bool). if b then called marks n most (slice_get s.device.threads n) s else idle s) x.on
     ∙ ap (λ (o : Option Thread). called marks n most o s) x.found
 
 -- another thread of the same call is the same
-pub acts_alike : (P : Thread → Type 0) (n : ℕ) (made : Bool) (s : Setup) (x y : Executes made n s) → P x.thread → P y.thread
+pub acts_alike : (P : Thread → Type 0) (n : ℕ) (made : Bool) (s : Setup) (x y : StepsThread made n s) → P x.thread → P y.thread
 acts_alike P n made s x y p =
     let same : x.thread ≡ y.thread = let a = x.found in let b = y.found in cc in
     subst P same p
 
 -- what its steps keep, a call keeps
-pub call_keeps : (P : DeviceValue → Type 0) (made : Bool) (marks : MarkList) (n most : ℕ) (s : Setup) → P s.device → ((x : Executes made n s) → P (stepped marks n most x.thread s).left.device) → P (called_if made marks n most s).left.device
+pub call_keeps : (P : DeviceValue → Type 0) (made : Bool) (marks : MarkList) (n most : ℕ) (s : Setup) → P s.device → ((x : StepsThread made n s) → P (stepped marks n most x.thread s).left.device) → P (called_if made marks n most s).left.device
 call_keeps P made marks n most s h steps = elim (call_is made marks n most s) [
   | inl rests ↦ subst (λ (o : Outcome). P o.left.device) (sym rests.is) h
   | inr acts ↦ subst (λ (o : Outcome). P o.left.device) (sym (call_acts marks most acts)) (steps acts)

@@ -14,7 +14,7 @@ use Rattle.dma_chan.specs.declared.turn.ChanTurn.{ChanTurn}
 use Rattle.dma_chan.specs.declared.turn.ChanTurn.TheVariants.{Ended}
 use Rattle.dma_chan.proofs.AmongOthers.{Fits, uses_below}
 use Rattle.dma_chan.proofs.CallsAmongOthers.{Leads, Runs, at_first, call, survived}
-use Rattle.dma_device.specs.CallSteps.{Executes, first_in, last_in, marks_in, signal_in}
+use Rattle.dma_device.specs.CallSteps.{StepsThread, first_in, last_in, marks_in, signal_in}
 use Rattle.dma_device.specs.Device.{DeviceValue, program_at}
 use Rattle.dma_device.specs.Dmago.{Go, RunsCopy, GivenTurns, image_in, start_of}
 use Rattle.dma_device.specs.Thread.{answer, is_faulting, is_stopped, reset_thread, started}
@@ -126,7 +126,7 @@ module _ (c : Copying) where
     -- made (`rests_over`, `rests`), or it steps the thread, whose program ends or goes on (`ends`, `goes`).
     pub record Steps (O : Type 0) (E : Thread → Type 0) (P : Type 0) (F : Thread → Type 0) (k : Call) : Type 0 where
       pub rests_over : (result_of n k).called ≡ nothing → O → P
-      pub rests : ¬ Executes k.made n k.before → (result_of n k).called ≡ nothing → (th : Thread) → slice_get k.before.device.threads n ≡ Some th → Going k.before.image th → E th → F th
+      pub rests : ¬ StepsThread k.made n k.before → (result_of n k).called ≡ nothing → (th : Thread) → slice_get k.before.device.threads n ≡ Some th → Going k.before.image th → E th → F th
       pub ends : (th : Thread) → Going k.before.image th → E th → sent_by n k ≡ sets k th → last_answer k th ≡ Some Ended → P
       pub goes : k.made ≡ true → (th : Thread) → slice_get k.before.device.threads n ≡ Some th → Going k.before.image th → E th → sent_by n k ≡ sets k th → last_answer k th ≢ Some Ended → F (after_steps_of k th)
 

@@ -20,7 +20,7 @@ use Rattle.dma_device.specs.declared.device.turns.Turn.{Turn}
 use Rattle.dma_device.specs.declared.thread.Status.TheVariants.{WaitingForEvent}
 use Rattle.dma_device.specs.declared.thread.Thread.{Thread}
 use Rattle.dma_device.specs.Accesses.{Access, Answer, Does, Resets, Restores, Turns, Writes}
-use Rattle.dma_device.specs.CallSteps.{Executes, first_in, last_in, marks_in, second_in, signal_in}
+use Rattle.dma_device.specs.CallSteps.{StepsThread, first_in, last_in, marks_in, second_in, signal_in}
 use Rattle.dma_device.specs.Device.{DeviceValue, with_thread, written}
 use Rattle.dma_device.specs.Events.{CallTakes, Ends, EventsAreExact, IsSet, Sets, TakenWasSet, TurnTakes, WaitsForUnset}
 use Rattle.dma_device.specs.Interrupts.{HasLine, IsHigh, TurnSignals}
@@ -132,7 +132,7 @@ call_unset marks most t s k has is high =
 found_status : (d e : DeviceValue) (n k : ℕ) (old new t : Thread) → slice_get d.threads n ≡ Some old → e.threads ≡ (with_thread n new d).threads → slice_get e.threads n ≡ Some t → t.status ≡ WaitingForEvent k → new.status ≡ WaitingForEvent k
 found_status d e n k old new t found is there waits = grind (arith, set_found)
 
-if_unset : (made : Bool) (marks : MarkList) (n most : ℕ) (s : Setup) (k : ℕ) (t : Thread) → HasLine s.device k → Executes made n s → let e = (called_if made marks n most s).left.device in slice_get e.threads n ≡ Some t → t.status ≡ WaitingForEvent k → IsSet e k → IsHigh s.device.inten k
+if_unset : (made : Bool) (marks : MarkList) (n most : ℕ) (s : Setup) (k : ℕ) (t : Thread) → HasLine s.device k → StepsThread made n s → let e = (called_if made marks n most s).left.device in slice_get e.threads n ≡ Some t → t.status ≡ WaitingForEvent k → IsSet e k → IsHigh s.device.inten k
 if_unset made marks n most s k t has x found waits high =
     let d = s.device in
     let is = call_acts marks most x in

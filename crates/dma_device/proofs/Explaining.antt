@@ -21,7 +21,7 @@ use Rattle.dma_chan.proofs.CallWrites.{call_stays_in, load_executes, many_in, ne
 use Rattle.dma_chan.proofs.ReadsOnly.{reads_inside}
 use Rattle.dma_chan.proofs.StepsTaken.{steps_move}
 use Rattle.dma_device.specs.Accesses.{Access, Answer, Does, Happen, Resets, Restores, Turns, Writes}
-use Rattle.dma_device.specs.CallSteps.{Executes as Steps, first_in, last_in, marks_in, signal_in}
+use Rattle.dma_device.specs.CallSteps.{StepsThread, first_in, last_in, marks_in, signal_in}
 use Rattle.dma_device.specs.Device.{DeviceValue, is_interrupt, program_at, signalled, with_thread, written}
 use Rattle.dma_device.specs.Explaining.{CallReads, GivesNone, HasWork, IsUnderway, OnlyDmagoGives, RestoreKeepsWork, StaysIn, TurnStaysInWork, TurnsStayIn, UnderwayHasWork, WorkStays, channel_of, program_of}
 use Rattle.dma_device.specs.Thread.{failed, killed, reset_thread, started}
@@ -76,7 +76,7 @@ module _ (work : Work) (n : ℕ) where
       let holds : Holds (Some work) to.channel = elim stays.channel [ inl v ↦ inr (w.0, w.1, w.2, w.3, v) | inr none ↦ inl none ] in
       subst (λ (o : Option Thread). InCopy (channel_if o)) (sym (set_found d.threads n th (thread_left marks most th s) acts.found)) (subst (Holds (Some work)) (sym same) holds))
 
-  step_at : (marks : MarkList) (made : Bool) (most : ℕ) (s : Setup) → (made ≡ true → runs_at s.device n ≡ true) → HasCopy s.device → (x : Steps made n s) (j : ℕ) → j < steps_in marks most x.thread s → Copies work (after_steps marks (machine_in s x.thread) j).channel
+  step_at : (marks : MarkList) (made : Bool) (most : ℕ) (s : Setup) → (made ≡ true → runs_at s.device n ≡ true) → HasCopy s.device → (x : StepsThread made n s) (j : ℕ) → j < steps_in marks most x.thread s → Copies work (after_steps marks (machine_in s x.thread) j).channel
   step_at marks made most s on g x j less =
       let w = runs_copy s.device x.thread x.found (on x.on) g in
       (w.0, w.1, w.2, w.3, many_in w.0 w.1 work w.2 w.3 marks (machine_in s x.thread) j w.4 (λ k l. steps_move (takes marks most x.thread s) k (omega (arith, less))))

@@ -35,6 +35,7 @@ pub mod TurnsAlike
 pub mod Explaining
 pub mod Underway
 pub mod Progress
+pub mod Refused
 pub mod Signalled
 pub mod Vain
 pub mod Rows

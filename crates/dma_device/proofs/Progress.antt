@@ -27,7 +27,7 @@ use Rattle.dma_chan.proofs.CompiledExplained.{compiled_events}
 use Rattle.dma_chan.proofs.RunAlone.{moved_count}
 use Rattle.dma_chan.proofs.StepsTaken.{steps_move}
 use Rattle.dma_chan.proofs.SteppedOver.{is_still, was_moved, went_before}
-use Rattle.dma_device.specs.CallSteps.{Executes, marks_in}
+use Rattle.dma_device.specs.CallSteps.{StepsThread, marks_in}
 use Rattle.dma_device.specs.Device.{DeviceValue, csr, of_thread}
 use Rattle.dma_device.specs.Copies.{IsFit}
 use Rattle.dma_device.specs.Dmago.{Go, RunsCopy, GivenTurns, csr_status, start_of}
@@ -127,7 +127,7 @@ module _ (c : Copying) (n : ℕ) where
   pub going_runs : (d : DeviceValue) (image : List ℕ) (th : Thread) → slice_get d.threads n ≡ Some th → Going c image th → is_faulting th ≡ false → runs_at d n ≡ true
   going_runs d image th is g fine = grind (arith, loaded)
 
-  steps_reached : (least more : ℕ) (k : Call) → ((th : Thread) → slice_get k.before.device.threads n ≡ Some th → ¬ Executes k.made n k.before → runs_at k.before.device n ≡ true → more ≤ least) → (k.made ≡ true → 0 < k.most) → Fit c n k.before.device k.marks → CanStep k.before.device least more → Steps c n (Unit {0}) (Reached least) (Unit {0}) (Reached more) k
+  steps_reached : (least more : ℕ) (k : Call) → ((th : Thread) → slice_get k.before.device.threads n ≡ Some th → ¬ StepsThread k.made n k.before → runs_at k.before.device n ≡ true → more ≤ least) → (k.made ≡ true → 0 < k.most) → Fit c n k.before.device k.marks → CanStep k.before.device least more → Steps c n (Unit {0}) (Reached least) (Unit {0}) (Reached more) k
   steps_reached least more k off some fit can = record {
     rests_over = λ none o. o;
     rests = λ not_made none th found g known.
@@ -159,7 +159,7 @@ module _ (c : Copying) (n : ℕ) where
   turn_reached d regions most e left turn x least more can fit g =
       let one = one_of d regions n most in
       let two = two_of d regions n most in
-      let off : (th : Thread) → slice_get d.threads n ≡ Some th → ¬ Executes one.made n one.before → runs_at d n ≡ true → more ≤ least = (λ th found none up. elim can [
+      let off : (th : Thread) → slice_get d.threads n ≡ Some th → ¬ StepsThread one.made n one.before → runs_at d n ≡ true → more ≤ least = (λ th found none up. elim can [
         | inl fewer ↦ fewer
         | inr ready ↦
             let yes : one.made ≡ true = ap (λ (b : Bool). b && runs_at d n) (lt-ltb 0 most ready.0) ∙ up in

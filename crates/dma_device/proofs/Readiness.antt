@@ -12,7 +12,7 @@ use Rattle.dma_device.specs.Device.{DeviceValue, reset_device}
 use Rattle.dma_device.specs.Dmago.{GivenTurns, Go, RunsCopy, csr_status, start_of}
 use Rattle.dma_device.specs.Events.{IsVisible}
 use Rattle.dma_device.specs.Progress.{IsReady, MayPass, ReadyTurns, vain, waits_in_vain}
-use Rattle.dma_device.specs.Run.{Board, next, run}
+use Rattle.dma_device.specs.Run.{LentDevice, next, run}
 use Rattle.dma_device.proofs.Progress.{dmago_finishes}
 use Rattle.dma_device.proofs.Rows.{largest}
 
@@ -42,7 +42,7 @@ accesses =
 abbrev access : ℕ → Access
 access k = get_or accesses k (Reads 0x028)
 
-abbrev start : Board
+abbrev start : LentDevice
 start = record { device = reset_device largest; ram = record { pieces = ram; read_only = [] } }
 
 abbrev at : ℕ → DeviceValue

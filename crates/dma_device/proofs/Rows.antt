@@ -19,7 +19,7 @@ use Rattle.dma_device.specs.Dmago.{HasProgram}
 use Rattle.dma_device.specs.Thread.{reset_thread}
 use Rattle.dma_device.specs.Turns.{raises, runs_at, visible_events, with_flags}
 use Rattle.dma_device.specs.Accesses.{Access, Reads, Turned, Turns, Value, Writes}
-use Rattle.dma_device.specs.Run.{Board, next, run}
+use Rattle.dma_device.specs.Run.{LentDevice, next, run}
 use Rattle.dma_chan.specs.Written.{range_at}
 
 -- eight channels, 32 events, and 16 lines of 16 bytes for each channel
@@ -168,7 +168,7 @@ second_answer = refl
 abbrev beats : List Piece
 beats = record { addr = 0x100; bytes = 188 ∷ 1 ∷ 5 ∷ 64 ∷ 1 ∷ 0 ∷ 188 ∷ 1 ∷ 7 ∷ 64 ∷ 1 ∷ 0 ∷ 0 ∷ [] } ∷ []
 
-abbrev narrow : Board
+abbrev narrow : LentDevice
 narrow = record {
   device = written beats 0xD04 0 (written beats 0xD0C 0x100 (written beats 0xD08 0x03A00000 (reset_device (record largest { bus = Bits32 }))));
   ram = record { pieces = beats; read_only = [] };
@@ -253,7 +253,7 @@ accesses =
 abbrev access : ℕ → Access
 access k = get_or accesses k (Reads 0x028)
 
-abbrev start : Board
+abbrev start : LentDevice
 start = record { device = reset_device largest; ram = record { pieces = ram; read_only = [] } }
 
 -- the turn raises the interrupt and ends the program, and writes nothing

@@ -9,7 +9,7 @@ use Rattle.dma_chan.specs.LentRegions.{segment_of}
 use Rattle.dma_device.specs.declared.device.turns.Turn.{Turn}
 use Rattle.dma_device.specs.Accesses.{Access, Answer, AreAlike, Does, Happen, Turned}
 use Rattle.dma_device.specs.Device.{DeviceValue}
-use Rattle.dma_device.specs.Run.{Board, RunsStepByStep, StaysLent, board_of, next, put_from, ram_of, run, turned_on, with_image}
+use Rattle.dma_device.specs.Run.{LentDevice, RunsStepByStep, StaysLent, lent_device, next, put_from, ram_of, run, turned_on, with_image}
 use Rattle.dma_device.specs.Turns.{Setup, TakesTurn}
 
 -- ---- the pieces of a memory
@@ -33,36 +33,36 @@ ram_is regions left places access = simp (put_is 0 regions left places, access)
 
 -- ---- an access
 
-turned_is : (d : DeviceValue) (regions : List Region) (n most : ℕ) (e : DeviceValue) (left : List Region) (turn : Turn) → TakesTurn d regions n most e left turn → turned_on n most (board_of d regions) ≡ (board_of e left, Turned turn)
+turned_is : (d : DeviceValue) (regions : List Region) (n most : ℕ) (e : DeviceValue) (left : List Region) (turn : Turn) → TakesTurn d regions n most e left turn → turned_on n most (lent_device d regions) ≡ (lent_device e left, Turned turn)
 turned_is d regions n most e left turn x =
-    ap (λ (p : Setup × Turn). let r : Board × Answer = (record { device = p.0.device; ram = with_image p.0.image (ram_of regions) }, Turned p.1) in r) x.is ∙ simp (ram_is regions left x.kept.places x.kept.read_only)
+    ap (λ (p : Setup × Turn). let r : LentDevice × Answer = (record { device = p.0.device; ram = with_image p.0.image (ram_of regions) }, Turned p.1) in r) x.is ∙ simp (ram_is regions left x.kept.places x.kept.read_only)
 
-abbrev pair : Board → Answer → Board × Answer
+abbrev pair : LentDevice → Answer → LentDevice × Answer
 pair b a = (b, a)
 
 -- regions that are alike lend the same memory
-alike_is : (d e : DeviceValue) (regions left : List Region) → e ≡ d → AreAlike left regions → board_of d regions ≡ board_of e left
+alike_is : (d e : DeviceValue) (regions left : List Region) → e ≡ d → AreAlike left regions → lent_device d regions ≡ lent_device e left
 alike_is d e regions left device same = simp (device, same.pieces, same.read_only)
 
-does_is : (a : Access) (d : DeviceValue) (regions : List Region) (answer : Answer) (e : DeviceValue) (left : List Region) → Does a d regions answer e left → next a (board_of d regions) ≡ pair (board_of e left) answer
+does_is : (a : Access) (d : DeviceValue) (regions : List Region) (answer : Answer) (e : DeviceValue) (left : List Region) → Does a d regions answer e left → next a (lent_device d regions) ≡ pair (lent_device e left) answer
 does_is a d regions answer e left h1 = grind (arith, alike_is, ram_is, turned_is)
 
 -- ---- accesses in a row
 
-board_at : (access : ℕ → Access) (answer : ℕ → Answer) (before : ℕ → DeviceValue) (lent left : ℕ → List Region) (count : ℕ) → Happen access answer before lent left count → StaysLent lent left count → (k : ℕ) → k ≤ count → board_of (before k) (lent k) ≡ run access (board_of (before 0) (lent 0)) k
+board_at : (access : ℕ → Access) (answer : ℕ → Answer) (before : ℕ → DeviceValue) (lent left : ℕ → List Region) (count : ℕ) → Happen access answer before lent left count → StaysLent lent left count → (k : ℕ) → k ≤ count → lent_device (before k) (lent k) ≡ run access (lent_device (before 0) (lent 0)) k
 board_at access answer before lent left count x stays zero within = refl
 board_at access answer before lent left count x stays (suc k) within =
     let e : k + 1 ≡ suc k = omega arith in
-    ap (λ (m : ℕ). board_of (before m) (lent m)) (sym e)
+    ap (λ (m : ℕ). lent_device (before m) (lent m)) (sym e)
     ∙ sym (alike_is (before (k + 1)) (before (k + 1)) (left k) (lent (k + 1)) refl (stays k (omega arith)))
-    ∙ sym (ap (λ (p : Board × Answer). p.0) (does_is (access k) (before k) (lent k) (answer k) (before (k + 1)) (left k) (x k (omega arith))))
-    ∙ ap (λ (b : Board). (next (access k) b).0) (board_at access answer before lent left count x stays k (omega arith))
+    ∙ sym (ap (λ (p : LentDevice × Answer). p.0) (does_is (access k) (before k) (lent k) (answer k) (before (k + 1)) (left k) (x k (omega arith))))
+    ∙ ap (λ (b : LentDevice). (next (access k) b).0) (board_at access answer before lent left count x stays k (omega arith))
 
 pub runs_step_by_step : RunsStepByStep
 runs_step_by_step access answer before lent left count x stays =
     let at = board_at access answer before lent left count x stays in (
       at,
       (λ k less.
-          sym (ap (λ (p : Board × Answer). p.1) (does_is (access k) (before k) (lent k) (answer k) (before (k + 1)) (left k) (x k less)))
-          ∙ ap (λ (b : Board). (next (access k) b).1) (at k (omega arith))),
+          sym (ap (λ (p : LentDevice × Answer). p.1) (does_is (access k) (before k) (lent k) (answer k) (before (k + 1)) (left k) (x k less)))
+          ∙ ap (λ (b : LentDevice). (next (access k) b).1) (at k (omega arith))),
     )

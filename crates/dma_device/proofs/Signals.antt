@@ -19,7 +19,7 @@ use Rattle.dma_chan.specs.declared.turn.ChanTurn.TheVariants.{Moved}
 use Rattle.dma_chan.specs.declared.turn.FaultKind.{FaultKind}
 use Rattle.dma_chan.proofs.AmongOthers.{Fits}
 use Rattle.dma_chan.proofs.CallWrites.{does_next}
-use Rattle.dma_chan.proofs.CallsAmongOthers.{Runs, done_at, many, moved_on, next_ahead}
+use Rattle.dma_chan.proofs.CallsAmongOthers.{Runs, done_at, is_signal, many, moved_on, next_ahead}
 use Rattle.dma_chan.proofs.SinceLoads.{done_grows, runs_so, worked_part}
 use Rattle.dma_chan.proofs.StepsTaken.{steps_move}
 use Rattle.dma_device.specs.Copies.{AreDone, DmagoInterruptsEach, IsSignalNumber, Rises, RisesInEach, is_signal_of, signals_in}
@@ -33,11 +33,6 @@ use Rattle.dma_device.proofs.Driven.{After, Before, Call, Copying, Has, Steps, a
 use Rattle.dma_device.proofs.Interrupts.{turn_raises}
 
 -- ---- the DMASEVs of an event among a program's first instructions
-
--- an instruction that signals is a DMASEV
-is_sev : (next : Result ChipInsn FaultKind) (e : ℕ) → signal_of next ≡ Some e → next ≡ Ok (Sev e)
-is_sev (Ok (Sev d)) e h = let same : d ≡ e = cc in ap (λ (k : ℕ). Ok (Sev k)) same
-is_sev next e h = absurd (cc)
 
 module _ (start : Registers) (program : List ℕ) (e : ℕ) where
   abbrev Count : ℕ → ℕ
@@ -70,7 +65,7 @@ module _ (start : Registers) (program : List ℕ) (work : Work) (count : ℕ) (m
   step_counts : (u : Machine) (e : ℕ) → Runs start program work count first u → signal_of (ahead_of u.channel) ≡ Some e → signals_in start program e (after_step marks u).channel.taken ≡ signals_in start program e u.channel.taken + 1
   step_counts u e r signal =
       let k = r.0 in
-      let ahead = is_sev (ahead_of u.channel) e signal in
+      let ahead = is_signal (ahead_of u.channel) e signal in
       let moves : answer_at marks u ≡ Moved = ap (λ (x : ChanTurn × State). x.0) (does_next marks (Sev e) u ahead) in
       let later = moved_on start program work count marks first h low k u r.1 moves in
       let next = sym (next_ahead start program work count marks first h low k u (next_in program (traced start program k)) r.1 refl) ∙ ahead in

@@ -14,7 +14,7 @@ use Rattle.dma_device.specs.declared.thread.Thread.{Thread}
 use Rattle.dma_device.proofs.FlagNumber.{flag_few}
 use Rattle.dma_device.proofs.Found.{set_found}
 
--- ---- CSR
+-- ---- CSR, FTR and CPC
 
 pub read_csr : (d : DeviceValue) (n : ℕ) → n < 8 → read_at d (offset.csr + 8 * n) ≡ of_thread csr (slice_get d.threads n)
 read_csr d (suc (suc (suc (suc (suc (suc (suc (suc n)))))))) h = absurd (omega arith)
@@ -40,6 +40,22 @@ reads_fine d n th few is fine e = grind (arith, fine_by, read_csr)
 pub stopped_fine : (s : Status) → is_stopped_status s ≡ true → is_faulting_status s ≡ false
 stopped_fine Faulting is = absurd (true≢false (sym is))
 stopped_fine s is = refl
+
+pub read_ftr : (d : DeviceValue) (n : ℕ) → n < 8 → read_at d (offset.ftr + 4 * n) ≡ of_thread (λ t. t.fault) (slice_get d.threads n)
+read_ftr d (suc (suc (suc (suc (suc (suc (suc (suc n)))))))) h = absurd (omega arith)
+read_ftr d n h = refl
+
+pub read_cpc : (d : DeviceValue) (n : ℕ) → n < 8 → read_at d (offset.csr + 4 + 8 * n) ≡ of_thread (λ t. t.pc) (slice_get d.threads n)
+read_cpc d (suc (suc (suc (suc (suc (suc (suc (suc n)))))))) h = absurd (omega arith)
+read_cpc d n h = refl
+
+faulting_by : (s : Status) (b : Bool) → is_faulting_status s ≡ true → (status_bits s + flag b * 2 ^ 21) % 16 ≡ 15
+faulting_by Faulting b h = omega arith
+faulting_by s b h = absurd (true≢false (sym h))
+
+-- the CSR of a thread that is faulting reads so
+pub reads_faulting : (d : DeviceValue) (n : ℕ) (th : Thread) → n < 8 → slice_get d.threads n ≡ Some th → is_faulting th ≡ true → csr_status d n ≡ 15
+reads_faulting d n th few is h = grind (arith, faulting_by, read_csr)
 
 -- ---- DMAGO
 

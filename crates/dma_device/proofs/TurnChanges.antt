@@ -19,7 +19,7 @@ use Rattle.dma_chan.proofs.StepsTaken.{steps_move}
 use Rattle.dma_chan.proofs.SteppedOver.{was_moved, went_before}
 use Rattle.dma_device.specs.declared.thread.Status.TheVariants.{Faulting, WaitingForEvent}
 use Rattle.dma_device.specs.declared.thread.Thread.{Thread}
-use Rattle.dma_device.specs.CallSteps.{Executes, first_in, last_in, marks_in, signal_in}
+use Rattle.dma_device.specs.CallSteps.{StepsThread, first_in, last_in, marks_in, signal_in}
 use Rattle.dma_device.specs.Device.{DeviceValue}
 use Rattle.dma_device.specs.Idle.{TurnChanges}
 use Rattle.dma_device.specs.Thread.{answer, can_step, is_signalled, runs, waited}
@@ -49,7 +49,7 @@ turn_rises turn s n c is = grind arith
 step_rises : (marks : MarkList) (s : Machine) → (answer_at marks s ≡ Moved) ⊎ (answer_at marks s ≡ Ended) → s.channel.taken < (after_step marks s).channel.taken
 step_rises marks s is = turn_rises (answer_at marks s) (step_of marks s.channel s.image s.flags).1 (stored_by (ahead_of s.channel) s.channel.registers) s.channel is
 
-all_rise : (marks : MarkList) (s : Machine) (j : ℕ) → answer_at marks s ≡ Moved → s.channel.taken < (after_steps marks s (suc j)).channel.taken
+pub all_rise : (marks : MarkList) (s : Machine) (j : ℕ) → answer_at marks s ≡ Moved → s.channel.taken < (after_steps marks s (suc j)).channel.taken
 all_rise marks s zero moved = step_rises marks s (inl moved)
 all_rise marks s (suc j) moved = omega (arith, all_rise marks s j moved, step_counts marks (after_steps marks s (suc j)))
 
@@ -111,7 +111,7 @@ by_steps events seen t at s v marks most (suc (suc j)) last signal few can same 
     let new = ap (λ (c : ChannelValue). c.taken) (answer_channel events at last signal ∙ is ∙ ap (λ (m : Machine). m.channel) x.ends_at) in
     inl (omega (arith, up, ap (λ (c : ChannelValue). c.taken) same, new))
 
-call_found : (marks : MarkList) (n most : ℕ) (s : Setup) (made : Bool) (x : Executes made n s) → slice_get (called_if made marks n most s).left.device.threads n ≡ Some (thread_left marks most x.thread s)
+call_found : (marks : MarkList) (n most : ℕ) (s : Setup) (made : Bool) (x : StepsThread made n s) → slice_get (called_if made marks n most s).left.device.threads n ≡ Some (thread_left marks most x.thread s)
 call_found marks n most s made x = grind (arith, call_acts, set_found)
 
 call_differs : (marks : MarkList) (most : ℕ) (t : Thread) (s : Setup) → s.device.config.events ≤ 32 → can_step (visible_events s.device) t ≡ true → Differs t (thread_left marks most t s) (signal_in marks most t s)
@@ -119,7 +119,7 @@ call_differs marks most t s few can =
     let to = machine_left marks most t s in
     by_steps s.device.config.events (visible_events s.device) t (record t { channel = to.channel; pc = (t.base + to.channel.registers.pc) % 2 ^ 32 }) (machine_in s t) to marks most (steps_in marks most t s) (last_in marks most t s) (signal_in marks most t s) few can refl refl refl refl (takes marks most t s)
 
-call_keeps_count : (marks : MarkList) (most : ℕ) (t : Thread) (s : Setup) → t.channel.taken ≤ (thread_left marks most t s).channel.taken
+pub call_keeps_count : (marks : MarkList) (most : ℕ) (t : Thread) (s : Setup) → t.channel.taken ≤ (thread_left marks most t s).channel.taken
 call_keeps_count marks most t s = grind (arith, answer_channel, never_falls)
 
 -- ---- a turn
@@ -135,7 +135,7 @@ turn_changes d e regions left n most turn t x h found can some same =
     let m = first.left.device in
     let on = (and_parts (runs t) (is_signalled (visible_events d) t.status) can).0 in
     let starts : begins d n most ≡ true = ap (λ (b : Bool). b && runs_at d n) (lt-ltb 0 most some) ∙ runs_found d n t found ∙ on in
-    let one : Executes (begins d n most) n s = record { on = starts; thread = t; found = found } in
+    let one : StepsThread (begins d n most) n s = record { on = starts; thread = t; found = found } in
     let u = thread_left marks most t s in
     let there : slice_get m.threads n ≡ Some u = call_found marks n most s (begins d n most) one in
     let differs = call_differs marks most t s h.few can in

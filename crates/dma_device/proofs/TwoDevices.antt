@@ -14,7 +14,7 @@ use Rattle.dma_chan.specs.Explains.{Explains, GoesOn, next_in, traced}
 use Rattle.dma_chan.specs.LentRegions.{with_gaps_of}
 use Rattle.dma_chan.specs.Others.{IsWorked, work_below}
 use Rattle.dma_device.specs.Accesses.{Does, Done, Turned, Turns, Writes}
-use Rattle.dma_device.specs.Board.{CopiesOn, Happens, History, RunsOn, SparesBytes, SparesThread, WritesApart, is_turn_at, later}
+use Rattle.dma_device.specs.Board.{CopiesOn, Happens, BoardEvents, RunsOn, SparesBytes, SparesThread, WritesApart, is_turn_at, later}
 use Rattle.dma_device.specs.Device.{DeviceValue, reset_device}
 use Rattle.dma_device.specs.Dmago.{Go, csr_status, image_in, started_by}
 use Rattle.dma_device.specs.Offsets as offset
@@ -87,7 +87,7 @@ abbrev lent_at : ℕ → List Region
 lent_at k = get_or (memory 0 0 ∷ memory 0 0 ∷ memory 0 0 ∷ memory 0 0 ∷ memory 0 0 ∷ memory 7 0 ∷ []) k (memory 7 7)
 
 -- a DMAGO on each device, a turn of each, and another of each
-abbrev board : History
+abbrev board : BoardEvents
 board = record {
   count = 6;
   access = λ k. get_or (Writes offset.dbgcmd 0 ∷ Writes offset.dbgcmd 0 ∷ Turns 0 2 ∷ Turns 0 2 ∷ []) k (Turns 0 10);

@@ -1,12 +1,10 @@
 -- How far a program that a DMAGO starts has got after a turn.
-use Rattle.std.proofs.Common.{◌≡◌, ◌∙◌, ℕ, ◌<◌, List, [], length, Some, ap, refl, subst, arith, inl, inr}
+use Rattle.std.proofs.Common.{◌≡◌, ◌∙◌, ℕ, ◌<◌, List, [], Some, ap, refl, subst, arith, inl, inr}
 use Rattle.std.specs.Prelude.{slice_get}
-use Rattle.dma_mem.specs.Places.{size_of}
-use Rattle.dma_chan.specs.Explains.{Work, all_of, amounts_of, traced}
+use Rattle.dma_chan.specs.Explains.{Work, all_of}
 use Rattle.dma_chan.specs.Stepping.{machine}
-use Rattle.dma_chan.proofs.AmongOthers.{amounts}
 use Rattle.dma_chan.proofs.CallsAmongOthers.{done_at}
-use Rattle.dma_chan.proofs.SinceLoads.{part_first, runs_so, worked_part}
+use Rattle.dma_chan.proofs.SinceLoads.{all_done, part_first, runs_so, worked_part}
 use Rattle.dma_device.specs.Dmago.{Go, GivenTurns, RunsCopy, image_in}
 use Rattle.dma_device.specs.Underway.{DmagoUnderway, HasDone, KilledKeepsCounts}
 use Rattle.dma_device.specs.declared.thread.Thread.{Thread}
@@ -25,18 +23,12 @@ module _ (go : Go) (work : Work) (count : ℕ) (run : GivenTurns) (h : RunsCopy 
   abbrev c : Copying
   c = copying go work count run h some
 
-  -- all is done behind the instructions of the program
-  all_done : amounts_of (traced c.start c.program count) ≡ all_of work
-  all_done =
-      ap (λ (xs : List ℕ). amounts (length xs) (length (traced c.start c.program count).zeros)) h.explains.stores
-      ∙ ap (λ (xs : List ℕ). amounts (size_of work.copy) (length xs)) h.explains.zeros
-
   -- what is done once the program has ended
   over_done : (image : List ℕ) (th : Thread) → Over c image th → HasDone go work count c.first image th.channel
   over_done image th over = record {
     done = all_of work;
     count = over.stored;
-    reached = (count, omega arith, all_done);
+    reached = (count, omega arith, all_done c.start c.program work count h.explains);
     bytes = part_first work c.first (all_of work) image h.explains.work c.fits (worked_part work c.first image over.done);
   }
 

@@ -34,7 +34,7 @@ use Rattle.dma_device.proofs.Progress.{Awake, IsTurn, Reached, before_end, csr_s
 -- ---- a turn that doesn't wait in vain
 
 -- an event that channels see has one of the 32 flags
-seen_below : (d : DeviceValue) (e : ℕ) → bit_at (visible_events d) e ≡ 1 → e < 32
+pub seen_below : (d : DeviceValue) (e : ℕ) → bit_at (visible_events d) e ≡ 1 → e < 32
 seen_below d e on = elim (cases_lt e 32) [
   | inl below ↦ below
   | inr above ↦
@@ -43,7 +43,7 @@ seen_below d e on = elim (cases_lt e 32) [
 ]
 
 -- the flag is set of an event for which a running thread doesn't wait in vain
-flag_set : (d : DeviceValue) (n e : ℕ) (v : Bool) (th : Thread) → slice_get d.threads n ≡ Some th → runs th ≡ true → ahead_of th.channel ≡ Ok (Wfe e v) → waits_in_vain d n ≡ false → bit_at (visible_events d) e ≡ 1
+pub flag_set : (d : DeviceValue) (n e : ℕ) (v : Bool) (th : Thread) → slice_get d.threads n ≡ Some th → runs th ≡ true → ahead_of th.channel ≡ Ok (Wfe e v) → waits_in_vain d n ≡ false → bit_at (visible_events d) e ≡ 1
 flag_set d n e v th found on next calm = grind (arith, eqb-true)
 
 awake : (c : Copying) (n : ℕ) (d : DeviceValue) (least : ℕ) → runs_at d n ≡ true → waits_in_vain d n ≡ false → Awake c n d least
@@ -99,11 +99,11 @@ module _ (go : Go) (work : Work) (count : ℕ) (run : GivenTurns) (h : RunsCopy 
 pub vain_turns_wait : VainTurnsWait
 vain_turns_wait go work n run h fit k less vain = vain_wait go work n run h (omega (arith, less)) fit k less vain
 
-neither : (a b : Bool) → (a || b) ≡ false → (a ≡ false) × (b ≡ false)
+pub neither : (a b : Bool) → (a || b) ≡ false → (a ≡ false) × (b ≡ false)
 neither true b is = absurd (true≢false is)
 neither false b is = (refl, is)
 
-busy : (most : ℕ) → nat_eq most 0 ≡ false → 0 < most
+pub busy : (most : ℕ) → nat_eq most 0 ≡ false → 0 < most
 busy most is = elim (cases_lt 0 most) [
   | inl some ↦ some
   | inr none ↦ absurd (true≢false (sym (eq-eqb most 0 (omega (arith, none))) ∙ is))

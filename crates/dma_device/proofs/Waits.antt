@@ -32,7 +32,7 @@ use Rattle.dma_device.specs.declared.thread.Status.{Status}
 use Rattle.dma_device.specs.declared.thread.Status.TheVariants.{WaitingForEvent}
 use Rattle.dma_device.specs.declared.thread.Thread.{Thread}
 use Rattle.dma_device.specs.Accesses.{AreAlike}
-use Rattle.dma_device.specs.CallSteps.{Executes, first_in, last_in, marks_in, second_in}
+use Rattle.dma_device.specs.CallSteps.{StepsThread, first_in, last_in, marks_in, second_in}
 use Rattle.dma_device.specs.Device.{DeviceValue, all_events, irq_abort, irqs, with_thread}
 use Rattle.dma_device.specs.Events.{IsVisible}
 use Rattle.dma_device.specs.Interrupts.{HasLine}
@@ -233,7 +233,7 @@ waits_in_vain d e regions left n most event turn t x h w some =
     let first = first_in d regions n most in
     let at : AtWait d.config.events (visible_events d) t = record { event = event; invalid = w.invalid; clear = unseen_clear d event h w.known w.unseen; known = w.known; next = w.next; few = w.few } in
     let starts : begins d n most ≡ true = ap (λ (b : Bool). b && runs_at d n) (lt-ltb 0 most some) ∙ runs_found d n t w.found ∙ w.running in
-    let one : Executes (begins d n most) n s = record { on = starts; thread = t; found = w.found } in
+    let one : StepsThread (begins d n most) n s = record { on = starts; thread = t; found = w.found } in
     let is : first ≡ wait_of n event t s = call_acts marks most one ∙ only_waits marks n most t s h some at in
     let second : second_in d regions n most ≡ wait_of n event t s = ap (λ (o : Outcome). called_if (follows o.left.device n o.called) marks n 1 o.left) is in
     let device : with_thread n (waiting event t) d ≡ e = ap (λ (o : Outcome). o.left.device) (sym second) ∙ turn_device x in

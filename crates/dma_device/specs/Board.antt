@@ -20,7 +20,7 @@ use Rattle.dma_device.specs.declared.device.turns.Turn.{Turn}
 -- Events on a board, of which there are `count`: number k is an access to device number `device k`, which is lent the
 -- regions `lent k`, returns `answer k`, and leaves `left k`. Device b is `before k b` before it, and `before (k + 1) b`
 -- after it.
-pub record History : Type 0 where
+pub record BoardEvents : Type 0 where
   pub count : ℕ
   pub access : ℕ → Access
   pub device : ℕ → ℕ
@@ -30,7 +30,7 @@ pub record History : Type 0 where
   pub left : ℕ → List Region
 
 -- Each event does to its device and to the memory what its access does, and leaves each other device as it is.
-pub record Happens (h : History) : Type 0 where
+pub record Happens (h : BoardEvents) : Type 0 where
   pub does : (k : ℕ) → k < h.count →
       let b = h.device k in
       Does (h.access k) (h.before k b) (h.lent k) (h.answer k) (h.before (k + 1) b) (h.left k)
@@ -40,7 +40,7 @@ pub record Happens (h : History) : Type 0 where
 
 -- Event number 0 executes the DMAGO of `go` on device b: a write to DBGCMD, while DBGINST0 and DBGINST1 have what the
 -- driver wrote to them, in any earlier events.
-pub record Begins (go : Go) (b : ℕ) (h : History) : Type 0 where
+pub record Begins (go : Go) (b : ℕ) (h : BoardEvents) : Type 0 where
   pub some : 0 < h.count
   pub number : h.device 0 ≡ b
   pub access : h.access 0 ≡ Writes offset.dbgcmd 0
@@ -62,12 +62,12 @@ most_of (Turns m most) = most
 most_of a = 0
 
 -- whether event number k is a turn of channel n of device b
-abbrev pub is_turn_at : History → ℕ → ℕ → ℕ → Bool
+abbrev pub is_turn_at : BoardEvents → ℕ → ℕ → ℕ → Bool
 is_turn_at h b n k = h.device k == b && is_turn n (h.access k)
 
 -- The turns of channel n of device b. At each other event the channel has a turn of no steps, which does nothing, right
 -- after the event. So the turns have the numbers of the events.
-abbrev pub turns_of : History → ℕ → ℕ → GivenTurns
+abbrev pub turns_of : BoardEvents → ℕ → ℕ → GivenTurns
 turns_of h b n = record {
   count = h.count;
   most = λ k. if is_turn_at h b n k then most_of (h.access k) else 0;
@@ -98,7 +98,7 @@ SparesBytes w a answer = Unit {0}
 -- A driver has put a program into RAM and starts it on device b by a DMAGO, event number 0; w explains the program,
 -- begun with the channel's registers, with n instructions before its DMAEND. Then come any events on all devices, of
 -- which only turns of the channel change its thread.
-pub record RunsOn (go : Go) (w : Work) (n b : ℕ) (h : History) : Type 0 where
+pub record RunsOn (go : Go) (w : Work) (n b : ℕ) (h : BoardEvents) : Type 0 where
   pub happens : Happens h
   pub begins : Begins go b h
   pub in_ram : HasProgram go.ram go.addr go.program
@@ -110,7 +110,7 @@ pub record RunsOn (go : Go) (w : Work) (n b : ℕ) (h : History) : Type 0 where
 -- Of these events only turns of the channel write addresses that w uses. At these addresses each event is lent the
 -- bytes that the one before it left, and the ranges of w lie below the end of the regions. In all else the regions may
 -- differ from event to event.
-pub record CopiesOn (go : Go) (w : Work) (n b : ℕ) (h : History) : Type 0 where
+pub record CopiesOn (go : Go) (w : Work) (n b : ℕ) (h : BoardEvents) : Type 0 where
   pub runs : RunsOn go w n b h
   pub bytes : (k : ℕ) → k < h.count → is_turn_at h b go.channel k ≡ false →
       SparesBytes w (h.access k) (h.answer k)
@@ -123,13 +123,13 @@ pub record CopiesOn (go : Go) (w : Work) (n b : ℕ) (h : History) : Type 0 wher
 -- The channel's turns run the copy. So all that is proved of such turns holds on the board.
 abbrev pub BoardRunsCopy : Type 0
 BoardRunsCopy =
-    (go : Go) (w : Work) (n b : ℕ) (h : History) → CopiesOn go w n b h →
+    (go : Go) (w : Work) (n b : ℕ) (h : BoardEvents) → CopiesOn go w n b h →
     RunsCopy go w n (turns_of h b go.channel)
 
 -- Once the channel's CSR reads as stopped after an event, the work is done from the memory at the DMAGO.
 abbrev pub ABoardCopies : Type 0
 ABoardCopies =
-    (go : Go) (w : Work) (n b : ℕ) (h : History) → CopiesOn go w n b h →
+    (go : Go) (w : Work) (n b : ℕ) (h : BoardEvents) → CopiesOn go w n b h →
     (k : ℕ) → k < h.count → csr_status (h.before (k + 1) b) go.channel ≡ 0 →
     IsWorked w (image_in (h.lent 0)) (image_in (h.left k))
 
@@ -137,14 +137,14 @@ ABoardCopies =
 -- events write.
 abbrev pub BoardStaysIn : Type 0
 BoardStaysIn =
-    (go : Go) (w : Work) (n b : ℕ) (h : History) (k most : ℕ) (turn : Turn) → RunsOn go w n b h →
+    (go : Go) (w : Work) (n b : ℕ) (h : BoardEvents) (k most : ℕ) (turn : Turn) → RunsOn go w n b h →
     k < h.count → h.device k ≡ b → h.access k ≡ Turns go.channel most → h.answer k ≡ Turned turn →
     StaysIn w (h.before k b) (h.lent k) go.channel most turn
 
 -- ---- several copies
 
 -- the events from number s on
-abbrev pub later : ℕ → History → History
+abbrev pub later : ℕ → BoardEvents → BoardEvents
 later s h = record {
   count = h.count - s;
   access = λ k. h.access (s + k);
@@ -163,6 +163,6 @@ WritesApart v w = (a : ℕ) → Contains (written v) a → ¬ Uses w a
 -- w uses, if v writes none. So channels of any devices may copy at once, each in its own work.
 abbrev pub BoardSpares : Type 0
 BoardSpares =
-    (go : Go) (v w : Work) (n b s : ℕ) (h : History) → RunsOn go v n b (later s h) → WritesApart v w →
+    (go : Go) (v w : Work) (n b s : ℕ) (h : BoardEvents) → RunsOn go v n b (later s h) → WritesApart v w →
     (k : ℕ) → s ≤ k → k < h.count → is_turn_at h b go.channel k ≡ true →
     SparesBytes w (h.access k) (h.answer k)

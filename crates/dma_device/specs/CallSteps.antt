@@ -10,7 +10,7 @@ use Rattle.dma_device.specs.Device.{DeviceValue}
 use Rattle.dma_device.specs.Turns.{Outcome, Setup, begins, called_if, follows, machine_in, setup_of, steps_in}
 
 -- A call (`called_if`) of channel `n` that is made takes steps of its thread.
-pub record Executes (made : Bool) (n : ℕ) (s : Setup) : Type 0 where
+pub record StepsThread (made : Bool) (n : ℕ) (s : Setup) : Type 0 where
   pub on : made ≡ true
   pub thread : Thread
   pub found : slice_get s.device.threads n ≡ Some thread

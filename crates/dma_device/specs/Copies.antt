@@ -79,7 +79,7 @@ DmagoInterruptsEach =
     (k : ℕ) → turn j ≤ k → k < run.count → AreDone w done (image_in (run.lent 0)) (image_in (run.left k))
 
 -- A device has each event of a program's DMAWFEs and DMASEVs.
-pub record HasEvents (d : DeviceValue) (go : Go) (n : ℕ) : Type 0 where
+pub record DeviceHasEvents (d : DeviceValue) (go : Go) (n : ℕ) : Type 0 where
   pub waits : (e : ℕ) → IsWait (start_of go) go.program n e → e < d.config.events
   pub signals : (e : ℕ) (done : Amounts) → IsSignal (start_of go) go.program n e done → e < d.config.events
 
@@ -88,7 +88,7 @@ pub record HasEvents (d : DeviceValue) (go : Go) (n : ℕ) : Type 0 where
 pub record IsFit (go : Go) (w : Work) (n : ℕ) (d : DeviceValue) (regions : List Region) : Type 0 where
   pub order : IsTrue (in_order (pieces_of regions))
   pub have : HaveAll regions w
-  pub events : HasEvents d go n
+  pub events : DeviceHasEvents d go n
 
 -- If the device and the regions are fit in each turn, then the channel's CSR never reads as faulting after a turn.
 abbrev pub DmagoNeverFails : Type 0

@@ -10,7 +10,7 @@ use Rattle.dma_device.specs.declared.device.turns.Turn.{Turn}
 use Rattle.dma_device.specs.declared.thread.Status.TheVariants.{WaitingForEvent}
 use Rattle.dma_device.specs.declared.thread.Thread.{Thread}
 use Rattle.dma_device.specs.Accesses.{Access, Answer, Does, Happen, IsExact, Resets, Restores, Turns}
-use Rattle.dma_device.specs.CallSteps.{Executes, InTurn, machine_after, marks_in}
+use Rattle.dma_device.specs.CallSteps.{StepsThread, InTurn, machine_after, marks_in}
 use Rattle.dma_device.specs.Device.{DeviceValue}
 use Rattle.dma_device.specs.Interrupts.{HasLine, IsHigh, Signals}
 use Rattle.dma_device.specs.Turns.{Setup, TakesTurn, begins, steps_in}
@@ -33,7 +33,7 @@ Sets k a d regions = (¬ IsHigh d.inten k) × Signals k a d regions
 
 -- one of the steps of a call of channel `n` executes a DMAWFE of event k, which passes
 pub record CallTakes (marks : MarkList) (n k : ℕ) (made : Bool) (most : ℕ) (s : Setup) : Type 0 where
-  pub executes : Executes made n s
+  pub executes : StepsThread made n s
   pub step : ℕ
   pub early : step < steps_in marks most executes.thread s
   pub invalid : Bool

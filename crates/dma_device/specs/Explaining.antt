@@ -15,7 +15,7 @@ use Rattle.dma_chan.specs.Programs.{ProgramValue}
 use Rattle.dma_chan.specs.Reads.{Reads}
 use Rattle.dma_chan.specs.Written.{LiesIn}
 use Rattle.dma_device.specs.Accesses.{Access, Answer, Does, Happen, Restores, Turned, Turns}
-use Rattle.dma_device.specs.CallSteps.{Executes as Steps, InTurn, marks_in}
+use Rattle.dma_device.specs.CallSteps.{StepsThread, InTurn, marks_in}
 use Rattle.dma_device.specs.Device.{DeviceValue}
 use Rattle.dma_device.specs.Turns.{Setup, TakesTurn, machine_in, steps_in}
 use Rattle.dma_device.specs.declared.device.explain.ExplainFault.{ExplainFault}
@@ -54,7 +54,7 @@ FailsFor d n most (Unexplained u) =
 -- one of the steps of a call of channel `n` reads an address
 abbrev pub CallReads : MarkList → ℕ → ℕ → Bool → ℕ → Setup → Type 0
 CallReads marks n a made most s =
-    (x : Steps made n s) × Reads marks (machine_in s x.thread) (steps_in marks most x.thread s) a
+    (x : StepsThread made n s) × Reads marks (machine_in s x.thread) (steps_in marks most x.thread s) a
 
 -- one of the steps of a turn reads an address
 abbrev pub TurnReads : DeviceValue → List Region → ℕ → ℕ → ℕ → Type 0

@@ -8,7 +8,7 @@ use Rattle.dma_chan.specs.declared.turn.ChanTurn.TheVariants.{Moved, Waiting, En
 use Rattle.dma_device.specs.declared.config.Config.{Config}
 use Rattle.dma_device.specs.declared.thread.Thread.{Thread}
 use Rattle.dma_device.specs.Accesses.{Access, Answer, Does, Happen, IsExact, Resets, Restores, Turns, Writes}
-use Rattle.dma_device.specs.CallSteps.{Executes, InTurn, last_in, marks_in, signal_in}
+use Rattle.dma_device.specs.CallSteps.{StepsThread, InTurn, last_in, marks_in, signal_in}
 use Rattle.dma_device.specs.Device.{DeviceValue, irq_abort, is_event, read_at, reset_device}
 use Rattle.dma_device.specs.Interrupts.{IsHigh, is_fine}
 use Rattle.dma_device.specs.Offsets as offset
@@ -89,7 +89,7 @@ LastFails events (Some (Fault kind)) signal = Unit {0}
 -- a call of channel `n` fails: its last step fails
 abbrev pub CallFails : MarkList → ℕ → Bool → ℕ → Setup → Type 0
 CallFails marks n made most s =
-    (x : Executes made n s)
+    (x : StepsThread made n s)
     × LastFails s.device.config.events (last_in marks most x.thread s) (signal_in marks most x.thread s)
 
 -- one of the two calls of a turn fails

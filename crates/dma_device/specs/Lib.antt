@@ -20,5 +20,6 @@ pub mod Copies
 pub mod Explaining
 pub mod Underway
 pub mod Progress
+pub mod Refused
 pub mod Board
 pub mod inner

@@ -12,7 +12,7 @@ use Rattle.dma_chan.specs.Compiled.{compiled_on, cost_on}
 use Rattle.dma_chan.specs.Explains.{IsIn, IsSignal, IsWait, Work, all_of, only}
 use Rattle.dma_chan.specs.declared.explain.Amounts.{Amounts}
 use Rattle.dma_chan.specs.declared.turn.FaultKind.{FaultKind}
-use Rattle.dma_device.specs.Copies.{HasEvents, IsFit}
+use Rattle.dma_device.specs.Copies.{DeviceHasEvents, IsFit}
 use Rattle.dma_device.specs.Device.{DeviceValue, irqs}
 use Rattle.dma_device.specs.Dmago.{Go, RunsCopy, GivenTurns, bus_of, csr_status, start_of}
 use Rattle.dma_device.specs.Events.{IsVisible}
@@ -126,7 +126,7 @@ compiled_count go t = cost_on (bus_of go) t - 1
 abbrev pub CompiledHasEvents : Type 0
 CompiledHasEvents =
     (go : Go) (t : Descriptor) (d : DeviceValue) → IsCompiled go t → IfSome t.wait (λ e. e < d.config.events) →
-    IfSome t.signal (λ e. e < d.config.events) → HasEvents d go (compiled_count go t)
+    IfSome t.signal (λ e. e < d.config.events) → DeviceHasEvents d go (compiled_count go t)
 
 -- A compiled program waits only at its first instruction, so of its ready turns only the first needs a visible event.
 -- (Here `before j` is the device before turn number `turn j` of `ReadyTurns`.)

@@ -15,7 +15,7 @@ pub record Ram : Type 0 where
   pub read_only : List Segment
 
 -- A device, and the memory that it is lent.
-pub record Board : Type 0 where
+pub record LentDevice : Type 0 where
   pub device : DeviceValue
   pub ram : Ram
 
@@ -23,9 +23,9 @@ pub record Board : Type 0 where
 abbrev pub ram_of : List Region → Ram
 ram_of regions = record { pieces = pieces_of regions; read_only = read_only_of regions }
 
--- the board of a device and of the memory that regions lend
-abbrev pub board_of : DeviceValue → List Region → Board
-board_of d regions = record { device = d; ram = ram_of regions }
+-- a device with the memory that regions lend
+abbrev pub lent_device : DeviceValue → List Region → LentDevice
+lent_device d regions = record { device = d; ram = ram_of regions }
 
 -- pieces at the same places, with the bytes of an image that begins at an address
 abbrev pub put_from : ℕ → List ℕ → List Piece → List Piece
@@ -44,14 +44,14 @@ marks_of ram = marks_at (gaps_of ram.pieces) ++ (stores_at ram.read_only ++ [])
 
 -- ---- accesses
 
--- the board after a turn of channel n of at most `most` steps, and what the turn reports
-abbrev pub turned_on : ℕ → ℕ → Board → Board × Answer
+-- the device and its memory after a turn of channel n of at most `most` steps, and what the turn reports
+abbrev pub turned_on : ℕ → ℕ → LentDevice → LentDevice × Answer
 turned_on n most b =
     let turn = turned (marks_of b.ram) n most (record { device = b.device; image = image_of b.ram.pieces }) in
     (record { device = turn.0.device; ram = with_image turn.0.image b.ram }, Turned turn.1)
 
--- the board after an access, and what the access returns
-abbrev pub next : Access → Board → Board × Answer
+-- the device and its memory after an access, and what the access returns
+abbrev pub next : Access → LentDevice → LentDevice × Answer
 next (Reads at) b = (b, Value (read_at b.device at))
 next (Writes at value) b = (record b { device = written b.ram.pieces at value b.device }, Done)
 next (Turns n most) b = turned_on n most b
@@ -60,8 +60,8 @@ next (Stores addr byte) b =
 next Resets b = (record b { device = reset_device b.device.config }, Done)
 next (Restores saved) b = (record b { device = saved }, Done)
 
--- the board after this number of accesses
-abbrev pub run : (ℕ → Access) → Board → ℕ → Board
+-- the device and its memory after this number of accesses
+abbrev pub run : (ℕ → Access) → LentDevice → ℕ → LentDevice
 run access b zero = b
 run access b (suc k) = (next (access k) (run access b k)).0
 
@@ -75,5 +75,5 @@ abbrev pub RunsStepByStep : Type 0
 RunsStepByStep =
     (access : ℕ → Access) (answer : ℕ → Answer) (before : ℕ → DeviceValue) (lent left : ℕ → List Region)
     (count : ℕ) → Happen access answer before lent left count → StaysLent lent left count →
-    ((k : ℕ) → k ≤ count → board_of (before k) (lent k) ≡ run access (board_of (before 0) (lent 0)) k)
-    × ((k : ℕ) → k < count → answer k ≡ (next (access k) (run access (board_of (before 0) (lent 0)) k)).1)
+    ((k : ℕ) → k ≤ count → lent_device (before k) (lent k) ≡ run access (lent_device (before 0) (lent 0)) k)
+    × ((k : ℕ) → k < count → answer k ≡ (next (access k) (run access (lent_device (before 0) (lent 0)) k)).1)

@@ -9,14 +9,14 @@ use Rattle.dma_chan.specs.LentRegions.{segment_of}
 use Rattle.dma_chan.specs.Stepping.{Wrote}
 use Rattle.dma_chan.specs.Written.{KeepsOutside, LiesIn}
 use Rattle.dma_device.specs.declared.device.turns.Turn.{Turn}
-use Rattle.dma_device.specs.CallSteps.{Executes, InTurn, marks_in}
+use Rattle.dma_device.specs.CallSteps.{StepsThread, InTurn, marks_in}
 use Rattle.dma_device.specs.Device.{DeviceValue}
 use Rattle.dma_device.specs.Turns.{Setup, TakesTurn, machine_in, steps_in}
 
 -- one of the steps of a call of channel `n` wrote an address
 abbrev pub CallWrote : MarkList → ℕ → ℕ → Bool → ℕ → Setup → Type 0
 CallWrote marks n a made most s =
-    (x : Executes made n s) × Wrote marks (machine_in s x.thread) (steps_in marks most x.thread s) a
+    (x : StepsThread made n s) × Wrote marks (machine_in s x.thread) (steps_in marks most x.thread s) a
 
 -- one of the steps of a turn wrote an address
 abbrev pub TurnWrote : DeviceValue → List Region → ℕ → ℕ → ℕ → Type 0

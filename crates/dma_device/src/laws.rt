@@ -10,6 +10,7 @@ ghost use Rattle.dma_device.specs.Frame.{BytesDontMatter, LikeReadsLike, RegionB
 ghost use Rattle.dma_device.specs.Idle.{NothingHappens, StaySound, TurnChanges, WaitsInVain};
 ghost use Rattle.dma_device.specs.Interrupts.{InterruptsAreExact};
 ghost use Rattle.dma_device.specs.Progress.{CompiledGoesOn, CompiledHasEvents, CompiledSignals, DmagoFinishes, DmagoSignals, TheLoopFinishes, VainTurnsWait};
+ghost use Rattle.dma_device.specs.Refused.{RefusedFails};
 ghost use Rattle.dma_device.specs.RowTurns.{RowsWriteEach};
 ghost use Rattle.dma_device.specs.Snapshot.{DamageIsRefused};
 ghost use Rattle.dma_device.specs.Run.{RunsStepByStep};
@@ -23,14 +24,20 @@ pub fn memory_has_bytes()
 
 /// A driver puts into RAM a program that is explained from the channel's registers, and starts it there by a DMAGO. The
 /// program makes one simultaneous copy of all bytes and sets its other ranges to 0, whatever the guest and other
-/// channels do meanwhile to other bytes and registers. It is done once the channel's CSR reads as stopped. Once a line
-/// that was low is high after a turn of the channel, at least as many bytes are copied and set to 0 as before each
-/// DMASEV of the line's event. Once the line rose in j turns of the channel, as it does if a handler clears it between
-/// them, at least as many bytes are copied and set to 0 as before the j-th DMASEV of the event.
+/// channels do meanwhile to other bytes and registers. It is done once the channel's CSR reads as stopped.
 pub fn a_dmago_copies()
-    ensures copies { DmagoCopies }
-    ensures interrupts { DmagoInterrupts }
-    ensures interrupts_each { DmagoInterruptsEach }
+    ensures { DmagoCopies }
+{}
+
+/// Once a line that was low is high after a turn of such a channel, at least as many bytes are copied and set to 0 as
+/// before the first DMASEV of the line's event. Once the line rose in j turns of the channel, as it does if a handler
+/// clears it between them, at least as many bytes are copied and set to 0 as before the j-th DMASEV of the event. If
+/// the program has a DMASEV of an event that the device has and that INTEN makes an interrupt in each turn, then once
+/// CSR reads as stopped, the event's line was high after one of the turns.
+pub fn a_dmago_interrupts()
+    ensures done { DmagoInterrupts }
+    ensures done_each { DmagoInterruptsEach }
+    ensures rises { DmagoSignals }
 {}
 
 /// After each turn of such a program, whether the channel then executes, waits, is faulting or has ended, a part of the
@@ -54,18 +61,33 @@ pub fn a_dmago_never_fails()
 /// take a step and doesn't begin at a DMAWFE of an event that isn't set, or that INTEN makes an interrupt. A host may
 /// give the channel any other turns between them, as while it waits (`nothing_happens`). So it needn't know the
 /// program: as long as CSR doesn't read as stopped, at most as many turns were ready as the program executes
-/// instructions before its DMAEND. In the others it only waits, or takes no step. If the program has a DMASEV of an
-/// event that INTEN makes an interrupt, the event's line was high after one of the turns. Of a program that is compiled
-/// for the device's bus only the first ready turn needs the event that its transfer waits for, and it has a DMASEV of
-/// the event that its transfer signals, when all bytes are stored.
+/// instructions before its DMAEND. In the others it only waits, or takes no step.
 pub fn a_dmago_finishes()
     ensures finishes { DmagoFinishes }
     ensures loop_finishes { TheLoopFinishes }
     ensures vain { VainTurnsWait }
-    ensures signals { DmagoSignals }
+{}
+
+/// The program of a transfer, compiled for the device's bus. The device has the program's events if it has those that
+/// the transfer waits for and signals. Of the ready turns of `a_dmago_finishes` only the first needs the event that the
+/// transfer waits for. The program has a DMASEV of the event that the transfer signals, and stores all bytes before
+/// each DMASEV.
+pub fn compiled_programs_keep_events()
     ensures has_events { CompiledHasEvents }
     ensures goes_on { CompiledGoesOn }
-    ensures has_sev { CompiledSignals }
+    ensures signals { CompiledSignals }
+{}
+
+/// A driver starts a program by a DMAGO, and [`crate::device::Device::explain`] then refuses it for a fault, after n
+/// instructions. While only the channel's turns change its thread, the channel never ends and never gets beyond the
+/// refused instruction, whatever happens to the memory and to the rest of the device. A turn that begins at this
+/// instruction while the channel isn't faulting, and may take a step, changes no byte and leaves the channel faulting:
+/// CSR reads so, FTR has the fault's bit, and CPC is the instruction's address. After n + 1 turns that may take a step
+/// and don't begin at a DMAWFE that waits, CSR reads as faulting, however many other turns there are. An earlier
+/// instruction may fail too, as at a gap between regions. But a faulting channel that has executed all n failed at the
+/// refused one, if the device had their events in each turn so far.
+pub fn a_refused_dmago_fails()
+    ensures { RefusedFails }
 {}
 
 /// A board has several devices over one memory. From the DMAGO on, any events on all devices happen in any order:
@@ -73,9 +95,9 @@ pub fn a_dmago_finishes()
 /// but the channel's own turns may change its thread (no reset, no restore of another thread, no debug instruction that
 /// names it), then each of its turns writes only destinations and zeros of the work that explains its program, and
 /// reads only the sources. If besides only they write addresses that the work uses, then the work is done from the
-/// memory at the DMAGO once the channel's CSR reads as stopped, and `a_dmago_copies`, `a_dmago_is_underway`,
-/// `a_dmago_never_fails` and `a_dmago_finishes` are about the channel's turns. So several channels copy at once, if the
-/// work of none writes an address that the work of another uses.
+/// memory at the DMAGO once the channel's CSR reads as stopped, and `a_dmago_copies`, `a_dmago_interrupts`,
+/// `a_dmago_is_underway`, `a_dmago_never_fails` and `a_dmago_finishes` are about the channel's turns. So several
+/// channels copy at once, if the work of none writes an address that the work of another uses.
 pub fn a_board_copies()
     ensures copies { ABoardCopies }
     ensures runs { BoardRunsCopy }

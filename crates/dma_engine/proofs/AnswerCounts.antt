@@ -20,9 +20,9 @@ use Rattle.dma_engine.specs.declared.turn.Turn.TheVariants.{Moved, Finished as F
 use Rattle.dma_engine.specs.Object.{Object, ChannelState, after, channel, empty_channel, with_channel, with_flag, with_front_laid, with_outcome, finished, finished_all, front_of, outcome_of}
 use Rattle.dma_engine.specs.Ticks.{Submitted, Finished, ticks_of}
 use Rattle.dma_engine.specs.View.{View, object_of, channels}
-use Rattle.dma_engine.specs.Turn.{Stepped, turn, ends, next_moved, finishes, with_entry}
+use Rattle.dma_engine.specs.Turn.{Stepped, turn, ends, steps_in, finishes_in, next_moved, finishes, with_entry}
 use Rattle.dma_engine.specs.Answer.{CallAnswers, answer, unless, write_fault, read_fault, channel_fault, mark_fault, raise_fault, with_pause}
-use Rattle.dma_engine.specs.Laws.{Adds, SameCounts, IsQuiet, QuietCallsKeepCounts, StepsAdd, EndsByTurn, ticks_in, steps_in, finishes_in}
+use Rattle.dma_engine.specs.Laws.{Adds, SameCounts, IsQuiet, QuietCallsKeepCounts, StepsAdd, EndsByTurn, ticks_in}
 use Rattle.dma_engine.proofs.Histories.{object_after_append}
 use Rattle.dma_engine.proofs.Turns.{answer_is, step_is_law, turn_cases}
 

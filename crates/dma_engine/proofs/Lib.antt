@@ -34,3 +34,4 @@ pub mod StaysSound
 pub mod Advances
 pub mod StepsAtOnce
 pub mod AtOnce
+pub mod Interleavings

@@ -6,6 +6,7 @@ use Rattle.dma_mem.specs.Image.{put, after_moves}
 use Rattle.dma_mem.specs.declared.marks.MarkKind.{MarkKind}
 use Rattle.dma_mem.specs.declared.marks.MarkKind.TheVariants.{Reading, Writing}
 use Rattle.dma_mem.proofs.TransferRules.{IsTransfer_from_no_refusal}
+use Rattle.dma_insn.specs.ControlWord.{bits_of, end_bits}
 use Rattle.dma_chan.specs.Compiled.{beat_of, parts, members}
 use Rattle.dma_chan.specs.Traffic.{member, stored_after, burst}
 use Rattle.dma_chan.specs.Bursts.{burst_at}
@@ -114,13 +115,13 @@ how_far_a_cookie_is = refl
 -- three bytes go in bursts of two and one; the first is stored when the channel is terminated
 residues_of_a_terminate : replies 16 1 (Write 0 (17 ∷ 34 ∷ 51 ∷ []) ∷ Submit 0 (copy 0 8 3) ∷ Submit 0 (copy 0 4 2) ∷ Issue 0 ∷ Step 0 ∷ Step 0 ∷ Step 0 ∷ Step 0 ∷ Step 0 ∷ Step 0 ∷ Step 0 ∷ Terminate 0 ∷ ResultOf 0 1 ∷ ResultOf 0 2 ∷ ResultOf 0 3 ∷ Read 8 3 ∷ [])
     ≡ Done ∷ Cookie 1 ∷ Cookie 2 ∷ Count 2 ∷ Turned (Started 1) ∷ Turned Moved ∷ Turned Moved ∷ Turned Moved ∷ Turned Moved ∷ Turned Moved ∷ Turned Moved ∷ Count 2 ∷ Resulted (Some (record { result = Aborted; residue = 1 })) ∷ Resulted (Some (record { result = Aborted; residue = 2 })) ∷ Resulted None ∷ Bytes (17 ∷ 34 ∷ 0 ∷ []) ∷ []
-unfolding opening put after_moves share running member members stored_after burst meets_mark parts beat_of burst_at
+unfolding opening put after_moves share running member members stored_after burst meets_mark parts beat_of bits_of end_bits burst_at
 residues_of_a_terminate = refl
 
 -- a fill's two pieces are a burst each; the first is stored when the channel is terminated
 a_fill_stops_halfway : replies 16 1 (Write 0 (17 ∷ []) ∷ Submit 0 (filling 0 (record { addr = 8; len = 2 } ∷ record { addr = 12; len = 1 } ∷ []) None None) ∷ Issue 0 ∷ Step 0 ∷ Step 0 ∷ Step 0 ∷ Step 0 ∷ Step 0 ∷ Step 0 ∷ Step 0 ∷ Terminate 0 ∷ ResultOf 0 1 ∷ Read 8 5 ∷ [])
     ≡ Done ∷ Cookie 1 ∷ Count 1 ∷ Turned (Started 1) ∷ Turned Moved ∷ Turned Moved ∷ Turned Moved ∷ Turned Moved ∷ Turned Moved ∷ Turned Moved ∷ Count 1 ∷ Resulted (Some (record { result = Aborted; residue = 1 })) ∷ Bytes (17 ∷ 17 ∷ 0 ∷ 0 ∷ 0 ∷ []) ∷ []
-unfolding opening put after_moves share running member members stored_after burst meets_mark parts beat_of burst_at
+unfolding opening put after_moves share running member members stored_after burst meets_mark parts beat_of bits_of end_bits burst_at
 a_fill_stops_halfway = refl
 
 one_event_lets_one_pass : replies 16 2 (Submit 0 (byte 0 4 (Some 3) None) ∷ Submit 1 (byte 0 8 (Some 3) None) ∷ Issue 0 ∷ Issue 1 ∷ Step 0 ∷ Step 1 ∷ Step 0 ∷ Raise 3 ∷ Step 1 ∷ Step 0 ∷ Raise 32 ∷ [])
@@ -130,23 +131,23 @@ one_event_lets_one_pass = refl
 
 a_failed_load_halts : replies 16 1 (Mark Reading (record { addr = 0; len = 1 }) ∷ Submit 0 (copy 0 4 1) ∷ Submit 0 (copy 1 4 1) ∷ Issue 0 ∷ Step 0 ∷ Step 0 ∷ Step 0 ∷ Step 0 ∷ Step 0 ∷ Step 0 ∷ Terminate 0 ∷ Step 0 ∷ [])
     ≡ Done ∷ Cookie 1 ∷ Cookie 2 ∷ Count 2 ∷ Turned (Started 1) ∷ Turned Moved ∷ Turned Moved ∷ Turned Moved ∷ Turned (TurnFinished 1 ReadFailed 1) ∷ Turned Halted ∷ Count 1 ∷ Turned Nothing ∷ []
-unfolding opening put after_moves share running member members stored_after burst meets_mark parts beat_of burst_at
+unfolding opening put after_moves share running member members stored_after burst meets_mark parts beat_of bits_of end_bits burst_at
 a_failed_load_halts = refl
 
 other_kind_stops_nothing : replies 16 1 (Mark Writing (record { addr = 0; len = 1 }) ∷ Submit 0 (copy 0 4 1) ∷ Issue 0 ∷ Step 0 ∷ Step 0 ∷ Step 0 ∷ Step 0 ∷ Step 0 ∷ [])
     ≡ Done ∷ Cookie 1 ∷ Count 1 ∷ Turned (Started 1) ∷ Turned Moved ∷ Turned Moved ∷ Turned Moved ∷ Turned Moved ∷ []
-unfolding opening put after_moves share running member members stored_after burst meets_mark parts beat_of burst_at
+unfolding opening put after_moves share running member members stored_after burst meets_mark parts beat_of bits_of end_bits burst_at
 other_kind_stops_nothing = refl
 
 a_copy_to_its_end : replies 16 1 (Write 0 (17 ∷ []) ∷ Submit 0 (copy 0 4 1) ∷ Step 0 ∷ Issue 0 ∷ Pause 0 ∷ Step 0 ∷ Resume 0 ∷ Step 0 ∷ Step 0 ∷ Step 0 ∷ Step 0 ∷ Step 0 ∷ Step 0 ∷ Step 0 ∷ Step 0 ∷ Step 0 ∷ Step 0 ∷ Read 4 1 ∷ Step 1 ∷ [])
     ≡ Done ∷ Cookie 1 ∷ Turned Nothing ∷ Count 1 ∷ Done ∷ Turned Paused ∷ Done ∷ Turned (Started 1) ∷ Turned Moved ∷ Turned Moved ∷ Turned Moved ∷ Turned Moved ∷ Turned Moved ∷ Turned Moved ∷ Turned Moved ∷ Turned (TurnFinished 1 NoError 0) ∷ Turned Nothing ∷ Bytes (17 ∷ []) ∷ Refused NoChannel ∷ []
-unfolding opening put after_moves share running member members stored_after burst meets_mark parts beat_of burst_at
+unfolding opening put after_moves share running member members stored_after burst meets_mark parts beat_of bits_of end_bits burst_at
 a_copy_to_its_end = refl
 
 -- a signal of one channel lets another pass
 a_signal_lets_one_pass : replies 16 2 (Submit 0 (byte 0 4 None (Some 5)) ∷ Submit 1 (byte 0 8 (Some 5) None) ∷ Issue 0 ∷ Issue 1 ∷ Step 0 ∷ Step 1 ∷ Step 0 ∷ Step 0 ∷ Step 0 ∷ Step 0 ∷ Step 0 ∷ Step 0 ∷ Step 0 ∷ Step 1 ∷ Step 0 ∷ Step 1 ∷ [])
     ≡ Cookie 1 ∷ Cookie 1 ∷ Count 1 ∷ Count 1 ∷ Turned (Started 1) ∷ Turned (Started 1) ∷ Turned Moved ∷ Turned Moved ∷ Turned Moved ∷ Turned Moved ∷ Turned Moved ∷ Turned Moved ∷ Turned Moved ∷ Turned (Waiting 5) ∷ Turned Moved ∷ Turned Moved ∷ []
-unfolding opening put after_moves share running member members stored_after burst meets_mark parts beat_of burst_at
+unfolding opening put after_moves share running member members stored_after burst meets_mark parts beat_of bits_of end_bits burst_at
 a_signal_lets_one_pass = refl
 
 -- ---- limits
@@ -213,15 +214,15 @@ abbrev after_steps : ℕ → View
 after_steps n = record ((answers (new_view 16 1) (Submit 0 (copy 0 4 1) ∷ Issue 0 ∷ Step 0 ∷ [])).1) { steps = n }
 
 the_last_step : (answer (after_steps 18446744073709551614) (Step 0)).0 ≡ Turned Moved
-unfolding opening put after_moves share running member members stored_after burst meets_mark parts beat_of burst_at
+unfolding opening put after_moves share running member members stored_after burst meets_mark parts beat_of bits_of end_bits burst_at
 the_last_step = refl
 
 the_last_count : (answer (after_steps 18446744073709551614) (Step 0)).1.steps ≡ 18446744073709551615
-unfolding opening put after_moves share running member members stored_after burst meets_mark parts beat_of burst_at
+unfolding opening put after_moves share running member members stored_after burst meets_mark parts beat_of bits_of end_bits burst_at
 the_last_count = refl
 
 no_step_after_it : answer (after_steps 18446744073709551615) (Step 0) ≡ (Refused StepsSpent, after_steps 18446744073709551615)
-unfolding opening put after_moves share running member members stored_after burst meets_mark parts beat_of burst_at
+unfolding opening put after_moves share running member members stored_after burst meets_mark parts beat_of bits_of end_bits burst_at
 no_step_after_it = refl
 
 -- the last cookie of a channel, whatever was submitted before it

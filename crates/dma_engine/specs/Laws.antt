@@ -1,6 +1,6 @@
 -- What each answer adds to the ticks, to the step count and to the number of finished cookies; the views after
 -- answers; and answers to consecutive calls.
-use Rattle.std.specs.Prelude.{◌≡◌, ◌≢◌, ℕ, ◌+◌, ◌≤◌, ◌<◌, ◌⊎◌, false, if◌then◌else◌, None, Result, Ok, Err, List, [], ◌∷◌, ◌++◌, length, take, drop}
+use Rattle.std.specs.Prelude.{◌≡◌, ◌≢◌, ℕ, ◌+◌, ◌≤◌, ◌<◌, ◌⊎◌, false, if◌then◌else◌, None, Result, Err, List, [], ◌∷◌, ◌++◌, length, take, drop}
 use Rattle.std.specs.List.{All}
 use Rattle.dma_mem.specs.Limits.{most_channels}
 use Rattle.dma_mem.specs.Places.{Descriptor}
@@ -13,23 +13,12 @@ use Rattle.dma_engine.specs.declared.entry.Entry.{Entry}
 use Rattle.dma_engine.specs.declared.fault.EngineFault.{EngineFault}
 use Rattle.dma_engine.specs.declared.fault.EngineFault.TheVariants.{NoMemory}
 use Rattle.dma_engine.specs.declared.turn.Turn.{Turn}
-use Rattle.dma_engine.specs.declared.turn.Turn.TheVariants.{Moved, Finished as TurnFinished}
 use Rattle.dma_engine.specs.Object.{channel, finished, finished_all, last_cookie, unfinished, used}
 use Rattle.dma_engine.specs.Ticks.{Tick, Submitted, Finished, board_after, board_of, counts, status_of, tick_channel, ticks_of}
-use Rattle.dma_engine.specs.Turn.{ends, turn}
+use Rattle.dma_engine.specs.Turn.{ends, finishes_in, steps_in, turn}
 use Rattle.dma_engine.specs.Answer.{CallAnswers, AreAnswers, StepAnswers, Extends, KeepsOutcomes, answer, answers, has_checkpoint, is_checkpoint, reply_of, status_in}
 use Rattle.dma_engine.specs.Room.{IsIdle}
 use Rattle.dma_engine.specs.View.{View, IsSound, channels, new_fault, new_view, object_of}
-
--- how many steps an answer counts: one if it moved or finished, else none
-abbrev pub steps_in : Result Turn EngineFault → ℕ
-steps_in (Ok Moved) = 1
-steps_in (Ok (TurnFinished cookie result residue)) = 1
-steps_in _ = 0
-
--- how many cookies a step's answer finishes: one or none
-abbrev pub finishes_in : Result Turn EngineFault → ℕ
-finishes_in r = if ends r then 1 else 0
 
 -- the tick of a step's answer: one if it finishes a cookie, else none
 abbrev pub ticks_in : ℕ → Result Turn EngineFault → List Tick

@@ -3,11 +3,10 @@ use Rattle.std.proofs.Common.{◌≡◌, ℕ, zero, suc, ◌+◌, Bool, true, fa
 use Rattle.std.specs.Prelude.{if◌then◌else◌, ◌==◌, Result, Ok, Err, replicate, unwrap_or}
 use Rattle.std.proofs.lemmas.Bool.{eqb-true}
 use Rattle.std.proofs.lemmas.List.{replicate-append-replicate}
-use Rattle.dma_mem.specs.Places.{Descriptor, filling}
-use Rattle.dma_mem.specs.Refusals.{refusal_of, refusal_of_fill}
+use Rattle.dma_mem.specs.Places.{Descriptor}
+use Rattle.dma_mem.specs.Refusals.{refusal_of}
 use Rattle.dma_mem.specs.declared.marks.MarkKind.{MarkKind}
 use Rattle.dma_mem.specs.declared.segment.Segment.{Segment}
-use Rattle.dma_mem.specs.declared.transfer.TransferFault.{TransferFault}
 use Rattle.dma_mem.specs.declared.transfer.TransferFault.TheVariants as transfers
 use Rattle.dma_mem.specs.declared.call.Call.{Call}
 use Rattle.dma_mem.specs.declared.call.Call.TheVariants.{Submit, Step, Mark}
@@ -25,7 +24,7 @@ use Rattle.dma_engine.proofs.IdleSteps.{idle_steps_stay}
 use Rattle.dma_engine.proofs.JoinedCalls.{answers_are_answers}
 use Rattle.dma_engine.proofs.Turns.{answer_is}
 use Rattle.dma_ffi.specs.Codes.{mark_kind}
-use Rattle.dma_ffi.specs.Requests.{Answer, Answers, AnswersMark, AnswersSubmit, Replies, Request, Returns, advance_answer, ask_call, ask_copy, ask_fill, ask_mark, ask_steps, ask_value, replied, stepped, turn_before, unfit}
+use Rattle.dma_ffi.specs.Requests.{Answer, Answers, AnswersMark, AnswersSubmit, Replies, Request, Returns, advance_answer, ask_call, ask_mark, ask_steps, ask_submit, ask_value, replied, stepped, turn_before, unfit}
 use Rattle.dma_ffi.specs.Laws.{AreReplies, CallsAreTheEngines, calls_made, if_replied, marking}
 
 -- there are replies to calls in order that fit an answer and lead to this view
@@ -89,18 +88,16 @@ mark_made : (v w : View) (kind : Option MarkKind) (range : Segment) (answer : An
 mark_made v w None range answer h = none_made v w answer (subst (λ (a : Answer). AreReplies a []) (sym h.0) refl) h.1
 mark_made v w (Some kind) range answer h = one_made v w (Mark kind range) answer h
 
-submit_made : (v w : View) (ch : ℕ) (t : Descriptor) (refusal : Option TransferFault) (answer : Answer) → AnswersSubmit v ch refusal t answer w → Made v (if_replied answer (Submit ch t)) answer w
-submit_made v w ch t refusal answer (inl h) =
-    subst (λ (a : Answer). Made v (if_replied a (Submit ch t)) a w) (sym h.0) (none_made v w (unfit (unwrap_or refusal transfers.NoMemory)) refl h.1)
-submit_made v w ch t refusal answer (inr h) =
+submit_made : (v w : View) (ch : ℕ) (t : Descriptor) (answer : Answer) → AnswersSubmit v ch t answer w → Made v (if_replied answer (Submit ch t)) answer w
+submit_made v w ch t answer (inl h) =
+    subst (λ (a : Answer). Made v (if_replied a (Submit ch t)) a w) (sym h.0) (none_made v w (unfit (unwrap_or (refusal_of t) transfers.NoMemory)) refl h.1)
+submit_made v w ch t answer (inr h) =
     subst (λ (a : Answer). Made v (if_replied a (Submit ch t)) a w) (sym h.1.1) (one_made v w (Submit ch t) (replied h.1.0) (h.1.0, refl, h.1.2))
 
 made : (v w : View) (request : Request) (answer : Answer) → Answers v request answer w → Made v (calls_made request answer) answer w
 made v w (ask_call call) answer h = one_made v w call answer h
 made v w (ask_mark kind range) answer h = mark_made v w (mark_kind kind) range answer h
-made v w (ask_copy ch t) answer h = submit_made v w ch t (refusal_of t) answer h
-made v w (ask_fill ch src dst wait signal) answer h =
-    submit_made v w ch (filling src dst wait signal) (refusal_of_fill src dst wait signal) answer h
+made v w (ask_submit ch t) answer h = submit_made v w ch t answer h
 made v w (ask_steps ch most) answer (a, h, is) =
     subst (λ (x : Answer). Made v (calls_made (ask_steps ch most) x) x w) (sym is) (advance_made v w ch most a a.last h.before h.last)
 made v w (ask_value value) answer h = none_made v w answer (subst (λ (a : Answer). AreReplies a []) (sym h.0) refl) h.1

@@ -1,30 +1,20 @@
 -- The engine calls that a request of C makes can be made.
-use Rattle.std.proofs.Common.{◌≡◌, ℕ, ◌+◌, ◌<◌, List, [], ◌∷◌, Option, None, refl, sym, ◌∙◌, arith}
+use Rattle.std.proofs.Common.{◌≡◌, ℕ, [], ◌∷◌, Option, None, arith}
 use Rattle.std.specs.List.{All}
-use Rattle.std.proofs.Math.Bool.{or-false}
-use Rattle.std.proofs.lemmas.Bool.{le-ltb, true≢false}
 use Rattle.std.proofs.lemmas.List.Elements.{All-cons, All-replicate}
-use Rattle.dma_mem.specs.Places.{Descriptor, filling}
-use Rattle.dma_mem.specs.Refusals.{refusal_of, refusal_of_fill}
+use Rattle.dma_mem.specs.Places.{Descriptor}
+use Rattle.dma_mem.specs.Refusals.{refusal_of}
 use Rattle.dma_mem.specs.Rules.{IsTransfer}
 use Rattle.dma_mem.specs.declared.marks.MarkKind.{MarkKind}
 use Rattle.dma_mem.specs.declared.segment.Segment.{Segment}
-use Rattle.dma_mem.specs.declared.transfer.TransferFault.{TransferFault}
-use Rattle.dma_mem.proofs.TransferRules.{IsTransfer_from_no_refusal, fill_from_no_refusal}
+use Rattle.dma_mem.proofs.TransferRules.{IsTransfer_from_no_refusal}
 use Rattle.dma_mem.specs.declared.call.Call.{Call}
 use Rattle.dma_mem.specs.declared.call.Call.TheVariants.{Submit, Step}
 use Rattle.dma_engine.specs.View.{View}
 use Rattle.dma_engine.specs.Laws.{IsCall}
 use Rattle.dma_ffi.specs.Codes.{mark_kind}
-use Rattle.dma_ffi.specs.Requests.{Answer, Answers, AnswersSubmit, Request, ask_call, ask_copy, ask_fill, ask_mark, ask_steps, ask_value, replied, stepped}
+use Rattle.dma_ffi.specs.Requests.{Answer, Answers, AnswersSubmit, Request, ask_call, ask_mark, ask_steps, ask_submit, ask_value, replied, stepped}
 use Rattle.dma_ffi.specs.Laws.{CanBeRequested, calls_made, if_replied, marking}
-
--- ---- the refusals of a fill
-
--- a fill whose byte has a 32-bit address breaks the same rule of transfers as of fills
-fill_refusal : (src : ℕ) (dst : List Segment) (wait signal : Option ℕ) → src < 4294967296 → refusal_of (filling src dst wait signal) ≡ refusal_of_fill src dst wait signal
-fill_refusal src dst wait signal below =
-    rw (le-ltb 4294967296 (src + 1) (omega (arith, below)), or-false) refl
 
 -- ---- the calls of each request
 
@@ -37,8 +27,8 @@ alone call can = All-cons IsCall call [] can none_made_law
 marks_made : (kind : Option MarkKind) (range : Segment) → All IsCall (marking kind range)
 marks_made kind range = grind (arith, alone, none_made_law)
 
-submit_made_law : (v w : View) (ch : ℕ) (t : Descriptor) (refusal : Option TransferFault) (answer : Answer) → (refusal ≡ None → IsTransfer t) → AnswersSubmit v ch refusal t answer w → All IsCall (if_replied answer (Submit ch t))
-submit_made_law v w ch t refusal answer h1 h2 = grind (arith, alone, none_made_law)
+submit_made_law : (v w : View) (ch : ℕ) (t : Descriptor) (answer : Answer) → (refusal_of t ≡ None → IsTransfer t) → AnswersSubmit v ch t answer w → All IsCall (if_replied answer (Submit ch t))
+submit_made_law v w ch t answer h1 h2 = grind (arith, alone, none_made_law)
 
 steps_made_law : (ch most : ℕ) (answer : Answer) → All IsCall (calls_made (ask_steps ch most) answer)
 steps_made_law ch most (replied reply) = alone (Step ch) tt
@@ -49,11 +39,6 @@ steps_made_law ch most answer = none_made_law
 pub can_be_made : (v w : View) (request : Request) (answer : Answer) → CanBeRequested request → Answers v request answer w → All IsCall (calls_made request answer)
 can_be_made v w (ask_call call) answer can h = alone call can
 can_be_made v w (ask_mark kind range) answer can h = marks_made (mark_kind kind) range
-can_be_made v w (ask_copy ch t) answer can h =
-    submit_made_law v w ch t (refusal_of t) answer
-    (λ none. IsTransfer_from_no_refusal t (λ is. absurd (true≢false (sym is ∙ can))) none) h
-can_be_made v w (ask_fill ch src dst wait signal) answer can h =
-    submit_made_law v w ch (filling src dst wait signal) (refusal_of_fill src dst wait signal) answer
-    (λ none. fill_from_no_refusal src dst wait signal (fill_refusal src dst wait signal can ∙ none)) h
+can_be_made v w (ask_submit ch t) answer can h = submit_made_law v w ch t answer (IsTransfer_from_no_refusal t can) h
 can_be_made v w (ask_steps ch most) answer can h = steps_made_law ch most answer
 can_be_made v w (ask_value value) answer can h = none_made_law

@@ -6,14 +6,14 @@ use Rattle.std.proofs.lemmas.Bool.{false≢true}
 use Rattle.std.proofs.lemmas.Bool.Decides.{Decides-int_eq}
 use Rattle.dma_mem.specs.Regions.{pieces_of, read_only_of}
 use Rattle.dma_mem.specs.declared.regions.Region.{Region}
-use Rattle.dma_device.specs.Accesses.{Access, Answer, AreAlike, Does, Done, Happen, Reads, Resets, Restores as RestoresTo, Turned, Turns, Value, Writes}
+use Rattle.dma_device.specs.Accesses.{Access, Answer, AreAlike, Does, Done, Happen, Reads, Resets, Restores, Turned, Turns, Value, Writes}
 use Rattle.dma_device.specs.Device.{DeviceValue, reset_device}
 use Rattle.dma_device.specs.RowTurns.{TakesRowTurns, report_in}
 use Rattle.dma_device.specs.Run.{StaysLent}
 use Rattle.dma_device.specs.declared.device.rows.RowTurns.{RowTurns}
 use Rattle.dma_ffi.specs.declared.device_rows.DeviceRows.{DeviceRows}
 use Rattle.dma_ffi.specs.Codes.{bad_save, ok_code, other_device}
-use Rattle.dma_ffi.specs.Devices.{Restores, rows_report_of}
+use Rattle.dma_ffi.specs.Devices.{RestoresDevice, rows_report_of}
 use Rattle.dma_ffi.specs.DeviceSessions.{AreTurns, Called, DeviceCall, DeviceRequest, History, IsOne, Makes, accesses_for, ask_look, ask_read, ask_reset, ask_restore, ask_rows, ask_turn, ask_write}
 
 -- the number of accesses of a write and of a turn
@@ -160,11 +160,11 @@ apart : (code a b : ℤ) → int_eq a b ≡ false → code ≡ a → ¬ (code �
 apart code a b differ is other = false≢true (sym differ ∙ (Decides-int_eq a b).1 (sym is ∙ other))
 
 -- a restore, by its code
-own_restored : (d e : DeviceValue) (call : DeviceCall) (save : List ℕ) → Restores save d call.code e → call.left ≡ call.lent → Own d call (ask_restore save) (Some e)
+own_restored : (d e : DeviceValue) (call : DeviceCall) (save : List ℕ) → RestoresDevice save d call.code e → call.left ≡ call.lent → Own d call (ask_restore save) (Some e)
 own_restored d e call save (inl x) same =
-    own_one d e call (ask_restore save) (RestoresTo e) Done (ap if_restored x.0)
+    own_one d e call (ask_restore save) (Restores e) Done (ap if_restored x.0)
     (refl, refl, alike call.lent call.left same, x.1.config, x.1.value)
-    (λ ok. is_one d e call (RestoresTo e) Done, λ bad. absurd (apart call.code ok_code bad_save refl x.0 bad))
+    (λ ok. is_one d e call (Restores e) Done, λ bad. absurd (apart call.code ok_code bad_save refl x.0 bad))
 own_restored d e call save (inr (inl x)) same =
     own_none d call (ask_restore save) (Some e) (ap if_restored x.0)
     (ap (λ (y : DeviceValue). Some y) x.2) same

@@ -3,12 +3,12 @@ use Rattle.std.proofs.Common.{◌≡◌, ◌∙◌, ℕ, ◌+◌, ◌-◌, ◌<�
 use Rattle.std.specs.Prelude.{if◌then◌else◌, nat_lt}
 use Rattle.std.proofs.lemmas.Bool.{cases_lt, le-ltb, lt-ltb}
 use Rattle.dma_mem.specs.declared.regions.Region.{Region}
-use Rattle.dma_device.specs.Accesses.{Access, Answer, AreAlike, Does, Done, Happen, Reads, Resets, Restores as RestoresTo, Turned, Turns, Value, Writes}
+use Rattle.dma_device.specs.Accesses.{Access, Answer, AreAlike, Does, Done, Happen, Reads, Resets, Restores, Turned, Turns, Value, Writes}
 use Rattle.dma_device.specs.Device.{DeviceValue}
 use Rattle.dma_device.specs.Run.{StaysLent}
 use Rattle.dma_device.specs.declared.device.rows.RowTurns.{RowTurns}
 use Rattle.dma_ffi.specs.declared.device_rows.DeviceRows.{DeviceRows}
-use Rattle.dma_ffi.specs.Devices.{report_of, rows_report_of}
+use Rattle.dma_ffi.specs.Devices.{device_report, rows_report_of}
 use Rattle.dma_ffi.specs.DeviceSessions.{AreTurns, DeviceCall, DeviceRequest, History, IsOne, Makes, accesses_for, ask_look, ask_read, ask_reset, ask_restore, ask_rows, ask_turn, ask_write}
 use Rattle.dma_ffi.proofs.DeviceCalls.{alike, alike_then, if_ok, if_restored, if_rows}
 
@@ -111,7 +111,7 @@ makes_same h g i j call (ask_turn n most before report) same is = λ ok.
     let one : if_ok call.code ≡ 1 = ap if_ok ok in
     let (turn, reported, x) = is ok in (
       turn,
-      reported ∙ ap (λ (d : DeviceValue). report_of turn d) (sym (same.before 1 (omega (arith, one)))),
+      reported ∙ ap (λ (d : DeviceValue). device_report turn d) (sym (same.before 1 (omega (arith, one)))),
       one_same h g i j (if_ok call.code) call same (Turns n most) (Turns n most) (Turned turn) (omega (arith, one)) refl x,
     )
 makes_same h g i j call (ask_rows n most before report) same is = λ ok.
@@ -126,7 +126,7 @@ makes_same h g i j call ask_reset same is = one_same h g i j 1 call same Resets 
 makes_same h g i j call (ask_restore save) same is = (
   λ ok.
       let one : if_restored call.code ≡ 1 = ap if_restored ok in
-      one_same h g i j (if_restored call.code) call same (RestoresTo (h.before (i + 1))) (RestoresTo (g.before (j + 1))) Done (omega (arith, one)) (ap (λ (d : DeviceValue). RestoresTo d) (same.before 1 (omega (arith, one)))) (is.0 ok),
+      one_same h g i j (if_restored call.code) call same (Restores (h.before (i + 1))) (Restores (g.before (j + 1))) Done (omega (arith, one)) (ap (λ (d : DeviceValue). Restores d) (same.before 1 (omega (arith, one)))) (is.0 ok),
   λ bad.
       let one : if_restored call.code ≡ 1 = ap if_restored bad in
       one_same h g i j (if_restored call.code) call same Resets Resets Done (omega (arith, one)) refl (is.1 bad),

@@ -1,5 +1,5 @@
 -- What the calls return and write that explain and plan.
-use Rattle.std.proofs.Common.{◌≡◌, ◌≢◌, ℕ, zero, suc, ◌<◌, ◌≤◌, ◌↔◌, List, [], ◌∷◌, ◌++◌, length, take, drop, map, Option, Some, None, Result, Ok, Err, sym, ap, ◌∙◌, subst, arith, inl, inr}
+use Rattle.std.proofs.Common.{◌≡◌, ◌≢◌, ℕ, zero, suc, ◌<◌, ◌≤◌, ◌↔◌, List, [], ◌∷◌, ◌++◌, length, take, drop, map, Option, Some, None, Result, Ok, Err, ap, subst, arith, inl, inr}
 use Rattle.std.proofs.lemmas.Bool.{cases_lt}
 use Rattle.std.specs.Prelude.{ℤ, IfOk, IfErr, IsErrAnd, IsSomeAnd, slice_index_or, slice_set, unwrap_or}
 use Rattle.dma_mem.specs.Places.{Descriptor}
@@ -20,7 +20,7 @@ use Rattle.dma_device.specs.declared.device.explain.ExplainFault.{ExplainFault}
 use Rattle.dma_device.specs.declared.device.explain.ExplainFault.TheVariants.{NoChannel, NoProgram, Unexplained}
 use Rattle.dma_ffi.specs.Calls.{ReadsOpen}
 use Rattle.dma_ffi.specs.Explaining.{ExplainsChannel, ExplainsFrom, ExplainsProgram}
-use Rattle.dma_ffi.specs.Programs.{PlansCopy, PlansTransfer}
+use Rattle.dma_ffi.specs.Programs.{PlansTransfer}
 use Rattle.dma_ffi.specs.inner.Found.{Answers, AnswersDevice}
 use Rattle.dma_ffi.specs.inner.Plans.{PlansMade}
 
@@ -75,15 +75,11 @@ module _ {Out : Type 0} (Writes : Explained → ℤ → Out → Out → Type 0) 
 
 -- ---- plans
 
-plans : (refusal : Option TransferFault) (t : Descriptor) (bus : Bus) (code : ℤ) (buffer out : List ℕ) (len written : ℕ) (made : Result Descriptor TransferFault) → IfOk made (λ x. x ≡ t) → IfOk made (λ _. refusal ≡ None) → IfErr made (λ fault. fault ≡ unwrap_or refusal transfers.NoMemory) → PlansMade made bus code buffer out len written → PlansTransfer refusal t (Some bus) code buffer out len written
-plans refusal t bus code buffer out len written made h1 h2 h3 h4 = grind (arith, here)
+plans : (t : Descriptor) (bus : Bus) (code : ℤ) (buffer out : List ℕ) (len written : ℕ) (made : Result Descriptor TransferFault) → IfOk made (λ x. x ≡ t) → IfOk made (λ x. refusal_of x ≡ None) → IfErr made (λ fault. fault ≡ unwrap_or (refusal_of t) transfers.NoMemory) → PlansMade made bus code buffer out len written → PlansTransfer t (Some bus) code buffer out len written
+plans t bus code buffer out len written made h1 h2 h3 h4 = grind (arith, here)
 
-pub plans_copy : (t t' : Descriptor) (bus : Bus) (given : Option Bus) (code : ℤ) (buffer out : List ℕ) (len written : ℕ) (made : Result Descriptor TransferFault) → t ≡ t' → Some bus ≡ given → IfOk made (λ x. x ≡ t) → IfOk made (λ x. refusal_of x ≡ None) → IfErr made (λ fault. fault ≡ unwrap_or (refusal_of t) transfers.NoMemory) → PlansMade made bus code buffer out len written → PlansCopy t' given code buffer out len written
-plans_copy t t' bus given code buffer out len written (Ok x) same bus_is is none err h =
-    subst (λ (b : Option Bus). PlansCopy t' b code buffer out len written) bus_is
-    (subst (λ (d : Descriptor). PlansCopy d (Some bus) code buffer out len written) same
-    (plans (refusal_of t) t bus code buffer out len written (Ok x) is (ap refusal_of (sym is) ∙ none) err h))
-plans_copy t t' bus given code buffer out len written (Err fault) same bus_is is none err h =
-    subst (λ (b : Option Bus). PlansCopy t' b code buffer out len written) bus_is
-    (subst (λ (d : Descriptor). PlansCopy d (Some bus) code buffer out len written) same
-    (plans (refusal_of t) t bus code buffer out len written (Err fault) is none err h))
+pub plans_transfer : (t t' : Descriptor) (bus : Bus) (given : Option Bus) (code : ℤ) (buffer out : List ℕ) (len written : ℕ) (made : Result Descriptor TransferFault) → t ≡ t' → Some bus ≡ given → IfOk made (λ x. x ≡ t) → IfOk made (λ x. refusal_of x ≡ None) → IfErr made (λ fault. fault ≡ unwrap_or (refusal_of t) transfers.NoMemory) → PlansMade made bus code buffer out len written → PlansTransfer t' given code buffer out len written
+plans_transfer t t' bus given code buffer out len written made same bus_is is none err h =
+    subst (λ (b : Option Bus). PlansTransfer t' b code buffer out len written) bus_is
+    (subst (λ (d : Descriptor). PlansTransfer d (Some bus) code buffer out len written) same
+    (plans t bus code buffer out len written made is none err h))

@@ -4,8 +4,8 @@ use Rattle.std.specs.Prelude.{ℤ, pos, negsuc, OnErr, IsSome, IfOk, IfErr, unwr
 use Rattle.std.specs.Option.{option_map}
 use Rattle.std.specs.Result.{result_map_both}
 use Rattle.std.proofs.lemmas.Bool.{true≢false}
-use Rattle.dma_mem.specs.Places.{Descriptor, filling}
-use Rattle.dma_mem.specs.Refusals.{refusal_of, refusal_of_fill}
+use Rattle.dma_mem.specs.Places.{Descriptor}
+use Rattle.dma_mem.specs.Refusals.{refusal_of}
 use Rattle.dma_mem.specs.declared.marks.MarkKind.{MarkKind}
 use Rattle.dma_mem.specs.declared.segment.Segment.{Segment}
 use Rattle.dma_mem.specs.declared.transfer.TransferFault.{TransferFault}
@@ -27,7 +27,7 @@ use Rattle.dma_ffi.specs.declared.reports.DmaReport.{DmaReport}
 use Rattle.dma_ffi.specs.declared.steps.StepsTaken.{StepsTaken}
 use Rattle.dma_ffi.specs.Codes.{answer_code, bad_kind, fault_code, found_code, mark_kind, no_result, not_running, reply_code, status_code, value_or}
 use Rattle.dma_ffi.specs.Reports.{conflict_of, outcome_of, report_of}
-use Rattle.dma_ffi.specs.Requests.{Answer, Answers, AnswersMark, AnswersSteps, AnswersSubmit, IsWritten, EffectOf, Request, Returns, Value, Written, a_conflict, a_number, a_report, a_run, an_outcome, ask_call, ask_copy, ask_fill, ask_mark, ask_steps, ask_value, bytes_or_conflict, closed, code_of, conflict_in, known, no_kind, nothing, number_in, numbered, outcome_in, replied, run_in, runs, stepped, steps_answer, the_run, unfit}
+use Rattle.dma_ffi.specs.Requests.{Answer, Answers, AnswersMark, AnswersSteps, IsWritten, EffectOf, Request, Returns, Value, Written, a_conflict, a_number, a_report, a_run, an_outcome, ask_call, ask_mark, ask_steps, ask_submit, ask_value, bytes_or_conflict, closed, code_of, conflict_in, known, no_kind, nothing, number_in, numbered, outcome_in, replied, run_in, runs, stepped, steps_answer, the_run, unfit}
 use Rattle.dma_ffi.specs.inner.Submits.{Submits}
 
 -- there was no engine
@@ -126,26 +126,15 @@ returns_steps {after = after} e e' before ch most (Err fault) m was answers map 
 
 -- ---- submits
 
--- the answer to a submit
-returns_submit : {old : Option EngineState} (code : ℤ) (after : ℕ) (request : Request) (e e' : EngineState) (before ch : ℕ) (refusal : Option TransferFault) (t : Descriptor) (made : Result Descriptor TransferFault) → ((a : Answer) → AnswersSubmit e.view ch refusal t a e'.view → Answers e.view request a e'.view) → EffectOf request code e e' → IfOk made (λ x. x ≡ t) → IfOk made (λ x. refusal ≡ None) → IfErr made (λ fault. fault ≡ unwrap_or refusal transfers.NoMemory) → Some e ≡ old → Submits e.view ch made code before after e'.view → Returns old request code (a_number before after) (Some e')
-returns_submit code after request e e' before ch refusal t (Ok x) answers effect is none err was h =
-    let here : Submits e.view ch (Ok t) code before after e'.view = subst (λ (d : Descriptor). Submits e.view ch (Ok d) code before after e'.view) is h in
-    returns request (a_number before after) (replied here.0) e e' was (answers (replied here.0) (inr (none, (here.0, refl, here.1)))) here.2 here.3 effect
-returns_submit code after request e e' before ch refusal t (Err fault) answers effect is none err was h =
-    returns request (a_number before after) (unfit fault) e e' was (answers (unfit fault) (inl (ap unfit err, h.2))) h.0 h.1 effect
-
-pub returns_copy : (old : Option EngineState) (code : ℤ) (after : ℕ) (e e' : EngineState) (before ch : ℕ) (t t' : Descriptor) (made : Result Descriptor TransferFault) → t ≡ t' → IfOk made (λ x. x ≡ t) → IfOk made (λ x. refusal_of x ≡ None) → IfErr made (λ fault. fault ≡ unwrap_or (refusal_of t) transfers.NoMemory) → Some e ≡ old → Submits e.view ch made code before after e'.view → Returns old (ask_copy ch t') code (a_number before after) (Some e')
-returns_copy old code after e e' before ch t t' (Ok x) same is none err was h =
-    subst (λ (d : Descriptor). Returns old (ask_copy ch d) code (a_number before after) (Some e')) same
-    (returns_submit code after (ask_copy ch t) e e' before ch (refusal_of t) t (Ok x) (λ a h. h) tt is (ap refusal_of (sym is) ∙ none) err was h)
-returns_copy old code after e e' before ch t t' (Err fault) same is none err was h =
-    subst (λ (d : Descriptor). Returns old (ask_copy ch d) code (a_number before after) (Some e')) same
-    (returns_submit code after (ask_copy ch t) e e' before ch (refusal_of t) t (Err fault) (λ a h. h) tt is none err was h)
-
-pub returns_fill : (old : Option EngineState) (code : ℤ) (after : ℕ) (e e' : EngineState) (before ch src : ℕ) (dst : List Segment) (w wait s signal : Option ℕ) (made : Result Descriptor TransferFault) → w ≡ wait → s ≡ signal → IfOk made (λ x. x ≡ filling src dst w s) → IfOk made (λ x. refusal_of_fill src dst w s ≡ None) → IfErr made (λ fault. fault ≡ unwrap_or (refusal_of_fill src dst w s) transfers.NoMemory) → Some e ≡ old → Submits e.view ch made code before after e'.view → Returns old (ask_fill ch src dst wait signal) code (a_number before after) (Some e')
-returns_fill old code after e e' before ch src dst w wait s signal made same same' is none err was h =
-    subst (λ (r : Request). Returns old r code (a_number before after) (Some e')) (ap (λ (x : Option ℕ). ask_fill ch src dst x s) same ∙ ap (ask_fill ch src dst wait) same')
-    (returns_submit code after (ask_fill ch src dst w s) e e' before ch (refusal_of_fill src dst w s) (filling src dst w s) made (λ a h. h) tt is none err was h)
+-- the answer to a submit of a transfer that may not have been made
+pub returns_submit : (old : Option EngineState) (code : ℤ) (after : ℕ) (e e' : EngineState) (before ch : ℕ) (t t' : Descriptor) (made : Result Descriptor TransferFault) → t ≡ t' → IfOk made (λ x. x ≡ t) → IfOk made (λ x. refusal_of x ≡ None) → IfErr made (λ fault. fault ≡ unwrap_or (refusal_of t) transfers.NoMemory) → Some e ≡ old → Submits e.view ch made code before after e'.view → Returns old (ask_submit ch t') code (a_number before after) (Some e')
+returns_submit old code after e e' before ch t t' (Ok x) same is none err was h =
+    let d = is ∙ same in
+    let here : Submits e.view ch (Ok t') code before after e'.view = subst (λ (y : Descriptor). Submits e.view ch (Ok y) code before after e'.view) d h in
+    returns (ask_submit ch t') (a_number before after) (replied here.0) e e' was (inr (ap refusal_of (sym d) ∙ none, (here.0, refl, here.1))) here.2 here.3 tt
+returns_submit old code after e e' before ch t t' (Err fault) same is none err was h =
+    let was_unfit = err ∙ ap (λ (y : Descriptor). unwrap_or (refusal_of y) transfers.NoMemory) same in
+    returns (ask_submit ch t') (a_number before after) (unfit fault) e e' was (inl (ap unfit was_unfit, h.2)) h.0 h.1 tt
 
 -- ---- a checkpoint
 

@@ -2,13 +2,12 @@
 use Rattle.std.specs.Prelude.{◌≡◌, ℕ, ◌+◌, ◌≤◌, ◌<◌, ◌⊎◌, ◌||◌, ◌==◌, ◌&&◌, nat_lt, nat_le, Bool, true, false, ℤ, Option, Some, None, IsSome, IsSomeAnd, is_some, if◌then◌else◌, List, [], ◌∷◌, ◌++◌, length, take, unwrap_or}
 use Rattle.dma_mem.specs.Flags.{flags_of}
 use Rattle.dma_mem.specs.Marking.{MarkList}
-use Rattle.dma_mem.specs.Places.{Descriptor, end_of_addresses, filling}
-use Rattle.dma_mem.specs.Refusals.{refusal_of, refusal_of_fill}
+use Rattle.dma_mem.specs.Places.{Descriptor, end_of_addresses}
+use Rattle.dma_mem.specs.Refusals.{refusal_of}
 use Rattle.dma_mem.specs.Regions.{in_order, pieces_of, image_of, run_from}
 use Rattle.dma_mem.specs.declared.marks.MarkKind.{MarkKind}
 use Rattle.dma_mem.specs.declared.regions.Region.{Region}
 use Rattle.dma_mem.specs.declared.segment.Segment.{Segment}
-use Rattle.dma_mem.specs.declared.transfer.TransferFault.{TransferFault}
 use Rattle.dma_mem.specs.declared.transfer.TransferFault.TheVariants as transfers
 use Rattle.dma_insn.specs.AssemblyText.{most_program_bytes}
 use Rattle.dma_chan.specs.declared.bus.Bus.TheVariants.{Ideal}
@@ -51,19 +50,10 @@ Opens None code (Some m) = (code ≡ ok_code) × (m ≡ record { channel = unloa
 
 -- Loads the program of a transfer; the channel becomes `loaded` with it. Fails with the first rule that the transfer
 -- breaks, or out of memory if it breaks none; a failed call changes nothing.
-abbrev pub LoadsTransfer : Option TransferFault → Descriptor → ChannelValue → ℤ → ChannelValue → Type 0
-LoadsTransfer refusal t c code d =
-    ((code ≡ ok_code) × (refusal ≡ None) × (d ≡ loaded (compiled t)))
-    ⊎ ((code ≡ transfer_code (unwrap_or refusal transfers.NoMemory)) × (d ≡ c))
-
--- `LoadsTransfer` for a copy
-abbrev pub LoadsCopy : Descriptor → ChannelValue → ℤ → ChannelValue → Type 0
-LoadsCopy t = LoadsTransfer (refusal_of t) t
-
--- `LoadsTransfer` for a fill of these segments with the byte at an address, with the events that it waits for and
--- signals
-abbrev pub LoadsFill : ℕ → List Segment → Option ℕ → Option ℕ → ChannelValue → ℤ → ChannelValue → Type 0
-LoadsFill src dst wait signal = LoadsTransfer (refusal_of_fill src dst wait signal) (filling src dst wait signal)
+abbrev pub LoadsTransfer : Descriptor → ChannelValue → ℤ → ChannelValue → Type 0
+LoadsTransfer t c code d =
+    ((code ≡ ok_code) × (refusal_of t ≡ None) × (d ≡ loaded (compiled t)))
+    ⊎ ((code ≡ transfer_code (unwrap_or (refusal_of t) transfers.NoMemory)) × (d ≡ c))
 
 -- Loads these bytes as a program; they needn't be instructions. Fails with `program_too_long` exactly above 8,192
 -- bytes, and then nothing changes.
@@ -121,12 +111,12 @@ save_of m = saved m.channel
 abbrev pub FitsSave : MarkedChannel → Type 0
 FitsSave m = (length (saved m.channel) ≤ most_saved) × IsChannelValue m.channel
 
--- Makes the channel the one of a save, on the ideal bus: these bytes are its save, and no other value that satisfies
--- `IsChannelValue` has this save, except on another bus. Fails with `bad_save` exactly if the bytes aren't a save, and
--- then nothing changes.
-abbrev pub Restores : List ℕ → ChannelValue → ℤ → ChannelValue → Type 0
-Restores save c code d =
-    ((code ≡ ok_code) × (save ≡ saved d)
+-- Makes the channel the one of a save, on the ideal bus: it satisfies `IsChannelValue`, these bytes are its save, and
+-- no other value that satisfies `IsChannelValue` has this save, except on another bus. Fails with `bad_save` exactly
+-- if the bytes aren't a save, and then nothing changes.
+abbrev pub RestoresChannel : List ℕ → ChannelValue → ℤ → ChannelValue → Type 0
+RestoresChannel save c code d =
+    ((code ≡ ok_code) × IsChannelValue d × (save ≡ saved d)
     × ((e : ChannelValue) → IsChannelValue e → save ≡ saved e → d ≡ on_bus Ideal e))
     ⊎ ((code ≡ bad_save) × (¬ IsSave save) × (d ≡ c))
 
@@ -194,13 +184,14 @@ did taken pc written turn = record { taken = taken; turn = turn; event = 0; faul
 
 -- the report of `taken` steps, with the offset of the next instruction, the range written, what the last step did, and
 -- the event whose flag it set, if any; an event or fault that doesn't belong to this turn is 0
-abbrev pub report_of : ℕ → ℕ → Segment → Option ChanTurn → Option ℕ → ChannelReport
-report_of taken pc written None signal = did taken pc written no_step_turn
-report_of taken pc written (Some Moved) None = did taken pc written moved_turn
-report_of taken pc written (Some Moved) (Some e) = record (did taken pc written signalled_turn) { event = e }
-report_of taken pc written (Some (Waiting e)) signal = record (did taken pc written waiting_turn) { event = e }
-report_of taken pc written (Some Ended) signal = did taken pc written ended_turn
-report_of taken pc written (Some (Fault kind)) signal = record (did taken pc written fault_turn) { fault = kind_number kind }
+abbrev pub channel_report : ℕ → ℕ → Segment → Option ChanTurn → Option ℕ → ChannelReport
+channel_report taken pc written None signal = did taken pc written no_step_turn
+channel_report taken pc written (Some Moved) None = did taken pc written moved_turn
+channel_report taken pc written (Some Moved) (Some e) = record (did taken pc written signalled_turn) { event = e }
+channel_report taken pc written (Some (Waiting e)) signal = record (did taken pc written waiting_turn) { event = e }
+channel_report taken pc written (Some Ended) signal = did taken pc written ended_turn
+channel_report taken pc written (Some (Fault kind)) signal =
+    record (did taken pc written fault_turn) { fault = kind_number kind }
 
 -- Steps of an open channel with a program, over usable regions: the steps that were taken, the event whose flag the
 -- last of them set, if any, the range that they wrote, and the report of these and of the offset of the next
@@ -217,7 +208,7 @@ pub record StepsOver (a : Lent) (most : ℕ) (taken : Taken) (report : ChannelRe
   pub signal : taken.signal ≡ signal_after (marks_over m a.regions) (over m a.regions a.flags) taken.count
   pub written : taken.written ≡ written_after (marks_over m a.regions) (over m a.regions a.flags) taken.count
   pub kept : KeepsOutside taken.written (image_of (pieces_of a.regions)) (image_of (pieces_of b.regions))
-  pub reported : report ≡ report_of taken.count n.channel.registers.pc taken.written taken.last taken.signal
+  pub reported : report ≡ channel_report taken.count n.channel.registers.pc taken.written taken.last taken.signal
   -- (pointers are not compared: a contract sees where memory is lent only by the names of its loans)
   pub regions : AreKept b.regions a.regions
 

@@ -2,7 +2,7 @@
 use Rattle.std.specs.Prelude.{◌≡◌, ℕ, zero, suc, ◌+◌, ◌-◌, ◌<◌, ◌≤◌, ◌||◌, ℤ, Option, Some, List, if◌then◌else◌}
 use Rattle.std.specs.Ordering.{int_eq}
 use Rattle.dma_mem.specs.declared.regions.Region.{Region}
-use Rattle.dma_device.specs.Accesses.{Access, Answer, AreAlike, Done, Happen, Reads, Resets, Restores as RestoresTo, Turned, Turns, Value, Writes}
+use Rattle.dma_device.specs.Accesses.{Access, Answer, AreAlike, Done, Happen, Reads, Resets, Restores, Turned, Turns, Value, Writes}
 use Rattle.dma_device.specs.Device.{DeviceValue, read_at, reset_device}
 use Rattle.dma_device.specs.RowTurns.{report_in}
 use Rattle.dma_device.specs.Run.{StaysLent}
@@ -12,7 +12,7 @@ use Rattle.dma_ffi.specs.declared.device_calls.DeviceTurn.{DeviceTurn}
 use Rattle.dma_ffi.specs.declared.device_rows.DeviceRows.{DeviceRows}
 use Rattle.dma_ffi.specs.Calls.{Becomes, OnOpen, WritesValue}
 use Rattle.dma_ffi.specs.Codes.{bad_save, ok_code}
-use Rattle.dma_ffi.specs.Devices.{ReportsRows, ReportsTurn, Restores, WritesRegister, report_of, rows_report_of}
+use Rattle.dma_ffi.specs.Devices.{ReportsRows, ReportsTurn, RestoresDevice, WritesRegister, device_report, rows_report_of}
 
 -- ---- calls
 
@@ -56,7 +56,7 @@ Called (ask_rows n most before report) code found lent new left =
     ReportsRows n most found lent before code new left report
 Called ask_reset code found lent new left =
     Becomes (λ (d : DeviceValue). reset_device d.config) found code new × (left ≡ lent)
-Called (ask_restore save) code found lent new left = OnOpen (Restores save) found code new × (left ≡ lent)
+Called (ask_restore save) code found lent new left = OnOpen (RestoresDevice save) found code new × (left ≡ lent)
 Called ask_look code found lent new left = (new ≡ found) × (left ≡ lent)
 
 -- Calls from C on one device, one after another, of which there are `count`: number k finds the device `found k` and
@@ -117,13 +117,13 @@ Makes h i call (ask_read at before value) = IsOne h i call (Reads at) (Value val
 Makes h i call (ask_write at value) = call.code ≡ ok_code → IsOne h i call (Writes at value) Done
 Makes h i call (ask_turn n most before report) =
     call.code ≡ ok_code →
-    (turn : Turn) × (report ≡ report_of turn (h.before (i + 1))) × IsOne h i call (Turns n most) (Turned turn)
+    (turn : Turn) × (report ≡ device_report turn (h.before (i + 1))) × IsOne h i call (Turns n most) (Turned turn)
 Makes h i call (ask_rows n most before report) =
     call.code ≡ ok_code →
     (turns : RowTurns) × (report ≡ rows_report_of turns (h.before (i + report.count))) × AreTurns h i call n turns
 Makes h i call ask_reset = IsOne h i call Resets Done
 Makes h i call (ask_restore save) =
-    (call.code ≡ ok_code → IsOne h i call (RestoresTo (h.before (i + 1))) Done)
+    (call.code ≡ ok_code → IsOne h i call (Restores (h.before (i + 1))) Done)
     × (call.code ≡ bad_save → IsOne h i call Resets Done)
 Makes h i call ask_look = Unit {0}
 

@@ -7,7 +7,7 @@ use Rattle.dma_mem.specs.declared.regions.Region.{Region}
 use Rattle.dma_mem.specs.declared.segment.Segment.{Segment}
 use Rattle.dma_chan.specs.LentRegions.{AreKept}
 use Rattle.dma_chan.specs.Written.{KeepsOutside, LiesIn, range_at}
-use Rattle.dma_device.specs.Accesses.{Does, Done, Reads, Resets, Restores as RestoresTo, Turned, Turns, Value, Writes}
+use Rattle.dma_device.specs.Accesses.{Does, Done, Reads, Resets, Restores, Turned, Turns, Value, Writes}
 use Rattle.dma_device.specs.Config.{is_valid}
 use Rattle.dma_device.specs.Device.{DeviceValue, irq_abort, read_at, reset_device, written}
 use Rattle.dma_device.specs.Explaining.{channel_of}
@@ -35,9 +35,9 @@ use Rattle.dma_ffi.specs.Codes.{already_open, bad_config, bad_regions, bad_save,
 
 -- ---- the configuration
 
--- the bus of this many bits, if any
-abbrev pub bus_of : ℕ → Option BusWidth
-bus_of bits =
+-- the width of a bus of this many bits, if there is one
+abbrev pub width_of_bits : ℕ → Option BusWidth
+width_of_bits bits =
     if bits == 32 then Some Bits32 else (
     if bits == 64 then Some Bits64 else (
     if bits == 128 then Some Bits128 else None))
@@ -65,7 +65,7 @@ config_with c _ _ = None
 -- The configuration of these numbers, if any. A count above the largest that its field can have becomes the largest,
 -- which no device can have either.
 abbrev pub config_of : DeviceConfig → Option Config
-config_of c = config_with c (bus_of c.bus) (revision_of c.revision)
+config_of c = config_with c (width_of_bits c.bus) (revision_of c.revision)
 
 -- whether a device can have these numbers
 abbrev pub is_possible : Option Config → Bool
@@ -108,8 +108,8 @@ abbrev pub any_can_step : DeviceValue → ℕ
 any_can_step d = if list_any (can_step (visible_events d)) d.threads then 1 else 0
 
 -- the report of a turn that left a device like this
-abbrev pub report_of : Turn → DeviceValue → DeviceTurn
-report_of turn e = record {
+abbrev pub device_report : Turn → DeviceValue → DeviceTurn
+device_report turn e = record {
   written = turn.written;
   lines_changed = if turn.lines_changed then 1 else 0;
   can_step = any_can_step e;
@@ -130,7 +130,7 @@ abbrev pub ReportsTurn : ℕ → ℕ → Option DeviceValue → List Region → 
     → Option DeviceValue → List Region → DeviceTurn → Type 0
 ReportsTurn n most =
     Reports (λ d regions e left report. (turn : Turn) × TakesTurn d regions n most e left turn
-    × (report ≡ report_of turn e))
+    × (report ≡ device_report turn e))
 
 -- the report of several turns that left a device like this
 abbrev pub rows_report_of : RowTurns → DeviceValue → DeviceRows
@@ -228,8 +228,8 @@ restore_code (Err BadSave) = bad_save
 -- device of its configuration has this save. Fails with `other_device` exactly if the bytes begin as the save of a
 -- device of another version or configuration, and then nothing changes; else with `bad_save` exactly if they are the
 -- save of no device, and then the device is in its state after a reset.
-abbrev pub Restores : List ℕ → DeviceValue → ℤ → DeviceValue → Type 0
-Restores save d code e =
+abbrev pub RestoresDevice : List ℕ → DeviceValue → ℤ → DeviceValue → Type 0
+RestoresDevice save d code e =
     ((code ≡ ok_code) × IsSaveOf save d.config e
     × ((f : DeviceValue) → IsSaveOf save d.config f → e ≡ f))
     ⊎ (((code ≡ other_device) × IsOfOther d.config save × (e ≡ d))
@@ -251,7 +251,7 @@ pub record CallsAreAccesses : Type 0 where
       Does (Writes at value) d regions Done e regions
   pub turns : (d e : DeviceValue) (n most : ℕ) (regions left : List Region) (before report : DeviceTurn) →
       ReportsTurn n most (Some d) regions before ok_code (Some e) left report →
-      (turn : Turn) × (report ≡ report_of turn e) × Does (Turns n most) d regions (Turned turn) e left
+      (turn : Turn) × (report ≡ device_report turn e) × Does (Turns n most) d regions (Turned turn) e left
   pub rows : (d e : DeviceValue) (n most : ℕ) (regions left : List Region) (before report : DeviceRows) →
       ReportsRows n most (Some d) regions before ok_code (Some e) left report →
       (turns : RowTurns) × (report ≡ rows_report_of turns e) × TakesRowTurns d regions n e left turns
@@ -259,8 +259,9 @@ pub record CallsAreAccesses : Type 0 where
       Becomes (λ (e : DeviceValue). reset_device e.config) (Some d) code new →
       (e : DeviceValue) × (new ≡ Some e) × Does Resets d regions Done e regions
   pub restores : (d e : DeviceValue) (save : List ℕ) (regions : List Region) →
-      OnOpen (Restores save) (Some d) ok_code (Some e) → Does (RestoresTo e) d regions Done e regions
+      OnOpen (RestoresDevice save) (Some d) ok_code (Some e) → Does (Restores e) d regions Done e regions
   pub saves_restore : (d e saved : DeviceValue) (save : List ℕ) (code : ℤ) →
-      OnOpen (Restores save) (Some d) code (Some e) → IsSaveOf save d.config saved → (code ≡ ok_code) × (e ≡ saved)
+      OnOpen (RestoresDevice save) (Some d) code (Some e) → IsSaveOf save d.config saved →
+      (code ≡ ok_code) × (e ≡ saved)
   pub refuses : (d e : DeviceValue) (save : List ℕ) (regions : List Region) →
-      OnOpen (Restores save) (Some d) bad_save (Some e) → Does Resets d regions Done e regions
+      OnOpen (RestoresDevice save) (Some d) bad_save (Some e) → Does Resets d regions Done e regions

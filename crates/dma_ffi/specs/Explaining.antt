@@ -26,7 +26,7 @@ use Rattle.dma_ffi.specs.declared.explaining.Explanation.{Explanation}
 use Rattle.dma_ffi.specs.declared.works.Moment.{Moment}
 use Rattle.dma_ffi.specs.declared.works.WorkFound.{WorkFound}
 use Rattle.dma_ffi.specs.Codes.{bad_config, buffer_too_small, kind_number, no_channel, no_memory, no_program, ok_code, program_too_long, unexplained}
-use Rattle.dma_ffi.specs.Devices.{bus_of}
+use Rattle.dma_ffi.specs.Devices.{width_of_bits}
 
 -- ---- numbers
 
@@ -37,7 +37,7 @@ chip (Some width) = Some (Chip width)
 
 -- the ideal bus for 0, else a chip's bus of this many bits, if any
 abbrev pub any_bus : ℕ → Option Bus
-any_bus bits = if bits == 0 then Some Ideal else chip (bus_of bits)
+any_bus bits = if bits == 0 then Some Ideal else chip (width_of_bits bits)
 
 -- registers that are all 0, on a bus, if there is one
 abbrev pub zeros_on : Option Bus → Option Registers

@@ -1,9 +1,9 @@
 -- How calls from C correspond to calls of the engine.
-use Rattle.std.specs.Prelude.{◌≡◌, ℕ, ◌<◌, ℤ, false, Option, None, Some, IsSomeAnd, List, [], ◌∷◌, ◌++◌, flat_map, replicate}
+use Rattle.std.specs.Prelude.{◌≡◌, ℕ, ℤ, Option, None, Some, IsSomeAnd, List, [], ◌∷◌, ◌++◌, flat_map, replicate}
 use Rattle.std.specs.List.{All}
 use Rattle.dma_mem.specs.declared.marks.MarkKind.{MarkKind}
 use Rattle.dma_mem.specs.declared.segment.Segment.{Segment}
-use Rattle.dma_mem.specs.Places.{end_of_addresses, filling}
+use Rattle.dma_mem.specs.Rules.{HasOneByte}
 use Rattle.dma_mem.specs.declared.call.Call.{Call}
 use Rattle.dma_mem.specs.declared.call.Call.TheVariants.{Submit, Step, Mark}
 use Rattle.dma_engine.specs.declared.call.Reply.{Reply}
@@ -12,7 +12,7 @@ use Rattle.dma_engine.specs.View.{EngineState, View, new_view}
 use Rattle.dma_engine.specs.Answer.{AreAnswers}
 use Rattle.dma_engine.specs.Laws.{IsCall}
 use Rattle.dma_ffi.specs.Codes.{mark_kind}
-use Rattle.dma_ffi.specs.Requests.{Answer, Answers, IsWritten, Opens, Request, Returns, Written, code_of, ask_call, ask_mark, ask_copy, ask_fill, ask_steps, replied, stepped}
+use Rattle.dma_ffi.specs.Requests.{Answer, Answers, IsWritten, Opens, Request, Returns, Written, code_of, ask_call, ask_mark, ask_steps, ask_submit, replied, stepped}
 
 -- the call that marks a range for this kind; no call without a kind
 abbrev pub marking : Option MarkKind → Segment → List Call
@@ -30,8 +30,7 @@ if_replied _ call = []
 abbrev pub calls_made : Request → Answer → List Call
 calls_made (ask_call call) answer = call ∷ []
 calls_made (ask_mark kind range) answer = marking (mark_kind kind) range
-calls_made (ask_copy ch t) answer = if_replied answer (Submit ch t)
-calls_made (ask_fill ch src dst wait signal) answer = if_replied answer (Submit ch (filling src dst wait signal))
+calls_made (ask_submit ch t) answer = if_replied answer (Submit ch t)
 calls_made (ask_steps ch most) (replied reply) = Step ch ∷ []
 calls_made (ask_steps ch most) (stepped taken last) = replicate taken (Step ch)
 calls_made _ _ = []
@@ -64,12 +63,11 @@ pub record Exchange : Type 0 where
   pub code : ℤ
   pub written : Written
 
--- A request that C can make: an engine call that can be made (`IsCall`), the submit of a transfer that isn't a fill,
--- the submit of a fill whose byte has a 32-bit address, or any other request.
+-- A request that C can make: an engine call that can be made (`IsCall`), the submit of a copy or of a fill with one
+-- source byte, or any other request.
 abbrev pub CanBeRequested : Request → Type 0
 CanBeRequested (ask_call call) = IsCall call
-CanBeRequested (ask_copy ch t) = t.fill ≡ false
-CanBeRequested (ask_fill ch src dst wait signal) = src < end_of_addresses
+CanBeRequested (ask_submit ch t) = HasOneByte t
 CanBeRequested _ = Unit {0}
 
 -- Calls from C on one controller, one after another, each with a request that C can make. The controller has the engine

@@ -2,10 +2,8 @@
 -- bytes, planning a transfer.
 use Rattle.std.specs.Prelude.{◌≡◌, ℕ, ◌<◌, ◌≤◌, ◌⊎◌, Bool, true, false, if◌then◌else◌, nat_le, ℤ, Option, None, Some, unwrap_or, List, [], ◌∷◌, ◌++◌, length, drop, codes}
 use Rattle.dma_mem.specs.Image.{is_size}
-use Rattle.dma_mem.specs.Places.{Descriptor, filling}
-use Rattle.dma_mem.specs.Refusals.{refusal_of, refusal_of_fill}
-use Rattle.dma_mem.specs.declared.segment.Segment.{Segment}
-use Rattle.dma_mem.specs.declared.transfer.TransferFault.{TransferFault}
+use Rattle.dma_mem.specs.Places.{Descriptor}
+use Rattle.dma_mem.specs.Refusals.{refusal_of}
 use Rattle.dma_mem.specs.declared.transfer.TransferFault.TheVariants as transfers
 use Rattle.dma_insn.specs.AssemblyText.{Assembles, IsFirstFault, most_program_bytes}
 use Rattle.dma_insn.specs.Disassembly.{Disassembles, IsDisFault}
@@ -77,21 +75,12 @@ DisassemblesProgram program code buffer out len written before place =
 -- What a call that plans a transfer returns and writes, for a bus, if there is one: the bytes of the transfer's
 -- program, at most 8,192, and their number. Else it writes nothing, with `bad_config`. Fails with the first rule that
 -- the transfer breaks, or out of memory if it breaks none, and then writes nothing too.
-abbrev pub PlansTransfer : Option TransferFault → Descriptor → Option Bus → ℤ → List ℕ → List ℕ → ℕ → ℕ → Type 0
-PlansTransfer refusal t None code buffer out len written = (code ≡ bad_config) × (out ≡ buffer) × (written ≡ len)
-PlansTransfer refusal t (Some bus) code buffer out len written =
-    ((refusal ≡ None) × Writes (compiled_on bus t).bytes code buffer out len written
+abbrev pub PlansTransfer : Descriptor → Option Bus → ℤ → List ℕ → List ℕ → ℕ → ℕ → Type 0
+PlansTransfer t None code buffer out len written = (code ≡ bad_config) × (out ≡ buffer) × (written ≡ len)
+PlansTransfer t (Some bus) code buffer out len written =
+    ((refusal_of t ≡ None) × Writes (compiled_on bus t).bytes code buffer out len written
     × (length (compiled_on bus t).bytes ≤ most_program_bytes))
-    ⊎ ((code ≡ transfer_code (unwrap_or refusal transfers.NoMemory)) × (out ≡ buffer) × (written ≡ len))
-
--- `PlansTransfer` for a copy
-abbrev pub PlansCopy : Descriptor → Option Bus → ℤ → List ℕ → List ℕ → ℕ → ℕ → Type 0
-PlansCopy t = PlansTransfer (refusal_of t) t
-
--- `PlansTransfer` for a fill of these segments with the byte at an address, with the events that it waits for and
--- signals
-abbrev pub PlansFill : ℕ → List Segment → Option ℕ → Option ℕ → Option Bus → ℤ → List ℕ → List ℕ → ℕ → ℕ → Type 0
-PlansFill src dst wait signal = PlansTransfer (refusal_of_fill src dst wait signal) (filling src dst wait signal)
+    ⊎ ((code ≡ transfer_code (unwrap_or (refusal_of t) transfers.NoMemory)) × (out ≡ buffer) × (written ≡ len))
 
 -- ---- a program run alone
 

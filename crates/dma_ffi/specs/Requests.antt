@@ -1,8 +1,8 @@
 -- What a call from C on a controller returns and writes: one definition for all calls.
 use Rattle.std.specs.Prelude.{◌≡◌, ◌≢◌, ℕ, ◌+◌, ◌⊎◌, zero, suc, if◌then◌else◌, ◌==◌, ℤ, Option, None, Some, IsSomeAnd, MatchOption, Result, Ok, Err, List, length, min, unwrap_or}
 use Rattle.std.specs.Option.{option_map}
-use Rattle.dma_mem.specs.Places.{Descriptor, filling}
-use Rattle.dma_mem.specs.Refusals.{refusal_of, refusal_of_fill}
+use Rattle.dma_mem.specs.Places.{Descriptor}
+use Rattle.dma_mem.specs.Refusals.{refusal_of}
 use Rattle.dma_mem.specs.declared.marks.MarkKind.{MarkKind}
 use Rattle.dma_mem.specs.declared.segment.Segment.{Segment}
 use Rattle.dma_mem.specs.declared.transfer.TransferFault.{TransferFault}
@@ -60,11 +60,8 @@ pub data Request : Type 0 where
   ask_call : Call → Request
   -- a mark of the kind that has this number
   ask_mark : ℕ → Segment → Request
-  -- the submit of a copy to a channel
-  ask_copy : ℕ → Descriptor → Request
-  -- the submit of a fill to a channel: the address of its byte, its destinations, and the events that it waits for and
-  -- signals
-  ask_fill : ℕ → ℕ → List Segment → Option ℕ → Option ℕ → Request
+  -- the submit of a transfer to a channel
+  ask_submit : ℕ → Descriptor → Request
   -- steps of a channel, at most this many
   ask_steps : ℕ → ℕ → Request
   -- a value that the engine has
@@ -126,10 +123,10 @@ AnswersMark v (Some kind) range answer w = Replies v (Mark kind range) answer w
 
 -- The answer to a submit: `unfit` with the transfer's refusal, or with `NoMemory` if it has none, and the view is
 -- unchanged; or the engine's reply, only for a transfer without a refusal.
-abbrev pub AnswersSubmit : View → ℕ → Option TransferFault → Descriptor → Answer → View → Type 0
-AnswersSubmit v ch refusal t answer w =
-    ((answer ≡ unfit (unwrap_or refusal transfers.NoMemory)) × (w ≡ v))
-    ⊎ ((refusal ≡ None) × Replies v (Submit ch t) answer w)
+abbrev pub AnswersSubmit : View → ℕ → Descriptor → Answer → View → Type 0
+AnswersSubmit v ch t answer w =
+    ((answer ≡ unfit (unwrap_or (refusal_of t) transfers.NoMemory)) × (w ≡ v))
+    ⊎ ((refusal_of t ≡ None) × Replies v (Submit ch t) answer w)
 
 -- The answer to steps is that for consecutive steps of the engine, at most `most`.
 abbrev pub AnswersSteps : View → ℕ → ℕ → Answer → View → Type 0
@@ -139,9 +136,7 @@ AnswersSteps v ch most answer w = (a : Advanced) × IsAdvance v ch most a w × (
 abbrev pub Answers : View → Request → Answer → View → Type 0
 Answers v (ask_call call) answer w = Replies v call answer w
 Answers v (ask_mark kind range) answer w = AnswersMark v (mark_kind kind) range answer w
-Answers v (ask_copy ch t) answer w = AnswersSubmit v ch (refusal_of t) t answer w
-Answers v (ask_fill ch src dst wait signal) answer w =
-    AnswersSubmit v ch (refusal_of_fill src dst wait signal) (filling src dst wait signal) answer w
+Answers v (ask_submit ch t) answer w = AnswersSubmit v ch t answer w
 Answers v (ask_steps ch most) answer w = AnswersSteps v ch most answer w
 Answers v (ask_value value) answer w = (answer ≡ known (value v)) × (w ≡ v)
 

@@ -4,9 +4,9 @@
 //! not null, and they overlap neither each other nor anything else that the call gets.
 
 ghost use Rattle.std.specs.Prelude.{◌≡◌, None};
-ghost use Rattle.dma_mem.specs.Places.{copying};
+ghost use Rattle.dma_mem.specs.Places.{copying, filling};
 ghost use Rattle.dma_ffi.specs.Calls.{Becomes, OnOpen, WritesSave, WritesValue};
-ghost use Rattle.dma_ffi.specs.Channels.{FitsSave, LoadsBytes, LoadsCopy, LoadsFill, LoadsFrom, MarksRange, OnChannel, Opens, Restores, are_usable, registers_of, save_of, stopped, unmarked};
+ghost use Rattle.dma_ffi.specs.Channels.{FitsSave, LoadsBytes, LoadsFrom, LoadsTransfer, MarksRange, OnChannel, Opens, RestoresChannel, are_usable, registers_of, save_of, stopped, unmarked};
 ghost use Rattle.dma_ffi.specs.Codes.{event_of, mark_kind};
 ghost use Rattle.dma_ffi.specs.inner.Loads.{LoadsMade};
 
@@ -106,7 +106,7 @@ pub extern "C" fn dma330_channel_load_copy(
     wait: i32,
     signal: i32,
 ) -> i32
-    ensures { OnChannel (LoadsCopy (copying src.now dst.now (event_of wait) (event_of signal)))
+    ensures { OnChannel (LoadsTransfer (copying src.now dst.now (event_of wait) (event_of signal)))
         kept.old.channel.value result kept.new.channel.value }
 {
     let Some(marked) = kept.get_mut() else {
@@ -127,7 +127,7 @@ pub extern "C" fn dma330_channel_load_fill(
     wait: i32,
     signal: i32,
 ) -> i32
-    ensures { OnChannel (LoadsFill src dst.now (event_of wait) (event_of signal))
+    ensures { OnChannel (LoadsTransfer (filling src dst.now (event_of wait) (event_of signal)))
         kept.old.channel.value result kept.new.channel.value }
 {
     let Some(marked) = kept.get_mut() else {
@@ -290,7 +290,7 @@ pub extern "C" fn dma330_channel_save(
 /// Restores the channel from a save. Its marks are unchanged. Fails if the bytes aren't a save.
 #[unsafe(no_mangle)]
 pub extern "C" fn dma330_channel_restore(kept: &mut KeptChannel, save: &[u8]) -> i32
-    ensures { OnChannel (Restores save.now) kept.old.channel.value result kept.new.channel.value }
+    ensures { OnChannel (RestoresChannel save.now) kept.old.channel.value result kept.new.channel.value }
 {
     let Some(marked) = kept.get_mut() else {
         return NOT_OPEN;

@@ -1,7 +1,7 @@
 //! Steps of channels that C keeps, and their reports.
 
 ghost use Rattle.std.specs.Prelude.{◌≡◌, Some};
-ghost use Rattle.dma_ffi.specs.Channels.{ReportsSteps, did, report_of};
+ghost use Rattle.dma_ffi.specs.Channels.{ReportsSteps, did, channel_report};
 
 use crate::channel_calls::are_usable;
 use crate::codes::{BAD_REGIONS, NO_PROGRAM, NOT_OPEN, OK, number_of_kind};
@@ -62,8 +62,8 @@ fn did(taken: u32, pc: u32, written: Segment, turn: u32) -> ChannelReport
 }
 
 // Returns the report of these steps, where `pc` is the offset of the next instruction.
-fn report_of(steps: Taken, pc: u32) -> ChannelReport
-    ensures { result ≡ report_of steps.count pc steps.written steps.last steps.signal }
+fn channel_report(steps: Taken, pc: u32) -> ChannelReport
+    ensures { result ≡ channel_report steps.count pc steps.written steps.last steps.signal }
 {
     let Taken {
         count: taken,
@@ -85,7 +85,7 @@ fn report_of_turn(
     turn: ChanTurn,
     signal: Option<Event>,
 ) -> ChannelReport
-    ensures { result ≡ report_of taken pc written (Some turn) signal }
+    ensures { result ≡ channel_report taken pc written (Some turn) signal }
 {
     match turn {
         ChanTurn::Moved => match signal {
@@ -142,6 +142,6 @@ pub extern "C" fn dma330_channel_step(
         most,
     );
     *flags = events.bits();
-    *report = report_of(taken, marked.channel.pc());
+    *report = channel_report(taken, marked.channel.pc());
     OK
 }

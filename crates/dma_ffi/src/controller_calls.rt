@@ -3,9 +3,9 @@
 #![tactic(auto, using(crate::proofs::Returns::returned))]
 
 ghost use Rattle.std.specs.Prelude.{◌≡◌, None, length};
-ghost use Rattle.dma_mem.specs.Places.{copying};
+ghost use Rattle.dma_mem.specs.Places.{copying, filling};
 ghost use Rattle.dma_ffi.specs.Codes.{event_of};
-ghost use Rattle.dma_ffi.specs.Requests.{Opens, Returns, a_conflict, a_number, a_report, a_run, an_outcome, ask_call, ask_copy, ask_fill, ask_mark, ask_steps, ask_value, bytes_or_conflict, nothing, the_forgotten, the_history_bytes, the_history_entries, the_run, the_running_count, the_steps, the_unfinished};
+ghost use Rattle.dma_ffi.specs.Requests.{Opens, Returns, a_conflict, a_number, a_report, a_run, an_outcome, ask_call, ask_mark, ask_steps, ask_submit, ask_value, bytes_or_conflict, nothing, the_forgotten, the_history_bytes, the_history_entries, the_run, the_running_count, the_steps, the_unfinished};
 ghost use Rattle.dma_ffi.specs.inner.Submits.{Submits};
 
 use crate::codes::{
@@ -122,7 +122,7 @@ pub extern "C" fn dma330_submit(
     cookie: &mut u32,
 ) -> i32
     ensures { Returns controller.old.engine.value
-        (ask_copy ch (copying src.now dst.now (event_of wait) (event_of signal))) result
+        (ask_submit ch (copying src.now dst.now (event_of wait) (event_of signal))) result
         (a_number cookie.old cookie.new) controller.new.engine.value }
 {
     let Some(engine) = controller.get_mut() else {
@@ -146,7 +146,7 @@ pub extern "C" fn dma330_submit_fill(
     cookie: &mut u32,
 ) -> i32
     ensures { Returns controller.old.engine.value
-        (ask_fill ch src dst.now (event_of wait) (event_of signal)) result
+        (ask_submit ch (filling src dst.now (event_of wait) (event_of signal))) result
         (a_number cookie.old cookie.new) controller.new.engine.value }
 {
     let Some(engine) = controller.get_mut() else {

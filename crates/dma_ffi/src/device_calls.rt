@@ -1,11 +1,13 @@
 //! Devices that C keeps: the registers of a DMA-330 over memory that C lends for the duration of a call. The caller has
 //! the same duties as for a channel.
 
-ghost use Rattle.std.specs.Prelude.{◌≡◌, None};
-ghost use Rattle.dma_device.specs.Device.{irqs, read_at, reset_device};
+ghost use Rattle.std.specs.Prelude.{◌≡◌, List, None};
+ghost use Rattle.dma_device.specs.Device.{irqs};
 ghost use Rattle.dma_device.specs.Snapshot.{saved_device};
-ghost use Rattle.dma_ffi.specs.Calls.{Becomes, OnOpen, ReadsOpen, WritesSave, WritesValue};
-ghost use Rattle.dma_ffi.specs.Devices.{FitsSave, Opens, ReportsTurn, Restores, WritesRegister, WritesRegisters, abort_line, any_can_step, report_of, restore_code};
+ghost use Rattle.dma_mem.specs.declared.regions.Region.{Region};
+ghost use Rattle.dma_ffi.specs.Calls.{ReadsOpen, WritesSave, WritesValue};
+ghost use Rattle.dma_ffi.specs.DeviceSessions.{Called, ask_look, ask_read, ask_reset, ask_restore, ask_turn, ask_write};
+ghost use Rattle.dma_ffi.specs.Devices.{FitsSave, Opens, WritesRegisters, abort_line, any_can_step, device_report, restore_code};
 
 use crate::channel_calls::{ChannelRegisters, are_usable, registers_of};
 use crate::codes::{
@@ -72,8 +74,8 @@ pub extern "C" fn dma330_device_close(alloc: Global, kept: &mut KeptDevice)
 /// Puts the device into its state after a reset.
 #[unsafe(no_mangle)]
 pub extern "C" fn dma330_device_reset(kept: &mut KeptDevice) -> i32
-    ensures { Becomes (λ d. reset_device d.config) kept.old.device.value result
-        kept.new.device.value }
+    ensures { (lent : List Region) → Called ask_reset result kept.old.device.value lent
+        kept.new.device.value lent }
 {
     let Some(device) = kept.get_mut() else {
         return NOT_OPEN;
@@ -87,8 +89,8 @@ pub extern "C" fn dma330_device_reset(kept: &mut KeptDevice) -> i32
 /// Reads the register at this offset for the guest. An offset that has no register reads as 0.
 #[unsafe(no_mangle)]
 pub extern "C" fn dma330_device_read(kept: &mut KeptDevice, offset: u32, value: &mut u32) -> i32
-    ensures { WritesValue (λ d. read_at d offset) kept.old.device.value result value.old value.new
-        kept.new.device.value }
+    ensures { (lent : List Region) → Called (ask_read offset value.old value.new) result
+        kept.old.device.value lent kept.new.device.value lent }
 {
     let Some(device) = kept.get_mut() else {
         return NOT_OPEN;
@@ -106,8 +108,8 @@ pub extern "C" fn dma330_device_write(
     value: u32,
     regions: &[Region<'_>],
 ) -> i32
-    ensures { OnOpen (WritesRegister regions.now offset value) kept.old.device.value result
-        kept.new.device.value }
+    ensures { Called (ask_write offset value) result kept.old.device.value regions.now
+        kept.new.device.value regions.now }
 {
     let Some(device) = kept.get_mut() else {
         return NOT_OPEN;
@@ -123,8 +125,8 @@ pub extern "C" fn dma330_device_write(
 // ---- turns and lines
 
 // Returns the report of a turn that left the device like this.
-fn report_of(turn: Turn, device: &Device) -> DeviceTurn
-    ensures { result ≡ report_of turn device.now }
+fn device_report(turn: Turn, device: &Device) -> DeviceTurn
+    ensures { result ≡ device_report turn device.now }
 {
     DeviceTurn {
         written: turn.written,
@@ -143,8 +145,8 @@ pub extern "C" fn dma330_device_step(
     regions: &mut [Region<'_>],
     turn: &mut DeviceTurn,
 ) -> i32
-    ensures { ReportsTurn channel most kept.old.device.value regions.old turn.old result
-        kept.new.device.value regions.new turn.new }
+    ensures { Called (ask_turn channel most turn.old turn.new) result kept.old.device.value
+        regions.old kept.new.device.value regions.new }
 {
     let Some(device) = kept.get_mut() else {
         return NOT_OPEN;
@@ -153,7 +155,7 @@ pub extern "C" fn dma330_device_step(
         return BAD_REGIONS;
     }
     let taken = device.step(channel, most, regions);
-    *turn = report_of(taken, device);
+    *turn = device_report(taken, device);
     OK
 }
 
@@ -164,8 +166,10 @@ pub extern "C" fn dma330_device_registers(
     channel: u8,
     registers: &mut ChannelRegisters,
 ) -> i32
-    ensures { ReadsOpen (WritesRegisters channel) kept.old.device.value result registers.old registers.new
+    ensures answer { ReadsOpen (WritesRegisters channel) kept.old.device.value result registers.old registers.new
         kept.new.device.value }
+    ensures look { (lent : List Region) → Called ask_look result kept.old.device.value lent
+        kept.new.device.value lent }
 {
     let Some(device) = kept.get_mut() else {
         return NOT_OPEN;
@@ -180,8 +184,10 @@ pub extern "C" fn dma330_device_registers(
 /// Writes the lines irq[31:0].
 #[unsafe(no_mangle)]
 pub extern "C" fn dma330_device_irqs(kept: &mut KeptDevice, lines: &mut u32) -> i32
-    ensures { WritesValue irqs kept.old.device.value result lines.old lines.new
+    ensures answer { WritesValue irqs kept.old.device.value result lines.old lines.new
         kept.new.device.value }
+    ensures look { (lent : List Region) → Called ask_look result kept.old.device.value lent
+        kept.new.device.value lent }
 {
     let Some(device) = kept.get_mut() else {
         return NOT_OPEN;
@@ -193,8 +199,10 @@ pub extern "C" fn dma330_device_irqs(kept: &mut KeptDevice, lines: &mut u32) -> 
 /// Writes the line irq_abort: 1 if it is high, else 0.
 #[unsafe(no_mangle)]
 pub extern "C" fn dma330_device_irq_abort(kept: &mut KeptDevice, line: &mut u32) -> i32
-    ensures { WritesValue abort_line kept.old.device.value result line.old line.new
+    ensures answer { WritesValue abort_line kept.old.device.value result line.old line.new
         kept.new.device.value }
+    ensures look { (lent : List Region) → Called ask_look result kept.old.device.value lent
+        kept.new.device.value lent }
 {
     let Some(device) = kept.get_mut() else {
         return NOT_OPEN;
@@ -206,8 +214,10 @@ pub extern "C" fn dma330_device_irq_abort(kept: &mut KeptDevice, line: &mut u32)
 /// Writes 1 if any channel runs and, by its status, doesn't wait for an event whose flag is clear, else 0.
 #[unsafe(no_mangle)]
 pub extern "C" fn dma330_device_can_step(kept: &mut KeptDevice, can_step: &mut u32) -> i32
-    ensures { WritesValue any_can_step kept.old.device.value result can_step.old can_step.new
+    ensures answer { WritesValue any_can_step kept.old.device.value result can_step.old can_step.new
         kept.new.device.value }
+    ensures look { (lent : List Region) → Called ask_look result kept.old.device.value lent
+        kept.new.device.value lent }
 {
     let Some(device) = kept.get_mut() else {
         return NOT_OPEN;
@@ -221,8 +231,10 @@ pub extern "C" fn dma330_device_can_step(kept: &mut KeptDevice, can_step: &mut u
 /// Writes the device as plain bytes to `out`, and their number to `len`. Fails if `out` is too small.
 #[unsafe(no_mangle)]
 pub extern "C" fn dma330_device_save(kept: &mut KeptDevice, out: &mut [u8], len: &mut usize) -> i32
-    ensures { WritesSave saved_device FitsSave kept.old.device.value result out.old out.new
+    ensures answer { WritesSave saved_device FitsSave kept.old.device.value result out.old out.new
         len.old len.new kept.new.device.value }
+    ensures look { (lent : List Region) → Called ask_look result kept.old.device.value lent
+        kept.new.device.value lent }
 {
     let Some(device) = kept.get_mut() else {
         return NOT_OPEN;
@@ -246,7 +258,8 @@ fn code_of_restore(answer: Result<(), RestoreFault>) -> i32
 /// reset.
 #[unsafe(no_mangle)]
 pub extern "C" fn dma330_device_restore(kept: &mut KeptDevice, save: &[u8]) -> i32
-    ensures { OnOpen (Restores save.now) kept.old.device.value result kept.new.device.value }
+    ensures { (lent : List Region) → Called (ask_restore save.now) result kept.old.device.value lent
+        kept.new.device.value lent }
 {
     let Some(device) = kept.get_mut() else {
         return NOT_OPEN;

@@ -1,7 +1,7 @@
 //! The configuration of a device as C writes it.
 
 ghost use Rattle.std.specs.Prelude.{◌≡◌};
-ghost use Rattle.dma_ffi.specs.Devices.{bus_of, config_of, revision_of};
+ghost use Rattle.dma_ffi.specs.Devices.{width_of_bits, config_of, revision_of};
 ghost use Rattle.dma_ffi.specs.Explaining.{any_bus};
 
 use dma_chan::bus::Bus;
@@ -25,9 +25,9 @@ pub struct DeviceConfig {
     pub revision: u32,
 }
 
-// Returns the bus of this many bits, if any.
-fn bus_of(bits: u32) -> Option<BusWidth>
-    ensures { result ≡ bus_of bits }
+// Returns the width of a bus of this many bits, if there is one.
+fn width_of_bits(bits: u32) -> Option<BusWidth>
+    ensures { result ≡ width_of_bits bits }
 {
     match bits {
         32 => Some(BusWidth::Bits32),
@@ -44,7 +44,7 @@ pub fn any_bus(bits: u32) -> Option<Bus>
     if bits == 0 {
         return Some(Bus::Ideal);
     }
-    let width = bus_of(bits)?;
+    let width = width_of_bits(bits)?;
     Some(Bus::Chip(width))
 }
 
@@ -65,7 +65,7 @@ fn revision_of(code: u32) -> Option<Revision>
 pub fn config_of(numbers: &DeviceConfig) -> Option<Config>
     ensures { result ≡ config_of numbers.now }
 {
-    let bus = bus_of(numbers.bus)?;
+    let bus = width_of_bits(numbers.bus)?;
     let revision = revision_of(numbers.revision)?;
     Some(Config {
         channels: numbers.channels.min(255) as u8,

@@ -1,7 +1,8 @@
 //! Several turns of a device that C keeps.
 
 ghost use Rattle.std.specs.Prelude.{◌≡◌};
-ghost use Rattle.dma_ffi.specs.Devices.{ReportsRows, rows_report_of};
+ghost use Rattle.dma_ffi.specs.DeviceSessions.{Called, ask_rows};
+ghost use Rattle.dma_ffi.specs.Devices.{rows_report_of};
 
 use crate::channel_calls::are_usable;
 use crate::codes::{BAD_REGIONS, NOT_OPEN, OK};
@@ -53,8 +54,8 @@ pub extern "C" fn dma330_device_step_rows(
     regions: &mut [Region<'_>],
     rows: &mut DeviceRows,
 ) -> i32
-    ensures { ReportsRows channel most kept.old.device.value regions.old rows.old result
-        kept.new.device.value regions.new rows.new }
+    ensures { Called (ask_rows channel most rows.old rows.new) result kept.old.device.value
+        regions.old kept.new.device.value regions.new }
 {
     let Some(device) = kept.get_mut() else {
         return NOT_OPEN;

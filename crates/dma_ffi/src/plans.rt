@@ -1,10 +1,10 @@
 //! The calls that write the program of a transfer.
 
 ghost use Rattle.std.specs.Prelude.{◌≡◌};
-ghost use Rattle.dma_mem.specs.Places.{copying};
+ghost use Rattle.dma_mem.specs.Places.{copying, filling};
 ghost use Rattle.dma_ffi.specs.Codes.{event_of};
 ghost use Rattle.dma_ffi.specs.Explaining.{any_bus};
-ghost use Rattle.dma_ffi.specs.Programs.{PlansCopy, PlansFill};
+ghost use Rattle.dma_ffi.specs.Programs.{PlansTransfer};
 ghost use Rattle.dma_ffi.specs.inner.Plans.{PlansMade};
 
 use crate::codes::{BAD_CONFIG, NO_MEMORY, code_of_transfer, event_of};
@@ -49,8 +49,8 @@ pub extern "C" fn dma330_plan(
     out: &mut [u8],
     len: &mut usize,
 ) -> i32
-    ensures { PlansCopy (copying src.now dst.now (event_of wait) (event_of signal)) (any_bus bus)
-        result out.old out.new len.old len.new }
+    ensures { PlansTransfer (copying src.now dst.now (event_of wait) (event_of signal))
+        (any_bus bus) result out.old out.new len.old len.new }
 {
     let Some(bus) = any_bus(bus) else {
         return BAD_CONFIG;
@@ -73,8 +73,8 @@ pub extern "C" fn dma330_plan_fill(
     out: &mut [u8],
     len: &mut usize,
 ) -> i32
-    ensures { PlansFill src dst.now (event_of wait) (event_of signal) (any_bus bus)
-        result out.old out.new len.old len.new }
+    ensures { PlansTransfer (filling src dst.now (event_of wait) (event_of signal))
+        (any_bus bus) result out.old out.new len.old len.new }
 {
     let Some(bus) = any_bus(bus) else {
         return BAD_CONFIG;

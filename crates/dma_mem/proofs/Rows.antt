@@ -12,7 +12,7 @@ use Rattle.dma_mem.specs.Places.{Descriptor, filling, moves, places, range_of, s
 use Rattle.dma_mem.specs.Ranges.{IsCoalesced, SameAddresses}
 use Rattle.dma_mem.specs.Flags.{all_clear}
 use Rattle.dma_mem.specs.Image.{is_size}
-use Rattle.dma_mem.specs.Refusals.{refusal_of, refusal_of_fill}
+use Rattle.dma_mem.specs.Refusals.{refusal_of}
 use Rattle.dma_mem.specs.Rules.{IsTransfer, IsSegmentList}
 use Rattle.dma_mem.proofs.TransferRules.{copy_from_no_refusal, length_places, meets_any_places, once_places}
 use Rattle.dma_mem.proofs.PageImages.{is_made_from, is_made_parts, segment_made, segment_not_made}
@@ -193,11 +193,11 @@ read_again = refl
 filled_in_order : moves four_filled 4 ≡ (32, 16) ∷ (33, 16) ∷ (34, 16) ∷ (48, 16) ∷ []
 filled_in_order = refl
 
-over_its_byte : refusal_of_fill 16 (record { addr = 14; len = 4 } ∷ []) None None ≡ Some SourceMeetsDestination
+over_its_byte : refusal_of (filling 16 (record { addr = 14; len = 4 } ∷ []) None None) ≡ Some SourceMeetsDestination
 unfolding share
 over_its_byte = refl
 
-up_to_its_byte : refusal_of_fill 16 (record { addr = 14; len = 2 } ∷ record { addr = 17; len = 2 } ∷ []) None None ≡ None
+up_to_its_byte : refusal_of (filling 16 (record { addr = 14; len = 2 } ∷ record { addr = 17; len = 2 } ∷ []) None None) ≡ None
 unfolding share
 up_to_its_byte = refl
 

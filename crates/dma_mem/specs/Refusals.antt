@@ -67,15 +67,3 @@ refusal_of t =
     cause (some_meet t.dst) DestinationsMeet (
     cause (meets_any t.src t.dst) SourceMeetsDestination (
     cause (is_bad_event t.wait || is_bad_event t.signal) BadEvent None))))))))
-
--- the first refusal of a fill that applies, if one does: each is tested over its destinations and its one source byte
-abbrev pub refusal_of_fill : ℕ → List Segment → Option ℕ → Option ℕ → Option TransferFault
-refusal_of_fill src dst wait signal =
-    cause (is_empty_list dst) EmptyList (
-    cause (has_too_many dst) TooManySegments (
-    cause (has_empty_segment dst) EmptySegment (
-    cause (has_wrapping_segment dst) SegmentWraps (
-    cause (nat_lt most_transfer_bytes (total dst)) TooLong (
-    cause (some_meet dst) DestinationsMeet (
-    cause (list_any (meets (record { addr = src; len = 1 })) dst) SourceMeetsDestination (
-    cause (is_bad_event wait || is_bad_event signal) BadEvent None)))))))

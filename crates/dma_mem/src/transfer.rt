@@ -7,7 +7,7 @@ ghost use Rattle.dma_mem.specs.Meeting.{meets, IsFree};
 ghost use Rattle.dma_mem.specs.declared.segment.Segment.{Segment};
 ghost use Rattle.dma_mem.specs.Rules.{IsTransfer};
 ghost use Rattle.dma_mem.specs.inner.SourceSegments.{segments_of, is_place};
-ghost use Rattle.dma_mem.specs.Refusals.{refusal_of, refusal_of_fill};
+ghost use Rattle.dma_mem.specs.Refusals.{refusal_of};
 
 pub(crate) mod rules;
 
@@ -211,10 +211,10 @@ impl Transfer {
         signal: Option<u8>,
     ) -> Result<Transfer, TransferFault>
         ensures ok { IfOk result (λ t. t ≡ filling src dst.now wait signal) }
-        ensures accepted { IfOk result (λ t. refusal_of_fill src dst.now wait signal ≡ None) }
+        ensures accepted { IfOk result (λ t. refusal_of t ≡ None) }
         ensures rules { IfOk result (λ t. IsTransfer t) }
-        ensures err { IfErr result (λ fault. fault
-            ≡ unwrap_or (refusal_of_fill src dst.now wait signal) TransferFault.NoMemory) }
+        ensures err { IfErr result (λ fault. fault ≡ unwrap_or
+            (refusal_of (filling src dst.now wait signal)) TransferFault.NoMemory) }
     {
         let len = checked_fill(src, dst, wait, signal)?;
         let list = copied(alloc, dst)?;
@@ -236,9 +236,10 @@ impl Transfer {
         signal: Option<u8>,
     ) -> Result<Transfer, TransferFault>
         ensures ok { IfOk result (λ t. t ≡ filling src dst wait signal) }
-        ensures accepted { IfOk result (λ t. refusal_of_fill src dst wait signal ≡ None) }
+        ensures accepted { IfOk result (λ t. refusal_of t ≡ None) }
         ensures rules { IfOk result (λ t. IsTransfer t) }
-        ensures err { IfErr result (λ fault. refusal_of_fill src dst wait signal ≡ Some fault) }
+        ensures err { IfErr result
+            (λ fault. refusal_of (filling src dst wait signal) ≡ Some fault) }
     {
         let len = checked_fill(src, dst.as_slice(), wait, signal)?;
         Ok(Transfer {

@@ -1,6 +1,5 @@
 -- Definitions for the contracts of the compiler's parts.
 use Rattle.std.specs.Prelude.{◌≡◌, ℕ, ◌+◌, ◌^◌, ◌<◌, ◌≤◌, List, [], ◌∷◌, ◌++◌, length, not}
-use Rattle.dma_insn.specs.ControlWord.{beat_bytes}
 use Rattle.dma_mem.specs.declared.segment.Segment.{Segment}
 use Rattle.dma_chan.specs.declared.compile.Beat.{Beat}
 use Rattle.dma_chan.specs.Compiled.{control_word}
@@ -25,4 +24,4 @@ Appends old new t = new ≡ old ++ bytes_of t
 
 -- the control word of bursts of k such beats
 abbrev pub word_of : Beat → ℕ → ℕ
-word_of b k = control_word (not b.source_rises) (beat_bytes b.size) k
+word_of b k = control_word (not b.source_rises) b.size k

@@ -1,6 +1,7 @@
 //! How many instructions compiled programs execute.
 
 ghost use Rattle.std.specs.Prelude.{ℕ, Bool, ◌≡◌, ◌≤◌, ◌<◌, ◌^◌};
+ghost use Rattle.dma_insn.specs.declared.control.BeatSize.{BeatSize};
 ghost use Rattle.dma_insn.specs.ControlWord.{beat_bytes};
 ghost use Rattle.dma_chan.specs.inner.Compiling.{cost_of};
 ghost use Rattle.dma_chan.specs.Compiled.{where_some, body, bursts, under, parts, piece_tree, wait_tree, signal_tree, cost_on};
@@ -52,7 +53,7 @@ fn piece_cost(bus: Bus, piece: Piece) -> u32
 // constants.
 fn beats_cost(len: u32, beat: BeatSize) -> u32
     requires { len ≤ 2 ^ 20 }
-    ensures value { (fill : Bool) → result ≡ cost_of (parts fill (beat_bytes beat) len) }
+    ensures value { (fill : Bool) → result ≡ cost_of (parts fill beat len) }
     ensures limit { result ≤ 390010 }
 {
     match beat {
@@ -71,7 +72,8 @@ fn parts_cost(len: u32, beat: u32) -> u32
     requires len { len ≤ 2 ^ 20 }
     requires low { 1 ≤ beat }
     requires high { beat ≤ 16 }
-    ensures value { (fill : Bool) → result ≡ cost_of (parts fill beat len) }
+    ensures value { (fill : Bool) (size : BeatSize) → beat_bytes size ≡ beat →
+        result ≡ cost_of (parts fill size len) }
     ensures limit { result ≤ 390010 }
 {
     let whole = 16 * beat;

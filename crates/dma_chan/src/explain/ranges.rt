@@ -1,12 +1,13 @@
 //! Lists of ranges that a run reads and writes.
 
-ghost use Rattle.std.specs.Prelude.{◌≡◌, ◌≢◌, ◌++◌, ◌∷◌, ◌≤◌, ◌<◌, [], ℕ, All, IfErr, IfOk, OnOk, IfSome, None, Some, is_some, true};
+ghost use Rattle.std.specs.Prelude.{◌≡◌, ◌≢◌, ◌++◌, ◌∷◌, ◌≤◌, ◌<◌, [], ℕ, length, take, All, IfErr, IfOk, OnOk, IfSome, None, Some, is_some, true};
 ghost use Rattle.std.specs.List.{list_any, range_with_len};
 ghost use Rattle.std.specs.List.Sorted.{IsNonDecreasingBy, IsPermutation};
 ghost use Rattle.dma_mem.specs.declared.segment.Segment.{Segment};
-ghost use Rattle.dma_mem.specs.Places.{places, range_of, share};
+ghost use Rattle.dma_mem.specs.Places.{places, share};
 ghost use Rattle.dma_mem.specs.Refusals.{some_meet};
 ghost use Rattle.dma_mem.specs.inner.RangesInOrder.{IsOrdered};
+ghost use Rattle.dma_chan.specs.Items.{NoneJoin, join_read, join_run, with_item};
 ghost use Rattle.dma_chan.specs.Explains.{HasAddress, IsLowest, IsRead, IsRun, IsShared, IsTwice, stop_of_lists, unrolled};
 
 use crate::explain::{Cause, Repeated, Stop};
@@ -14,12 +15,9 @@ use dma_mem::ordered::{clear_of_ordered, meets_ordered, sort_by_address};
 use dma_mem::segment::Segment;
 use std::alloc::{AllocError, Global};
 
-// Returns the two ranges as one, if the second continues the first.
+// Returns the two ranges as one, if the second goes on where the first ends.
 fn joined(run: Segment, next: Segment) -> Option<Segment>
-    requires run { IsRun run }
-    requires next { IsRun next }
-    ensures same { IfSome result (λ all. range_of all ≡ range_of run ++ range_of next) }
-    ensures run { IfSome result (λ all. IsRun all) }
+    ensures { result ≡ join_run run next }
 {
     if run.end() != u64::from(next.addr) {
         return None;
@@ -31,13 +29,11 @@ fn joined(run: Segment, next: Segment) -> Option<Segment>
     })
 }
 
-// Appends a range to a list. Where it continues the last range, that one grows.
+// Appends a range to a list. Where it goes on from the last range, that one grows.
 #[inline(always)]
 pub(super) fn push_run(list: &mut Vec<Segment>, run: Segment) -> Result<(), AllocError>
-    requires run { IsRun run }
-    requires runs { All IsRun list.old.items }
-    ensures ok { OnOk result (places list.new.items ≡ places list.old.items ++ range_of run) }
-    ensures runs { OnOk result (All IsRun list.new.items) }
+    requires { NoneJoin join_run list.old.items }
+    ensures { OnOk result (list.new.items ≡ with_item join_run list.old.items run) }
 {
     let n = list.len();
     if n > 0 {
@@ -61,16 +57,14 @@ impl Repeated {
         }
     }
 
-    // Returns the two items as one, if the second reads the first one's range again or continues it.
+    // Returns the two items as one, if the second reads the first one's range again or goes on where it ends.
     fn joined(self, next: Repeated) -> Option<Repeated>
-        requires item { IsRead self }
-        requires next { IsRead next }
-        ensures same { IfSome result (λ all.
-            places (unrolled (all ∷ [])) ≡ places (unrolled (self ∷ next ∷ []))) }
-        ensures item { IfSome result (λ all. IsRead all) }
+        ensures { result ≡ join_read self next }
     {
-        if self.addr == next.addr && self.len == next.len {
-            let times = self.times.checked_add(next.times)?;
+        if self.addr == next.addr
+            && self.len == next.len
+            && let Some(times) = self.times.checked_add(next.times)
+        {
             return Some(Repeated {
                 addr: self.addr,
                 len: self.len,
@@ -89,23 +83,39 @@ impl Repeated {
     }
 }
 
-// Appends an item to a list. Where it reads the last item's range again or continues it, that one grows.
+// Returns how many items of a list stay as they are when an item is appended, and the item that then follows them: the
+// appended one, joined with the items before it as long as they can be joined.
+#[inline(always)]
+fn settled(list: &[Repeated], item: Repeated) -> (usize, Repeated)
+    requires { NoneJoin join_read list.now }
+    ensures within { result.0 ≤ length list.now }
+    ensures same { with_item join_read list.now item ≡ take result.0 list.now ++ result.1 ∷ [] }
+{
+    let mut n = list.len();
+    let mut last = item;
+    while n > 0 {
+        let Some(all) = list[n - 1].joined(last) else {
+            return (n, last);
+        };
+        last = all;
+        n -= 1;
+    }
+    (0, last)
+}
+
+// Appends an item to a list, joined with the items before it as long as they can be joined.
 #[inline(always)]
 pub(super) fn push_read(list: &mut Vec<Repeated>, item: Repeated) -> Result<(), AllocError>
-    requires item { IsRead item }
-    requires items { All IsRead list.old.items }
-    ensures ok { OnOk result (places (unrolled list.new.items)
-        ≡ places (unrolled list.old.items) ++ places (unrolled (item ∷ []))) }
-    ensures items { OnOk result (All IsRead list.new.items) }
+    requires { NoneJoin join_read list.old.items }
+    ensures { OnOk result (list.new.items ≡ with_item join_read list.old.items item) }
 {
-    let n = list.len();
-    if n > 0 {
-        if let Some(all) = list[n - 1].joined(item) {
-            list[n - 1] = all;
-            return Ok(());
-        }
+    let (n, last) = settled(list.as_slice(), item);
+    if n == list.len() {
+        list.push(last)?;
+        return Ok(());
     }
-    list.push(item)?;
+    list[n] = last;
+    list.truncate(n + 1);
     Ok(())
 }
 

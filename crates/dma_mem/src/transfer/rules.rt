@@ -1,13 +1,13 @@
 //! The rules of a transfer, tested one after another.
 
-ghost use Rattle.std.specs.Prelude.{◌≡◌, ◌<◌, ◌≤◌, All, IfOk, IfErr, MatchResult, length, OnOk};
+ghost use Rattle.std.specs.Prelude.{◌≡◌, ◌<◌, ◌≤◌, All, MatchResult, length};
 ghost use Rattle.dma_mem.specs.Limits.{most_segments};
 ghost use Rattle.dma_mem.specs.Places.{Descriptor, filling};
 ghost use Rattle.dma_mem.specs.Meeting.{meets};
 ghost use Rattle.std.specs.List.{list_any};
 ghost use Rattle.dma_mem.specs.declared.segment.Segment.{Segment};
 ghost use Rattle.dma_mem.specs.inner.Checking.{may_differ};
-ghost use Rattle.dma_mem.specs.Refusals.{refusal_of, refusal_of_fill, overlap_of, total, meets_any, has_empty_segment, has_wrapping_segment, is_bad_event};
+ghost use Rattle.dma_mem.specs.Refusals.{refusal_of, overlap_of, total, meets_any, has_empty_segment, has_wrapping_segment, is_bad_event};
 
 use crate::limits::{LAST_EVENT, MAX_SEGMENTS, MAX_TRANSFER_BYTES};
 use crate::ordered::{any_meets_ordered, sort_by_address};
@@ -150,10 +150,9 @@ pub(crate) fn checked_fill(
     wait: Option<u8>,
     signal: Option<u8>,
 ) -> Result<u32, TransferFault>
-    ensures len { IfOk result (λ len. (refusal_of (filling src dst.now wait signal) ≡ None)
-        × (len ≡ total dst.now)) }
-    ensures accepted { OnOk result (refusal_of_fill src dst.now wait signal ≡ None) }
-    ensures err { IfErr result (λ fault. refusal_of_fill src dst.now wait signal ≡ Some fault) }
+    ensures { let t = filling src dst.now wait signal in
+        MatchResult result (λ len. (refusal_of t ≡ None) × (len ≡ total dst.now))
+        (λ fault. refusal_of t ≡ Some fault) }
 {
     let byte = Segment { addr: src, len: 1 };
     checked_len(Totals::Any, &[byte], dst, wait, signal)

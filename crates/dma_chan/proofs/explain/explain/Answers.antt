@@ -16,7 +16,6 @@ returns-in-Ok-finish-clause-bursts c = counts_bursts c.args.start c.args.program
 pub run-requires : goal.run-requires
 run-requires c = record {
   tracer = c.loop-steps.invariant.follows.tracer;
-  last = c.loop-steps.invariant.last;
   next = c.in-Ok.ensures;
   other = λ e. c.in_default.not-End (c.insn.ensures ∙ e);
   most = omega (arith, c.loop-steps-test.true);
@@ -30,14 +29,12 @@ pub loop-steps-init : goal.loop-steps-init
 loop-steps-init c = record {
   follows = follows_new c.args.start c.args.program.now c.new-tracer.result c.new-tracer.ensures;
   few = omega arith;
-  last = c.none-last.ensures c.args.program.now;
 }
 
 pub loop-steps-preserved : goal.loop-steps-preserved
 loop-steps-preserved c = record {
   follows = c.in-Ok-run.ensures.leads c.args.start c.loop-steps.steps c.loop-steps.invariant.follows;
   few = omega (arith, c.in-Ok-run.ensures.some, c.loop-steps-test.true);
-  last = c.in-Ok-run.ensures.last;
 }
 
 pub returns-in-Err-clause-err : goal.returns-in-Err-clause-err

@@ -1,12 +1,11 @@
 use Rattle.std.proofs.Common.{◌-◌, ◌≤◌}
-use Rattle.dma_chan.specs.inner.Tracing.{Follows, IsLastLoop}
+use Rattle.dma_chan.specs.inner.Tracing.{Follows}
 use Rattle.dma_chan.proofs.explain.explain.Given as goal
 
 abbrev pub invariant-loop-steps : goal.invariant-loop-steps
 invariant-loop-steps l = record {
   follows : Follows l.fn.start l.program l.steps l.tracer;
   few : l.steps ≤ l.most;
-  last : IsLastLoop l.program l.last;
 }
 
 abbrev pub decreases-loop-steps : goal.decreases-loop-steps

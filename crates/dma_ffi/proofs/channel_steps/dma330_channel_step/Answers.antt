@@ -6,7 +6,7 @@ use Rattle.dma_mem.specs.declared.regions.Region.{Region}
 use Rattle.dma_chan.specs.Channel.{ChannelValue}
 use Rattle.dma_chan.specs.Stepping.{Machine, TakesSteps, signal_after, written_after}
 use Rattle.dma_ffi.specs.declared.marked_channel.MarkedChannel.{MarkedChannel}
-use Rattle.dma_ffi.specs.Channels.{Lent, StepsOver, marks_over, report_of}
+use Rattle.dma_ffi.specs.Channels.{Lent, StepsOver, marks_over, channel_report}
 use Rattle.dma_ffi.proofs.channel_steps.dma330_channel_step.Goals as goal
 
 abbrev at : ChannelValue → List Region → List Bool → Machine
@@ -25,7 +25,7 @@ returns c =
     let b : Lent = record { channel = Some n; regions = taken.new.regions; flags = c.bits.result } in
     let flags : c.from_bits-events.result ≡ flags_of c.args.flags.now = c.from_bits-events.ensures in
     let after : List Bool → Machine = at taken.new.channel taken.new.regions in
-    let over : StepsOver a most taken.result c.report_of.result b m n = record {
+    let over : StepsOver a most taken.result c.channel_report.result b m n = record {
       before = sym held;
       after = refl;
       marks = refl;
@@ -36,7 +36,7 @@ returns c =
       signal = subst (λ (f : List Bool). taken.result.signal ≡ signal_after marks (at m.channel regions f) taken.result.count) flags taken.ensures.signal;
       written = subst (λ (f : List Bool). taken.result.written ≡ written_after marks (at m.channel regions f) taken.result.count) flags taken.ensures.written;
       kept = taken.ensures.kept;
-      reported = c.report_of.ensures ∙ ap (λ (p : ℕ). report_of taken.result.count p taken.result.written taken.result.last taken.result.signal) c.pc.ensures;
+      reported = c.channel_report.ensures ∙ ap (λ (p : ℕ). channel_report taken.result.count p taken.result.written taken.result.last taken.result.signal) c.pc.ensures;
       regions = record { places = taken.ensures.places; read_only = taken.ensures.read_only; names = taken.ensures.names };
     } in
     inr (inr (inr (refl, (m, n, taken.result, over))))

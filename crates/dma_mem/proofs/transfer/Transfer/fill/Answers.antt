@@ -3,8 +3,8 @@ use Rattle.dma_mem.proofs.TransferRules.{fill_from_no_refusal, length_places}
 use Rattle.dma_mem.proofs.transfer.Transfer.fill.Goals as goal
 
 pub returns-clause-rules : goal.returns-clause-rules
-returns-clause-rules c = rw c.in_ok-list.ensures (fill_from_no_refusal _ _ _ _ c.in_ok-len.ensures.len.0)
+returns-clause-rules c = rw c.in_ok-list.ensures (fill_from_no_refusal _ _ _ _ c.in_ok-len.ensures.0)
 
 pub invariant_of-result : goal.invariant_of-result
 invariant_of-result c =
-    rw c.in_ok-list.ensures (fill_from_no_refusal _ _ _ _ c.in_ok-len.ensures.len.0, c.in_ok-len.ensures.len.1 ∙ sym (length_places c.args.dst.now))
+    rw c.in_ok-list.ensures (fill_from_no_refusal _ _ _ _ c.in_ok-len.ensures.0, c.in_ok-len.ensures.1 ∙ sym (length_places c.args.dst.now))

@@ -1,0 +1,187 @@
+-- How fast a transfer moves, by its instructions and by the steps of a channel.
+use Rattle.std.proofs.Common.{◌≡◌, ℕ, zero, suc, ◌+◌, ◌-◌, ◌≤◌, ◌<◌, Bool, true, false, List, [], ◌∷◌, length, take, drop, Option, Some, Ok, refl, sym, ap, ◌∙◌, subst, arith, add-one, inl, inr}
+use Rattle.std.specs.Prelude.{IfSome, Result, slice_index_or}
+use Rattle.std.proofs.lemmas.Bool.{cases_lt}
+use Rattle.dma_insn.specs.declared.chip.ChipInsn.{ChipInsn}
+use Rattle.dma_insn.specs.declared.chip.ChipInsn.TheVariants.{Ld, St, End, Sev, Wfe}
+use Rattle.dma_mem.specs.declared.marks.MarkKind.{MarkKind}
+use Rattle.dma_mem.specs.Marking.{MarkList, meets_mark}
+use Rattle.dma_mem.specs.Places.{Descriptor, sources, destinations, lies_below}
+use Rattle.dma_mem.specs.Rules.{IsTransfer}
+use Rattle.dma_chan.specs.declared.bus.Bus.TheVariants.{Ideal}
+use Rattle.dma_chan.specs.declared.exec.Registers.{Registers}
+use Rattle.dma_chan.specs.declared.turn.ChanTurn.{ChanTurn}
+use Rattle.dma_chan.specs.declared.turn.ChanTurn.TheVariants.{Moved, Waiting, Ended, Fault}
+use Rattle.dma_chan.specs.declared.turn.FaultKind.{FaultKind}
+use Rattle.dma_chan.specs.declared.turn.FaultKind.TheVariants.{DataWriteErr, DataReadErr}
+use Rattle.dma_chan.specs.Bursts.{touched}
+use Rattle.dma_chan.specs.Channel.{ChannelValue}
+use Rattle.dma_chan.specs.Compiled.{cost}
+use Rattle.dma_chan.specs.Exec.{source_of, destination_of, exec_fetched, state}
+use Rattle.dma_chan.specs.Layer.{AnswerImplies, Shared, StepAgrees}
+use Rattle.dma_chan.specs.NextWrites.{written_by, written_next}
+use Rattle.dma_chan.specs.Pace.{GetsToEnd, MovesFor, OrderIs, StaysInStep, just_loaded}
+use Rattle.dma_chan.specs.Reads.{read_by, read_next}
+use Rattle.dma_chan.specs.Stepping.{Machine, after_step, after_steps, answer_at}
+use Rattle.dma_chan.specs.Traffic.{burst, burst_by, member, read_len, read_places, write_len, written_places}
+use Rattle.dma_chan.specs.inner.At.{IsAt}
+use Rattle.dma_chan.proofs.BurstsInTurn.{CarriesOne, ReadsNext, WritesNext}
+use Rattle.dma_chan.proofs.LayerLaws.{ahead_is, starts_at, step_is, turn_reports}
+use Rattle.dma_chan.proofs.MemberActs.{store_touches}
+use Rattle.dma_chan.proofs.MembersByNumber.{at, at_burst, at_registers, at_stored, carries_next}
+use Rattle.dma_chan.proofs.ShapeLaws.{past_end, shape_is}
+use Rattle.dma_chan.proofs.SteppedOver.{steps_size}
+
+-- ---- the order of the instructions
+
+module _ (t : Descriptor) (h : IsTransfer t) where
+  end_late : (n : ℕ) → member t n ≡ End → cost t ≤ n + 1
+  end_late n is = elim (cases_lt n (cost t)) [
+    | inl l ↦ omega (arith, (shape_is t h).end_only n l is)
+    | inr l ↦ omega arith
+  ]
+
+  late_ends : (n : ℕ) → cost t ≤ n + 1 → member t n ≡ End
+  late_ends n late = elim (cases_lt n (cost t)) [
+    | inl l ↦ let last : n ≡ cost t - 1 = omega (arith, l, late) in ap (member t) last ∙ (shape_is t h).end_last
+    | inr l ↦ (past_end t n l).0
+  ]
+
+  wait_there : (e : ℕ) → t.wait ≡ Some e → member t 0 ≡ Wfe e false
+  wait_there e some = subst (λ (w : Option ℕ). IfSome w (λ d. member t 0 ≡ Wfe d false)) some (shape_is t h).wait_first
+
+  wait_here : (n e : ℕ) (invalid : Bool) → member t n ≡ Wfe e invalid → (n ≡ 0) × (t.wait ≡ Some e) × (invalid ≡ false)
+  wait_here n e invalid is =
+      let only = (shape_is t h).wait_only n e invalid is in
+      let same : Wfe e invalid ≡ Wfe e false = sym is ∙ ap (member t) only.0 ∙ wait_there e only.1 in
+      (only.0, only.1, cc)
+
+  signal_there : (n e : ℕ) → n + 2 ≡ cost t → t.signal ≡ Some e → member t n ≡ Sev e
+  signal_there n e late some =
+      let last = subst (λ (w : Option ℕ). IfSome w (λ d. (2 ≤ cost t) × (member t (cost t - 2) ≡ Sev d))) some (shape_is t h).signal_last in
+      let place : n ≡ cost t - 2 = omega (arith, late) in
+      ap (member t) place ∙ last.1
+
+pub order_is : OrderIs
+order_is t h = record {
+  some = (shape_is t h).some;
+  ends = λ n. (end_late t h n, late_ends t h n);
+  waits = λ n e invalid. (wait_here t h n e invalid, λ w. ap (member t) w.0 ∙ wait_there t h e w.1 ∙ ap (Wfe e) (sym w.2));
+  signals = λ n e. ((shape_is t h).signal_only n e, λ w. signal_there t h n e w.0 w.1);
+}
+
+-- ---- the steps of a channel
+
+-- a channel that is there, over any memory
+module _ (t : Descriptor) (n : ℕ) (image : List ℕ) (c : ChannelValue) (h : IsTransfer t) (a : IsAt t n image c) where
+  registers_there : c.registers ≡ (at t n).registers
+  registers_there = a.registers ∙ sym (at_registers t n)
+
+  abbrev Places : ℕ → List ℕ → List ℕ
+  Places k places = take k (drop (at t n).stored places)
+
+  reads_there : member t n ≡ Ld → read_next c ≡ read_places t n
+  reads_there is =
+      let r = (at t n).registers in
+      let load : ReadsNext (sources t) (at t n) = subst (λ (i : ChipInsn). CarriesOne Ideal (sources t) (destinations t) i (at t n)) is (carries_next t n h a.within) in
+      let size : read_len r.ccr ≡ burst t n = ap (λ (i : ChipInsn). burst_by i r.ccr) (sym is) ∙ at_burst t n in
+      ap (λ (next : Result ChipInsn FaultKind). read_by next c.registers) (ahead_is t n image c h a ∙ ap Ok is)
+      ∙ ap (λ (s : Registers). touched (source_of s)) registers_there
+      ∙ load.touches
+      ∙ ap (λ (k : ℕ). Places k (sources t)) size
+      ∙ ap (λ (k : ℕ). take (burst t n) (drop k (sources t))) (at_stored t n)
+
+  writes_there : member t n ≡ St → written_next c ≡ written_places t n
+  writes_there is =
+      let r = (at t n).registers in
+      let store : WritesNext (destinations t) (at t n) = subst (λ (i : ChipInsn). CarriesOne Ideal (sources t) (destinations t) i (at t n)) is (carries_next t n h a.within) in
+      let size : write_len r.ccr ≡ burst t n = ap (λ (i : ChipInsn). burst_by i r.ccr) (sym is) ∙ at_burst t n in
+      ap (λ (next : Result ChipInsn FaultKind). written_by next c.registers) (ahead_is t n image c h a ∙ ap Ok is)
+      ∙ ap (λ (s : Registers). touched (destination_of s)) registers_there
+      ∙ store_touches (destinations t) (at t n) store
+      ∙ ap (λ (k : ℕ). Places k (destinations t)) size
+      ∙ ap (λ (k : ℕ). take (burst t n) (drop k (destinations t))) (at_stored t n)
+
+-- the memory and the flags of a machine
+abbrev shared : Machine → Shared
+shared s = record { image = s.image; flags = s.flags }
+
+module _ (t : Descriptor) (marks : MarkList) (image : List ℕ) (flags : List Bool) (h : IsTransfer t) (below : lies_below t (length image) ≡ true) where
+  abbrev there : ℕ → Machine
+  there n = after_steps marks (just_loaded t image flags) n
+
+  agrees_at : (n : ℕ) → IsAt t n (there n).image (there n).channel → StepAgrees t n marks (shared (there n)) (there n).channel
+  agrees_at n a = step_is t n marks (shared (there n)) (there n).channel h (ap (lies_below t) (steps_size marks (just_loaded t image flags) n) ∙ below) a
+
+  moved_on : (n : ℕ) → IsAt t n (there n).image (there n).channel → answer_at marks (there n) ≡ Moved → IsAt t (suc n) (there (suc n)).image (there (suc n)).channel
+  moved_on n a moves =
+      let one = agrees_at n a in
+      rw add-one at (subst (λ (i : List ℕ). IsAt t (n + 1) i (after_step marks (there n)).channel) (sym one.image) (one.goes_on (sym one.turn ∙ moves)))
+
+  comes_to : (n : ℕ) → MovesFor marks (just_loaded t image flags) n → IsAt t n (there n).image (there n).channel
+  comes_to zero moves = starts_at t image h
+  comes_to (suc n) moves = moved_on n (comes_to n (λ k l. moves k (omega arith))) (moves n (omega arith))
+
+  reported : (n : ℕ) (u : ChanTurn) → IsAt t n (there n).image (there n).channel → answer_at marks (there n) ≡ u → AnswerImplies t n marks (shared (there n)) u
+  reported n u a is = subst (AnswerImplies t n marks (shared (there n))) (sym (agrees_at n a).turn ∙ is) (turn_reports t n marks (shared (there n)))
+
+  last_ends : (n : ℕ) → IsAt t n (there n).image (there n).channel → n + 1 ≡ cost t → answer_at marks (there n) ≡ Ended
+  last_ends n a last =
+      let c = (there n).channel in
+      let s = state c.registers c.buffer (there n).image (there n).flags in
+      ap (λ (next : Result ChipInsn FaultKind). (exec_fetched marks next s).0) (ahead_is t n (there n).image c h a ∙ ap Ok (late_ends t h n (omega (arith, last))))
+
+  ended_last : (n : ℕ) → IsAt t n (there n).image (there n).channel → answer_at marks (there n) ≡ Ended → n + 1 ≡ cost t
+  ended_last n a is = (shape_is t h).end_only n a.within (reported n Ended a is)
+
+pub stays_in_step : StaysInStep
+stays_in_step t n marks image flags h below moves =
+    let s = after_steps marks (just_loaded t image flags) n in
+    let a : IsAt t n s.image s.channel = comes_to t marks image flags h below n moves in
+    record {
+      within = a.within;
+      next = ahead_is t n s.image s.channel h a;
+      reads = reads_there t n s.image s.channel h a;
+      writes = writes_there t n s.image s.channel h a;
+      stored = a.stored;
+      ends = (ended_last t marks image flags h below n a, last_ends t marks image flags h below n a);
+    }
+
+-- ---- without marks
+
+none_marked : (kind : MarkKind) (places : List ℕ) → meets_mark kind [] places ≡ false
+unfolding meets_mark
+none_marked kind [] = refl
+none_marked kind (a ∷ places) = none_marked kind places
+
+module _ (t : Descriptor) (image : List ℕ) (flags : List Bool) (h : IsTransfer t) (below : lies_below t (length image) ≡ true) (set : IfSome t.wait (λ e. slice_index_or flags e false ≡ true)) where
+  abbrev now : ℕ → Machine
+  now n = after_steps [] (just_loaded t image flags) n
+
+  set_at : (n e : ℕ) → n ≡ 0 → t.wait ≡ Some e → slice_index_or (now n).flags e false ≡ true
+  set_at n e first some = rw first (subst (λ (w : Option ℕ). IfSome w (λ d. slice_index_or flags d false ≡ true)) some set)
+
+  -- an answer before the last instruction
+  answers : (n : ℕ) (u : ChanTurn) → n + 1 < cost t → AnswerImplies t n [] (shared (now n)) u → u ≡ Moved
+  answers n Moved l r = refl
+  answers n (Waiting e) l r =
+      let only = (shape_is t h).wait_only n e r.0.0 r.0.1 in
+      let both = sym r.1 ∙ set_at n e only.0 only.1 in absurd cc
+  answers n Ended l r = absurd (omega (arith, end_late t h n r, l))
+  answers n (Fault DataReadErr) l r = let both = sym (none_marked _ (read_places t n)) ∙ r.1 in absurd cc
+  answers n (Fault DataWriteErr) l r = let both = sym (none_marked _ (written_places t n)) ∙ r.1 in absurd cc
+  answers n (Fault kind) l r = absurd r
+
+  all_move : (n : ℕ) → n < cost t → MovesFor [] (just_loaded t image flags) n
+  all_move zero l = λ k f. absurd (omega (arith, f))
+  all_move (suc n) l = λ k f.
+      let before = all_move n (omega (arith, l)) in
+      let a = comes_to t [] image flags h below n before in
+      let here : answer_at [] (now n) ≡ Moved = answers n (answer_at [] (now n)) (omega (arith, l)) (reported t [] image flags h below n (answer_at [] (now n)) a refl) in
+      elim (cases_lt k n) [
+        | inl less ↦ before k less
+        | inr same ↦ let at : n ≡ k = omega (arith, same, f) in subst (λ (j : ℕ). answer_at [] (now j) ≡ Moved) at here
+      ]
+
+pub gets_to_end : GetsToEnd
+gets_to_end t image flags h below set = all_move t image flags h below set (cost t - 1) (omega (arith, (shape_is t h).some))
