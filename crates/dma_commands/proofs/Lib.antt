@@ -12,4 +12,6 @@ pub mod ScriptCalls
 pub mod ScriptSubmits
 pub mod ScriptsWithin
 pub mod ScriptReplies
+pub mod ScriptsSound
 pub mod ScriptCopies
+pub mod RacedLemmas

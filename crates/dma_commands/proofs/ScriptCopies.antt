@@ -20,8 +20,7 @@ use Rattle.dma_engine.specs.declared.entry.Entry.TheVariants.{Submitted}
 use Rattle.dma_engine.specs.View.{IsSound, View, object_of}
 use Rattle.dma_engine.specs.Advance.{after_steps, goes_on}
 use Rattle.dma_engine.specs.Answer.{answer, answers, submit_fault, unless}
-use Rattle.dma_engine.specs.Laws.{CallsStaySound, NewViewsAreSound}
-use Rattle.dma_engine.proofs.JoinedCalls.{answers_are_answers, answers_unless_no_memory}
+use Rattle.dma_engine.proofs.JoinedCalls.{answers_unless_no_memory}
 use Rattle.dma_script.specs.declared.statements.Statement.{Statement}
 use Rattle.dma_script.specs.declared.statements.Statement.TheVariants as statements
 use Rattle.dma_script.proofs.Within.{IsNoSubmit}
@@ -30,8 +29,9 @@ use Rattle.dma_commands.specs.Transfers.{transfer_of}
 use Rattle.dma_commands.specs.Laws.{AreWhole, CopiesAreWhole, IsWhole, IsWholeCopy, StepsEnd, calls_after, calls_in, calls_of, if_valid, opening_of, script_calls, transfer_calls, view_after}
 use Rattle.dma_commands.proofs.CopyLemmas.{before_last_on}
 use Rattle.dma_commands.proofs.ScriptCalls.{first_replies, later_replies}
-use Rattle.dma_commands.proofs.ScriptSubmits.{line_byte, line_made_law}
-use Rattle.dma_commands.proofs.ScriptsWithin.{can_be_made, script_within}
+use Rattle.dma_commands.proofs.ScriptSubmits.{line_byte}
+use Rattle.dma_commands.proofs.ScriptsSound.{line_sound, opening_sound}
+use Rattle.dma_commands.proofs.ScriptsWithin.{script_within}
 
 -- ---- steps
 
@@ -75,22 +75,18 @@ line_whole ends v (statements.Copy line) sound =
     fit_whole ends v t (refusal_of t) sound (line_byte line) refl
 line_whole ends v _ sound = tt
 
-lines_whole_law : CopiesEnd → CallsStaySound → (v : View) (lines : List Statement) → All IsNoSubmit lines → IsSound v → AreWhole v lines (answers v (calls_in v lines)).0
-lines_whole_law ends stay v [] read sound = tt
-lines_whole_law ends stay v (line ∷ rest) read sound =
-    let own = calls_of v line in
-    let a = answers v own in
+lines_whole_law : CopiesEnd → (v : View) (lines : List Statement) → All IsNoSubmit lines → IsSound v → AreWhole v lines (answers v (calls_in v lines)).0
+lines_whole_law ends v [] read sound = tt
+lines_whole_law ends v (line ∷ rest) read sound =
     let w = view_after v line in
-    let next : IsSound w = (stay v w own a.0 (line_made_law v line (All-head IsNoSubmit line rest read)) sound (answers_are_answers v own)).0 in (
+    let next : IsSound w = line_sound v line (All-head IsNoSubmit line rest read) sound in (
       subst (λ (r : List Reply). IsWhole line r) (sym (first_replies v line rest)) (line_whole ends v line sound),
-      subst (λ (r : List Reply). AreWhole w rest r) (sym (later_replies v line rest)) (lines_whole_law ends stay w rest (All-tail IsNoSubmit line rest read) next),
+      subst (λ (r : List Reply). AreWhole w rest r) (sym (later_replies v line rest)) (lines_whole_law ends w rest (All-tail IsNoSubmit line rest read) next),
     )
 
-pub copies_are_whole : CopiesEnd → NewViewsAreSound → CallsStaySound → CopiesAreWhole
-copies_are_whole ends opens stay input script replies left read served made =
+pub copies_are_whole : CopiesEnd → CopiesAreWhole
+copies_are_whole ends input script replies left read served made =
     let v = opening_of script in
     let cs = script_calls script in
-    let within = script_within input script read in
-    let sound : IsSound v = opens script.size script.channels (can_be_made script within.0) in
     subst (λ (x : List Reply × View). AreWhole v script.statements x.0) (sym (answers_unless_no_memory v left cs replies served made))
-    (lines_whole_law ends stay v script.statements within.1 sound)
+    (lines_whole_law ends v script.statements (script_within input script read).1 (opening_sound input script read))

@@ -3,6 +3,7 @@ pub mod Printed
 pub mod Transfers
 pub mod Run
 pub mod Left
+pub mod Raced
 pub mod Assembled
 pub mod Disassembled
 pub mod Planned

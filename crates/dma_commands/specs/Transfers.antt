@@ -1,15 +1,14 @@
 -- The transfer that a script line describes.
-use Rattle.std.specs.Prelude.{ℕ, false, List, Option}
+use Rattle.std.specs.Prelude.{ℕ, List, Option}
 use Rattle.dma_mem.specs.declared.segment.Segment.{Segment}
-use Rattle.dma_mem.specs.Places.{Descriptor, filling}
+use Rattle.dma_mem.specs.Places.{Descriptor, copying, filling}
 use Rattle.dma_script.specs.declared.transfer_line.Origin.{Origin}
 use Rattle.dma_script.specs.declared.transfer_line.Origin.TheVariants as origins
 use Rattle.dma_script.specs.declared.transfer_line.TransferLine.{TransferLine}
 
 -- a copy from a list of segments, or a fill with the byte at one address
 abbrev pub transfer_from : Origin → List Segment → Option ℕ → Option ℕ → Descriptor
-transfer_from (origins.List src) dst wait signal =
-    record { fill = false; src = src; dst = dst; wait = wait; signal = signal }
+transfer_from (origins.List src) dst wait signal = copying src dst wait signal
 transfer_from (origins.Place src) dst wait signal = filling src dst wait signal
 
 -- the transfer of a line

@@ -1,28 +1,31 @@
 -- What the lines and the turns of a race do.
-use Rattle.std.proofs.Common.{◌≡◌, ℕ, ◌+◌, ◌≤◌, List, [], ◌∷◌, ◌++◌, drop, length, length-append, map, Ok, refl, ap, sym, subst, ◌∙◌, arith, append-nil, append_assoc}
+use Rattle.std.proofs.Common.{◌≡◌, ℕ, ◌+◌, ◌≤◌, List, [], ◌∷◌, ◌++◌, drop, length, length-append, map, Result, Ok, Err, inl, refl, ap, sym, subst, ◌∙◌, arith, append-nil, append_assoc}
 use Rattle.std.specs.List.{sum, sum_by}
 use Rattle.std.proofs.Math.Seq.{drop-append_seam, take-append_seam}
 use Rattle.std.proofs.lemmas.List.{map-append}
 use Rattle.std.proofs.lemmas.List.Sums.{sum_by-cons}
-use Rattle.dma_mem.specs.declared.call.Call.TheVariants as calls
-use Rattle.dma_engine.specs.declared.call.Reply.{Reply}
-use Rattle.dma_engine.specs.declared.call.Reply.TheVariants.{Turned}
+use Rattle.dma_engine.specs.declared.fault.EngineFault.{EngineFault}
+use Rattle.dma_engine.specs.declared.turn.Turn.{Turn}
 use Rattle.dma_engine.specs.declared.turn.Turn.TheVariants.{Moved, Finished}
-use Rattle.dma_engine.specs.Answer.{answer, answers}
+use Rattle.dma_engine.specs.Interleaved.{JobTurn, turns_taken}
+use Rattle.dma_engine.specs.Turn.{Stepped, finishes_in, steps_in, turn}
 use Rattle.dma_engine.specs.View.{View}
 use Rattle.dma_script.specs.Command.{printed_text, text_of}
 use Rattle.dma_script.specs.Interpreted.{ActsInTurn, PrintsLines}
+use Rattle.dma_script.specs.Race.{race_script_of}
+use Rattle.dma_script.specs.declared.fault.Fault.{Fault}
 use Rattle.dma_script.specs.declared.race.RaceScript.{RaceScript}
 use Rattle.dma_script.specs.declared.statements.Statement.{Statement}
 use Rattle.dma_script.proofs.InterpretedLemmas.{printed_text_append}
-use Rattle.dma_commands.specs.Left.{lines_left}
+use Rattle.dma_commands.specs.Left.{lines_left, view_after}
+use Rattle.dma_commands.specs.Raced.{EarlyPrints, first_view, from_go, go_line, race_prints_of, whole}
 use Rattle.dma_commands.specs.Run.{line_answer, lines_answered}
-use Rattle.dma_seeds.specs.declared.turns.RaceTurn.{RaceTurn}
-use Rattle.dma_seeds.specs.Race.{before_go, finishes_in, from_go, go_line, raced, start_of, step_calls, steps_in}
+use Rattle.dma_seeds.specs.Race.{SeedsAreRaces, early_lines, race_printed_of, raced}
 use Rattle.dma_seeds.specs.Seeds.{text_from_go}
 use Rattle.dma_seeds.specs.Turns.{turns_of_seed}
 use Rattle.dma_seeds.specs.inner.Measured.{Prints, lengths_of, pieces}
 use Rattle.dma_seeds.specs.inner.Started.{IsStarted}
+use Rattle.dma_seeds.proofs.TurnLemmas.{seeds_interleave_law}
 
 -- ---- lines that were measured
 
@@ -67,36 +70,38 @@ measured_left seen lengths lines found left old new done =
 
 -- The first turns were taken, from one view to another, and some are left. What all of them do is what the first did
 -- and what the others will do.
-pub record TookSome (v : View) (turns : List RaceTurn) (w : View) (rest : List RaceTurn) (steps finished : ℕ) : Type 0 where
-  pub left : (answers v (step_calls turns)).1 ≡ (answers w (step_calls rest)).1
-  pub steps_are : sum_by steps_in (answers v (step_calls turns)).0 ≡ steps + sum_by steps_in (answers w (step_calls rest)).0
-  pub finished_are :
-      sum_by finishes_in (answers v (step_calls turns)).0 ≡ finished + sum_by finishes_in (answers w (step_calls rest)).0
+pub record TookSome (v : View) (turns : List JobTurn) (w : View) (rest : List JobTurn) (steps finished : ℕ) : Type 0 where
+  pub left : (turns_taken v turns).1 ≡ (turns_taken w rest).1
+  pub steps_are : sum_by steps_in (turns_taken v turns).0 ≡ steps + sum_by steps_in (turns_taken w rest).0
+  pub finished_are : sum_by finishes_in (turns_taken v turns).0 ≡ finished + sum_by finishes_in (turns_taken w rest).0
   pub few : steps + length rest ≤ length turns
   pub fewer : finished ≤ steps
 
--- a reply counts at most one step, and a finish only with a step
-counts : (r : Reply) → (finishes_in r ≤ steps_in r) × (steps_in r ≤ 1)
-counts (Turned Moved) = (omega arith, omega arith)
-counts (Turned (Finished cookie result residue)) = (omega arith, omega arith)
+-- a result counts at most one step, and a finish only with a step
+counts : (r : Result Turn EngineFault) → (finishes_in r ≤ steps_in r) × (steps_in r ≤ 1)
+counts (Ok Moved) = (omega arith, omega arith)
+counts (Ok (Finished cookie result residue)) = (omega arith, omega arith)
 counts _ = (omega arith, omega arith)
 
-one_more : (w x : View) (turn : RaceTurn) (left : List RaceTurn) (reply : Reply) → (reply, x) ≡ answer w (calls.Step turn.channel) → answers w (step_calls (turn ∷ left)) ≡ (reply ∷ (answers x (step_calls left)).0, (answers x (step_calls left)).1)
-one_more w x turn left reply is =
-    ap (λ (a : Reply × View). (a.0 ∷ (answers a.1 (step_calls left)).0, (answers a.1 (step_calls left)).1)) (sym is)
+abbrev Taken : Type 0
+Taken = List (Result Turn EngineFault) × View
 
-pub took_none : (v : View) (turns : List RaceTurn) → TookSome v turns v turns 0 0
+one_more : (w x : View) (t : JobTurn) (left : List JobTurn) (r : Result Turn EngineFault) → (r, x) ≡ turn w t.channel → turns_taken w (t ∷ left) ≡ (r ∷ (turns_taken x left).0, (turns_taken x left).1)
+one_more w x t left r is =
+    ap {B = Taken} (λ (a : Stepped). (a.0 ∷ (turns_taken a.1 left).0, (turns_taken a.1 left).1)) (sym is)
+
+pub took_none : (v : View) (turns : List JobTurn) → TookSome v turns v turns 0 0
 took_none v turns = record { left = refl; steps_are = omega arith; finished_are = omega arith; few = omega arith; fewer = omega arith }
 
-pub took_more : (v w x : View) (turns rest left : List RaceTurn) (turn : RaceTurn) (steps finished steps' finished' : ℕ) (reply : Reply) → TookSome v turns w rest steps finished → rest ≡ turn ∷ left → (reply, x) ≡ answer w (calls.Step turn.channel) → steps' ≡ steps + steps_in reply → finished' ≡ finished + finishes_in reply → TookSome v turns x left steps' finished'
-took_more v w x turns rest left turn steps finished steps' finished' reply took split is more ends =
-    let next = ap (λ l. answers w (step_calls l)) split ∙ one_more w x turn left reply is in
-    let many = counts reply in
-    let after = (answers x (step_calls left)).0 in
+pub took_more : (v w x : View) (turns rest left : List JobTurn) (t : JobTurn) (steps finished steps' finished' : ℕ) (r : Result Turn EngineFault) → TookSome v turns w rest steps finished → rest ≡ t ∷ left → (r, x) ≡ turn w t.channel → steps' ≡ steps + steps_in r → finished' ≡ finished + finishes_in r → TookSome v turns x left steps' finished'
+took_more v w x turns rest left t steps finished steps' finished' r took split is more ends =
+    let next = ap (turns_taken w) split ∙ one_more w x t left r is in
+    let many = counts r in
+    let after = (turns_taken x left).0 in
     record {
-      left = took.left ∙ ap (λ (a : List Reply × View). a.1) next;
-      steps_are = omega (arith, took.steps_are, ap (λ (a : List Reply × View). sum_by steps_in a.0) next, sum_by-cons steps_in reply after, more);
-      finished_are = omega (arith, took.finished_are, ap (λ (a : List Reply × View). sum_by finishes_in a.0) next, sum_by-cons finishes_in reply after, ends);
+      left = took.left ∙ ap (λ (a : Taken). a.1) next;
+      steps_are = omega (arith, took.steps_are, ap (λ (a : Taken). sum_by steps_in a.0) next, sum_by-cons steps_in r after, more);
+      finished_are = omega (arith, took.finished_are, ap (λ (a : Taken). sum_by finishes_in a.0) next, sum_by-cons finishes_in r after, ends);
       few = omega (arith, took.few, ap length split, many.1, more);
       fewer = omega (arith, took.fewer, many.0, more, ends);
     }
@@ -143,17 +148,17 @@ pub lengths_fit : (groups : List (List (List ℕ))) (text lengths : List ℕ) �
 lengths_fit groups text lengths p = omega (arith, ap sum p.measured, ap length p.appended, lengths_add groups)
 
 -- what is printed from `go` on, in the words of the script
-started_from : (script : RaceScript) (seed : ℕ) (v : View) (turns : List RaceTurn) (after : List Statement) → IsStarted script seed v turns after → from_go v turns after ≡ from_go (lines_left (start_of script) script.before.statements) (turns_of_seed script.jobs seed) script.after
+started_from : (script : RaceScript) (seed : ℕ) (v : View) (turns : List JobTurn) (after : List Statement) → IsStarted script seed v turns after → from_go v turns after ≡ from_go (view_after script.before) (turns_of_seed script.jobs seed) script.after
 started_from script seed v turns after started = rw (started.view, started.turns_are, started.after_is) refl
 
 -- a race prints what its lines before `go` print, and then the rest
-pub raced_in_parts : (script : RaceScript) (seed : ℕ) (v : View) (turns : List RaceTurn) (after : List Statement) (a b c l m n : List ℕ) → IsStarted script seed v turns after → Prints (before_go script) a b l m → Prints (from_go v turns after) b c m n → Prints (raced script (turns_of_seed script.jobs seed)).groups a c l n
+pub raced_in_parts : (script : RaceScript) (seed : ℕ) (v : View) (turns : List JobTurn) (after : List Statement) (a b c l m n : List ℕ) → IsStarted script seed v turns after → Prints ([] ∷ early_lines script) a b l m → Prints (from_go v turns after) b c m n → Prints (raced script (turns_of_seed script.jobs seed)).groups a c l n
 raced_in_parts script seed v turns after a b c l m n started first last =
-    subst (λ (g : List (List (List ℕ))). Prints (before_go script ++ g) a c l n) (started_from script seed v turns after started)
-    (prints_both (before_go script) (from_go v turns after) a b c l m n first last)
+    subst (λ (g : List (List (List ℕ))). Prints ([] ∷ early_lines script ++ g) a c l n) (started_from script seed v turns after started)
+    (prints_both ([] ∷ early_lines script) (from_go v turns after) a b c l m n first last)
 
 -- the memory line prints nothing
-pub started_prints : (script : RaceScript) (v : View) (a c l m n : List ℕ) → v ≡ start_of script → m ≡ l ++ 0 ∷ [] → Prints (lines_answered v script.before.statements) a c m n → Prints (before_go script) a c l n
+pub started_prints : (script : RaceScript) (v : View) (a c l m n : List ℕ) → v ≡ first_view script → m ≡ l ++ 0 ∷ [] → Prints (lines_answered v script.before.statements) a c m n → Prints ([] ∷ early_lines script) a c l n
 started_prints script v a c l m n view first rest =
     subst (λ (x : View). Prints ([] ∷ lines_answered x script.before.statements) a c l n) view
     (record {
@@ -163,11 +168,26 @@ started_prints script v a c l m n view first rest =
     })
 
 -- the line of `go`, and then the lines after it
-pub go_and_after : (v w : View) (turns : List RaceTurn) (after : List Statement) (a b c l m n : List ℕ) → w ≡ (answers v (step_calls turns)).1 → Prints ((go_line (answers v (step_calls turns)).0 ∷ []) ∷ []) a b l m → Prints (lines_answered w after) b c m n → Prints (from_go v turns after) a c l n
+pub go_and_after : (v w : View) (turns : List JobTurn) (after : List Statement) (a b c l m n : List ℕ) → w ≡ (turns_taken v turns).1 → Prints ((go_line (turns_taken v turns).0 ∷ []) ∷ []) a b l m → Prints (lines_answered w after) b c m n → Prints (from_go v turns after) a c l n
 go_and_after v w turns after a b c l m n left first last =
     prints_both _ _ a b c l m n first (subst (λ (x : View). Prints (lines_answered x after) b c m n) left last)
 
 -- what is printed from `go` on
-pub from_started : (script : RaceScript) (seed : ℕ) (v : View) (turns : List RaceTurn) (after : List Statement) (a c l n : List ℕ) → IsStarted script seed v turns after → a ≡ [] → Prints (from_go v turns after) a c l n → c ≡ text_from_go (Ok script) seed
+pub from_started : (script : RaceScript) (seed : ℕ) (v : View) (turns : List JobTurn) (after : List Statement) (a c l n : List ℕ) → IsStarted script seed v turns after → a ≡ [] → Prints (from_go v turns after) a c l n → c ≡ text_from_go (Ok script) seed
 from_started script seed v turns after a c l n started none p =
     p.appended ∙ ap (λ t. t ++ printed_text (from_go v turns after)) none ∙ ap printed_text (started_from script seed v turns after started)
+
+-- ---- what `dmasim race` may print
+
+early_acts : (v : View) (statements : List Statement) → ActsInTurn EarlyPrints statements v (lines_answered v statements) (lines_left v statements)
+early_acts v [] = refl
+early_acts v (s ∷ statements) = ((line_answer v s).1, inl refl, early_acts (line_answer v s).1 statements)
+
+may_print : (read : Result RaceScript Fault) (seed : ℕ) → race_prints_of read (race_printed_of read seed)
+may_print (Ok script) seed =
+    whole (early_lines script) (view_after script.before) (early_acts (first_view script) script.before.statements)
+    (turns_of_seed script.jobs seed) (seeds_interleave_law script.jobs seed) refl
+may_print (Err fault) seed = refl
+
+pub seeds_are_races : SeedsAreRaces
+seeds_are_races input seed = may_print (race_script_of input) seed

@@ -22,7 +22,7 @@ use Rattle.dma_script.specs.declared.statements.RunScript.{RunScript}
 use Rattle.dma_script.specs.declared.statements.Statement.{Statement}
 use Rattle.dma_script.specs.declared.statements.Statement.TheVariants as statements
 use Rattle.dma_script.proofs.Within.{race_script_within}
-use Rattle.dma_seeds.specs.declared.turns.RaceTurn.{RaceTurn}
+use Rattle.dma_engine.specs.Interleaved.{JobTurn}
 use Rattle.dma_seeds.specs.Script.{ScriptsAreRead, as_run, script_text_of, text_for, turn_line}
 use Rattle.dma_seeds.specs.Turns.{turns_of_seed}
 use Rattle.dma_seeds.proofs.TextLemmas.{ArePlain, lines_text, plain_append, text_of_append}
@@ -183,7 +183,7 @@ module _ (turns : List (List ℕ)) (steps : List Statement) (as_steps : ReadAsSt
 
 -- ---- step lines
 
-abbrev step_of : RaceTurn → Statement
+abbrev step_of : JobTurn → Statement
 step_of turn = statements.Step turn.channel 1
 
 -- a step of one of the first eight channels
@@ -202,13 +202,13 @@ turn_read : (ch : ℕ) → ch ≤ 7 → (b : RunScript) → (after_line run_step
 turn_read ch low b =
     subst (λ (digits : List ℕ). (after_line run_step (Some b) (codes "step " ++ digits) ≡ Ok (Some (record b { statements = b.statements ++ statements.Step ch 1 ∷ [] }))) × (list_all is_plain (codes "step " ++ digits) ≡ true)) (sym (decimal_digit ch (omega arith))) (digit_read ch low b)
 
-steps_read : (turns : List RaceTurn) → AreLow turns → ReadAsSteps (map turn_line turns) (map step_of turns)
+steps_read : (turns : List JobTurn) → AreLow turns → ReadAsSteps (map turn_line turns) (map step_of turns)
 steps_read [] low b = ap (λ s. Some (record b { statements = s })) (append-nil b.statements)
 steps_read (t ∷ turns) (low, rest) b =
     let one = record b { statements = b.statements ++ step_of t ∷ [] } in
     (Some one, (turn_read t.channel low b).0, subst (λ s. Reads (Some one) (map turn_line turns) (Some (record b { statements = s }))) (append_assoc b.statements (step_of t ∷ []) (map step_of turns)) (steps_read turns rest one))
 
-steps_plain : (turns : List RaceTurn) (b : RunScript) → AreLow turns → ArePlain (map turn_line turns)
+steps_plain : (turns : List JobTurn) (b : RunScript) → AreLow turns → ArePlain (map turn_line turns)
 steps_plain [] b low = tt
 steps_plain (t ∷ turns) b (low, rest) = ((turn_read t.channel low b).1, steps_plain turns b rest)
 

@@ -1,16 +1,19 @@
 -- The turns that are drawn for a seed.
-use Rattle.std.proofs.Common.{◌≡◌, ℕ, zero, suc, ◌+◌, ◌-◌, ◌%◌, ◌<◌, ◌≤◌, List, [], ◌∷◌, length, refl, ap, sym, ◌∙◌, subst, arith, inl, inr, map}
+use Rattle.std.proofs.Common.{◌≡◌, ℕ, zero, suc, ◌+◌, ◌-◌, ◌%◌, ◌<◌, ◌≤◌, List, [], ◌∷◌, ◌++◌, length, refl, ap, sym, ◌∙◌, subst, arith, inl, inr, map, add-one, append-nil, append_assoc}
+use Rattle.std.proofs.Math.Nat.{zero-mod}
 use Rattle.std.specs.Prelude.{if◌then◌else◌, nat_lt, slice_index_or, slice_set}
 use Rattle.std.specs.List.{All}
 use Rattle.std.proofs.lemmas.Bool.{cases_eq, cases_lt, cond_both, eq-eqb, lt-ltb, le-ltb, ltb-true, ne_eqb}
 use Rattle.std.proofs.lemmas.List.{get_or-map, get_or-set_other, get_or-set_same, get_or_past, length-map, set_past}
 use Rattle.std.proofs.lemmas.List.Sums.{get_or-le-sum_by, sum_by-cons, sum_by-set}
+use Rattle.dma_engine.specs.Interleaved.{JobTurn, channel_at, channels_of, rotation}
+use Rattle.dma_engine.proofs.Interleavings.{channel_again, channel_next}
+use Rattle.dma_commands.specs.Raced.{channels_of_line}
 use Rattle.dma_script.specs.Race.{IsJob}
 use Rattle.dma_script.specs.declared.race.JobLine.{JobLine}
-use Rattle.dma_seeds.specs.declared.turns.RaceTurn.{RaceTurn}
 use Rattle.dma_seeds.specs.declared.turns.TurnsLeft.{TurnsLeft}
 use Rattle.rand_xoshiro.specs.SplitMix64.{mix_u64}
-use Rattle.dma_seeds.specs.Turns.{after_turn, drawn, Interleaves, all_turns, channels_from, channels_of, following, job_at, next_word, no_turns, total_left, turns_of_seed}
+use Rattle.dma_seeds.specs.Turns.{SeedsInterleave, after_turn, all_turns, drawn, following, job_at, next_word, no_turns, total_left, turns_of_seed}
 
 -- ---- the job of a turn
 
@@ -43,7 +46,7 @@ unfolding drawn
 drawn_none state jobs = refl
 
 -- the last n + 1 turns, by the generator's word and its next state
-abbrev drawn_with : ℕ → List TurnsLeft → ℕ × ℕ → List RaceTurn
+abbrev drawn_with : ℕ → List TurnsLeft → ℕ × ℕ → List JobTurn
 drawn_with n jobs w =
     let k = job_at jobs (w.0 % suc n) in
     let job = slice_index_or jobs k no_turns in
@@ -70,6 +73,36 @@ length_drawn zero state jobs = refl
 length_drawn (suc n) state jobs = ap suc (length_drawn n _ _)
 
 -- ---- the turns of each job
+
+-- the channels of this many turns of a rotation, from a channel on
+abbrev channels_from : ℕ → ℕ → ℕ → ℕ → List ℕ
+channels_from first last ch zero = []
+channels_from first last ch (suc n) = ch ∷ channels_from first last (following first last ch) n
+
+follows : (first last k : ℕ) → following first last (channel_at first last k) ≡ channel_at first last (k + 1)
+follows first last k =
+    let ch = channel_at first last k in
+    elim (cases_lt ch last) [
+      | inl less ↦ rw (lt-ltb ch last less) (channel_next first last k ch refl less)
+      | inr past ↦ rw (le-ltb ch last past) (channel_again first last k ch refl past)
+    ]
+
+rotation_on : (first last k n : ℕ) → rotation first last k ++ channels_from first last (channel_at first last k) n ≡ rotation first last (k + n)
+rotation_on first last k zero =
+    let same : k ≡ k + 0 = omega arith in append-nil (rotation first last k) ∙ ap (rotation first last) same
+rotation_on first last k (suc n) =
+    let ch = channel_at first last k in
+    let same : suc k + n ≡ k + suc n = omega arith in
+    ap (λ c. rotation first last k ++ ch ∷ channels_from first last c n) (follows first last k ∙ ap (channel_at first last) (add-one k))
+    ∙ sym (append_assoc (rotation first last k) (ch ∷ []) (channels_from first last (channel_at first last (suc k)) n))
+    ∙ rotation_on first last (suc k) n ∙ ap (rotation first last) same
+
+-- a rotation from its first channel on
+rotation_is : (first last n : ℕ) → channels_from first last first n ≡ rotation first last n
+rotation_is first last n =
+    let at_first : first ≡ channel_at first last 0 = omega (arith, zero-mod (last - first + 1)) in
+    let same : 0 + n ≡ n = omega arith in
+    ap (λ c. channels_from first last c n) at_first ∙ rotation_on first last 0 n ∙ ap (rotation first last) same
 
 -- the channels that a job has left
 abbrev left_channels : TurnsLeft → List ℕ
@@ -111,14 +144,15 @@ drawn_each (suc n) state jobs k total =
           ∙ others ∙ ap left_channels (get_or-set_other jobs at k (after_turn job) no_turns (λ e. apart (sym e)))
     ]
 
+each_line : (lines : List JobLine) (k : ℕ) → left_channels (slice_index_or (map all_turns lines) k no_turns) ≡ slice_index_or (map channels_of_line lines) k []
+each_line [] k = refl
+each_line (line ∷ lines) zero = rotation_is line.first line.last line.turns
+each_line (line ∷ lines) (suc k) = each_line lines k
+
 -- The turns for a seed are an interleaving of the jobs' turns.
-pub seeds_interleave_law : (lines : List JobLine) (seed : ℕ) → Interleaves lines (turns_of_seed lines seed)
-seeds_interleave_law lines seed =
-    let jobs = map all_turns lines in
-    record {
-      each = λ k j less. drawn_each (total_left jobs) seed jobs k refl ∙ ap left_channels (get_or-map all_turns lines k j no_turns less);
-      no_others = λ k past. drawn_each (total_left jobs) seed jobs k refl ∙ ap left_channels (get_or_past jobs k no_turns (omega (arith, past, length-map lines all_turns)));
-    }
+pub seeds_interleave_law : SeedsInterleave
+seeds_interleave_law lines seed k =
+    let jobs = map all_turns lines in drawn_each (total_left jobs) seed jobs k refl ∙ each_line lines k
 
 -- ---- the channels
 
@@ -127,7 +161,7 @@ abbrev IsLow : TurnsLeft → Type 0
 IsLow t = (t.first ≤ 7) × (t.last ≤ 7) × (t.next ≤ 7)
 
 -- the channels of turns are at most the last one
-abbrev pub AreLow : List RaceTurn → Type 0
+abbrev pub AreLow : List JobTurn → Type 0
 AreLow [] = Unit {0}
 AreLow (t ∷ turns) = (t.channel ≤ 7) × AreLow turns
 

@@ -8,8 +8,8 @@ use Rattle.dma_script.specs.Printing.{fault_line}
 use Rattle.dma_script.specs.Race.{race_script_of}
 use Rattle.dma_script.specs.declared.fault.Fault.{Fault}
 use Rattle.dma_script.specs.declared.race.RaceScript.{RaceScript}
-use Rattle.dma_commands.specs.Left.{lines_left}
-use Rattle.dma_seeds.specs.Race.{from_go, start_of}
+use Rattle.dma_commands.specs.Left.{view_after}
+use Rattle.dma_commands.specs.Raced.{from_go}
 use Rattle.dma_seeds.specs.Expect.{is_good, verdict, verdict_text, without_expects}
 use Rattle.dma_seeds.specs.Turns.{turns_of_seed}
 use Rattle.dma_seeds.specs.declared.expect.Verdict.{Verdict}
@@ -21,7 +21,7 @@ use Rattle.dma_seeds.specs.declared.seeds.SeedsVerdict.{SeedsVerdict}
 -- what a parsed script prints for a seed from the line of `go` on; nothing for a script with a fault
 abbrev pub text_from_go : Result RaceScript Fault → ℕ → List ℕ
 text_from_go (Ok script) seed =
-    printed_text (from_go (lines_left (start_of script) script.before.statements) (turns_of_seed script.jobs seed) script.after)
+    printed_text (from_go (view_after script.before) (turns_of_seed script.jobs seed) script.after)
 text_from_go (Err fault) seed = []
 
 -- whether a seed gives a text that no seed from `first` up to the one before it gives

@@ -1,9 +1,10 @@
 -- The order in which the turns of a race's jobs are taken for a seed (profile).
-use Rattle.std.specs.Prelude.{◌≡◌, ◌==◌, ◌<◌, ◌≤◌, ℕ, ◌+◌, ◌-◌, ◌%◌, zero, suc, nat_lt, length, if◌then◌else◌, List, [], ◌∷◌, map, slice_index_or, slice_set}
+use Rattle.std.specs.Prelude.{ℕ, ◌+◌, ◌-◌, ◌%◌, zero, suc, nat_lt, if◌then◌else◌, List, [], ◌∷◌, map, slice_index_or, slice_set}
 use Rattle.std.specs.List.{sum_by}
+use Rattle.dma_engine.specs.Interleaved.{Interleaves, JobTurn}
 use Rattle.dma_script.specs.declared.race.JobLine.{JobLine}
+use Rattle.dma_commands.specs.Raced.{channels_of_line}
 use Rattle.rand_xoshiro.specs.SplitMix64.{mix_u64}
-use Rattle.dma_seeds.specs.declared.turns.RaceTurn.{RaceTurn}
 use Rattle.dma_seeds.specs.declared.turns.TurnsLeft.{TurnsLeft}
 
 -- the channel after this one in a rotation: the next one, and the first after the last
@@ -37,7 +38,7 @@ next_word state = mix_u64 state
 
 -- The last n turns, with a generator in this state. The generator's next word, modulo n, is the place of a turn among
 -- those that are left, listed job by job. The next turn is the next one of that turn's job.
-unfoldable pub drawn : ℕ → ℕ → List TurnsLeft → List RaceTurn
+unfoldable pub drawn : ℕ → ℕ → List TurnsLeft → List JobTurn
 drawn zero state jobs = []
 drawn (suc n) state jobs =
     let word = next_word state in
@@ -46,30 +47,9 @@ drawn (suc n) state jobs =
     record { job = k; channel = job.next } ∷ drawn n word.1 (slice_set jobs k (after_turn job))
 
 -- The turns of these jobs, in the order that a seed determines: the seed is the first state of the generator.
-abbrev pub turns_of_seed : List JobLine → ℕ → List RaceTurn
+abbrev pub turns_of_seed : List JobLine → ℕ → List JobTurn
 turns_of_seed lines seed = let jobs = map all_turns lines in drawn (total_left jobs) seed jobs
-
--- ---- what these turns are
-
--- the channels of this many turns of a rotation, from a channel on
-abbrev pub channels_from : ℕ → ℕ → ℕ → ℕ → List ℕ
-channels_from first last ch zero = []
-channels_from first last ch (suc n) = ch ∷ channels_from first last (following first last ch) n
-
--- the channels of a job's turns, in order
-abbrev pub channels_of_job : JobLine → List ℕ
-channels_of_job job = channels_from job.first job.last job.first job.turns
-
--- the channels that the turns of one job step, in order
-abbrev pub channels_of : ℕ → List RaceTurn → List ℕ
-channels_of k [] = []
-channels_of k (turn ∷ turns) = if turn.job == k then turn.channel ∷ channels_of k turns else channels_of k turns
-
--- The turns are an interleaving of the jobs' turns: job k takes its own in their order, and there are no others.
-pub record Interleaves (jobs : List JobLine) (turns : List RaceTurn) : Type 0 where
-  pub each : (k : ℕ) (j : JobLine) → k < length jobs → channels_of k turns ≡ channels_of_job (slice_index_or jobs k j)
-  pub no_others : (k : ℕ) → length jobs ≤ k → channels_of k turns ≡ []
 
 -- For each seed, the turns are an interleaving of the jobs' turns.
 abbrev pub SeedsInterleave : Type 0
-SeedsInterleave = (jobs : List JobLine) (seed : ℕ) → Interleaves jobs (turns_of_seed jobs seed)
+SeedsInterleave = (jobs : List JobLine) (seed : ℕ) → Interleaves (map channels_of_line jobs) (turns_of_seed jobs seed)

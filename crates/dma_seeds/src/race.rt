@@ -1,18 +1,20 @@
 //! A race whose turns are taken in the order that a seed determines.
 
-ghost use Rattle.std.specs.Prelude.{◌≡◌, ◌+◌, ◌<◌, ◌++◌, ◌∷◌, [], IfOk, OnErr, OnOk};
+ghost use Rattle.std.specs.Prelude.{◌≡◌, ◌+◌, ◌<◌, ◌++◌, ◌∷◌, [], IfOk, OnErr, OnOk, codes, decimal};
 ghost use Rattle.std.specs.List.{sum_by};
 ghost use Rattle.std.specs.Str.Lines.{lines};
-ghost use Rattle.dma_engine.specs.Answer.{answer, answers, reply_of};
+ghost use Rattle.dma_engine.specs.Interleaved.{turns_taken};
+ghost use Rattle.dma_engine.specs.Turn.{finishes_in, steps_in, turn};
 ghost use Rattle.dma_engine.specs.View.{new_view};
 ghost use Rattle.dma_script.specs.Command.{printed_text};
 ghost use Rattle.dma_script.specs.Race.{IsRace};
 ghost use Rattle.dma_script.specs.Statements.{IsWithin};
 ghost use Rattle.dma_commands.specs.Left.{lines_left};
+ghost use Rattle.dma_commands.specs.Raced.{first_view, from_go, go_line};
 ghost use Rattle.dma_commands.specs.Run.{line_answer, lines_answered};
 ghost use Rattle.dma_seeds.specs.Expect.{lines_verdict, verdict, without_expects};
 ghost use Rattle.dma_seeds.specs.Turns.{turns_of_seed};
-ghost use Rattle.dma_seeds.specs.Race.{before_go, finishes_in, from_go, go_line, go_text, race_printed, raced, start_of, step_calls, steps_in};
+ghost use Rattle.dma_seeds.specs.Race.{early_lines, race_printed, raced};
 ghost use Rattle.dma_seeds.specs.inner.Measured.{Prints};
 ghost use Rattle.dma_seeds.specs.inner.Started.{IsStarted};
 
@@ -97,10 +99,8 @@ impl Totals {
     fn count(&mut self, turned: Result<Turn, EngineFault>)
         requires steps { self.old.steps < u64.MAX }
         requires finished { self.old.finished < u64.MAX }
-        ensures steps { self.new.steps
-            ≡ self.old.steps + steps_in (reply_of (λ turn. Reply.Turned turn) turned) }
-        ensures finished { self.new.finished
-            ≡ self.old.finished + finishes_in (reply_of (λ turn. Reply.Turned turn) turned) }
+        ensures steps { self.new.steps ≡ self.old.steps + steps_in turned }
+        ensures finished { self.new.finished ≡ self.old.finished + finishes_in turned }
     {
         match turned {
             Ok(Turn::Moved) => self.steps += 1,
@@ -115,8 +115,7 @@ impl Totals {
 
 /// Takes one turn, a step of a channel, and returns its result. Fails if memory runs out.
 fn take_turn(engine: &mut Engine, ch: u8) -> Result<Result<Turn, EngineFault>, AllocError>
-    ensures { IfOk result (λ turned. (reply_of (λ turn. Reply.Turned turn) turned, engine.new.view)
-        ≡ answer engine.old.view (Call.Step ch)) }
+    ensures { IfOk result (λ turned. (turned, engine.new.view) ≡ turn engine.old.view ch) }
 {
     match engine.step(ch) {
         Err(EngineFault::NoMemory) => Err(AllocError),
@@ -126,12 +125,11 @@ fn take_turn(engine: &mut Engine, ch: u8) -> Result<Result<Turn, EngineFault>, A
 
 /// Takes the turns one after another. Fails if memory runs out.
 fn take_turns(engine: &mut Engine, turns: Turns) -> Result<Totals, AllocError>
-    ensures left { OnOk result
-        (engine.new.view ≡ (answers engine.old.view (step_calls turns)).1) }
+    ensures left { OnOk result (engine.new.view ≡ (turns_taken engine.old.view turns).1) }
     ensures steps { IfOk result (λ totals. totals.steps
-        ≡ sum_by steps_in (answers engine.old.view (step_calls turns)).0) }
+        ≡ sum_by steps_in (turns_taken engine.old.view turns).0) }
     ensures finished { IfOk result (λ totals. totals.finished
-        ≡ sum_by finishes_in (answers engine.old.view (step_calls turns)).0) }
+        ≡ sum_by finishes_in (turns_taken engine.old.view turns).0) }
 {
     let mut turns = turns;
     // gives the proof the range of the number
@@ -163,7 +161,7 @@ fn opened(
     seed: u64,
 ) -> Result<(MeasuredEngine, Turns), AllocError>
     requires { IsRace script.now }
-    ensures view { IfOk result (λ opened. opened.0.engine.view ≡ start_of script.now) }
+    ensures view { IfOk result (λ opened. opened.0.engine.view ≡ first_view script.now) }
     ensures lengths { IfOk result (λ opened. opened.0.lengths.items ≡ 0 ∷ []) }
     ensures turns { IfOk result (λ opened. opened.1 ≡ turns_of_seed script.now.jobs seed) }
 {
@@ -183,7 +181,7 @@ pub(crate) fn start(
     requires { IsRace script }
     ensures race { IfOk result
         (λ race. IsStarted script seed race.measured.engine.view race.turns race.after) }
-    ensures text { IfOk result (λ race. Prints (before_go script)
+    ensures text { IfOk result (λ race. Prints ([] ∷ early_lines script)
         out.old.items out.new.items [] race.measured.lengths.items) }
 {
     let (measured, turns) = opened(alloc, &script, seed)?;
@@ -208,7 +206,8 @@ pub(crate) fn start(
 
 /// Appends the line of `go`, and its length. Fails if memory runs out.
 fn print_go(totals: Totals, out: &mut Vec<u8>, lengths: &mut Vec<usize>) -> Result<(), AllocError>
-    ensures { OnOk result (Prints ((go_text totals.steps totals.finished ∷ []) ∷ [])
+    ensures { OnOk result (Prints (((codes "go steps " ++ decimal totals.steps
+        ++ codes " finished " ++ decimal totals.finished) ∷ []) ∷ [])
         out.old.items out.new.items lengths.old.items lengths.new.items) }
 {
     let start = out.len();
@@ -224,9 +223,9 @@ impl MeasuredEngine {
     /// Takes the turns one after another, and appends the line of `go` and its length. Fails if memory runs out.
     fn go(&mut self, turns: Turns, out: &mut Vec<u8>) -> Result<(), AllocError>
         ensures left { OnOk result (self.new.engine.view
-            ≡ (answers self.old.engine.view (step_calls turns)).1) }
+            ≡ (turns_taken self.old.engine.view turns).1) }
         ensures text { OnOk result
-            (Prints ((go_line (answers self.old.engine.view (step_calls turns)).0 ∷ []) ∷ [])
+            (Prints ((go_line (turns_taken self.old.engine.view turns).0 ∷ []) ∷ [])
             out.old.items out.new.items self.old.lengths.items self.new.lengths.items) }
     {
         let totals = take_turns(&mut self.engine, turns)?;

@@ -77,10 +77,10 @@ pub struct Turns {
 
 impl Model for Turns {
     ghost use Rattle.std.specs.Prelude.{◌≡◌, List};
-    ghost use Rattle.dma_seeds.specs.declared.turns.RaceTurn.{RaceTurn};
+    ghost use Rattle.dma_engine.specs.Interleaved.{JobTurn};
     ghost use Rattle.dma_seeds.specs.Turns.{drawn, total_left};
 
-    ghost Value = { List RaceTurn };
+    ghost Value = { List JobTurn };
 
     ghost view = { λ t. drawn t.left t.rng t.jobs.items };
 
@@ -132,7 +132,7 @@ impl Turns {
     /// Takes the next turn, or returns `None` if none is left.
     pub fn next(&mut self) -> Option<RaceTurn>
         ensures { MatchOption result ((self.old ≡ []) × (self.new ≡ []))
-            (λ turn. self.old ≡ turn ∷ self.new) }
+            (λ turn. self.old ≡ record { job = turn.job; channel = turn.channel } ∷ self.new) }
     {
         if self.left == 0 {
             return None;

@@ -1,4 +1,4 @@
-//! The example of the README.
+//! A copy of four bytes, step by step.
 
 use dma_engine::{Engine, Status};
 use dma_mem::segment::Segment;

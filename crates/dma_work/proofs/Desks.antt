@@ -17,10 +17,10 @@ use Rattle.dma_engine.specs.declared.entry.Entry.{Entry}
 use Rattle.dma_engine.specs.declared.fault.EngineFault.{EngineFault}
 use Rattle.dma_engine.specs.declared.turn.Turn.{Turn}
 use Rattle.dma_engine.specs.Answer.{CallAnswers, StepAnswers, checkpoint_fault, checkpointed, reply_of}
-use Rattle.dma_engine.specs.Laws.{Adds, IsQuiet, steps_in, finishes_in, ticks_in}
+use Rattle.dma_engine.specs.Laws.{Adds, IsQuiet, ticks_in}
 use Rattle.dma_engine.specs.Object.{Object, channel, empty_channel, forget, used}
 use Rattle.dma_engine.specs.Ticks.{Tick, Submitted, Finished, Board, Counts, added_up, board_after, board_of, counts, counts_of, no_counts, tick_channel, ticked, ticks_of}
-use Rattle.dma_engine.specs.Turn.{ends, turn}
+use Rattle.dma_engine.specs.Turn.{ends, finishes_in, steps_in, turn}
 use Rattle.dma_engine.specs.View.{EngineState, IsSound, View, channels, object_of, size}
 use Rattle.dma_engine.proofs.CallLists.{answers_extend, quiet_extends}
 use Rattle.dma_engine.proofs.AnswerCounts.{quiet_calls_keep_counts, steps_add, ends_as_reported}

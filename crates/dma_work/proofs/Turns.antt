@@ -1,9 +1,10 @@
 -- The turns of a worker, at its lender and at one of which nothing is known.
 use Rattle.std.proofs.Common.{◌≡◌, ℕ, ◌+◌, List, [], ◌∷◌, ap, ◌∙◌, subst, zero-add}
+use Rattle.dma_engine.specs.Interleaved.{rotation}
 use Rattle.dma_engine.specs.View.{View}
 use Rattle.dma_work.specs.declared.job.Job.{Job}
 use Rattle.dma_work.specs.Desk.{DeskState, TakesAStep, TallyCounts, WorkerState, new_tally}
-use Rattle.dma_work.specs.Rotation.{StepsInTurn, rotation}
+use Rattle.dma_work.specs.Rotation.{StepsInTurn}
 use Rattle.dma_work.specs.Tallies.{TookTurns, TookTurnsAt, any_desk}
 
 module _ {L : Type 0} (opening : View) (passes : ℕ → ℕ → Type 0) (lends : L → DeskState → DeskState → L → Type 0) where

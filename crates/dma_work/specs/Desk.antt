@@ -4,9 +4,9 @@ use Rattle.std.specs.List.{sum_by}
 use Rattle.logbook.specs.Pages.{Book}
 use Rattle.dma_mem.specs.declared.call.Call.{Call}
 use Rattle.dma_engine.specs.Answer.{CallAnswers, StepAnswers}
-use Rattle.dma_engine.specs.Laws.{steps_in, finishes_in}
 use Rattle.dma_engine.specs.Object.{finished_all}
 use Rattle.dma_engine.specs.Ticks.{Board, Tick, ticks_of}
+use Rattle.dma_engine.specs.Turn.{finishes_in, steps_in}
 use Rattle.dma_engine.specs.View.{EngineState, IsSound, View, channels, memory_of, object_of, size}
 use Rattle.dma_engine.specs.declared.call.Reply.{Reply}
 use Rattle.dma_engine.specs.declared.fault.EngineFault.{EngineFault}

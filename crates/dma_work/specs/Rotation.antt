@@ -1,14 +1,6 @@
--- Which channels a worker steps, and in which order.
-use Rattle.std.specs.Prelude.{◌≡◌, ◌<◌, ◌≤◌, ℕ, ◌+◌, ◌-◌, ◌%◌, zero, suc, List, [], ◌∷◌, ◌++◌, length, slice_index}
-
--- the channel of turn k, where turns count from 0: the first channel up to the last one, over and over
-abbrev pub channel_at : ℕ → ℕ → ℕ → ℕ
-channel_at first last k = first + k % (last + 1 - first)
-
--- the channels of this number of turns, in order
-abbrev pub rotation : ℕ → ℕ → ℕ → List ℕ
-rotation first last zero = []
-rotation first last (suc n) = rotation first last n ++ channel_at first last n ∷ []
+-- The channels that a worker steps, and their order.
+use Rattle.std.specs.Prelude.{◌≡◌, ◌<◌, ◌≤◌, ℕ, ◌+◌, List, [], ◌∷◌, length, slice_index}
+use Rattle.dma_engine.specs.Interleaved.{channel_at, rotation}
 
 -- These channels were acted on, one after another, and nothing else was done.
 abbrev pub StepsInTurn : {S : Type 0} → (S → ℕ → S → Type 0) → List ℕ → S → S → Type 0

@@ -1,18 +1,20 @@
 -- A desk that works on jobs.
-use Rattle.std.specs.Prelude.{◌≡◌, ℕ, ◌+◌, ◌<◌, Result, List, map, length, slice_index_or, slice_set}
-use Rattle.std.specs.List.{All}
-use Rattle.dma_engine.specs.Answer.{StepAnswers}
-use Rattle.dma_engine.specs.declared.fault.EngineFault.{EngineFault}
-use Rattle.dma_engine.specs.declared.turn.Turn.{Turn}
+use Rattle.std.specs.Prelude.{◌≡◌, ℕ, ◌+◌, ◌<◌, ◌⊎◌, Bool, true, false, List, map, length, slice_index_or, slice_set}
+use Rattle.std.specs.List.{All, sum_by}
+use Rattle.dma_engine.specs.Interleaved.{Interleaves, JobTurn, channel_at, rotation, turns_taken}
+use Rattle.dma_engine.specs.Turn.{finishes_in, steps_in, turn}
+use Rattle.dma_engine.specs.View.{View}
 use Rattle.dma_work.specs.declared.job.Job.{Job}
 use Rattle.dma_work.specs.declared.seat.Seat.{Seat}
-use Rattle.dma_work.specs.Desk.{DeskState, stepped_book}
-use Rattle.dma_work.specs.Rotation.{channel_at}
+use Rattle.dma_work.specs.declared.worker.Totals.{Totals}
+use Rattle.dma_work.specs.Desk.{DeskState, SameBook, stepped_book}
 
--- A desk at work, and a seat for each job: the job, and how many of its turns were taken.
+-- A desk at work; a seat for each job: the job, and how many of its turns were taken; and whether a turn was out of
+-- memory.
 pub record ShiftState : Type 0 where
   pub desk : DeskState
   pub seats : List Seat
+  pub is_starved : Bool
 
 -- the jobs of seats
 abbrev pub jobs_of : List Seat → List Job
@@ -39,12 +41,45 @@ pub record TakesNext (worker ch : ℕ) (old new : List Seat) : Type 0 where
   pub taken : (s : Seat) → seat.taken ≡ (slice_index_or old worker s).taken + 1
   pub channel : (s : Seat) → ch ≡ channel_at seat.job.first seat.job.last (slice_index_or old worker s).taken
 
--- The next turn of a worker's job was taken: a step of its channel has some answer, which the book counts. The ticks
--- that were published before those of the history are unchanged.
+-- A desk takes a step of a channel: the engine's own, which the book counts. The ticks that were published before those
+-- of the history are unchanged.
+pub record TakesStep (ch : ℕ) (old new : DeskState) : Type 0 where
+  pub view : new.engine.view ≡ (turn old.engine.view ch).1
+  pub book : new.book ≡ stepped_book old.book (turn old.engine.view ch).0
+  pub before_history : new.before ≡ old.before
+
+-- A desk takes no step: its view, its book and its published ticks are unchanged.
+abbrev pub TakesNoStep : DeskState → DeskState → Type 0
+TakesNoStep old new = (new.engine.view ≡ old.engine.view) × SameBook old new
+
+-- The next turn of a worker's job was taken: a step of its channel. No turn was out of memory.
 pub record TakesATurn (worker : ℕ) (old new : ShiftState) : Type 0 where
+  pub not_starved : (old.is_starved ≡ false) × (new.is_starved ≡ false)
   pub channel : ℕ
   pub next : TakesNext worker channel old.seats new.seats
-  pub answer : Result Turn EngineFault
-  pub step : StepAnswers old.desk.engine.view channel answer new.desk.engine.view
-  pub book : new.desk.book ≡ stepped_book old.desk.book answer
-  pub before_history : new.desk.before ≡ old.desk.before
+  pub step : TakesStep channel old.desk new.desk
+
+-- No turn was taken: the worker has none left, or a turn was out of memory, now or before.
+pub record TakesNoTurn (worker : ℕ) (old new : ShiftState) : Type 0 where
+  pub why : (new.is_starved ≡ true) ⊎ HasNoTurn worker old.seats
+  pub stays : old.is_starved ≡ true → new.is_starved ≡ true
+  pub desk : TakesNoStep old.desk new.desk
+  pub seats : new.seats ≡ old.seats
+
+-- From the one view to the other, jobs took turns on these channels, interleaved in some order, each with the engine's
+-- own result, and nothing else was done. The book has their steps and finishes.
+pub record TookTurnsOn (opening : View) (channels : List (List ℕ)) (view : View) (book : Totals) : Type 0 where
+  pub turns : List JobTurn
+  pub interleaved : Interleaves channels turns
+  pub leads : view ≡ (turns_taken opening turns).1
+  pub steps : book.steps ≡ sum_by steps_in (turns_taken opening turns).0
+  pub finished : book.finished ≡ sum_by finishes_in (turns_taken opening turns).0
+
+-- the channels of a job's turns, in order
+abbrev pub channels_of_job : Job → List ℕ
+channels_of_job job = rotation job.first job.last job.turns
+
+-- From the one view to the other, all turns of these jobs were taken, and nothing else was done. The book has their
+-- steps and finishes.
+abbrev pub TookAllTurns : View → List Job → View → Totals → Type 0
+TookAllTurns opening jobs view book = TookTurnsOn opening (map channels_of_job jobs) view book

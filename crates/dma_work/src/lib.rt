@@ -7,13 +7,13 @@
 //! Proved: a method of the desk returns the engine's own answer, and publishes the tick of a finish, a submit or a
 //! terminate after it (`Desk`); a worker passes its gate for each turn, steps the channels of its job in rotation, one
 //! for each turn, and does nothing else ([`work_at`]); the tallies and the book count each step once, and a desk is
-//! settled if their sums agree (`Desk::settle`, [`settle`]); on a shift all turns of its jobs are taken, interleaved,
-//! and nothing else is done ([`run_shift`]); a status is that of a published list that begins with all that the reader
-//! has seen and learnt (`StatusReader::status`, `laws::statuses_stay_true`).
+//! settled if their sums agree (`Desk::settle`, [`settle`]); a shift that ends with a desk has taken all turns of its
+//! jobs, interleaved, and done nothing else ([`run_shift`]); a status is that of a published list that begins with all
+//! that the reader has seen and learnt (`StatusReader::status`, `laws::statuses_stay_true`).
 //!
-//! Not proved: progress; that workers run at the same time; when a gate is passed; which desk of its name a lock holds
-//! when it is taken, and so that [`work`], which sees the lock, does nothing else with the desk; that each tally of a
-//! settled desk is right, since two wrong ones may have the right sum.
+//! Not proved: progress; that no turn of a shift is out of memory; that workers run at the same time; when a gate is
+//! passed; which desk of its name a lock holds when it is taken, and so that [`work`], which sees the lock, does
+//! nothing else with the desk; that each tally of a settled desk is right, since two wrong ones may have the right sum.
 #![tactic(auto)]
 
 mod desk;

@@ -1,6 +1,6 @@
 //! The rota of a shift, which has the turns of some jobs and counts those that were taken.
 
-ghost use Rattle.std.specs.Prelude.{◌≡◌, ◌+◌, ◌<◌, IfOk, IfSome, IsNone, length};
+ghost use Rattle.std.specs.Prelude.{◌≡◌, ◌+◌, ◌<◌, IfOk, IfSome, IsNone, length, slice_set};
 ghost use Rattle.std.specs.List.{All};
 ghost use Rattle.dma_work.specs.Shift.{AreNewSeats, HasNoTurn, IsDone, TakesNext};
 
@@ -109,23 +109,30 @@ impl Seats {
         self.seats.len()
     }
 
-    /// Counts the next turn of a worker's job, and returns its channel. Returns `None` if the worker has no turn left;
-    /// then nothing changes.
-    pub fn take(&mut self, worker: usize) -> Option<u8>
-        ensures some { IfSome result (λ ch. TakesNext worker ch self.old self.new) }
-        ensures none { IsNone result → HasNoTurn worker self.old }
-        ensures same { IsNone result → self.new ≡ self.old }
+    /// Returns the channel of the next turn of a worker's job, and the worker's seat after it, or `None` if the worker
+    /// has no turn left.
+    pub fn next(&self, worker: usize) -> Option<(u8, Seat)>
+        ensures some { IfSome result (λ next.
+            TakesNext worker next.0 self.now (slice_set self.now worker next.1)) }
+        ensures none { IsNone result → HasNoTurn worker self.now }
     {
-        let seats = &mut self.seats;
-        if worker >= seats.len() {
+        if worker >= self.seats.len() {
             return None;
         }
-        let seat = seats[worker];
+        let seat = self.seats[worker];
         if seat.taken >= seat.job.turns {
             return None;
         }
-        seats[worker] = seat.after();
-        Some(seat.next)
+        Some((seat.next, seat.after()))
+    }
+
+    /// Replaces the seat of a worker.
+    pub fn set(&mut self, worker: usize, seat: Seat)
+        requires { worker < length self.old }
+        ensures { self.new ≡ slice_set self.old worker seat }
+    {
+        let seats = &mut self.seats;
+        seats[worker] = seat;
     }
 
     /// Returns the first worker that has a turn left, or `None` if all turns were taken.

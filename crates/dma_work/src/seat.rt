@@ -1,7 +1,7 @@
 //! The seats of workers.
 
 ghost use Rattle.std.specs.Prelude.{◌≡◌, ◌≤◌};
-ghost use Rattle.dma_work.specs.Rotation.{channel_at};
+ghost use Rattle.dma_engine.specs.Interleaved.{channel_at};
 
 use crate::job::Job;
 

@@ -1,25 +1,26 @@
 //! A shift: a desk that works on the jobs of a rota, at which nothing but their turns can be taken.
 
-ghost use Rattle.std.specs.Prelude.{◌≡◌, IsTrue, false, length};
+ghost use Rattle.std.specs.Prelude.{◌≡◌, IfOk, MatchBool, OnErr, OnOk, false, length};
 ghost use Rattle.std.specs.List.{All};
 ghost use Rattle.dma_work.specs.Desk.{Names, no_totals};
-ghost use Rattle.dma_work.specs.Shift.{AreNewSeats, HasNoTurn, IsDone, TakesATurn};
-ghost use Rattle.dma_work.specs.Taken.{TookAllTurns};
+ghost use Rattle.dma_work.specs.Shift.{AreNewSeats, IsDone, TakesATurn, TakesNoStep, TakesNoTurn, TakesStep, TookAllTurns};
 
 use crate::desk::{Desk, DeskName};
 use crate::rota::{Rota, Seats};
 use crate::worker::Tally;
+use dma_engine::{EngineFault, NoMemory};
 use std::marker::Model;
 use std::sync::{Mutex, MutexGuard, Wait};
 use std::thread::{self, Scope, Threads};
 
 /// A desk that works on the jobs of a rota. Until the shift ends, nothing but their turns can be taken. Contracts see
-/// the desk, and a seat for each job.
+/// the desk, a seat for each job, and whether a turn was out of memory: then no further turn is taken.
 ///
 /// Its type guarantees that since N's opening view nothing was done but the turns that the seats count.
 pub struct Shift<N: DeskName> {
     desk: Desk<N>,
     seats: Seats,
+    is_starved: bool,
 }
 
 impl<N: DeskName> Model for Shift<N> {
@@ -28,9 +29,21 @@ impl<N: DeskName> Model for Shift<N> {
 
     ghost Value = { ShiftState };
 
-    ghost view = { λ s. record { desk = s.desk; seats = s.seats } };
+    ghost view = { λ s. record { desk = s.desk; seats = s.seats; is_starved = s.is_starved } };
 
     ghost invariant = { λ s. IsInTurn N.opening N.jobs s.desk.engine.view s.desk.book s.seats };
+}
+
+/// Takes a step of a channel. If it is out of memory, it fails and takes none.
+fn take_step<N: DeskName, R: Wait>(rt: &R, desk: &mut Desk<N>, ch: u8) -> Result<(), NoMemory>
+    ensures ok { OnOk result (TakesStep ch desk.old desk.new) }
+    ensures err { OnErr result (TakesNoStep desk.old desk.new) }
+{
+    let mut tally = Tally::new(0);
+    match desk.step(rt, ch, &mut tally) {
+        Err(EngineFault::NoMemory) => Err(NoMemory),
+        _ => Ok(()),
+    }
 }
 
 impl<N: DeskName> Shift<N> {
@@ -43,10 +56,12 @@ impl<N: DeskName> Shift<N> {
         ensures desk { result.desk
             ≡ record { engine = desk.engine; book = no_totals; before = desk.before } }
         ensures seats { AreNewSeats rota result.seats }
+        ensures starved { result.is_starved ≡ false }
     {
         Shift {
             desk: desk.named_anew(),
             seats: rota.into_seats(),
+            is_starved: false,
         }
     }
 
@@ -58,27 +73,40 @@ impl<N: DeskName> Shift<N> {
     }
 
     /// Takes the next turn of a worker's job: a step of the channel that is next in the job's rotation. Returns false
-    /// if the worker has no turn left; then nothing changes.
+    /// if it takes none: the worker has no turn left, or a turn was out of memory, this one or one before.
     pub fn turn<R: Wait>(&mut self, rt: &R, worker: usize) -> bool
-        ensures taken { IsTrue result → TakesATurn worker self.old self.new }
-        ensures none { result ≡ false → HasNoTurn worker self.old.seats }
-        ensures same { result ≡ false → self.new ≡ self.old }
+        ensures { MatchBool result (TakesATurn worker self.old self.new)
+            (TakesNoTurn worker self.old self.new) }
     {
-        let Some(ch) = self.seats.take(worker) else {
+        if self.is_starved {
+            return false;
+        }
+        let Some((ch, seat)) = self.seats.next(worker) else {
             return false;
         };
-        let mut tally = Tally::new(0);
-        let _ = self.desk.step(rt, ch, &mut tally);
-        true
+        match take_step(rt, &mut self.desk, ch) {
+            Ok(()) => {
+                self.seats.set(worker, seat);
+                true
+            }
+            Err(_) => {
+                self.is_starved = true;
+                false
+            }
+        }
     }
 
-    // Takes the turns that are left.
-    fn finish<R: Wait>(&mut self, rt: &R)
-        ensures { All IsDone self.new.seats }
+    // Takes the turns that are left. Fails if one is out of memory, or one was. That it fails only then is said by no
+    // clause.
+    fn finish<R: Wait>(&mut self, rt: &R) -> Result<(), NoMemory>
+        ensures { OnOk result (All IsDone self.new.seats) }
     {
         for _ in rt.forever() {
+            if self.is_starved {
+                return Err(NoMemory);
+            }
             let Some(worker) = self.seats.waiting() else {
-                return;
+                return Ok(());
             };
             self.turn(rt, worker);
         }
@@ -86,13 +114,25 @@ impl<N: DeskName> Shift<N> {
     }
 
     /// Takes the turns that are left, and returns the desk. Then all turns of the jobs were taken, one after another in
-    /// some order, and nothing else was done since N's opening view. The book has their sums.
-    pub fn end<R: Wait>(mut self, rt: &R) -> Desk<N>
-        ensures { TookAllTurns N.opening N.jobs result.engine.view result.book }
+    /// some order, and nothing else was done since N's opening view. The book has their sums. If a turn is out of
+    /// memory, or one was, it closes the desk and fails.
+    pub fn end<R: Wait>(mut self, rt: &R) -> Result<Desk<N>, NoMemory>
+        ensures { IfOk result (λ desk.
+            TookAllTurns N.opening N.jobs desk.engine.view desk.book) }
     {
-        self.finish(rt);
-        let Shift { desk, seats: _ } = self;
-        desk
+        let finished = self.finish(rt);
+        let Shift {
+            desk,
+            seats: _,
+            is_starved: _,
+        } = self;
+        match finished {
+            Ok(()) => Ok(desk),
+            Err(error) => {
+                desk.close(rt);
+                Err(error)
+            }
+        }
     }
 }
 
@@ -142,12 +182,12 @@ fn work_all<N: DeskName + Send + Sync, R: Threads + Wait + Sync>(
 }
 
 /// Takes all turns of a shift, those of each job in a thread of its own, and ends it. A job that gets no thread is done
-/// on the calling thread after the others. It allocates nothing.
+/// on the calling thread after the others. If a turn is out of memory, no further one is taken, and it fails.
 pub fn run_shift<N: DeskName + Send + Sync, R: Threads + Wait + Sync>(
     rt: &R,
     shift: Shift<N>,
-) -> Desk<N>
-    ensures { TookAllTurns N.opening N.jobs result.engine.view result.book }
+) -> Result<Desk<N>, NoMemory>
+    ensures { IfOk result (λ desk. TookAllTurns N.opening N.jobs desk.engine.view desk.book) }
 {
     let workers = shift.workers();
     let shared = Mutex::new(shift);

@@ -1,9 +1,10 @@
 //! Workers: the tallies of their steps, the turns of their jobs, and the worker that borrows a desk for each step.
 
 ghost use Rattle.std.specs.Prelude.{◌≡◌, ◌+◌, ◌<◌, ◌^◌, IsTrue, false};
-ghost use Rattle.dma_engine.specs.Laws.{finishes_in, steps_in};
+ghost use Rattle.dma_engine.specs.Interleaved.{rotation};
+ghost use Rattle.dma_engine.specs.Turn.{finishes_in, steps_in};
 ghost use Rattle.dma_work.specs.Desk.{AddUp, Differ, counted, new_tally, stepped_book};
-ghost use Rattle.dma_work.specs.Rotation.{StepsInTurn, rotation};
+ghost use Rattle.dma_work.specs.Rotation.{StepsInTurn};
 ghost use Rattle.dma_work.specs.Tallies.{TookTurnsAt};
 
 use crate::desk::{Desk, DeskName};

@@ -1,3 +1,2 @@
 pub mod RaceLemmas
-pub mod RaceRuns
 pub mod SomeTurns

@@ -1,164 +1,114 @@
 -- What the lines of a race script may print.
-use Rattle.std.proofs.Common.{◌≡◌, ◌≢◌, ℕ, ◌<◌, List, [], ◌∷◌, ◌++◌, length, take, drop, get_or, codes, suc, Option, Some, None, Result, Ok, Err, lit<, inl, refl, ap, sym, subst, ◌∙◌, arith, append_assoc}
-use Rattle.std.specs.List.{All}
-use Rattle.std.proofs.Math.Seq.{drop-append_seam, take-append_seam}
-use Rattle.std.proofs.lemmas.List.{length-append, length-map, take-append-le, take_all, take-map}
-use Rattle.std.proofs.lemmas.List.Elements.{All-drop, All-head, All-tail}
+use Rattle.std.proofs.Common.{◌≡◌, ◌≢◌, ℕ, ◌<◌, List, [], ◌∷◌, ◌++◌, length, map, codes, suc, Result, Ok, Err, lit<, inl, refl, ap, sym, subst, ◌∙◌, arith, append_assoc}
+use Rattle.std.proofs.Math.Seq.{take-append_seam}
+use Rattle.std.proofs.lemmas.List.{length-append, take-append-le, take_all}
+use Rattle.std.proofs.lemmas.Simd.{map-map}
 use Rattle.std.proofs.lemmas.Result.{on_ok_weaker}
 use Rattle.std.specs.Prelude.{IsErr, OnOk}
-use Rattle.dma_mem.specs.declared.transfer.TransferFault.{TransferFault}
-use Rattle.dma_mem.specs.Refusals.{refusal_of}
-use Rattle.dma_mem.specs.declared.call.Call.TheVariants as calls
+use Rattle.dma_engine.specs.Interleaved.{Interleaves, rotation, turns_taken}
 use Rattle.dma_engine.specs.View.{View}
+use Rattle.dma_work.specs.Shift.{channels_of_job}
 use Rattle.dma_work.specs.declared.job.Job.{Job}
 use Rattle.dma_script.specs.Command.{Answers, MayAnswer, Printed, printed_text, refusal}
+use Rattle.dma_script.specs.Interpreted.{ActsInTurn, PrintsLine, PrintsLines, StopsAtALine}
 use Rattle.dma_script.specs.Lines.{Gives}
 use Rattle.dma_script.specs.Printing.{error_line, fault_line}
 use Rattle.dma_script.specs.declared.fault.ReadError.{ReadError}
 use Rattle.dma_script.specs.declared.fault.ReadError.TheVariants as script_errors
-use Rattle.dma_script.specs.Race.{IsEarly, race_script_of}
+use Rattle.dma_script.specs.Race.{race_script_of}
 use Rattle.dma_script.specs.declared.fault.Fault.{Fault}
+use Rattle.dma_script.specs.declared.race.JobLine.{JobLine}
 use Rattle.dma_script.specs.declared.race.RaceScript.{RaceScript}
 use Rattle.dma_script.specs.declared.statements.Statement.{Statement}
-use Rattle.dma_script.specs.declared.statements.Statement.TheVariants as statements
-use Rattle.dma_commands.specs.Printed.{refused_line, transfer_fault_name}
-use Rattle.dma_commands.specs.Run.{Answered, call_answer, line_answer, lines_answered, unless_invalid}
-use Rattle.dma_commands.specs.Transfers.{transfer_of}
+use Rattle.dma_commands.specs.Raced.{EarlyPrints, RacePrints, channels_of_line, first_view, from_go, go_line, no_reader, race_may_print, race_prints_of, raced_refused, raced_whole, whole}
+use Rattle.dma_commands.specs.Run.{Answered, line_answer, lines_answered}
 use Rattle.dma_commands.specs.inner.RunSteps.{AnswersLine, RunsLine}
-use Rattle.dmasim.specs.Race.{AreJobs, EachPrints, EarlyPrints, RacePrints, alone, first_view, go_line, race_may_print, race_prints_of, no_reader, raced_refused, raced_whole, whole}
-use Rattle.dmasim.specs.inner.RaceSteps.{ActsEarly, PrintsAll, PrintsFirst, PrintsGo, PrintsStatus, PrintsTotals}
+use Rattle.dmasim.specs.inner.RaceSteps.{AreJobs, PrintsFirst, PrintsGo}
 use Rattle.dmasim.proofs.SomeTurns.{some_turns}
-use Rattle.dma_script.specs.Interpreted.{ActsInTurn, PrintsLine, PrintsLines, StopsAtALine}
 use Rattle.dma_script.proofs.InterpretedLemmas.{text_after}
 use Rattle.dma_commands.proofs.PlanLemmas.{nothing}
 use Rattle.dma_commands.proofs.RunLemmas.{answers_after, answers_none, answers_some}
 
--- ---- what a line may print
+-- ---- what lines before `go` may print
 
-submit_some : (fault : Option TransferFault) (v w : View) (answered : Answered) (line : List ℕ) → answered ≡ (line ∷ [], w) → (one : List ℕ) × (next : View) × (unless_invalid fault v answered ≡ (one ∷ [], next))
-submit_some None v w answered line is = (line, w, is)
-submit_some (Some fault) v w answered line is = (refused_line (transfer_fault_name fault), v, refl)
+each_some : (v : View) (statements : List Statement) → (groups : List (List (List ℕ))) × (w : View) × ActsInTurn EarlyPrints statements v groups w
+each_some v [] = ([], v, refl)
+each_some v (s ∷ rest) =
+    let others = each_some (line_answer v s).1 rest in
+    ((line_answer v s).0 ∷ others.0, others.1, ((line_answer v s).1, inl refl, others.2))
 
--- Each line that is allowed before `go` may print something.
-early_some : (v : View) (statement : Statement) → IsEarly statement → (line : List ℕ) × (next : View) × EarlyPrints v statement line next
-early_some v (statements.Copy line) early = absurd early
-early_some v (statements.Step ch count) early = absurd early
-early_some v (statements.Submit ch transfer) early =
-    let some = submit_some (refusal_of (transfer_of transfer)) v _ (call_answer v (calls.Submit ch (transfer_of transfer))) _ refl in
-    (some.0, some.1, inl some.2)
-early_some v s early = (get_or (line_answer v s).0 0 [], (line_answer v s).1, inl refl)
-
-each_some : (v : View) (statements : List Statement) → All IsEarly statements → (lines : List (List ℕ)) × (w : View) × EachPrints v statements lines w
-each_some v [] early = ([], v, refl)
-each_some v (s ∷ rest) early =
-    let first = early_some v s (All-head IsEarly s rest early) in
-    let others = each_some first.1 rest (All-tail IsEarly s rest early) in
-    (first.0 ∷ others.0, others.1, (first.1, first.2, others.2))
-
-each_append : (u v w : View) (xs ys : List Statement) (front back : List (List ℕ)) → EachPrints u xs front v → EachPrints v ys back w → EachPrints u (xs ++ ys) (front ++ back) w
-each_append u v w [] ys [] back first others = subst (λ x. EachPrints x ys back w) first others
-each_append u v w [] ys (line ∷ front) back first others = absurd first
+each_append : (u v w : View) (xs ys : List Statement) (front back : List (List (List ℕ))) → ActsInTurn EarlyPrints xs u front v → ActsInTurn EarlyPrints ys v back w → ActsInTurn EarlyPrints (xs ++ ys) u (front ++ back) w
+each_append u v w [] ys [] back first others = subst (λ x. ActsInTurn EarlyPrints ys x back w) first others
+each_append u v w [] ys (group ∷ front) back first others = absurd first
 each_append u v w (s ∷ xs) ys [] back first others = absurd first
-each_append u v w (s ∷ xs) ys (line ∷ front) back (next, one, rest) others = (next, one, each_append next v w xs ys front back rest others)
-
--- ---- the lines before `go`, of which the interpreter's view is `seen`
-
--- a line that `run` prints is one line
-one_line_is : (v w : View) (s : Statement) (group : List (List ℕ)) → IsEarly s → line_answer v s ≡ (group, w) → ActsEarly v s group w
-one_line_is v w (statements.Copy line) group early is = absurd early
-one_line_is v w (statements.Step ch count) group early is = absurd early
-one_line_is v w (statements.Submit ch words) group early is =
-    let some = submit_some (refusal_of (transfer_of words)) v _ (call_answer v (calls.Submit ch (transfer_of words))) _ refl in
-    let one : group ≡ some.0 ∷ [] = ap (λ (a : Answered). a.0) (sym is ∙ some.2) in
-    (some.0, one, inl (is ∙ ap {B = Answered} (λ g. (g, w)) one))
-one_line_is v w s group early is =
-    let line = get_or (line_answer v s).0 0 [] in
-    let one : group ≡ line ∷ [] = ap (λ (a : Answered). a.0) (sym is) in
-    (line, one, inl (is ∙ ap {B = Answered} (λ g. (g, w)) one))
+each_append u v w (s ∷ xs) ys (group ∷ front) back (next, one, rest) others = (next, one, each_append next v w xs ys front back rest others)
 
 module _ {S : Type 0} (seen : S → View) where
   -- a line that ran as it does in `run`
-  pub line_ran : {A E : Type 0} (found left : S) (s ran : Statement) (result : Result A E) (old new : List ℕ) → s ≡ ran → IsEarly s → RunsLine (line_answer (seen found) ran) (seen left) result old new → OnOk result (PrintsLine (λ group x. ActsEarly (seen found) s group (seen x)) left old new)
-  line_ran found left s ran result old new is early runs =
+  pub line_ran : {A E : Type 0} (found left : S) (s ran : Statement) (result : Result A E) (old new : List ℕ) → s ≡ ran → RunsLine (line_answer (seen found) ran) (seen left) result old new → OnOk result (PrintsLine (λ group x. EarlyPrints (seen found) s group (seen x)) left old new)
+  line_ran found left s ran result old new is runs =
       let v = seen found in
       on_ok_weaker result
       (λ (one : AnswersLine (line_answer v ran) (seen left) old new). record {
         group = (line_answer v ran).0;
-        acted = one_line_is v (seen left) s (line_answer v ran).0 early (ap (line_answer v) is ∙ ap {B = Answered} (λ w. ((line_answer v ran).0, w)) (sym one.acts));
+        acted = inl (ap (line_answer v) is ∙ ap {B = Answered} (λ w. ((line_answer v ran).0, w)) (sym one.acts));
         text = one.prints;
       }) runs.ok
 
   -- a status line
-  pub status_ran : {A E : Type 0} (found left : S) (s : Statement) (ch cookie : ℕ) (result : Result A E) (old new : List ℕ) → s ≡ statements.Call (calls.Status ch cookie) → seen left ≡ seen found → OnOk result (PrintsStatus (seen found) ch cookie old new) → OnOk result (PrintsLine (λ group x. ActsEarly (seen found) s group (seen x)) left old new)
-  status_ran found left s ch cookie result old new is same prints =
+  pub status_ran : {A E : Type 0} (found left : S) (s status : Statement) (result : Result A E) (old new : List ℕ) → s ≡ status → seen left ≡ seen found → OnOk result (PrintsLine (EarlyPrints (seen found) status) (seen found) old new) → OnOk result (PrintsLine (λ group x. EarlyPrints (seen found) s group (seen x)) left old new)
+  status_ran found left s status result old new is same prints =
       on_ok_weaker result
-      (λ (one : PrintsStatus (seen found) ch cookie old new). record {
-        group = one.line ∷ [];
-        acted = (
-          one.line,
-          refl,
-          subst (λ x. EarlyPrints (seen found) x one.line (seen left)) (sym is)
-              (subst (EarlyPrints (seen found) (statements.Call (calls.Status ch cookie)) one.line) (sym same) one.allowed),
-        );
+      (λ (one : PrintsLine (EarlyPrints (seen found) status) (seen found) old new). record {
+        group = one.group;
+        acted = rw (is, same) one.acted;
         text = one.text;
       }) prints
 
-  -- what lines print that are executed one after another
-  early-in-turn : (statements : List Statement) (found left : S) (groups : List (List (List ℕ))) → ActsInTurn (λ f s g x. ActsEarly (seen f) s g (seen x)) statements found groups left → (early : List (List ℕ)) × EachPrints (seen found) statements early (seen left) × (groups ≡ alone early)
-  early-in-turn [] found left [] done = ([], ap seen done, refl)
-  early-in-turn [] found left (g ∷ groups) done = absurd done
-  early-in-turn (s ∷ statements) found left [] done = absurd done
-  early-in-turn (s ∷ statements) found left (g ∷ groups) (next, (line, is, acted), rest) =
-      let others = early-in-turn statements next left groups rest in
-      (line ∷ others.0, (seen next, acted, others.1), ap (λ group. group ∷ groups) is ∙ ap (λ l. (line ∷ []) ∷ l) others.2)
+  -- lines that are executed one after another, by the views
+  seen_in_turn : (statements : List Statement) (found left : S) (groups : List (List (List ℕ))) → ActsInTurn (λ f s g x. EarlyPrints (seen f) s g (seen x)) statements found groups left → ActsInTurn EarlyPrints statements (seen found) groups (seen left)
+  seen_in_turn [] found left [] done = ap seen done
+  seen_in_turn [] found left (g ∷ groups) done = absurd done
+  seen_in_turn (s ∷ statements) found left [] done = absurd done
+  seen_in_turn (s ∷ statements) found left (g ∷ groups) (next, acted, rest) = (seen next, acted, seen_in_turn statements next left groups rest)
 
   -- All lines were executed.
-  pub all_early : (found left : S) (statements : List Statement) (old new : List ℕ) → PrintsLines (λ f s g x. ActsEarly (seen f) s g (seen x)) found statements left old new → PrintsAll (seen found) statements (seen left) old new
+  pub all_early : (found left : S) (statements : List Statement) (old new : List ℕ) → PrintsLines (λ f s g x. EarlyPrints (seen f) s g (seen x)) found statements left old new → PrintsLines EarlyPrints (seen found) statements (seen left) old new
   all_early found left statements old new done =
-      let lines = early-in-turn statements found left done.groups done.acted in
-      record { early = lines.0; each = lines.1; text = done.text ∙ ap (λ g. old ++ printed_text g) lines.2 }
+      record { groups = done.groups; acted = seen_in_turn statements found left done.groups done.acted; text = done.text }
 
   -- A line was out of memory: the lines before it printed what they may, and the others may print something.
-  pub first_early : (is_refused : S → Statement → S → Type 0) (found left : S) (statements : List Statement) (old new : List ℕ) → All IsEarly statements → StopsAtALine (λ f s g x. ActsEarly (seen f) s g (seen x)) is_refused found statements left old new → PrintsFirst (seen found) statements old new
-  first_early is_refused found left statements old new early stop =
+  pub first_early : (is_refused : S → Statement → S → Type 0) (found left : S) (statements : List Statement) (old new : List ℕ) → StopsAtALine (λ f s g x. EarlyPrints (seen f) s g (seen x)) is_refused found statements left old new → PrintsFirst (seen found) statements old new
+  first_early is_refused found left statements old new stop =
       let behind = stop.line ∷ stop.behind in
-      let split = stop.before ++ behind in
       let all = all_early found stop.between stop.before old new stop.printed in
-      let those : All IsEarly (drop (length stop.before) split) = All-drop IsEarly (length stop.before) split (subst (All IsEarly) stop.split early) in
-      let others = each_some (seen stop.between) behind (subst (All IsEarly) (drop-append_seam stop.before behind) those) in
-      let front : take (length all.early) (all.early ++ others.0) ≡ all.early = take-append_seam all.early others.0 in
+      let others = each_some (seen stop.between) behind in
       record {
-        early = all.early ++ others.0;
+        early = all.groups ++ others.0;
         view = others.1;
-        each = subst (λ xs. EachPrints (seen found) xs (all.early ++ others.0) others.1) (sym stop.split) (each_append (seen found) (seen stop.between) others.1 stop.before behind all.early others.0 all.each others.2);
-        count = length all.early;
-        within = omega (arith, length-append all.early others.0);
-        text = all.text ∙ ap (λ e. old ++ printed_text (alone e)) (sym front);
+        each = subst (λ xs. ActsInTurn EarlyPrints xs (seen found) (all.groups ++ others.0) others.1) (sym stop.split) (each_append (seen found) (seen stop.between) others.1 stop.before behind all.groups others.0 all.acted others.2);
+        count = length all.groups;
+        within = omega (arith, length-append all.groups others.0);
+        text = all.text ∙ ap (λ e. old ++ printed_text e) (sym (take-append_seam all.groups others.0));
       }
 
--- ---- `go`
+pub all_then_none : (start : View) (statements : List Statement) (v : View) (old new : List ℕ) → PrintsLines EarlyPrints start statements v old new → PrintsFirst start statements old new
+all_then_none start statements v old new all = record {
+  early = all.groups;
+  view = v;
+  each = all.acted;
+  count = length all.groups;
+  within = omega arith;
+  text = all.text ∙ ap (λ e. old ++ printed_text e) (sym (take_all (length all.groups) all.groups (omega arith)));
+}
 
-module _ (start : View) (statements : List Statement) where
-  pub all_then_none : (v : View) (old new : List ℕ) → PrintsAll start statements v old new → PrintsFirst start statements old new
-  all_then_none v old new all = record {
-    early = all.early;
-    view = v;
-    each = all.each;
-    count = length all.early;
-    within = omega arith;
-    text = all.text ∙ ap (λ e. old ++ printed_text (alone e)) (sym (take_all (length all.early) all.early (omega arith)));
-  }
+-- ---- jobs
 
-  pub go_after : (jobs : List Job) (v w : View) (old mid new : List ℕ) → PrintsAll start statements v old mid → PrintsTotals v jobs w mid new → PrintsGo start statements jobs w old new
-  go_after jobs v w old mid new all totals = record {
-    early = all.early;
-    between = v;
-    each = all.each;
-    turns = totals.turns;
-    interleaved = totals.interleaved;
-    leads = totals.leads;
-    text = text_after old mid new (alone all.early) (go_line totals.turns ∷ []) all.text totals.text;
-  }
+channels_are : (lines : List JobLine) (jobs : List Job) → AreJobs lines jobs → map channels_of_job jobs ≡ map channels_of_line lines
+channels_are lines jobs are =
+    let channels : ℕ × ℕ × ℕ → List ℕ = λ j. rotation j.0 j.1 j.2 in
+    sym (map-map channels (λ (job : Job). (job.first, job.last, job.turns)) jobs) ∙ ap (map channels) are
+    ∙ map-map channels (λ (line : JobLine). (line.first, line.last, line.turns)) lines
 
 -- ---- whole scripts
 
@@ -188,31 +138,31 @@ module _ {E : Type 0} (script : RaceScript) (result : Result ℕ E) (old new : L
   }
 
   -- Out of memory before the line of `go` was printed.
-  pub first_answer : (jobs : List Job) → AreJobs script.jobs jobs → IsErr result → PrintsFirst (first_view script) script.before.statements old new → MayAnswer (RacePrints script) result old new
-  first_answer jobs are err first =
-      let some = some_turns first.view jobs in
-      let last = (go_line some.0 ∷ []) ∷ lines_answered some.2 script.after in
-      let many : length (alone first.early) ≡ length first.early = length-map first.early (λ line. line ∷ []) in
-      let front : take first.count (alone first.early ++ last) ≡ alone (take first.count first.early) =
-      take-append-le first.count (alone first.early) last (omega (arith, many, first.within)) ∙ take-map (λ line. line ∷ []) first.count first.early in
-      let printed = raced_whole first.early some.0 some.2 script.after in
+  pub first_answer : IsErr result → PrintsFirst (first_view script) script.before.statements old new → MayAnswer (RacePrints script) result old new
+  first_answer err first =
+      let some = some_turns (map channels_of_line script.jobs) in
+      let last = from_go first.view some.0 script.after in
+      let printed = raced_whole first.early first.view some.0 script.after in
       record {
         printed = printed;
-        allowed = whole first.early first.view first.each jobs are some.0 some.1 some.2 some.3 refl;
+        allowed = whole first.early first.view first.each some.0 some.1 refl;
         answers = answers_some printed result old new err (record {
           count = suc first.count;
-          some_left = omega (arith, many, first.within, length-append (alone first.early) last);
-          whole = first.text ∙ ap (λ g. old ++ printed_text g) (sym front);
+          some_left = omega (arith, first.within, length-append first.early last);
+          whole = first.text ∙ ap (λ g. old ++ printed_text g) (sym (take-append-le first.count first.early last first.within));
         });
       }
 
   -- The lines after `go` were executed, or one was out of memory.
   pub whole_answer : (jobs : List Job) (v : View) (mid : List ℕ) → AreJobs script.jobs jobs → PrintsGo (first_view script) script.before.statements jobs v old mid → Answers (record { groups = lines_answered v script.after; status = 0 }) result mid new → MayAnswer (RacePrints script) result old new
   whole_answer jobs v mid are go a =
-      let front = alone go.early ++ (go_line go.turns ∷ []) ∷ [] in
+      let early = go.lines.groups in
+      let turns = go.totals.turns in
+      let line = go_line (turns_taken go.between turns).0 ∷ [] in
       let after = lines_answered v script.after in
+      let text : mid ≡ old ++ printed_text (early ++ line ∷ []) = text_after old go.text mid early line go.lines.text go.totals.text in
       record {
-        printed = raced_whole go.early go.turns v script.after;
-        allowed = whole go.early go.between go.each jobs are go.turns go.interleaved v go.leads refl;
-        answers = subst (λ g. Answers (record { groups = [] ∷ g; status = 0 }) result old new) (append_assoc (alone go.early) ((go_line go.turns ∷ []) ∷ []) after) (answers_after ([] ∷ front) after 0 result old mid new go.text a);
+        printed = raced_whole early go.between turns script.after;
+        allowed = whole early go.between go.lines.acted turns (subst (λ l. Interleaves l turns) (channels_are script.jobs jobs are) go.totals.interleaved) refl;
+        answers = subst (λ g. Answers (record { groups = [] ∷ g; status = 0 }) result old new) (append_assoc early (line ∷ []) after ∙ ap (λ w. early ++ line ∷ lines_answered w script.after) go.totals.leads) (answers_after ([] ∷ early ++ line ∷ []) after 0 result old mid new text a);
       }

@@ -7,7 +7,7 @@ use Rattle.dmasim.specs.declared.command_line.Subcommand.TheVariants.{Asm, Dis, 
 use Rattle.dma_commands.specs.Assembled.{asm_printed}
 use Rattle.dma_commands.specs.Disassembled.{dis_printed}
 use Rattle.dma_commands.specs.Planned.{plan_printed}
-use Rattle.dmasim.specs.Race.{race_may_print}
+use Rattle.dma_commands.specs.Raced.{race_may_print}
 use Rattle.dma_commands.specs.Run.{printed}
 
 -- The command that a word names, if any.

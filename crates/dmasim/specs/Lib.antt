@@ -1,4 +1,3 @@
--- What the program prints for an input, and which command its words name.
-pub mod Race
+-- Which command the words of the command line name, and how a run of the program ends.
 pub mod CommandLine
 pub mod inner

@@ -7,11 +7,10 @@ ghost use Rattle.dma_script.specs.Command.{Ends, MayAnswer, failures, longest_in
 ghost use Rattle.dma_script.specs.Race.{IsEarly, IsJob, IsRace};
 ghost use Rattle.dma_script.specs.Statements.{IsWithin};
 ghost use Rattle.dma_work.specs.Desk.{Names};
-ghost use Rattle.dmasim.specs.inner.RaceSteps.{PrintsFirst, PrintsGo, PrintsTotals};
-ghost use Rattle.dmasim.specs.Race.{AreJobs, RacePrints, race_may_print};
+ghost use Rattle.dma_commands.specs.Raced.{RacePrints, race_may_print};
+ghost use Rattle.dmasim.specs.inner.RaceSteps.{AreJobs, PrintsFirst, PrintsGo, PrintsTotals};
 
 mod early;
-pub mod laws;
 
 use crate::race::early::run_early_statements;
 use dma_commands::run::{new_engine, run_statements};
@@ -55,8 +54,8 @@ fn rota_of(alloc: Global, lines: &[JobLine]) -> Result<Rota, AllocError>
     }
 }
 
-/// Puts a desk on a shift of the rota's jobs, and appends the line of `go`. Returns the engine. If memory runs out it
-/// fails and appends nothing.
+/// Puts a desk on a shift of the rota's jobs, and appends the line of `go`. Returns the engine. If memory runs out,
+/// also in a turn, it fails and appends nothing.
 fn go<M: DeskName, N: DeskName + Send + Sync, R: Threads + Wait + Sync>(
     rt: &R,
     desk: Desk<M>,
@@ -70,7 +69,11 @@ fn go<M: DeskName, N: DeskName + Send + Sync, R: Threads + Wait + Sync>(
         out.old.items out.new.items) }
     ensures err { OnErr result (out.new.items ≡ out.old.items) }
 {
-    let desk = run_shift(rt, Shift::<N>::new(desk, rota));
+    let shift = Shift::<N>::new(desk, rota);
+    let desk = match run_shift(rt, shift) {
+        Ok(desk) => desk,
+        Err(_) => return Err(AllocError),
+    };
     let totals = desk.book();
     let engine = desk.close(rt);
     print_line(
@@ -166,7 +169,7 @@ impl<R: Threads + Wait + Sync> Command for Race<'_, R> {
     ghost use Rattle.dma_script.specs.Command.{Printed, refusal};
     ghost use Rattle.dma_script.specs.Printing.{fault_line};
     ghost use Rattle.dma_script.specs.Race.{race_script_of};
-    ghost use Rattle.dmasim.specs.Race.{no_reader, race_may_print, race_prints_of, raced_refused};
+    ghost use Rattle.dma_commands.specs.Raced.{no_reader, race_may_print, race_prints_of, raced_refused};
 
     ghost may_print = { race_may_print };
 

@@ -6,7 +6,9 @@ ghost use Rattle.dma_engine.specs.Laws.{IsQuiet};
 ghost use Rattle.dma_script.specs.Race.{IsEarly};
 ghost use Rattle.dma_commands.specs.Run.{line_answer};
 ghost use Rattle.dma_commands.specs.inner.RunSteps.{RunsLine};
-ghost use Rattle.dmasim.specs.inner.RaceSteps.{PrintsAll, PrintsFirst, PrintsStatus};
+ghost use Rattle.dma_script.specs.Interpreted.{PrintsLine, PrintsLines};
+ghost use Rattle.dma_commands.specs.Raced.{EarlyPrints};
+ghost use Rattle.dmasim.specs.inner.RaceSteps.{PrintsFirst};
 
 use dma_commands::printing::Shown;
 use dma_commands::transfers::transfer_of;
@@ -84,25 +86,32 @@ fn answer_terminate<N: DeskName, R: Wait>(
 }
 
 /// Executes `status CH COOKIE`, which asks the reader. Nothing publishes meanwhile, so a reader that answers has the
-/// status of the desk.
-fn answer_status<N: DeskName>(
+/// status of the desk. No contract says so: with another one this would wait forever.
+fn answer_status<N: DeskName, R: Wait>(
+    rt: &R,
     desk: &Desk<N>,
     reader: &mut StatusReader,
     ch: u8,
     cookie: u32,
     out: &mut Vec<u8>,
 ) -> Result<(), AllocError>
-    ensures line { OnOk result (PrintsStatus desk.now.engine.view ch cookie
+    ensures line { OnOk result (PrintsLine (EarlyPrints desk.now.engine.view
+        (Statement.Call (Call.Status ch cookie))) desk.now.engine.view
         out.old.items out.new.items) }
     ensures err { OnErr result (out.new.items ≡ out.old.items) }
     ensures same { (reader.new.log ≡ reader.old.log) × (reader.new.base ≡ reader.old.base) }
 {
     let status = desk.status(ch, cookie);
-    if reader.status(ch, cookie) == Some(status) {
-        let call = Call::Status { ch, cookie };
-        print_line(out, &Shown((&call, &Reply::State(status))))
-    } else {
-        print_line(out, &"status none")
+    match reader.status(ch, cookie) {
+        None => print_line(out, &"status none"),
+        Some(found) if found == status => {
+            let call = Call::Status { ch, cookie };
+            print_line(out, &Shown((&call, &Reply::State(status))))
+        }
+        Some(_) => {
+            for _ in rt.forever() {}
+            unreachable!()
+        }
     }
 }
 
@@ -116,7 +125,7 @@ struct LinesOnDesk<'a, N: DeskName, R: Wait> {
 impl<N: DeskName, R: Wait> Interpreter for LinesOnDesk<'_, N, R> {
     ghost use Rattle.std.specs.Prelude.{◌≡◌};
     ghost use Rattle.dma_script.specs.Race.{IsEarly};
-    ghost use Rattle.dmasim.specs.inner.RaceSteps.{ActsEarly};
+    ghost use Rattle.dma_commands.specs.Raced.{EarlyPrints};
 
     type Line = Statement;
 
@@ -125,7 +134,7 @@ impl<N: DeskName, R: Wait> Interpreter for LinesOnDesk<'_, N, R> {
     ghost is_ready = { λ lines. (N.log ≡ lines.reader.log) × (N.base ≡ lines.reader.base) };
 
     ghost acts = { λ found line group left.
-        ActsEarly found.desk.engine.view line group left.desk.engine.view };
+        EarlyPrints found.desk.engine.view line group left.desk.engine.view };
 
     fn interpret(&mut self, line: Statement, out: &mut Vec<u8>) -> Result<(), AllocError> {
         match line {
@@ -141,7 +150,7 @@ impl<N: DeskName, R: Wait> Interpreter for LinesOnDesk<'_, N, R> {
                 answer_terminate(self.rt, &mut self.desk, &mut self.reader, ch, out)
             }
             Statement::Call(Call::Status { ch, cookie }) => {
-                answer_status(&self.desk, &mut self.reader, ch, cookie, out)
+                answer_status(self.rt, &self.desk, &mut self.reader, ch, cookie, out)
             }
             Statement::Call(call) => answer_quiet(&mut self.desk, call, out),
             _ => unreachable!(),
@@ -160,8 +169,8 @@ pub fn run_early_statements<N: DeskName, R: Wait>(
 ) -> (Desk<N>, Result<(), AllocError>)
     requires follows { (N.log ≡ reader.log) × (N.base ≡ reader.base) }
     requires early { All IsEarly lines }
-    ensures ok { OnOk result.1 (PrintsAll desk.engine.view lines result.0.engine.view
-        out.old.items out.new.items) }
+    ensures ok { OnOk result.1 (PrintsLines EarlyPrints desk.engine.view lines
+        result.0.engine.view out.old.items out.new.items) }
     ensures err { OnErr result.1 (PrintsFirst desk.engine.view lines out.old.items out.new.items) }
 {
     let mut early = LinesOnDesk { rt, desk, reader };

@@ -1,4 +1,3 @@
-use Rattle.dma_engine.proofs.StaysSound.{calls_stay_sound, new_views_are_sound}
 use Rattle.dma_commands.proofs.CopyEnds.{copies_end}
 use Rattle.dma_commands.proofs.ScriptCopies.{copies_are_whole}
 use Rattle.dma_commands.proofs.ScriptReplies as script
@@ -10,5 +9,5 @@ returns c =
       lines = script.lines_print_answers;
       scripts = script.scripts_print_answers;
       replies = script.scripts_print_replies;
-      copies = copies_are_whole copies_end new_views_are_sound calls_stay_sound;
+      copies = copies_are_whole copies_end;
     }

@@ -1,6 +1,7 @@
 use Rattle.std.proofs.Common.{◌≡◌, ◌+◌, ◌∙◌, arith, subst, sym, add-one}
-use Rattle.dma_work.specs.Rotation.{channel_at, rotation}
-use Rattle.dma_work.proofs.Rotations.{channel_again, channel_next, one_more}
+use Rattle.dma_engine.specs.Interleaved.{channel_at, rotation}
+use Rattle.dma_engine.proofs.Interleavings.{channel_again, channel_next}
+use Rattle.dma_work.proofs.Rotations.{one_more}
 use Rattle.dma_work.proofs.worker.take_turns.Goals as goal
 use Rattle.dma_work.proofs.worker.take_turns.Goals.{then-ch-job, else-ch-job}
 
@@ -23,8 +24,8 @@ loop-n-preserved g c =
     record {
       worker = c.turn-in-loop-n.ensures.worker ∙ i.worker;
       there = elim c.if-ch-job.branch [
-        | then-ch-job w ↦ w.ch-is ∙ channel_next first last n c.loop-n.ch c.args.job.in_order i.there (omega (arith, w.if-ch-job.true))
-        | else-ch-job w ↦ w.ch-is ∙ channel_again first last n c.loop-n.ch c.args.job.in_order i.there (omega (arith, w.if-ch-job.false))
+        | then-ch-job w ↦ w.ch-is ∙ channel_next first last n c.loop-n.ch i.there (omega (arith, w.if-ch-job.true))
+        | else-ch-job w ↦ w.ch-is ∙ channel_again first last n c.loop-n.ch i.there (omega (arith, w.if-ch-job.false))
       ];
       acts = rw add-one (one_more Acts (rotation first last n) (channel_at first last n) c.args.stepper.now c.loop-n.stepper c.turn-in-loop-n.new.self i.acts here);
       taken = omega (arith, c.turn-in-loop-n.ensures.taken, i.taken);

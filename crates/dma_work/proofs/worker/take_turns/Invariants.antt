@@ -1,5 +1,6 @@
 use Rattle.std.proofs.Common.{◌≡◌, ◌+◌}
-use Rattle.dma_work.specs.Rotation.{StepsInTurn, channel_at, rotation}
+use Rattle.dma_engine.specs.Interleaved.{channel_at, rotation}
+use Rattle.dma_work.specs.Rotation.{StepsInTurn}
 use Rattle.dma_work.proofs.worker.take_turns.Given as goal
 
 abbrev pub invariant-loop-n : goal.invariant-loop-n

@@ -1,6 +1,6 @@
 -- The jobs of the lines so far.
 use Rattle.std.proofs.Common.{take}
-use Rattle.dmasim.specs.Race.{AreJobs}
+use Rattle.dmasim.specs.inner.RaceSteps.{AreJobs}
 use Rattle.dmasim.proofs.race.jobs_of.Given as goal
 
 abbrev pub invariant-loop-line : goal.invariant-loop-line

@@ -1,7 +1,7 @@
 use Rattle.std.proofs.Common.{◌≡◌, codes, refl, subst, rules}
 use Rattle.dma_commands.proofs.RunLemmas.{answers_memory}
-use Rattle.dmasim.specs.Race.{AreJobs, first_view, no_reader, raced_refused}
-use Rattle.dmasim.specs.inner.RaceSteps.{PrintsFirst, PrintsGo}
+use Rattle.dma_commands.specs.Raced.{first_view, no_reader, raced_refused}
+use Rattle.dmasim.specs.inner.RaceSteps.{AreJobs, PrintsFirst, PrintsGo}
 use Rattle.dmasim.proofs.RaceLemmas.{first_answer, none_answer, whole_answer}
 use Rattle.dmasim.proofs.race.run_race.Goals as goal
 
@@ -20,9 +20,8 @@ returns-in_err-engine g c =
     let script = c.args.script in
     let old = c.args.out.now.items in
     let new = c.raced.new.out.items in
-    let jobs : AreJobs script.jobs c.in_ok-rota.rota = search rules in
     let is : c.in-Some.parts.engine.view ≡ first_view script = search rules in
-    first_answer script c.from_residual-in_err-engine.result old new c.in_ok-rota.rota jobs c.from_residual-in_err-engine.ensures.0 (subst (λ v. PrintsFirst v script.before.statements old new) is c.in_err-engine.ensures.err)
+    first_answer script c.from_residual-in_err-engine.result old new c.from_residual-in_err-engine.ensures.0 (subst (λ v. PrintsFirst v script.before.statements old new) is c.in_err-engine.ensures.err)
 
 pub returns : goal.returns
 returns g c =

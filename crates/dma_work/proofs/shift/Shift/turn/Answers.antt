@@ -1,26 +1,19 @@
 use Rattle.std.proofs.Common.{sym, subst}
-use Rattle.dma_work.specs.declared.worker.Totals.{Totals}
-use Rattle.dma_work.specs.Shift.{ShiftState, TakesATurn}
-use Rattle.dma_work.specs.inner.InTurn.{IsInTurn}
+use Rattle.dma_work.specs.Shift.{ShiftState, TakesATurn, TakesNext}
 use Rattle.dma_work.proofs.InTurns.{in_turn_more}
 use Rattle.dma_work.proofs.shift.Shift.turn.Goals as goal
 
-pub invariant_of-self-2 : goal.invariant_of-self-2
-invariant_of-self-2 g c =
-    let opening = g.N.DeskName.opening in
-    let jobs = g.N.DeskName.jobs in
+pub invariant_of-self : goal.invariant_of-self
+invariant_of-self g c =
     let inside = c.self.inside in
-    let now = c.step.new.self in
-    subst (λ (b : Totals). IsInTurn opening jobs now.engine.view b c.take.new.self) (sym c.step.ensures.book)
-    (in_turn_more opening jobs inside.desk.engine.view now.engine.view inside.desk.book c.args.worker c.in-Some.ch c.step.result inside.seats c.take.new.self c.step.ensures.answer c.in-Some.ensures.some c.self.invariant)
+    in_turn_more g.N.DeskName.opening g.N.DeskName.jobs inside.desk c.take_step.new.desk c.args.worker c.in-Some.ch inside.seats c.set.new.self c.in-Ok.ensures.ok
+    (subst (TakesNext c.args.worker c.in-Some.ch inside.seats) (sym c.set.ensures) c.in-Some.ensures.some) c.self.invariant
 
-pub returns-clause-taken : goal.returns-clause-taken
-returns-clause-taken g c _ =
-    subst (λ (s : ShiftState). TakesATurn c.args.worker s (record { desk = c.step.new.self; seats = c.take.new.self })) c.self.view_is (record {
+pub returns-in-Ok : goal.returns-in-Ok
+returns-in-Ok g c =
+    subst (λ (s : ShiftState). TakesATurn c.args.worker s (record { desk = c.take_step.new.desk; seats = c.set.new.self; is_starved = c.self.inside.is_starved })) c.self.view_is (record {
+      not_starved = (c.if-self.false, c.if-self.false);
       channel = c.in-Some.ch;
-      next = c.in-Some.ensures.some;
-      answer = c.step.result;
-      step = c.step.ensures.answer;
-      book = c.step.ensures.book;
-      before_history = c.step.ensures.before;
+      next = subst (TakesNext c.args.worker c.in-Some.ch c.self.inside.seats) (sym c.set.ensures) c.in-Some.ensures.some;
+      step = c.in-Ok.ensures.ok;
     })

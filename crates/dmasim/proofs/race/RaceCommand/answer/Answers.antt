@@ -1,7 +1,7 @@
 use Rattle.std.proofs.Common.{◌≡◌, Ok, subst, sym}
 use Rattle.dma_script.specs.Command.{MayAnswer}
 use Rattle.dma_script.specs.Race.{race_script_of}
-use Rattle.dmasim.specs.Race.{race_prints_of}
+use Rattle.dma_commands.specs.Raced.{race_prints_of}
 use Rattle.dmasim.proofs.RaceLemmas.{race_refused}
 use Rattle.dmasim.proofs.race.RaceCommand.answer.Goals as goal
 

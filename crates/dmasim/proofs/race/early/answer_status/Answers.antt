@@ -6,12 +6,12 @@ use Rattle.dma_commands.specs.Printed.{call_line}
 use Rattle.dma_commands.specs.Run.{Answered}
 use Rattle.dmasim.proofs.race.early.answer_status.Goals as goal
 
-pub returns-then-eq-clause-line : goal.returns-then-eq-clause-line
-returns-then-eq-clause-line g c =
+pub returns-in-Some-clause-line : goal.returns-in-Some-clause-line
+returns-in-Some-clause-line g c =
     let v = c.args.desk.now.engine.view in
     let call = calls.Status c.args.ch c.args.cookie in
-    on_ok_weaker c.print_line.result (λ text. record { line = _; allowed = inl (ap {B = Answered} (λ s. (call_line call (State s) ∷ [], v)) (sym c.status-status.ensures)); text = text }) c.print_line.ensures.ok
+    on_ok_weaker c.print_line-in-Some.result (λ text. record { group = _; acted = inl (ap {B = Answered} (λ s. (call_line call (State s) ∷ [], v)) (sym c.status-status.ensures)); text = text }) c.print_line-in-Some.ensures.ok
 
-pub returns-else-eq-clause-line : goal.returns-else-eq-clause-line
-returns-else-eq-clause-line g c =
-    on_ok_weaker c.print_line-else-eq.result (λ text. record { line = codes "status none"; allowed = inr (refl, refl); text = text }) c.print_line-else-eq.ensures.ok
+pub returns-in-None-clause-line : goal.returns-in-None-clause-line
+returns-in-None-clause-line g c =
+    on_ok_weaker c.print_line.result (λ text. record { group = codes "status none" ∷ []; acted = inr (refl, refl); text = text }) c.print_line.ensures.ok

@@ -15,4 +15,4 @@ returns-clause-ok g c = after_ok c.run-answer.result c.run-answer.ensures.ok (λ
 
 pub returns-clause-err : goal.returns-clause-err
 returns-clause-err g c =
-    after_err c.run-answer.result c.run-answer.ensures.err (λ stop. first_early (λ lines. lines.desk.engine.view) _ _ _ _ _ _ c.requires.early stop)
+    after_err c.run-answer.result c.run-answer.ensures.err (λ stop. first_early (λ lines. lines.desk.engine.view) _ _ _ _ _ _ stop)
