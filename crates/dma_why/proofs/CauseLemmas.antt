@@ -1,50 +1,230 @@
--- Why a step of an issued front changes nothing.
-use Rattle.std.proofs.Common.{◌≡◌, ℕ, ◌<◌, Option, Some, None, false, refl, arith, inl, inr, ◌⊎◌}
-use Rattle.std.specs.Prelude.{◌==◌, nat_le, Result, Ok}
-use Rattle.std.proofs.lemmas.Bool.{cond_both, lt-leb, ne_eqb}
+-- Waits lead from each channel with an unfinished cookie to a cause, if no channel's step changes anything.
+use Rattle.std.proofs.Common.{◌≡◌, ℕ, ◌+◌, ◌<◌, ◌≤◌, zero, suc, List, [], ◌∷◌, ◌++◌, Option, Some, None, Bool, false, refl, ap, sym, subst, arith, inl, inr, ◌⊎◌}
+use Rattle.std.specs.Prelude.{◌==◌, if◌then◌else◌, is_some, length, nat_le, not, IsSome, Result, Ok, Err}
+use Rattle.std.specs.List.{All, Contains, list_all}
+use Rattle.std.proofs.lemmas.Bool.{cases_Bool, cases_lt, cases_order, cond_both, eqb-false, lt-leb, not-true}
+use Rattle.std.proofs.lemmas.List.{get_or_past}
+use Rattle.std.proofs.lemmas.Option.{slice_get_within}
+use Rattle.std.proofs.lemmas.List.Elements.{All-append, All-cons, All-nil, All-weaker}
 use Rattle.dma_insn.specs.declared.chip.ChipInsn.{ChipInsn}
 use Rattle.dma_insn.specs.declared.chip.ChipInsn.TheVariants.{Ld, St, Wfe}
-use Rattle.dma_mem.specs.Places.{Descriptor}
+use Rattle.dma_mem.specs.Places.{Descriptor, is_free_of}
 use Rattle.dma_mem.specs.Marking.{meets_mark}
 use Rattle.dma_mem.specs.declared.marks.MarkKind.TheVariants.{Reading, Writing}
 use Rattle.dma_chan.specs.Traffic.{member, read_places, written_places}
 use Rattle.dma_engine.specs.declared.fault.EngineFault.{EngineFault}
+use Rattle.dma_engine.specs.declared.fault.EngineFault.TheVariants.{StepsSpent}
 use Rattle.dma_engine.specs.declared.turn.Turn.{Turn}
-use Rattle.dma_engine.specs.declared.turn.Turn.TheVariants.{Held, Waiting}
-use Rattle.dma_engine.specs.Object.{is_set}
+use Rattle.dma_engine.specs.declared.turn.Turn.TheVariants.{Halted, Paused, Waiting}
+use Rattle.dma_engine.specs.Object.{channel, empty_channel, front, is_set, issued_front, unfinished}
 use Rattle.dma_engine.specs.Room.{IsIdle}
 use Rattle.dma_engine.specs.Turn.{Stepped, first_conflicting, front_turn, insn_turn, last_step, start_turn, turn}
-use Rattle.dma_engine.specs.View.{RunningTransfer, View, channels, object_of, schedule_at}
-use Rattle.dma_why.specs.Laws.{HasFront}
+use Rattle.dma_engine.specs.View.{RunningTransfer, View, channels, object_of, running, schedule_at}
+use Rattle.dma_engine.proofs.Queues.{front_issued}
+use Rattle.dma_why.specs.declared.waits.Cookie.{Cookie}
+use Rattle.dma_why.specs.declared.waits.Wait.{Wait}
+use Rattle.dma_why.specs.Circles.{IsWay, circle_from}
+use Rattle.dma_why.specs.Laws.{AreNotOnOneChannel, CausesAreNamed, IsCause}
+use Rattle.dma_why.specs.Waits.{event_wait, holder, holders, holders_of, signallers, waits_by, waits_of}
+use Rattle.dma_why.proofs.CircleLemmas.{circle_found}
+use Rattle.dma_why.proofs.Members.{filter_map_in, in_find, in_first, in_rest, map_in}
+use Rattle.dma_why.proofs.ViewWaits.{holder_holds, runs_named, says, signaller_would, wait_of_view, wait_says, waits_below}
 
--- a step that is held, or that waits for an event
-abbrev pub IsCause : Result Turn EngineFault → Type 0
-IsCause r = ((other : ℕ) × (cookie : ℕ) × (r ≡ Ok (Held other cookie))) ⊎ ((event : ℕ) × (r ≡ Ok (Waiting event)))
+-- ---- a channel whose step changes nothing has a cause, or waits for another
 
--- a step that changes nothing is one
-abbrev Caused : Stepped → Type 0
-Caused s = IsIdle s.0 → IsCause s.0
+abbrev Why : View → ℕ → Result Turn EngineFault → Type 0
+Why v ch r = IsCause v ch r ⊎ ((w : Wait) × Contains (waits_by v ch r) w)
 
-start_cause : (v : View) (ch : ℕ) (x : Option RunningTransfer) → Caused (start_turn v ch x)
-start_cause v ch None h = absurd h
-start_cause v ch (Some r) h = inl (r.ch, r.cookie, refl)
+-- one that doesn't pass the test
+not_all : {X : Type 0} (p : X → Bool) (xs : List X) → list_all p xs ≡ false → (y : X) × Contains xs y × (p y ≡ false)
+not_all p [] h = absurd cc
+not_all p (x ∷ xs) h = elim (cases_Bool (p x)) [
+  | inr e ↦ (x, in_first x xs, e)
+  | inl e ↦ let r = not_all p xs (rw e at h) in (r.0, in_rest x xs r.0 r.1, r.2)
+]
 
-insn_cause : (v : View) (ch n : ℕ) (t : Descriptor) (i : ChipInsn) → Caused (insn_turn v ch t n i)
-insn_cause v ch n t Ld =
-    cond_both {A = Stepped} (meets_mark Reading (object_of v).marks (read_places t n)) _ _ Caused (λ _ h. absurd h) (λ _ h. absurd h)
-insn_cause v ch n t St =
-    cond_both {A = Stepped} (meets_mark Writing (object_of v).marks (written_places t n)) _ _ Caused (λ _ h. absurd h) (λ _ h. absurd h)
-insn_cause v ch n t (Wfe e i) =
-    cond_both {A = Stepped} (is_set (object_of v) e) _ (Ok (Waiting e), v) Caused (λ _ h. absurd h) (λ _ _. inr (e, refl))
-insn_cause v ch n t i = λ h. absurd h
+why_event : (ch event : ℕ) (found : List Cookie) → AreNotOnOneChannel found ⊎ ((w : Wait) × Contains (event_wait ch event found) w)
+why_event ch event [] = inl (inl refl)
+why_event ch event (x ∷ xs) = elim (cases_Bool (list_all (λ c. c.ch == x.ch) (x ∷ xs))) [
+  | inl e ↦ inr (record { ch = ch; event = Some event; by = x }, rw e (in_first _ []))
+  | inr e ↦
+      let y = not_all (λ c. c.ch == x.ch) (x ∷ xs) e in inl (inr (y.0, x, y.1, in_first x xs, eqb-false y.0.ch x.ch y.2))
+]
 
-front_cause : (v : View) (ch : ℕ) (t : Descriptor) (taken : Option ℕ) → v.steps < last_step → Caused (front_turn v ch (Some t) taken)
-front_cause v ch t None few = start_cause v ch (first_conflicting v t)
-front_cause v ch t (Some n) few =
-    let e : (v.steps == last_step) ≡ false = ne_eqb v.steps last_step (λ e. omega (arith, e, few)) in
-    rw e (insn_cause v ch n t (member t n))
+insn_why : (v : View) (ch n : ℕ) (t : Descriptor) (i : ChipInsn) → IsIdle (insn_turn v ch t n i).0 → Why v ch (insn_turn v ch t n i).0
+insn_why v ch n t Ld =
+    cond_both {A = Stepped} (meets_mark Reading (object_of v).marks (read_places t n)) _ _ (λ x. IsIdle x.0 → Why v ch x.0) (λ _ h. absurd h) (λ _ h. absurd h)
+insn_why v ch n t St =
+    cond_both {A = Stepped} (meets_mark Writing (object_of v).marks (written_places t n)) _ _ (λ x. IsIdle x.0 → Why v ch x.0) (λ _ h. absurd h) (λ _ h. absurd h)
+insn_why v ch n t (Wfe event invalid) =
+    cond_both {A = Stepped} (is_set (object_of v) event) _ (Ok (Waiting event), v) (λ x. IsIdle x.0 → Why v ch x.0) (λ _ h. absurd h)
+    (λ _ _. why_event ch event (signallers (object_of v) event))
+insn_why v ch n t i = λ h. absurd h
 
-pub causes : (v : View) (ch : ℕ) → HasFront v ch → v.steps < last_step → IsIdle (turn v ch).0 → IsCause (turn v ch).0
-causes v ch f few =
-    let there : nat_le (channels v) ch ≡ false = lt-leb _ _ f.there in
-    rw (there, f.goes, f.steps, f.issued.1) (front_cause v ch f.issued.0 (schedule_at v ch).taken few)
+-- a front that is held: by the first that it isn't free of, among others
+start_why : (v : View) (ch : ℕ) (t : Descriptor) (x : Option RunningTransfer) → front (channel (object_of v) ch) ≡ Some t → first_conflicting v t ≡ x → IsIdle (start_turn v ch x).0 → Why v ch (start_turn v ch x).0
+start_why v ch t None is found h = absurd h
+start_why v ch t (Some r) is found h =
+    let f = in_find (λ y. not (is_free_of t y.transfer)) (running (object_of v) v.schedule) r found in
+    let conflicts : is_free_of t r.transfer ≡ false = not-true _ f.1 in
+    let by : Cookie = record { ch = r.ch; number = r.cookie } in
+    let here : Contains (holders_of v (Some t)) by = filter_map_in (holder t) (running (object_of v) v.schedule) r by f.0 (rw conflicts refl) in
+    let all : Contains (holders v ch) by = subst (λ o. Contains (holders_of v o) by) (sym is) here in
+    let mk : Cookie → Wait = λ by. record { ch = ch; event = None; by = by } in
+    inr (mk by, map_in mk (holders v ch) by all)
+
+front_why : (v : View) (ch : ℕ) (x : Option Descriptor) (taken : Option ℕ) → issued_front (channel (object_of v) ch) ≡ x → 0 < unfinished (channel (object_of v) ch) → IsIdle (front_turn v ch x taken).0 → Why v ch (front_turn v ch x taken).0
+front_why v ch None taken is works h = inl works
+front_why v ch (Some t) None is works h = start_why v ch t (first_conflicting v t) (front_issued (channel (object_of v) ch) t is) refl h
+front_why v ch (Some t) (Some n) is works h =
+    cond_both {A = Stepped} (v.steps == last_step) (Err StepsSpent, v) (insn_turn v ch t n (member t n)) (λ x. IsIdle x.0 → Why v ch x.0)
+    (λ _ _. inl tt) (λ _ i. insn_why v ch n t (member t n) i) h
+
+-- a channel with an unfinished cookie exists
+works_there : (v : View) (ch : ℕ) → 0 < unfinished (channel (object_of v) ch) → ch < channels v
+works_there v ch works = elim (cases_lt ch (channels v)) [
+  | inl less ↦ less
+  | inr past ↦
+      let none : unfinished (channel (object_of v) ch) ≡ 0 = ap unfinished (get_or_past (object_of v).channels ch empty_channel past) in
+      absurd (omega (arith, works, none))
+]
+
+why : (v : View) (ch : ℕ) → 0 < unfinished (channel (object_of v) ch) → IsIdle (turn v ch).0 → Why v ch (turn v ch).0
+why v ch works =
+    let c = channel (object_of v) ch in
+    let s = schedule_at v ch in
+    let last = front_turn v ch (issued_front c) s.taken in
+    let third : Stepped = if s.paused then (Ok Paused, v) else last in
+    let here : nat_le (channels v) ch ≡ false = lt-leb _ _ (works_there v ch works) in
+    let P : Stepped → Type 0 = λ x. IsIdle x.0 → Why v ch x.0 in
+    rw here (cond_both {A = Stepped} c.halted (Ok Halted, v) third P (λ _ _. inl tt)
+    (λ _. cond_both {A = Stepped} s.paused (Ok Paused, v) last P (λ _ _. inl tt)
+    (λ _. front_why v ch (issued_front c) s.taken refl works)))
+
+-- and what it waits for has an unfinished cookie
+wait_works : (v : View) (w : Wait) → Contains (waits_of v) w → 0 < unfinished (channel (object_of v) w.by.ch)
+wait_works v w i = elim (wait_says v w i).1.1 [
+  | inl h ↦
+      let k = holder_holds v w.ch w.by h.by in
+      let c = channel (object_of v) w.by.ch in
+      let named = runs_named w.by.ch c (schedule_at v w.by.ch).taken k.other k.runs in
+      omega (arith, slice_get_within c.submitted (length c.outcomes) k.other.transfer named.1)
+  | inr h ↦ let would = (signaller_would (object_of v) h.event w.by h.by).1 in omega (arith, would.0, would.1)
+]
+
+-- ---- ways
+
+way_joined : (from mid to : ℕ) (p q : List Wait) → IsWay from mid p → IsWay mid to q → IsWay from to (p ++ q)
+way_joined from mid to [] q p_is q_is = subst (λ c. IsWay c to q) (sym p_is) q_is
+way_joined from mid to (w ∷ p) q p_is q_is = (p_is.0, way_joined w.by.ch mid to p q p_is.1 q_is)
+
+-- a channel with a cause, or from which a circle is named
+abbrev Done : View → ℕ → Type 0
+Done v end = IsCause v end (turn v end).0 ⊎ IsSome (circle_from (waits_of v) (channels v) end)
+
+-- Waits lead over channels from `low` on to such a channel, or to one below `low`.
+record Leads (v : View) (low ch : ℕ) : Type 0 where
+  end : ℕ
+  way : List Wait
+  waits : All (Contains (waits_of v)) way
+  leads : IsWay ch end way
+  above : All (λ x. low ≤ x.ch) way
+  cause : Done v end ⊎ ((end < low) × (0 < unfinished (channel (object_of v) end)))
+
+at_once : (v : View) (low ch : ℕ) → Done v ch → Leads v low ch
+at_once v low ch done =
+    record { end = ch; way = []; waits = All-nil (Contains (waits_of v)); leads = refl; above = All-nil (λ x. low ≤ x.ch); cause = inl done }
+
+-- one wait more before the way
+on : (v : View) (low : ℕ) (w : Wait) → Contains (waits_of v) w → low ≤ w.ch → Leads v low w.by.ch → Leads v low w.ch
+on v low w i above r = record {
+  end = r.end;
+  way = w ∷ r.way;
+  waits = All-cons (Contains (waits_of v)) w r.way i r.waits;
+  leads = (refl, r.leads);
+  above = All-cons (λ x. low ≤ x.ch) w r.way above r.above;
+  cause = r.cause;
+}
+
+-- a way back is a circle
+circle_done : (v : View) (low : ℕ) (w : Wait) (way : List Wait) → Contains (waits_of v) w → w.ch ≡ low → All (Contains (waits_of v)) way → IsWay w.by.ch low way → All (λ x. low + 1 ≤ x.ch) way → Done v low
+circle_done v low w way i here waits leads above =
+    let among = All-cons (Contains (waits_of v)) w way i waits in
+    let higher = All-weaker (λ x. low + 1 ≤ x.ch) (λ x. low < x.ch) (λ x h. omega (arith, h)) way above in
+    let f = circle_found (waits_of v) (channels v) low (w ∷ way) (waits_below v) (among, (here, leads), higher) in
+    inr (ap is_some f.1.1)
+
+-- From `low`, if each higher channel leads on over higher ones.
+from_low : (v : View) (low : ℕ) → ((ch : ℕ) → IsIdle (turn v ch).0) → ((ch : ℕ) → low < ch → 0 < unfinished (channel (object_of v) ch) → Leads v (low + 1) ch) → 0 < unfinished (channel (object_of v) low) → Leads v low low
+from_low v low idle later works = elim (why v low works (idle low)) [
+  | inl cause ↦ at_once v low low (inl cause)
+  | inr f ↦ by_wait f.0 (wait_of_view v low f.0 (works_there v low works) f.1) (says v low (turn v low).0 f.0 f.1).0
+] where
+  after : (w : Wait) → Contains (waits_of v) w → w.ch ≡ low → Leads v (low + 1) w.by.ch → Leads v low low
+  after w i here r =
+      let wider = All-weaker (λ x. low + 1 ≤ x.ch) (λ x. low ≤ x.ch) (λ x h. omega (arith, h)) r.way r.above in
+      let go : Done v r.end ⊎ ((r.end < low) × (0 < unfinished (channel (object_of v) r.end))) → Leads v low low = λ cause.
+      subst (Leads v low) here (on v low w i (omega (arith, here)) (record { end = r.end; way = r.way; waits = r.waits; leads = r.leads; above = wider; cause = cause })) in
+      elim r.cause [
+        | inl done ↦ go (inl done)
+        | inr past ↦ elim (cases_lt r.end low) [
+          | inl less ↦ go (inr (less, past.1))
+          | inr same ↦
+              let back : r.end ≡ low = omega (arith, same, past.0) in
+              at_once v low low (circle_done v low w r.way i here r.waits (subst (λ c. IsWay w.by.ch c r.way) back r.leads) r.above)
+        ]
+      ]
+
+  by_wait : (w : Wait) → Contains (waits_of v) w → w.ch ≡ low → Leads v low low
+  by_wait w i here = elim (cases_order w.by.ch low) [
+    | inl same ↦ at_once v low low (circle_done v low w [] i here (All-nil (Contains (waits_of v))) same (All-nil (λ x. low + 1 ≤ x.ch)))
+    | inr (inl less) ↦
+        subst (Leads v low) here (on v low w i (omega (arith, here)) (record { end = w.by.ch; way = []; waits = All-nil (Contains (waits_of v)); leads = refl; above = All-nil (λ x. low ≤ x.ch); cause = inr (less, wait_works v w i) }))
+    | inr (inr more) ↦ after w i here (later w.by.ch more (wait_works v w i))
+  ]
+
+-- from each channel from `low` on, if each higher one leads on
+from_above : (v : View) (low : ℕ) → ((ch : ℕ) → IsIdle (turn v ch).0) → ((ch : ℕ) → low < ch → 0 < unfinished (channel (object_of v) ch) → Leads v (low + 1) ch) → (ch : ℕ) → low ≤ ch → 0 < unfinished (channel (object_of v) ch) → Leads v low ch
+from_above v low idle later ch above works = by (cases_lt low ch) where
+  by : (low < ch) ⊎ (ch ≤ low) → Leads v low ch
+  by (inr same) =
+      let here : ch ≡ low = omega (arith, same, above) in
+      subst (Leads v low) (sym here) (from_low v low idle later (subst (λ c. 0 < unfinished (channel (object_of v) c)) here works))
+  by (inl less) =
+      let r = later ch less works in
+      let wider = All-weaker (λ x. low + 1 ≤ x.ch) (λ x. low ≤ x.ch) (λ x h. omega (arith, h)) r.way r.above in
+      let still : Done v r.end ⊎ ((r.end < low) × (0 < unfinished (channel (object_of v) r.end))) → Leads v low ch = λ cause.
+      record { end = r.end; way = r.way; waits = r.waits; leads = r.leads; above = wider; cause = cause } in
+      elim r.cause [
+        | inl done ↦ still (inl done)
+        | inr past ↦ elim (cases_lt r.end low) [
+          | inl lower ↦ still (inr (lower, past.1))
+          | inr same ↦
+              let back : r.end ≡ low = omega (arith, same, past.0) in
+              let l = from_low v low idle later (subst (λ c. 0 < unfinished (channel (object_of v) c)) back past.1) in
+              record {
+                end = l.end;
+                way = r.way ++ l.way;
+                waits = All-append (Contains (waits_of v)) r.way l.way r.waits l.waits;
+                leads = way_joined ch low l.end r.way l.way (subst (λ c. IsWay ch c r.way) back r.leads) l.leads;
+                above = All-append (λ x. low ≤ x.ch) r.way l.way wider l.above;
+                cause = l.cause;
+              }
+        ]
+      ]
+
+all_lead : (v : View) → ((ch : ℕ) → IsIdle (turn v ch).0) → (n low : ℕ) → low + n ≡ channels v → (ch : ℕ) → low ≤ ch → 0 < unfinished (channel (object_of v) ch) → Leads v low ch
+all_lead v idle zero low m ch above works = absurd (omega (arith, works_there v ch works, above, m))
+all_lead v idle (suc n) low m ch above works =
+    from_above v low idle (λ d less there. all_lead v idle n (low + 1) (omega (arith, m)) d (omega (arith, less)) there) ch above works
+
+pub causes_are_named : CausesAreNamed
+causes_are_named v idle ch works =
+    let r = all_lead v idle (channels v) 0 (omega arith) ch (omega arith) works in
+    record {
+      end = r.end;
+      way = r.way;
+      waits = r.waits;
+      leads = r.leads;
+      cause = elim r.cause [ inl done ↦ done | inr none ↦ absurd (omega (arith, none.0)) ];
+    }

@@ -1,3 +1,8 @@
+pub mod Members
+pub mod ViewWaits
+pub mod TurnParts
+pub mod StepChanges
+pub mod Stays
 pub mod CircleLemmas
 pub mod CauseLemmas
 pub mod WaitLemmas

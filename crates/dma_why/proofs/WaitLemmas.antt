@@ -1,12 +1,18 @@
--- Lists of cookies and of channels, one more at a time.
-use Rattle.std.proofs.Common.{◌≡◌, ℕ, ◌+◌, List, [], ◌∷◌, ◌++◌, map, zero-add, Bool, true, false, refl, ap, sym, ◌∙◌, append_assoc, append-nil}
-use Rattle.std.specs.List.{filter, flat_map, range_with_len}
+-- Lists of cookies, of waits and of channels, one more at a time.
+use Rattle.std.proofs.Common.{◌≡◌, ℕ, ◌+◌, List, [], ◌∷◌, ◌++◌, map, zero-add, Bool, true, false, refl, ap, sym, subst, ◌∙◌, append_assoc, append-nil, Option, Some, None}
+use Rattle.std.specs.Prelude.{◌==◌, slice_get}
+use Rattle.std.specs.List.{cons_option, filter, filter_map, flat_map, list_all, range_with_len}
+use Rattle.std.specs.Option.{option_and_then, option_to_list}
 use Rattle.std.proofs.lemmas.List.{flat_map_more, map-append}
-use Rattle.std.proofs.lemmas.List.FromFn.{map-range_with_len_more}
 use Rattle.std.proofs.lemmas.List.Concat.{flat_map-append}
-use Rattle.std.proofs.lemmas.List.Elements.{filter-append}
+use Rattle.std.proofs.lemmas.List.Elements.{filter-append, filter_map-append}
 use Rattle.dma_script.specs.Command.{text_of}
-use Rattle.dma_engine.proofs.WhatRuns.{range_with_len_add}
+use Rattle.dma_mem.specs.Places.{Descriptor}
+use Rattle.dma_engine.specs.Object.{Object}
+use Rattle.dma_engine.specs.View.{ChannelSchedule, RunningTransfer, View, channels, object_of, running, runs}
+use Rattle.dma_engine.proofs.WhatRuns.{below, below_more_law, range_with_len_add}
+use Rattle.dma_why.specs.declared.waits.Cookie.{Cookie}
+use Rattle.dma_why.specs.Waits.{event_wait, holder, holders_of}
 
 -- one number more
 pub range_more : (a n : ℕ) → range_with_len a (n + 1) ≡ range_with_len a n ++ (a + n) ∷ []
@@ -56,7 +62,42 @@ text_more f before now new n so_far more =
 pub items_more : {X : Type 0} (f : ℕ → List X) (now new : List X) (n : ℕ) → now ≡ flat_map f (range_with_len 0 n) → new ≡ now ++ f n → new ≡ flat_map f (range_with_len 0 (n + 1))
 items_more f now new n so_far more = more ∙ ap (λ l. l ++ f n) so_far ∙ channels_more f [] n
 
-pub item_more : {X : Type 0} (f : ℕ → X) (now new : List X) (n : ℕ) (x : X) → now ≡ map f (range_with_len 0 n) → new ≡ now ++ x ∷ [] → x ≡ f n → new ≡ map f (range_with_len 0 (n + 1))
-item_more f now new n x so_far more is =
-    more ∙ ap (λ l. l ++ x ∷ []) so_far ∙ ap (λ y. map f (range_with_len 0 n) ++ y ∷ []) is
-    ∙ sym (map-range_with_len_more f 0 n n (zero-add n))
+-- ---- the wait for an event
+
+-- if all cookies that would signal it are on one channel, or not
+pub one_wait : (ch event : ℕ) (found : List Cookie) (by : Cookie) → Some by ≡ slice_get found 0 → list_all (λ c. c.ch == by.ch) found ≡ true → record { ch = ch; event = Some event; by = by } ∷ [] ≡ event_wait ch event found
+one_wait ch event [] by first all = absurd cc
+one_wait ch event (x ∷ xs) by first all =
+    let same : by ≡ x = cc in
+    let one : list_all (λ c. c.ch == x.ch) (x ∷ xs) ≡ true = subst (λ y. list_all (λ c. c.ch == y.ch) (x ∷ xs) ≡ true) same all in
+    rw (same, one) refl
+
+pub no_wait : (ch event : ℕ) (found : List Cookie) (by : Cookie) → Some by ≡ slice_get found 0 → list_all (λ c. c.ch == by.ch) found ≡ false → [] ≡ event_wait ch event found
+no_wait ch event [] by first all = absurd cc
+no_wait ch event (x ∷ xs) by first all =
+    let same : by ≡ x = cc in
+    let other : list_all (λ c. c.ch == x.ch) (x ∷ xs) ≡ false = subst (λ y. list_all (λ c. c.ch == y.ch) (x ∷ xs) ≡ false) same all in
+    rw other refl
+
+-- ---- the fronts that hold a transfer
+
+held_here : (t : Descriptor) (x : Option RunningTransfer) → filter_map (holder t) (option_to_list x) ≡ option_to_list (option_and_then (holder t) x)
+held_here t None = refl
+held_here t (Some r) = by (holder t r) where
+  by : (y : Option Cookie) → cons_option y [] ≡ option_to_list y
+  by None = refl
+  by (Some c) = refl
+
+-- those on one channel more
+pub held_more : (t : Descriptor) (o : Object) (s : List ChannelSchedule) (ch : ℕ) (found : List Cookie) (x : Option Cookie) → found ≡ filter_map (holder t) (below o s ch) → x ≡ option_and_then (holder t) (runs o s ch) → found ++ option_to_list x ≡ filter_map (holder t) (below o s (ch + 1))
+held_more t o s ch found x so_far here =
+    ap (λ l. l ++ option_to_list x) so_far
+    ∙ ap (λ y. filter_map (holder t) (below o s ch) ++ option_to_list y) here
+    ∙ ap (λ l. filter_map (holder t) (below o s ch) ++ l) (sym (held_here t (runs o s ch)))
+    ∙ sym (filter_map-append (holder t) (below o s ch) (option_to_list (runs o s ch)))
+    ∙ ap (filter_map (holder t)) (sym (below_more_law o s ch))
+
+-- those on all channels
+pub held_all : (v : View) (front : Option Descriptor) (t : Descriptor) (n : ℕ) (found : List Cookie) → front ≡ Some t → n ≡ channels v → found ≡ filter_map (holder t) (below (object_of v) v.schedule n) → found ≡ holders_of v front
+unfolding running
+held_all v front t n found is many so_far = rw (is, ← many) so_far

@@ -1,48 +1,38 @@
--- Circles of channels each of which waits for the next. For an event a channel waits for the channel of the cookies that
--- would signal it, if they are all on one channel.
-use Rattle.std.specs.Prelude.{◌≡◌, ◌<◌, ◌==◌, ℕ, suc, zero, nat_lt, if◌then◌else◌, Option, Some, None, List, [], ◌∷◌, length, slice_index_or}
-use Rattle.std.specs.List.{All}
-use Rattle.std.specs.Option.{option_map}
+-- Circles of channels each of which waits for the next.
+use Rattle.std.specs.Prelude.{◌≡◌, ◌<◌, ◌==◌, ◌&&◌, ℕ, ◌+◌, ◌-◌, suc, zero, Option, Some, None, List, [], ◌∷◌, ◌++◌, find}
+use Rattle.std.specs.List.{All, Contains}
+use Rattle.std.specs.Option.{option_map, option_or}
 use Rattle.dma_why.specs.declared.waits.Wait.{Wait}
-use Rattle.dma_why.specs.declared.waits.Wait.TheVariants.{Front, Event}
 
--- the channel of the cookie that is waited for
-abbrev pub channel_of : Wait → ℕ
-channel_of (Front cookie) = cookie.ch
-channel_of (Event event by) = by.ch
+-- the wait of a channel for another, if it waits for it
+abbrev pub wait_between : List Wait → ℕ → ℕ → Option Wait
+wait_between waits from to = find (λ w. w.ch == from && w.by.ch == to) waits
 
--- what a channel waits for
-abbrev pub wait_at : List (Option Wait) → ℕ → Option Wait
-wait_at waits ch = slice_index_or waits ch None
+-- a way and then another, if there are both
+abbrev pub joined : Option (List Wait) → Option (List Wait) → Option (List Wait)
+joined (Some way) (Some rest) = Some (way ++ rest)
+joined _ _ = None
 
--- the channel for which a channel waits
-abbrev pub next_of : List (Option Wait) → ℕ → Option ℕ
-next_of waits ch = option_map channel_of (wait_at waits ch)
+-- A way from a channel to another, each of whose waits is of the channel for which the one before waits, over the n
+-- channels from `low` on; over `low` itself only if there is none over the others.
+abbrev pub way : List Wait → ℕ → ℕ → ℕ → ℕ → Option (List Wait)
+way waits from to low zero = option_map (λ w. w ∷ []) (wait_between waits from to)
+way waits from to low (suc n) =
+    option_or (way waits from to (low + 1) n)
+    (joined (way waits from low (low + 1) n) (way waits low to (low + 1) n))
 
--- The way back to `first`, given what a channel waits for and the way from each other channel on: none if it doesn't
--- wait, or if it waits for a channel below `first`.
-abbrev pub way_by : ℕ → Option ℕ → (ℕ → Option (List ℕ)) → Option (List ℕ)
-way_by first None way_from = None
-way_by first (Some next) way_from =
-    if next == first then Some [] else (
-    if nat_lt next first then None else option_map (λ more. next ∷ more) (way_from next))
+-- A circle whose lowest channel is this one of `many` channels, if there is one: a way back to it over the channels
+-- above it.
+abbrev pub circle_from : List Wait → ℕ → ℕ → Option (List Wait)
+circle_from waits many first = way waits first first (first + 1) (many - (first + 1))
 
--- The channels after `at` on the way back to `first`, on which each channel waits for the next and the last one for
--- `first`. None if such a way needs more than n waits or leads over a channel below `first`.
-abbrev pub way_back : List (Option Wait) → ℕ → ℕ → ℕ → Option (List ℕ)
-way_back waits first at zero = None
-way_back waits first at (suc n) = way_by first (next_of waits at) (λ next. way_back waits first next n)
+-- These waits lead from a channel to another: each is of the channel for which the one before waits.
+abbrev pub IsWay : ℕ → ℕ → List Wait → Type 0
+IsWay from to [] = from ≡ to
+IsWay from to (w ∷ more) = (w.ch ≡ from) × IsWay w.by.ch to more
 
--- The other channels of the circle whose lowest channel is this one, in order; None if there is no such circle. That
--- these circles are all, and are circles, is `CirclesAreNamed`.
-abbrev pub circle_from : List (Option Wait) → ℕ → Option (List ℕ)
-circle_from waits first = way_back waits first first (length waits)
-
--- Each of these channels waits for the next, and the last one for `first`.
-abbrev pub EachWaits : List (Option Wait) → ℕ → ℕ → List ℕ → Type 0
-EachWaits waits first at [] = next_of waits at ≡ Some first
-EachWaits waits first at (next ∷ more) = (next_of waits at ≡ Some next) × EachWaits waits first next more
-
--- A channel and others above it are a circle: each waits for the next, and the last one for the first.
-abbrev pub IsCircle : List (Option Wait) → ℕ → List ℕ → Type 0
-IsCircle waits first more = EachWaits waits first first more × All (λ ch. first < ch) more
+-- A circle of waits among these: they lead from a channel back to it, over channels above it.
+abbrev pub IsCircle : List Wait → ℕ → List Wait → Type 0
+IsCircle waits first [] = ⊥
+IsCircle waits first (w ∷ more) =
+    All (Contains waits) (w ∷ more) × IsWay first first (w ∷ more) × All (λ x. first < x.ch) more

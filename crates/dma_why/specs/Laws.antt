@@ -1,32 +1,77 @@
 -- What `why` names.
-use Rattle.std.specs.Prelude.{◌≡◌, ◌<◌, ◌⊎◌, ℕ, false, Option, Some, Ok, List, length}
-use Rattle.dma_engine.specs.declared.turn.Turn.TheVariants.{Held, Waiting}
-use Rattle.dma_engine.specs.Object.{channel, issued_front}
+use Rattle.std.specs.Prelude.{◌≡◌, ◌≢◌, ◌<◌, ◌⊎◌, ℕ, Some, IsSome, Result, Ok, Err, List, [], map}
+use Rattle.std.specs.List.{All, AllPairs, Contains}
+use Rattle.dma_mem.specs.declared.call.Call.TheVariants.{Step}
+use Rattle.dma_engine.specs.declared.call.Reply.{Reply}
+use Rattle.dma_engine.specs.declared.fault.EngineFault.{EngineFault}
+use Rattle.dma_engine.specs.declared.fault.EngineFault.TheVariants.{StepsSpent}
+use Rattle.dma_engine.specs.declared.turn.Turn.{Turn}
+use Rattle.dma_engine.specs.declared.turn.Turn.TheVariants.{Halted, Nothing, Paused, Waiting}
+use Rattle.dma_engine.specs.Answer.{AreAnswers}
+use Rattle.dma_engine.specs.Object.{channel, unfinished}
 use Rattle.dma_engine.specs.Room.{IsIdle}
-use Rattle.dma_engine.specs.Turn.{last_step, turn}
+use Rattle.dma_engine.specs.Turn.{turn}
 use Rattle.dma_engine.specs.View.{View, channels, object_of, schedule_at}
-use Rattle.dma_mem.specs.Places.{Descriptor}
+use Rattle.dma_script.specs.Statements.{run_script_of}
+use Rattle.dma_script.specs.declared.statements.RunScript.{RunScript}
+use Rattle.dma_commands.specs.Left.{view_after}
+use Rattle.dma_why.specs.declared.waits.Cookie.{Cookie}
 use Rattle.dma_why.specs.declared.waits.Wait.{Wait}
-use Rattle.dma_why.specs.Circles.{IsCircle, circle_from}
+use Rattle.dma_why.specs.Circles.{IsCircle, IsWay, circle_from}
+use Rattle.dma_why.specs.Waits.{signallers, waits_of}
 
--- What is named as a circle is one, and each circle, which has at most as many channels as there are, is named from its
--- lowest channel.
+-- What is named as a circle is one, on which no channel is twice; and for each circle one with the same lowest channel
+-- is named.
 pub record CirclesAreNamed : Type 0 where
-  pub only : (waits : List (Option Wait)) (first : ℕ) (more : List ℕ) → circle_from waits first ≡ Some more → IsCircle waits first more
-  pub all : (waits : List (Option Wait)) (first : ℕ) (more : List ℕ) → length more < length waits → IsCircle waits first more →
-      circle_from waits first ≡ Some more
+  pub only : (v : View) (first : ℕ) (circle : List Wait) →
+      circle_from (waits_of v) (channels v) first ≡ Some circle →
+      IsCircle (waits_of v) first circle × AllPairs (λ x y. x.ch ≢ y.ch) circle
+  pub all : (v : View) (first : ℕ) (circle : List Wait) → IsCircle (waits_of v) first circle →
+      (first < channels v) × IsSome (circle_from (waits_of v) (channels v) first)
 
--- A channel exists, is neither paused nor halted, and has an issued front.
-pub record HasFront (v : View) (ch : ℕ) : Type 0 where
-  pub there : ch < channels v
-  pub goes : (channel (object_of v) ch).halted ≡ false
-  pub steps : (schedule_at v ch).paused ≡ false
-  pub issued : (t : Descriptor) × (issued_front (channel (object_of v) ch) ≡ Some t)
+-- The next step of a channel changes nothing, and its state and schedule are what they were.
+pub record IsStill (old new : View) (ch : ℕ) : Type 0 where
+  pub idle : IsIdle (turn new ch).0
+  pub state : channel (object_of new) ch ≡ channel (object_of old) ch
+  pub schedule : schedule_at new ch ≡ schedule_at old ch
 
--- If a step of such a channel changes nothing, and the step count isn't at its end, it is held by a running front, or
--- waits for an event.
+-- No steps, of any channels, move a channel of a circle.
+abbrev pub CirclesStay : View → Type 0
+CirclesStay v =
+    (w : View) (first : ℕ) (circle : List Wait) (steps : List ℕ) (replies : List Reply)
+    → IsCircle (waits_of v) first circle → AreAnswers v (map Step steps) replies w
+    → All (λ wait. IsStill v w wait.ch) circle
+
+-- After a script without a fault, no steps, of any channels, move a channel of a circle.
+pub record CirclesStayAfter (input : List ℕ) : Type 0 where
+  pub stay : (script : RunScript) → run_script_of input ≡ Ok script → CirclesStay (view_after script)
+
+-- There is none of these cookies, or they are on several channels.
+abbrev pub AreNotOnOneChannel : List Cookie → Type 0
+AreNotOnOneChannel found =
+    (found ≡ []) ⊎ ((a : Cookie) × (b : Cookie) × Contains found a × Contains found b × (a.ch ≢ b.ch))
+
+-- A channel whose next step has this result doesn't move, and not because it waits for another: it is paused, halted or
+-- not issued; its event is one that no unfinished cookie would signal, or cookies of several channels would; or the
+-- step count is at its end.
+abbrev pub IsCause : View → ℕ → Result Turn EngineFault → Type 0
+IsCause v ch (Ok Paused) = Unit {0}
+IsCause v ch (Ok Halted) = Unit {0}
+IsCause v ch (Ok Nothing) = 0 < unfinished (channel (object_of v) ch)
+IsCause v ch (Ok (Waiting event)) = AreNotOnOneChannel (signallers (object_of v) event)
+IsCause v ch (Err StepsSpent) = Unit {0}
+IsCause v ch _ = ⊥
+
+-- Waits lead from a channel to one with a cause, or from which a circle is named.
+pub record LeadsToCause (v : View) (ch : ℕ) : Type 0 where
+  pub end : ℕ
+  pub way : List Wait
+  pub waits : All (Contains (waits_of v)) way
+  pub leads : IsWay ch end way
+  pub cause : IsCause v end (turn v end).0 ⊎ IsSome (circle_from (waits_of v) (channels v) end)
+
+-- If no channel's step changes anything, waits lead from each channel with an unfinished cookie to a cause.
 abbrev pub CausesAreNamed : Type 0
 CausesAreNamed =
-    (v : View) (ch : ℕ) → HasFront v ch → v.steps < last_step → IsIdle (turn v ch).0 →
-    ((other : ℕ) × (cookie : ℕ) × ((turn v ch).0 ≡ Ok (Held other cookie)))
-    ⊎ ((event : ℕ) × ((turn v ch).0 ≡ Ok (Waiting event)))
+    (v : View) → ((ch : ℕ) → IsIdle (turn v ch).0) → (ch : ℕ) → 0 < unfinished (channel (object_of v) ch)
+    → LeadsToCause v ch

@@ -1,18 +1,17 @@
 -- What the channels of an engine wait for.
-use Rattle.std.specs.Prelude.{ℕ, ◌+◌, ◌-◌, ◌==◌, ◌&&◌, ◌||◌, Bool, false, not, if◌then◌else◌, Option, Some, None, Result, Ok, List, length, map, slice_get}
-use Rattle.std.specs.List.{filter, flat_map, range_with_len}
+use Rattle.std.specs.Prelude.{ℕ, ◌+◌, ◌==◌, ◌&&◌, ◌||◌, Bool, false, not, if◌then◌else◌, Option, Some, None, Result, Ok, List, [], ◌∷◌, length, map}
+use Rattle.std.specs.List.{filter, filter_map, flat_map, list_all, range_with_len}
 use Rattle.std.specs.Option.{option_and_then, option_map_or}
-use Rattle.dma_mem.specs.Places.{Descriptor}
+use Rattle.dma_mem.specs.Places.{Descriptor, is_free_of}
 use Rattle.dma_engine.specs.declared.fault.EngineFault.{EngineFault}
 use Rattle.dma_engine.specs.declared.turn.Turn.{Turn}
 use Rattle.dma_engine.specs.declared.turn.Turn.TheVariants.{Held, Waiting}
 use Rattle.dma_engine.specs.Cookies.{transfer_of}
-use Rattle.dma_engine.specs.Object.{Object, channel, finished, unfinished}
+use Rattle.dma_engine.specs.Object.{Object, channel, finished, front, unfinished}
 use Rattle.dma_engine.specs.Turn.{turn}
-use Rattle.dma_engine.specs.View.{View, channels, object_of}
+use Rattle.dma_engine.specs.View.{RunningTransfer, View, channels, object_of, running}
 use Rattle.dma_why.specs.declared.waits.Cookie.{Cookie}
 use Rattle.dma_why.specs.declared.waits.Wait.{Wait}
-use Rattle.dma_why.specs.declared.waits.Wait.TheVariants.{Front, Event}
 
 -- whether a transfer, if any, signals an event
 abbrev pub signals : ℕ → Option Descriptor → Bool
@@ -35,24 +34,37 @@ signallers_on o event ch =
 abbrev pub signallers : Object → ℕ → List Cookie
 signallers o event = flat_map (signallers_on o event) (range_with_len 0 (length o.channels))
 
--- the wait for an event, given the first and the last of the cookies that would signal it, by channels: for the first,
--- if all are on one channel
-abbrev pub wait_for : ℕ → Option Cookie → Option Cookie → Option Wait
-wait_for event (Some first) (Some last) = if first.ch == last.ch then Some (Event event first) else None
-wait_for event _ _ = None
+-- the cookie of a running front, if a transfer isn't free of it
+abbrev pub holder : Descriptor → RunningTransfer → Option Cookie
+holder t r = if is_free_of t r.transfer then None else Some (record { ch = r.ch; number = r.cookie })
 
--- What a channel waits for whose next step has this result: for the front that holds its own, or for an event and the
--- first cookie that would signal it. None if no cookie would, or cookies of several channels, and for any other result.
-abbrev pub wait_by : Object → Result Turn EngineFault → Option Wait
-wait_by o (Ok (Held ch cookie)) = Some (Front (record { ch = ch; number = cookie }))
-wait_by o (Ok (Waiting event)) =
-    let found = signallers o event in wait_for event (slice_get found 0) (slice_get found (length found - 1))
-wait_by o _ = None
+-- the running fronts that hold a transfer, if any: those that it isn't free of, from the lowest channel on
+abbrev pub holders_of : View → Option Descriptor → List Cookie
+holders_of v None = []
+holders_of v (Some t) = filter_map (holder t) (running (object_of v) v.schedule)
+
+-- the running fronts that hold the front of a channel
+abbrev pub holders : View → ℕ → List Cookie
+holders v ch = holders_of v (front (channel (object_of v) ch))
+
+-- the wait of a channel for an event, given the cookies that would signal it: for the first, if all are on one channel
+abbrev pub event_wait : ℕ → ℕ → List Cookie → List Wait
+event_wait ch event [] = []
+event_wait ch event (first ∷ more) =
+    if list_all (λ c. c.ch == first.ch) (first ∷ more) then record { ch = ch; event = Some event; by = first } ∷ []
+    else []
+
+-- What a channel waits for whose next step has this result: for each front that holds its own, or for an event and the
+-- first cookie that would signal it. Nothing if no cookie would, or cookies of several channels, or for another result.
+abbrev pub waits_by : View → ℕ → Result Turn EngineFault → List Wait
+waits_by v ch (Ok (Held other cookie)) = map (λ by. record { ch = ch; event = None; by = by }) (holders v ch)
+waits_by v ch (Ok (Waiting event)) = event_wait ch event (signallers (object_of v) event)
+waits_by v ch _ = []
 
 -- what a channel waits for
-abbrev pub wait_of : View → ℕ → Option Wait
-wait_of v ch = wait_by (object_of v) (turn v ch).0
+abbrev pub waits_on : View → ℕ → List Wait
+waits_on v ch = waits_by v ch (turn v ch).0
 
--- what each channel waits for
-abbrev pub waits_of : View → List (Option Wait)
-waits_of v = map (wait_of v) (range_with_len 0 (channels v))
+-- what all channels wait for, by channels
+abbrev pub waits_of : View → List Wait
+waits_of v = flat_map (waits_on v) (range_with_len 0 (channels v))

@@ -24,9 +24,8 @@ use Rattle.dma_commands.specs.Left.{view_after}
 use Rattle.dma_commands.specs.Printed.{residue_text}
 use Rattle.dma_why.specs.declared.waits.Cookie.{Cookie}
 use Rattle.dma_why.specs.declared.waits.Wait.{Wait}
-use Rattle.dma_why.specs.declared.waits.Wait.TheVariants.{Front, Event}
-use Rattle.dma_why.specs.Circles.{circle_from, wait_at}
-use Rattle.dma_why.specs.Waits.{signallers, waits_of}
+use Rattle.dma_why.specs.Circles.{circle_from}
+use Rattle.dma_why.specs.Waits.{holders, signallers, waits_of}
 
 -- ---- the front of a channel
 
@@ -65,10 +64,19 @@ last_text o ch (Some x) =
     let cookie = finished (channel o ch) in
     codes ", cookie " ++ decimal cookie ++ codes " finished " ++ ending_text (transfer_or_none o ch cookie) x.result x.residue
 
+-- `cookie N of channel CH`
+abbrev pub cookie_text : Cookie → List ℕ
+cookie_text cookie = codes "cookie " ++ decimal cookie.number ++ codes " of channel " ++ decimal cookie.ch
+
+-- the texts of some values, with a text between each two
+abbrev pub texts_between : {X : Type 0} → List ℕ → (X → List ℕ) → List X → List ℕ
+texts_between between text [] = []
+texts_between between text (x ∷ xs) = text x ++ flat_map (λ y. between ++ text y) xs
+
 -- What a channel does, by the result that its next step would have.
 abbrev pub state_text : View → ℕ → Result Turn EngineFault → List ℕ
 state_text v ch (Ok Nothing) = if unfinished (channel (object_of v) ch) == 0 then [] else codes ": not issued"
-state_text v ch (Ok (Held other cookie)) = codes ": held by cookie " ++ decimal cookie ++ codes " of channel " ++ decimal other
+state_text v ch (Ok (Held other cookie)) = codes ": held by " ++ texts_between (codes ", ") cookie_text (holders v ch)
 state_text v ch (Ok (Started cookie)) = codes ": can start"
 state_text v ch (Ok Moved) = codes ": runs"
 state_text v ch (Ok (Waiting event)) = codes ": waits for event " ++ decimal event
@@ -83,8 +91,7 @@ state_text v ch (Err fault) = codes ": the step count is at its end"
 
 -- a cookie that would signal the event
 abbrev pub signaller_line : Cookie → List ℕ
-signaller_line cookie =
-    codes "  cookie " ++ decimal cookie.number ++ codes " of channel " ++ decimal cookie.ch ++ codes " would signal it"
+signaller_line cookie = codes "  " ++ cookie_text cookie ++ codes " would signal it"
 
 -- the cookies that would signal the event, or that there is none
 abbrev pub signaller_lines : List Cookie → List (List ℕ)
@@ -107,30 +114,31 @@ channel_lines v ch = lines_by v ch (turn v ch).0
 
 -- ---- the lines of circles
 
--- what a channel of a circle waits for
-abbrev pub wait_text : Option Wait → List ℕ
-wait_text None = []
-wait_text (Some (Front cookie)) = codes " waits for channel " ++ decimal cookie.ch
-wait_text (Some (Event event by)) =
-    codes " waits for event " ++ decimal event ++ codes ", which cookie " ++ decimal by.number ++ codes " of channel "
-    ++ decimal by.ch ++ codes " would signal"
+-- a wait for a cookie, given the event for which it is, if any
+abbrev pub waiting_text : Option ℕ → Cookie → List ℕ
+waiting_text None by = codes " waits for channel " ++ decimal by.ch
+waiting_text (Some event) by =
+    codes " waits for event " ++ decimal event ++ codes ", which " ++ cookie_text by ++ codes " would signal"
 
--- a circle: its lowest channel and the others, in order
-abbrev pub circle_line : List (Option Wait) → ℕ → List ℕ → List ℕ
-circle_line waits first more =
-    codes "circle: " ++ decimal first ++ wait_text (wait_at waits first)
-    ++ flat_map (λ ch. codes ", which" ++ wait_text (wait_at waits ch)) more
+-- a wait of a circle
+abbrev pub wait_text : Wait → List ℕ
+wait_text wait = waiting_text wait.event wait.by
 
--- the line of the circle whose lowest channel is this one, if there is one
-abbrev pub circle_lines : List (Option Wait) → ℕ → List (List ℕ)
-circle_lines waits first = option_to_list (option_map (circle_line waits first) (circle_from waits first))
+-- a circle: its lowest channel and its waits, in order
+abbrev pub circle_line : ℕ → List Wait → List ℕ
+circle_line first circle = codes "circle: " ++ decimal first ++ texts_between (codes ", which") wait_text circle
+
+-- the line of a circle whose lowest channel is this one, if there is one
+abbrev pub circle_lines : List Wait → ℕ → ℕ → List (List ℕ)
+circle_lines waits many first = option_to_list (option_map (circle_line first) (circle_from waits many first))
 
 -- ---- all
 
--- Why each channel is where it is: the lines of each channel, then one for each circle.
+-- Why each channel is where it is: the lines of each channel, then one for each channel that is the lowest of a circle.
 abbrev pub explanation : View → List (List ℕ)
 explanation v =
-    let cs = range_with_len 0 (channels v) in flat_map (channel_lines v) cs ++ flat_map (circle_lines (waits_of v)) cs
+    let cs = range_with_len 0 (channels v) in
+    flat_map (channel_lines v) cs ++ flat_map (circle_lines (waits_of v) (channels v)) cs
 
 -- what is printed for a parsed script: the explanation of the view after it, or its first fault
 abbrev pub why_printed_of : Result RunScript Fault → Printed

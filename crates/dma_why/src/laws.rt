@@ -1,14 +1,21 @@
 //! What `why` names. Each law is the clause of a function that does nothing.
 
-ghost use Rattle.dma_why.specs.Laws.{CausesAreNamed, CirclesAreNamed};
+ghost use Rattle.dma_engine.specs.View.{IsSound, View};
+ghost use Rattle.dma_why.specs.Laws.{CausesAreNamed, CirclesAreNamed, CirclesStay};
 
-/// What is named as a circle is one, and each circle is named from its lowest channel.
+/// What is named as a circle is one, and for each circle one with the same lowest channel is named.
 pub fn circles_are_named()
     ensures { CirclesAreNamed }
 {}
 
-/// An issued front whose step changes nothing is held or waits for an event, unless its channel is paused or halted, or
-/// the step count is at its end.
+/// From a sound view, no steps, of any channels, move a channel of a circle.
+pub fn circles_stay()
+    ensures { (v : View) → IsSound v → CirclesStay v }
+{}
+
+/// If no channel's step changes anything, waits lead from each channel with an unfinished cookie to one from which a
+/// circle is named, or that is paused, halted or not issued, or whose event no unfinished cookie would signal, or
+/// cookies of several channels would, or that the end of the step count keeps from moving.
 pub fn causes_are_named()
     ensures { CausesAreNamed }
 {}

@@ -1,9 +1,9 @@
 //! Why each channel is where it is: what it waits for, and which channels wait for each other in a circle.
 //!
 //! Proved: what is printed is a function of the script (`why`): the `explanation` of the view that the script leaves.
-//! Each circle that is named is one, and each circle is named (`laws::circles_are_named`). An issued front whose step
-//! changes nothing is held or waits for an event, unless its channel is paused or halted, or the step count is at its
-//! end (`laws::causes_are_named`).
+//! No steps after the script, or after any calls (`laws::circles_stay`), move a channel of a circle. Each circle that is
+//! named is one, and for each circle one with the same lowest channel is named (`laws::circles_are_named`). If no channel
+//! can move, waits lead from each one with an unfinished cookie to a cause that is named (`laws::causes_are_named`).
 //!
 //! Not proved: that no call is out of memory.
 #![tactic(auto)]

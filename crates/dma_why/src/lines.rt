@@ -8,12 +8,11 @@ ghost use Rattle.dma_engine.specs.Object.{channel, finished};
 ghost use Rattle.dma_engine.specs.Answer.{done_on, result_of};
 ghost use Rattle.dma_engine.specs.View.{channels, object_of};
 ghost use Rattle.dma_script.specs.Command.{text_of};
-ghost use Rattle.dma_why.specs.Waits.{waits_of};
-ghost use Rattle.dma_why.specs.Circles.{wait_at};
-ghost use Rattle.dma_why.specs.Why.{address_text, channel_lines, circle_line, circle_lines, ending_text, event_lines, explanation, failed_at, front_text, last_text, signaller_line, signaller_lines, state_text, transfer_or_none, wait_text};
+ghost use Rattle.dma_why.specs.Waits.{holders, waits_of};
+ghost use Rattle.dma_why.specs.Why.{address_text, channel_lines, circle_lines, cookie_text, ending_text, event_lines, explanation, failed_at, front_text, last_text, signaller_line, signaller_lines, state_text, texts_between, transfer_or_none};
 
-use crate::circles::{circle_from, wait_at};
-use crate::waits::{Cookie, Wait, signallers, waits};
+use crate::circles::circle_from;
+use crate::waits::{Cookie, Wait, holders, signallers, waits};
 use dma_commands::printing::Shown;
 use dma_engine::{Engine, EngineFault, Outcome, TransResult, Turn};
 use dma_mem::transfer::Transfer;
@@ -121,8 +120,33 @@ fn push_last(engine: &Engine, ch: u8, out: &mut Vec<u8>) -> Result<(), AllocErro
     }
 }
 
+/// Appends the texts of some values, with a text between each two.
+fn push_between<T: Text>(between: &str, values: &[T], out: &mut Vec<u8>) -> Result<(), AllocError>
+    ensures { OnOk result
+        (out.new.items ≡ out.old.items ++ texts_between between.now T.text values.now) }
+{
+    for (index, value) in values.iter().enumerate() {
+        if index > 0 {
+            between.push(out)?;
+        }
+        value.push(out)?;
+    }
+    Ok(())
+}
+
+/// Appends which running fronts hold the front of a channel.
+fn push_holders(alloc: Global, engine: &Engine, ch: u8, out: &mut Vec<u8>) -> Result<(), AllocError>
+    ensures { OnOk result (out.new.items ≡ out.old.items
+        ++ (codes ": held by " ++ texts_between (codes ", ") cookie_text (holders engine.now.view ch))) }
+{
+    let found = holders(alloc, engine, ch)?;
+    ": held by ".push(out)?;
+    push_between(", ", &found, out)
+}
+
 /// Appends what a channel does whose next step has this result.
 fn push_state(
+    alloc: Global,
     engine: &Engine,
     ch: u8,
     turned: Result<Turn, EngineFault>,
@@ -134,9 +158,7 @@ fn push_state(
     match turned {
         Ok(Turn::Nothing) if engine.unfinished(ch) == 0 => Ok(()),
         Ok(Turn::Nothing) => ": not issued".push(out),
-        Ok(Turn::Held { ch, cookie }) => {
-            (": held by cookie ", cookie, " of channel ", ch).push(out)
-        }
+        Ok(Turn::Held { .. }) => push_holders(alloc, engine, ch, out),
         Ok(Turn::Started(_)) => ": can start".push(out),
         Ok(Turn::Moved) => ": runs".push(out),
         Ok(Turn::Waiting(event)) => (": waits for event ", event).push(out),
@@ -168,8 +190,7 @@ fn push_signaller(cookie: Cookie, out: &mut Vec<u8>) -> Result<(), AllocError>
     ensures { OnOk result
         (out.new.items ≡ out.old.items ++ text_of (signaller_line cookie ∷ [])) }
 {
-    let cookie = ("  cookie ", cookie.number, " of channel ", cookie.ch);
-    print_line(out, &(cookie, " would signal it"))
+    print_line(out, &("  ", cookie, " would signal it"))
 }
 
 /// Appends the lines of the cookies that would signal an event.
@@ -213,53 +234,27 @@ fn push_channel(alloc: Global, engine: &Engine, ch: u8, out: &mut Vec<u8>) -> Re
     let turned = engine.next_turn(ch);
     ("channel ", ch, ": ").push(out)?;
     push_front(engine, ch, out)?;
-    push_state(engine, ch, turned, out)?;
+    push_state(alloc, engine, ch, turned, out)?;
     "\n".push(out)?;
     push_event(alloc, engine, turned, out)
 }
 
-/// Appends what a channel of a circle waits for.
-fn push_wait(wait: Option<Wait>, out: &mut Vec<u8>) -> Result<(), AllocError>
-    ensures { OnOk result (out.new.items ≡ out.old.items ++ wait_text wait) }
-{
-    match wait {
-        Some(Wait::Front(cookie)) => (" waits for channel ", cookie.ch).push(out),
-        Some(Wait::Event { event, by }) => {
-            let event = (" waits for event ", event, ", which cookie ", by.number);
-            (event, " of channel ", by.ch, " would signal").push(out)
-        }
-        None => Ok(()),
-    }
-}
-
-/// Appends what the later channels of a circle wait for.
-fn push_more(waits: &[Option<Wait>], more: &[u8], out: &mut Vec<u8>) -> Result<(), AllocError>
-    ensures { OnOk result (out.new.items ≡ out.old.items
-        ++ flat_map (λ ch. codes ", which" ++ wait_text (wait_at waits.now ch)) more.now) }
-{
-    for ch in more {
-        ", which".push(out)?;
-        push_wait(wait_at(waits, *ch), out)?;
-    }
-    Ok(())
-}
-
-/// Appends the line of the circle whose lowest channel is this one, if there is one.
+/// Appends the line of a circle whose lowest channel is this one, if there is one.
 fn push_circle(
     alloc: Global,
-    waits: &[Option<Wait>],
+    waits: &[Wait],
+    channels: u8,
     first: u8,
     out: &mut Vec<u8>,
 ) -> Result<(), AllocError>
     ensures { OnOk result
-        (out.new.items ≡ out.old.items ++ text_of (circle_lines waits.now first)) }
+        (out.new.items ≡ out.old.items ++ text_of (circle_lines waits.now channels first)) }
 {
-    let Some(more) = circle_from(alloc, waits, first)? else {
+    let Some(circle) = circle_from(alloc, waits, channels, first)? else {
         return Ok(());
     };
     ("circle: ", first).push(out)?;
-    push_wait(wait_at(waits, first), out)?;
-    push_more(waits, &more, out)?;
+    push_between(", which", &circle, out)?;
     "\n".push(out)
 }
 
@@ -274,18 +269,18 @@ fn push_channels(alloc: Global, engine: &Engine, out: &mut Vec<u8>) -> Result<()
     Ok(())
 }
 
-/// Appends the lines of the circles of these channels.
+/// Appends a line for each of these channels that is the lowest of a circle.
 fn push_circles(
     alloc: Global,
-    waits: &[Option<Wait>],
+    waits: &[Wait],
     channels: u8,
     out: &mut Vec<u8>,
 ) -> Result<(), AllocError>
     ensures { OnOk result (out.new.items ≡ out.old.items
-        ++ text_of (flat_map (circle_lines waits.now) (range_with_len 0 channels))) }
+        ++ text_of (flat_map (circle_lines waits.now channels) (range_with_len 0 channels))) }
 {
     for first in 0..channels {
-        push_circle(alloc, waits, first, out)?;
+        push_circle(alloc, waits, channels, first, out)?;
     }
     Ok(())
 }

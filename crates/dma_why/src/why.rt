@@ -3,6 +3,7 @@
 ghost use Rattle.std.specs.Prelude.{◌≡◌, ◌==◌, ◌++◌, IfOk, Ok, OnErr, OnOk};
 ghost use Rattle.dma_script.specs.Command.{printed_text};
 ghost use Rattle.dma_script.specs.Statements.{IsWithin};
+ghost use Rattle.dma_why.specs.Laws.{CirclesStayAfter};
 ghost use Rattle.dma_why.specs.Why.{why_printed, why_printed_of};
 
 use crate::lines::push_explanation;
@@ -25,12 +26,15 @@ fn push_why(alloc: Global, script: RunScript, out: &mut Vec<u8>) -> Result<(), A
 }
 
 /// Executes a script of `dmasim run`, and appends why each channel is where it is after it. Of a script with a fault it
-/// appends the fault. Returns whether the script has no fault. If memory runs out, appends nothing.
+/// appends the fault. Returns whether the script has no fault. If memory runs out, appends nothing. No steps after the
+/// script move a channel of a circle.
+#[tactic(auto, using(crate::proofs::Stays::circles_stay_after))]
 pub fn why(alloc: Global, script: &[u8], out: &mut Vec<u8>) -> Result<bool, AllocError>
     ensures text { OnOk result (out.new.items
         ≡ out.old.items ++ printed_text (why_printed script.now).groups) }
     ensures good { IfOk result (λ good. good ≡ ((why_printed script.now).status == 0)) }
     ensures err { OnErr result (out.new.items ≡ out.old.items) }
+    ensures circles { CirclesStayAfter script.now }
 {
     let mut text = Vec::new(alloc);
     let good = match read_run_script(alloc, script) {

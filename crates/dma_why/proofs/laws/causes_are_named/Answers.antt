@@ -1,5 +1,5 @@
-use Rattle.dma_why.proofs.CauseLemmas.{causes}
+use Rattle.dma_why.proofs.CauseLemmas.{causes_are_named}
 use Rattle.dma_why.proofs.laws.causes_are_named.Goals as goal
 
 pub returns : goal.returns
-returns c = causes
+returns c = causes_are_named

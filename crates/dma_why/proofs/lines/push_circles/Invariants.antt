@@ -6,4 +6,4 @@ use Rattle.dma_why.proofs.lines.push_circles.Given as goal
 
 abbrev pub invariant-loop-first : goal.invariant-loop-first
 invariant-loop-first l =
-    l.out.items ≡ l.initial.out.items ++ text_of (flat_map (circle_lines l.waits) (range_with_len 0 l.first))
+    l.out.items ≡ l.initial.out.items ++ text_of (flat_map (circle_lines l.waits l.channels) (range_with_len 0 l.first))
