@@ -6,11 +6,12 @@ use Rattle.std.specs.Result.{result_unwrap_or}
 use Rattle.dma_manual.specs.Answer.{Printed, under_name, with_note}
 use Rattle.dma_manual.specs.Assembled.{assembled, read_text}
 use Rattle.dma_manual.specs.Errors.{assembled_err, assembled_out}
-use Rattle.dma_manual.specs.Hexadecimal.{spelled}
 use Rattle.dma_manual.specs.Listing.{is_whole, listed, rest_text, stop_text}
-use Rattle.dma_manual.specs.Notes.{hint, end_warning}
+use Rattle.dma_manual.specs.Notes.{end_warning, form_note, hint}
+use Rattle.dma_manual.specs.Pasted.{Program, pasted}
 use Rattle.dma_manual.specs.Refusal.{refusal}
-use Rattle.dma_manual.specs.declared.hexadecimal.Notation.{Notation}
+use Rattle.dma_manual.specs.declared.forms.Form.{Form}
+use Rattle.dma_manual.specs.declared.pasted.Spelling.{Spelling}
 use Rattle.dma_script.specs.Command.{printed_text}
 use Rattle.dma_seeds.specs.Expect.{is_good, verdict, verdict_text, without_expects}
 use Rattle.dma_seeds.specs.Faults.{race_message, run_message}
@@ -18,10 +19,11 @@ use Rattle.dma_seeds.specs.Race.{race_printed}
 use Rattle.dma_seeds.specs.Script.{script_text}
 use Rattle.dma_seeds.specs.Seeds.{seeds_printed, seeds_verdict, seeds_verdict_text}
 use Rattle.dma_seeds.specs.declared.seeds.SeedRange.{SeedRange}
+use Rattle.dma_why.specs.Laws.{CirclesStayAfter}
 use Rattle.dma_why.specs.Why.{why_printed}
 use Rattle.dma_trace.specs.declared.options.TraceOptions.{TraceOptions}
 use Rattle.dma_trace.specs.Explained.{Appends}
-use Rattle.dma_trace.specs.Traced.{Shows}
+use Rattle.dma_trace.specs.Found.{ShowsRam}
 use Rattle.dma330.specs.declared.command_line.Request.{Request}
 use Rattle.dma330.specs.declared.command_line.Request.TheVariants.{Dis, Asm, Explain, Trace, Race, RaceSeeds, Why}
 
@@ -43,14 +45,15 @@ Assembles to_file text p =
     (p.out ≡ (if to_file then [] else assembled_out (read_text text))) × (p.err ≡ assembled_err text (read_text text))
     × (p.file ≡ (if to_file then program_of text else [])) × (p.succeeds ≡ is_ok (read_text text))
 
--- `explain` says what the program copies and sets to 0, or on standard error why nothing explains it.
+-- `explain` prints what the program copies and sets to 0, or on standard error why nothing explains it, with warnings.
 abbrev pub Explains : Bus → ℕ → List ℕ → Printed → Type 0
 Explains bus most program p = Appends bus program most p.succeeds [] [] p.out p.err × (p.file ≡ [])
 
 -- `trace` prints the program's trace over RAM, and on standard error what ends it early, and writes its waveform.
+-- If no RAM is given, it is zeros at the ranges that `explain` finds; if it finds none, standard error has why.
 abbrev pub Traces : TraceOptions → List Region → List ℕ → Printed → Type 0
 Traces options ram program p =
-    (after : List Region) × Shows options program ram after p.succeeds [] [] [] p.out p.err p.file
+    (after : List Region) × ShowsRam options program ram after p.succeeds [] [] [] p.out p.err p.file
 
 -- `race` prints what a race prints with its turns in the order of a seed, and on standard error the fault of the script
 -- or the first expect line that fails, and writes the same race as a script of `run`. The script is raced and written
@@ -70,11 +73,12 @@ RacesSeeds seeds script p =
     × (p.err ≡ race_message script ++ seeds_verdict_text (seeds_verdict script seeds) seeds) × (p.file ≡ [])
     × (p.succeeds ≡ is_good (seeds_verdict script seeds).first)
 
--- `why` prints why each channel is where it is after a script, and on standard error the fault of the script.
+-- `why` prints why each channel is where it is after a script, and on standard error the fault of the script. No steps
+-- after the script move a channel of a circle.
 abbrev pub Reasons : List ℕ → Printed → Type 0
 Reasons script p =
     (p.out ≡ printed_text (why_printed script).groups) × (p.err ≡ run_message script) × (p.file ≡ [])
-    × (p.succeeds ≡ ((why_printed script).status == 0))
+    × (p.succeeds ≡ ((why_printed script).status == 0)) × CirclesStayAfter script
 
 -- What a request prints for a program over RAM, without the name of the input.
 abbrev pub Replies : Request → List Region → List ℕ → Printed → Type 0
@@ -96,38 +100,38 @@ takes_program (Race seed) = false
 takes_program (RaceSeeds seeds) = false
 takes_program Why = false
 
--- whether a request executes a program
-abbrev pub executes : Request → Bool
-executes (Explain bus most) = true
-executes (Trace options) = true
-executes other = false
-
--- What a request prints for a program, with a warning if it begins with DMAEND, has more bytes and is executed without
--- a fault.
+-- What a request prints for a program, with a warning if it begins with DMAEND, has more bytes and is taken without a
+-- fault.
 abbrev pub ProgramReplies : Request → List Region → List ℕ → Printed → Type 0
 ProgramReplies request ram program p =
-    (q : Printed) × Replies request ram program q × (p ≡ with_note q (end_warning (executes request) program q.succeeds))
+    (q : Printed) × Replies request ram program q
+    × (p ≡ with_note q (end_warning (takes_program request) program q.succeeds))
 
--- What a request prints for a program that was read from hexadecimal text, or for the text's first fault.
-abbrev pub ReadReplies : Request → Notation → List Region → List ℕ → Result (List ℕ) ℕ → Printed → Type 0
-ReadReplies request notation ram text (Ok program) p = ProgramReplies request ram program p
-ReadReplies request notation ram text (Err at) p = p ≡ refusal notation text at
+-- What a request prints for a program that is read from text, with a note on its form if it is a dump.
+abbrev pub FormReplies : Request → List Region → Option Form × List ℕ → Printed → Type 0
+FormReplies request ram program p =
+    (q : Printed) × ProgramReplies request ram program.1 q × (p ≡ with_note q (form_note program.0 q.err))
 
--- What a request prints for a program in hexadecimal text.
-abbrev pub TextReplies : Request → Notation → List Region → List ℕ → Printed → Type 0
-TextReplies request notation ram text = ReadReplies request notation ram text (spelled notation text)
+-- the same, or what it prints for the text's first fault
+abbrev pub ReadReplies : Request → List Region → List ℕ → Program → Printed → Type 0
+ReadReplies request ram text (Ok program) p = FormReplies request ram program p
+ReadReplies request ram text (Err why) p = p ≡ refusal why text
 
--- What a request prints for an input that isn't read as hexadecimal text, without the name of the input.
+-- What a request prints for a program in text.
+abbrev pub TextReplies : Request → Spelling → List Region → List ℕ → Printed → Type 0
+TextReplies request spelling ram text = ReadReplies request ram text (pasted spelling text)
+
+-- What a request prints for an input that isn't read as text, without the name of the input.
 abbrev pub RawReplies : Request → List Region → List ℕ → Printed → Type 0
 RawReplies request ram input p =
     (q : Printed) × ProgramReplies request ram input q × (p ≡ with_note q (hint (takes_program request) input q.succeeds))
 
 -- What a request prints for an input, without the name of the input.
-abbrev pub InputReplies : Request → Option Notation → List Region → List ℕ → Printed → Type 0
-InputReplies request (Some notation) ram input = TextReplies request notation ram input
+abbrev pub InputReplies : Request → Option Spelling → List Region → List ℕ → Printed → Type 0
+InputReplies request (Some spelling) ram input = TextReplies request spelling ram input
 InputReplies request None ram input = RawReplies request ram input
 
 -- What a call prints: the message on standard error begins with the name of the input.
-abbrev pub Answers : Request → Option Notation → List ℕ → List Region → List ℕ → Printed → Type 0
-Answers request notation name ram input p =
-    (q : Printed) × InputReplies request notation ram input q × (p ≡ under_name name q)
+abbrev pub Answers : Request → Option Spelling → List ℕ → List Region → List ℕ → Printed → Type 0
+Answers request spelling name ram input p =
+    (q : Printed) × InputReplies request spelling ram input q × (p ≡ under_name name q)

@@ -5,6 +5,7 @@ use clap::error::ErrorKind;
 use clap::{ArgMatches, Command, Error};
 use dma_chan::bus::{Bus, BusWidth};
 use dma_manual::hexadecimal::Notation;
+use dma_manual::pasted::Spelling;
 use dma_mem::segment::Segment;
 use dma_seeds::seeds::SeedRange;
 use dma_trace::options::TraceOptions;
@@ -29,7 +30,7 @@ pub struct Call<'a> {
     /// The file that is read, if it isn't standard input.
     pub input: Option<&'a str>,
     /// How the input spells a program, if it is text.
-    pub notation: Option<Notation>,
+    pub spelling: Option<Spelling>,
     /// The RAM of a trace.
     pub ram: Vec<RamRange<'a>>,
     /// The file that is written.
@@ -207,11 +208,13 @@ fn request_of<'a>(
 }
 
 /// Returns how the input spells a program, if it is text.
-fn notation_at(matches: &ArgMatches<'_>) -> Option<Notation> {
+fn spelling_at(name: &str, matches: &ArgMatches<'_>) -> Option<Spelling> {
     if matches.get_flag("hex") {
-        Some(Notation::Pairs)
+        Some(Spelling::Digits(Notation::Pairs))
     } else if matches.get_flag("words") {
-        Some(Notation::Words)
+        Some(Spelling::Digits(Notation::Words))
+    } else if name != "trace" && matches.get_flag("dump") {
+        Some(Spelling::Dump)
     } else {
         None
     }
@@ -226,7 +229,7 @@ fn call_of_subcommand<'a>(
     Ok(Call {
         request: request_of(alloc, name, matches)?,
         input: matches.get_str("file").filter(|file| *file != "-"),
-        notation: notation_at(matches),
+        spelling: spelling_at(name, matches),
         ram: ram_at(alloc, matches)?,
         output: matches
             .get_str("output")

@@ -146,7 +146,7 @@ pub fn run<'a>(rt: &HostRuntime, call: &Call<'a>) -> Result<u8, Failure<'a>> {
     let answer = answer(
         rt.alloc(),
         &call.request,
-        call.notation,
+        call.spelling,
         name,
         &input,
         &mut regions,

@@ -13,6 +13,7 @@ mod replies;
 mod subcommands;
 mod values;
 
+use clap::error::ErrorKind;
 use command_line::call_of;
 use files::{Failure, run};
 use std::env;
@@ -34,6 +35,9 @@ fn main(rt: HostRuntime) -> ExitCode {
     };
     let call = match call_of(rt.alloc(), &words) {
         Ok(call) => call,
+        Err(error) if error.kind() == ErrorKind::OutOfMemory => {
+            return ExitCode::from(Failure::NoMemory.report(&rt));
+        }
         Err(error) => {
             // (a mistake in the words, or a request for help, has its status even if its text can't be written)
             let _ = error.print(&rt);

@@ -5,16 +5,16 @@ ghost use Rattle.dma_seeds.specs.Expect.{is_good, verdict_text};
 ghost use Rattle.dma_seeds.specs.Faults.{race_message};
 ghost use Rattle.dma_seeds.specs.Seeds.{seeds_verdict_text};
 ghost use Rattle.dma_manual.specs.Answer.{printed_of};
-ghost use Rattle.dma330.specs.Replies.{Answers, Assembles, Explains, InputReplies, Lists, ProgramReplies, Races, RacesSeeds, RawReplies, Reasons, Replies, TextReplies, Traces, executes, program_of, takes_program};
+ghost use Rattle.dma330.specs.Replies.{Answers, Assembles, Explains, FormReplies, InputReplies, Lists, ProgramReplies, Races, RacesSeeds, RawReplies, Reasons, Replies, TextReplies, Traces, program_of, takes_program};
 
 use crate::command_line::Request;
 use dma_chan::bus::Bus;
 use dma_manual::answer::Answer;
 use dma_manual::assembler::{assemble, assemble_text};
 use dma_manual::errors::AsmError;
-use dma_manual::hexadecimal::{Notation, read_hexadecimal};
 use dma_manual::listing::disassemble;
-use dma_manual::notes::{end_warning, hint};
+use dma_manual::notes::{end_warning, hint, with_form};
+use dma_manual::pasted::{Pasted, Spelling, read_pasted};
 use dma_manual::refusal::refusal;
 use dma_mem::regions::Region;
 use dma_seeds::expect::Verdict;
@@ -230,13 +230,6 @@ fn takes_program(request: &Request) -> bool
     }
 }
 
-/// Returns whether a request executes a program.
-fn executes(request: &Request) -> bool
-    ensures { result ≡ executes request.now }
-{
-    matches!(request, Request::Explain { .. } | Request::Trace(_))
-}
-
 /// Returns what a request prints for a program, with a warning if it begins with DMAEND and has more bytes.
 fn program_reply<P: Progress>(
     alloc: Global,
@@ -250,30 +243,46 @@ fn program_reply<P: Progress>(
         ProgramReplies request.now ram.old program.now (printed_of answer)) }
 {
     let replied = reply(alloc, request, program, ram, progress)?;
-    let note = end_warning(executes(request), program, replied.succeeds);
+    let note = end_warning(takes_program(request), program, replied.succeeds);
     replied.with_note(note)
 }
 
-/// Returns what a request prints for a program in hexadecimal text.
+/// Returns what a request prints for a program that is read from text.
+fn pasted_reply<P: Progress>(
+    alloc: Global,
+    request: &Request,
+    program: &Pasted,
+    ram: &mut [Region<'_>],
+    progress: &mut P,
+) -> Result<Answer, AllocError>
+    requires { IsTrue (in_order (pieces_of ram.old)) }
+    ensures { IfOk result (λ answer. FormReplies request.now ram.old
+        (program.now.form, program.now.bytes.items) (printed_of answer)) }
+{
+    let replied = program_reply(alloc, request, &program.bytes, ram, progress)?;
+    with_form(replied, program.form)
+}
+
+/// Returns what a request prints for a program in text.
 fn text_reply<P: Progress>(
     alloc: Global,
     request: &Request,
-    notation: Notation,
+    spelling: Spelling,
     text: &[u8],
     ram: &mut [Region<'_>],
     progress: &mut P,
 ) -> Result<Answer, AllocError>
     requires { IsTrue (in_order (pieces_of ram.old)) }
     ensures { IfOk result (λ answer.
-        TextReplies request.now notation ram.old text.now (printed_of answer)) }
+        TextReplies request.now spelling ram.old text.now (printed_of answer)) }
 {
-    match read_hexadecimal(alloc, notation, text)? {
-        Ok(program) => program_reply(alloc, request, &program, ram, progress),
-        Err(at) => refusal(alloc, notation, text, at),
+    match read_pasted(alloc, spelling, text)? {
+        Ok(program) => pasted_reply(alloc, request, &program, ram, progress),
+        Err(why) => refusal(alloc, why, text),
     }
 }
 
-/// Returns what a request prints for an input that isn't read as hexadecimal text.
+/// Returns what a request prints for an input that isn't read as text.
 fn raw_reply<P: Progress>(
     alloc: Global,
     request: &Request,
@@ -294,17 +303,17 @@ fn raw_reply<P: Progress>(
 fn input_reply<P: Progress>(
     alloc: Global,
     request: &Request,
-    notation: Option<Notation>,
+    spelling: Option<Spelling>,
     input: &[u8],
     ram: &mut [Region<'_>],
     progress: &mut P,
 ) -> Result<Answer, AllocError>
     requires { IsTrue (in_order (pieces_of ram.old)) }
     ensures { IfOk result (λ answer.
-        InputReplies request.now notation ram.old input.now (printed_of answer)) }
+        InputReplies request.now spelling ram.old input.now (printed_of answer)) }
 {
-    match notation {
-        Some(notation) => text_reply(alloc, request, notation, input, ram, progress),
+    match spelling {
+        Some(spelling) => text_reply(alloc, request, spelling, input, ram, progress),
         None => raw_reply(alloc, request, input, ram, progress),
     }
 }
@@ -313,7 +322,7 @@ fn input_reply<P: Progress>(
 pub fn answer<P: Progress>(
     alloc: Global,
     request: &Request,
-    notation: Option<Notation>,
+    spelling: Option<Spelling>,
     name: &str,
     input: &[u8],
     ram: &mut [Region<'_>],
@@ -321,8 +330,8 @@ pub fn answer<P: Progress>(
 ) -> Result<Answer, AllocError>
     requires { IsTrue (in_order (pieces_of ram.old)) }
     ensures { IfOk result (λ answer.
-        Answers request.now notation name.now ram.old input.now (printed_of answer)) }
+        Answers request.now spelling name.now ram.old input.now (printed_of answer)) }
 {
-    let replied = input_reply(alloc, request, notation, input, ram, progress)?;
+    let replied = input_reply(alloc, request, spelling, input, ram, progress)?;
     replied.under_name(alloc, name)
 }

@@ -22,12 +22,12 @@ enum Form {
 #[derive(Clone, Copy)]
 enum Rule {
     None,
-    /// It has to be given.
-    Required,
     /// It has this letter too.
     Letter(char),
     /// It isn't given together with the option of this name.
     Without(&'static str),
+    /// It isn't given together with one of the options of these names.
+    WithoutBoth(&'static str, &'static str),
     /// Its value is one of these, and the second if it isn't given.
     OneOf(&'static [&'static str], &'static str),
 }
@@ -79,7 +79,7 @@ const HEX: Argument = Argument {
     name: "hex",
     form: Form::Flag,
     rule: Rule::None,
-    what: "FILE is text: pairs of hexadecimal digits, and comments after #",
+    what: "FILE is text: pairs of hexadecimal digits, and comments after #; or a dump",
 };
 
 /// Words in hexadecimal text.
@@ -87,7 +87,15 @@ const WORDS: Argument = Argument {
     name: "words",
     form: Form::Flag,
     rule: Rule::Without("hex"),
-    what: "FILE is text: 32-bit words of eight hexadecimal digits, as debuggers print them",
+    what: "FILE is text: 32-bit words of eight hexadecimal digits, as debuggers print them; or a dump",
+};
+
+/// A dump. (`trace` has another option of this name.)
+const DUMP: Argument = Argument {
+    name: "dump",
+    form: Form::Flag,
+    rule: Rule::WithoutBoth("hex", "words"),
+    what: "FILE is a dump, as hexdump, xxd, od, md, gdb, objdump -s or a log has it, or an array",
 };
 
 /// The bus.
@@ -111,6 +119,7 @@ static DIS: Usage = Usage {
         },
         HEX,
         WORDS,
+        DUMP,
         PROGRAM,
     ],
 };
@@ -137,6 +146,7 @@ static EXPLAIN: Usage = Usage {
     arguments: &[
         HEX,
         WORDS,
+        DUMP,
         BUS,
         Argument {
             name: "most",
@@ -161,8 +171,8 @@ static TRACE: Usage = Usage {
         Argument {
             name: "ram",
             form: Form::Values("ADDRESS+LENGTH[=FILE]"),
-            rule: Rule::Required,
-            what: "RAM: 0, or the bytes of FILE and then 0",
+            rule: Rule::None,
+            what: "RAM: 0, or the bytes of FILE and then 0 [default: 0, at the ranges that explain finds]",
         },
         Argument {
             name: "fail",
@@ -269,9 +279,11 @@ fn arg_of<'a>(alloc: Global, argument: &Argument) -> Result<Arg<'a>, AllocError>
     if let Rule::Without(other) = argument.rule {
         return arg.conflicts_with(other);
     }
+    if let Rule::WithoutBoth(one, other) = argument.rule {
+        return arg.conflicts_with(one)?.conflicts_with(other);
+    }
     Ok(match argument.rule {
-        Rule::None | Rule::Without(_) => arg,
-        Rule::Required => arg.required(true),
+        Rule::None | Rule::Without(_) | Rule::WithoutBoth(_, _) => arg,
         Rule::Letter(letter) => arg.short(letter),
         Rule::OneOf(values, default) => arg.value_parser(values).default_value(default),
     })

@@ -13,6 +13,7 @@ use Rattle.dma_insn.specs.declared.control.Control.{Control}
 use Rattle.dma_insn.specs.declared.control.ControlFault.{ControlFault}
 use Rattle.dma_insn.specs.declared.insn.Reg.TheVariants.{Ccr}
 use Rattle.dma_insn.specs.declared.chip.ChipInsn.TheVariants.{Mov}
+use Rattle.dma_manual.specs.declared.insns.ManualInsn.TheVariants.{Chip}
 use Rattle.dma_manual.specs.declared.manual.Side.{Side}
 use Rattle.dma_manual.specs.declared.manual.Side.TheVariants.{Source, Destination}
 use Rattle.dma_manual.specs.declared.fields.EndFields.{EndFields}
@@ -197,7 +198,7 @@ cache_flag side b s i p n c small back =
     ]
 
 -- each cache field is read from its signals
-signals_le : (side : Side) (c : ℕ) → c < 8 → cache_signals side c ≤ 15
+pub signals_le : (side : Side) (c : ℕ) → c < 8 → cache_signals side c ≤ 15
 signals_le Source c small = omega arith
 signals_le Destination c small = omega arith
 
@@ -279,7 +280,7 @@ control_plain c tail =
 
 -- The words of a control word's ends set its fields.
 ends_set : (c : Control) → HasEndRanges c.src → HasEndRanges c.dst
-    → AreSet no_fields (with_key Source (names_of Source c.src) ++ with_key Destination (names_of Destination c.dst)) (record { src = fields_of Source c.src; dst = fields_of Destination c.dst })
+    → AreSet no_fields (with_key Source (names_of Source c.src) ++ with_key Destination (names_of Destination c.dst)) (record { src = fields_of Source c.src; dst = fields_of Destination c.dst; swap = false })
 ends_set c s d =
     let f = record no_fields { src = fields_of Source c.src } in
     are_set_append (with_key Source (names_of Source c.src)) (with_key Destination (names_of Destination c.dst)) no_fields f (record f { dst = fields_of Destination c.dst })
@@ -294,11 +295,11 @@ ends_read c tail s d spaces =
     let fits : length (ss ++ ds) ≤ 11 =
     omega (arith, length-append ss ds, length-map (names_of Source c.src) (λ name. key Source ∷ name), length-map (names_of Destination c.dst) (λ name. key Destination ∷ name), names_of_le Source c.src, names_of_le Destination c.dst) in
     fields_space 11 no_fields (spaced (ss ++ ds) tail)
-    ∙ fields_read (ss ++ ds) 11 no_fields (record { src = fields_of Source c.src; dst = fields_of Destination c.dst }) tail fits (ends_set c s d) spaces
+    ∙ fields_read (ss ++ ds) 11 no_fields (record { src = fields_of Source c.src; dst = fields_of Destination c.dst; swap = false }) tail fits (ends_set c s d) spaces
     ∙ ap₂ (λ (x y : BurstEnd). Ok (bits_of (record { src = x; dst = y }))) (end_of_fields Source c.src s) (end_of_fields Destination c.dst d)
 
 -- an accepted word has its ends in range
-ranges_of : (v : ℕ) (c : Control) → HasFields v c → HasEndRanges c.src × HasEndRanges c.dst
+pub ranges_of : (v : ℕ) (c : Control) → HasFields v c → HasEndRanges c.src × HasEndRanges c.dst
 ranges_of v c h =
     let a = h.src_beats in let b = h.src_protection in let e = h.src_cache in let x = h.dst_beats in let y = h.dst_protection in let z = h.dst_cache in (
       record { some = omega arith; beats = omega arith; protection = omega arith; cache = omega arith },
@@ -307,7 +308,7 @@ ranges_of v c h =
 
 -- What follows DMAMOV CCR is read as the word.
 control_by : (v : ℕ) (tail : List ℕ) (r : Result Control ControlFault) → control_of v ≡ r → v < 2 ^ 32 → list_all is_space tail ≡ true
-    → control_line (codes "ccr") (32 ∷ (plain (control_text_of v r) ++ tail)) ≡ Ok (says.Plain (Mov Ccr v))
+    → control_line (codes "ccr") (32 ∷ (plain (control_text_of v r) ++ tail)) ≡ Ok (says.Plain (Chip (Mov Ccr v)))
 control_by v tail (Err fault) is small spaces = control_said [] tail spaces v small
 control_by v tail (Ok c) is small spaces =
     let fields = control_of_fields v c is in
@@ -319,10 +320,10 @@ control_by v tail (Ok c) is small spaces =
     let next : next_of (32 ∷ spaced words tail) ≡ Some (first, more) = next_space (32 ∷ (first ++ more)) ∙ next_space (first ++ more) ∙ next_word first more refl r.word refl in
     ap (λ (l : List ℕ). control_line (codes "ccr") (32 ∷ l)) (control_plain c tail)
     ∙ control_fields (codes "ccr") (32 ∷ spaced words tail) first more (bits_of c) next refl (ends_read c tail ranges.0 ranges.1 spaces)
-    ∙ ap (λ (n : ℕ). Ok (says.Plain (Mov Ccr n))) (bits_of_fields v c small fields)
+    ∙ ap (λ (n : ℕ). Ok (says.Plain (Chip (Mov Ccr n)))) (bits_of_fields v c small fields)
 
 pub control_read : (v : ℕ) (tail : List ℕ) → v < 2 ^ 32 → list_all is_space tail ≡ true
-    → control_line (codes "ccr") (32 ∷ (plain (control_text v) ++ tail)) ≡ Ok (says.Plain (Mov Ccr v))
+    → control_line (codes "ccr") (32 ∷ (plain (control_text v) ++ tail)) ≡ Ok (says.Plain (Chip (Mov Ccr v)))
 control_read v tail small spaces = control_by v tail (control_of v) refl small spaces
 
 -- The text has no comment and no line feed.

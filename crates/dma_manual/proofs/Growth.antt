@@ -1,22 +1,27 @@
 -- What a line of a text adds to what is read.
 use Rattle.std.proofs.Common.{◌≡◌, ℕ, ◌+◌, ◌≤◌, ◌||◌, List, [], ◌∷◌, ◌++◌, length, refl, Option, Some, None, Result, Ok}
 use Rattle.std.proofs.lemmas.Bool.{le-leb}
-use Rattle.dma_insn.specs.Chip.{spelling}
 use Rattle.dma_insn.specs.AssemblyText.{most_program_bytes, text_lines}
 use Rattle.dma_insn.specs.declared.insn.Counter.{Counter}
 use Rattle.dma_insn.specs.declared.insn.Counter.TheVariants.{Lc0, Lc1}
-use Rattle.dma_insn.specs.declared.chip.ChipInsn.{ChipInsn}
 use Rattle.dma_insn.specs.declared.chip.ChipInsn.TheVariants.{Lp, LpEnd, LoopAgain}
+use Rattle.dma_manual.specs.declared.insns.ManualInsn.{ManualInsn}
+use Rattle.dma_manual.specs.declared.insns.ManualInsn.TheVariants.{Chip, Other}
+use Rattle.dma_manual.specs.declared.insns.OtherInsn.TheVariants.{LpEndIf, LoopAgainIf}
+use Rattle.dma_manual.specs.declared.insns.Request.{Request}
+use Rattle.dma_manual.specs.Insns.{spelling}
 use Rattle.dma_manual.specs.Listing.{is_end}
 use Rattle.dma_manual.specs.Words.{code_of, next_of}
 use Rattle.dma_manual.specs.Statements.{statement_at}
-use Rattle.dma_manual.specs.Assembled.{Read, after_statement, assembled, empty, ended_loop, first_stray, is_closed_by, is_free_or_closed, jump_of, label_in, place_of, slot, take_line, take_lines, with_bytes, with_loop, with_statement}
+use Rattle.dma_manual.specs.Assembled.{Read, after_statement, again_of, assembled, condition_of, empty, end_of, ended_loop, first_stray, is_closed_by, is_free_or_closed, jump_of, label_in, place_of, slot, take_line, take_lines, with_bytes, with_loop, with_statement}
 use Rattle.dma_manual.specs.declared.assembler.Located.{Located}
 use Rattle.dma_manual.specs.declared.assembler.Place.{Place}
 use Rattle.dma_manual.specs.declared.loops.LoopKind.{LoopKind}
 use Rattle.dma_manual.specs.declared.loops.LoopKind.TheVariants.{Counted, Endless}
 use Rattle.dma_manual.specs.declared.loops.Loops.{Loops}
 use Rattle.dma_manual.specs.declared.loops.Open.{Open}
+use Rattle.dma_manual.specs.declared.statements.Again.{Again}
+use Rattle.dma_manual.specs.declared.statements.Again.TheVariants.{Always, If}
 use Rattle.dma_manual.specs.declared.statements.End.{End as LoopTo}
 use Rattle.dma_manual.specs.declared.statements.End.TheVariants as ends
 use Rattle.dma_manual.specs.declared.statements.Statement.{Statement}
@@ -45,57 +50,62 @@ pub record Grown (r : Read) (bytes : List ℕ) (result : Result Read Located) : 
 bytes_fit : (code bytes : List ℕ) (place : Place) → length code + length bytes ≤ most_program_bytes → with_bytes code bytes place ≡ Ok (code ++ bytes)
 bytes_fit code bytes place fits = rw (le-leb (length code + length bytes) most_program_bytes fits) refl
 
-plain_grown : (r : Read) (i : ChipInsn) (place : Place) → length r.code + length (spelling i) ≤ most_program_bytes → Quiet r.loops → Grown r (spelling i) (after_statement r (says.Plain i) place)
+plain_grown : (r : Read) (i : ManualInsn) (place : Place) → length r.code + length (spelling i) ≤ most_program_bytes → Quiet r.loops → Grown r (spelling i) (after_statement r (says.Plain i) place)
 plain_grown r i place fits q =
     record { next = record r { code = r.code ++ spelling i; stops = r.stops || is_end i }; is = rw (bytes_fit r.code (spelling i) place fits) refl; code = refl; labels = refl; quiet = q }
 
-loop_grown : (r : Read) (c : Counter) (n : ℕ) (place : Place) → length r.code + length (spelling (Lp c n)) ≤ most_program_bytes → Quiet r.loops
-    → Grown r (spelling (Lp c n)) (after_statement r (says.Loop (Some c) n) place)
+loop_grown : (r : Read) (c : Counter) (n : ℕ) (place : Place) → length r.code + length (spelling (Chip (Lp c n))) ≤ most_program_bytes → Quiet r.loops
+    → Grown r (spelling (Chip (Lp c n))) (after_statement r (says.Loop (Some c) n) place)
 loop_grown r c n place fits q =
-    let code = r.code ++ spelling (Lp c n) in
+    let code = r.code ++ spelling (Chip (Lp c n)) in
     let loop = Some (record { start = length code; unnamed = None }) in
     record {
       next = record r { code = code; loops = with_loop r.loops (Counted c) loop };
-      is = rw (bytes_fit r.code (spelling (Lp c n)) place fits) refl;
+      is = rw (bytes_fit r.code (spelling (Chip (Lp c n))) place fits) refl;
       code = refl;
       labels = refl;
       quiet = quiet_with r.loops (Counted c) loop refl q;
     }
 
-pub end_grown : (r : Read) (c : Counter) (b : ℕ) (end : LoopTo) (place : Place) → jump_of r.loops (length r.code) end place ≡ Ok (Counted c, b)
-    → length r.code + length (spelling (LpEnd c b)) ≤ most_program_bytes → Quiet r.loops → Grown r (spelling (LpEnd c b)) (after_statement r (says.LoopEnd end) place)
-end_grown r c b end place jump fits q =
+pub end_grown : (r : Read) (c : Counter) (condition : Option Request) (b : ℕ) (end : LoopTo) (place : Place) → jump_of r.loops (length r.code) end place ≡ Ok (Counted c, b)
+    → length r.code + length (spelling (end_of (Counted c) condition b)) ≤ most_program_bytes → Quiet r.loops
+    → Grown r (spelling (end_of (Counted c) condition b)) (after_statement r (says.LoopEnd condition end) place)
+end_grown r c condition b end place jump fits q =
+    let bytes = spelling (end_of (Counted c) condition b) in
     record {
       next = record r {
-        code = r.code ++ spelling (LpEnd c b);
+        code = r.code ++ bytes;
         loops = with_loop r.loops (Counted c) None;
-        stray = first_stray r.stray (is_closed_by (slot r.loops (Counted c)) (length r.code) b) (record { place = place; kind = Counted c });
+        stray = first_stray r.stray (is_closed_by (slot r.loops (Counted c)) (length r.code) b) (record { place = place; kind = Counted c; condition = condition });
       };
-      is = rw (jump, bytes_fit r.code (spelling (LpEnd c b)) place fits) refl;
+      is = rw (jump, bytes_fit r.code bytes place fits) refl;
       code = refl;
       labels = refl;
       quiet = quiet_with r.loops (Counted c) None refl q;
     }
 
-again_grown : (r : Read) (c : Counter) (b : ℕ) (place : Place) → length r.code + length (spelling (LoopAgain c b)) ≤ most_program_bytes → Quiet r.loops
-    → Grown r (spelling (LoopAgain c b)) (after_statement r (says.LoopAgain c b) place)
-again_grown r c b place fits q =
+again_grown : (r : Read) (again : Again) (b : ℕ) (place : Place) → length r.code + length (spelling (again_of again b)) ≤ most_program_bytes → Quiet r.loops
+    → Grown r (spelling (again_of again b)) (after_statement r (says.LoopAgain again b) place)
+again_grown r again b place fits q =
+    let bytes = spelling (again_of again b) in
     record {
       next = record r {
-        code = r.code ++ spelling (LoopAgain c b);
+        code = r.code ++ bytes;
         loops = with_loop r.loops Endless None;
-        stray = first_stray r.stray (is_free_or_closed r.loops.endless (length r.code) b) (record { place = place; kind = Endless });
+        stray = first_stray r.stray (is_free_or_closed r.loops.endless (length r.code) b) (record { place = place; kind = Endless; condition = condition_of again });
       };
-      is = rw (bytes_fit r.code (spelling (LoopAgain c b)) place fits) refl;
+      is = rw (bytes_fit r.code bytes place fits) refl;
       code = refl;
       labels = refl;
       quiet = quiet_with r.loops Endless None refl q;
     }
 
-pub insn_grown : (r : Read) (i : ChipInsn) (place : Place) → length r.code + length (spelling i) ≤ most_program_bytes → Quiet r.loops → Grown r (spelling i) (after_statement r (statement_of i) place)
-insn_grown r (Lp c n) place fits q = loop_grown r c n place fits q
-insn_grown r (LpEnd c b) place fits q = end_grown r c b (ends.Back c b) place refl fits q
-insn_grown r (LoopAgain c b) place fits q = again_grown r c b place fits q
+pub insn_grown : (r : Read) (i : ManualInsn) (place : Place) → length r.code + length (spelling i) ≤ most_program_bytes → Quiet r.loops → Grown r (spelling i) (after_statement r (statement_of i) place)
+insn_grown r (Chip (Lp c n)) place fits q = loop_grown r c n place fits q
+insn_grown r (Chip (LpEnd c b)) place fits q = end_grown r c None b (ends.Back c b) place refl fits q
+insn_grown r (Chip (LoopAgain c b)) place fits q = again_grown r (Always c) b place fits q
+insn_grown r (Other (LpEndIf request c b)) place fits q = end_grown r c (Some request) b (ends.Back c b) place refl fits q
+insn_grown r (Other (LoopAgainIf request b)) place fits q = again_grown r (If request) b place fits q
 insn_grown r i place fits q = plain_grown r i place fits q
 
 -- a line that says a statement

@@ -5,11 +5,14 @@ mod Cuts
 mod Numerals
 mod Said
 mod ControlTexts
+mod OtherTexts
 mod InsnTexts
+mod InsnLaws
 mod LabelTexts
 mod ListedLines
 mod Growth
 mod Listed
 mod OneLine
+mod Columns
 mod HexadecimalLemmas
 mod Rows

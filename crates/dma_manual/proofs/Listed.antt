@@ -4,19 +4,22 @@ use Rattle.std.specs.List.{list_all, list_any}
 use Rattle.std.proofs.lemmas.Bool.{and_parts, and_from, le-leb, lt-ltb, leb-true, eqb-true}
 use Rattle.std.proofs.lemmas.List.{map-append}
 use Rattle.dma_text.specs.Digits.{hex_digits, spaced_bytes}
-use Rattle.dma_insn.specs.Chip.{HasRanges, spelling}
 use Rattle.dma_insn.specs.AssemblyText.{most_program_bytes, text_lines}
 use Rattle.std.specs.Option.{option_map}
-use Rattle.dma_insn.proofs.ChipLaws.{spelling_some}
 use Rattle.dma_insn.specs.declared.insn.Counter.{Counter}
 use Rattle.dma_insn.specs.declared.insn.Counter.TheVariants.{Lc0, Lc1}
-use Rattle.dma_insn.specs.declared.chip.ChipInsn.{ChipInsn}
 use Rattle.dma_insn.specs.declared.chip.ChipInsn.TheVariants.{Lp, LpEnd}
-use Rattle.dma_manual.specs.ManualText.{counter_name, manual_text}
+use Rattle.dma_manual.specs.declared.insns.ManualInsn.{ManualInsn}
+use Rattle.dma_manual.specs.declared.insns.ManualInsn.TheVariants.{Chip, Other}
+use Rattle.dma_manual.specs.declared.insns.OtherInsn.TheVariants.{LpEndIf}
+use Rattle.dma_manual.specs.declared.insns.Request.{Request}
+use Rattle.dma_manual.specs.declared.insns.Request.TheVariants.{Single, Burst}
+use Rattle.dma_manual.specs.Insns.{HasRanges, spelling}
+use Rattle.dma_manual.specs.ManualText.{counter_name, end_name, insn_text}
 use Rattle.dma_manual.specs.Words.{code_of, next_of, plain_byte}
 use Rattle.dma_manual.specs.Statements.{Label, label_of}
-use Rattle.dma_manual.specs.Listing.{Ending, follow, stop, blanks_behind, follow_words, jump_of, label_behind, label_name, label_text, line_text, listed, more_labels, rest_text, statement_text, target_of, target_text}
-use Rattle.dma_manual.specs.Assembled.{Read, after_statement, empty, jump_of as jump_from, place_of, take_line, take_lines, with_statement}
+use Rattle.dma_manual.specs.Listing.{Ending, follow, stop, blanks_behind, follow_words, is_executed, jump_of, label_behind, label_name, label_text, line_text, listed, mark, more_labels, rest_text, statement_text, target_of, target_text}
+use Rattle.dma_manual.specs.Assembled.{Read, after_statement, empty, end_of, jump_of as jump_from, place_of, take_line, take_lines, with_statement}
 use Rattle.dma_manual.specs.Laws.{ListingsAssemble, shown}
 use Rattle.dma_manual.specs.declared.assembler.Place.{Place}
 use Rattle.dma_manual.specs.declared.loops.LoopKind.TheVariants.{Counted}
@@ -27,6 +30,7 @@ use Rattle.dma_manual.specs.declared.statements.Statement.TheVariants as says
 use Rattle.dma_manual.proofs.Cuts.{all_append, code_before, inline_no_feed, is_inline, is_space, lines_feed, no_feed}
 use Rattle.dma_manual.proofs.Numerals.{decimal_feed, hex_feed, plain, spaced_feed}
 use Rattle.dma_manual.proofs.Said.{Says, end_label, says_end, says_spaced}
+use Rattle.dma_manual.proofs.InsnLaws.{spelling_some}
 use Rattle.dma_manual.proofs.InsnTexts.{insn_inline, insn_says, statement_of}
 use Rattle.dma_manual.proofs.Growth.{Grown, Quiet, end_grown, insn_grown, lines_step, read_whole, says_line}
 use Rattle.dma_manual.proofs.LabelTexts.{are_labels, label_found, label_inline, label_taken, label_word, label_words, labels_later, named_at}
@@ -40,13 +44,13 @@ record IsAt (r : Read) (labels : List ℕ) (o : ℕ) : Type 0 where
   quiet : Quiet r.loops
 
 -- The statement of an instruction in a listing, and what it adds.
-record IsSaid (r : Read) (i : ChipInsn) (text : List ℕ) : Type 0 where
+record IsSaid (r : Read) (i : ManualInsn) (text : List ℕ) : Type 0 where
   statement : Statement
   says : (tail : List ℕ) → list_all is_space tail ≡ true → Says r.labels (plain text ++ tail) statement
   inline : list_all is_inline text ≡ true
   grown : (place : Place) → Grown r (spelling i) (after_statement r statement place)
 
-text_said : (r : Read) (i : ChipInsn) → HasRanges i → length r.code + length (spelling i) ≤ most_program_bytes → Quiet r.loops → IsSaid r i (manual_text i)
+text_said : (r : Read) (i : ManualInsn) → HasRanges i → length r.code + length (spelling i) ≤ most_program_bytes → Quiet r.loops → IsSaid r i (insn_text i)
 text_said r i h fits q = record {
   statement = statement_of i;
   says = λ tail spaces. insn_says r.labels i tail h spaces;
@@ -55,47 +59,60 @@ text_said r i h fits q = record {
 }
 
 -- a DMALPEND with a label
-abbrev end_text : Counter → ℕ → List ℕ
-end_text c o = codes "DMALPEND " ++ counter_name c ++ codes ", " ++ label_name o
+abbrev end_text : Option Request → Counter → ℕ → List ℕ
+end_text condition c o = end_name condition ++ codes " " ++ counter_name c ++ (codes ", " ++ label_name o)
 
-end_says : (labels : List Label) (c : Counter) (o : ℕ) (tail : List ℕ) → label_of labels (label_word o) ≡ Some o → list_all is_space tail ≡ true
-    → Says labels (plain (end_text c o) ++ tail) (says.LoopEnd (ends.To c o))
-end_says labels Lc0 o tail found spaces =
-    says_end labels tail spaces Lc0 (codes "lc0") (label_word o) (ends.To Lc0 o) refl refl refl refl refl (label_words o) (end_label labels Lc0 (label_word o) tail o refl found)
-end_says labels Lc1 o tail found spaces =
-    says_end labels tail spaces Lc1 (codes "lc1") (label_word o) (ends.To Lc1 o) refl refl refl refl refl (label_words o) (end_label labels Lc1 (label_word o) tail o refl found)
+end_says : (labels : List Label) (condition : Option Request) (c : Counter) (o : ℕ) (tail : List ℕ) → label_of labels (label_word o) ≡ Some o → list_all is_space tail ≡ true
+    → Says labels (plain (end_text condition c o) ++ tail) (says.LoopEnd condition (ends.To c o))
+end_says labels None Lc0 o tail found spaces =
+    says_end labels tail spaces None Lc0 (codes "lc0") (label_word o) (ends.To Lc0 o) refl refl refl refl refl (label_words o) (end_label labels Lc0 (label_word o) tail o refl found)
+end_says labels None Lc1 o tail found spaces =
+    says_end labels tail spaces None Lc1 (codes "lc1") (label_word o) (ends.To Lc1 o) refl refl refl refl refl (label_words o) (end_label labels Lc1 (label_word o) tail o refl found)
+end_says labels (Some Single) Lc0 o tail found spaces =
+    says_end labels tail spaces (Some Single) Lc0 (codes "lc0") (label_word o) (ends.To Lc0 o) refl refl refl refl refl (label_words o) (end_label labels Lc0 (label_word o) tail o refl found)
+end_says labels (Some Single) Lc1 o tail found spaces =
+    says_end labels tail spaces (Some Single) Lc1 (codes "lc1") (label_word o) (ends.To Lc1 o) refl refl refl refl refl (label_words o) (end_label labels Lc1 (label_word o) tail o refl found)
+end_says labels (Some Burst) Lc0 o tail found spaces =
+    says_end labels tail spaces (Some Burst) Lc0 (codes "lc0") (label_word o) (ends.To Lc0 o) refl refl refl refl refl (label_words o) (end_label labels Lc0 (label_word o) tail o refl found)
+end_says labels (Some Burst) Lc1 o tail found spaces =
+    says_end labels tail spaces (Some Burst) Lc1 (codes "lc1") (label_word o) (ends.To Lc1 o) refl refl refl refl refl (label_words o) (end_label labels Lc1 (label_word o) tail o refl found)
 
-end_inline : (c : Counter) (o : ℕ) → list_all is_inline (end_text c o) ≡ true
-end_inline Lc0 o = label_inline o
-end_inline Lc1 o = label_inline o
+end_inline : (condition : Option Request) (c : Counter) (o : ℕ) → list_all is_inline (end_text condition c o) ≡ true
+end_inline None Lc0 o = label_inline o
+end_inline None Lc1 o = label_inline o
+end_inline (Some Single) Lc0 o = label_inline o
+end_inline (Some Single) Lc1 o = label_inline o
+end_inline (Some Burst) Lc0 o = label_inline o
+end_inline (Some Burst) Lc1 o = label_inline o
 
 jump_to : (loops : Loops) (c : Counter) (here start back : ℕ) (place : Place) → start ≤ here → here - start ≡ back → back ≤ 255 → jump_from loops here (ends.To c start) place ≡ Ok (Counted c, back)
 jump_to loops c here start back place before is small = rw (is, le-leb start here before, le-leb back 255 small) refl
 
-end_said : (r : Read) (labels : List ℕ) (o : ℕ) (c : Counter) (b : ℕ) → IsAt r labels o → b < 256 → b ≤ o → list_any (λ l. l == (o - b)) labels ≡ true
-    → o < 65536 → length r.code + length (spelling (LpEnd c b)) ≤ most_program_bytes → IsSaid r (LpEnd c b) (end_text c (o - b))
-end_said r labels o c b at small within any below fits =
+end_said : (r : Read) (labels : List ℕ) (o : ℕ) (condition : Option Request) (c : Counter) (b : ℕ) → IsAt r labels o → b < 256 → b ≤ o → list_any (λ l. l == (o - b)) labels ≡ true
+    → o < 65536 → length r.code + length (spelling (end_of (Counted c) condition b)) ≤ most_program_bytes → IsSaid r (end_of (Counted c) condition b) (end_text condition c (o - b))
+end_said r labels o condition c b at small within any below fits =
     let found : label_of r.labels (label_word (o - b)) ≡ Some (o - b) =
     ap (λ (l : List Label). label_of l (label_word (o - b))) at.labels_are ∙ label_found (o - b) o labels (omega arith) at.before any in
     let here = at.here in
     record {
-      statement = says.LoopEnd (ends.To c (o - b));
-      says = λ tail spaces. end_says r.labels c (o - b) tail found spaces;
-      inline = end_inline c (o - b);
-      grown = λ place. end_grown r c b (ends.To c (o - b)) place (jump_to r.loops c (length r.code) (o - b) b place (omega arith) (omega arith) (omega arith)) fits at.quiet;
+      statement = says.LoopEnd condition (ends.To c (o - b));
+      says = λ tail spaces. end_says r.labels condition c (o - b) tail found spaces;
+      inline = end_inline condition c (o - b);
+      grown = λ place. end_grown r c condition b (ends.To c (o - b)) place (jump_to r.loops c (length r.code) (o - b) b place (omega arith) (omega arith) (omega arith)) fits at.quiet;
     }
 
 -- an instruction as its line has it
-end_by : (r : Read) (labels : List ℕ) (o : ℕ) (c : Counter) (b : ℕ) (t u : Bool) → nat_le b o ≡ t → list_any (λ l. l == (o - b)) labels ≡ u → IsAt r labels o → b < 256
-    → o < 65536 → length r.code + length (spelling (LpEnd c b)) ≤ most_program_bytes
-    → IsSaid r (LpEnd c b) (statement_text (option_map (λ label. (c, label)) (cond (t && u) (Some (o - b)) None)) (LpEnd c b))
-end_by r labels o c b true true within any at small below fits = end_said r labels o c b at small (leb-true b o within) any below fits
-end_by r labels o c b true false within any at small below fits = text_said r (LpEnd c b) small fits at.quiet
-end_by r labels o c b false u within any at small below fits = text_said r (LpEnd c b) small fits at.quiet
+end_by : (r : Read) (labels : List ℕ) (o : ℕ) (condition : Option Request) (c : Counter) (b : ℕ) (t u : Bool) → nat_le b o ≡ t → list_any (λ l. l == (o - b)) labels ≡ u → IsAt r labels o
+    → HasRanges (end_of (Counted c) condition b) → b < 256 → o < 65536 → length r.code + length (spelling (end_of (Counted c) condition b)) ≤ most_program_bytes
+    → IsSaid r (end_of (Counted c) condition b) (statement_text (option_map (λ label. record { condition = condition; counter = c; label = label }) (cond (t && u) (Some (o - b)) None)) (end_of (Counted c) condition b))
+end_by r labels o condition c b true true within any at h small below fits = end_said r labels o condition c b at small (leb-true b o within) any below fits
+end_by r labels o condition c b true false within any at h small below fits = text_said r (end_of (Counted c) condition b) h fits at.quiet
+end_by r labels o condition c b false u within any at h small below fits = text_said r (end_of (Counted c) condition b) h fits at.quiet
 
-insn_said : (r : Read) (labels : List ℕ) (o : ℕ) (i : ChipInsn) → IsAt r labels o → HasRanges i → o < 65536 → length r.code + length (spelling i) ≤ most_program_bytes
+insn_said : (r : Read) (labels : List ℕ) (o : ℕ) (i : ManualInsn) → IsAt r labels o → HasRanges i → o < 65536 → length r.code + length (spelling i) ≤ most_program_bytes
     → IsSaid r i (statement_text (jump_of labels o i) i)
-insn_said r labels o (LpEnd c b) at h below fits = end_by r labels o c b (nat_le b o) (list_any (λ l. l == (o - b)) labels) refl refl at h below fits
+insn_said r labels o (Chip (LpEnd c b)) at h below fits = end_by r labels o None c b (nat_le b o) (list_any (λ l. l == (o - b)) labels) refl refl at h h below fits
+insn_said r labels o (Other (LpEndIf q c b)) at h below fits = end_by r labels o (Some q) c b (nat_le b o) (list_any (λ l. l == (o - b)) labels) refl refl at h h below fits
 insn_said r labels o i at h below fits = text_said r i h fits at.quiet
 
 -- the spaces behind a text
@@ -120,7 +137,7 @@ abbrev gap_behind : ℕ → List ℕ
 gap_behind width = blanks_behind width ++ 32 ∷ []
 
 gap_is : (width : ℕ) → list_all is_space (gap_behind width) ≡ true
-gap_is width = all_append is_space (blanks_behind width) (32 ∷ []) (spaces_dropped (min width 43) (replicate 43 32) refl) refl
+gap_is width = all_append is_space (blanks_behind width) (32 ∷ []) (spaces_dropped (min width 62) (replicate 62 32) refl) refl
 
 -- a line is its code, a comment and a line feed
 line_split : (text blanks address bytes more : List ℕ) → (text ++ (blanks ++ (codes " ; " ++ address ++ codes " " ++ (bytes ++ codes "\n")))) ++ more
@@ -144,20 +161,25 @@ front_inline text h =
     all_append is_inline (codes "    " ++ text) (gap_behind (length (codes "    " ++ text))) (all_append is_inline (codes "    ") text refl h) (spaces_inline (gap_behind (length (codes "    " ++ text))) (gap_is (length (codes "    " ++ text))))
 
 -- The line of an instruction adds its bytes.
-abbrev words_of : ℕ → List ℕ → ℕ → ChipInsn → List ℕ
-words_of at labels o i = spaced_bytes (spelling i) ++ target_text (target_of labels at o i)
+abbrev words_of : ℕ → List ℕ → ℕ → ManualInsn → List ℕ
+words_of at labels o i = spaced_bytes (spelling i) ++ (target_text (target_of labels at o i) ++ mark (is_executed i))
 
-abbrev comment_of : ℕ → List ℕ → ℕ → ChipInsn → List ℕ
+abbrev comment_of : ℕ → List ℕ → ℕ → ManualInsn → List ℕ
 comment_of at labels o i = 32 ∷ (hex_digits ((at + o) % 2 ^ 32) ++ 32 ∷ words_of at labels o i)
 
 target_feed : (target : Option ℕ) → list_all no_feed (target_text target) ≡ true
 target_feed None = refl
 target_feed (Some address) = all_append no_feed (codes ", jumps to 0x") (hex_digits address) refl (hex_feed address)
 
-comment_feed : (at : ℕ) (labels : List ℕ) (o : ℕ) (i : ChipInsn) → list_all no_feed (comment_of at labels o i) ≡ true
+mark_feed : (executed : Bool) → list_all no_feed (mark executed) ≡ true
+mark_feed true = refl
+mark_feed false = refl
+
+comment_feed : (at : ℕ) (labels : List ℕ) (o : ℕ) (i : ManualInsn) → list_all no_feed (comment_of at labels o i) ≡ true
 comment_feed at labels o i =
     all_append no_feed (hex_digits ((at + o) % 2 ^ 32)) (32 ∷ words_of at labels o i) (hex_feed ((at + o) % 2 ^ 32))
-    (all_append no_feed (spaced_bytes (spelling i)) (target_text (target_of labels at o i)) (spaced_feed (spelling i)) (target_feed (target_of labels at o i)))
+    (all_append no_feed (spaced_bytes (spelling i)) (target_text (target_of labels at o i) ++ mark (is_executed i)) (spaced_feed (spelling i))
+    (all_append no_feed (target_text (target_of labels at o i)) (mark (is_executed i)) (target_feed (target_of labels at o i)) (mark_feed (is_executed i))))
 
 record ReadsLine (r : Read) (n : ℕ) (text more bytes : List ℕ) : Type 0 where
   next : Read
@@ -166,7 +188,7 @@ record ReadsLine (r : Read) (n : ℕ) (text more bytes : List ℕ) : Type 0 wher
   labels : next.labels ≡ r.labels
   quiet : Quiet next.loops
 
-line_read : (r : Read) (n at : ℕ) (labels : List ℕ) (o : ℕ) (i : ChipInsn) (more : List ℕ) → IsSaid r i (statement_text (jump_of labels o i) i) → ReadsLine r n (line_text at labels o i) more (spelling i)
+line_read : (r : Read) (n at : ℕ) (labels : List ℕ) (o : ℕ) (i : ManualInsn) (more : List ℕ) → IsSaid r i (statement_text (jump_of labels o i) i) → ReadsLine r n (line_text at labels o i) more (spelling i)
 line_read r n at labels o i more h =
     let text = statement_text (jump_of labels o i) i in
     let front = code_front text in
@@ -196,8 +218,8 @@ record ReadsLabel (r : Read) (n : ℕ) (labels : List ℕ) (o : ℕ) (text more 
   code : next.code ≡ r.code
   at : IsAt next labels o
 
-label_behind_by : (i : ChipInsn) (o : ℕ) → o < 65536 → (label_behind i o ≡ None) ⊎ (label_behind i o ≡ Some o)
-label_behind_by (Lp c n) o small = inr (rw (lt-ltb o 65536 small) refl)
+label_behind_by : (i : ManualInsn) (o : ℕ) → o < 65536 → (label_behind i o ≡ None) ⊎ (label_behind i o ≡ Some o)
+label_behind_by (Chip (Lp c n)) o small = inr (rw (lt-ltb o 65536 small) refl)
 label_behind_by _ o small = inl refl
 
 label_read : (r : Read) (n : ℕ) (labels : List ℕ) (p o : ℕ) (more : List ℕ) (behind : Option ℕ) → length r.code ≡ o → r.labels ≡ map named_at labels → are_labels p labels ≡ true
@@ -237,7 +259,7 @@ record ReadsLines (r : Read) (n : ℕ) (text more bytes : List ℕ) : Type 0 whe
   code : next.code ≡ r.code ++ bytes
   quiet : Quiet next.loops
 
-lines_read : (insns : List ChipInsn) (r : Read) (n at : ℕ) (labels : List ℕ) (o : ℕ) (more : List ℕ) → AllInRange insns → IsAt r labels o → o + length (joined insns) ≤ most_program_bytes
+lines_read : (insns : List ManualInsn) (r : Read) (n at : ℕ) (labels : List ℕ) (o : ℕ) (more : List ℕ) → AllInRange insns → IsAt r labels o → o + length (joined insns) ≤ most_program_bytes
     → ReadsLines r n (lines_of at labels o insns) more (joined insns)
 lines_read [] r n at labels o more range here fits =
     record { next = r; number = n; is = refl; code = sym (append-nil r.code); quiet = here.quiet }

@@ -3,26 +3,27 @@ use Rattle.std.proofs.Common.{◌≡◌, ℕ, ◌+◌, ◌-◌, ◌<◌, ◌≤�
 use Rattle.std.proofs.lemmas.Bool.{false≢true}
 use Rattle.std.specs.List.{flat_map}
 use Rattle.std.proofs.lemmas.List.{take-append-drop, get_or-drop, length-drop}
-use Rattle.dma_insn.specs.Chip.{Decoded, HasRanges, IsSpelledAt, decoded, spelling}
-use Rattle.dma_insn.specs.declared.chip.ChipInsn.{ChipInsn}
 use Rattle.dma_insn.specs.declared.chip.ChipInsn.TheVariants.{End}
 use Rattle.dma_insn.proofs.Laws.{IsBytes}
-use Rattle.dma_insn.proofs.ChipLaws.{Right, decoded_right, spelled_within}
+use Rattle.dma_manual.specs.declared.insns.ManualInsn.{ManualInsn}
+use Rattle.dma_manual.specs.declared.insns.ManualInsn.TheVariants.{Chip}
+use Rattle.dma_manual.specs.Insns.{Decoded, HasRanges, IsSpelledAt, decoded, spelling}
+use Rattle.dma_manual.proofs.InsnLaws.{Right, decoded_right, spelled_within}
 use Rattle.dma_manual.specs.Listing.{Listing, follow, stop, is_end, label_behind, label_text, line_text, listed_from, more_labels, with_text}
 use Rattle.dma_manual.specs.Laws.{shown}
 use Rattle.dma_manual.proofs.Listings.{listed_from_first}
 
 -- the bytes of instructions
-abbrev pub joined : List ChipInsn → List ℕ
+abbrev pub joined : List ManualInsn → List ℕ
 joined insns = flat_map spelling insns
 
 -- all instructions have their fields in range
-abbrev pub AllInRange : List ChipInsn → Type 0
+abbrev pub AllInRange : List ManualInsn → Type 0
 AllInRange [] = Unit {0}
 AllInRange (i ∷ insns) = HasRanges i × AllInRange insns
 
 -- the lines of instructions from the offset o on
-abbrev pub lines_of : ℕ → List ℕ → ℕ → List ChipInsn → List ℕ
+abbrev pub lines_of : ℕ → List ℕ → ℕ → List ManualInsn → List ℕ
 lines_of at labels o [] = []
 lines_of at labels o (i ∷ is) =
     let end = o + length (spelling i) in
@@ -30,19 +31,19 @@ lines_of at labels o (i ∷ is) =
 
 -- The listing of the bytes from the offset o on.
 pub record IsListed (at : ℕ) (labels : List ℕ) (o : ℕ) (xs program : List ℕ) (l : Listing) : Type 0 where
-  pub insns : List ChipInsn
+  pub insns : List ManualInsn
   pub rest : List ℕ
   pub in_range : AllInRange insns
   pub bytes_are : xs ≡ joined insns ++ rest
   pub text_is : l.text ≡ lines_of at labels o insns
   pub end_is : shown program l.ending ≡ o + length (joined insns)
 
-end_is : (i : ChipInsn) → is_end i ≡ true → i ≡ End
-end_is End h = refl
+end_is : (i : ManualInsn) → is_end i ≡ true → i ≡ Chip End
+end_is (Chip End) h = refl
 end_is _ h = absurd (false≢true h)
 
 -- one more instruction in front
-listed_more : (at : ℕ) (labels : List ℕ) (o : ℕ) (xs program : List ℕ) (i : ChipInsn) (l more : Listing) → HasRanges i → xs ≡ spelling i ++ drop (length (spelling i)) xs
+listed_more : (at : ℕ) (labels : List ℕ) (o : ℕ) (xs program : List ℕ) (i : ManualInsn) (l more : Listing) → HasRanges i → xs ≡ spelling i ++ drop (length (spelling i)) xs
     → l ≡ with_text (line_text at labels o i) (with_text (label_text (label_behind i (o + length (spelling i)))) more)
     → IsListed at (more_labels labels (label_behind i (o + length (spelling i)))) (o + length (spelling i)) (drop (length (spelling i)) xs) program more
     → IsListed at labels o xs program l
@@ -56,9 +57,9 @@ listed_more at labels o xs program i l more range split e h = record {
 }
 
 listed_end : (at : ℕ) (labels : List ℕ) (o : ℕ) (xs program : List ℕ) (l : Listing) → length program ≡ o + length xs → 1 ≤ length xs → xs ≡ 0 ∷ drop 1 xs
-    → l ≡ with_text (line_text at labels o End) (record { text = []; ending = follow (length xs - 1) }) → IsListed at labels o xs program l
+    → l ≡ with_text (line_text at labels o (Chip End)) (record { text = []; ending = follow (length xs - 1) }) → IsListed at labels o xs program l
 listed_end at labels o xs program l total some split e = record {
-  insns = End ∷ [];
+  insns = Chip End ∷ [];
   rest = drop 1 xs;
   in_range = (tt, tt);
   bytes_are = split;
@@ -66,21 +67,21 @@ listed_end at labels o xs program l total some split e = record {
   end_is = ap (λ (x : Listing). shown program x.ending) e ∙ (omega arith);
 }
 
-listed_by : (at : ℕ) (labels : List ℕ) (o n : ℕ) (xs program : List ℕ) (i : ChipInsn) (t : Bool) → is_end i ≡ t → length program ≡ o + length xs
+listed_by : (at : ℕ) (labels : List ℕ) (o n : ℕ) (xs program : List ℕ) (i : ManualInsn) (t : Bool) → is_end i ≡ t → length program ≡ o + length xs
     → decoded xs ≡ Ok (i, n) → IsSpelledAt xs i n
     → ((more : List ℕ) (p : ℕ) (rest : List ℕ) → length rest < length xs → length program ≡ p + length rest → rest ≡ drop n xs → IsListed at more p rest program (listed_from at more p 0 rest))
     → IsListed at labels o xs program (listed_from at labels o 0 xs)
 listed_by at labels o n xs program i true ends total read at_front more =
     let within = spelled_within xs i n at_front in
-    let is : i ≡ End = end_is i ends in
-    let one : n ≡ 1 = at_front.count_is ∙ ap (λ (k : ChipInsn). length (spelling k)) is in
+    let is : i ≡ Chip End = end_is i ends in
+    let one : n ≡ 1 = at_front.count_is ∙ ap (λ (k : ManualInsn). length (spelling k)) is in
     let first = listed_from_first at labels o n xs i read within.0 within.1 in
     let split : xs ≡ 0 ∷ drop 1 xs =
     sym (take-append-drop n xs) ∙ ap (λ (front : List ℕ). front ++ drop n xs) (at_front.bytes_are ∙ ap spelling is) ∙ ap (λ (k : ℕ). 0 ∷ drop k xs) one in
     let line : listed_from at labels o 0 xs ≡ with_text (line_text at labels o i) (record { text = []; ending = follow (length xs - n) }) = first ∙ rw ends refl in
     listed_end at labels o xs program (listed_from at labels o 0 xs) total (omega arith) split
-    (line ∙ ap (λ (k : ChipInsn). with_text (line_text at labels o k) (record { text = []; ending = follow (length xs - n) })) is
-    ∙ ap (λ (m : ℕ). with_text (line_text at labels o End) (record { text = []; ending = follow (length xs - m) })) one)
+    (line ∙ ap (λ (k : ManualInsn). with_text (line_text at labels o k) (record { text = []; ending = follow (length xs - n) })) is
+    ∙ ap (λ (m : ℕ). with_text (line_text at labels o (Chip End)) (record { text = []; ending = follow (length xs - m) })) one)
 listed_by at labels o n xs program i false goes total read at_front more =
     let within = spelled_within xs i n at_front in
     let size = at_front.count_is in

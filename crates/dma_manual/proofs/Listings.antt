@@ -1,9 +1,9 @@
 -- The listing of bytes, by their first instruction.
-use Rattle.std.proofs.Common.{◌≡◌, ℕ, ◌+◌, ◌-◌, ◌<◌, ◌≤◌, false, List, [], ◌∷◌, ◌++◌, length, drop, Result, Ok, Err, suc, zero, refl, ap, sym, ◌∙◌, arith, cond, append_assoc, length-append}
+use Rattle.std.proofs.Common.{◌≡◌, ℕ, ◌+◌, ◌-◌, ◌<◌, ◌≤◌, true, false, List, [], ◌∷◌, ◌++◌, length, drop, Result, Ok, Err, suc, zero, refl, ap, sym, ◌∙◌, arith, cond, append_assoc, append-nil, length-append}
 use Rattle.std.specs.Prelude.{OnOk}
-use Rattle.dma_insn.specs.declared.chip.ChipInsn.{ChipInsn}
-use Rattle.dma_insn.specs.Chip.{decoded}
-use Rattle.dma_manual.specs.Listing.{Listing, follow, with_text, line_text, is_end, label_text, label_behind, more_labels, listed_from}
+use Rattle.dma_manual.specs.declared.insns.ManualInsn.{ManualInsn}
+use Rattle.dma_manual.specs.Insns.{decoded}
+use Rattle.dma_manual.specs.Listing.{Ending, Listing, follow, with_text, line_text, is_end, label_text, label_behind, more_labels, listed_from, rest_text}
 
 -- bytes that are skipped are only counted
 listed_from_skipped : (at : ℕ) (labels : List ℕ) (o k : ℕ) (xs : List ℕ) → k ≤ length xs
@@ -15,13 +15,13 @@ listed_from_skipped at labels o (suc k) (x ∷ xs) h =
     listed_from_skipped at labels (o + 1) k xs (omega arith) ∙ ap (λ p. listed_from at labels p 0 (drop k xs)) e
 
 -- the listing of bytes that begin with an instruction of n bytes
-abbrev pub listed_first : ℕ → List ℕ → ℕ → ChipInsn → ℕ → List ℕ → Listing
+abbrev pub listed_first : ℕ → List ℕ → ℕ → ManualInsn → ℕ → List ℕ → Listing
 listed_first at labels o i n xs =
     with_text (line_text at labels o i)
     (cond (is_end i) (record { text = []; ending = follow (length xs - n) })
     (with_text (label_text (label_behind i (o + n))) (listed_from at (more_labels labels (label_behind i (o + n))) (o + n) 0 (drop n xs))))
 
-pub listed_from_first : (at : ℕ) (labels : List ℕ) (o n : ℕ) (xs : List ℕ) (i : ChipInsn) → decoded xs ≡ Ok (i, n) → 0 < n → n ≤ length xs
+pub listed_from_first : (at : ℕ) (labels : List ℕ) (o n : ℕ) (xs : List ℕ) (i : ManualInsn) → decoded xs ≡ Ok (i, n) → 0 < n → n ≤ length xs
     → listed_from at labels o 0 xs ≡ listed_first at labels o i n xs
 listed_from_first at labels o zero xs i is some within = absurd (omega arith)
 listed_from_first at labels o (suc n) [] i is some within = absurd (omega arith)
@@ -34,7 +34,7 @@ listed_from_first at labels o (suc n) (x ∷ xs) i is some within =
     rw is (ap (λ (l : Listing). with_text (line_text at labels o i) (cond (is_end i) (record { text = []; ending = follow (length (x ∷ xs) - suc n) }) (with_text (label_text (label_behind i (o + suc n))) l))) rest)
 
 -- the lines of an instruction that is not DMAEND
-pub listed_step : (at : ℕ) (labels : List ℕ) (o n : ℕ) (xs : List ℕ) (i : ChipInsn) (out one two after more : List ℕ)
+pub listed_step : (at : ℕ) (labels : List ℕ) (o n : ℕ) (xs : List ℕ) (i : ManualInsn) (out one two after more : List ℕ)
     → decoded xs ≡ Ok (i, n) → 0 < n → n ≤ length xs → is_end i ≡ false → (shown : List ℕ) → shown ≡ labels → one ≡ out ++ line_text at shown o i
     → two ≡ one ++ label_text (label_behind i (o + n)) → more ≡ more_labels labels (label_behind i (o + n)) → after ≡ drop n xs
     → (two ++ (listed_from at more (o + n) 0 after).text ≡ out ++ (listed_from at labels o 0 xs).text)
@@ -50,6 +50,21 @@ listed_step at labels o n xs i out one two after more read some within goes show
       ap (λ (l : Listing). two ++ l.text) same ∙ ap (λ (l : List ℕ). l ++ rest.text) made ∙ joined ∙ ap (λ (l : Listing). out ++ l.text) (sym whole),
       ap (λ (l : Listing). l.ending) same ∙ ap (λ (l : Listing). l.ending) (sym whole),
     )
+
+-- the lines of DMAEND, the last instruction
+pub listed_last : (at : ℕ) (labels : List ℕ) (o n : ℕ) (xs : List ℕ) (i : ManualInsn) (out one two start : List ℕ) (l : Listing) (left : ℕ)
+    → decoded xs ≡ Ok (i, n) → 0 < n → n ≤ length xs → is_end i ≡ true → (shown : List ℕ) → shown ≡ labels → one ≡ out ++ line_text at shown o i
+    → left ≡ length xs - n → two ≡ one ++ rest_text (follow left) → out ++ (listed_from at labels o 0 xs).text ≡ start ++ l.text
+    → (listed_from at labels o 0 xs).ending ≡ l.ending → two ≡ start ++ (l.text ++ rest_text l.ending)
+listed_last at labels o n xs i out one two start l left read some within ends shown also e size f text ending =
+    let line = line_text at labels o i in
+    let rest = listed_from at labels o 0 xs in
+    let whole : rest ≡ with_text line (record { text = []; ending = follow (length xs - n) }) = rw (listed_from_first at labels o n xs i read some within, ends) refl in
+    let text_is : rest.text ≡ line = ap (λ (m : Listing). m.text) whole ∙ append-nil line in
+    let ending_is : rest.ending ≡ follow left = ap (λ (m : Listing). m.ending) whole ∙ ap follow (sym size) in
+    f ∙ ap (λ (x : List ℕ). x ++ rest_text (follow left)) (e ∙ ap (λ (ls : List ℕ). out ++ line_text at ls o i) also)
+    ∙ ap (λ (x : List ℕ). (out ++ x) ++ rest_text (follow left)) (sym text_is) ∙ ap (λ (m : Ending). (out ++ rest.text) ++ rest_text m) (sym ending_is)
+    ∙ ap (λ (x : List ℕ). x ++ rest_text rest.ending) text ∙ ap (λ (m : Ending). (start ++ l.text) ++ rest_text m) ending ∙ append_assoc start l.text (rest_text l.ending)
 
 -- a line is its text and a comment behind it
 joined : (old text two : List ℕ) (width : ℕ) (comment : ℕ → List ℕ) → two ≡ old ++ text → width ≡ length two - length old

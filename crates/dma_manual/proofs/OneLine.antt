@@ -2,12 +2,18 @@
 use Rattle.std.proofs.Common.{◌≡◌, ℕ, ◌≤◌, true, false, List, [], ◌∷◌, length, refl, ap, ◌∙◌, subst, Ok, arith, append-nil}
 use Rattle.std.specs.List.{list_all}
 use Rattle.std.proofs.lemmas.Bool.{false≢true}
-use Rattle.dma_insn.specs.Chip.{spelling}
 use Rattle.dma_insn.specs.AssemblyText.{most_program_bytes, text_lines}
 use Rattle.dma_insn.specs.declared.insn.Reg.TheVariants.{Sar}
 use Rattle.dma_insn.specs.declared.chip.ChipInsn.{ChipInsn}
 use Rattle.dma_insn.specs.declared.chip.ChipInsn.TheVariants.{Mov, End, Wfe, AddHalfword}
-use Rattle.dma_manual.specs.ManualText.{manual_text}
+use Rattle.dma_manual.specs.declared.insns.Action.TheVariants as action
+use Rattle.dma_manual.specs.declared.insns.ManualInsn.{ManualInsn}
+use Rattle.dma_manual.specs.declared.insns.ManualInsn.TheVariants.{Chip, Other}
+use Rattle.dma_manual.specs.declared.insns.OtherInsn.{OtherInsn}
+use Rattle.dma_manual.specs.declared.insns.OtherInsn.TheVariants.{Kill, LdIf, StIf, OfPeripheral, LpEndIf, LoopAgainIf}
+use Rattle.dma_manual.specs.declared.insns.Request.TheVariants.{Single}
+use Rattle.dma_manual.specs.Insns.{spelling}
+use Rattle.dma_manual.specs.ManualText.{insn_text, manual_text, other_text}
 use Rattle.dma_manual.specs.Words.{code_of, next_of}
 use Rattle.dma_manual.specs.Assembled.{empty, place_of, take_line, take_lines}
 use Rattle.dma_manual.specs.Laws.{TextsAssemble}
@@ -21,20 +27,34 @@ one_line : (text : List ℕ) → has_bytes text ≡ true → list_all no_feed te
 one_line [] some h = absurd (false≢true some)
 one_line (b ∷ text) some h = line_alone b text h
 
-text_some : (i : ChipInsn) → has_bytes (manual_text i) ≡ true
-text_some (Wfe e false) = refl
-text_some (Mov Sar v) = refl
-text_some (AddHalfword a m false) = refl
-text_some (AddHalfword a m true) = refl
-text_some _ = refl
+chip_some : (i : ChipInsn) → has_bytes (manual_text i) ≡ true
+chip_some (Wfe e false) = refl
+chip_some (Mov Sar v) = refl
+chip_some (AddHalfword a m false) = refl
+chip_some (AddHalfword a m true) = refl
+chip_some _ = refl
 
-spelling_le : (i : ChipInsn) → length (spelling i) ≤ most_program_bytes
-spelling_le End = omega arith
+other_some : (i : OtherInsn) → has_bytes (other_text i) ≡ true
+other_some (LdIf Single) = refl
+other_some (StIf Single) = refl
+other_some (OfPeripheral (action.Ld Single) p) = refl
+other_some (OfPeripheral (action.St Single) p) = refl
+other_some (LpEndIf Single c b) = refl
+other_some (LoopAgainIf Single b) = refl
+other_some _ = refl
+
+text_some : (i : ManualInsn) → has_bytes (insn_text i) ≡ true
+text_some (Chip i) = chip_some i
+text_some (Other i) = other_some i
+
+spelling_le : (i : ManualInsn) → length (spelling i) ≤ most_program_bytes
+spelling_le (Chip End) = omega arith
+spelling_le (Other Kill) = omega arith
 spelling_le _ = omega arith
 
 pub texts_assemble : TextsAssemble
 texts_assemble i h =
-    let text = manual_text i in
+    let text = insn_text i in
     let inline = insn_inline i h in
     let fits = spelling_le i in
     let line : text_lines text ≡ text ∷ [] = one_line text (text_some i) (inline_no_feed text inline) in

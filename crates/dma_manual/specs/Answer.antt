@@ -21,11 +21,11 @@ writes_file p = p.succeeds || nat_lt 0 (length p.file)
 abbrev pub printed_of : Answer → Printed
 printed_of a = record { out = a.out.items; err = a.err.items; file = a.file.items; succeeds = a.succeeds }
 
--- the same with a note behind the message on standard error
+-- the same with a note after the message on standard error
 abbrev pub with_note : Printed → List ℕ → Printed
 with_note p note = record p { err = p.err ++ note }
 
--- a message behind the name of the input and a colon; an empty message stays empty
+-- a message after the name of the input and a colon; an empty message stays empty
 abbrev pub named : List ℕ → List ℕ → List ℕ
 named name [] = []
 named name (b ∷ message) = name ++ 58 ∷ [] ++ (b ∷ message)

@@ -2,11 +2,10 @@
 use Rattle.std.specs.Prelude.{◌≡◌, ℕ, ◌+◌, ◌-◌, Bool, true, false, ◌==◌, ◌&&◌, ◌||◌, if◌then◌else◌, List, [], ◌∷◌, ◌++◌, length, take, map, slice_index, nat_le, nat_lt, Option, Some, None, is_some, Result, Ok, Err, ok_or}
 use Rattle.dma_insn.specs.LineReading.{◌>>=◌}
 use Rattle.dma_insn.specs.AssemblyText.{most_program_bytes, text_lines}
-use Rattle.dma_insn.specs.Chip.{spelling}
 use Rattle.dma_insn.specs.declared.insn.Counter.{Counter}
 use Rattle.dma_insn.specs.declared.insn.Counter.TheVariants.{Lc0, Lc1}
-use Rattle.dma_insn.specs.declared.chip.ChipInsn.{ChipInsn}
 use Rattle.dma_insn.specs.declared.chip.ChipInsn.TheVariants.{Lp, LpEnd, LoopAgain}
+use Rattle.dma_manual.specs.Insns.{spelling}
 use Rattle.dma_manual.specs.Listing.{is_end}
 use Rattle.dma_manual.specs.Words.{code_of, next_of, plain_byte}
 use Rattle.dma_manual.specs.Statements.{Label, label_of, label_view, statement_at}
@@ -17,11 +16,17 @@ use Rattle.dma_manual.specs.declared.assembler.Place.{Place}
 use Rattle.dma_manual.specs.declared.assembler.Stop.{Stop}
 use Rattle.dma_manual.specs.declared.assembler.Stop.TheVariants.{NoMemory, At}
 use Rattle.dma_manual.specs.declared.draft.Draft.{Draft}
+use Rattle.dma_manual.specs.declared.insns.ManualInsn.{ManualInsn}
+use Rattle.dma_manual.specs.declared.insns.ManualInsn.TheVariants.{Chip, Other}
+use Rattle.dma_manual.specs.declared.insns.OtherInsn.TheVariants.{LpEndIf, LoopAgainIf}
+use Rattle.dma_manual.specs.declared.insns.Request.{Request}
 use Rattle.dma_manual.specs.declared.loops.LoopKind.{LoopKind}
 use Rattle.dma_manual.specs.declared.loops.LoopKind.TheVariants.{Counted, Endless}
 use Rattle.dma_manual.specs.declared.loops.Loops.{Loops}
 use Rattle.dma_manual.specs.declared.loops.Open.{Open}
 use Rattle.dma_manual.specs.declared.loops.Stray.{Stray}
+use Rattle.dma_manual.specs.declared.statements.Again.{Again}
+use Rattle.dma_manual.specs.declared.statements.Again.TheVariants.{Always, If}
 use Rattle.dma_manual.specs.declared.statements.End.{End as LoopTo}
 use Rattle.dma_manual.specs.declared.statements.End.TheVariants as ends
 use Rattle.dma_manual.specs.declared.statements.Statement.{Statement}
@@ -55,7 +60,7 @@ empty = record {
   stray = None;
 }
 
--- The place of a word of line n: the line has `width` bytes, the word `len`, and behind the word are `after`.
+-- The place of a word of line n: the line has `width` bytes, the word `len`, and after the word are `after`.
 abbrev pub place_at : ℕ → ℕ → ℕ → ℕ → Place
 place_at n width len after = record { line = n; column = width - after - len + 1; len = len }
 
@@ -141,16 +146,28 @@ jump_of loops here (ends.To counter start) place = do
   Ok (Counted counter, back)
 jump_of loops here (ends.Back counter back) place = Ok (Counted counter, back)
 
--- the DMALPEND that ends a loop of a kind
-abbrev pub end_of : LoopKind → ℕ → ChipInsn
-end_of (Counted counter) back = LpEnd counter back
-end_of Endless back = LoopAgain Lc0 back
+-- the kind of request that the DMALPEND of a DMALPFE is for
+abbrev pub condition_of : Again → Option Request
+condition_of (Always counter) = None
+condition_of (If request) = Some request
+
+-- the DMALPEND of a DMALPFE with this jump
+abbrev pub again_of : Again → ℕ → ManualInsn
+again_of (Always counter) back = Chip (LoopAgain counter back)
+again_of (If request) back = Other (LoopAgainIf request back)
+
+-- the DMALPEND that ends a loop of a kind, which may be for a kind of request
+abbrev pub end_of : LoopKind → Option Request → ℕ → ManualInsn
+end_of (Counted counter) None back = Chip (LpEnd counter back)
+end_of (Counted counter) (Some request) back = Other (LpEndIf request counter back)
+end_of Endless None back = again_of (Always Lc0) back
+end_of Endless (Some request) back = again_of (If request) back
 
 -- What the lines say if a DMALP follows them: its loop is open.
 abbrev pub begun : Read → Option Counter → ℕ → Place → Result Read Located
 begun r counter times place = do
   c ← chosen r.loops counter place
-  code ← with_bytes r.code (spelling (Lp c.0 times)) place
+  code ← with_bytes r.code (spelling (Chip (Lp c.0 times))) place
   Ok (record r { code = code; loops = with_loop r.loops (Counted c.0) (Some (record { start = length code; unnamed = c.1 })) })
 
 -- What the lines say if a DMALPFE follows them: its loop is open. Fails with `Nested` within another such loop.
@@ -171,15 +188,15 @@ first_stray None true this = None
 first_stray None false this = Some this
 
 -- What the lines say if a DMALPEND follows them: it ends the open loop of its kind.
-abbrev pub ended : Read → LoopTo → Place → Result Read Located
-ended r end place = do
+abbrev pub ended : Read → Option Request → LoopTo → Place → Result Read Located
+ended r condition end place = do
   jump ← jump_of r.loops (length r.code) end place
-  code ← with_bytes r.code (spelling (end_of jump.0 jump.1)) place
+  code ← with_bytes r.code (spelling (end_of jump.0 condition jump.1)) place
   Ok (record r {
     code = code;
     loops = with_loop r.loops jump.0 None;
     stray = first_stray r.stray (is_closed_by (slot r.loops jump.0) (length r.code) jump.1)
-        (record { place = place; kind = jump.0 });
+        (record { place = place; kind = jump.0; condition = condition });
   })
 
 -- whether a jump of this many bytes back from an offset leads to the start of the open loop, if there is one
@@ -188,14 +205,14 @@ is_free_or_closed None here back = true
 is_free_or_closed (Some loop) here back = is_closed_by (Some loop) here back
 
 -- What the lines say if the DMALPEND of a DMALPFE with this jump follows them: it ends such a loop, if one is open.
-abbrev pub ended_again : Read → Counter → ℕ → Place → Result Read Located
-ended_again r counter back place = do
-  code ← with_bytes r.code (spelling (LoopAgain counter back)) place
+abbrev pub ended_again : Read → Again → ℕ → Place → Result Read Located
+ended_again r again back place = do
+  code ← with_bytes r.code (spelling (again_of again back)) place
   Ok (record r {
     code = code;
     loops = with_loop r.loops Endless None;
     stray = first_stray r.stray (is_free_or_closed r.loops.endless (length r.code) back)
-        (record { place = place; kind = Endless });
+        (record { place = place; kind = Endless; condition = condition_of again });
   })
 
 -- What the lines say if more bytes follow them; `stops` is whether these are DMAEND.
@@ -210,16 +227,16 @@ after_statement r says.Nothing place = Ok r
 after_statement r (says.Plain i) place = with_code r (spelling i) (is_end i) place
 after_statement r (says.Byte b) place = with_code r (b ∷ []) (b == 0) place
 after_statement r (says.Loop counter times) place = begun r counter times place
-after_statement r (says.LoopEnd end) place = ended r end place
+after_statement r (says.LoopEnd condition end) place = ended r condition end place
 after_statement r says.Endless place = begun_endless r place
-after_statement r (says.LoopAgain counter back) place = ended_again r counter back place
+after_statement r (says.LoopAgain again back) place = ended_again r again back place
 
 -- the result, with the place in line n added to its fault
 abbrev pub placed : {A : Type 0} → ℕ → ℕ → Result A Fault → Result A Located
 placed n width (Ok x) = Ok x
 placed n width (Err fault) = Err (located n width fault)
 
--- what the lines say if the words behind the label of line n follow them
+-- what the lines say if the words after the label of line n follow them
 unfoldable pub with_statement : Read → ℕ → ℕ → List ℕ → Result Read Located
 with_statement r n width rest = do
   s ← placed n width (statement_at r.labels rest)

@@ -1,6 +1,5 @@
 -- The instructions of a DMA-330 that some channel doesn't execute (ARM DDI 0424, instruction set).
 use Rattle.std.specs.Prelude.{ℕ, Bool, ◌==◌, ◌||◌, if◌then◌else◌, List, codes, Option, Some, None}
-use Rattle.std.specs.Str.{bytes_eq}
 
 -- The name of the instruction that begins with this byte, if no channel executes it, or none on the ideal bus. S and B
 -- are for single and for burst requests of a peripheral, of which the model has none; DMAGO and DMAKILL are for the
@@ -33,12 +32,3 @@ chip_only_name b =
 abbrev pub needs_chip_bus : ℕ → Bool
 needs_chip_bus b =
     b == 0x0c || b == 0x28 || b == 0x2c || b == 0x54 || b == 0x56 || b == 0x5c || b == 0x5e
-
--- whether a word in lower case is the name of an instruction that no channel executes
-abbrev pub is_chip_only : List ℕ → Bool
-is_chip_only name =
-    bytes_eq name (codes "dmaflushp") || bytes_eq name (codes "dmago") || bytes_eq name (codes "dmakill")
-    || bytes_eq name (codes "dmalds") || bytes_eq name (codes "dmaldb") || bytes_eq name (codes "dmaldps")
-    || bytes_eq name (codes "dmaldpb") || bytes_eq name (codes "dmalpends") || bytes_eq name (codes "dmalpendb")
-    || bytes_eq name (codes "dmasts") || bytes_eq name (codes "dmastb") || bytes_eq name (codes "dmastps")
-    || bytes_eq name (codes "dmastpb") || bytes_eq name (codes "dmawfp")

@@ -4,6 +4,7 @@ use Rattle.std.specs.Str.{bytes_eq}
 use Rattle.dma_insn.specs.AssemblyText.{text_lines}
 use Rattle.dma_script.specs.Command.{text_of}
 use Rattle.dma_script.specs.Printing.{program_lines}
+use Rattle.dma_manual.specs.ManualText.{end_name}
 use Rattle.dma_manual.specs.Words.{code_of, has_sign, plain_byte}
 use Rattle.dma_manual.specs.Assembled.{Read, assembled, label_in}
 use Rattle.dma_manual.specs.declared.assembler.AsmCause.{AsmCause}
@@ -34,6 +35,9 @@ missing_message operand.Address = codes "lacks an address"
 missing_message operand.Fields = codes "lacks fields or a number"
 missing_message operand.AddressRegister = codes "lacks a register, SAR or DAR"
 missing_message operand.Halfword = codes "lacks a number, 0 to 65535"
+missing_message operand.Peripheral = codes "lacks a peripheral, P0 to P31"
+missing_message operand.Request = codes "lacks single, burst or periph"
+missing_message operand.Channel = codes "lacks a channel, C0 to C7"
 
 -- which words a field of an end can be
 abbrev pub field_message : Side → Field → List ℕ
@@ -51,7 +55,6 @@ field_message Destination field.Cache = codes "is not DC0 to DC3 or DC8 to DC11"
 -- what is wrong, after the word
 abbrev pub message : AsmCause → List ℕ
 message causes.Name = codes "is no instruction"
-message causes.NotExecuted = codes "is an instruction of the chip that no channel of this model executes"
 message (causes.Missing which) = missing_message which
 message causes.Extra = codes "is one word too many"
 message causes.Number = codes "is not a number"
@@ -64,6 +67,9 @@ message causes.Register = codes "is not SAR, CCR or DAR"
 message causes.AddressRegister = codes "is not SAR or DAR"
 message causes.Halfword = codes "is not 0 to 65535"
 message causes.Counter = codes "is not lc0 or lc1"
+message causes.Peripheral = codes "is not a peripheral, P0 to P31"
+message causes.Request = codes "is not single, burst or periph"
+message causes.Channel = codes "is not a channel, C0 to C7"
 message causes.Field = codes "is no field of a control word: SB, SS, SA, SP, SC, DB, DS, DA, DP, DC or ES"
 message (causes.FieldValue side which) = field_message side which
 message causes.Swap = codes "asks for an endian swap, which this model refuses"
@@ -137,7 +143,7 @@ note_text notes.Sign = codes ": # begins a comment"
 note_text notes.NoLine = codes ": no line has this label"
 note_text (notes.Line n) = codes ": line " ++ decimal n ++ codes " has it"
 
--- `LINE:COLUMN: 'WORD' MESSAGE`, and behind a colon what the text says besides
+-- `LINE:COLUMN: 'WORD' MESSAGE`, and after a colon what the text says besides
 abbrev pub error_text : Located → List ℕ → Note → List ℕ
 error_text l word note =
     decimal l.place.line ++ codes ":" ++ decimal l.place.column
@@ -169,7 +175,8 @@ start_name Endless = codes "DMALPFE"
 abbrev pub warning_text : Option Stray → Bool → List ℕ
 warning_text (Some s) stops =
     decimal s.place.line ++ codes ":" ++ decimal s.place.column
-    ++ (codes ": warning: 'DMALPEND' does not jump to the instruction after its " ++ start_name s.kind ++ codes "\n")
+    ++ (codes ": warning: '" ++ end_name s.condition
+    ++ (codes "' does not jump to the instruction after its " ++ start_name s.kind ++ codes "\n"))
 warning_text None true = []
 warning_text None false = codes " warning: the text has no DMAEND\n"
 

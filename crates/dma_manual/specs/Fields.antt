@@ -21,8 +21,9 @@ use Rattle.dma_manual.specs.declared.fields.Fields.{Fields}
 abbrev pub no_end : EndFields
 no_end = record { beats = None; size = None; increments = None; protection = None; cache = None }
 
+-- no field is set
 abbrev pub no_fields : Fields
-no_fields = record { src = no_end; dst = no_end }
+no_fields = record { src = no_end; dst = no_end; swap = false }
 
 -- an end, with the manual's defaults for fields that are not set
 abbrev pub end_of : EndFields → BurstEnd
@@ -103,11 +104,11 @@ set_end e side (key ∷ more) word rest =
     if key == 112 then set_protection e side more word rest else (
     if key == 99 then set_cache e side more word rest else Err (fault_at causes.Field word rest)))))
 
--- succeeds for an endian swap of 8 bits, which is none; no channel of this model swaps (profile)
-abbrev pub swap_at : List ℕ → List ℕ → List ℕ → Result (Unit {0}) Fault
-swap_at [] word rest = Err (fault_at causes.Field word rest)
-swap_at (key ∷ digits) word rest =
-    if key == 115 then (if bytes_eq digits (codes "8") then Ok tt else Err (fault_at causes.Swap word rest))
+-- Succeeds for the field ES8, which swaps nothing, if it isn't given twice. No channel of this model swaps (profile).
+abbrev pub swap_at : Bool → List ℕ → List ℕ → List ℕ → Result (Unit {0}) Fault
+swap_at is_set [] word rest = Err (fault_at causes.Field word rest)
+swap_at is_set (key ∷ digits) word rest =
+    if key == 115 then (if bytes_eq digits (codes "8") then free is_set word rest else Err (fault_at causes.Swap word rest))
     else Err (fault_at causes.Field word rest)
 
 -- the fields with that of a word
@@ -116,7 +117,7 @@ set_field f [] rest = Err (fault_at causes.Field [] rest)
 set_field f (key ∷ name) rest =
     if key == 115 then (set_end f.src Source name (key ∷ name) rest >>= λ e. Ok (record f { src = e })) else (
     if key == 100 then (set_end f.dst Destination name (key ∷ name) rest >>= λ e. Ok (record f { dst = e })) else (
-    if key == 101 then (swap_at name (key ∷ name) rest >>= λ done. Ok f) else Err (fault_at causes.Field (key ∷ name) rest)))
+    if key == 101 then (swap_at f.swap name (key ∷ name) rest >>= λ done. Ok (record f { swap = true })) else Err (fault_at causes.Field (key ∷ name) rest)))
 
 -- the control word if no word is left, else what `more` gives for the fields with that of the next word
 abbrev pub next_field : Option (List ℕ × List ℕ) → Fields → (Fields → List ℕ → Result ℕ Fault) → Result ℕ Fault

@@ -1,6 +1,6 @@
 -- Bytes in hexadecimal text (profile): pairs of digits, each a byte, or 32-bit words of eight digits, the highest
 -- first. A number may have a mark `0x` before it. Gaps and comments are between numbers; a comment is from a `#` that
--- is outside a number to the end of the line. Only behind a pair without a mark may a number begin without a gap or a
+-- is outside a number to the end of the line. Only after a pair without a mark may a number begin without a gap or a
 -- comment. The lowest byte of a word comes first in memory.
 use Rattle.std.specs.Prelude.{ℕ, ◌+◌, ◌*◌, ◌%◌, ◌^◌, Bool, true, false, not, ◌==◌, ◌||◌, ◌&&◌, nat_le, nat_lt, if◌then◌else◌, List, [], ◌∷◌, ◌++◌, take, Option, Some, None, Result, Ok, Err, count_by, fold}
 use Rattle.std.specs.Char.{digit_value}
@@ -22,7 +22,7 @@ abbrev pub size_of : Notation → ℕ
 size_of Pairs = 1
 size_of Words = 4
 
--- whether a number may begin right behind another one, which has a mark or not
+-- whether a number may begin right after another one, which has a mark or not
 abbrev pub may_follow : Notation → Bool → Bool
 may_follow Pairs marked = not marked
 may_follow Words marked = false
@@ -40,7 +40,7 @@ between notation may_begin b =
     if b == 35 then Some (Comment, None) else (
     if may_begin then next_digit notation false 0 0 b else None))
 
--- whether a byte is the letter of a mark, behind a number's n digits that spell v
+-- whether a byte is the letter of a mark, after a number's n digits that spell v
 abbrev pub is_mark : Bool → ℕ → ℕ → ℕ → Bool
 is_mark marked n v b = (not marked && (n == 1 && v == 0)) && (b == 120 || b == 88)
 

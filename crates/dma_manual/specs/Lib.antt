@@ -1,4 +1,5 @@
 pub mod ChipOnly
+pub mod Insns
 pub mod ManualText
 pub mod Listing
 pub mod Words
@@ -13,3 +14,7 @@ pub mod Hexadecimal
 pub mod Answer
 pub mod Refusal
 pub mod Notes
+pub mod Forms
+pub mod Array
+pub mod Dump
+pub mod Pasted

@@ -1,5 +1,5 @@
 -- An instruction in the syntax of the DMA-330's manual (ARM DDI 0424, instruction set and assembler directives).
-use Rattle.std.specs.Prelude.{ℕ, ◌+◌, ◌*◌, ◌/◌, ◌%◌, Bool, true, false, ◌==◌, if◌then◌else◌, List, [], ◌++◌, codes, decimal, Result, Ok, Err}
+use Rattle.std.specs.Prelude.{ℕ, ◌+◌, ◌*◌, ◌/◌, ◌%◌, Bool, true, false, ◌==◌, if◌then◌else◌, List, [], ◌++◌, codes, decimal, Option, Some, None, Result, Ok, Err}
 use Rattle.dma_text.specs.Digits.{hex_digits, hex_pair}
 use Rattle.dma_insn.specs.ControlWord.{beat_bytes, control_of}
 use Rattle.dma_insn.specs.declared.control.BurstEnd.{BurstEnd}
@@ -12,6 +12,15 @@ use Rattle.dma_insn.specs.declared.chip.ChipInsn.{ChipInsn}
 use Rattle.dma_insn.specs.declared.chip.ChipInsn.TheVariants.{Mov, Ld, St, Rmb, Wmb, Nop, End, Lp, LpEnd, Sev, Wfe, StoreZeros, AddHalfword, LoopAgain}
 use Rattle.dma_insn.specs.declared.chip.Address.{Address}
 use Rattle.dma_insn.specs.declared.chip.Address.TheVariants as address
+use Rattle.dma_manual.specs.declared.insns.Action.{Action}
+use Rattle.dma_manual.specs.declared.insns.Action.TheVariants as action
+use Rattle.dma_manual.specs.declared.insns.Awaited.TheVariants as awaited
+use Rattle.dma_manual.specs.declared.insns.ManualInsn.{ManualInsn}
+use Rattle.dma_manual.specs.declared.insns.ManualInsn.TheVariants.{Chip, Other}
+use Rattle.dma_manual.specs.declared.insns.OtherInsn.{OtherInsn}
+use Rattle.dma_manual.specs.declared.insns.OtherInsn.TheVariants.{Kill, LdIf, StIf, OfPeripheral, LpEndIf, LoopAgainIf, Go}
+use Rattle.dma_manual.specs.declared.insns.Request.{Request}
+use Rattle.dma_manual.specs.declared.insns.Request.TheVariants.{Single, Burst}
 use Rattle.dma_manual.specs.declared.manual.Side.{Side}
 use Rattle.dma_manual.specs.declared.manual.Side.TheVariants.{Source, Destination}
 
@@ -98,3 +107,57 @@ manual_text (Mov Ccr v) = codes "DMAMOV CCR," ++ control_text v
 manual_text StoreZeros = codes "DMASTZ"
 manual_text (AddHalfword a half negative) = add_name negative ++ address_name a ++ codes ", 0x" ++ half_digits half
 manual_text (LoopAgain c b) = codes "DMALPEND -" ++ decimal b ++ again_flag c
+
+-- the name of DMALD for a kind of request
+abbrev pub load_if_name : Request → List ℕ
+load_if_name Single = codes "DMALDS"
+load_if_name Burst = codes "DMALDB"
+
+-- the name of DMAST for a kind of request
+abbrev pub store_if_name : Request → List ℕ
+store_if_name Single = codes "DMASTS"
+store_if_name Burst = codes "DMASTB"
+
+-- the name of a DMALPEND, which may be for a kind of request
+abbrev pub end_name : Option Request → List ℕ
+end_name None = codes "DMALPEND"
+end_name (Some Single) = codes "DMALPENDS"
+end_name (Some Burst) = codes "DMALPENDB"
+
+-- the name of an instruction with a peripheral
+abbrev pub action_name : Action → List ℕ
+action_name (action.Ld Single) = codes "DMALDPS"
+action_name (action.Ld Burst) = codes "DMALDPB"
+action_name (action.St Single) = codes "DMASTPS"
+action_name (action.St Burst) = codes "DMASTPB"
+action_name (action.Wait w) = codes "DMAWFP"
+action_name action.Flush = codes "DMAFLUSHP"
+
+-- what follows the peripheral: which requests a DMAWFP waits for
+abbrev pub action_flag : Action → List ℕ
+action_flag (action.Ld r) = []
+action_flag (action.St r) = []
+action_flag (action.Wait awaited.Single) = codes ", single"
+action_flag (action.Wait awaited.Burst) = codes ", burst"
+action_flag (action.Wait awaited.Either) = codes ", periph"
+action_flag action.Flush = []
+
+-- what follows the address of a DMAGO: whether the channel is non-secure
+abbrev pub go_flag : Bool → List ℕ
+go_flag false = []
+go_flag true = codes ", ns"
+
+-- the line of an instruction that no channel executes
+abbrev pub other_text : OtherInsn → List ℕ
+other_text Kill = codes "DMAKILL"
+other_text (LdIf r) = load_if_name r
+other_text (StIf r) = store_if_name r
+other_text (OfPeripheral a p) = action_name a ++ codes " P" ++ decimal p ++ action_flag a
+other_text (LpEndIf r c b) = end_name (Some r) ++ codes " " ++ counter_name c ++ (codes ", -" ++ decimal b)
+other_text (LoopAgainIf r b) = end_name (Some r) ++ codes " -" ++ decimal b
+other_text (Go c a ns) = codes "DMAGO C" ++ decimal c ++ codes ", 0x" ++ (hex_digits a ++ go_flag ns)
+
+-- the line of an instruction
+abbrev pub insn_text : ManualInsn → List ℕ
+insn_text (Chip i) = manual_text i
+insn_text (Other i) = other_text i

@@ -1,6 +1,11 @@
 -- Notes and warnings that follow the message of an answer (profile).
-use Rattle.std.specs.Prelude.{ℕ, Bool, false, ◌==◌, ◌||◌, ◌&&◌, not, nat_le, length, if◌then◌else◌, List, [], ◌∷◌, codes}
+use Rattle.std.specs.Prelude.{ℕ, Bool, false, ◌==◌, ◌||◌, ◌&&◌, not, nat_le, length, if◌then◌else◌, List, [], ◌∷◌, ◌++◌, Option, Some, None, codes}
 use Rattle.std.specs.List.{list_all}
+use Rattle.dma_manual.specs.declared.forms.Column.{Column}
+use Rattle.dma_manual.specs.declared.forms.Column.TheVariants.{Array, Octal}
+use Rattle.dma_manual.specs.declared.forms.Group.{Group}
+use Rattle.dma_manual.specs.declared.forms.Group.TheVariants.{Byte, Half, Word, Long, Octal as Octals}
+use Rattle.dma_manual.specs.declared.forms.Form.{Form}
 
 -- a printable byte, a tab or a line end
 abbrev pub is_text_byte : ℕ → Bool
@@ -14,7 +19,7 @@ is_text input = list_all is_text_byte input
 abbrev pub hint : Bool → List ℕ → Bool → List ℕ
 hint is_program input succeeds =
     if is_program && (not succeeds && (not (length input == 0) && is_text input))
-    then codes "  (these bytes are text; --hex reads pairs of hexadecimal digits, --words 32-bit words, asm instructions)\n" else []
+    then codes "  (these bytes are text; --hex reads hexadecimal digits and dumps, --words 32-bit words, asm instructions)\n" else []
 
 -- whether a program begins with DMAEND, whose byte is 0, and has more bytes
 abbrev pub ends_at_once : List ℕ → Bool
@@ -22,9 +27,29 @@ ends_at_once [] = false
 ends_at_once (b ∷ []) = false
 ends_at_once (b ∷ c ∷ rest) = b == 0
 
--- the warning for a program that begins with DMAEND and has more bytes, if it is executed without a fault
+-- the warning for an input that is taken as a program without a fault, begins with DMAEND and has more bytes
 abbrev pub end_warning : Bool → List ℕ → Bool → List ℕ
-end_warning is_executed program succeeds =
-    if is_executed && (succeeds && ends_at_once program)
+end_warning is_program program succeeds =
+    if is_program && (succeeds && ends_at_once program)
     then codes " warning: the first byte is DMAEND, so no byte after it is executed (an address in text needs a colon)\n"
     else []
+
+-- what the groups of a dump are
+abbrev pub units : Group → List ℕ
+units Byte = codes "bytes"
+units Half = codes "16-bit words, lowest byte first"
+units Word = codes "32-bit words, lowest byte first"
+units Long = codes "64-bit words, lowest byte first"
+units Octals = codes "16-bit words in octal, lowest byte first"
+
+-- what is left out of a dump
+abbrev pub left_out : Column → List ℕ
+left_out Array = codes "; what is outside the braces is left out"
+left_out Octal = codes "; octal addresses and text are left out"
+left_out _ = codes "; addresses and text are left out"
+
+-- The note on the form of a dump: a message of its own, or a line after another.
+abbrev pub form_note : Option Form → List ℕ → List ℕ
+form_note None message = []
+form_note (Some form) [] = codes " read as " ++ units form.group ++ left_out form.column ++ codes "\n"
+form_note (Some form) (b ∷ message) = codes "  (read as " ++ units form.group ++ left_out form.column ++ codes ")\n"

@@ -1,7 +1,9 @@
 -- What the operands of an instruction say (profile; the names are the manual's).
-use Rattle.std.specs.Prelude.{ℕ, ◌+◌, ◌*◌, ◌^◌, ◌==◌, ◌&&◌, if◌then◌else◌, List, [], ◌∷◌, length, drop, min, nat_eq, nat_le, codes, Option, Some, None, Result, Ok, Err, ok_or}
+use Rattle.std.specs.Prelude.{ℕ, ◌+◌, ◌*◌, ◌^◌, Bool, true, false, ◌==◌, ◌&&◌, if◌then◌else◌, List, [], ◌∷◌, length, drop, min, nat_eq, nat_le, codes, Option, Some, None, Result, Ok, Err, ok_or}
 use Rattle.std.specs.List.{starts_with}
 use Rattle.std.specs.Char.{digit_value}
+use Rattle.std.specs.Str.{bytes_eq}
+use Rattle.dma_insn.specs.LineReading.{◌>>=◌}
 use Rattle.dma_manual.specs.Words.{next_of}
 use Rattle.dma_manual.specs.declared.assembler.AsmCause.{AsmCause}
 use Rattle.dma_manual.specs.declared.assembler.AsmCause.TheVariants as causes
@@ -58,8 +60,30 @@ in_field cause low high (Some n) word rest =
 abbrev pub field_at : AsmCause → ℕ → ℕ → List ℕ → List ℕ → List ℕ → Result ℕ Fault
 field_at cause low high digits word rest = in_field cause low high (number_of digits) word rest
 
+-- a number of at most `most`, which a letter may precede
+abbrev pub lettered : ℕ → AsmCause → ℕ → List ℕ → List ℕ → Result ℕ Fault
+lettered letter cause most word rest =
+    if starts_with nat_eq word (letter ∷ []) then number_at cause 0 most (drop 1 word) word rest
+    else number_at cause 0 most word word rest
+
 -- the number of an event, which e may precede
 abbrev pub event_at : List ℕ → List ℕ → Result ℕ Fault
-event_at word rest =
-    if starts_with nat_eq word (codes "e") then number_at causes.Event 0 31 (drop 1 word) word rest
-    else number_at causes.Event 0 31 word word rest
+event_at word rest = lettered 101 causes.Event 31 word rest
+
+-- the number of a peripheral, which p may precede
+abbrev pub peripheral_at : List ℕ → List ℕ → Result ℕ Fault
+peripheral_at word rest = lettered 112 causes.Peripheral 31 word rest
+
+-- the number of a channel, which c may precede
+abbrev pub channel_at : List ℕ → List ℕ → Result ℕ Fault
+channel_at word rest = lettered 99 causes.Channel 7 word rest
+
+-- whether the last word of a line is a flag; no word is left if not
+abbrev pub flag_by : List ℕ → Option (List ℕ × List ℕ) → Result Bool Fault
+flag_by flag None = Ok false
+flag_by flag (Some w) =
+    if bytes_eq w.0 flag then (no_more w.1 >>= λ done. Ok true) else Err (fault_at causes.Extra w.0 w.1)
+
+-- the same of the rest of a line
+abbrev pub flag_at : List ℕ → List ℕ → Result Bool Fault
+flag_at flag rest = flag_by flag (next_of rest)

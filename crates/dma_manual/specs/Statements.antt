@@ -10,13 +10,22 @@ use Rattle.dma_insn.specs.declared.insn.Counter.TheVariants.{Lc0, Lc1}
 use Rattle.dma_insn.specs.declared.chip.ChipInsn.TheVariants.{Mov, Ld, St, Rmb, Wmb, Nop, End, Sev, Wfe, StoreZeros, AddHalfword}
 use Rattle.dma_insn.specs.declared.chip.Address.{Address}
 use Rattle.dma_insn.specs.declared.chip.Address.TheVariants.{Source, Destination}
-use Rattle.dma_manual.specs.ChipOnly.{is_chip_only}
 use Rattle.dma_manual.specs.Words.{next_of}
-use Rattle.dma_manual.specs.Operands.{event_at, fault_at, no_more, number_at, word_after}
+use Rattle.dma_manual.specs.Operands.{channel_at, event_at, fault_at, flag_at, no_more, number_at, peripheral_at, word_after}
 use Rattle.dma_manual.specs.Fields.{fields_at}
 use Rattle.dma_manual.specs.declared.assembler.AsmCause.TheVariants as causes
 use Rattle.dma_manual.specs.declared.assembler.Fault.{Fault}
 use Rattle.dma_manual.specs.declared.assembler.Operand.TheVariants as operand
+use Rattle.dma_manual.specs.declared.insns.Action.{Action}
+use Rattle.dma_manual.specs.declared.insns.Action.TheVariants as action
+use Rattle.dma_manual.specs.declared.insns.Awaited.{Awaited}
+use Rattle.dma_manual.specs.declared.insns.Awaited.TheVariants as awaited
+use Rattle.dma_manual.specs.declared.insns.ManualInsn.TheVariants.{Chip, Other}
+use Rattle.dma_manual.specs.declared.insns.OtherInsn.TheVariants.{Kill, LdIf, StIf, OfPeripheral, Go}
+use Rattle.dma_manual.specs.declared.insns.Request.{Request}
+use Rattle.dma_manual.specs.declared.insns.Request.TheVariants.{Single, Burst}
+use Rattle.dma_manual.specs.declared.statements.Again.{Again}
+use Rattle.dma_manual.specs.declared.statements.Again.TheVariants.{Always, If}
 use Rattle.dma_manual.specs.declared.statements.Named.{Named}
 use Rattle.dma_manual.specs.declared.statements.End.{End as LoopTo}
 use Rattle.dma_manual.specs.declared.statements.End.TheVariants as ends
@@ -71,13 +80,13 @@ end_at labels counter word rest =
     if starts_with nat_eq word (codes "-") then (number_at causes.Far 0 255 (drop 1 word) word rest >>= λ b. Ok (ends.Back counter b))
     else (ok_or (label_of labels word) (fault_at causes.Label word rest) >>= λ o. Ok (ends.To counter o))
 
--- the words after DMALPEND and a counter
-abbrev pub loop_end_to : List Label → Counter → Option (List ℕ × List ℕ) → Result Statement Fault
-loop_end_to labels counter None = Ok (says.LoopEnd (ends.Of counter))
-loop_end_to labels counter (Some w) = do
+-- the words after a DMALPEND and a counter
+abbrev pub loop_end_to : List Label → Option Request → Counter → Option (List ℕ × List ℕ) → Result Statement Fault
+loop_end_to labels condition counter None = Ok (says.LoopEnd condition (ends.Of counter))
+loop_end_to labels condition counter (Some w) = do
   end ← end_at labels counter w.0 w.1
   done ← no_more w.1
-  Ok (says.LoopEnd end)
+  Ok (says.LoopEnd condition end)
 
 -- what follows the jump of the DMALPEND of a DMALPFE: nothing, or `lc1`, with which its bit lc is set
 abbrev pub again_by : Option (List ℕ × List ℕ) → Result Counter Fault
@@ -85,22 +94,32 @@ again_by None = Ok Lc0
 again_by (Some w) =
     if bytes_eq w.0 (codes "lc1") then (no_more w.1 >>= λ done. Ok Lc1) else Err (fault_at causes.Extra w.0 w.1)
 
--- the words after DMALPEND that begin with the number of bytes after a minus
-abbrev pub again_line : List ℕ → List ℕ → Result Statement Fault
-again_line word rest = do
-  back ← number_at causes.Far 0 255 (drop 1 word) word rest
+-- the same for a DMALPEND that may be for a kind of request; if it is, nothing follows its jump
+abbrev pub again_at : Option Request → List ℕ → Result Again Fault
+again_at None rest = do
   counter ← again_by (next_of rest)
-  Ok (says.LoopAgain counter back)
+  Ok (Always counter)
+again_at (Some request) rest = do
+  done ← no_more rest
+  Ok (If request)
 
--- the words after DMALPEND: none, or a jump, or a counter and what follows it
-abbrev pub loop_end_by : List Label → Option (List ℕ × List ℕ) → Result Statement Fault
-loop_end_by labels None = Ok (says.LoopEnd ends.Innermost)
-loop_end_by labels (Some w) =
-    if starts_with nat_eq w.0 (codes "-") then again_line w.0 w.1
-    else (ok_or (counter_of w.0) (fault_at causes.Counter w.0 w.1) >>= λ counter. loop_end_to labels counter (next_of w.1))
+-- the words after a DMALPEND that begin with the number of bytes after a minus
+abbrev pub again_line : Option Request → List ℕ → List ℕ → Result Statement Fault
+again_line condition word rest = do
+  back ← number_at causes.Far 0 255 (drop 1 word) word rest
+  again ← again_at condition rest
+  Ok (says.LoopAgain again back)
 
-abbrev pub loop_end_line : List Label → List ℕ → Result Statement Fault
-loop_end_line labels rest = loop_end_by labels (next_of rest)
+-- the words after a DMALPEND: none, or a jump, or a counter and what follows it
+abbrev pub loop_end_by : List Label → Option Request → Option (List ℕ × List ℕ) → Result Statement Fault
+loop_end_by labels condition None = Ok (says.LoopEnd condition ends.Innermost)
+loop_end_by labels condition (Some w) =
+    if starts_with nat_eq w.0 (codes "-") then again_line condition w.0 w.1
+    else (ok_or (counter_of w.0) (fault_at causes.Counter w.0 w.1) >>= λ counter. loop_end_to labels condition counter (next_of w.1))
+
+-- the same of the rest of a line
+abbrev pub loop_end_line : List Label → Option Request → List ℕ → Result Statement Fault
+loop_end_line labels condition rest = loop_end_by labels condition (next_of rest)
 
 -- the word after DMASEV: an event
 abbrev pub event_line : List ℕ → List ℕ → Result Statement Fault
@@ -108,24 +127,15 @@ event_line name rest = do
   w ← word_after rest (fault_at (causes.Missing operand.Event) name rest)
   e ← event_at w.0 w.1
   done ← no_more w.1
-  Ok (says.Plain (Sev e))
-
--- whether the word after the event of a DMAWFE is `invalid`
-abbrev pub wait_by : Option (List ℕ × List ℕ) → Result Bool Fault
-wait_by None = Ok false
-wait_by (Some w) =
-    if bytes_eq w.0 (codes "invalid") then (no_more w.1 >>= λ done. Ok true) else Err (fault_at causes.Extra w.0 w.1)
-
-abbrev pub wait_flag : List ℕ → Result Bool Fault
-wait_flag rest = wait_by (next_of rest)
+  Ok (says.Plain (Chip (Sev e)))
 
 -- the words after DMAWFE: an event, and optionally `invalid`
 abbrev pub wait_line : List ℕ → List ℕ → Result Statement Fault
 wait_line name rest = do
   w ← word_after rest (fault_at (causes.Missing operand.Event) name rest)
   e ← event_at w.0 w.1
-  invalid ← wait_flag w.1
-  Ok (says.Plain (Wfe e invalid))
+  invalid ← flag_at (codes "invalid") w.1
+  Ok (says.Plain (Chip (Wfe e invalid)))
 
 -- the word after DCB: a byte
 abbrev pub byte_line : List ℕ → List ℕ → Result Statement Fault
@@ -140,7 +150,7 @@ abbrev pub set_value : Reg → List ℕ → List ℕ → Result Statement Fault
 set_value reg word rest = do
   v ← number_at causes.Value 0 0xffffffff word word rest
   done ← no_more rest
-  Ok (says.Plain (Mov reg v))
+  Ok (says.Plain (Chip (Mov reg v)))
 
 -- whether a word begins with a decimal digit
 abbrev pub is_numeral : List ℕ → Bool
@@ -151,7 +161,7 @@ is_numeral (c ∷ word) = nat_le 48 c && nat_le c 57
 abbrev pub control_line : List ℕ → List ℕ → Result Statement Fault
 control_line name rest = do
   w ← word_after rest (fault_at (causes.Missing operand.Fields) name rest)
-  if is_numeral w.0 then set_value Ccr w.0 w.1 else (fields_at rest >>= λ v. Ok (says.Plain (Mov Ccr v)))
+  if is_numeral w.0 then set_value Ccr w.0 w.1 else (fields_at rest >>= λ v. Ok (says.Plain (Chip (Mov Ccr v))))
 
 -- the word after DMAMOV SAR or DAR: an address
 abbrev pub address_line : Reg → List ℕ → List ℕ → Result Statement Fault
@@ -184,31 +194,80 @@ add_line negative name rest = do
   n ← word_after w.1 (fault_at (causes.Missing operand.Halfword) w.0 w.1)
   half ← number_at causes.Halfword 0 0xffff n.0 n.0 n.1
   done ← no_more n.1
-  Ok (says.Plain (AddHalfword address half negative))
+  Ok (says.Plain (Chip (AddHalfword address half negative)))
 
--- the fault of a word that names no instruction
-abbrev pub no_name : List ℕ → List ℕ → Fault
-no_name name rest = fault_at (if is_chip_only name then causes.NotExecuted else causes.Name) name rest
+-- the word after the name of an instruction with a peripheral
+abbrev pub peripheral_line : Action → List ℕ → List ℕ → Result Statement Fault
+peripheral_line action name rest = do
+  w ← word_after rest (fault_at (causes.Missing operand.Peripheral) name rest)
+  p ← peripheral_at w.0 w.1
+  done ← no_more w.1
+  Ok (says.Plain (Other (OfPeripheral action p)))
+
+-- which requests a word names
+abbrev pub awaited_of : List ℕ → Option Awaited
+awaited_of word =
+    if bytes_eq word (codes "single") then Some awaited.Single else (
+    if bytes_eq word (codes "burst") then Some awaited.Burst else (
+    if bytes_eq word (codes "periph") then Some awaited.Either else None))
+
+-- the words after DMAWFP: a peripheral, and which requests it waits for
+abbrev pub await_line : List ℕ → List ℕ → Result Statement Fault
+await_line name rest = do
+  w ← word_after rest (fault_at (causes.Missing operand.Peripheral) name rest)
+  p ← peripheral_at w.0 w.1
+  k ← word_after w.1 (fault_at (causes.Missing operand.Request) w.0 w.1)
+  requests ← ok_or (awaited_of k.0) (fault_at causes.Request k.0 k.1)
+  done ← no_more k.1
+  Ok (says.Plain (Other (OfPeripheral (action.Wait requests) p)))
+
+-- the words after DMAGO: a channel, an address, and optionally `ns`
+abbrev pub go_line : List ℕ → List ℕ → Result Statement Fault
+go_line name rest = do
+  w ← word_after rest (fault_at (causes.Missing operand.Channel) name rest)
+  c ← channel_at w.0 w.1
+  n ← word_after w.1 (fault_at (causes.Missing operand.Address) w.0 w.1)
+  a ← number_at causes.Value 0 0xffffffff n.0 n.0 n.1
+  ns ← flag_at (codes "ns") n.1
+  Ok (says.Plain (Other (Go c a ns)))
+
+-- the statement of the name of an instruction that no channel executes, and the words after it
+unfoldable pub by_other_name : List Label → List ℕ → List ℕ → Result Statement Fault
+by_other_name labels name rest =
+    if bytes_eq name (codes "dmakill") then bare (says.Plain (Other Kill)) rest else (
+    if bytes_eq name (codes "dmalds") then bare (says.Plain (Other (LdIf Single))) rest else (
+    if bytes_eq name (codes "dmaldb") then bare (says.Plain (Other (LdIf Burst))) rest else (
+    if bytes_eq name (codes "dmasts") then bare (says.Plain (Other (StIf Single))) rest else (
+    if bytes_eq name (codes "dmastb") then bare (says.Plain (Other (StIf Burst))) rest else (
+    if bytes_eq name (codes "dmaldps") then peripheral_line (action.Ld Single) name rest else (
+    if bytes_eq name (codes "dmaldpb") then peripheral_line (action.Ld Burst) name rest else (
+    if bytes_eq name (codes "dmastps") then peripheral_line (action.St Single) name rest else (
+    if bytes_eq name (codes "dmastpb") then peripheral_line (action.St Burst) name rest else (
+    if bytes_eq name (codes "dmaflushp") then peripheral_line action.Flush name rest else (
+    if bytes_eq name (codes "dmawfp") then await_line name rest else (
+    if bytes_eq name (codes "dmalpends") then loop_end_line labels (Some Single) rest else (
+    if bytes_eq name (codes "dmalpendb") then loop_end_line labels (Some Burst) rest else (
+    if bytes_eq name (codes "dmago") then go_line name rest else Err (fault_at causes.Name name rest))))))))))))))
 
 -- the statement of an instruction's name and the words after it
 unfoldable pub by_name : List Label → List ℕ → List ℕ → Result Statement Fault
 by_name labels name rest =
-    if bytes_eq name (codes "dmaend") then bare (says.Plain End) rest else (
-    if bytes_eq name (codes "dmald") then bare (says.Plain Ld) rest else (
-    if bytes_eq name (codes "dmast") then bare (says.Plain St) rest else (
-    if bytes_eq name (codes "dmarmb") then bare (says.Plain Rmb) rest else (
-    if bytes_eq name (codes "dmawmb") then bare (says.Plain Wmb) rest else (
-    if bytes_eq name (codes "dmanop") then bare (says.Plain Nop) rest else (
+    if bytes_eq name (codes "dmaend") then bare (says.Plain (Chip End)) rest else (
+    if bytes_eq name (codes "dmald") then bare (says.Plain (Chip Ld)) rest else (
+    if bytes_eq name (codes "dmast") then bare (says.Plain (Chip St)) rest else (
+    if bytes_eq name (codes "dmarmb") then bare (says.Plain (Chip Rmb)) rest else (
+    if bytes_eq name (codes "dmawmb") then bare (says.Plain (Chip Wmb)) rest else (
+    if bytes_eq name (codes "dmanop") then bare (says.Plain (Chip Nop)) rest else (
     if bytes_eq name (codes "dmalp") then loop_line name rest else (
-    if bytes_eq name (codes "dmalpend") then loop_end_line labels rest else (
+    if bytes_eq name (codes "dmalpend") then loop_end_line labels None rest else (
     if bytes_eq name (codes "dmasev") then event_line name rest else (
     if bytes_eq name (codes "dmawfe") then wait_line name rest else (
     if bytes_eq name (codes "dmamov") then set_line name rest else (
-    if bytes_eq name (codes "dmastz") then bare (says.Plain StoreZeros) rest else (
+    if bytes_eq name (codes "dmastz") then bare (says.Plain (Chip StoreZeros)) rest else (
     if bytes_eq name (codes "dmaaddh") then add_line false name rest else (
     if bytes_eq name (codes "dmaadnh") then add_line true name rest else (
     if bytes_eq name (codes "dmalpfe") then bare says.Endless rest else (
-    if bytes_eq name (codes "dcb") then byte_line name rest else Err (no_name name rest))))))))))))))))
+    if bytes_eq name (codes "dcb") then byte_line name rest else by_other_name labels name rest)))))))))))))))
 
 -- what the words after a label say
 abbrev pub statement_by : List Label → Option (List ℕ × List ℕ) → Result Statement Fault

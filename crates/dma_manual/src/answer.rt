@@ -22,7 +22,7 @@ pub struct Answer {
     pub succeeds: bool,
 }
 
-/// Returns a message behind the name of the input and a colon; an empty message stays empty.
+/// Returns a message after the name of the input and a colon; an empty message stays empty.
 fn named(alloc: Global, name: &str, message: &[u8]) -> Result<Vec<u8>, AllocError>
     ensures { IfOk result (λ text. text.items ≡ named name.now message.now) }
 {
@@ -48,7 +48,7 @@ impl Answer {
         }
     }
 
-    /// Returns the answer with a note behind its message. Fails if memory runs out.
+    /// Returns the answer with a note after its message. Fails if memory runs out.
     pub fn with_note(mut self, note: &str) -> Result<Answer, AllocError>
         ensures { IfOk result (λ shown. printed_of shown ≡ with_note (printed_of self) note.now) }
     {

@@ -25,6 +25,9 @@ pub enum Operand {
     Fields,
     AddressRegister,
     Halfword,
+    Peripheral,
+    Request,
+    Channel,
 }
 
 /// A field of one end of a control word.
@@ -41,7 +44,6 @@ pub enum Field {
 #[derive(Clone, Copy)]
 pub enum AsmCause {
     Name,
-    NotExecuted,
     Missing(Operand),
     Extra,
     Number,
@@ -54,6 +56,9 @@ pub enum AsmCause {
     AddressRegister,
     Halfword,
     Counter,
+    Peripheral,
+    Request,
+    Channel,
     /// It begins with the name of no field.
     Field,
     /// The field cannot have this value.
@@ -151,7 +156,7 @@ fn read_text(alloc: Global, text: &[u8]) -> Result<Draft, Stop>
 /// Returns the bytes of the program that a text describes, or the text's first fault.
 ///
 /// A line has a label with a colon, an instruction, both or neither; a label names the offset of what follows it, so
-/// that of a loop is behind its DMALP. Letters are in either case, commas may be left out, and `;`, `#` or `/` begins a
+/// that of a loop is after its DMALP. Letters are in either case, commas may be left out, and `;`, `#` or `/` begins a
 /// comment. A number is decimal or, after `0x`, hexadecimal. What is written is taken as it is; what is left out is
 /// found: DMALP without a counter takes a free one, and its loop has to be ended; DMALPEND without operands ends the
 /// innermost open loop, and with a counter that counter's loop. `DCB` is a byte. Fields of DMAMOV CCR are tested, and

@@ -2,9 +2,7 @@
 
 ghost use Rattle.std.specs.Prelude.{◌≡◌};
 ghost use Rattle.std.specs.Option.{option_map};
-ghost use Rattle.dma_manual.specs.ChipOnly.{chip_only_name, is_chip_only, needs_chip_bus};
-
-use dma_text::bytes::is_text;
+ghost use Rattle.dma_manual.specs.ChipOnly.{chip_only_name, needs_chip_bus};
 
 /// Returns the name of the instruction that begins with this byte, if no channel executes it, or none on the ideal bus.
 pub fn chip_only_name(first: u8) -> Option<&'static str>
@@ -40,24 +38,4 @@ pub fn needs_chip_bus(first: u8) -> bool
     ensures { result ≡ needs_chip_bus first }
 {
     matches!(first, 0x0c | 0x28 | 0x2c | 0x54 | 0x56 | 0x5c | 0x5e)
-}
-
-/// Returns whether a word in lower case is the name of an instruction that no channel executes.
-pub fn is_chip_only(name: &[u8]) -> bool
-    ensures { result ≡ is_chip_only name.now }
-{
-    is_text(name, b"dmaflushp")
-        || is_text(name, b"dmago")
-        || is_text(name, b"dmakill")
-        || is_text(name, b"dmalds")
-        || is_text(name, b"dmaldb")
-        || is_text(name, b"dmaldps")
-        || is_text(name, b"dmaldpb")
-        || is_text(name, b"dmalpends")
-        || is_text(name, b"dmalpendb")
-        || is_text(name, b"dmasts")
-        || is_text(name, b"dmastb")
-        || is_text(name, b"dmastps")
-        || is_text(name, b"dmastpb")
-        || is_text(name, b"dmawfp")
 }

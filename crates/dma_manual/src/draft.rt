@@ -1,20 +1,22 @@
 //! The program so far, while a text is assembled.
 
 ghost use Rattle.std.specs.Prelude.{◌≡◌, ◌==◌, ◌++◌, ◌+◌, ◌-◌, ◌≤◌, ◌<◌, [], ◌∷◌, length, map, Option, MatchOption, Some, None};
-ghost use Rattle.dma_insn.specs.Chip.{spelling};
 ghost use Rattle.dma_insn.specs.LineReading.{ResultIs};
 ghost use Rattle.dma_manual.specs.Words.{next_of};
 ghost use Rattle.dma_manual.specs.Assembled.{ResultOr, after_statement, begun, begun_endless, draft_view, empty, ended, ended_again, first_stray, label_in, located, place_of, place_at, take_line, unclosed, with_bytes, with_code, with_label, with_statement};
+ghost use Rattle.dma_manual.specs.Insns.{spelling};
 ghost use Rattle.dma_manual.specs.Listing.{is_end};
 ghost use Rattle.dma_manual.specs.Statements.{label_view};
 
 use crate::assembler::{AsmCause, Fault, Located, Place, Stop};
+use crate::codec::encode;
+use crate::insns::{ManualInsn, Request};
 use crate::listing::is_end;
 use crate::loops::{LoopKind, Loops, Open, Stray, chosen, jump_of};
-use crate::statements::{End, Named, Statement, label_of, statement_at};
+use crate::statements::{Again, End, Named, Statement, label_of, statement_at};
 use crate::words::next_word;
 use dma_insn::assembler::MAX_PROGRAM_BYTES;
-use dma_insn::chip::{ChipInsn, encode_chip};
+use dma_insn::chip::ChipInsn;
 use dma_insn::insn::{Counter, Times};
 use std::alloc::Global;
 
@@ -56,7 +58,7 @@ impl Draft {
     }
 }
 
-// Returns the place of a word of a line: the word has `len` bytes, and behind it are `after`.
+// Returns the place of a word of a line: the word has `len` bytes, and after it are `after`.
 fn place_at(number: usize, line: &[u8], len: usize, after: usize) -> Place
     ensures { result ≡ place_at number (length line.now) len after }
 {
@@ -103,12 +105,12 @@ fn push_bytes(code: &mut Vec<u8>, bytes: &[u8], place: Place) -> Result<(), Stop
 }
 
 // Appends an instruction to the program. Fails if it gets too long.
-fn push_insn(code: &mut Vec<u8>, insn: ChipInsn, place: Place) -> Result<(), Stop>
+fn push_insn(code: &mut Vec<u8>, insn: ManualInsn, place: Place) -> Result<(), Stop>
     ensures { ResultOr (λ _. code.new.items) result
         (with_bytes code.old.items (spelling insn) place) }
 {
     let mut bytes = [0; 6];
-    let len = encode_chip(insn, &mut bytes);
+    let len = encode(insn, &mut bytes);
     push_bytes(code, &bytes[..len], place)
 }
 
@@ -123,7 +125,8 @@ fn begin_loop(
         (begun (draft_view draft.old) counter times place) }
 {
     let (counter, unnamed) = chosen(&draft.loops, counter, place)?;
-    push_insn(&mut draft.code, ChipInsn::Lp { counter, times }, place)?;
+    let insn = ManualInsn::Chip(ChipInsn::Lp { counter, times });
+    push_insn(&mut draft.code, insn, place)?;
     let open = Open {
         start: draft.code.len(),
         unnamed,
@@ -145,16 +148,26 @@ fn first_stray(stray: Option<Stray>, closes: bool, this: Stray) -> Option<Stray>
 }
 
 // Appends a DMALPEND, and closes its loop.
-fn end_loop(draft: &mut Draft, end: End, place: Place) -> Result<(), Stop>
+fn end_loop(
+    draft: &mut Draft,
+    condition: Option<Request>,
+    end: End,
+    place: Place,
+) -> Result<(), Stop>
     ensures { ResultOr (λ _. draft_view draft.new) result
-        (ended (draft_view draft.old) end place) }
+        (ended (draft_view draft.old) condition end place) }
 {
     let here = draft.code.len();
     let (kind, back) = jump_of(&draft.loops, here, end, place)?;
     let closes = draft.loops.is_closed_by(kind, here, back);
-    push_insn(&mut draft.code, kind.end(back), place)?;
+    push_insn(&mut draft.code, kind.end(condition, back), place)?;
     draft.loops = draft.loops.with(kind, None);
-    draft.stray = first_stray(draft.stray, closes, Stray { place, kind });
+    let this = Stray {
+        place,
+        kind,
+        condition,
+    };
+    draft.stray = first_stray(draft.stray, closes, this);
     Ok(())
 }
 
@@ -178,27 +191,24 @@ fn begin_endless(draft: &mut Draft, place: Place) -> Result<(), Stop>
 }
 
 // Appends the DMALPEND of a DMALPFE that has its jump, and closes such a loop.
-fn end_endless(draft: &mut Draft, counter: Counter, back: u8, place: Place) -> Result<(), Stop>
+fn end_endless(draft: &mut Draft, again: Again, back: u8, place: Place) -> Result<(), Stop>
     ensures { ResultOr (λ _. draft_view draft.new) result
-        (ended_again (draft_view draft.old) counter back place) }
+        (ended_again (draft_view draft.old) again back place) }
 {
     let closes = draft.loops.is_free_or_closed_by(draft.code.len(), back);
-    push_insn(
-        &mut draft.code,
-        ChipInsn::LoopAgain { counter, back },
-        place,
-    )?;
+    push_insn(&mut draft.code, again.end(back), place)?;
     draft.loops = draft.loops.with(LoopKind::Endless, None);
     let this = Stray {
         place,
         kind: LoopKind::Endless,
+        condition: again.condition(),
     };
     draft.stray = first_stray(draft.stray, closes, this);
     Ok(())
 }
 
 // Appends an instruction that is no DMALP or DMALPEND.
-fn push_plain(draft: &mut Draft, insn: ChipInsn, place: Place) -> Result<(), Stop>
+fn push_plain(draft: &mut Draft, insn: ManualInsn, place: Place) -> Result<(), Stop>
     ensures { ResultOr (λ _. draft_view draft.new) result
         (with_code (draft_view draft.old) (spelling insn) (is_end insn) place) }
 {
@@ -227,9 +237,9 @@ fn push_statement(draft: &mut Draft, statement: Statement, place: Place) -> Resu
         Statement::Plain(insn) => push_plain(draft, insn, place),
         Statement::Byte(byte) => push_byte(draft, byte, place),
         Statement::Loop { counter, times } => begin_loop(draft, counter, times, place),
-        Statement::LoopEnd(end) => end_loop(draft, end, place),
+        Statement::LoopEnd { condition, end } => end_loop(draft, condition, end, place),
         Statement::Endless => begin_endless(draft, place),
-        Statement::LoopAgain { counter, back } => end_endless(draft, counter, back, place),
+        Statement::LoopAgain { again, back } => end_endless(draft, again, back, place),
     }
 }
 

@@ -79,9 +79,6 @@ fn message(cause: AsmCause) -> &'static str
 {
     match cause {
         AsmCause::Name => "is no instruction",
-        AsmCause::NotExecuted => {
-            "is an instruction of the chip that no channel of this model executes"
-        }
         AsmCause::Missing(operand) => missing_message(operand),
         AsmCause::Extra => "is one word too many",
         AsmCause::Number => "is not a number",
@@ -94,6 +91,9 @@ fn message(cause: AsmCause) -> &'static str
         AsmCause::AddressRegister => "is not SAR or DAR",
         AsmCause::Halfword => "is not 0 to 65535",
         AsmCause::Counter => "is not lc0 or lc1",
+        AsmCause::Peripheral => "is not a peripheral, P0 to P31",
+        AsmCause::Request => "is not single, burst or periph",
+        AsmCause::Channel => "is not a channel, C0 to C7",
         AsmCause::Field =>
             "is no field of a control word: SB, SS, SA, SP, SC, DB, DS, DA, DP, DC or ES",
         AsmCause::FieldValue(side, field) => field_message(side, field),
@@ -121,6 +121,9 @@ fn missing_message(operand: Operand) -> &'static str
         Operand::Fields => "lacks fields or a number",
         Operand::AddressRegister => "lacks a register, SAR or DAR",
         Operand::Halfword => "lacks a number, 0 to 65535",
+        Operand::Peripheral => "lacks a peripheral, P0 to P31",
+        Operand::Request => "lacks single, burst or periph",
+        Operand::Channel => "lacks a channel, C0 to C7",
     }
 }
 

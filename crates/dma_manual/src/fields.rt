@@ -54,6 +54,8 @@ impl EndFields {
 pub struct Fields {
     src: EndFields,
     dst: EndFields,
+    // Whether ES8 is given, which swaps nothing.
+    swap: bool,
 }
 
 impl Fields {
@@ -64,6 +66,7 @@ impl Fields {
         Fields {
             src: EndFields::none(),
             dst: EndFields::none(),
+            swap: false,
         }
     }
 
@@ -233,14 +236,14 @@ fn set_end(
     }
 }
 
-// Succeeds for an endian swap of 8 bits, which is none.
-fn swap_at(name: &[u8], word: &[u8], rest: &[u8]) -> Result<(), Fault>
-    ensures { result ≡ swap_at name.now word.now rest.now }
+// Succeeds for the field ES8, which swaps nothing, if it isn't given twice.
+fn swap_at(is_set: bool, name: &[u8], word: &[u8], rest: &[u8]) -> Result<(), Fault>
+    ensures { result ≡ swap_at is_set name.now word.now rest.now }
 {
     match name {
         [b's', digits @ ..] => {
             if is_text(digits, b"8") {
-                Ok(())
+                free(is_set, word, rest)
             } else {
                 Err(fault_at(AsmCause::Swap, word, rest))
             }
@@ -256,7 +259,11 @@ fn set_field(fields: &mut Fields, word: &[u8], rest: &[u8]) -> Result<(), Fault>
     match word {
         [b's', name @ ..] => set_end(&mut fields.src, Side::Source, name, word, rest),
         [b'd', name @ ..] => set_end(&mut fields.dst, Side::Destination, name, word, rest),
-        [b'e', name @ ..] => swap_at(name, word, rest),
+        [b'e', name @ ..] => {
+            swap_at(fields.swap, name, word, rest)?;
+            fields.swap = true;
+            Ok(())
+        }
         _ => Err(fault_at(AsmCause::Field, word, rest)),
     }
 }

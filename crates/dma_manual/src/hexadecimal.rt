@@ -1,5 +1,5 @@
 //! Reads bytes from hexadecimal text.
-ghost use Rattle.std.specs.Prelude.{◌≡◌, ◌<◌, ◌≤◌, ◌++◌, Err, IfOk, MatchResult, Ok, OnOk, length};
+ghost use Rattle.std.specs.Prelude.{◌≡◌, ◌<◌, ◌≤◌, ◌++◌, Err, IfOk, MatchResult, Ok, OnOk, length, take};
 ghost use Rattle.dma_manual.specs.Hexadecimal.{between, column_of, is_gap, is_whole, line_of, may_follow, next_digit, next_of, number_bytes, read_from, size_of, spelled};
 
 use crate::addresses::{is_digit, without_addresses};
@@ -42,7 +42,7 @@ impl Notation {
         }
     }
 
-    /// Returns whether a number may begin right behind another one, which has a mark or not.
+    /// Returns whether a number may begin right after another one, which has a mark or not.
     fn may_follow(self, is_marked: bool) -> bool
         ensures { result ≡ may_follow self is_marked }
     {
@@ -202,22 +202,30 @@ pub fn read_hexadecimal(
     read(alloc, notation, &text)
 }
 
+/// Returns the bytes before an offset of a text, or all if it has fewer.
+fn front(text: &[u8], at: usize) -> &[u8]
+    ensures { result.now ≡ take at text.now }
+{
+    if at < text.len() { &text[..at] } else { text }
+}
+
 /// Returns the line of an offset of a text, counted from 1.
 pub fn line_of(text: &[u8], at: usize) -> usize
-    requires { at ≤ length text.now }
     ensures { result ≡ line_of text.now at }
 {
-    let front = &text[..at];
-    front.iter().filter(|byte| **byte == b'\n').count() + 1
+    front(text, at)
+        .iter()
+        .filter(|byte| **byte == b'\n')
+        .count()
+        + 1
 }
 
 /// Returns the column of an offset of a text, counted from 1.
 pub fn column_of(text: &[u8], at: usize) -> usize
-    requires { at ≤ length text.now }
     ensures { result ≡ column_of text.now at }
 {
     let mut column = 1;
-    for byte in &text[..at] {
+    for byte in front(text, at) {
         column = if *byte == b'\n' { 1 } else { column + 1 };
     }
     column

@@ -1,6 +1,6 @@
 //! Laws of the manual's syntax, each the contract of an empty function.
 
-ghost use Rattle.dma_manual.specs.Laws.{ListingsAssemble, TextsAssemble};
+ghost use Rattle.dma_manual.specs.Laws.{CommentsStandInColumns, ListingsAssemble, TextsAssemble};
 
 /// Law: the text of each instruction assembles to the instruction's bytes.
 pub fn texts_assemble()
@@ -11,4 +11,9 @@ pub fn texts_assemble()
 /// 8,192. It shows the bytes up to DMAEND, or all without one, or those before the first that are no instruction.
 pub fn listings_assemble()
     ensures { ListingsAssemble }
+{}
+
+/// Law: the comments of a listing begin in the same column.
+pub fn comments_stand_in_columns()
+    ensures { CommentsStandInColumns }
 {}

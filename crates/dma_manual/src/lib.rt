@@ -4,29 +4,41 @@
 //! Contracts see a program and a text as lists of bytes.
 //!
 //! Proved: what `disassemble` appends is a function of the program's bytes; `assemble` returns the bytes of the text's
-//! program or the text's first fault with its place, as a function of the text; the listing of a program assembles to the
-//! bytes that it shows, if they are at most 8,192 (`laws::listings_assemble`), and the text of each instruction to the
-//! instruction's bytes (`laws::texts_assemble`); `read_hexadecimal` returns the bytes that a text spells or the text's
-//! first fault; `deliver` writes an answer, unless a write fails.
+//! program or the text's first fault with its place, as a function of the text; the listing of a program assembles to
+//! the bytes that it shows, if they are at most 8,192 (`laws::listings_assemble`), and the text of each instruction to
+//! the instruction's bytes (`laws::texts_assemble`); `read_pasted` returns the bytes that digits or a dump spell, as
+//! definitions of their forms say, or why a text spells none; `deliver` writes an answer, unless a write fails.
 //!
 //! Not proved: that syntax and defaults are those of the manual; that an allocation succeeds.
 #![tactic(auto)]
 
 mod addresses;
 pub mod answer;
+pub mod array;
 pub mod assembler;
 pub mod chip_only;
+mod codec;
 mod draft;
+pub mod dump;
 pub mod errors;
 mod fields;
+pub mod forms;
 pub mod hexadecimal;
+pub mod insns;
 pub mod laws;
+mod line_contents;
+mod line_starts;
 pub mod listing;
+mod loop_lines;
 mod loops;
 pub mod manual;
 pub mod notes;
 mod operands;
+mod other_lines;
+pub mod pasted;
 pub mod refusal;
+mod remarks;
+mod shown;
 mod statements;
 mod warning;
 mod words;

@@ -2,13 +2,15 @@
 
 ghost use Rattle.std.specs.Prelude.{◌≡◌, ◌++◌, ◌+◌, ◌-◌, ◌%◌, ◌<◌, ◌^◌, OnOk, OnErr, IfOk, ◌==◌};
 ghost use Rattle.std.specs.List.{list_any};
-ghost use Rattle.dma_insn.specs.Chip.{spelling};
-ghost use Rattle.dma_manual.specs.Listing.{blanks_behind, comment_text, follow, follow_words, indented, stop, cause_text, is_end, is_whole, jump_of, label_before, label_behind, label_name, label_text, line_text, listed, more_labels, rest_text, statement_text, stop_text, target_by, target_of, target_text};
+ghost use Rattle.dma_manual.specs.Insns.{spelling};
+ghost use Rattle.dma_manual.specs.Listing.{blanks_behind, cause_text, comment_text, follow, follow_words, indented, is_end, is_whole, jump_of, label_before, label_behind, label_name, label_text, line_text, listed, more_labels, remarks_of, rest_text, statement_text, stop, stop_text};
 ghost use Rattle.dma_text.specs.Text.{Begins};
 
-use crate::chip_only::chip_only_name;
-use crate::manual::{Manual, counter_name};
-use dma_insn::chip::{ChipInsn, decode_chip};
+use crate::codec::decode;
+use crate::insns::{ManualInsn, OtherInsn, Request};
+use crate::manual::{counter_name, end_name};
+use crate::remarks::{Remarks, remarks_of};
+use dma_insn::chip::ChipInsn;
 use dma_insn::codec::DecodeFault;
 use dma_insn::insn::Counter;
 use dma_text::text::{Address, HexByte, SpacedBytes, Text};
@@ -17,8 +19,9 @@ use std::alloc::{AllocError, Global};
 /// Disassembles a program whose first byte has the address `at`.
 ///
 /// Appends a line for each instruction to `out`, with its address and its bytes as a comment, and a line with a label
-/// behind each DMALP. Stops after DMAEND and says how many bytes follow. Where bytes are no instruction, appends
-/// ` offset N (0xADDRESS): CAUSE` with the bytes to `err` and returns false. Appends nothing if memory runs out.
+/// after each DMALP; the comment marks an instruction that no channel executes. Stops after DMAEND and says how many
+/// bytes follow. Where bytes are no instruction, appends ` offset N (0xADDRESS): CAUSE` with the bytes to `err` and
+/// returns false. Appends nothing if memory runs out.
 pub fn disassemble(
     alloc: Global,
     program: &[u8],
@@ -62,7 +65,7 @@ fn list(
     let mut offset = 0usize;
     let mut rest = program;
     while !rest.is_empty() {
-        match decode_chip(rest) {
+        match decode(rest) {
             Ok((insn, count)) => {
                 let (code, after) = rest.split_at(count);
                 push_line(out, &labels, at, offset, &insn, code)?;
@@ -98,27 +101,27 @@ impl Text for Label {
 }
 
 /// Returns whether an instruction is DMAEND.
-pub fn is_end(insn: &ChipInsn) -> bool
+pub fn is_end(insn: &ManualInsn) -> bool
     ensures { result ≡ is_end insn.now }
 {
     match *insn {
-        ChipInsn::End => true,
+        ManualInsn::Chip(ChipInsn::End) => true,
         _ => false,
     }
 }
 
-// Returns the label behind an instruction that ends at an offset.
-fn label_behind(insn: &ChipInsn, offset: usize) -> Option<usize>
+// Returns the label after an instruction that ends at an offset.
+fn label_behind(insn: &ManualInsn, offset: usize) -> Option<usize>
     ensures { result ≡ label_behind insn.now offset }
 {
     match *insn {
-        ChipInsn::Lp { .. } if offset < 65_536 => Some(offset),
+        ManualInsn::Chip(ChipInsn::Lp { .. }) if offset < 65_536 => Some(offset),
         _ => None,
     }
 }
 
-// Returns the label `back` bytes before an offset.
-fn label_before(labels: &[usize], offset: usize, back: usize) -> Option<usize>
+/// Returns the label `back` bytes before an offset.
+pub fn label_before(labels: &[usize], offset: usize, back: usize) -> Option<usize>
     ensures { result ≡ label_before labels.now offset back }
 {
     if back <= offset && is_among(labels, offset - back) {
@@ -127,17 +130,35 @@ fn label_before(labels: &[usize], offset: usize, back: usize) -> Option<usize>
     None
 }
 
-// Returns the counter and the label of a DMALPEND that jumps to one of the labels.
-fn jump_of(labels: &[usize], offset: usize, insn: &ChipInsn) -> Option<(Counter, usize)>
+/// The jump of a DMALPEND to a label.
+#[derive(Clone, Copy)]
+struct Jump {
+    condition: Option<Request>,
+    counter: Counter,
+    label: usize,
+}
+
+// Returns the jump of a DMALPEND to one of the labels.
+fn jump_of(labels: &[usize], offset: usize, insn: &ManualInsn) -> Option<Jump>
     ensures { result ≡ jump_of labels.now offset insn.now }
 {
-    match *insn {
-        ChipInsn::LpEnd { counter, back } => {
-            let label = label_before(labels, offset, usize::from(back))?;
-            Some((counter, label))
-        }
-        _ => None,
-    }
+    let (condition, counter, back) = match *insn {
+        ManualInsn::Chip(ChipInsn::LpEnd { counter, back }) => (None, counter, back),
+        ManualInsn::Other(
+            OtherInsn::LpEndIf {
+                request,
+                counter,
+                back,
+            },
+        ) => (Some(request), counter, back),
+        _ => return None,
+    };
+    let label = label_before(labels, offset, usize::from(back))?;
+    Some(Jump {
+        condition,
+        counter,
+        label,
+    })
 }
 
 // Returns whether a label is one of several.
@@ -152,24 +173,31 @@ fn push_statement(
     out: &mut Vec<u8>,
     labels: &[usize],
     offset: usize,
-    insn: &ChipInsn,
+    insn: &ManualInsn,
 ) -> Result<(), AllocError>
     ensures ok { OnOk result
         (out.new.items ≡ out.old.items ++ statement_text (jump_of labels.now offset insn.now) insn.now) }
     ensures begins { Begins out.new.items out.old.items }
 {
     match jump_of(labels, offset, insn) {
-        Some((counter, label)) => {
-            ("DMALPEND ", counter_name(counter), ", ", Label(label)).push(out)
+        Some(jump) => {
+            let to = (", ", Label(jump.label));
+            (
+                end_name(jump.condition),
+                " ",
+                counter_name(jump.counter),
+                to,
+            )
+                .push(out)
         }
-        None => Manual(*insn).push(out),
+        None => insn.push(out),
     }
 }
 
-/// The spaces up to the column of the comments.
-const BLANKS: [u8; 43] = [b' '; 43];
+/// The spaces up to the column of the comments, after the widest text of an instruction.
+const BLANKS: [u8; 62] = [b' '; 62];
 
-// Appends spaces behind a text of this width.
+// Appends spaces after a text of this width.
 fn push_blanks(out: &mut Vec<u8>, width: usize) -> Result<(), AllocError>
     ensures ok { OnOk result (out.new.items ≡ out.old.items ++ blanks_behind width) }
     ensures begins { Begins out.new.items out.old.items }
@@ -183,7 +211,7 @@ fn push_indented(
     out: &mut Vec<u8>,
     labels: &[usize],
     offset: usize,
-    insn: &ChipInsn,
+    insn: &ManualInsn,
 ) -> Result<(), AllocError>
     ensures ok { OnOk result
         (out.new.items ≡ out.old.items ++ indented labels.now offset insn.now) }
@@ -193,73 +221,27 @@ fn push_indented(
     push_statement(out, labels, offset, insn)
 }
 
-// Returns the address this many bytes before another.
-fn address_before(address: u32, back: u8) -> u32
-    ensures { result ≡ (address + 2 ^ 32 - back) % 2 ^ 32 }
-{
-    ((u64::from(address) + 0x1_0000_0000 - u64::from(back)) % 0x1_0000_0000) as u32
-}
-
-// Returns the address to which a DMALPEND at an address jumps, unless it has a label.
-fn target_by(label: Option<usize>, here: u32, back: u8) -> Option<u32>
-    ensures { result ≡ target_by label here back }
-{
-    match label {
-        Some(_) => None,
-        None => Some(address_before(here, back)),
-    }
-}
-
-// Returns the address to which an instruction jumps, if it is a DMALPEND that jumps to no label.
-fn target_of(labels: &[usize], at: u32, offset: usize, insn: &ChipInsn) -> Option<u32>
-    ensures { result ≡ target_of labels.now at offset insn.now }
-{
-    match *insn {
-        ChipInsn::LpEnd { back, .. } => {
-            let label = label_before(labels, offset, usize::from(back));
-            target_by(label, address_of(at, offset), back)
-        }
-        ChipInsn::LoopAgain { back, .. } => target_by(None, address_of(at, offset), back),
-        _ => None,
-    }
-}
-
-/// The address to which a DMALPEND without a label jumps, behind its bytes.
-#[derive(Clone, Copy)]
-struct Target(Option<u32>);
-
-impl Text for Target {
-    ghost text = { λ target. target_text target.0 };
-
-    fn push(&self, out: &mut Vec<u8>) -> Result<(), AllocError> {
-        match self.0 {
-            Some(address) => (", jumps to 0x", Address(address)).push(out),
-            None => "".push(out),
-        }
-    }
-}
-
-// Appends the comment behind a text of this width.
+// Appends the comment after a text of this width.
 fn push_comment(
     out: &mut Vec<u8>,
     width: usize,
     at: u32,
     offset: usize,
     code: &[u8],
-    target: Option<u32>,
+    remarks: Remarks,
 ) -> Result<(), AllocError>
     ensures ok { OnOk result
-        (out.new.items ≡ out.old.items ++ comment_text width at offset code.now target) }
+        (out.new.items ≡ out.old.items ++ comment_text width at offset code.now remarks) }
     ensures begins { Begins out.new.items out.old.items }
 {
     push_blanks(out, width)?;
     let address = Address(address_of(at, offset));
-    let words = (SpacedBytes(code), Target(target), "\n");
+    let words = (SpacedBytes(code), remarks, "\n");
     (" ; ", address, " ", words).push(out)
 }
 
-// Returns the address of an offset.
-fn address_of(at: u32, offset: usize) -> u32
+/// Returns the address of an offset.
+pub fn address_of(at: u32, offset: usize) -> u32
     ensures { result ≡ (at + offset) % 2 ^ 32 }
 {
     at.wrapping_add((offset % 0x1_0000_0000) as u32)
@@ -271,24 +253,24 @@ fn push_line(
     labels: &[usize],
     at: u32,
     offset: usize,
-    insn: &ChipInsn,
+    insn: &ManualInsn,
     code: &[u8],
 ) -> Result<(), AllocError>
     requires { code.now ≡ spelling insn.now }
     ensures ok { OnOk result (out.new.items ≡ out.old.items ++ line_text at labels.now offset insn.now) }
     ensures begins { Begins out.new.items out.old.items }
 {
-    let target = target_of(labels, at, offset, insn);
+    let remarks = remarks_of(labels, at, offset, insn);
     let start = out.len();
     push_indented(out, labels, offset, insn)?;
-    push_comment(out, out.len() - start, at, offset, code, target)
+    push_comment(out, out.len() - start, at, offset, code, remarks)
 }
 
-// Appends the line of the label behind an instruction, and adds it to the labels.
+// Appends the line of the label after an instruction, and adds it to the labels.
 fn push_label(
     out: &mut Vec<u8>,
     labels: &mut Vec<usize>,
-    insn: &ChipInsn,
+    insn: &ManualInsn,
     offset: usize,
 ) -> Result<(), AllocError>
     ensures ok { OnOk result (out.new.items ≡ out.old.items ++ label_text (label_behind insn.now offset)) }
@@ -302,7 +284,7 @@ fn push_label(
     Ok(())
 }
 
-// Returns the words behind a number of bytes that follow.
+// Returns the words after a number of bytes that follow.
 fn follow_words(count: usize) -> &'static str
     ensures { result.now ≡ follow_words count }
 {
@@ -324,7 +306,7 @@ fn push_rest(out: &mut Vec<u8>, count: usize) -> Result<(), AllocError>
     ("; ", count, follow_words(count), "\n").push(out)
 }
 
-/// Why bytes don't begin with an instruction that a channel executes.
+/// Why bytes don't begin with an instruction.
 #[derive(Drop)]
 struct Cause(DecodeFault);
 
@@ -334,14 +316,7 @@ impl Text for Cause {
     fn push(&self, out: &mut Vec<u8>) -> Result<(), AllocError> {
         match self.0 {
             DecodeFault::Cut => "the bytes end within an instruction:".push(out),
-            DecodeFault::Unknown(first) => match chip_only_name(first) {
-                Some(name) => (
-                    name,
-                    " is an instruction of the chip that no channel of this model executes:",
-                )
-                    .push(out),
-                None => "no instruction begins with".push(out),
-            },
+            DecodeFault::Unknown(_) => "no instruction begins with".push(out),
             DecodeFault::BadField => "a field is outside its range:".push(out),
         }
     }

@@ -1,10 +1,11 @@
 //! The open loops, while a text is assembled.
 
 ghost use Rattle.std.specs.Prelude.{◌≡◌, ◌-◌, ◌≤◌};
-ghost use Rattle.dma_manual.specs.Assembled.{back_to, chosen, end_of, free_counter, innermost, innermost_of, is_closed_by, is_free_or_closed, jump_of, slot, unclosed, with_loop};
+ghost use Rattle.dma_manual.specs.Assembled.{again_of, back_to, chosen, condition_of, end_of, free_counter, innermost, innermost_of, is_closed_by, is_free_or_closed, jump_of, slot, unclosed, with_loop};
 
 use crate::assembler::{AsmCause, Located, Place};
-use crate::statements::End;
+use crate::insns::{ManualInsn, OtherInsn, Request};
+use crate::statements::{Again, End};
 use dma_insn::chip::ChipInsn;
 use dma_insn::insn::Counter;
 
@@ -27,16 +28,43 @@ pub enum LoopKind {
 }
 
 impl LoopKind {
-    /// Returns the DMALPEND that ends such a loop.
-    pub fn end(self, back: u8) -> ChipInsn
-        ensures { result ≡ end_of self back }
+    /// Returns the DMALPEND that ends such a loop, which may be for a kind of request.
+    pub fn end(self, condition: Option<Request>, back: u8) -> ManualInsn
+        ensures { result ≡ end_of self condition back }
+    {
+        match (self, condition) {
+            (LoopKind::Counted(counter), None) => {
+                ManualInsn::Chip(ChipInsn::LpEnd { counter, back })
+            }
+            (LoopKind::Counted(counter), Some(request)) => ManualInsn::Other(OtherInsn::LpEndIf {
+                request,
+                counter,
+                back,
+            }),
+            (LoopKind::Endless, None) => Again::Always(Counter::Lc0).end(back),
+            (LoopKind::Endless, Some(request)) => Again::If(request).end(back),
+        }
+    }
+}
+
+impl Again {
+    /// Returns the kind of request that the DMALPEND is for.
+    pub fn condition(self) -> Option<Request>
+        ensures { result ≡ condition_of self }
     {
         match self {
-            LoopKind::Counted(counter) => ChipInsn::LpEnd { counter, back },
-            LoopKind::Endless => ChipInsn::LoopAgain {
-                counter: Counter::Lc0,
-                back,
-            },
+            Again::Always(_) => None,
+            Again::If(request) => Some(request),
+        }
+    }
+
+    /// Returns the DMALPEND with this jump.
+    pub fn end(self, back: u8) -> ManualInsn
+        ensures { result ≡ again_of self back }
+    {
+        match self {
+            Again::Always(counter) => ManualInsn::Chip(ChipInsn::LoopAgain { counter, back }),
+            Again::If(request) => ManualInsn::Other(OtherInsn::LoopAgainIf { request, back }),
         }
     }
 }
@@ -46,6 +74,8 @@ impl LoopKind {
 pub struct Stray {
     pub place: Place,
     pub kind: LoopKind,
+    /// The kind of request that the DMALPEND is for.
+    pub condition: Option<Request>,
 }
 
 /// The open loops: one of each kind.

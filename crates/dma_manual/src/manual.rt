@@ -2,9 +2,10 @@
 
 ghost use Rattle.std.specs.Prelude.{◌≡◌, ◌++◌, ◌<◌, OnOk};
 ghost use Rattle.dma_insn.specs.ControlWord.{beat_bytes};
-ghost use Rattle.dma_manual.specs.ManualText.{add_name, address_name, again_flag, cache_signals, control_text, counter_name, end_text, field_text, flag_text, half_digits, letter, manual_text};
+ghost use Rattle.dma_manual.specs.ManualText.{action_flag, action_name, add_name, address_name, again_flag, cache_signals, control_text, counter_name, end_name, end_text, field_text, flag_text, go_flag, half_digits, insn_text, letter, load_if_name, manual_text, other_text, store_if_name};
 ghost use Rattle.dma_text.specs.Text.{Begins};
 
+use crate::insns::{Action, Awaited, ManualInsn, OtherInsn, Request};
 use dma_insn::chip::{self, ChipInsn};
 use dma_insn::control::{BurstEnd, Control};
 use dma_insn::insn::{Counter, Reg};
@@ -83,7 +84,7 @@ fn address_name(address: chip::Address) -> &'static str
     }
 }
 
-// Returns the name of DMAADDH, or of DMAADNH, with a space behind it.
+// Returns the name of DMAADDH, or of DMAADNH, with a space after it.
 fn add_name(negative: bool) -> &'static str
     ensures { result.now ≡ add_name negative }
 {
@@ -115,6 +116,119 @@ impl Text for HalfDigits {
         )
             .push(out)
     }
+}
+
+impl Text for ManualInsn {
+    ghost text = { λ insn. insn_text insn };
+
+    fn push(&self, out: &mut Vec<u8>) -> Result<(), AllocError> {
+        match *self {
+            ManualInsn::Chip(insn) => Manual(insn).push(out),
+            ManualInsn::Other(insn) => insn.push(out),
+        }
+    }
+}
+
+impl Text for OtherInsn {
+    ghost text = { λ insn. other_text insn };
+
+    fn push(&self, out: &mut Vec<u8>) -> Result<(), AllocError> {
+        match *self {
+            OtherInsn::Kill => "DMAKILL".push(out),
+            OtherInsn::LdIf(request) => load_if_name(request).push(out),
+            OtherInsn::StIf(request) => store_if_name(request).push(out),
+            OtherInsn::OfPeripheral { action, peripheral } => {
+                let number = peripheral.number();
+                (action_name(action), " P", number, action_flag(action)).push(out)
+            }
+            OtherInsn::LpEndIf {
+                request,
+                counter,
+                back,
+            } => (
+                end_name(Some(request)),
+                " ",
+                counter_name(counter),
+                (", -", back),
+            )
+                .push(out),
+            OtherInsn::LoopAgainIf { request, back } => {
+                (end_name(Some(request)), " -", back).push(out)
+            }
+            OtherInsn::Go {
+                channel,
+                address,
+                non_secure,
+            } => {
+                let operand = (Address(address), go_flag(non_secure));
+                ("DMAGO C", channel.number(), ", 0x", operand).push(out)
+            }
+        }
+    }
+}
+
+// Returns the name of DMALD for a kind of request.
+fn load_if_name(request: Request) -> &'static str
+    ensures { result.now ≡ load_if_name request }
+{
+    match request {
+        Request::Single => "DMALDS",
+        Request::Burst => "DMALDB",
+    }
+}
+
+// Returns the name of DMAST for a kind of request.
+fn store_if_name(request: Request) -> &'static str
+    ensures { result.now ≡ store_if_name request }
+{
+    match request {
+        Request::Single => "DMASTS",
+        Request::Burst => "DMASTB",
+    }
+}
+
+/// Returns the name of a DMALPEND, which may be for a kind of request.
+pub fn end_name(condition: Option<Request>) -> &'static str
+    ensures { result.now ≡ end_name condition }
+{
+    match condition {
+        None => "DMALPEND",
+        Some(Request::Single) => "DMALPENDS",
+        Some(Request::Burst) => "DMALPENDB",
+    }
+}
+
+// Returns the name of an instruction with a peripheral.
+fn action_name(action: Action) -> &'static str
+    ensures { result.now ≡ action_name action }
+{
+    match action {
+        Action::Ld(Request::Single) => "DMALDPS",
+        Action::Ld(Request::Burst) => "DMALDPB",
+        Action::St(Request::Single) => "DMASTPS",
+        Action::St(Request::Burst) => "DMASTPB",
+        Action::Wait(_) => "DMAWFP",
+        Action::Flush => "DMAFLUSHP",
+    }
+}
+
+// Returns what follows the peripheral: which requests a DMAWFP waits for.
+fn action_flag(action: Action) -> &'static str
+    ensures { result.now ≡ action_flag action }
+{
+    match action {
+        Action::Wait(Awaited::Single) => ", single",
+        Action::Wait(Awaited::Burst) => ", burst",
+        Action::Wait(Awaited::Either) => ", periph",
+        _ => "",
+    }
+}
+
+// Returns what follows the address of a DMAGO: whether the channel is non-secure.
+fn go_flag(non_secure: bool) -> &'static str
+    ensures { result.now ≡ go_flag non_secure }
+{
+    if non_secure { ", ns" } else { "" }
 }
 
 /// The end of a copy that a field of the control word is about.

@@ -3,10 +3,11 @@
 ghost use Rattle.std.specs.Prelude.{◌≡◌, ◌≤◌, ◌^◌, IfOk, IfSome};
 ghost use Rattle.dma_insn.specs.LineReading.{ResultIs};
 ghost use Rattle.dma_manual.specs.Words.{next_of};
-ghost use Rattle.dma_manual.specs.Operands.{digits_in, event_at, fault_at, field_at, no_more, number_at, number_of, word_after};
+ghost use Rattle.dma_manual.specs.Operands.{digits_in, fault_at, field_at, flag_at, lettered, no_more, number_at, number_of, word_after};
 
 use crate::assembler::{AsmCause, Fault};
 use crate::words::next_word;
+use dma_text::bytes::is_text;
 use dma_text::digits::digit_value;
 
 /// Returns the fault of a word, which `rest` follows.
@@ -117,13 +118,33 @@ pub fn field_at(
     }
 }
 
-/// Returns the number of an event, which `e` may precede.
-pub fn event_at(word: &[u8], rest: &[u8]) -> Result<u64, Fault>
-    ensures value { result ≡ event_at word.now rest.now }
-    ensures range { IfOk result (λ n. n ≤ 31) }
+/// Returns a number of at most `most`, which a letter may precede.
+pub fn lettered(
+    letter: u8,
+    cause: AsmCause,
+    most: u64,
+    word: &[u8],
+    rest: &[u8],
+) -> Result<u64, Fault>
+    ensures value { result ≡ lettered letter cause most word.now rest.now }
+    ensures range { IfOk result (λ n. n ≤ most) }
 {
     match word {
-        [b'e', digits @ ..] => number_at(AsmCause::Event, 0, 31, digits, word, rest),
-        _ => number_at(AsmCause::Event, 0, 31, word, word, rest),
+        [first, digits @ ..] if *first == letter => number_at(cause, 0, most, digits, word, rest),
+        _ => number_at(cause, 0, most, word, word, rest),
     }
+}
+
+/// Returns whether the last word of a line is `flag`; no word is left if not.
+pub fn flag_at(flag: &[u8], rest: &[u8]) -> Result<bool, Fault>
+    ensures { result ≡ flag_at flag.now rest.now }
+{
+    let Some((word, rest)) = next_word(rest) else {
+        return Ok(false);
+    };
+    if !is_text(word, flag) {
+        return Err(fault_at(AsmCause::Extra, word, rest));
+    }
+    no_more(rest)?;
+    Ok(true)
 }

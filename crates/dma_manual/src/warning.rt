@@ -6,6 +6,7 @@ ghost use Rattle.dma_manual.specs.Errors.{start_name, stops_or_empty, warning_te
 
 use crate::draft::Draft;
 use crate::loops::{LoopKind, Stray};
+use crate::manual::end_name;
 use dma_text::text::Text;
 use std::alloc::AllocError;
 
@@ -35,12 +36,13 @@ impl Text for Warning {
         match self.stray {
             Some(stray) => {
                 let place = stray.place;
-                let words = ": warning: 'DMALPEND' does not jump to the instruction after its ";
+                let words = "' does not jump to the instruction after its ";
+                let end = (words, start_name(stray.kind), "\n");
                 (
                     place.line,
                     ":",
                     place.column,
-                    (words, start_name(stray.kind), "\n"),
+                    (": warning: '", end_name(stray.condition), end),
                 )
                     .push(out)
             }

@@ -2,3 +2,7 @@ pub mod Fronts
 pub mod Steps
 pub mod Waves
 pub mod Running
+pub mod Warned
+pub mod Regions
+pub mod Merged
+pub mod OverFound

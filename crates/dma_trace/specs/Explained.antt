@@ -15,6 +15,7 @@ use Rattle.dma_chan.specs.Exec.{start_on}
 use Rattle.dma_chan.specs.Explains.{Finds, Refuses, bursts_in, next_in, traced}
 use Rattle.dma_trace.specs.Front.{front_at}
 use Rattle.dma_trace.specs.Touches.{conflict_text, touches_in}
+use Rattle.dma_trace.specs.Warnings.{warnings_of, warnings_text}
 use Rattle.dma_trace.specs.Words.{bytes_text, cause_text, count_text, line_feed, long_text, range_text, refusal_text}
 
 -- `  from 0x00002000 + 32 bytes, 64 times`
@@ -39,15 +40,9 @@ amounts_text a =
 abbrev pub event_line : Happening → List ℕ
 event_line h = codes "  after " ++ amounts_text h.done ++ (codes ": " ++ sync_text h.sync ++ line_feed)
 
--- `, stores 9`, and the end of the line
-abbrev pub stores_text : ℕ → List ℕ
-stores_text stores = codes ", stores " ++ decimal stores ++ line_feed
-
--- `  bursts: loads 9, stores 9`, and `  in blocks: loads 8, stores 8` for those in loops that run as blocks
+-- `  bursts: loads 9, stores 9`
 abbrev pub bursts_text : BurstCounts → List ℕ
-bursts_text b =
-    (codes "  bursts: loads " ++ decimal b.loads ++ stores_text b.stores)
-    ++ (codes "  in blocks: loads " ++ decimal b.in_blocks ++ stores_text b.in_blocks)
+bursts_text b = codes "  bursts: loads " ++ decimal b.loads ++ (codes ", stores " ++ decimal b.stores ++ line_feed)
 
 -- what a program copies: how much, by which bursts, from where and to where; what it sets to 0; and its events
 abbrev pub explained_text : Explained → List ℕ
@@ -87,10 +82,11 @@ Prints bus program most true printed = PrintsCopy bus program most printed
 Prints bus program most false printed =
     ((most_program_bytes < length program) × (printed ≡ long_text)) ⊎ PrintsCause bus program most printed
 
--- What is printed is appended to `out` if the program is explained, else to `err`; the other stays as it is.
+-- What is printed is appended to `out` if the program is explained, else to `err`. Then the warnings about the program
+-- are appended to `err`.
 pub record Appends (bus : Bus) (program : List ℕ) (most : ℕ) (copies : Bool)
     (out err new_out new_err : List ℕ) : Type 0 where
   pub printed : List ℕ
   pub prints : Prints bus program most copies printed
   pub to_out : new_out ≡ out ++ (if copies then printed else [])
-  pub to_err : new_err ≡ err ++ (if copies then [] else printed)
+  pub to_err : new_err ≡ err ++ (if copies then [] else printed) ++ warnings_text copies (warnings_of program)

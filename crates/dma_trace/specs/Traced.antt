@@ -23,10 +23,10 @@ use Rattle.dma_trace.specs.declared.front.Front.{Front}
 use Rattle.dma_trace.specs.declared.front.Span.{Span}
 use Rattle.dma_trace.specs.declared.options.TraceOptions.{TraceOptions}
 use Rattle.dma_trace.specs.declared.wave.Moment.{Moment}
+use Rattle.dma_trace.specs.Columns.{aligned, insn_column}
 use Rattle.dma_trace.specs.Front.{front_of, registers_of, span_at}
 use Rattle.dma_trace.specs.Wave.{change_text, executing, first_text, last_text}
 use Rattle.dma_trace.specs.Words.{cause_text, count_text, fault_text, front_text, line_feed, long_text, offset_text, refusal_text, span_text}
-use Rattle.dma_manual.specs.ManualText.{manual_text}
 
 -- ---- memory
 
@@ -49,10 +49,10 @@ moves_text i f pieces = []
 
 -- ---- lines
 
--- Prints an instruction's number and offset, its text, and the registers after it.
+-- Prints an instruction's number and offset, its text, and the registers after it, in columns.
 unfoldable pub step_text : ℕ → ChipInsn → ℕ → Front → List ℕ
 step_text n i pc after =
-    (decimal n ++ codes " " ++ offset_text pc) ++ (codes " " ++ manual_text i) ++ (codes "; " ++ front_text after)
+    (aligned 7 n ++ codes " " ++ offset_text pc) ++ (codes " " ++ insn_column i) ++ (codes "; " ++ front_text 3 after)
 
 -- Prints the line of instruction number n: the same, and what the instruction loads or stores.
 abbrev pub line_text : ℕ → ChipInsn → Front → Front → List Piece → List ℕ

@@ -4,7 +4,10 @@ use Rattle.std.specs.Option.{option_and_then}
 use Rattle.dma_text.specs.Digits.{hex_digits, hex_pair}
 use Rattle.dma_insn.specs.declared.chip.ChipInsn.{ChipInsn}
 use Rattle.dma_insn.specs.declared.chip.ChipInsn.TheVariants.{Mov}
-use Rattle.dma_insn.specs.ControlWord.{field}
+use Rattle.dma_insn.specs.ControlWord.{control_of, field}
+use Rattle.dma_insn.specs.declared.control.Control.{Control}
+use Rattle.dma_insn.specs.declared.control.ControlFault.{ControlFault}
+use Rattle.dma_insn.specs.declared.control.ControlFault.TheVariants.{ReservedSize, Swap, Bit31}
 use Rattle.dma_manual.specs.ChipOnly.{chip_only_name, needs_chip_bus}
 use Rattle.dma_manual.specs.ManualText.{manual_text}
 use Rattle.dma_chan.specs.declared.bus.Bus.{Bus}
@@ -13,10 +16,11 @@ use Rattle.dma_chan.specs.declared.explain.Cause.TheVariants as causes
 use Rattle.dma_chan.specs.declared.turn.FaultKind.{FaultKind}
 use Rattle.dma_chan.specs.declared.turn.FaultKind.TheVariants.{UndefInstr, OperandInvalid, MfifoErr, StDataUnavailable, InstrFetchErr, DataWriteErr, DataReadErr}
 use Rattle.dma_chan.specs.Bursts.{burst_len}
-use Rattle.dma_chan.specs.Bus.{fits, widest_beat}
+use Rattle.dma_chan.specs.Bus.{widest_beat}
 use Rattle.dma_chan.specs.Exec.{destination_of, fault_bit, source_of}
 use Rattle.dma_trace.specs.declared.front.Front.{Front}
 use Rattle.dma_trace.specs.declared.front.Span.{Span}
+use Rattle.dma_trace.specs.Columns.{aligned}
 use Rattle.dma_trace.specs.Front.{registers_of, span_at}
 
 abbrev pub line_feed : List ℕ
@@ -58,11 +62,12 @@ unfoldable pub control_text : ℕ → List ℕ
 control_text w =
     codes "CCR 0x" ++ hex_digits w ++ (codes ": " ++ end_text (codes "S") w ++ codes " " ++ end_text (codes "D") (w / 2 ^ 14))
 
--- the addresses, the loop counters and the buffer
-unfoldable pub front_text : Front → List ℕ
-front_text f =
+-- the addresses, the loop counters and the buffer; each decimal number has spaces before it up to a width
+unfoldable pub front_text : ℕ → Front → List ℕ
+front_text width f =
     (codes "SAR 0x" ++ hex_digits f.sar) ++ (codes " DAR 0x" ++ hex_digits f.dar)
-    ++ (codes " LC0 " ++ decimal f.lc0 ++ codes " LC1 " ++ decimal f.lc1) ++ (codes " buffer " ++ decimal f.held)
+    ++ (codes " LC0 " ++ aligned width f.lc0 ++ codes " LC1 " ++ aligned width f.lc1)
+    ++ (codes " buffer " ++ aligned width f.held)
 
 -- The name of the chip's instruction that begins with this byte, if no channel executes it on the ideal bus. `first`
 -- below is the first byte of the next instruction, if the program has one there.
@@ -96,15 +101,16 @@ fault_name InstrFetchErr = codes "instr_fetch_err"
 fault_name DataWriteErr = codes "data_write_err"
 fault_name DataReadErr = codes "data_read_err"
 
--- why a control word isn't accepted on a bus
-abbrev pub control_words : Bus → ℕ → List ℕ
-control_words bus w =
-    if fits bus w then codes "the control word has a reserved size, an endian swap, or bit 31"
-    else codes "a beat is wider than the bus, which has " ++ bytes_text (widest_beat bus)
+-- why a control word isn't accepted on a bus: its first fault, or else a beat that is wider than the bus
+abbrev pub control_words : Bus → Result Control ControlFault → List ℕ
+control_words bus (Err ReservedSize) = codes "a size code is above 4, the code for 16 bytes"
+control_words bus (Err Swap) = codes "the endian swap isn't 0"
+control_words bus (Err Bit31) = codes "bit 31 is set"
+control_words bus (Ok c) = codes "a beat is wider than the bus, which has " ++ bytes_text (widest_beat bus)
 
 -- why an instruction that was decoded has a refused operand
 abbrev pub operand_words : ChipInsn → Bus → List ℕ
-operand_words (Mov reg w) bus = control_words bus w
+operand_words (Mov reg w) bus = control_words bus (control_of w)
 operand_words i bus = codes "a field is outside its range"
 
 -- why an operand is refused
@@ -112,10 +118,11 @@ abbrev pub refused_words : Result ChipInsn FaultKind → Front → List ℕ
 refused_words (Ok i) f = operand_words i f.bus
 refused_words (Err kind) f = codes "a field is outside its range"
 
--- why no instruction is fetched
-abbrev pub fetch_words : Result ChipInsn FaultKind → List ℕ
-fetch_words (Ok i) = codes "it jumps to before the program's start"
-fetch_words (Err kind) = codes "the program has no whole instruction here"
+-- why no instruction is fetched: a jump, no byte here, or too few
+abbrev pub fetch_words : Option ℕ → Result ChipInsn FaultKind → List ℕ
+fetch_words first (Ok i) = codes "it jumps to before the program's start"
+fetch_words None (Err kind) = codes "the program has no DMAEND"
+fetch_words (Some b) (Err kind) = codes "the program has no whole instruction here"
 
 -- why an instruction is undefined, by the name of the chip's instruction, and whether a channel executes it on a chip's
 -- bus
@@ -135,7 +142,7 @@ fault_words MfifoErr first next f =
 fault_words StDataUnavailable first next f =
     codes "the buffer holds " ++ bytes_text f.held
     ++ (codes ", the store needs " ++ decimal (burst_len (destination_of (registers_of f))))
-fault_words InstrFetchErr first next f = fetch_words next
+fault_words InstrFetchErr first next f = fetch_words first next
 fault_words DataWriteErr first next f = codes "it can't store " ++ span_text (span_at (destination_of (registers_of f)))
 fault_words DataReadErr first next f = codes "it can't load " ++ span_text (span_at (source_of (registers_of f)))
 
@@ -170,7 +177,7 @@ place_text first next pc n =
 -- the registers, on two lines, and how many bytes were stored: `  1024 bytes stored before`
 unfoldable pub state_text : Front → ℕ → List ℕ
 state_text f stored =
-    (codes "\n  " ++ front_text f) ++ (codes "\n  " ++ control_text f.ccr) ++ (codes "\n  " ++ bytes_text stored ++ codes " stored before\n")
+    (codes "\n  " ++ front_text 0 f) ++ (codes "\n  " ++ control_text f.ccr) ++ (codes "\n  " ++ bytes_text stored ++ codes " stored before\n")
 
 -- The lines of an instruction that is refused after n others: where it is and why, then the registers before it, and
 -- how many bytes were stored before it.

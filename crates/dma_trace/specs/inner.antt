@@ -1,2 +1,3 @@
 -- Definitions that only proofs use.
+pub mod Explaining
 pub mod Running

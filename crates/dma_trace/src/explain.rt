@@ -10,11 +10,13 @@ ghost use Rattle.dma_text.specs.Text.{Begins};
 ghost use Rattle.dma_trace.specs.Explained.{Appends, amounts_text, bursts_text, unexplained_text, event_line, explained_text, segment_line, source_line};
 ghost use Rattle.dma_trace.specs.Front.{front_at};
 ghost use Rattle.dma_trace.specs.Touches.{touches_in};
+ghost use Rattle.dma_trace.specs.inner.Explaining.{Found, Works};
 
 use crate::amounts::{Bytes, Instructions, Range};
 use crate::front::Front;
 use crate::progress::report;
 use crate::touches::{Conflict, Touches};
+use crate::warnings::{push_warnings, warnings_of};
 use crate::words::{LongProgram, Place, Point, State, Why, first_byte};
 use dma_chan::bus::Bus;
 use dma_chan::exec::Registers;
@@ -27,7 +29,7 @@ use dma_insn::chip::{ChipInsn, decode_chip, decode_core};
 use dma_insn::codec::DecodeFault;
 use dma_mem::segment::Segment;
 use dma_text::progress::Progress;
-use dma_text::text::{Text, print};
+use dma_text::text::Text;
 use std::alloc::{AllocError, Global};
 
 // Appends the line of an item that is read.
@@ -139,7 +141,7 @@ impl Text for Happenings<'_> {
     }
 }
 
-/// How many bursts a program executes, and how many of them in loops that run as blocks.
+/// How many bursts a program executes.
 #[derive(Drop)]
 struct Bursts<'a>(&'a BurstCounts);
 
@@ -148,14 +150,8 @@ impl Text for Bursts<'_> {
 
     fn push(&self, out: &mut Vec<u8>) -> Result<(), AllocError> {
         let Bursts(counts) = *self;
-        let all = (
-            "  bursts: loads ",
-            counts.loads,
-            (", stores ", counts.stores, "\n"),
-        );
-        let pairs = counts.in_blocks;
-        let blocks = ("  in blocks: loads ", pairs, (", stores ", pairs, "\n"));
-        (all, blocks).push(out)
+        let stores = (", stores ", counts.stores, "\n");
+        ("  bursts: loads ", counts.loads, stores).push(out)
     }
 }
 
@@ -251,7 +247,7 @@ fn print_cause<P: Progress>(
         GoesOn (next_in program.now x) x }
     ensures ok { OnOk result
         (err.new.items ≡ err.old.items ++ unexplained_text bus program.now found) }
-    ensures err { OnErr result (err.new.items ≡ err.old.items) }
+    ensures begins { Begins err.new.items err.old.items }
 {
     let (front, touches) = reached(program, bus, found.steps, found.addr, progress);
     let first = first_byte(program, front.pc);
@@ -275,11 +271,85 @@ fn print_cause<P: Progress>(
         front: &at.front,
         stored: found.stored,
     };
-    print(err, &(place, (why, conflict), state))
+    (place, (why, conflict), state).push(err)
+}
+
+/// Returns what a program copies, or appends to `err` why and where nothing explains it. May have appended a part if
+/// memory runs out.
+pub(crate) fn find<P: Progress>(
+    alloc: Global,
+    program: &[u8],
+    bus: Bus,
+    most: u32,
+    err: &mut Vec<u8>,
+    progress: &mut P,
+) -> Result<Option<Explained>, AllocError>
+    ensures ok { IfOk result (λ found. Found bus program.now most found
+        err.old.items err.new.items) }
+    ensures begins { Begins err.new.items err.old.items }
+{
+    match runs::explain(alloc, Registers::start(bus), program, most) {
+        Ok(explained) => Ok(Some(explained)),
+        Err(found) => {
+            match found.cause {
+                Cause::NoMemory => return Err(AllocError),
+                Cause::TooLong => LongProgram.push(err)?,
+                _ => print_cause(program, bus, found, err, progress)?,
+            }
+            Ok(None)
+        }
+    }
+}
+
+// Appends what a program copies, or why nothing explains it, and returns whether it is explained. May have appended a
+// part if memory runs out.
+fn print_work<P: Progress>(
+    alloc: Global,
+    program: &[u8],
+    bus: Bus,
+    most: u32,
+    out: &mut Vec<u8>,
+    err: &mut Vec<u8>,
+    progress: &mut P,
+) -> Result<bool, AllocError>
+    ensures ok { IfOk result (λ copies. Works bus program.now most copies
+        out.old.items err.old.items out.new.items err.new.items) }
+    ensures begins { Begins out.new.items out.old.items }
+    ensures begins_err { Begins err.new.items err.old.items }
+{
+    match find(alloc, program, bus, most, err, progress)? {
+        Some(explained) => {
+            Copies(&explained).push(out)?;
+            Ok(true)
+        }
+        None => Ok(false),
+    }
+}
+
+// Appends the same, and warnings about the program. May have appended a part if memory runs out.
+fn explain_all<P: Progress>(
+    alloc: Global,
+    program: &[u8],
+    bus: Bus,
+    most: u32,
+    out: &mut Vec<u8>,
+    err: &mut Vec<u8>,
+    progress: &mut P,
+) -> Result<bool, AllocError>
+    ensures ok { IfOk result (λ copies. Appends bus program.now most copies
+        out.old.items err.old.items out.new.items err.new.items) }
+    ensures begins { Begins out.new.items out.old.items }
+    ensures begins_err { Begins err.new.items err.old.items }
+{
+    let copies = print_work(alloc, program, bus, most, out, err, progress)?;
+    let warnings = warnings_of(alloc, program)?;
+    push_warnings(copies, &warnings, err)?;
+    Ok(copies)
 }
 
 /// Explains a program on a bus, executing at most `most` instructions: appends to `out` what it copies and sets to 0
-/// for every memory, and returns whether it is explained. If it isn't, appends to `err` why and where.
+/// for every memory, and returns whether it is explained. If it isn't, appends to `err` why and where. Appends warnings
+/// about its loops to `err`.
 ///
 /// If memory runs out, it fails and appends nothing.
 pub fn explain<P: Progress>(
@@ -296,18 +366,11 @@ pub fn explain<P: Progress>(
     ensures out { OnErr result (out.new.items ≡ out.old.items) }
     ensures err { OnErr result (err.new.items ≡ err.old.items) }
 {
-    match runs::explain(alloc, Registers::start(bus), program, most) {
-        Ok(explained) => {
-            print(out, &Copies(&explained))?;
-            Ok(true)
-        }
-        Err(found) => {
-            match found.cause {
-                Cause::NoMemory => return Err(AllocError),
-                Cause::TooLong => print(err, &LongProgram)?,
-                _ => print_cause(program, bus, found, err, progress)?,
-            }
-            Ok(false)
-        }
+    let (out_len, err_len) = (out.len(), err.len());
+    let result = explain_all(alloc, program, bus, most, out, err, progress);
+    if result.is_err() {
+        out.truncate(out_len);
+        err.truncate(err_len);
     }
+    result
 }

@@ -7,11 +7,11 @@ ghost use Rattle.dma_mem.specs.Regions.{pieces_of, run_from};
 ghost use Rattle.dma_trace.specs.Traced.{burst_text, dump_text, line_text, moves_text, row_bytes, row_text, shown_line, step_text};
 
 use crate::amounts::Offset;
+use crate::columns::{Aligned, InsnColumn, Registers};
 use crate::front::{Front, Span};
 use crate::options::TraceOptions;
 use crate::words::Point;
 use dma_insn::chip::ChipInsn;
-use dma_manual::manual::Manual;
 use dma_mem::regions::{Region, copy_run};
 use dma_mem::segment::Segment;
 use dma_text::text::{Address, SpacedBytes, Text};
@@ -19,6 +19,12 @@ use std::alloc::{AllocError, Global};
 
 /// The most bytes that are printed of a burst, and in a row.
 const ROW_BYTES: u32 = 16;
+
+/// The width of an instruction's number.
+const NUMBER_WIDTH: usize = 7;
+
+/// The width of a loop counter, and of the number of bytes in the buffer.
+const COUNTER_WIDTH: usize = 3;
 
 // Returns the bytes from an address on, at most `most`, up to the first address that no region has.
 fn bytes_from(
@@ -89,8 +95,16 @@ impl Text for Step<'_> {
 
     #[tactic(auto, unfolding(crate::specs::Traced::step_text))]
     fn push(&self, out: &mut Vec<u8>) -> Result<(), AllocError> {
-        let place = (self.number, " ", Offset(self.pc));
-        (place, (" ", Manual(*self.insn)), ("; ", *self.after)).push(out)
+        let number = Aligned {
+            number: self.number,
+            width: NUMBER_WIDTH,
+        };
+        let registers = Registers {
+            front: self.after,
+            width: COUNTER_WIDTH,
+        };
+        let place = (number, " ", Offset(self.pc));
+        (place, (" ", InsnColumn(*self.insn)), ("; ", registers)).push(out)
     }
 }
 

@@ -9,10 +9,12 @@ ghost use Rattle.dma_chan.specs.Channel.{last_count, loaded_on};
 ghost use Rattle.dma_chan.specs.LentRegions.{segment_of, with_gaps_of};
 ghost use Rattle.dma_chan.specs.Stepping.{after_step, answer_at};
 ghost use Rattle.dma_text.specs.Text.{Begins};
+ghost use Rattle.dma_trace.specs.Found.{ShowsRam};
 ghost use Rattle.dma_trace.specs.Traced.{Shows, end_of, if_wave, marks_over, opening};
 ghost use Rattle.dma_trace.specs.Wave.{executing, last_text};
 ghost use Rattle.dma_trace.specs.inner.Running.{Ends, Runs, machine_over};
 
+use crate::alone::trace_found;
 use crate::amounts::Instructions;
 use crate::front::Front;
 use crate::lines::{push_dumps, push_step};
@@ -250,7 +252,7 @@ fn run<P: Progress>(
 }
 
 // Traces a program. If memory runs out, it may have appended a part.
-fn trace_all<P: Progress>(
+pub(crate) fn trace_all<P: Progress>(
     alloc: Global,
     program: &[u8],
     regions: &mut [Region<'_>],
@@ -281,6 +283,9 @@ fn trace_all<P: Progress>(
 /// long, fails, or reaches the limit, appends the reason to `err`. Appends the waveform of the whole run to `wave` if
 /// `options` asks for it, with at most 120 bytes for each instruction.
 ///
+/// Without regions, the memory is zeros at the ranges that `explain` finds. If it finds none, appends its message to
+/// `err`, and returns false.
+///
 /// If memory runs out, it fails and appends nothing; the regions may have changed.
 pub fn trace<P: Progress>(
     alloc: Global,
@@ -293,14 +298,18 @@ pub fn trace<P: Progress>(
     progress: &mut P,
 ) -> Result<bool, AllocError>
     requires order { IsTrue (in_order (pieces_of regions.old)) }
-    ensures ok { IfOk result (λ good. Shows options.now program.now regions.old regions.new good
+    ensures ok { IfOk result (λ good. ShowsRam options.now program.now regions.old regions.new good
         out.old.items err.old.items wave.old.items out.new.items err.new.items wave.new.items) }
     ensures out { OnErr result (out.new.items ≡ out.old.items) }
     ensures err { OnErr result (err.new.items ≡ err.old.items) }
     ensures wave { OnErr result (wave.new.items ≡ wave.old.items) }
 {
     let (out_len, err_len, wave_len) = (out.len(), err.len(), wave.len());
-    let result = trace_all(alloc, program, regions, options, out, err, wave, progress);
+    let result = if regions.is_empty() {
+        trace_found(alloc, program, options, out, err, wave, progress)
+    } else {
+        trace_all(alloc, program, regions, options, out, err, wave, progress)
+    };
     if result.is_err() {
         out.truncate(out_len);
         err.truncate(err_len);

@@ -3,16 +3,19 @@
 
 ghost use Rattle.std.specs.Prelude.{◌≡◌, ◌<◌, ◌++◌, OnOk, Result, Ok, Err, slice_get};
 ghost use Rattle.std.specs.Option.{option_map};
+ghost use Rattle.dma_insn.specs.ControlWord.{control_of};
 ghost use Rattle.dma_chan.specs.declared.turn.FaultKind.{FaultKind};
 ghost use Rattle.dma_text.specs.Text.{Begins};
-ghost use Rattle.dma_trace.specs.Words.{cause_text, chip_only_at, control_text, control_words, end_text, fault_name, fault_text, fault_words, fetch_words, front_text, long_text, next_text, operand_words, on_chip_bus, place_text, refused_words, state_text, undefined_words};
+ghost use Rattle.dma_trace.specs.Words.{cause_text, chip_only_at, control_text, control_words, end_text, fault_name, fault_text, fault_words, fetch_words, long_text, next_text, operand_words, on_chip_bus, place_text, refused_words, state_text, undefined_words};
 
 use crate::amounts::{Bytes, Instructions, Offset};
+use crate::columns::Registers;
 use crate::front::Front;
 use dma_chan::bus::Bus;
 use dma_chan::explain::Cause;
 use dma_chan::turn::FaultKind;
 use dma_insn::chip::ChipInsn;
+use dma_insn::control::{Control, ControlFault};
 use dma_manual::chip_only::{chip_only_name, needs_chip_bus};
 use dma_manual::manual::Manual;
 use dma_text::text::{Address, Text};
@@ -44,9 +47,9 @@ impl Text for End {
 
 /// A control word, with its fields.
 #[derive(Drop)]
-pub struct Control(pub u32);
+pub struct ControlText(pub u32);
 
-impl Text for Control {
+impl Text for ControlText {
     ghost text = { λ word. control_text word.0 };
 
     #[tactic(auto, unfolding(crate::specs::Words::control_text))]
@@ -60,22 +63,6 @@ impl Text for Control {
             bits: self.0 >> 14,
         };
         ("CCR 0x", Address(self.0), (": ", src, " ", dst)).push(out)
-    }
-}
-
-// The addresses, the loop counters and the buffer.
-impl Text for Front {
-    ghost text = { front_text };
-
-    #[tactic(auto, unfolding(crate::specs::Words::front_text))]
-    fn push(&self, out: &mut Vec<u8>) -> Result<(), AllocError> {
-        (
-            ("SAR 0x", Address(self.sar)),
-            (" DAR 0x", Address(self.dar)),
-            (" LC0 ", self.lc0, " LC1 ", self.lc1),
-            (" buffer ", self.held),
-        )
-            .push(out)
     }
 }
 
@@ -151,14 +138,21 @@ fn fault_name(kind: FaultKind) -> &'static str
 
 // Appends why a control word isn't accepted.
 fn push_control(bus: Bus, bits: u32, out: &mut Vec<u8>) -> Result<(), AllocError>
-    ensures ok { OnOk result (out.new.items ≡ out.old.items ++ control_words bus bits) }
+    ensures ok { OnOk result
+        (out.new.items ≡ out.old.items ++ control_words bus (control_of bits)) }
     ensures begins { Begins out.new.items out.old.items }
 {
-    if bus.fits(bits) {
-        return "the control word has a reserved size, an endian swap, or bit 31".push(out);
+    match Control::from_bits(bits) {
+        Err(ControlFault::ReservedSize) => {
+            "a size code is above 4, the code for 16 bytes".push(out)
+        }
+        Err(ControlFault::Swap) => "the endian swap isn't 0".push(out),
+        Err(ControlFault::Bit31) => "bit 31 is set".push(out),
+        Ok(_) => {
+            let width = Bytes(u64::from(bus.widest_beat()));
+            ("a beat is wider than the bus, which has ", width).push(out)
+        }
     }
-    let width = Bytes(u64::from(bus.widest_beat()));
-    ("a beat is wider than the bus, which has ", width).push(out)
 }
 
 // Appends why an instruction that was decoded has a refused operand.
@@ -185,12 +179,13 @@ fn push_refused(at: &Point, out: &mut Vec<u8>) -> Result<(), AllocError>
 }
 
 // Returns why no instruction is fetched.
-fn fetch_words(ahead: &Result<ChipInsn, FaultKind>) -> &'static str
-    ensures { result.now ≡ fetch_words ahead.now }
+fn fetch_words(first: Option<u8>, ahead: &Result<ChipInsn, FaultKind>) -> &'static str
+    ensures { result.now ≡ fetch_words first ahead.now }
 {
-    match ahead {
-        Ok(_) => "it jumps to before the program's start",
-        Err(_) => "the program has no whole instruction here",
+    match (ahead, first) {
+        (Ok(_), _) => "it jumps to before the program's start",
+        (Err(_), None) => "the program has no DMAEND",
+        (Err(_), Some(_)) => "the program has no whole instruction here",
     }
 }
 
@@ -239,7 +234,7 @@ fn push_fault(
             let len = stores.bytes();
             ("the buffer holds ", held, (", the store needs ", len)).push(out)
         }
-        FaultKind::InstrFetchErr => fetch_words(&at.ahead).push(out),
+        FaultKind::InstrFetchErr => fetch_words(first, &at.ahead).push(out),
         FaultKind::DataWriteErr => ("it can't store ", stores).push(out),
         FaultKind::DataReadErr => ("it can't load ", loads).push(out),
     }
@@ -345,10 +340,14 @@ impl Text for State<'_> {
 
     #[tactic(auto, unfolding(crate::specs::Words::state_text))]
     fn push(&self, out: &mut Vec<u8>) -> Result<(), AllocError> {
-        let control = Control(self.front.ccr);
+        let registers = Registers {
+            front: self.front,
+            width: 0,
+        };
+        let control = ControlText(self.front.ccr);
         let stored = Bytes(self.stored);
         (
-            ("\n  ", *self.front),
+            ("\n  ", registers),
             ("\n  ", control),
             ("\n  ", stored, " stored before\n"),
         )

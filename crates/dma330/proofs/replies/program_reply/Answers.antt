@@ -6,5 +6,5 @@ use Rattle.dma330.proofs.replies.program_reply.Goals as goal
 pub returns : goal.returns
 returns g c =
     let q = printed_of c.in_ok-replied.replied in
-    let note = ap (with_note q) (rw c.executes.ensures at c.end_warning-note.ensures) in
+    let note = ap (with_note q) (rw c.takes_program.ensures at c.end_warning-note.ensures) in
     IfOk-weaker c.with_note.result _ _ (λ shown is. (q, c.in_ok-replied.ensures, is ∙ note)) c.with_note.ensures

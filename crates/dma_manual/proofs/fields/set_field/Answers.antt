@@ -8,8 +8,5 @@ returns-in-115 c = grind (arith, common_steps)
 pub returns-in-100 : goal.returns-in-100
 returns-in-100 c = grind (arith, common_steps)
 
-pub returns-in-101 : goal.returns-in-101
-returns-in-101 c = grind (arith, common_steps)
-
 pub returns-in_default : goal.returns-in_default
 returns-in_default c = grind (arith, common_steps)

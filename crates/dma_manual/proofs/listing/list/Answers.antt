@@ -1,7 +1,8 @@
 use Rattle.std.proofs.lemmas.Grind.{common_steps}
-use Rattle.std.proofs.Common.{arith, sym, ◌∙◌}
+use Rattle.std.proofs.Common.{arith, length, sym, ◌∙◌}
 use Rattle.dma_text.proofs.Begun.{begins_more, begins_same}
-use Rattle.dma_manual.proofs.Listings.{listed_step}
+use Rattle.dma_manual.specs.Listing.{listed}
+use Rattle.dma_manual.proofs.Listings.{listed_last, listed_step}
 use Rattle.dma_manual.proofs.listing.list.Goals as goal
 
 pub loop-rest-preserved : goal.loop-rest-preserved
@@ -84,3 +85,10 @@ returns-clause-err c = grind (arith, common_steps)
 
 pub returns-clause-whole : goal.returns-clause-whole
 returns-clause-whole c = grind (arith, common_steps)
+
+pub returns-then-is_end-clause-out : goal.returns-then-is_end-clause-out
+returns-then-is_end-clause-out c =
+    listed_last c.args.at c.loop-rest.labels.items c.loop-rest.offset c.in-Ok.count c.loop-rest.rest.now c.in-Ok.insn c.loop-rest.out.items c.push_line.new.out.items
+    c.push_rest.new.out.items c.args.out.now.items (listed c.args.at c.args.program.now) (length c.split_at.result.1.now) (sym c.in-Ok.ensures.exact) c.in-Ok.ensures.within.0
+    c.in-Ok.ensures.within.1 (sym c.if-is_end.ensures) c.deref.result.now c.deref.ensures.value c.in_ok-push_line-in-Ok.ensures.ok (omega (arith, c.split_at.ensures.back_len))
+    c.in_ok-push_rest-in-Ok.ensures.ok c.loop-rest.invariant.text c.loop-rest.invariant.ending

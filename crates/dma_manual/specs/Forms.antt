@@ -1,0 +1,93 @@
+-- The forms of dumps (profile): what tools print around the digits of memory. A form is how the columns of addresses
+-- and of text look, and how a group of digits spells bytes. The lowest byte of a group comes first in memory.
+use Rattle.std.specs.Prelude.{ℕ, ◌+◌, ◌*◌, ◌%◌, ◌^◌, Bool, true, false, ◌==◌, ◌||◌, nat_lt, if◌then◌else◌, List, [], ◌∷◌}
+use Rattle.std.specs.Char.{digit_value}
+use Rattle.dma_manual.specs.declared.forms.Column.{Column}
+use Rattle.dma_manual.specs.declared.forms.Column.TheVariants.{Colon, Hex, Octal, Headed, Array}
+use Rattle.dma_manual.specs.declared.forms.Form.{Form}
+use Rattle.dma_manual.specs.declared.forms.Group.{Group}
+use Rattle.dma_manual.specs.declared.forms.Group.TheVariants.{Byte, Half, Word, Long, Octal as Octals}
+
+-- how many bytes a group has
+abbrev pub size_of : Group → ℕ
+size_of Byte = 1
+size_of Half = 2
+size_of Word = 4
+size_of Long = 8
+size_of Octals = 2
+
+-- how many digits a group has
+abbrev pub digits_of : Group → ℕ
+digits_of Byte = 2
+digits_of Half = 4
+digits_of Word = 8
+digits_of Long = 16
+digits_of Octals = 6
+
+-- whether the digits of a group are octal
+abbrev pub is_octal : Group → Bool
+is_octal Byte = false
+is_octal Half = false
+is_octal Word = false
+is_octal Long = false
+is_octal Octals = true
+
+-- whether addresses are octal
+abbrev pub has_octal : Column → Bool
+has_octal Colon = false
+has_octal Hex = false
+has_octal Octal = true
+has_octal Headed = false
+has_octal Array = false
+
+-- the least number of digits of an address
+abbrev pub least_digits : Column → ℕ
+least_digits Colon = 4
+least_digits Hex = 6
+least_digits Octal = 6
+least_digits Headed = 4
+least_digits Array = 4
+
+-- whether two spaces, not a bar, come before the text
+abbrev pub has_spaced_text : Column → Bool
+has_spaced_text Colon = true
+has_spaced_text Hex = false
+has_spaced_text Octal = false
+has_spaced_text Headed = true
+has_spaced_text Array = false
+
+-- a space or a tab
+abbrev pub is_blank : ℕ → Bool
+is_blank b = b == 32 || b == 9
+
+-- the letter of a mark `0x`
+abbrev pub is_x : ℕ → Bool
+is_x b = b == 120 || b == 88
+
+-- whether a byte is an octal or a hexadecimal digit
+abbrev pub is_digit_in : Bool → ℕ → Bool
+is_digit_in octal b = nat_lt (digit_value b) (if octal then 8 else 16)
+
+-- the number of the digits that spell v with one more digit
+abbrev pub with_digit : Bool → ℕ → ℕ → ℕ
+with_digit octal v b =
+    if octal then v % (2 ^ 60) * 8 + digit_value b else v % (2 ^ 60) * 16 + digit_value b
+
+-- a row of the table of forms
+abbrev pub form : Column → Group → Form
+form column group = record { column = column; group = group }
+
+-- the forms without a colon
+abbrev pub plain_forms : List Form
+plain_forms =
+    form Hex Byte ∷ form Hex Half ∷ form Hex Word ∷ form Hex Long ∷ form Hex Octals
+    ∷ form Octal Byte ∷ form Octal Half ∷ form Octal Word ∷ form Octal Long ∷ form Octal Octals
+    ∷ form Headed Byte ∷ form Array Byte ∷ []
+
+-- The forms in the order in which they are tried: after a colon, words come first.
+abbrev pub words_first : List Form
+words_first = form Colon Word ∷ form Colon Long ∷ form Colon Half ∷ form Colon Byte ∷ plain_forms
+
+-- the same with bytes after a colon before words
+abbrev pub bytes_first : List Form
+bytes_first = form Colon Byte ∷ words_first

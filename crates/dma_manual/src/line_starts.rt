@@ -1,0 +1,233 @@
+//! Reads the front of a dump's line: a heading, a log's prefix, an address.
+ghost use Rattle.std.specs.Prelude.{◌≡◌};
+ghost use Rattle.dma_manual.specs.Dump.{address_end, address_step, break_step, closed_step, cut_at, goes_on, lead_step, start_step, strange, symbol_step, with_address, word_step, zero_step};
+
+use crate::dump::{Cause, Effect, Place, Scan};
+use crate::forms::{Column, Form, Group, is_blank, is_digit_in, is_x, with_digit};
+use dma_text::digits::digit_value;
+
+/// Returns whether an address is where the bytes before it end.
+fn goes_on(first: Option<u64>, len: usize, value: u64) -> bool
+    ensures { result ≡ goes_on first len value }
+{
+    match first {
+        Some(first) => first <= value && value - first == len as u64,
+        None => true,
+    }
+}
+
+impl Scan {
+    /// Takes an address, before which the text has `len` bytes, and goes on to a place.
+    pub fn with_address(self, len: usize, value: u64, place: Place) -> Result<(Scan, Effect), Cause>
+        ensures { result ≡ with_address self len value place }
+    {
+        if !goes_on(self.first, len, value) {
+            return Err(Cause::Address);
+        }
+        let scan = Scan {
+            place,
+            first: Some(self.first.unwrap_or(value)),
+            before: len,
+            is_sure: self.is_sure || len > 0,
+        };
+        Ok((scan, Effect::Nothing))
+    }
+
+    /// Takes an address alone: the bytes end there, perhaps within the last group.
+    pub fn cut_at(self, group: Group, len: usize, value: u64) -> Result<(Scan, Effect), Cause>
+        ensures { result ≡ cut_at self group len value self.first }
+    {
+        let Some(first) = self.first else {
+            return Err(Cause::Address);
+        };
+        if first > value || value - first > len as u64 {
+            return Err(Cause::Address);
+        }
+        let kept = (value - first) as usize;
+        if len - kept >= usize::from(group.size()) {
+            return Err(Cause::Address);
+        }
+        let scan = Scan {
+            place: Place::Start,
+            is_sure: true,
+            ..self
+        };
+        Ok((scan, Effect::Cut(kept)))
+    }
+
+    /// Takes a byte that no address has: it may be in a heading.
+    pub fn strange(self, form: Form, byte: u8) -> Result<(Scan, Effect), Cause>
+        ensures { result ≡ strange form self byte }
+    {
+        if !matches!(form.column, Column::Headed) || self.first.is_some() {
+            Err(Cause::Byte)
+        } else if byte == b'\n' {
+            self.line_end()
+        } else {
+            self.at(Place::Heading)
+        }
+    }
+
+    /// Takes the next byte of a line that has only blanks so far.
+    pub fn start_step(self, form: Form, byte: u8) -> Result<(Scan, Effect), Cause>
+        ensures { result ≡ start_step form self byte }
+    {
+        if byte == b'\n' {
+            self.line_end()
+        } else if is_blank(byte) {
+            self.at(Place::Start)
+        } else if is_digit_in(form.column.has_octal(), byte) {
+            self.at(Place::Address {
+                in_log: false,
+                digits: 1,
+                value: u64::from(digit_value(byte)),
+            })
+        } else if byte == b'*' {
+            Err(Cause::Star)
+        } else if byte == b'[' && matches!(form.column, Column::Colon) {
+            self.at(Place::Word)
+        } else {
+            self.strange(form, byte)
+        }
+    }
+
+    /// Takes the next byte of a word of a log's line.
+    pub fn word_step(self, byte: u8) -> Result<(Scan, Effect), Cause>
+        ensures { result ≡ word_step self byte }
+    {
+        match byte {
+            b'\n' => Err(Cause::Byte),
+            b' ' => self.at(Place::Break),
+            _ => self.at(Place::Word),
+        }
+    }
+
+    /// Takes the next byte after the spaces of a log's line.
+    pub fn break_step(self, byte: u8) -> Result<(Scan, Effect), Cause>
+        ensures { result ≡ break_step self byte }
+    {
+        if is_digit_in(false, byte) {
+            self.at(Place::Address {
+                in_log: true,
+                digits: 1,
+                value: u64::from(digit_value(byte)),
+            })
+        } else {
+            self.word_step(byte)
+        }
+    }
+
+    /// Takes the byte after an address.
+    pub fn address_end(
+        self,
+        form: Form,
+        len: usize,
+        in_log: bool,
+        value: u64,
+        byte: u8,
+    ) -> Result<(Scan, Effect), Cause>
+        ensures { result ≡ address_end form self len in_log value byte }
+    {
+        match form.column {
+            Column::Colon if byte == b':' => {
+                self.with_address(len, value, Place::Lead { blanks: 0 })
+            }
+            Column::Colon if in_log => self.word_step(byte),
+            Column::Colon if byte == b' ' => self.with_address(len, value, Place::Open),
+            Column::Colon => Err(Cause::Byte),
+            _ if is_blank(byte) => self.with_address(len, value, Place::Gap),
+            Column::Headed => self.strange(form, byte),
+            _ if byte == b'\n' => self.cut_at(form.group, len, value),
+            _ => Err(Cause::Byte),
+        }
+    }
+
+    /// Takes the next byte after digits of an address. A mark counts as three.
+    pub fn address_step(
+        self,
+        form: Form,
+        len: usize,
+        in_log: bool,
+        digits: u8,
+        value: u64,
+        byte: u8,
+    ) -> Result<(Scan, Effect), Cause>
+        ensures { result ≡ address_step form self len in_log digits value byte }
+    {
+        let octal = form.column.has_octal();
+        let least = form.column.least_digits();
+        if is_digit_in(octal, byte) {
+            self.at(Place::Address {
+                in_log,
+                digits: if digits < least { digits + 1 } else { digits },
+                value: with_digit(octal, value, byte),
+            })
+        } else if matches!(form.column, Column::Colon) && digits == 1 && value == 0 && is_x(byte) {
+            self.at(Place::Address {
+                in_log,
+                digits: 3,
+                value: 0,
+            })
+        } else if digits >= least {
+            self.address_end(form, len, in_log, value, byte)
+        } else if in_log {
+            self.word_step(byte)
+        } else {
+            self.strange(form, byte)
+        }
+    }
+
+    /// Takes the next byte of a symbol.
+    pub fn symbol_step(self, last: u8, byte: u8) -> Result<(Scan, Effect), Cause>
+        ensures { result ≡ symbol_step self last byte }
+    {
+        match byte {
+            b'\n' => Err(Cause::Byte),
+            b':' if last == b'>' => self.at(Place::Closed),
+            _ => self.at(Place::Symbol { last: byte }),
+        }
+    }
+
+    /// Takes the next byte after a colon and blanks, which are counted up to two. After more than one, a group has a
+    /// mark.
+    pub fn lead_step(self, form: Form, blanks: u8, byte: u8) -> Result<(Scan, Effect), Cause>
+        ensures { result ≡ lead_step form self blanks byte }
+    {
+        if is_blank(byte) {
+            let blanks = if blanks < 2 { blanks + 1 } else { blanks };
+            return self.at(Place::Lead { blanks });
+        }
+        match byte {
+            _ if blanks < 2 => self.content(form, byte),
+            b'0' => self.at(Place::Zero),
+            b'\n' => self.line_end(),
+            _ => Err(Cause::Byte),
+        }
+    }
+
+    /// Takes the next byte after the colon of a symbol, which goes on after two.
+    pub fn closed_step(self, form: Form, byte: u8) -> Result<(Scan, Effect), Cause>
+        ensures { result ≡ closed_step form self byte }
+    {
+        if byte == b':' {
+            self.at(Place::Symbol { last: byte })
+        } else {
+            self.lead_step(form, 0, byte)
+        }
+    }
+
+    /// Takes the next byte after the `0` of a mark.
+    pub fn zero_step(self, byte: u8) -> Result<(Scan, Effect), Cause>
+        ensures { result ≡ zero_step self byte }
+    {
+        if is_x(byte) {
+            self.at(Place::Group {
+                is_marked: true,
+                digits: 0,
+                value: 0,
+            })
+        } else {
+            Err(Cause::Byte)
+        }
+    }
+}

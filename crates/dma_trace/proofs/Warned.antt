@@ -1,0 +1,47 @@
+-- The warnings about bytes, by their first instruction.
+use Rattle.std.proofs.Common.{◌≡◌, ℕ, ◌+◌, ◌-◌, ◌<◌, ◌≤◌, false, true, List, [], ◌∷◌, ◌++◌, length, drop, Ok, Err, suc, zero, ap, ◌∙◌, refl, arith, append_assoc}
+use Rattle.dma_insn.specs.declared.chip.ChipInsn.{ChipInsn}
+use Rattle.dma_insn.specs.declared.codec.DecodeFault.{DecodeFault}
+use Rattle.dma_insn.specs.Chip.{decoded}
+use Rattle.dma_trace.specs.declared.warnings.Nest.{Nest}
+use Rattle.dma_trace.specs.declared.warnings.Warning.{Warning}
+use Rattle.dma_trace.specs.Warnings.{doubt_of, ends_text, nest_after, warned_from, warning_at}
+
+-- bytes that are skipped are only counted
+skipped : (nest : Nest) (o k : ℕ) (xs : List ℕ) → k ≤ length xs → warned_from nest o k xs ≡ warned_from nest (o + k) 0 (drop k xs)
+skipped nest o zero xs h = let e : o ≡ o + 0 = omega arith in ap (λ p. warned_from nest p 0 xs) e
+skipped nest o (suc k) [] h = absurd (omega arith)
+skipped nest o (suc k) (x ∷ xs) h =
+    let e : o + 1 + k ≡ o + suc k = omega arith in
+    skipped nest (o + 1) k xs (omega arith) ∙ ap (λ p. warned_from nest p 0 (drop k xs)) e
+
+-- the warnings about bytes that begin with an instruction of n bytes, which isn't DMAEND
+first : (nest : Nest) (o n : ℕ) (xs : List ℕ) (i : ChipInsn) → decoded xs ≡ Ok (i, n) → 0 < n → n ≤ length xs → ends_text i ≡ false
+    → warned_from nest o 0 xs ≡ warning_at o (doubt_of i nest) ++ warned_from (nest_after i nest) (o + n) 0 (drop n xs)
+first nest o zero xs i is some within goes = absurd (omega arith)
+first nest o (suc n) [] i is some within goes = absurd (omega arith)
+first nest o (suc n) (x ∷ xs) i is some within goes =
+    let less : suc n - 1 ≡ n = omega arith in
+    let e : o + 1 + n ≡ o + suc n = omega arith in
+    let after = nest_after i nest in
+    let rest : warned_from after (o + 1) (suc n - 1) xs ≡ warned_from after (o + suc n) 0 (drop n xs) =
+    ap (λ k. warned_from after (o + 1) k xs) less ∙ skipped after (o + 1) n xs (omega arith) ∙ ap (λ p. warned_from after p 0 (drop n xs)) e in
+    rw (is, goes) (ap (λ (ws : List Warning). warning_at o (doubt_of i nest) ++ ws) rest)
+
+-- the warnings so far and those about the rest, with one more instruction
+pub warned_step : (nest after : Nest) (o p n : ℕ) (xs rest : List ℕ) (i : ChipInsn) (found more : List Warning) → decoded xs ≡ Ok (i, n) → 0 < n
+    → n ≤ length xs → ends_text i ≡ false → after ≡ nest_after i nest → p ≡ o + n → rest ≡ drop n xs → more ≡ found ++ warning_at o (doubt_of i nest)
+    → more ++ warned_from after p 0 rest ≡ found ++ warned_from nest o 0 xs
+warned_step nest after o p n xs rest i found more is some within goes a e r m =
+    rw (m, a, e, r, first nest o n xs i is some within goes)
+    (append_assoc found (warning_at o (doubt_of i nest)) (warned_from (nest_after i nest) (o + n) 0 (drop n xs)))
+
+-- no warning about bytes that begin with DMAEND
+pub warned_end : (nest : Nest) (o n : ℕ) (xs : List ℕ) (i : ChipInsn) → decoded xs ≡ Ok (i, n) → ends_text i ≡ true → warned_from nest o 0 xs ≡ []
+warned_end nest o n [] i is ends = refl
+warned_end nest o n (x ∷ xs) i is ends = rw (is, ends) refl
+
+-- no warning about bytes that are no instruction
+pub warned_fault : (nest : Nest) (o : ℕ) (xs : List ℕ) (fault : DecodeFault) → decoded xs ≡ Err fault → warned_from nest o 0 xs ≡ []
+warned_fault nest o [] fault is = refl
+warned_fault nest o (x ∷ xs) fault is = rw is refl

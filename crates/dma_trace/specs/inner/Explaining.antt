@@ -1,0 +1,34 @@
+-- How an explanation is begun.
+use Rattle.std.specs.Prelude.{◌≡◌, ℕ, ◌-◌, ◌++◌, Bool, false, List, [], All, Option, Some, None, map, if◌then◌else◌}
+use Rattle.dma_chan.specs.declared.bus.Bus.{Bus}
+use Rattle.dma_chan.specs.declared.explain.Explained.{Explained}
+use Rattle.dma_chan.specs.Exec.{start_on}
+use Rattle.dma_chan.specs.Explains.{Finds, bursts_in}
+use Rattle.dma_mem.specs.declared.regions.Region.{Region}
+use Rattle.dma_mem.specs.declared.segment.Segment.{Segment}
+use Rattle.dma_mem.specs.Regions.{pieces_of}
+use Rattle.dma_trace.specs.declared.options.TraceOptions.{TraceOptions}
+use Rattle.dma_trace.specs.Explained.{Prints}
+use Rattle.dma_trace.specs.Found.{zero_piece}
+use Rattle.dma_trace.specs.Traced.{Shows}
+
+-- what is found of a program, or what is printed if nothing explains it
+abbrev pub Found : Bus → List ℕ → ℕ → Option Explained → List ℕ → List ℕ → Type 0
+Found bus program most (Some x) err new_err =
+    Finds (start_on bus) program most x × (x.bursts ≡ bursts_in (start_on bus) program (x.steps - 1)) × (new_err ≡ err)
+Found bus program most None err new_err = (printed : List ℕ) × Prints bus program most false printed × (new_err ≡ err ++ printed)
+
+-- what is printed is appended, without warnings
+pub record Works (bus : Bus) (program : List ℕ) (most : ℕ) (copies : Bool) (out err new_out new_err : List ℕ) : Type 0 where
+  pub printed : List ℕ
+  pub prints : Prints bus program most copies printed
+  pub to_out : new_out ≡ out ++ (if copies then printed else [])
+  pub to_err : new_err ≡ err ++ (if copies then [] else printed)
+
+-- a trace over RAM at these ranges
+pub record ShowsOver (o : TraceOptions) (program : List ℕ) (ranges : List Segment) (good : Bool) (out err wave new_out new_err new_wave : List ℕ) : Type 0 where
+  pub regions : List Region
+  pub zeros : pieces_of regions ≡ map zero_piece ranges
+  pub writable : All (λ r. r.read_only ≡ 0) regions
+  pub new : List Region
+  pub shows : Shows o program regions new good out err wave new_out new_err new_wave
