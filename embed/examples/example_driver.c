@@ -28,15 +28,15 @@ static uint32_t busy;
 #define PUT(at, ...) \
     do { const uint8_t put[] = {__VA_ARGS__}; memcpy(at, put, sizeof put); at += sizeof put; } while (0)
 
-/* Appends loops that move a number of bursts. */
+/* Appends loops that move a number of bursts: a loop in a loop for each 256 of them, and one for the rest. */
 static uint8_t *put_bursts(uint8_t *at, uint32_t bursts, uint32_t beats, uint32_t size)
 {
     PUT(at, DMA330_DMAMOV_CCR(DMA330_CCR_COPY(beats, size)));
-    while (bursts > 0) {
-        uint32_t times = bursts < 256 ? bursts : 256;
-        PUT(at, DMA330_DMALP(0, times), DMA330_DMALD, DMA330_DMAST, DMA330_DMALPEND(0, 2));
-        bursts -= times;
-    }
+    if (bursts >= 256)
+        PUT(at, DMA330_DMALP(1, bursts / 256), DMA330_DMALP(0, 256), DMA330_DMALD, DMA330_DMAST, DMA330_DMALPEND(0, 2),
+            DMA330_DMALPEND(1, 6));
+    if (bursts % 256 > 0)
+        PUT(at, DMA330_DMALP(0, bursts % 256), DMA330_DMALD, DMA330_DMAST, DMA330_DMALPEND(0, 2));
     return at;
 }
 
@@ -161,7 +161,8 @@ int main(int argc, char **argv)
         {CHANNELS, CHANNELS, 0, 32, 64 * CHANNELS, 3}, /* the chip */
         CHANNELS,                                      /* copies at a time */
         HARNESS_MOST_BYTES, 1,                         /* of any length and alignment */
-        reset, start, is_busy, handle_irq, handle_timer, stop
+        reset, start, is_busy, handle_irq, handle_timer, stop,
+        true, {0}, 0                                   /* also of no bytes; no sizes of its own; no DMAWFE */
     };
     return harness_main(argc, argv, &driver);
 }

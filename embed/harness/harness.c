@@ -19,15 +19,15 @@ static void let_pass(void)
     machine.driver->handle_timer();
 }
 
-/* Expects that the machine is at rest, and that no channel was killed without need. */
+/* Expects that the machine is at rest, and that all bytes are right. */
 static void expect_rest(void)
 {
     uint32_t can_step = 1;
 
     expect(dma330_device_can_step(&machine.device, &can_step) == DMA330_OK && can_step == 0, "a channel still runs");
-    expect(high_lines() == 0, "a line is still high");
-    expect(machine.kills == 0 || machine.stops > 0 || is_disturbed(), "a running channel was killed without need");
-    expect_bytes(NULL);
+    if (high_lines() != 0)
+        fail("a line is still high: %s", why_high());
+    expect_bytes();
 }
 
 static bool any_copy_runs(void)
@@ -62,11 +62,22 @@ static void run(const char *name, uint32_t kinds)
                (unsigned long)(COPIES - machine.stops));
 }
 
+/* Resets the driver, while some events are set. No copy is busy afterwards. */
+static void reset(void)
+{
+    set_events();
+    machine.run = "the driver's reset";
+    machine.driver->reset();
+    for (uint32_t n = 0; n < machine.driver->copies; n++)
+        if (machine.driver->is_busy(n))
+            fail("copy %lu is busy after `reset`", (unsigned long)n);
+}
+
 static void make_runs(void)
 {
     bool has_stop = machine.driver->stop != NULL;
 
-    machine.driver->reset();
+    reset();
     run("no trouble", 0);
     run("lost interrupts", LOST);
     run("slow channels", SLOW);
@@ -81,14 +92,11 @@ static void make_runs(void)
 /* Tests a driver with a seed. Returns whether all is right. */
 static bool passes(const harness_driver *driver, uint32_t seed)
 {
-    bool is_right;
-
     open_machine(driver, seed);
-    is_right = setjmp(failing) == 0;
-    if (is_right)
+    if (setjmp(failing) == 0)
         make_runs();
     dma330_device_close(&machine.device);
-    return is_right;
+    return !machine.has_failed;
 }
 
 /* ---- the command line ---- */
@@ -151,14 +159,25 @@ static bool are_options(int argc, char **argv)
     return options.wave == NULL || options.first == options.last;
 }
 
-/* Returns whether a driver's numbers are in their ranges. */
-static bool is_driver(const harness_driver *driver)
+/* Returns which of a driver's numbers is outside its range, or NULL. */
+static const char *wrong_number(const harness_driver *driver)
 {
     uint32_t align = driver->align;
 
-    return driver->copies >= 1 && driver->copies <= HARNESS_MOST_COPIES && driver->longest <= HARNESS_MOST_BYTES &&
-           align >= 1 && align <= 256 && (align & (align - 1)) == 0 && align <= driver->longest &&
-           driver->chip.channels >= 1 && driver->chip.channels <= MOST_CHANNELS;
+    if (driver->chip.channels < 1 || driver->chip.channels > MOST_CHANNELS)
+        return "chip.channels isn't 1 to 8";
+    if (driver->chip.events < 1 || driver->chip.events > EVENTS)
+        return "chip.events isn't 1 to 32";
+    if (driver->copies < 1 || driver->copies > HARNESS_MOST_COPIES)
+        return "copies isn't 1 to 8";
+    if (align < 1 || align > 256 || (align & (align - 1)) != 0)
+        return "align isn't a power of two from 1 to 256";
+    if (driver->longest < align || driver->longest > HARNESS_MOST_BYTES)
+        return "longest isn't from align to 1048576";
+    for (int n = 0; n < HARNESS_SIZES; n++)
+        if (driver->sizes[n] > driver->longest)
+            return "one of sizes is above longest";
+    return NULL;
 }
 
 /* Tests a driver with several seeds, and prints how many failed. The first that fails explains itself. */
@@ -185,12 +204,13 @@ static int test_seeds(const harness_driver *driver)
 
 int harness_main(int argc, char **argv, const harness_driver *driver)
 {
+    const char *wrong = wrong_number(driver);
     int status;
 
     if (!are_options(argc, argv))
         return 2;
-    if (!is_driver(driver)) {
-        fprintf(stderr, "%s: a number of the driver is outside its range in harness.h\n", argv[0]);
+    if (wrong != NULL) {
+        fprintf(stderr, "%s: the driver's %s\n", argv[0], wrong);
         return 2;
     }
     if (options.wave != NULL && !open_wave(options.wave, driver)) {

@@ -32,10 +32,12 @@ uint32_t harness_now(void);
 
 /* ---- a driver ---- */
 
-/* The most copies at a time, the longest copy, and the ticks between two calls of handle_timer. */
-enum { HARNESS_MOST_COPIES = 8, HARNESS_MOST_BYTES = 10000, HARNESS_TIMER = 50 };
+/* The most copies at a time, the longest copy, the ticks between two calls of handle_timer, and how many sizes of its
+ * own a driver names. */
+enum { HARNESS_MOST_COPIES = 8, HARNESS_MOST_BYTES = 1048576, HARNESS_TIMER = 50, HARNESS_SIZES = 8 };
 
-/* A driver under test. The test calls its functions one after another, in one thread: no interrupt comes within one. */
+/* A driver under test. The test calls its functions one after another, in one thread: no interrupt comes within one. An
+ * initializer that leaves out the last members sets them to 0, which asks for nothing. */
 typedef struct harness_driver {
     /* The chip: channels, events, non-secure, bus, lines of the buffer, revision. */
     dma330_device_config chip;
@@ -48,7 +50,8 @@ typedef struct harness_driver {
      * 1 if the driver makes copies of any length and alignment. */
     uint32_t longest, align;
 
-    /* Sets the driver's variables to their first state, and makes the device ready, which has just been reset. */
+    /* Sets the driver's variables to their first state, and makes the device ready. Its channels are stopped, and no
+     * interrupt is enabled, but events may be set, as firmware leaves them. */
     void (*reset)(void);
 
     /* Starts copy n, which isn't busy: `len` bytes from address `src` to `dst`. The two ranges don't overlap, and
@@ -66,6 +69,17 @@ typedef struct harness_driver {
 
     /* Stops copy n, which is busy. It isn't busy afterwards, and nothing more is stored. NULL if the driver can't. */
     void (*stop)(uint32_t n);
+
+    /* Whether the driver takes copies of 0 bytes. */
+    bool takes_empty;
+
+    /* The driver's own sizes, 0 where there is none, such as the bytes that one of its programs copies at most: many
+     * copies have such a length, or a multiple, or a few bytes more or less. Those of all bursts and loops, and each
+     * other power of two, are tried anyway. */
+    uint32_t sizes[HARNESS_SIZES];
+
+    /* A bit for each event that the driver's programs wait for by DMAWFE: none of them is set before `reset`. */
+    uint32_t waits;
 } harness_driver;
 
 /* Tests a driver, and returns the status to exit with: 0 if all is right, 1 if not, 2 for wrong options or a driver

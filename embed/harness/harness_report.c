@@ -1,4 +1,4 @@
-/* How a failure explains itself. */
+/* The report of a failure. */
 #include "harness_inside.h"
 
 #include <stdarg.h>
@@ -10,11 +10,14 @@ bool is_brief, is_silent;
 
 /* ---- names ---- */
 
+/* A bit of FTRD, which no channel's FTR has. */
+enum { DMAGO_ERR = 4 };
+
 static const struct {
     uint32_t offset;
     const char *name;
 } registers[] = {
-    {0x000, "DSR"}, {0x004, "DPC"}, {INTEN, "INTEN"}, {INT_EVENT_RIS, "INT_EVENT_RIS"}, {INTMIS, "INTMIS"},
+    {DSR, "DSR"}, {0x004, "DPC"}, {INTEN, "INTEN"}, {INT_EVENT_RIS, "INT_EVENT_RIS"}, {INTMIS, "INTMIS"},
     {INTCLR, "INTCLR"}, {FSRD, "FSRD"}, {FSRC, "FSRC"}, {FTRD, "FTRD"}, {DBGSTATUS, "DBGSTATUS"}, {DBGCMD, "DBGCMD"},
     {DBGINST0, "DBGINST0"}, {DBGINST1, "DBGINST1"}, {0xE00, "CR0"}, {0xE04, "CR1"}, {0xE08, "CR2"}, {0xE0C, "CR3"},
     {0xE10, "CR4"}, {0xE14, "CRD"}, {0xE80, "WD"}, {0xFE0, "PERIPH_ID_0"}, {0xFE4, "PERIPH_ID_1"},
@@ -59,7 +62,7 @@ const char *names_of_faults(uint32_t ftr, char names[NAMES])
     for (uint32_t bit = 0; bit < 32; bit++)
         if (ftr >> bit & 1) {
             strcat(names, names[0] != '\0' ? " " : "");
-            strcat(names, dma330_ftr_name(bit));
+            strcat(names, bit == DMAGO_ERR ? "DMAGO_ERR" : dma330_ftr_name(bit));
         }
     return names;
 }
@@ -69,16 +72,17 @@ const char *names_of_faults(uint32_t ftr, char names[NAMES])
 static void print_channel(uint32_t channel)
 {
     uint32_t status = look(CSR + 8 * channel), pc = look(CPC + 8 * channel), ftr = look(FTR + 4 * channel);
+    const struct program *it = machine.of_channel[channel];
     char names[NAMES], text[TEXT];
 
     printf("  channel %lu: CSR %s", (unsigned long)channel,
-           dma330_csr_name(machine.killing[channel] > 0 ? (uint32_t)DMA330_CSR_KILLING : status));
-    if ((status & 15) == DMA330_CSR_WAITING_FOR_EVENT)
+           dma330_csr_name(machine.killing[channel] > 0 ? (uint32_t)KILLING : status));
+    if ((status & 15) == WAITING)
         printf(" %lu", (unsigned long)(status >> 4 & 31));
     printf(", FTR %s", names_of_faults(ftr, names));
-    if ((status & 15) != DMA330_CSR_STOPPED)
+    if ((status & 15) != STOPPED && it != NULL)
         printf("\n    CPC 0x%08lX: %s\n    SAR 0x%08lX, DAR 0x%08lX, CCR 0x%08lX", (unsigned long)pc,
-               text_of_instruction(channel, pc, text), (unsigned long)look(SAR + 32 * channel),
+               text_of_instruction(it, pc - it->addr, text), (unsigned long)look(SAR + 32 * channel),
                (unsigned long)look(DAR + 32 * channel), (unsigned long)look(CCR + 32 * channel));
     printf("\n");
 }
@@ -95,36 +99,70 @@ static void print_registers(void)
     printf("%s\n", machine.is_handling ? "; the handler runs" : "");
 }
 
-/* Prints the last accesses, the oldest first. */
+static void print_access(const struct access *it)
+{
+    char name[NAME];
+
+    printf("    tick %lu: %s %s 0x%08lX", (unsigned long)it->tick, it->is_write ? "write" : "read ",
+           name_of_register(it->offset, name), (unsigned long)it->value);
+    if (it->period > 1)
+        printf("\n      these %lu", (unsigned long)it->period);
+    if (it->again > 0)
+        printf(", %lu times up to tick %lu", (unsigned long)it->again + 1, (unsigned long)it->last);
+    printf("\n");
+}
+
+/* Prints the last accesses, the oldest first. Those that were repeated are there once. */
 static void print_accesses(void)
 {
     const uint32_t most = LOGGED, count = machine.accesses < most ? machine.accesses : most;
-    char name[NAME];
 
     printf("  the last accesses to registers:\n");
-    for (uint32_t n = machine.accesses - count; n != machine.accesses; n++) {
-        const struct access *it = &machine.last[n % LOGGED];
-        printf("    tick %lu: %s %s 0x%08lX\n", (unsigned long)it->tick, it->is_write ? "write" : "read ",
-               name_of_register(it->offset, name), (unsigned long)it->value);
-    }
+    for (uint32_t n = machine.accesses - count; n != machine.accesses; n++)
+        print_access(&machine.last[n % ROOM]);
+    for (uint32_t n = 0; n < machine.waiting; n++)
+        print_access(&machine.begun[n]);
 }
 
-/* Prints the run, and the copies that run. */
-static void print_copies(void)
+/* Prints a program of copy n: its channel, what it did, and its instructions. */
+static void print_work(const struct program *it, size_t n)
 {
-    printf("  in the run with %s\n", machine.run);
-    for (uint32_t n = 0; n < HARNESS_MOST_COPIES; n++) {
-        const struct copy *it = &machine.copies[n];
-        if (it->runs)
-            printf("  copy %lu, number %lu of the run: %lu bytes from 0x%08lX to 0x%08lX, started at tick %lu\n",
-                   (unsigned long)n, (unsigned long)it->number, (unsigned long)it->len, (unsigned long)it->src,
-                   (unsigned long)it->dst, (unsigned long)it->started);
+    static const char *const ends[] = {"not ended", "ended", "failed", "killed"};
+    const struct share *share = &it->shares[n];
+
+    printf("    a program on channel %lu, at 0x%08lX, started at tick %lu, %s", (unsigned long)it->channel,
+           (unsigned long)it->addr, (unsigned long)it->started, ends[it->end]);
+    if (it->end != RUNS)
+        printf(" at tick %lu", (unsigned long)it->ended);
+    if (it->is_explained)
+        printf(": has stored %lu of its %lu bytes\n", (unsigned long)share->stored, (unsigned long)share->bytes);
+    else
+        printf(": has stored %lu bytes, unexplained: %s\n", (unsigned long)share->stored, dma330_cause_name(it->cause));
+    print_program(it);
+}
+
+/* Prints a copy; the one that the failure is about with its programs, the last one first. */
+static void print_copy(const struct copy *it)
+{
+    enum { MOST = 3 };
+    size_t n = (size_t)(it - machine.copies);
+    const struct program *program = last_program(it, machine.started + 1);
+
+    printf("  copy %lu, number %lu of the run: %lu bytes from 0x%08lX to 0x%08lX, started at tick %lu\n",
+           (unsigned long)n, (unsigned long)it->number, (unsigned long)it->len, (unsigned long)it->src,
+           (unsigned long)it->dst, (unsigned long)it->started);
+    for (int k = 0; it == machine.about && program != NULL && k < MOST; k++) {
+        print_work(program, n);
+        program = last_program(it, program->serial);
     }
 }
 
 static void print_machine(void)
 {
-    print_copies();
+    printf("  in the run with %s\n", machine.run);
+    for (int n = 0; n < HARNESS_MOST_COPIES; n++)
+        if (machine.copies[n].runs || &machine.copies[n] == machine.about)
+            print_copy(&machine.copies[n]);
     for (uint32_t channel = 0; channel < machine.driver->chip.channels; channel++)
         print_channel(channel);
     print_registers();
@@ -149,6 +187,7 @@ void fail(const char *format, ...)
         print_machine();
     }
     is_failing = false;
+    machine.has_failed = true;
     longjmp(failing, 1);
 }
 

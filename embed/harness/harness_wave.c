@@ -50,8 +50,6 @@ bool open_wave(const char *path, const harness_driver *driver)
 /* Returns the kit's signal number n. `access` is 1 for a read and 2 for a write. */
 static uint32_t own(int n)
 {
-    const struct access *last = &machine.last[(machine.accesses - 1) % LOGGED];
-
     switch (n) {
     case 0:
         return machine.trouble | (machine.lost != 0 ? 1u * LOST : 0u);
@@ -62,11 +60,11 @@ static uint32_t own(int n)
     case 3:
         return machine.debug_busy > 0;
     case 4:
-        return machine.is_access ? 1u + last->is_write : 0;
+        return machine.is_access ? 1u + machine.now.is_write : 0;
     case 5:
-        return machine.is_access ? last->offset : 0;
+        return machine.is_access ? machine.now.offset : 0;
     default:
-        return machine.is_access ? last->value : 0;
+        return machine.is_access ? machine.now.value : 0;
     }
 }
 

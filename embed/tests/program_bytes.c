@@ -118,6 +118,8 @@ static void words(void)
     check(DMA330_DBGINST0_GO(5) == 0x05A00000 && DMA330_DBGINST0_GO_NONSECURE(5) == 0x05A20000, "DMAGO", 0);
     check(DMA330_DBGINST0_KILL(5) == 0x00010501 && DMA330_DBGINST0_KILL_MANAGER == 0x00010000, "DMAKILL", 0);
     check(DMA330_DBGINST0_SEV(31) == 0xF8340000, "DMASEV", 0);
+    check(sizeof DMA330_CCR(16, 16, 1, 1, 1, 0) == 4 && sizeof DMA330_CCR_DST_CACHE(7) == 4, "control words' type", 0);
+    check(sizeof DMA330_DBGINST0_GO(5) == 4 && sizeof DMA330_DBGINST0_KILL(5) == 4, "DBGINST0's type", 0);
 }
 
 int main(void)
