@@ -3,9 +3,10 @@
 #
 # FOLDER is that of build.sh, the current one if none is given; its path has no spaces or colons. The guests are in
 # guests/; the random one runs with the seeds 1 to N, 4 if none is given, on qemu-stock only with seed 1. A run fails if
-# QEMU crashes or runs for more than a minute, if a check of the guest fails, or if the guest finds that DMA reaches a
-# register. Prints a line for each run, and last the numbers of those on qemu-dma330 that passed and failed. The status
-# is 0 if none failed. Runs on qemu-stock are only reported. The consoles are in FOLDER/attack/.
+# QEMU crashes, takes a minute of processor time or ten minutes, if a check of the guest fails, or if the guest finds
+# that DMA reaches a register. Prints a line for each run, and at the end how many of those on qemu-dma330 passed and
+# failed. The status is 0 if none failed. Runs on qemu-stock are only reported, and end after a minute. The consoles are
+# in FOLDER/attack/.
 set -eu
 here=$(cd "$(dirname "$0")" && pwd)
 # shellcheck source=common.sh
@@ -28,10 +29,14 @@ esac
 enter "${1:-.}"
 mkdir -p attack
 
-# guest NAME SOURCE FLAG..: builds attack/NAME.elf
+# guest NAME SOURCE FLAG..: builds attack/NAME.elf, for the machine that run gives a guest of this name
 guest() {
     name=$1 source=$here/guests/$2
     shift 2
+    case $name in
+        exynos*) set -- "$@" -DEXYNOS=1 -Wl,--defsym,ram=0x40000000 ;;
+        *) set -- "$@" -DEXYNOS=0 -Wl,--defsym,ram=0 ;;
+    esac
     arm-linux-gnueabihf-gcc -marm -mcpu=cortex-a9 -mfpu=vfpv3-d16 -O1 -ffreestanding -fno-pic -no-pie -static \
         -nostdlib -nostartfiles -Wall -Wextra -Werror -Wno-array-bounds \
         -Wl,-T,"$here/guests/guest.lds" -Wl,--build-id=none -Wl,--no-warn-rwx-segments "$@" \
@@ -42,7 +47,7 @@ guest() {
 verdict() {
     case $1 in
         0) ;;
-        124 | 137) echo "QEMU runs for more than a minute" && return ;;
+        124 | 137) echo "QEMU runs for too long" && return ;;
         *) echo "QEMU ends with status $1" && return ;;
     esac
     grep -q '^guest: ends with ' "$2" || { echo "the guest ends early" && return; }
@@ -52,12 +57,17 @@ verdict() {
 
 # run EMULATOR GUEST OPTION..: runs a guest, and prints and counts the result
 run() {
-    emulator=$1 name=$2 console=attack/$1-$2.log status=0
+    emulator=$1 name=$2 console=attack/$1-$2.log status=0 most=600
     shift 2
+    [ "$emulator" = qemu-dma330 ] || most=60
     rm -f "$console"
+    case $name in
+        exynos*) set -- -M smdkc210 -smp 2 "$@" ;;
+        *) set -- -M xilinx-zynq-a9 -m 256M "$@" ;;
+    esac
     # (-serial null is the second port)
-    timeout -k 5 60 "./$emulator" -M xilinx-zynq-a9 -m 256M -display none -no-reboot -monitor none \
-        -serial "file:$console" -serial null -kernel "attack/$name.elf" "$@" </dev/null >"$console.qemu" 2>&1 ||
+    prlimit --cpu=60 timeout -k 5 $most "./$emulator" -display none -no-reboot -monitor none -serial "file:$console" \
+        -serial null -kernel "attack/$name.elf" "$@" </dev/null >"$console.qemu" 2>&1 ||
         status=$?
     why=$(touch "$console" && tr -d '\r' <"$console" >"$console.text" && mv "$console.text" "$console" &&
         verdict "$status" "$console")
@@ -72,6 +82,8 @@ run() {
 guest stores stores.c
 guest latency latency.c
 guest fixed latency.c -DFIXED=1
+guest exynos latency.c
+guest exynos-fixed latency.c -DFIXED=1
 guest clock clock.c -DSTEP_NS=100
 guest real-clock clock.c -DSTEP_NS=1000 -DEXACT=0
 guest fuzz-1 fuzz.c -DSEED=1
@@ -85,10 +97,10 @@ done
 
 passed=0
 failed=0
-for it in stores latency fuzz-1; do
+for it in stores latency exynos fuzz-1; do
     run qemu-stock "$it"
 done
-for it in stores latency fixed $fuzz; do
+for it in stores latency fixed exynos exynos-fixed $fuzz; do
     run qemu-dma330 "$it"
 done
 run qemu-dma330 clock -icount shift=0,sleep=off -global pl330.step-ns=100

@@ -93,9 +93,10 @@ if ! [ -f qemu-stock ]; then
         cp "$dma/$it.stock" "$dma/$it"
     done
     mkdir -p build
-    (cd build && ../source/configure --target-list=arm-softmmu --without-default-features --without-default-devices \
-        --with-devices-arm=dma330 --enable-system --enable-tcg --enable-fdt=system --disable-debug-info \
-        --disable-install-blobs)
+    # (Debian's meson belongs to Debian's python, and another python may be first in PATH)
+    (cd build && PATH=/usr/bin:$PATH ../source/configure --target-list=arm-softmmu --without-default-features \
+        --without-default-devices --with-devices-arm=dma330 --enable-system --enable-tcg --enable-fdt=system \
+        --disable-debug-info --disable-install-blobs)
     build qemu-stock
 fi
 

@@ -15,23 +15,30 @@
 #include "qapi/error.h"
 #include "qemu/error-report.h"
 #include "qemu/log.h"
+#include "qemu/rcu.h"
 #include "qemu/timer.h"
 #include "trace.h"
 #include "dma330.h"
+#if QEMU_VERSION_MAJOR < 10
+#include "sysemu/cpu-timers.h"
+#else
+#include "system/cpu-timers.h"
+#endif
 
 #define TYPE_PL330 "pl330"
 OBJECT_DECLARE_SIMPLE_TYPE(PL330State, PL330)
 
+/* The most steps of a turn */
+#define PL330_STEPS 1024
+/* .. if step-ns isn't 0; a slice is one turn of each channel then */
+#define PL330_TIMED_STEPS 16
+
 /*
- * If step-ns is 0, channels take turns of this many steps in a slice of this
+ * Without -icount, the controllers of a machine together take slices for this
  * time, and then pause, so that a processor can take the big lock.
  */
-#define PL330_STEPS 1024
 #define PL330_SLICE_NS 200000
 #define PL330_PAUSE_NS 50000
-
-/* If step-ns isn't 0, a slice lets each channel take at most this many steps. */
-#define PL330_TIMED_STEPS 16
 
 /* The bits 3:0 of a thread's status register */
 #define PL330_STOPPED 0
@@ -44,6 +51,12 @@ typedef struct PL330Lent {
     dma330_region regions[DMA330_MAX_REGIONS];
     MemoryRegion *owners[DMA330_MAX_REGIONS];
 } PL330Lent;
+
+/* The address space is used until RCU is done with it, after the device. */
+typedef struct PL330Space {
+    struct rcu_head rcu;
+    AddressSpace as;
+} PL330Space;
 
 struct PL330State {
     SysBusDevice parent_obj;
@@ -62,10 +75,16 @@ struct PL330State {
     uint8_t save[DMA330_MAX_DEVICE_SAVE];
 
     MemoryRegion *memory;
-    AddressSpace as;
+    PL330Space *space;
     MemoryListener listener;
-    PL330Lent lent, next;
+    PL330Lent lent, next, roms;
 };
+
+/*
+ * The first slice of any controller since the last pause began, and the last
+ * slice ended, at these times of the virtual clock.
+ */
+static int64_t pl330_began, pl330_ended;
 
 static uint32_t pl330_register(PL330State *s, uint32_t offset)
 {
@@ -133,10 +152,15 @@ static uint32_t pl330_running(PL330State *s)
     return MAX(running, 1);
 }
 
+/* Returns the pause that step-ns asks for if this many channels run. */
+static int64_t pl330_steps_ns(PL330State *s, uint32_t channels)
+{
+    return (int64_t)s->step_ns * PL330_TIMED_STEPS * channels;
+}
+
 /*
  * Arms the timer for the next slice, unless it is armed already, or stops it if
- * no channel can step. If step-ns isn't 0, it takes the place of the pause, for
- * each step that the slice may have.
+ * no channel can step. If step-ns isn't 0, it takes the place of the pause.
  */
 static void pl330_arm(PL330State *s, int64_t pause)
 {
@@ -147,7 +171,7 @@ static void pl330_arm(PL330State *s, int64_t pause)
         timer_del(s->timer);
     } else if (!timer_pending(s->timer)) {
         if (s->step_ns) {
-            pause = (int64_t)s->step_ns * PL330_TIMED_STEPS * pl330_running(s);
+            pause = pl330_steps_ns(s, pl330_running(s));
         }
         timer_mod(s->timer, qemu_clock_get_ns(QEMU_CLOCK_VIRTUAL) + pause);
     }
@@ -210,19 +234,19 @@ static void pl330_mark_written(PL330State *s, dma330_segment written)
             void *p;
 
             len = stop - addr;
-            p = address_space_map(&s->as, addr, &len, true,
+            p = address_space_map(&s->space->as, addr, &len, true,
                                   MEMTXATTRS_UNSPECIFIED);
             if (!p) {
                 break;
             }
-            address_space_unmap(&s->as, p, len, true, len);
+            address_space_unmap(&s->space->as, p, len, true, len);
         }
     }
 }
 
 /*
- * Lets the next channel take a turn, or one for each row of a rectangle. Returns
- * whether any can step after it.
+ * Lets the next channel take a turn, or one for each row of a rectangle.
+ * Returns whether any can step after it.
  */
 static bool pl330_turn(PL330State *s)
 {
@@ -247,24 +271,44 @@ static bool pl330_turn(PL330State *s)
 }
 
 /*
+ * Returns whether a slice may begin now. If the controllers have to pause, arms
+ * the timer for the end of the pause: those that wait for it take turns then.
+ */
+static bool pl330_may_begin(PL330State *s, int64_t now)
+{
+    /* (a snapshot that is loaded sets the clock back) */
+    if (now < pl330_ended || now - pl330_ended >= PL330_PAUSE_NS) {
+        pl330_began = now;
+    }
+    if (icount_enabled() || now - pl330_began < PL330_SLICE_NS) {
+        return true;
+    }
+    timer_mod(s->timer, pl330_ended + PL330_PAUSE_NS);
+    return false;
+}
+
+/*
  * Runs the channels for a slice. A timer of the virtual clock calls it: a
  * bottom half would go on while the machine is stopped. With -icount, and if
- * step-ns isn't 0, each channel is called once, whatever time that takes: the
- * virtual clock stops meanwhile, and a replay does the same.
+ * step-ns isn't 0, each channel is called once, whatever time that takes: with
+ * -icount the virtual clock stops meanwhile, and a replay does the same.
  */
 static void pl330_slice(void *opaque)
 {
     PL330State *s = opaque;
-    int64_t began = qemu_clock_get_ns(QEMU_CLOCK_VIRTUAL), took;
     uint32_t turns = 0;
     bool can_step, is_over;
 
+    if (!pl330_may_begin(s, qemu_clock_get_ns(QEMU_CLOCK_VIRTUAL))) {
+        return;
+    }
     do {
         can_step = pl330_turn(s);
         turns++;
-        took = qemu_clock_get_ns(QEMU_CLOCK_VIRTUAL) - began;
-        is_over = s->step_ns || took == 0 ? turns >= s->config.channels
-                                          : took >= PL330_SLICE_NS;
+        pl330_ended = qemu_clock_get_ns(QEMU_CLOCK_VIRTUAL);
+        is_over = s->step_ns || icount_enabled()
+                  ? turns >= s->config.channels
+                  : pl330_ended - pl330_began >= PL330_SLICE_NS;
     } while (can_step && !is_over);
     if (!can_step) {
         s->next_channel = 0; /* (so that a replay needn't know it) */
@@ -275,46 +319,62 @@ static void pl330_slice(void *opaque)
 
 static void pl330_begin(MemoryListener *l)
 {
-    container_of(l, PL330State, listener)->next.count = 0;
+    PL330State *s = container_of(l, PL330State, listener);
+
+    s->next.count = 0;
+    s->roms.count = 0;
 }
 
-/* Lends the bytes of a region that aren't lent at a lower address already. */
+/* Puts a region where its address belongs, unless there is no room. */
+static void pl330_insert(PL330Lent *to, MemoryRegion *mr, dma330_region it)
+{
+    size_t n = to->count;
+
+    if (n == DMA330_MAX_REGIONS) {
+        warn_report_once("pl330: no DMA to memory from 0x%08" PRIx32 " on",
+                         it.addr);
+        return;
+    }
+    for (; n > 0 && to->regions[n - 1].addr > it.addr; n--) {
+        to->regions[n] = to->regions[n - 1];
+        to->owners[n] = to->owners[n - 1];
+    }
+    to->regions[n] = it;
+    to->owners[n] = mr;
+    to->count++;
+}
+
+/* Lends the bytes of a region that aren't lent already. */
 static void pl330_lend(PL330Lent *lent, MemoryRegion *mr, dma330_region it)
 {
     while (it.len > 0) {
         uintptr_t at = (uintptr_t)it.bytes;
-        size_t len = it.len;
+        dma330_region part = it;
         bool is_lent = false;
 
         for (size_t n = 0; n < lent->count; n++) {
             uintptr_t from = (uintptr_t)lent->regions[n].bytes;
 
             if (from > at) {
-                len = MIN(len, from - at);
+                part.len = MIN(part.len, from - at);
             } else if (at - from < lent->regions[n].len) {
-                len = MIN(len, lent->regions[n].len - (at - from));
+                part.len = MIN(part.len, lent->regions[n].len - (at - from));
                 is_lent = true;
             }
         }
-        if (!is_lent && lent->count == DMA330_MAX_REGIONS) {
-            warn_report_once("pl330: no DMA to memory from 0x%08" PRIx32 " on",
-                             it.addr);
-            return;
-        }
         if (!is_lent) {
-            memory_region_ref(mr);
-            trace_dma330_lend(it.addr, len, it.read_only);
-            lent->owners[lent->count] = mr;
-            lent->regions[lent->count] = it;
-            lent->regions[lent->count++].len = len;
+            pl330_insert(lent, mr, part);
         }
-        it.addr += len;
-        it.bytes += len;
-        it.len -= len;
+        it.addr += part.len;
+        it.bytes += part.len;
+        it.len -= part.len;
     }
 }
 
-/* Lends RAM and ROM below 4 GiB. Sections come by rising address. */
+/*
+ * Lends RAM below 4 GiB; commit lends ROM, so that RAM at two addresses can be
+ * written if it can be at one. Sections come by rising address.
+ */
 static void pl330_add(MemoryListener *l, MemoryRegionSection *section)
 {
     PL330State *s = container_of(l, PL330State, listener);
@@ -330,14 +390,26 @@ static void pl330_add(MemoryListener *l, MemoryRegionSection *section)
     it.bytes = memory_region_get_ram_ptr(mr) + section->offset_within_region;
     it.len = MIN(int128_get64(section->size), UINT32_MAX - addr + 1);
     it.read_only = section->readonly || !is_ram;
-    pl330_lend(&s->next, mr, it);
+    if (it.read_only) {
+        pl330_insert(&s->roms, mr, it);
+    } else {
+        pl330_lend(&s->next, mr, it);
+    }
 }
 
-/* Takes the regions lent since begin, and drops the references to the old. */
+/* Takes the regions since begin, and drops the references to the old. */
 static void pl330_commit(MemoryListener *l)
 {
     PL330State *s = container_of(l, PL330State, listener);
 
+    for (size_t n = 0; n < s->roms.count; n++) {
+        pl330_lend(&s->next, s->roms.owners[n], s->roms.regions[n]);
+    }
+    for (size_t n = 0; n < s->next.count; n++) {
+        memory_region_ref(s->next.owners[n]);
+        trace_dma330_lend(s->next.regions[n].addr, s->next.regions[n].len,
+                          s->next.regions[n].read_only);
+    }
     for (size_t n = 0; n < s->lent.count; n++) {
         memory_region_unref(s->lent.owners[n]);
     }
@@ -356,12 +428,15 @@ static int pl330_pre_save(void *opaque)
 }
 
 /*
- * Sets no line: what the lines lead to migrates with its own state, and the
- * timer came with this one.
+ * Sets no line: what the lines lead to migrates with its own state. The timer
+ * came with this one, and is armed anew if it lies beyond the longest pause, as
+ * it may in a damaged stream.
  */
 static int pl330_post_load(void *opaque, int version_id)
 {
     PL330State *s = opaque;
+    uint64_t latest = qemu_clock_get_ns(QEMU_CLOCK_VIRTUAL) +
+        MAX(PL330_PAUSE_NS, pl330_steps_ns(s, s->config.channels));
 
     if (s->save_len > sizeof(s->save) ||
         dma330_device_restore(&s->device, s->save, s->save_len) != DMA330_OK) {
@@ -371,9 +446,15 @@ static int pl330_post_load(void *opaque, int version_id)
     for (int n = -1; n < (int)s->config.channels; n++) {
         s->status[1 + n] = pl330_status(s, n);
     }
+    if (timer_expire_time_ns(s->timer) > latest) {
+        timer_del(s->timer);
+    }
     pl330_arm(s, 1);
     return 0;
 }
+
+/* A save of another size needs another version. */
+QEMU_BUILD_BUG_ON(DMA330_MAX_DEVICE_SAVE != 68204);
 
 static const VMStateDescription vmstate_pl330 = {
     .name = "dma330",
@@ -448,7 +529,8 @@ static void pl330_realize(DeviceState *dev, Error **errp)
     }
     qdev_init_gpio_in(dev, pl330_request, 32);
     s->timer = timer_new_ns(QEMU_CLOCK_VIRTUAL, pl330_slice, s);
-    address_space_init(&s->as, s->memory, "pl330");
+    s->space = g_new0(PL330Space, 1);
+    address_space_init(&s->space->as, s->memory, "pl330");
     s->listener = (MemoryListener) {
         .name = "pl330",
         .begin = pl330_begin,
@@ -456,7 +538,7 @@ static void pl330_realize(DeviceState *dev, Error **errp)
         .region_nop = pl330_add,
         .commit = pl330_commit,
     };
-    memory_listener_register(&s->listener, &s->as);
+    memory_listener_register(&s->listener, &s->space->as);
 }
 
 static void pl330_unrealize(DeviceState *dev)
@@ -466,7 +548,9 @@ static void pl330_unrealize(DeviceState *dev)
     timer_free(s->timer);
     /* (begins and commits without regions, which drops all references) */
     memory_listener_unregister(&s->listener);
-    address_space_destroy(&s->as);
+    /* (RCU calls in order, so it frees what it has destroyed) */
+    address_space_destroy(&s->space->as);
+    g_free_rcu(s->space, rcu);
     dma330_device_close(&s->device);
 }
 

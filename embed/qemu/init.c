@@ -1,12 +1,16 @@
 /* The guest's only program: runs Linux's dmatest twice, prints how long it took, and ends the machine: switches it off
  * if the kernel's command line has off=1, else resets it. The command line has how many copies each test makes on a
  * channel: random=COPIES long=COPIES. While a test runs, it prints a line every five seconds, so that a silent console
- * means that the machine hangs. All its lines go through the kernel's log: a line that goes straight to the console
- * could come between the parts of one of the kernel's. */
+ * means that the machine hangs. Then it uses the SPI buses that the machine has. All its lines go through the kernel's
+ * log: a line that goes straight to the console could come between the parts of one of the kernel's. */
+#include <errno.h>
 #include <fcntl.h>
+#include <linux/spi/spidev.h>
+#include <stdint.h>
 #include <stdio.h>
 #include <stdlib.h>
 #include <string.h>
+#include <sys/ioctl.h>
 #include <sys/mount.h>
 #include <sys/reboot.h>
 #include <time.h>
@@ -87,6 +91,27 @@ static void test(const char *name, const char *bytes, int whole, const char *cha
     printf("init: %s took %.2f s\n", name, seconds() - began);
 }
 
+/* Moves bytes over an SPI bus, and prints how many Linux says were moved. */
+static void use_spi(const char *name)
+{
+    static uint8_t sent[1024], received[1024];
+    struct spi_ioc_transfer it = {
+        .tx_buf = (uintptr_t)sent, .rx_buf = (uintptr_t)received, .len = sizeof sent, .speed_hz = 1000000};
+    char path[20];
+    int file, moved;
+
+    snprintf(path, sizeof path, "/dev/%s", name);
+    file = open(path, O_RDWR);
+    if (file < 0)
+        return;
+    moved = ioctl(file, SPI_IOC_MESSAGE(1), &it);
+    if (moved < 0)
+        printf("init: %s fails: %s\n", name, strerror(errno));
+    else
+        printf("init: %s moves %d bytes\n", name, moved);
+    close(file);
+}
+
 int main(void)
 {
     if (!freopen("/dev/kmsg", "w", stdout))
@@ -96,6 +121,8 @@ int main(void)
     printf("init: %ld processors\n", sysconf(_SC_NPROCESSORS_ONLN));
     test("random", "16384", 0, "0");
     test("long", "1048576", 1, "1");
+    use_spi("spi0");
+    use_spi("spi2");
     printf("init: ends\n");
     reboot(getenv("off") ? RB_POWER_OFF : RB_AUTOBOOT);
     return 1;

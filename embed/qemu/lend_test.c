@@ -1,6 +1,7 @@
 /* Tests which regions dma330.c lends: a part of RAM that the guest sees at two addresses is lent at the lower one only,
- * the rest of both sections is lent, and each reference to an owner that was taken is dropped. ../check.sh compiles it
- * with stubs in place of QEMU's headers; the functions that it doesn't define are never called. */
+ * or at the one where it can be written; the rest of both sections is lent, and each reference to an owner that was
+ * taken is dropped. Tests also when a slice may begin. ../check.sh compiles it with stubs in place of QEMU's headers;
+ * the functions that it doesn't define are never called. */
 #include "dma330.c"
 #include <stdio.h>
 
@@ -50,6 +51,19 @@ void trace_dma330_lend(uint32_t addr, uint32_t len, uint32_t read_only)
 {
 }
 
+static int counts; /* instructions, as with -icount */
+static int64_t armed;
+
+int icount_enabled(void)
+{
+    return counts;
+}
+
+void timer_mod(QEMUTimer *timer, int64_t at)
+{
+    armed = at;
+}
+
 static int failed;
 
 /* Begins, adds these sections, commits, and compares what is lent then: address, offset in RAM, length, read-only. */
@@ -76,6 +90,32 @@ static void test(const char *name, MemoryRegionSection *sections, size_t count, 
     }
 }
 
+/* A slice that comes at this time must begin, and end at `until`, or be put off to `until`. */
+static void test_slice(const char *name, int64_t at, bool begins, int64_t until)
+{
+    static PL330State s;
+
+    armed = 0;
+    if (pl330_may_begin(&s, at) != begins || (!begins && armed != until)) {
+        printf("%s: a slice at %lld begins, or is put off to %lld\n", name, (long long)at, (long long)armed);
+        failed = 1;
+    }
+    if (begins)
+        pl330_ended = until;
+}
+
+static void test_pauses(void)
+{
+    test_slice("first", 1000000, true, 1100000);
+    test_slice("another's in the rest of the time", 1110000, true, 1210000);
+    test_slice("another's after the time", 1211000, false, 1260000);
+    test_slice("the same after the pause", 1260000, true, 1460000);
+    test_slice("the first's before the pause", 1509999, false, 1510000);
+    test_slice("after the clock was set back", 5000, true, 300000);
+    counts = 1;
+    test_slice("with -icount", 300001, true, 400000);
+}
+
 int main(void)
 {
     static MemoryRegion mem = {0}, rom = {1}, regs = {2};
@@ -83,8 +123,10 @@ int main(void)
                                    {0x100, &regs, 0, 0x9000, false}, {0x80, &rom, 0x200, 0xA000, false}};
     MemoryRegionSection same[] = {{0x100, &mem, 0, 0x1000, false}, {0x100, &mem, 0, 0x8000, false}};
     MemoryRegionSection tail[] = {{0x100, &mem, 0, 0x1000, false}, {0x100, &mem, 0x80, 0x8000, false}};
-    MemoryRegionSection around[] = {{0x40, &mem, 0x80, 0x1000, false}, {0x40, &mem, 0x140, 0x2000, true},
+    MemoryRegionSection around[] = {{0x40, &mem, 0x80, 0x1000, false}, {0x40, &mem, 0x140, 0x2000, false},
                                     {0x200, &mem, 0, 0x8000, false}};
+    MemoryRegionSection below[] = {{0x100, &mem, 0, 0x1000, true}, {0x40, &mem, 0x80, 0x8000, false}};
+    MemoryRegionSection above[] = {{0x40, &mem, 0x80, 0x1000, false}, {0x100, &mem, 0, 0x8000, true}};
     MemoryRegionSection top[] = {{0x1000, &mem, 0, 0xFFFFF000, false}, {0x1000, &mem, 0, 0x100000000, false}};
     MemoryRegionSection many[DMA330_MAX_REGIONS + 8];
     uint32_t many_wanted[DMA330_MAX_REGIONS][4];
@@ -99,11 +141,16 @@ int main(void)
     test("the same twice", same, 2, (const uint32_t[][4]){{0x1000, 0, 0x100, 0}}, 1);
     test("a tail", tail, 2, (const uint32_t[][4]){{0x1000, 0, 0x100, 0}, {0x8080, 0x100, 0x80, 0}}, 2);
     test("around two", around, 3,
-         (const uint32_t[][4]){{0x1000, 0x80, 0x40, 0}, {0x2000, 0x140, 0x40, 1}, {0x8000, 0, 0x80, 0},
+         (const uint32_t[][4]){{0x1000, 0x80, 0x40, 0}, {0x2000, 0x140, 0x40, 0}, {0x8000, 0, 0x80, 0},
                                {0x80C0, 0xC0, 0x80, 0}, {0x8180, 0x180, 0x80, 0}}, 5);
+    test("read-only below", below, 2,
+         (const uint32_t[][4]){{0x1000, 0, 0x80, 1}, {0x10C0, 0xC0, 0x40, 1}, {0x8000, 0x80, 0x40, 0}}, 3);
+    test("read-only above", above, 2,
+         (const uint32_t[][4]){{0x1000, 0x80, 0x40, 0}, {0x8000, 0, 0x80, 1}, {0x80C0, 0xC0, 0x40, 1}}, 3);
     test("the top", top, 2, (const uint32_t[][4]){{0xFFFFF000, 0, 0x1000, 0}}, 1);
     test("more than fit", many, DMA330_MAX_REGIONS + 8, (const uint32_t(*)[4])many_wanted, DMA330_MAX_REGIONS);
     test("none", NULL, 0, NULL, 0);
+    test_pauses();
     printf(failed ? "failed\n" : "passed\n");
     return failed;
 }

@@ -14,6 +14,7 @@
 #define MIN(a, b) ((a) < (b) ? (a) : (b))
 #define MAX(a, b) ((a) > (b) ? (a) : (b))
 #define container_of(at, type, member) ((type *)((char *)(at) - offsetof(type, member)))
+#define QEMU_BUILD_BUG_ON(holds) _Static_assert(!(holds), #holds)
 #define extract32(value, start, length) ((value) >> (start) & ((1u << (length)) - 1))
 
 typedef uint64_t hwaddr, Int128;
@@ -22,6 +23,7 @@ typedef struct Error Error;
 typedef struct QEMUTimer QEMUTimer;
 typedef struct AddressSpace { int it; } AddressSpace;
 typedef struct MemoryRegion { int it; } MemoryRegion;
+struct rcu_head { int it; };
 typedef struct SysBusDevice { int it; } SysBusDevice;
 typedef struct DeviceState { SysBusDevice it; } DeviceState;
 typedef struct Object Object;
@@ -94,6 +96,8 @@ enum { DEVICE_LITTLE_ENDIAN, QEMU_CLOCK_VIRTUAL, LOG_GUEST_ERROR, LOG_UNIMP };
 #define DEVICE_CLASS(klass) ((DeviceClass *)(klass))
 #define RESETTABLE_CLASS(klass) ((ResettableClass *)(klass))
 #define OBJECT(it) ((void *)(it))
+#define g_new0(Type, count) ((Type *)calloc(count, sizeof(Type)))
+#define g_free_rcu(at, field) free_later(&(at)->field)
 #define VMSTATE_UINT64(field, Type) {offsetof(Type, field), sizeof ((Type *)0)->field}
 #define VMSTATE_BUFFER(field, Type) {offsetof(Type, field), sizeof ((Type *)0)->field}
 #define VMSTATE_TIMER_PTR(field, Type) {offsetof(Type, field), sizeof ((Type *)0)->field}
@@ -117,7 +121,10 @@ QEMUTimer *timer_new_ns(int clock, void (*call)(void *opaque), void *opaque);
 void timer_mod(QEMUTimer *timer, int64_t at);
 void timer_del(QEMUTimer *timer);
 void timer_free(QEMUTimer *timer);
+void free_later(struct rcu_head *head);
 bool timer_pending(QEMUTimer *timer);
+uint64_t timer_expire_time_ns(QEMUTimer *timer);
+int icount_enabled(void);
 int64_t qemu_clock_get_ns(int clock);
 uint64_t int128_get64(Int128 value);
 bool memory_region_is_ram(MemoryRegion *mr);

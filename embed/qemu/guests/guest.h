@@ -1,5 +1,5 @@
 /* What the guests of this folder share. Each is a program without an operating system for QEMU's machine
- * xilinx-zynq-a9, prints lines to the first serial port, and ends the machine by a reset. */
+ * xilinx-zynq-a9, or with EXYNOS=1 for smdkc210. It prints lines to the first serial port, and ends the machine. */
 #ifndef GUEST_H
 #define GUEST_H
 
@@ -9,8 +9,18 @@
 #define BYTE(address) (*(volatile uint8_t *)(address))
 #define UART 0xE0000000u
 #define SLCR 0xF8000000u
-#define TIMER 0xF8F00200u /* the global timer, 100 ticks a microsecond */
-#define DMA 0xF8003000u
+#if EXYNOS
+#define RAM 0x40000000u
+#define SEND 0x13800020u  /* takes the bytes for the serial port */
+#define TIMER 0x10500200u /* the global timer, 100 ticks a microsecond */
+#define CONTROLLERS {0x12680000, 0x12690000, 0x12850000}
+#else
+#define RAM 0u
+#define SEND (UART + 0x30)
+#define TIMER 0xF8F00200u
+#define CONTROLLERS {0xF8003000}
+#endif
+#define DMA controllers[controller]
 #define INTEN (DMA + 0x20)
 #define FTR(channel) (DMA + 0x40 + 4 * (channel))
 #define CSR(channel) (DMA + 0x100 + 8 * (channel))
@@ -19,27 +29,31 @@
 #define WAITING 4
 #define FAULTING 15
 
-__asm__(".section .text.start\n.global _start\n_start:\n ldr sp, =stack_top\n bl main\n1: b 1b\n.text\n");
+/* All processors begin here; the second one waits for ever. */
+__asm__(".section .text.start\n.global _start\n_start:\n mrc p15, 0, r0, c0, c0, 5\n tst r0, #15\n"
+        "1: wfine\n bne 1b\n ldr sp, =stack_top\n bl main\n2: b 2b\n.text\n");
 
 static uint32_t wrong; /* how many checks failed */
+static const uint32_t controllers[] = CONTROLLERS;
+static uint32_t controller; /* the one that the functions below use */
 
 static inline void print(const char *text)
 {
     while (*text)
-        REG(UART + 0x30) = *text++;
+        REG(SEND) = *text++;
 }
 
 static inline void print_hex(uint32_t value)
 {
     for (int at = 28; at >= 0; at -= 4)
-        REG(UART + 0x30) = "0123456789ABCDEF"[value >> at & 15];
+        REG(SEND) = "0123456789ABCDEF"[value >> at & 15];
 }
 
 static inline void print_number(uint32_t value)
 {
     if (value > 9)
         print_number(value / 10);
-    REG(UART + 0x30) = '0' + value % 10;
+    REG(SEND) = '0' + value % 10;
 }
 
 /* Prints a line and counts it, unless the check holds. */
@@ -55,19 +69,25 @@ static inline void check(int holds, const char *text)
 
 static inline void begin(void)
 {
+#if !EXYNOS
     REG(UART) = 0x14; /* transmit and receive */
+#endif
     REG(TIMER + 8) = 1;
 }
 
 /* Prints the last line, and ends the machine. */
 __attribute__((noreturn)) static inline void end(void)
 {
-    REG(UART) = 0x14;
+    begin();
     print("guest: ends with ");
     print_number(wrong);
     print(" wrong\n");
+#if EXYNOS
+    REG(0x1002330C) = 0; /* switches it off */
+#else
     REG(SLCR + 8) = 0xDF0D;
-    REG(SLCR + 0x200) = 1;
+    REG(SLCR + 0x200) = 1; /* resets it */
+#endif
     for (;;)
         ;
 }

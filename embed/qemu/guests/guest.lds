@@ -1,7 +1,7 @@
-/* Where a guest lies in RAM: at 1 MiB, with 64 KiB of stack. */
+/* Where a guest lies in RAM, which begins at the symbol ram: at 1 MiB, with 64 KiB of stack. */
 ENTRY(_start)
 SECTIONS {
-    . = 0x00100000;
+    . = ram + 0x00100000;
     .text : { *(.text.start) *(.text*) }
     .data : { *(.rodata*) *(.data*) }
     .bss : { *(.bss*) *(COMMON) }

@@ -1,24 +1,35 @@
-/* Eight channels copy 16 MiB each in bursts of 128 bytes, while the processor reads a timer: the longest time between
- * two reads is how long the device keeps it from QEMU's big lock, if the machine has a processor for each of QEMU's
+/* All channels copy 16 MiB each in bursts of 16 beats, while the processor reads a timer: the longest time between two
+ * reads is how long the device keeps it from QEMU's big lock, if the machine has a processor for each of QEMU's
  * threads. It reads as many times without copies. With FIXED=1, each channel stores to one address, which the library
- * does instruction by instruction. */
+ * does instruction by instruction. With EXYNOS=1 there are three controllers, two of them with a bus of 32 bits; with
+ * FIXED=1 too, each channel copies 8 MiB. */
 #include "guest.h"
 
 #ifndef FIXED
 #define FIXED 0
 #endif
-#define SOURCE 0x04000000u
-#define TARGET(channel) (0x06000000u + (channel)*0x01000000u)
-#define PROGRAM(channel) (0x00200000u + (channel)*0x1000u)
+#define MOST_MS 200 /* by which a wait may exceed the longest one without copies, which shows how busy the host is */
+#define CHANNELS (8 * sizeof controllers / sizeof controllers[0])
+#define PARTS (EXYNOS && !FIXED ? 4 : 2) /* of 65,536 bursts */
+#define SOURCE (RAM + 0x04000000u)
+#define TARGET(n) (RAM + 0x06000000u + (n)*0x01000000u)
+#define PROGRAM(n) (RAM + 0x00200000u + (n)*0x1000u)
 
-static void write_program(uint32_t channel)
+/* Uses the controller of one of all channels, and returns the channel's number there. */
+static uint32_t use(uint32_t n)
 {
-    uint8_t *at = (uint8_t *)PROGRAM(channel), *outer, *inner;
+    controller = n / 8;
+    return n % 8;
+}
 
-    at = move(at, CCR, CONTROL(3, 16, 1, !FIXED));
+static void write_program(uint32_t n)
+{
+    uint8_t *at = (uint8_t *)PROGRAM(n), *outer, *inner;
+
+    at = move(at, CCR, CONTROL(EXYNOS ? 2 : 3, 16, 1, !FIXED));
     at = move(at, SAR, SOURCE);
-    at = move(at, DAR_, TARGET(channel));
-    for (int part = 0; part < 2; part++) {
+    at = move(at, DAR_, TARGET(n));
+    for (int part = 0; part < PARTS; part++) {
         outer = at = op2(at, DMALP_0, 255);
         inner = at = op2(at, DMALP_1, 255);
         at = op(op(at, DMALD), DMAST);
@@ -41,19 +52,23 @@ static void read_timer(void)
     last = now;
 }
 
-static void report(const char *what, uint32_t began, uint32_t reads)
+/* Prints the times since `began`, and returns the longest in microseconds. */
+static uint32_t report(const char *what, uint32_t began, uint32_t reads)
 {
+    uint32_t longest = worst / 100;
+
     print("guest: ");
     print(what);
     print_number((last - began) / 100000);
     print(" ms, longest wait ");
-    print_number(worst / 100);
+    print_number(longest);
     print(" us, above 1 ms ");
     print_number(over);
     print(" of ");
     print_number(reads);
     print("\n");
     worst = over = 0;
+    return longest;
 }
 
 /* Returns whether a channel still runs. */
@@ -61,8 +76,10 @@ static int runs(void)
 {
     int found = 0;
 
-    for (uint32_t channel = 0; channel < 8; channel++) {
-        found |= status(channel) != STOPPED && status(channel) != FAULTING;
+    for (uint32_t n = 0; n < CHANNELS; n++) {
+        uint32_t now = status(use(n));
+
+        found |= now != STOPPED && now != FAULTING;
         read_timer();
     }
     return found;
@@ -70,9 +87,11 @@ static int runs(void)
 
 static void check_copies(void)
 {
-    for (uint32_t channel = 0; channel < 8; channel++)
+    for (uint32_t n = 0; n < CHANNELS; n++)
+        check(status(use(n)) == STOPPED, "a channel fails");
+    for (uint32_t n = 0; n < CHANNELS && !FIXED; n++)
         for (uint32_t at = 0; at < 0x01000000; at += 4096)
-            if (REG(TARGET(channel) + at) != at + 1) {
+            if (REG(TARGET(n) + at) != at + 1) {
                 check(0, "the bytes of a copy");
                 return;
             }
@@ -80,32 +99,31 @@ static void check_copies(void)
 
 int main(void)
 {
-    uint32_t began, reads = 0;
+    uint32_t began, longest, reads = 0;
 
     begin();
     for (uint32_t at = 0; at < 0x01000000; at += 4096)
         REG(SOURCE + at) = at + 1;
-    for (uint32_t channel = 0; channel < 8; channel++) {
-        write_program(channel);
+    for (uint32_t n = 0; n < CHANNELS; n++) {
+        write_program(n);
         /* (so that no turn is long because the host makes pages for QEMU) */
         for (uint32_t at = 0; at < 0x01000000; at += 4096)
-            REG(TARGET(channel) + at) = 0;
+            REG(TARGET(n) + at) = 0;
     }
     began = last = REG(TIMER);
-    for (uint32_t channel = 0; channel < 8; channel++)
-        go(channel, PROGRAM(channel));
+    for (uint32_t n = 0; n < CHANNELS; n++)
+        go(use(n), PROGRAM(n));
     do
         read_timer();
     while (++reads % 16 || runs());
-    report("128 MiB in ", began, reads);
-    if (!FIXED)
-        check_copies();
+    longest = report("copies for ", began, reads);
+    check_copies();
     began = last = REG(TIMER);
     for (uint32_t n = 0; n < reads; n++) {
         read_timer();
         if (n % 16 == 0)
             runs();
     }
-    report("no copies for ", began, reads);
+    check(longest < report("no copies for ", began, reads) + 1000 * MOST_MS, "the device keeps the processor waiting");
     end();
 }
