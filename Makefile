@@ -1,7 +1,8 @@
 # Installs the programs and the library, and builds the pages of the API:
 #
 #     make install PREFIX=..      installs the programs, the library for C as archive and as shared library, its header,
-#                                 files for pkg-config and CMake, and manual pages. It proves and builds nothing.
+#                                 files for pkg-config and CMake, manual pages, and in share/dma330 the documents,
+#                                 examples and harness. It proves and builds nothing.
 #     make uninstall PREFIX=..    removes them
 #     make doc                    builds the pages of the Rust crates and of the header, in embed/out/doc
 #
@@ -12,7 +13,7 @@ PREFIX = /usr/local
 ROOT = $(if $(filter /%,$(PREFIX)),$(PREFIX),$(PWD)/$(PREFIX))
 
 help:
-	@sed -n 's/^# \{0,1\}//p' Makefile | sed -n '1,8p'
+	@sed -n 's/^# \{0,1\}//p' Makefile | sed -n '1,9p'
 
 install uninstall:
 	$(if $(strip $(PREFIX)),,$(error PREFIX is empty: give a folder, or leave it out for /usr/local))

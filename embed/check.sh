@@ -133,11 +133,15 @@ refused() {
     [ $? -eq 2 ] && [ ! -s "$out/printed" ] && [ -s "$out/said" ]
 }
 
-# driver PROGRAM: succeeds if the test of a driver prints the text of examples/example_driver.txt, writes a waveform,
-# also passes with other seeds, and refuses wrong options
+# polled PROGRAM: succeeds if the test of a driver passes, writes a waveform, and also passes with other seeds
+polled() {
+    "$1" --vcd "$out/driver.vcd" >"$out/printed" && waveform "$out/driver.vcd" &&
+        [ "$("$1" --seeds 2-20)" = "0 of 19 seeds failed" ]
+}
+
+# driver PROGRAM: succeeds if it also prints the text of examples/example_driver.txt, and refuses wrong options
 driver() {
-    "$1" --vcd "$out/driver.vcd" >"$out/printed" && diff "$out/printed" examples/example_driver.txt &&
-        waveform "$out/driver.vcd" && [ "$("$1" --seeds 2-20)" = "0 of 19 seeds failed" ] || return 1
+    polled "$1" && diff "$out/printed" examples/example_driver.txt || return 1
     for it in 1x x -1 '' 4294967296; do
         refused "$1" --seed "$it" && refused "$1" --seeds "1-$it" || return 1
     done
@@ -178,84 +182,7 @@ readme() {
     $CC -std=c99 -Wall -Wextra -Werror -o "$out/readme" "$out/readme.c" "$@" && "$out/readme"
 }
 
-prefix=$PWD/$out/prefix
-
-# install_in WORD..: calls `make install` with this archive
-install_in() {
-    make --no-print-directory install LIB="$LIB" "$@"
-}
-
-# flags: prints the flags in the installed dma330.pc, with pkg-config if there is one
-flags() {
-    if has pkg-config; then
-        PKG_CONFIG_PATH=$prefix/lib/pkgconfig pkg-config --cflags --libs dma330
-    else
-        # dma330.pc writes a variable as a shell does
-        (eval "$(sed -n '/^[a-z]*=/p; s/^\(Cflags\|Libs\): \(.*\)/echo \2/p' "$prefix/lib/pkgconfig/dma330.pc")")
-    fi
-}
-
-# installed: succeeds if the README's lines build and run with the installed files
-installed() {
-    install_in DESTDIR= PREFIX="$prefix" && readme $(flags)
-}
-
-# shared: succeeds if they do with the shared library, which exports the names that the header declares, and no others
-shared() {
-    readme "-I$prefix/include" "-L$prefix/lib" -ldma330 "-Wl,-rpath,$prefix/lib" &&
-        nm -D --undefined-only "$out/readme" | grep -q ' dma330_step$' || return 1
-    nm -D --defined-only "$prefix/lib/libdma330.so.1" | awk '{print $3}' | sort | diff - "$out/declared"
-}
-
-# with_cmake: succeeds if CMake finds both libraries, and the README's lines run with each
-with_cmake() {
-    mkdir -p "$out/cmake"
-    cat >"$out/cmake/CMakeLists.txt" <<'END'
-cmake_minimum_required(VERSION 3.13)
-project(readme C)
-find_package(dma330 1.2 REQUIRED)
-foreach(it dma330 shared)
-  add_executable(with_${it} ../readme.c)
-  target_link_libraries(with_${it} dma330::${it})
-endforeach()
-END
-    readme_lines
-    cmake -S "$out/cmake" -B "$out/cmake/build" -DCMAKE_PREFIX_PATH="$prefix" && cmake --build "$out/cmake/build" &&
-        "$out/cmake/build/with_dma330" && "$out/cmake/build/with_shared"
-}
-
-# page: succeeds if groff formats the manual page without a warning, and it has each call
-page() {
-    [ -z "$(groff -man -ww -z -Tascii "$prefix/share/man/man3/dma330.3" 2>&1)" ] &&
-        sed -n 's/^\.B "[a-z0-9_]* \(dma330_[a-z_]*\)(.*/\1/p' "$prefix/share/man/man3/dma330.3" | sort | diff - "$out/declared"
-}
-
-# uninstalled: succeeds if `make uninstall` leaves no file
-uninstalled() {
-    make --no-print-directory uninstall DESTDIR= PREFIX="$prefix" && [ -z "$(find "$prefix" ! -type d)" ]
-}
-
-# staged: succeeds if DESTDIR is put in front of the paths of the installed files, and does not appear inside the files
-staged() {
-    install_in PREFIX=/opt/dma330 DESTDIR="$PWD/$out/staged" &&
-        diff -r include "$out/staged/opt/dma330/include" && cmp "$LIB" "$out/staged/opt/dma330/lib/libdma330.a" &&
-        grep -qx prefix=/opt/dma330 "$out/staged/opt/dma330/lib/pkgconfig/dma330.pc" &&
-        ! grep -r "$out" "$out/staged"
-}
-
-# installs: tests what is installed, as far as there are the commands for it
-installs() {
-    try "make install" installed
-    has nm && try "the shared library" shared
-    if has cmake; then
-        try "the files for CMake" with_cmake
-    else
-        echo "there is no cmake: the test of the files for CMake is left out"
-    fi
-    has groff && try "the manual page" page
-    try "make uninstall" uninstalled
-    try "make install with DESTDIR" staged
-}
+. ./check_install.sh
 
 # qemu_stubs MAJOR: succeeds if the device for QEMU of this version compiles without a warning, with stubs in place of
 # QEMU's headers, and lends the regions that it should
@@ -297,8 +224,10 @@ in_c() {
     mkdir "$to"
     make_it "$set example.c" "$@" -o "$to/example" examples/example.c "$LIB" &&
         try "$set example.c" example "$to/example"
-    make_it "$set example_driver.c" "$@" -pedantic -o "$to/driver" $driver "$LIB" &&
+    make_it "$set example_driver.c" "$@" -pedantic -o "$to/driver" examples/example_driver.c $kit "$LIB" &&
         try "$set example_driver.c" driver "$to/driver"
+    make_it "$set example_driver_polled.c" "$@" -pedantic -o "$to/polled" examples/example_driver_polled.c $kit \
+        "$LIB" && try "$set example_driver_polled.c" polled "$to/polled"
     make_it "$set threads.c" "$@" -pthread -o "$to/threads" examples/threads.c "$LIB" &&
         try "$set threads.c" "$to/threads"
     counted walk "$rows" $lines
@@ -341,12 +270,14 @@ in_cxx() {
     make_it "example.c in C++" $CXX $cxx -o "$out/example_cxx" examples/example.c -x none "$LIB" &&
         try "example.c in C++" example "$out/example_cxx"
     cxx="$cxx -std=c++11 -pedantic -Werror"
-    make_it "example_driver.c in C++" $CXX $cxx -o "$out/driver_cxx" $driver -x none "$LIB" &&
+    make_it "example_driver.c in C++" $CXX $cxx -o "$out/driver_cxx" examples/example_driver.c $kit -x none "$LIB" &&
         try "example_driver.c in C++" driver "$out/driver_cxx"
+    make_it "example_driver_polled.c in C++" $CXX $cxx -o "$out/polled_cxx" examples/example_driver_polled.c $kit \
+        -x none "$LIB" && try "example_driver_polled.c in C++" polled "$out/polled_cxx"
 }
 
 c_flags="-std=c99 -O2 -g -Wall -Wextra -Iinclude"
-driver="-Iharness examples/example_driver.c harness/*.c"
+kit="-Iharness harness/*.c"
 rows="tests/rows.txt $out/calls"
 lines="tests/lines.c tests/calls.c tests/words.c tests/rows.c tests/readings.c"
 heap="tests/heap.c -Wl,--wrap=malloc,--wrap=realloc,--wrap=free"

@@ -12,6 +12,7 @@ only=${2:-}
 to=${DESTDIR:-}$PREFIX
 version=$(sed -n 's/^#define DMA330_VERSION_[MP][A-Z]* //p' "$here/include/dma330.h" | paste -s -d .)
 major=${version%%.*}
+share=share/dma330
 programs="dmasim dma330"
 [ "$only" != library ] || programs=
 
@@ -36,6 +37,14 @@ is_current() {
 put() {
     mkdir -p "$to/$(dirname "$3")"
     install -m "$1" "$2" "$to/$3"
+}
+
+# put_into FOLDER FILE..: installs files in a folder below the prefix
+put_into() {
+    folder=$to/$1
+    shift
+    mkdir -p "$folder"
+    install -m 644 "$@" "$folder"
 }
 
 # fill_in FILE NAME: installs a file in which the version and the prefix are filled in
@@ -63,10 +72,15 @@ find_archive() {
     fi
 }
 
+# put_page NAME SECTION DOCUMENT ABOUT: installs a document as a manual page
+put_page() {
+    awk -v name="$1" -v section="$2" -v about="$4" -v version="$version" -v share="$PREFIX/$share" \
+        -f "$here/doc/roff.awk" -f "$here/doc/document.awk" "$top/docs/$3.md" >"$room/page"
+    put 644 "$room/page" "share/man/man$2/$1.$2"
+}
+
 install_library() {
-    for it in "$here"/include/*.h; do
-        put 644 "$it" "include/$(basename "$it")"
-    done
+    put_into include "$here"/include/*.h
     put 644 "$archive" lib/libdma330.a
     if ${CC:-cc} -shared -o "$room/shared" -Wl,--whole-archive "$archive" -Wl,--no-whole-archive -Wl,-z,defs \
         -Wl,--version-script="$here/dma330.map" -Wl,-soname,"libdma330.so.$major"; then
@@ -79,8 +93,19 @@ install_library() {
     fill_in dma330.pc.in lib/pkgconfig/dma330.pc
     fill_in dma330-config.cmake.in lib/cmake/dma330/dma330-config.cmake
     fill_in dma330-config-version.cmake.in lib/cmake/dma330/dma330-config-version.cmake
-    awk -v version="$version" -f "$here/doc/page.awk" "$here/include/dma330.h" >"$room/page"
-    put 644 "$room/page" share/man/man3/dma330.3
+    mkdir "$room/calls"
+    awk -v version="$version" -v folder="$room/calls" -f "$here/doc/roff.awk" -f "$here/doc/page.awk" \
+        "$here/include/dma330.h" >"$room/dma330.3"
+    put_into share/man/man3 "$room/dma330.3" "$room"/calls/*
+    put_page dma330 7 EMBEDDING 'how to embed a software DMA controller, and to test drivers'
+}
+
+# install_share: installs documents, examples and the kit for tests of drivers, in folders named as in this tree
+install_share() {
+    put_into $share "$top/README.md" "$top/CHANGES.md"
+    for it in docs examples embed/harness embed/examples; do
+        put_into "$share/$it" "$top/$it"/*.*
+    done
 }
 
 # find_programs: sets `found` to the programs that are built; dmasim must be
@@ -101,20 +126,26 @@ find_programs() {
 install_programs() {
     for it in $found; do
         put 755 "$top/crates/$it/out/$it" "bin/$it"
-        [ ! -f "$top/docs/man/$it.1" ] || put 644 "$top/docs/man/$it.1" "share/man/man1/$it.1"
+        case $it in
+            dmasim)
+                put 644 "$top/docs/man/dmasim.1" share/man/man1/dmasim.1
+                put_page dmasim 5 FORMATS 'inputs and outputs of dmasim, channel programs, saves'
+                ;;
+            dma330) put_page dma330 1 DMA330 'a workbench for channel programs of the DMA-330' ;;
+        esac
     done
 }
 
 uninstall() {
     for it in $programs; do
-        rm -f "$to/bin/$it" "$to/share/man/man1/$it.1"
+        rm -f "$to/bin/$it" "$to/share/man/man1/$it.1" "$to/share/man/man5/$it.5"
     done
     for it in "$here"/include/*.h; do
         rm -f "$to/include/$(basename "$it")"
     done
     rm -f "$to/lib/libdma330.a" "$to/lib/libdma330.so" "$to"/lib/libdma330.so.[0-9]* "$to/lib/pkgconfig/dma330.pc" \
-        "$to/share/man/man3/dma330.3"
-    rm -rf "$to/lib/cmake/dma330"
+        "$to/share/man/man3/dma330.3" "$to"/share/man/man3/dma330_*.3 "$to/share/man/man7/dma330.7"
+    rm -rf "$to/lib/cmake/dma330" "$to/${share:?}"
 }
 
 case $what in
@@ -125,6 +156,7 @@ case $what in
         find_programs
         find_archive
         install_library
+        install_share
         install_programs
         echo "make install: installed in $to"
         ;;

@@ -1,33 +1,48 @@
-# Prints dma330.h as the manual page dma330(3): awk -v version=1.4.0 -f page.awk dma330.h
+# Prints dma330.h as the manual page dma330(3), and writes a page of each call into a folder:
+#
+#     awk -v version=1.6.0 -v folder=man3 -f roff.awk -f page.awk dma330.h
 #
 # It has the comment at the head, the codes, and from the first section on each declaration with the comment above it.
 
-# escaped TEXT: a text as roff reads it
-function escaped(text) {
-    gsub(/\\/, "\\e", text)
-    gsub(/-/, "\\-", text)
-    if (text ~ /^[.']/)
-        text = "\\&" text
-    return text
-}
-
-# print_text TEXT: prints the lines of a comment. An empty line and an item of a list begin a paragraph; a line that is
-# indented by four spaces, or more, is printed as it is
-function print_text(text, count, lines, number, line) {
-    count = split(text, lines, "\n")
+# text_of COMMENT: its lines. An empty line and an item of a list begin a paragraph; a line that is indented by four
+# spaces, or more, is kept as it is
+function text_of(comment, count, lines, number, line, text) {
+    count = split(comment, lines, "\n")
     for (number = 1; number <= count; number++) {
         line = lines[number]
         if (line == "")
-            print ".PP"
+            line = ".PP"
         else if (line ~ /^    /)
-            print ".br\n" escaped(line)
+            line = ".br\n" escaped(line)
         else if (sub(/^- /, "", line))
-            print ".IP \\(bu 2\n" escaped(line)
+            line = ".IP \\(bu 2\n" escaped(line)
         else {
             sub(/^ +/, "", line)
-            print escaped(line)
+            line = escaped(line)
         }
+        text = text line "\n"
     }
+    return text
+}
+
+# beginning COMMENT: its first sentence, or what is before a colon or a semicolon there, without a capital
+function beginning(comment) {
+    gsub(/\n/, " ", comment)
+    match(comment, /[.:;]( |$)/)
+    return tolower(substr(comment, 1, 1)) substr(comment, 2, RSTART - 2)
+}
+
+# write_page DECLARED COMMENT: writes the page of a call
+function write_page(declared, comment, name, file) {
+    name = declared
+    sub(/\(.*/, "", name)
+    sub(/.* /, "", name)
+    file = folder "/" name ".3"
+    printf "%s.SH SYNOPSIS\n.ad l\n", head(name, 3, "Library calls", beginning(comment)) >file
+    printf ".B #include <dma330.h>\n.HP 4\n.B \"%s\"\n", escaped(declared) >file
+    printf ".SH DESCRIPTION\n%s", text_of(comment) >file
+    print ".SH SEE ALSO\n.BR dma330 (3),\nwhich has the codes, and what all calls have in common." >file
+    close(file)
 }
 
 # code TEXT: prints a line of an enum, `NAME = NUMBER, /* comment */`
@@ -45,11 +60,10 @@ function code(text, name, number) {
 }
 
 BEGIN {
-    printf ".TH dma330 3 \"\" \"dilkwafam %s\" \"Library calls\"\n", version
-    print ".SH NAME\ndma330 \\- a software DMA controller: the ARM DMA\\-330 (PL330), memory to memory"
+    printf "%s", head("dma330", 3, "Library calls", "a software DMA controller: the ARM DMA-330 (PL330), memory to memory")
     print ".SH SYNOPSIS\n.nf\n.B #include <dma330.h>\n.PP"
     print ".B cc program.c $(pkg\\-config \\-\\-cflags \\-\\-libs dma330)\n.fi"
-    print ".SH DESCRIPTION\n.ad l\n.nh"
+    print ".SH DESCRIPTION\n.ad l"
 }
 
 # a comment at the beginning of a line, its text without the signs around it
@@ -64,7 +78,7 @@ BEGIN {
     in_comment = !sub(/ *\*\/$/, "", line)
     comment = comment line
     if (!in_comment && !has_head) {
-        print_text(comment)
+        printf "%s", text_of(comment)
         has_head = 1
     } else if (!in_comment && comment ~ /^---- /) {
         title = comment
@@ -74,7 +88,7 @@ BEGIN {
         is_listed = title !~ /^(names|the layout)/
         if (is_listed) {
             printf ".SH %s\n", toupper(escaped(title))
-            print_text(comment)
+            printf "%s", text_of(comment)
         }
     }
     next
@@ -92,14 +106,12 @@ in_declaration {
     sub(/^ +/, " ")
     declared = declared $0
     if (!in_declaration) {
-        print ".HP 4\n.B \"" escaped(declared) "\"\n.RS 4\n.PP"
-        print_text(comment)
-        print ".RE"
+        printf ".HP 4\n.B \"%s\"\n.RS 4\n.PP\n%s.RE\n", escaped(declared), text_of(comment)
+        write_page(declared, comment)
     }
 }
 
 END {
     print ".SH SEE ALSO"
-    print ".BR dmasim (1);"
-    print "the header, which also has the types and numbers, and docs/EMBEDDING.md of dilkwafam, the guide."
+    print ".BR dma330 (7),\nthe guide, and the header, which also has the types and numbers."
 }

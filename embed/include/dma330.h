@@ -197,8 +197,8 @@ typedef struct dma330_run_end {
 } dma330_run_end;
 
 /* The addresses from addr up to, and not including, addr + len, all of which are read `times` times, one round after
- * another. `times` is above 1 where a fixed address is read
- * repeatedly, as by a fill. addr + len may be 2^32, so add in 64 bits. */
+ * another. `times` is above 1 where a fixed address is read repeatedly, as by a fill, or a range is read again right
+ * after itself. addr + len may be 2^32, so add in 64 bits. */
 typedef struct dma330_repeated {
     uint32_t addr;
     uint32_t len;

@@ -10,6 +10,8 @@
 #ifndef DMA330_PROGRAM_H
 #define DMA330_PROGRAM_H
 
+#include <stdint.h>
+
 /* Byte number `n` of a number of 32 bits, from the lowest. */
 #define DMA330_BYTE(value, n) ((unsigned char)((value) >> 8 * (n) & 0xFF))
 
@@ -52,7 +54,7 @@
 #define DMA330_DMAADNH_DAR(number) 0x5E, DMA330_BYTE(number, 0), DMA330_BYTE(number, 1)
 #define DMA330_DMALPEND_FOREVER(length) 0x28, ((unsigned char)(length))
 
-/* ---- control words ---- */
+/* ---- control words, each a uint32_t ---- */
 
 /* The control word of bursts of 1 to 16 beats of 1, 2, 4, 8 or 16 bytes, for loads (src) and for stores (dst). `rises`
  * is 1, or 0 if each beat has the same address. A program that copies has as many bytes in a load as in its store. */
@@ -64,26 +66,26 @@
 
 /* To be combined by |: ARPROT[2:0] of loads and AWPROT[2:0] of stores, and the three bits of their cache fields. This
  * library ignores them. */
-#define DMA330_CCR_SRC_PROT(bits) ((unsigned long)(bits) << 8)
-#define DMA330_CCR_DST_PROT(bits) ((unsigned long)(bits) << 22)
-#define DMA330_CCR_SRC_CACHE(bits) ((unsigned long)(bits) << 11)
-#define DMA330_CCR_DST_CACHE(bits) ((unsigned long)(bits) << 25)
+#define DMA330_CCR_SRC_PROT(bits) ((uint32_t)(bits) << 8)
+#define DMA330_CCR_DST_PROT(bits) ((uint32_t)(bits) << 22)
+#define DMA330_CCR_SRC_CACHE(bits) ((uint32_t)(bits) << 11)
+#define DMA330_CCR_DST_CACHE(bits) ((uint32_t)(bits) << 25)
 
 /* Bits 13:0 of a control word, and the code of a size of a beat. */
 #define DMA330_CCR_HALF(beats, bytes, rises) \
-    ((unsigned long)(rises) | DMA330_CCR_SIZE(bytes) << 1 | (unsigned long)((beats) - 1) << 4)
+    ((uint32_t)(rises) | DMA330_CCR_SIZE(bytes) << 1 | (uint32_t)((beats) - 1) << 4)
 #define DMA330_CCR_SIZE(bytes) \
-    ((bytes) >= 16 ? 4ul : (bytes) >= 8 ? 3ul : (bytes) >= 4 ? 2ul : (bytes) >= 2 ? 1ul : 0ul)
+    ((bytes) >= 16 ? 4u : (bytes) >= 8 ? 3u : (bytes) >= 4 ? 2u : (bytes) >= 2 ? 1u : 0u)
 
-/* ---- the debug registers ---- */
+/* ---- the debug registers, by words that are each a uint32_t ---- */
 
 /* What DBGINST0 gets, so that a write of 0 to DBGCMD executes an instruction: a DMAGO, by the manager, of channel n at
  * the address in DBGINST1, which runs in the secure or in the non-secure state; a DMAKILL of channel n; a DMAKILL of
  * the manager; a DMASEV by the manager. DBGINST1 is 0 for all but DMAGO. */
-#define DMA330_DBGINST0_GO(n) ((unsigned long)(n) << 24 | 0xA00000ul)
-#define DMA330_DBGINST0_GO_NONSECURE(n) ((unsigned long)(n) << 24 | 0xA20000ul)
-#define DMA330_DBGINST0_KILL(n) (0x010000ul | (unsigned long)(n) << 8 | 1ul)
-#define DMA330_DBGINST0_KILL_MANAGER 0x010000ul
-#define DMA330_DBGINST0_SEV(event) ((unsigned long)(event) << 27 | 0x340000ul)
+#define DMA330_DBGINST0_GO(n) ((uint32_t)(n) << 24 | 0xA00000u)
+#define DMA330_DBGINST0_GO_NONSECURE(n) ((uint32_t)(n) << 24 | 0xA20000u)
+#define DMA330_DBGINST0_KILL(n) (0x010000u | (uint32_t)(n) << 8 | 1u)
+#define DMA330_DBGINST0_KILL_MANAGER 0x010000u
+#define DMA330_DBGINST0_SEV(event) ((uint32_t)(event) << 27 | 0x340000u)
 
 #endif

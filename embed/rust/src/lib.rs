@@ -26,7 +26,7 @@
 //! The library behind it is proved. Not proved are this crate's own code and its declarations in `sys`, which a test
 //! compares with the library's. `docs/EMBEDDING.md` of the repository has more on memory, threads and marks.
 
-#![deny(missing_docs, unsafe_code)]
+#![deny(missing_docs, unsafe_code, clippy::undocumented_unsafe_blocks)]
 
 mod channel;
 mod device;

@@ -1,6 +1,7 @@
 //! The calls of the library, as it exports them; all `unsafe` code of the crate is here.
 //!
-//! What the library requires of its caller (docs/EMBEDDING.md), and why each call below keeps it:
+//! What the library requires of its caller (docs/EMBEDDING.md), and why each call below keeps it, where its comment is
+//! short:
 //!
 //! - A controller is zeroed before it is opened, its members are never touched, and an open one is never copied:
 //!   [`Handle`] starts with zeros, gives nobody access to its members, and is neither `Copy` nor `Clone`. After a
@@ -218,7 +219,7 @@ impl<'a> Region<'a> {
     /// use dma330::{Channel, Region};
     /// let mut ram = vec![0x18, 0x00]; // DMANOP, DMAEND
     /// let mut channel = Channel::open()?;
-    /// // Safety: `ram` outlives the region, and nobody else uses it.
+    /// // SAFETY: `ram` outlives the region, and nobody else uses it.
     /// let region = unsafe { Region::from_raw_parts(0x8000_0000, ram.as_mut_ptr(), ram.len(), false) };
     /// channel.load_from(&[region], 0x8000_0000)?;
     /// assert_eq!(channel.step(&mut [], &mut 0, 100)?.taken, 2);
@@ -507,12 +508,14 @@ pub struct Handle {
     raw: UnsafeCell<RawController>,
 }
 
+// SAFETY: Nothing else has the pointer to what the controller holds, whose type the prover has shown to be `Send`.
 unsafe impl Send for Handle {}
 
 impl Handle {
     pub fn open(size: u32, channels: u8) -> Result<Handle, Error> {
         let closed = RawController { engine: ptr::null_mut(), is_open: 0 };
         let mut handle = Handle { raw: UnsafeCell::new(closed) };
+        // SAFETY: The controller is zeroed, and nobody else has it.
         let code = unsafe { dma330_open(handle.raw.get_mut(), size, channels) };
         checked(code, handle)
     }
@@ -520,6 +523,7 @@ impl Handle {
     pub fn write(&mut self, addr: u32, bytes: &[u8]) -> Result<(), Error> {
         let mut conflict = RawConflict::default();
         let (from, len) = (bytes.as_ptr(), bytes.len());
+        // SAFETY: Nobody else uses the controller. The bytes come with their number, and `conflict` is a local.
         let code = unsafe { dma330_write(self.raw.get_mut(), addr, from, len, &mut conflict) };
         checked_with_conflict(code, conflict)
     }
@@ -527,6 +531,7 @@ impl Handle {
     pub fn read(&mut self, addr: u32, out: &mut [u8]) -> Result<(), Error> {
         let mut conflict = RawConflict::default();
         let (to, len) = (out.as_mut_ptr(), out.len());
+        // SAFETY: Nobody else uses the controller or `out`, which comes with its length. `conflict` is a local.
         let code = unsafe { dma330_read(self.raw.get_mut(), addr, to, len, &mut conflict) };
         checked_with_conflict(code, conflict)
     }
@@ -535,6 +540,7 @@ impl Handle {
         let mut cookie = 0;
         let (from, to) = (src.as_ptr(), dst.as_ptr());
         let raw = self.raw.get_mut();
+        // SAFETY: Nobody else uses the controller. The lists come with their lengths, and `cookie` is a local.
         let code = unsafe { dma330_submit(raw, channel, from, src.len(), to, dst.len(), wait, signal, &mut cookie) };
         checked(code, cookie)
     }
@@ -542,54 +548,64 @@ impl Handle {
     pub fn submit_fill(&mut self, channel: u8, src: u32, dst: &[Segment], wait: i32, signal: i32) -> Result<u32, Error> {
         let mut cookie = 0;
         let raw = self.raw.get_mut();
+        // SAFETY: Nobody else uses the controller. The list comes with its length, and `cookie` is a local.
         let code = unsafe { dma330_submit_fill(raw, channel, src, dst.as_ptr(), dst.len(), wait, signal, &mut cookie) };
         checked(code, cookie)
     }
 
     pub fn issue(&mut self, channel: u8) -> Result<u32, Error> {
         let mut count = 0;
+        // SAFETY: Nobody else uses the controller, and `count` is a local.
         let code = unsafe { dma330_issue(self.raw.get_mut(), channel, &mut count) };
         checked(code, count)
     }
 
     pub fn pause(&mut self, channel: u8) -> Result<(), Error> {
+        // SAFETY: Nobody else uses the controller.
         checked(unsafe { dma330_pause(self.raw.get_mut(), channel) }, ())
     }
 
     pub fn resume(&mut self, channel: u8) -> Result<(), Error> {
+        // SAFETY: Nobody else uses the controller.
         checked(unsafe { dma330_resume(self.raw.get_mut(), channel) }, ())
     }
 
     pub fn terminate(&mut self, channel: u8) -> Result<u32, Error> {
         let mut count = 0;
+        // SAFETY: Nobody else uses the controller, and `count` is a local.
         let code = unsafe { dma330_terminate(self.raw.get_mut(), channel, &mut count) };
         checked(code, count)
     }
 
     pub fn step(&mut self, channel: u8, most: u32) -> Result<RawReport, Error> {
         let mut report = RawReport::default();
+        // SAFETY: Nobody else uses the controller, and `report` is a local.
         let code = unsafe { dma330_step(self.raw.get_mut(), channel, most, &mut report) };
         checked(code, report)
     }
 
     pub fn status(&self, channel: u8, cookie: u32) -> i32 {
+        // SAFETY: No other call uses the controller.
         unsafe { dma330_status(self.raw.get(), channel, cookie) }
     }
 
     pub fn result(&self, channel: u8, cookie: u32) -> Option<RawOutcome> {
         let mut outcome = RawOutcome::default();
+        // SAFETY: No other call uses the controller, and `outcome` is a local.
         let code = unsafe { dma330_result(self.raw.get(), channel, cookie, &mut outcome) };
         value_unless(NO_RESULT, code, outcome)
     }
 
     pub fn running(&self, channel: u8) -> Option<RawRun> {
         let mut running = RawRun::default();
+        // SAFETY: No other call uses the controller, and `running` is a local.
         let code = unsafe { dma330_running(self.raw.get(), channel, &mut running) };
         value_unless(NOT_RUNNING, code, running)
     }
 
     pub fn unfinished(&self, channel: u8) -> u32 {
         let mut count = 0;
+        // SAFETY: No other call uses the controller, and `count` is a local.
         let code = unsafe { dma330_unfinished(self.raw.get(), channel, &mut count) };
         assert_eq!(code, OK);
         count
@@ -597,6 +613,7 @@ impl Handle {
 
     pub fn forgotten(&self, channel: u8) -> u32 {
         let mut count = 0;
+        // SAFETY: No other call uses the controller, and `count` is a local.
         let code = unsafe { dma330_forgotten(self.raw.get(), channel, &mut count) };
         assert_eq!(code, OK);
         count
@@ -604,6 +621,7 @@ impl Handle {
 
     pub fn steps(&self) -> u64 {
         let mut steps = 0;
+        // SAFETY: No other call uses the controller, and `steps` is a local.
         let code = unsafe { dma330_steps(self.raw.get(), &mut steps) };
         assert_eq!(code, OK);
         steps
@@ -611,6 +629,7 @@ impl Handle {
 
     pub fn history_entries(&self) -> u64 {
         let mut count = 0;
+        // SAFETY: No other call uses the controller, and `count` is a local.
         let code = unsafe { dma330_history_entries(self.raw.get(), &mut count) };
         assert_eq!(code, OK);
         count
@@ -618,6 +637,7 @@ impl Handle {
 
     pub fn history_bytes(&self) -> u64 {
         let mut count = 0;
+        // SAFETY: No other call uses the controller, and `count` is a local.
         let code = unsafe { dma330_history_bytes(self.raw.get(), &mut count) };
         assert_eq!(code, OK);
         count
@@ -625,25 +645,30 @@ impl Handle {
 
     pub fn running_count(&self) -> u32 {
         let mut count = 0;
+        // SAFETY: No other call uses the controller, and `count` is a local.
         let code = unsafe { dma330_running_count(self.raw.get(), &mut count) };
         assert_eq!(code, OK);
         count
     }
 
     pub fn mark(&mut self, kind: u32, range: Segment) -> Result<(), Error> {
+        // SAFETY: Nobody else uses the controller.
         checked(unsafe { dma330_mark(self.raw.get_mut(), kind, range) }, ())
     }
 
     pub fn unmark(&mut self) -> Result<(), Error> {
+        // SAFETY: Nobody else uses the controller.
         checked(unsafe { dma330_unmark(self.raw.get_mut()) }, ())
     }
 
     pub fn raise(&mut self, event: u8) -> Result<(), Error> {
+        // SAFETY: Nobody else uses the controller.
         checked(unsafe { dma330_raise(self.raw.get_mut(), event) }, ())
     }
 
     pub fn checkpoint(&mut self) -> Result<(), Error> {
         let mut conflict = RawConflict::default();
+        // SAFETY: Nobody else uses the controller, and `conflict` is a local.
         let code = unsafe { dma330_checkpoint(self.raw.get_mut(), &mut conflict) };
         checked_with_conflict(code, conflict)
     }
@@ -651,6 +676,7 @@ impl Handle {
 
 impl Drop for Handle {
     fn drop(&mut self) {
+        // SAFETY: Nobody else uses the controller. It may be one that an open has refused.
         unsafe { dma330_close(self.raw.get_mut()) }
     }
 }
@@ -660,12 +686,14 @@ pub struct ChannelHandle {
     raw: UnsafeCell<RawChannel>,
 }
 
+// SAFETY: Nothing else has the pointer to what the channel holds, whose type the prover has shown to be `Send`.
 unsafe impl Send for ChannelHandle {}
 
 impl ChannelHandle {
     pub fn open() -> Result<ChannelHandle, Error> {
         let closed = RawChannel { channel: ptr::null_mut(), is_open: 0 };
         let mut handle = ChannelHandle { raw: UnsafeCell::new(closed) };
+        // SAFETY: The channel is zeroed, and nobody else has it.
         let code = unsafe { dma330_channel_open(handle.raw.get_mut()) };
         checked(code, handle)
     }
@@ -673,47 +701,56 @@ impl ChannelHandle {
     pub fn load_copy(&mut self, src: &[Segment], dst: &[Segment], wait: i32, signal: i32) -> Result<(), Error> {
         let (from, to) = (src.as_ptr(), dst.as_ptr());
         let raw = self.raw.get_mut();
+        // SAFETY: Nobody else uses the channel. The lists come with their lengths.
         checked(unsafe { dma330_channel_load_copy(raw, from, src.len(), to, dst.len(), wait, signal) }, ())
     }
 
     pub fn load_fill(&mut self, src: u32, dst: &[Segment], wait: i32, signal: i32) -> Result<(), Error> {
         let raw = self.raw.get_mut();
+        // SAFETY: Nobody else uses the channel. The list comes with its length.
         checked(unsafe { dma330_channel_load_fill(raw, src, dst.as_ptr(), dst.len(), wait, signal) }, ())
     }
 
     pub fn load_program(&mut self, program: &[u8]) -> Result<(), Error> {
+        // SAFETY: Nobody else uses the channel. The program comes with its length.
         checked(unsafe { dma330_channel_load_program(self.raw.get_mut(), program.as_ptr(), program.len()) }, ())
     }
 
     pub fn load_from(&mut self, regions: &[Region<'_>], addr: u32) -> Result<(), Error> {
         let (lent, count) = (regions.as_ptr(), regions.len());
+        // SAFETY: Nobody else uses the channel. The list comes with its length, and its regions are only read.
         checked(unsafe { dma330_channel_load_from(self.raw.get_mut(), lent, count, addr) }, ())
     }
 
     pub fn step(&mut self, regions: &mut [Region<'_>], flags: &mut u32, most: u32) -> Result<RawChannelReport, Error> {
         let mut report = RawChannelReport::default();
         let (lent, count) = (regions.as_ptr(), regions.len());
+        // SAFETY: Nobody else uses the channel, the regions or `flags`. The list comes with its length.
         let code = unsafe { dma330_channel_step(self.raw.get_mut(), lent, count, flags, most, &mut report) };
         checked(code, report)
     }
 
     pub fn stop(&mut self) {
+        // SAFETY: Nobody else uses the channel.
         let code = unsafe { dma330_channel_stop(self.raw.get_mut()) };
         assert_eq!(code, OK);
     }
 
     pub fn registers(&self) -> RawRegisters {
         let mut registers = RawRegisters::default();
+        // SAFETY: No other call uses the channel, and `registers` is a local.
         let code = unsafe { dma330_channel_registers(self.raw.get(), &mut registers) };
         assert_eq!(code, OK);
         registers
     }
 
     pub fn mark(&mut self, kind: u32, range: Segment) -> Result<(), Error> {
+        // SAFETY: Nobody else uses the channel.
         checked(unsafe { dma330_channel_mark(self.raw.get_mut(), kind, range) }, ())
     }
 
     pub fn unmark(&mut self) {
+        // SAFETY: Nobody else uses the channel.
         let code = unsafe { dma330_channel_unmark(self.raw.get_mut()) };
         assert_eq!(code, OK);
     }
@@ -721,17 +758,21 @@ impl ChannelHandle {
     /// Writes a save of the channel, and returns its length; `None` if it doesn't fit.
     pub fn save(&self, out: &mut [u8]) -> Option<usize> {
         let mut len = 0;
+        // SAFETY: No other call uses the channel, and nobody else uses `out`, which comes with its length. `len` is a
+        // local.
         let code = unsafe { dma330_channel_save(self.raw.get(), out.as_mut_ptr(), out.len(), &mut len) };
         value_unless(BUFFER_TOO_SMALL, code, len)
     }
 
     pub fn restore(&mut self, save: &[u8]) -> Result<(), Error> {
+        // SAFETY: Nobody else uses the channel. The save comes with its length.
         checked(unsafe { dma330_channel_restore(self.raw.get_mut(), save.as_ptr(), save.len()) }, ())
     }
 }
 
 impl Drop for ChannelHandle {
     fn drop(&mut self) {
+        // SAFETY: Nobody else uses the channel. It may be one that an open has refused.
         unsafe { dma330_channel_close(self.raw.get_mut()) }
     }
 }
@@ -741,17 +782,20 @@ pub struct DeviceHandle {
     raw: UnsafeCell<RawDevice>,
 }
 
+// SAFETY: Nothing else has the pointer to what the device holds, whose type the prover has shown to be `Send`.
 unsafe impl Send for DeviceHandle {}
 
 impl DeviceHandle {
     pub fn open(config: &RawDeviceConfig) -> Result<DeviceHandle, Error> {
         let closed = RawDevice { device: ptr::null_mut(), is_open: 0 };
         let mut handle = DeviceHandle { raw: UnsafeCell::new(closed) };
+        // SAFETY: The device is zeroed, and nobody else has it. `config` is only read.
         let code = unsafe { dma330_device_open(handle.raw.get_mut(), config) };
         checked(code, handle)
     }
 
     pub fn reset(&mut self) {
+        // SAFETY: Nobody else uses the device.
         let code = unsafe { dma330_device_reset(self.raw.get_mut()) };
         assert_eq!(code, OK);
     }
@@ -759,6 +803,7 @@ impl DeviceHandle {
     // Returns the number that a call writes.
     fn number(&self, call: unsafe extern "C" fn(*mut RawDevice, *mut u32) -> i32) -> u32 {
         let mut number = 0;
+        // SAFETY: `call` reads the device, which no other call uses, and writes `number`, a local.
         let code = unsafe { call(self.raw.get(), &mut number) };
         assert_eq!(code, OK);
         number
@@ -766,6 +811,7 @@ impl DeviceHandle {
 
     pub fn read(&self, offset: u32) -> u32 {
         let mut value = 0;
+        // SAFETY: No other call uses the device, and `value` is a local.
         let code = unsafe { dma330_device_read(self.raw.get(), offset, &mut value) };
         assert_eq!(code, OK);
         value
@@ -773,18 +819,21 @@ impl DeviceHandle {
 
     pub fn write(&mut self, offset: u32, value: u32, regions: &[Region<'_>]) -> Result<(), Error> {
         let (lent, count) = (regions.as_ptr(), regions.len());
+        // SAFETY: Nobody else uses the device. The list comes with its length, and its regions are only read.
         checked(unsafe { dma330_device_write(self.raw.get_mut(), offset, value, lent, count) }, ())
     }
 
     pub fn step(&mut self, channel: u8, most: u32, regions: &mut [Region<'_>]) -> Result<RawDeviceTurn, Error> {
         let mut turn = RawDeviceTurn::default();
         let (lent, count) = (regions.as_ptr(), regions.len());
+        // SAFETY: Nobody else uses the device or the regions. The list comes with its length, and `turn` is a local.
         let code = unsafe { dma330_device_step(self.raw.get_mut(), channel, most, lent, count, &mut turn) };
         checked(code, turn)
     }
 
     pub fn registers(&self, channel: u8) -> Result<RawRegisters, Error> {
         let mut registers = RawRegisters::default();
+        // SAFETY: No other call uses the device, and `registers` is a local.
         let code = unsafe { dma330_device_registers(self.raw.get(), channel, &mut registers) };
         checked(code, registers)
     }
@@ -792,11 +841,14 @@ impl DeviceHandle {
     pub fn step_rows(&mut self, channel: u8, most: u32, regions: &mut [Region<'_>]) -> Result<RawDeviceRows, Error> {
         let mut rows = RawDeviceRows::default();
         let (lent, count) = (regions.as_ptr(), regions.len());
+        // SAFETY: Nobody else uses the device or the regions. The list comes with its length, and `rows` is a local.
         let code = unsafe { dma330_device_step_rows(self.raw.get_mut(), channel, most, lent, count, &mut rows) };
         checked(code, rows)
     }
 
     pub fn explain(&self, channel: u8, most: u32) -> Result<RawExplained<RawExplanation>, Error> {
+        // SAFETY: No other call uses the device, and nobody else uses the lists or `explanation`. The lists come with
+        // their lengths.
         RawExplained::by(|src, dst, _, happenings, explanation| unsafe {
             let raw = self.raw.get();
             dma330_device_explain(
@@ -815,6 +867,8 @@ impl DeviceHandle {
     }
 
     pub fn explain_work(&self, channel: u8, most: u32) -> Result<RawExplained<RawWork>, Error> {
+        // SAFETY: No other call uses the device, and nobody else uses the lists or `work`. The lists come with their
+        // lengths.
         RawExplained::by(|src, dst, zeros, moments, work| unsafe {
             let raw = self.raw.get();
             dma330_device_explain_work(
@@ -849,17 +903,21 @@ impl DeviceHandle {
     /// Writes a save of the device, and returns its length; `None` if it doesn't fit.
     pub fn save(&self, out: &mut [u8]) -> Option<usize> {
         let mut len = 0;
+        // SAFETY: No other call uses the device, and nobody else uses `out`, which comes with its length. `len` is a
+        // local.
         let code = unsafe { dma330_device_save(self.raw.get(), out.as_mut_ptr(), out.len(), &mut len) };
         value_unless(BUFFER_TOO_SMALL, code, len)
     }
 
     pub fn restore(&mut self, save: &[u8]) -> Result<(), Error> {
+        // SAFETY: Nobody else uses the device. The save comes with its length.
         checked(unsafe { dma330_device_restore(self.raw.get_mut(), save.as_ptr(), save.len()) }, ())
     }
 }
 
 impl Drop for DeviceHandle {
     fn drop(&mut self) {
+        // SAFETY: Nobody else uses the device. It may be one that an open has refused.
         unsafe { dma330_device_close(self.raw.get_mut()) }
     }
 }
@@ -867,6 +925,7 @@ impl Drop for DeviceHandle {
 /// Writes the version and a zero byte, and returns the version's length; `None` if they don't fit.
 pub fn version(out: &mut [u8]) -> Option<usize> {
     let mut len = 0;
+    // SAFETY: Nobody else uses `out`, which comes with its length, and `len` is a local.
     let code = unsafe { dma330_version(out.as_mut_ptr(), out.len(), &mut len) };
     (code == OK).then_some(len)
 }
@@ -874,6 +933,7 @@ pub fn version(out: &mut [u8]) -> Option<usize> {
 pub fn run_program(program: &[u8], memory: &mut [u8], limit: u32) -> Result<RawRunEnd, Error> {
     let mut end = RawRunEnd::default();
     let (bytes, room) = (memory.as_mut_ptr(), memory.len());
+    // SAFETY: Nobody else uses `memory`. It and the program come with their lengths, and `end` is a local.
     let code = unsafe { dma330_run_program(program.as_ptr(), program.len(), bytes, room, limit, &mut end) };
     checked(code, end)
 }
@@ -882,6 +942,7 @@ pub fn run_program(program: &[u8], memory: &mut [u8], limit: u32) -> Result<RawR
 pub fn assemble(text: &[u8], out: &mut [u8]) -> Result<usize, Error> {
     let (mut len, mut place) = (0, 0);
     let (bytes, room) = (out.as_mut_ptr(), out.len());
+    // SAFETY: Nobody else uses `out`. It and the text come with their lengths, and the numbers are locals.
     match unsafe { dma330_assemble(text.as_ptr(), text.len(), bytes, room, &mut len, &mut place) } {
         OK => Ok(len),
         code => Err(Error::of_line(code, place)),
@@ -892,6 +953,7 @@ pub fn assemble(text: &[u8], out: &mut [u8]) -> Result<usize, Error> {
 pub fn disassemble(program: &[u8], out: &mut [u8]) -> Result<usize, Error> {
     let (mut len, mut place) = (0, 0);
     let (text, room) = (out.as_mut_ptr(), out.len());
+    // SAFETY: Nobody else uses `out`. It and the program come with their lengths, and the numbers are locals.
     match unsafe { dma330_disassemble(program.as_ptr(), program.len(), text, room, &mut len, &mut place) } {
         OK => Ok(len),
         code => Err(Error::of_offset(code, place)),
@@ -987,6 +1049,7 @@ impl<A: Answer> RawExplained<A> {
 }
 
 pub fn explain(program: &[u8], bus: u32, most: u32) -> Result<RawExplained<RawExplanation>, Error> {
+    // SAFETY: Nobody else uses the lists or `explanation`. Lists and program come with their lengths.
     RawExplained::by(|src, dst, _, happenings, explanation| unsafe {
         dma330_explain(
             program.as_ptr(),
@@ -1005,6 +1068,7 @@ pub fn explain(program: &[u8], bus: u32, most: u32) -> Result<RawExplained<RawEx
 }
 
 pub fn explain_work(program: &[u8], bus: u32, start: &RawRegisters, most: u32) -> Result<RawExplained<RawWork>, Error> {
+    // SAFETY: Nobody else uses the lists or `work`. Lists and program come with their lengths.
     RawExplained::by(|src, dst, zeros, moments, work| unsafe {
         dma330_explain_work(
             program.as_ptr(),
@@ -1030,6 +1094,7 @@ pub fn plan(src: &[Segment], dst: &[Segment], wait: i32, signal: i32, bus: u32, 
     let mut len = 0;
     let (from, to) = (src.as_ptr(), dst.as_ptr());
     let (bytes, room) = (out.as_mut_ptr(), out.len());
+    // SAFETY: Nobody else uses `out`. It and the lists come with their lengths, and `len` is a local.
     let code = unsafe { dma330_plan(from, src.len(), to, dst.len(), wait, signal, bus, bytes, room, &mut len) };
     checked(code, len)
 }
@@ -1038,6 +1103,7 @@ pub fn plan(src: &[Segment], dst: &[Segment], wait: i32, signal: i32, bus: u32, 
 pub fn plan_fill(src: u32, dst: &[Segment], wait: i32, signal: i32, bus: u32, out: &mut [u8]) -> Result<usize, Error> {
     let mut len = 0;
     let (bytes, room) = (out.as_mut_ptr(), out.len());
+    // SAFETY: Nobody else uses `out`. It and the list come with their lengths, and `len` is a local.
     let code = unsafe { dma330_plan_fill(src, dst.as_ptr(), dst.len(), wait, signal, bus, bytes, room, &mut len) };
     checked(code, len)
 }

@@ -32,7 +32,7 @@
 //! pages, as if somebody else wrote the one whenever a call writes the other, and only the one that a call writes is
 //! marked as dirty.
 
-#![deny(missing_docs, unsafe_code)]
+#![deny(missing_docs, unsafe_code, clippy::undocumented_unsafe_blocks)]
 
 use dma330::{Channel, ChannelSteps, Device, DeviceRows, DeviceTurn, Error, Region, Segment};
 use libc::{PROT_READ, PROT_WRITE};

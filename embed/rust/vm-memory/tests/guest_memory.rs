@@ -219,7 +219,7 @@ fn more_than_64_regions_are_refused() {
 fn bytes_at_two_addresses_are_lent_at_the_lower_one() {
     let mapping = MmapRegion::<()>::new(0x3000).expect("it is mapped");
     let prot = libc::PROT_READ | libc::PROT_WRITE;
-    // Safety: the mapping is unmapped after the memory.
+    // SAFETY: The mapping is unmapped after the memory.
     let part = |from, len| unsafe { builder(len, prot).with_raw_mmap_pointer(mapping.as_ptr().wrapping_add(from)) };
     let regions = vec![
         region_of(0x1000, part(0x1000, 0x1000)),
