@@ -185,6 +185,8 @@ typedef struct dma330_device_rows {
     uint32_t steps;         /* each turn is what dma330_device_step does with this `most` */
     uint32_t lines_changed; /* 1 if a line of irq[31:0], or irq_abort, has changed, else 0 */
     uint32_t can_step;      /* what dma330_device_can_step writes now */
+    uint64_t taken;         /* the number of steps that each turn took, the last one included, whatever it did: at most
+                             * `steps`, and one more after the DMASEV of an interrupt */
 } dma330_device_rows;
 
 /* How a program that ran alone ended. A member is 0 unless its comment names the end. */
@@ -757,7 +759,8 @@ int32_t dma330_device_step(dma330_device *device, uint8_t channel, uint32_t most
 /* Takes several turns of a channel, one for each row, where a loop copies the rows of a rectangle by pairs of DMALD and
  * DMAST, then DMAADDH SAR or not, then DMAADDH DAR. Else it takes one turn, which may end early where rows begin. The result
  * is that of `rows->count` calls of dma330_device_step with a `most` of `rows->steps`; `count` times `steps` is at most
- * `most`. Codes: BAD_REGIONS. Since 1.6.0. */
+ * `most`. Together they took `count` times `taken` steps. A dma330_device_turn has no such number: a host that needs it
+ * makes this call in place of dma330_device_step. Codes: BAD_REGIONS. Since 1.6.0. */
 int32_t dma330_device_step_rows(dma330_device *device, uint8_t channel, uint32_t most, const dma330_region *regions,
                                 size_t region_count, dma330_device_rows *rows) DMA330_NO_NULLS;
 
@@ -891,6 +894,10 @@ int32_t dma330_disassemble(const uint8_t *program, size_t len, char *out, size_t
 
 /* ---- the layout that the library assumes ---- */
 
+#if defined(__BYTE_ORDER__) && __BYTE_ORDER__ != __ORDER_LITTLE_ENDIAN__
+#error "libdma330 is for little-endian processors"
+#endif
+
 #define DMA330_ASSERT(name, holds) typedef char dma330_assert_##name[(holds) ? 1 : -1]
 DMA330_ASSERT(pointers, sizeof(void *) == 8 && sizeof(size_t) == 8);
 DMA330_ASSERT(controller, sizeof(dma330_controller) == 16 && offsetof(dma330_controller, is_open) == 8);
@@ -908,7 +915,8 @@ DMA330_ASSERT(registers, sizeof(dma330_registers) == 32 && offsetof(dma330_regis
 DMA330_ASSERT(device, sizeof(dma330_device) == 16 && offsetof(dma330_device, is_open) == 8);
 DMA330_ASSERT(device_config, sizeof(dma330_device_config) == 24 && offsetof(dma330_device_config, revision) == 20);
 DMA330_ASSERT(device_turn, sizeof(dma330_device_turn) == 16 && offsetof(dma330_device_turn, can_step) == 12);
-DMA330_ASSERT(device_rows, sizeof(dma330_device_rows) == 28 && offsetof(dma330_device_rows, can_step) == 24);
+DMA330_ASSERT(device_rows, sizeof(dma330_device_rows) == 40 && offsetof(dma330_device_rows, can_step) == 24
+              && offsetof(dma330_device_rows, taken) == 32);
 DMA330_ASSERT(run_end, sizeof(dma330_run_end) == 20 && offsetof(dma330_run_end, pc) == 16);
 DMA330_ASSERT(repeated, sizeof(dma330_repeated) == 12 && offsetof(dma330_repeated, times) == 8);
 DMA330_ASSERT(happening, sizeof(dma330_happening) == 16 && offsetof(dma330_happening, stored) == 8);
@@ -916,6 +924,19 @@ DMA330_ASSERT(explanation, sizeof(dma330_explanation) == 48 && offsetof(dma330_e
               && offsetof(dma330_explanation, cause) == 40);
 DMA330_ASSERT(moment, sizeof(dma330_moment) == 24 && offsetof(dma330_moment, cleared) == 16);
 DMA330_ASSERT(work, sizeof(dma330_work) == 64 && offsetof(dma330_work, copied) == 32 && offsetof(dma330_work, addr) == 60);
+/* Alignments, which #pragma pack changes: where a member lies after a char. */
+#define DMA330_ALIGNED(type, bytes) \
+    struct dma330_after_char_##type { \
+        char first; \
+        type second; \
+    }; \
+    DMA330_ASSERT(alignment_##type, offsetof(struct dma330_after_char_##type, second) == (bytes))
+DMA330_ALIGNED(uint32_t, 4);
+DMA330_ALIGNED(uint64_t, 8);
+DMA330_ALIGNED(size_t, 8);
+DMA330_ALIGNED(dma330_segment, 4);
+DMA330_ALIGNED(dma330_region, 8);
+#undef DMA330_ALIGNED
 #undef DMA330_ASSERT
 
 #ifdef __cplusplus

@@ -137,43 +137,29 @@ static void pl330_set_irqs(PL330State *s)
     }
 }
 
-/* Returns how many channels execute instructions; one that waits does not. */
-static uint32_t pl330_running(PL330State *s)
+/* Returns how long these steps take by step-ns: at least as long as one. */
+static int64_t pl330_steps_ns(PL330State *s, uint32_t steps)
 {
-    uint32_t running = 0;
-
-    for (uint32_t n = 0; n < s->config.channels; n++) {
-        uint8_t now = pl330_status(s, n);
-
-        running += now != PL330_STOPPED && now != PL330_WAITING &&
-                   now != PL330_FAULTING;
-    }
-    /* (a waiting channel whose event was just set runs in the next slice) */
-    return MAX(running, 1);
-}
-
-/* Returns the pause that step-ns asks for if this many channels run. */
-static int64_t pl330_steps_ns(PL330State *s, uint32_t channels)
-{
-    return (int64_t)s->step_ns * PL330_TIMED_STEPS * channels;
+    return (int64_t)s->step_ns * MAX(steps, 1);
 }
 
 /*
  * Arms the timer for the next slice, unless it is armed already, or stops it if
- * no channel can step. If step-ns isn't 0, it takes the place of the pause.
+ * no channel can step. If step-ns isn't 0, the pause is the time of the steps
+ * that the last slice took, and the timer isn't stopped: a program that the
+ * guest starts meanwhile waits for its end.
  */
-static void pl330_arm(PL330State *s, int64_t pause)
+static void pl330_arm(PL330State *s, int64_t pause, uint32_t steps)
 {
+    bool is_timed = s->step_ns != 0;
     uint32_t can_step = 0;
 
     dma330_device_can_step(&s->device, &can_step);
-    if (!can_step) {
+    if (!can_step && !is_timed) {
         timer_del(s->timer);
-    } else if (!timer_pending(s->timer)) {
-        if (s->step_ns) {
-            pause = pl330_steps_ns(s, pl330_running(s));
-        }
-        timer_mod(s->timer, qemu_clock_get_ns(QEMU_CLOCK_VIRTUAL) + pause);
+    } else if ((can_step || steps) && !timer_pending(s->timer)) {
+        timer_mod(s->timer, qemu_clock_get_ns(QEMU_CLOCK_VIRTUAL) +
+                  (is_timed ? pl330_steps_ns(s, steps) : pause));
     }
 }
 
@@ -204,7 +190,7 @@ static void pl330_write(void *opaque, hwaddr offset, uint64_t value,
                                     s->lent.count));
     pl330_report(s);
     pl330_set_irqs(s);
-    pl330_arm(s, 1);
+    pl330_arm(s, 1, 0);
 }
 
 static const MemoryRegionOps pl330_ops = {
@@ -245,10 +231,11 @@ static void pl330_mark_written(PL330State *s, dma330_segment written)
 }
 
 /*
- * Lets the next channel take a turn, or one for each row of a rectangle.
- * Returns whether any can step after it.
+ * Lets the next channel take a turn, or one for each row of a rectangle, and
+ * counts the steps, without one that waits. Returns whether any can step after
+ * it.
  */
-static bool pl330_turn(PL330State *s)
+static bool pl330_turn(PL330State *s, uint32_t *steps)
 {
     uint32_t n = s->next_channel;
     uint32_t most = s->step_ns ? PL330_TIMED_STEPS : PL330_STEPS;
@@ -265,6 +252,10 @@ static bool pl330_turn(PL330State *s)
     }
     if (rows.lines_changed) {
         pl330_set_irqs(s);
+    }
+    *steps += rows.count * rows.taken;
+    if (rows.taken && pl330_status(s, n) == PL330_WAITING) {
+        *steps -= 1;
     }
     s->next_channel = (n + 1) % s->config.channels;
     return rows.can_step;
@@ -296,14 +287,14 @@ static bool pl330_may_begin(PL330State *s, int64_t now)
 static void pl330_slice(void *opaque)
 {
     PL330State *s = opaque;
-    uint32_t turns = 0;
+    uint32_t turns = 0, steps = 0;
     bool can_step, is_over;
 
     if (!pl330_may_begin(s, qemu_clock_get_ns(QEMU_CLOCK_VIRTUAL))) {
         return;
     }
     do {
-        can_step = pl330_turn(s);
+        can_step = pl330_turn(s, &steps);
         turns++;
         pl330_ended = qemu_clock_get_ns(QEMU_CLOCK_VIRTUAL);
         is_over = s->step_ns || icount_enabled()
@@ -314,7 +305,7 @@ static void pl330_slice(void *opaque)
         s->next_channel = 0; /* (so that a replay needn't know it) */
     }
     pl330_report(s);
-    pl330_arm(s, PL330_PAUSE_NS);
+    pl330_arm(s, PL330_PAUSE_NS, steps);
 }
 
 static void pl330_begin(MemoryListener *l)
@@ -436,7 +427,8 @@ static int pl330_post_load(void *opaque, int version_id)
 {
     PL330State *s = opaque;
     uint64_t latest = qemu_clock_get_ns(QEMU_CLOCK_VIRTUAL) +
-        MAX(PL330_PAUSE_NS, pl330_steps_ns(s, s->config.channels));
+        MAX(PL330_PAUSE_NS, pl330_steps_ns(s, (PL330_TIMED_STEPS + 1) *
+                                           s->config.channels));
 
     if (s->save_len > sizeof(s->save) ||
         dma330_device_restore(&s->device, s->save, s->save_len) != DMA330_OK) {
@@ -449,7 +441,7 @@ static int pl330_post_load(void *opaque, int version_id)
     if (timer_expire_time_ns(s->timer) > latest) {
         timer_del(s->timer);
     }
-    pl330_arm(s, 1);
+    pl330_arm(s, 1, 0);
     return 0;
 }
 

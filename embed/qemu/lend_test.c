@@ -1,7 +1,7 @@
 /* Tests which regions dma330.c lends: a part of RAM that the guest sees at two addresses is lent at the lower one only,
  * or at the one where it can be written; the rest of both sections is lent, and each reference to an owner that was
- * taken is dropped. Tests also when a slice may begin. ../check.sh compiles it with stubs in place of QEMU's headers;
- * the functions that it doesn't define are never called. */
+ * taken is dropped. Tests also when a slice may begin, and how long one takes if step-ns isn't 0. ../check.sh compiles
+ * it with stubs in place of QEMU's headers; the functions that it doesn't define are never called. */
 #include "dma330.c"
 #include <stdio.h>
 
@@ -52,16 +52,68 @@ void trace_dma330_lend(uint32_t addr, uint32_t len, uint32_t read_only)
 }
 
 static int counts; /* instructions, as with -icount */
-static int64_t armed;
+static int64_t now, armed; /* armed is 0 while the timer isn't */
 
 int icount_enabled(void)
 {
     return counts;
 }
 
+int64_t qemu_clock_get_ns(int clock)
+{
+    return now;
+}
+
 void timer_mod(QEMUTimer *timer, int64_t at)
 {
     armed = at;
+}
+
+void timer_del(QEMUTimer *timer)
+{
+    armed = 0;
+}
+
+bool timer_pending(QEMUTimer *timer)
+{
+    return armed != 0;
+}
+
+void qemu_set_irq(qemu_irq irq, int level)
+{
+}
+
+void trace_dma330_write(uint32_t offset, uint32_t value)
+{
+}
+
+void trace_dma330_start(int thread, uint32_t pc)
+{
+}
+
+void trace_dma330_fault(int thread, uint32_t pc, uint32_t fault)
+{
+}
+
+void trace_dma330_irqs(uint32_t irqs, uint32_t irq_abort)
+{
+}
+
+void trace_dma330_store(uint32_t channel, uint32_t addr, uint32_t len)
+{
+}
+
+void *address_space_map(AddressSpace *as, hwaddr addr, hwaddr *len, bool is_write, int attrs)
+{
+    return NULL;
+}
+
+void address_space_unmap(AddressSpace *as, void *bytes, hwaddr len, bool is_write, hwaddr written)
+{
+}
+
+void qemu_log_mask(int mask, const char *format, ...)
+{
 }
 
 static int failed;
@@ -116,6 +168,91 @@ static void test_pauses(void)
     test_slice("with -icount", 300001, true, 400000);
 }
 
+/* ---- the time of a slice ---- */
+
+enum { STEP_NS = 100, PROGRAMS_AT = 0x1000, EACH = 16 };
+
+/* The guest starts the program of a channel, or sends event 1, or does neither; then the timer fires if it is armed.
+ * Before that it must be armed for `after` steps from now, and afterwards for `slice` steps from then on; or not at all
+ * if the number is 0. */
+typedef struct timing {
+    const char *what;
+    int channel;
+    uint32_t after, slice;
+} timing;
+
+enum { NONE = -1, SENDS = -2 };
+
+static const uint8_t programs[][EACH] = {
+    {0x18, 0x18, 0x00},                   /* DMANOP, DMANOP, DMAEND */
+    {0x20, 9, 0x18, 0x38, 1, 0x00},       /* DMALP of 10 rounds of DMANOP and DMALPEND, DMAEND */
+    {0x18, 0x36, 1 << 3, 0x18, 0x00},     /* DMANOP, DMAWFE 1, DMANOP, DMAEND */
+    {0x34, 0, 0x00},                      /* DMASEV 0, which is an interrupt, DMAEND */
+    {0x18, 0xFF},                         /* DMANOP, and no instruction */
+};
+
+static const timing timings[] = {
+    {"nothing runs", NONE, 0, 0},
+    {"three steps", 0, 1, 3},
+    {"their time is over", NONE, 3, 0},
+    {"a loop of 22 steps", 1, 1, 16},
+    {"its rest", NONE, 16, 6},
+    {"three steps, once the time of the rest is over", 0, 6, 3},
+    {"their time is over again", NONE, 3, 0},
+    {"a step before a wait", 2, 1, 1},
+    {"the wait takes no time", NONE, 1, 0},
+    {"the wait is over", SENDS, 1, 3},
+    {"an interrupt and the step after it", 3, 3, 2},
+    {"a step and one that fails", 4, 2, 2},
+    {"three steps in the time of others", 0, 2, 3},
+    {"nothing more", NONE, 3, 0},
+};
+
+/* Makes the manager execute an instruction. */
+static void debug(PL330State *s, uint32_t code, uint32_t operand, uint32_t number)
+{
+    pl330_write(s, 0xD08, operand << 24 | code << 16, 4);
+    pl330_write(s, 0xD0C, number, 4);
+    pl330_write(s, 0xD04, 0, 4);
+}
+
+static void test_times(void)
+{
+    static PL330State s = {.config = {8, 2, 0, 64, 16, 3}, .step_ns = STEP_NS};
+
+    if (dma330_device_open(&s.device, &s.config) != DMA330_OK)
+        abort();
+    s.lent.count = 1;
+    s.lent.regions[0] = (dma330_region){.addr = PROGRAMS_AT, .bytes = ram, .len = sizeof ram};
+    memcpy(ram, programs, sizeof programs);
+    pl330_write(&s, 0x020, 1, 4);
+    armed = 0;
+    for (size_t n = 0; n < sizeof timings / sizeof *timings; n++) {
+        const timing *it = &timings[n];
+        int64_t due = it->after ? now + STEP_NS * it->after : 0, end;
+
+        if (it->channel >= 0)
+            debug(&s, 0xA0, it->channel, PROGRAMS_AT + EACH * it->channel);
+        else if (it->channel == SENDS)
+            debug(&s, 0x34, 1 << 3, 0);
+        end = it->slice ? due + STEP_NS * it->slice : 0;
+        if (armed != due) {
+            printf("%s: the timer is armed for %lld\n", it->what, (long long)armed);
+            failed = 1;
+        }
+        if (armed) {
+            now = armed;
+            armed = 0;
+            pl330_slice(&s);
+        }
+        if (armed != end) {
+            printf("%s: the timer is armed for %lld then\n", it->what, (long long)armed);
+            failed = 1;
+        }
+    }
+    dma330_device_close(&s.device);
+}
+
 int main(void)
 {
     static MemoryRegion mem = {0}, rom = {1}, regs = {2};
@@ -151,6 +288,7 @@ int main(void)
     test("more than fit", many, DMA330_MAX_REGIONS + 8, (const uint32_t(*)[4])many_wanted, DMA330_MAX_REGIONS);
     test("none", NULL, 0, NULL, 0);
     test_pauses();
+    test_times();
     printf(failed ? "failed\n" : "passed\n");
     return failed;
 }

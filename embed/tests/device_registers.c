@@ -360,10 +360,12 @@ static void writes_counts(void)
 static void refuses_a_closed_device(dma330_device *device)
 {
     dma330_device_turn t = {{7, 7}, 7, 7};
-    dma330_device_rows rows = {{7, 7}, 7, 7, 7, 7, 7}, unwritten = rows;
+    dma330_device_rows rows, unwritten;
     dma330_registers r = {7, 7, 7, 7, 7, 7, 7, 7, 7};
     uint32_t value = 7;
 
+    memset(&rows, 7, sizeof rows);
+    memcpy(&unwritten, &rows, sizeof rows);
     lend(&m);
     m.regions[1].addr = 0;
     check(dma330_device_reset(device) == DMA330_NOT_OPEN, "a reset", 0);
@@ -386,9 +388,11 @@ static bool are_refused(const dma330_region *regions, size_t count)
     static const uint32_t offsets[] = {DBGCMD, INTEN, CR0, 1};
     static dma330_region lent[65];
     dma330_device_turn t = {{7, 7}, 7, 7};
-    dma330_device_rows rows = {{7, 7}, 7, 7, 7, 7, 7}, unwritten = rows;
+    dma330_device_rows rows, unwritten;
     bool holds = true;
 
+    memset(&rows, 7, sizeof rows);
+    memcpy(&unwritten, &rows, sizeof rows);
     memcpy(lent, regions, count * sizeof regions[0]);
     for (int n = 0; n < 4; n++)
         holds = holds && dma330_device_write(&m.device, offsets[n], 0, lent, count) == DMA330_BAD_REGIONS;

@@ -1,5 +1,6 @@
 /* Tests dma330_device_step_rows. Two machines run the same program: one by this call, the other by the turns that it
- * reports, one by one. Both must be the same after each call. Link it with heap.h's flags. */
+ * reports, one by one. Both must be the same after each call. Tests also how many steps turns take. Link it with
+ * heap.h's flags. */
 #include "guest.h"
 
 #include <string.h>
@@ -51,37 +52,37 @@ static uint32_t run_both(uint32_t most, uint32_t limit, uint32_t *several)
 
 /* ---- rectangles ---- */
 
-/* Rows that a program copies: how many bytes each has, their pitches, how many there are, and in how many calls they are
- * copied at most. A row is a call where rows aren't copied at once. */
+/* Rows that a program copies: how many bytes each has, their pitches, how many there are, in how many calls they are
+ * copied at most, and how many steps the program takes. A row is a call where rows aren't copied at once. */
 #define FROM (LOW + 0x100)
 #define TO (NEXT + 0x20)
 static const struct {
     const char *what;
-    uint32_t src, dst, len, src_pitch, dst_pitch, rows, calls;
+    uint32_t src, dst, len, src_pitch, dst_pitch, rows, calls, steps;
     uint8_t program[48];
 } rectangles[] = {
-    {"rows of 64 bytes", FROM, TO, 64, 80, 96, 60, 4,
+    {"rows of 64 bytes", FROM, TO, 64, 80, 96, 60, 4, 3 + 1 + 60 * 5 + 1,
      {MOVE(TO_SAR, FROM), MOVE(TO_DAR, TO), MOVE(TO_CCR, BURSTS(2, 16)), DMALP, 59, DMALD, DMAST, ADDH_SAR, HALF(16),
       ADDH_DAR, HALF(32), DMALPEND, 8, DMAEND}},
-    {"a packed source", FROM, TO, 64, 64, 68, 60, 4,
+    {"a packed source", FROM, TO, 64, 64, 68, 60, 4, 3 + 1 + 60 * 4 + 1,
      {MOVE(TO_SAR, FROM), MOVE(TO_DAR, TO), MOVE(TO_CCR, BURSTS(2, 16)), DMALP, 59, DMALD, DMAST, ADDH_DAR, HALF(4),
       DMALPEND, 5, DMAEND}},
-    {"a packed destination", FROM, TO, 64, 72, 64, 60, 4,
+    {"a packed destination", FROM, TO, 64, 72, 64, 60, 4, 3 + 1 + 60 * 5 + 1,
      {MOVE(TO_SAR, FROM), MOVE(TO_DAR, TO), MOVE(TO_CCR, BURSTS(3, 8)), DMALP, 59, DMALD, DMAST, ADDH_SAR, HALF(8),
       ADDH_DAR, HALF(0), DMALPEND, 8, DMAEND}},
-    {"within one picture", FROM, FROM + 64, 64, 128, 128, 60, 4,
+    {"within one picture", FROM, FROM + 64, 64, 128, 128, 60, 4, 3 + 1 + 60 * 5 + 1,
      {MOVE(TO_SAR, FROM), MOVE(TO_DAR, FROM + 64), MOVE(TO_CCR, BURSTS(3, 8)), DMALP, 59, DMALD, DMAST, ADDH_SAR,
       HALF(64), ADDH_DAR, HALF(64), DMALPEND, 8, DMAEND}},
-    {"within one picture, down by a row", FROM, FROM + 64, 32, 64, 64, 60, 4,
+    {"within one picture, down by a row", FROM, FROM + 64, 32, 64, 64, 60, 4, 3 + 1 + 60 * 5 + 1,
      {MOVE(TO_SAR, FROM), MOVE(TO_DAR, FROM + 64), MOVE(TO_CCR, BURSTS(3, 4)), DMALP, 59, DMALD, DMAST, ADDH_SAR,
       HALF(32), ADDH_DAR, HALF(32), DMALPEND, 8, DMAEND}},
-    {"two pairs a row", FROM, TO, 32, 64, 40, 60, 4,
+    {"two pairs a row", FROM, TO, 32, 64, 40, 60, 4, 3 + 1 + 60 * 8 + 1,
      {MOVE(TO_SAR, FROM), MOVE(TO_DAR, TO), MOVE(TO_CCR, BURSTS(2, 4)), DMALP, 59, DMALD, DMAST, DMALD, DMANOP, DMAST,
       ADDH_SAR, HALF(32), ADDH_DAR, HALF(8), DMALPEND, 11, DMAEND}},
-    {"two loops of ten rows", FROM, TO, 8, 24, 16, 100, 24,
+    {"two loops of ten rows", FROM, TO, 8, 24, 16, 100, 24, 3 + 1 + 10 * (1 + 10 * 5 + 1) + 1,
      {MOVE(TO_SAR, FROM), MOVE(TO_DAR, TO), MOVE(TO_CCR, BURSTS(3, 1)), DMALP | 2, 9, DMALP, 9, DMALD, DMAST, ADDH_SAR,
       HALF(16), ADDH_DAR, HALF(8), DMALPEND, 8, DMALPEND | 4, 12, DMAEND}},
-    {"a row onto itself", FROM, FROM + 4, 8, 16, 16, 60, 64,
+    {"a row onto itself", FROM, FROM + 4, 8, 16, 16, 60, 64, 3 + 1 + 60 * 5 + 1,
      {MOVE(TO_SAR, FROM), MOVE(TO_DAR, FROM + 4), MOVE(TO_CCR, BURSTS(2, 2)), DMALP, 59, DMALD, DMAST, ADDH_SAR,
       HALF(8), ADDH_DAR, HALF(8), DMALPEND, 8, DMAEND}},
 };
@@ -98,8 +99,65 @@ static void test_rectangles(void)
         calls = run_both(100000, 1000, &several);
         check(is_ram_wanted(&m) && get(&m, CSR) % 16 == 0, rectangles[n].what, n);
         check(calls <= rectangles[n].calls, rectangles[n].what, calls);
+        check(m.steps == rectangles[n].steps, "the steps of all turns", n);
         tear_down_both();
     }
+}
+
+/* ---- steps ---- */
+
+/* Calls for a channel that runs a program: `most` of each, and how many steps its turn takes. */
+enum { CALLS = 4 };
+static const struct {
+    const char *what;
+    uint8_t program[16];
+    uint32_t inten, most[CALLS];
+    uint64_t taken[CALLS];
+} turns[] = {
+    {"to the DMAEND, and no further", {DMANOP, DMANOP, DMAEND}, 0, {1000, 1000, 1, 0}, {3, 0, 0, 0}},
+    {"as many as asked for", {DMANOP, DMANOP, DMANOP, DMANOP, DMAEND}, 0, {0, 1, 3, 1}, {0, 1, 3, 1}},
+    {"the largest number", {DMALP, 9, DMANOP, DMALPEND, 1, DMAEND}, 0, {0xFFFFFFFF, 1}, {1 + 10 * 2 + 1, 0}},
+    {"a DMAWFE that waits counts each time", {DMANOP, DMAWFE, 1 << 3, DMAEND}, 0, {1000, 1000, 1, 0}, {2, 1, 1, 0}},
+    {"a step that fails counts once", {DMANOP, DMANOP, 0xFF}, 0, {1000, 1000, 1, 0}, {3, 0, 0, 0}},
+    {"an event that the device doesn't have", {DMASEV, 31 << 3, DMAEND}, 0, {1000, 1000}, {1, 0}},
+    {"up to the DMASEV of an event", {DMANOP, DMASEV, 0, DMANOP, DMAEND}, 0, {1000, 1000, 1000}, {2, 2, 0}},
+    {"and a step after that of an interrupt", {DMANOP, DMASEV, 0, DMAEND}, 1, {1000, 1000}, {3, 0}},
+    {"also above the most steps", {DMASEV, 0, DMASEV, 0, DMASEV, 0, DMAEND}, 1, {1, 1, 1}, {2, 2, 0}},
+    {"a wait after that of an interrupt", {DMASEV, 0, DMAWFE, 1 << 3, DMAEND}, 1, {1, 1}, {2, 1}},
+};
+
+static void test_steps(void)
+{
+    for (uint32_t n = 0; n < sizeof turns / sizeof *turns; n++) {
+        set_up_both(turns[n].program, sizeof turns[n].program);
+        set(&m, INTEN, turns[n].inten);
+        set(&other, INTEN, turns[n].inten);
+        start(&m, 0, PROGRAM);
+        start(&other, 0, PROGRAM);
+        for (uint32_t k = 0; k < CALLS; k++) {
+            m.steps = 0;
+            check(!take_rows(&m, &other, 0, turns[n].most[k]) && m.steps == turns[n].taken[k], turns[n].what, k);
+        }
+        tear_down_both();
+    }
+}
+
+/* A channel that the device doesn't have takes no step. Without usable regions, or on a closed device, the call doesn't
+ * write its report. */
+static void test_no_steps(void)
+{
+    dma330_device_rows rows = {{1, 1}, 2, 3, 4, 5, 6, 7};
+
+    set_up_both(NULL, 0);
+    check(dma330_device_step_rows(&m.device, 7, 1000, m.regions, 3, &rows) == DMA330_OK, "no such channel", 7);
+    check(rows.taken == 0 && rows.count == 1 && rows.written.len == 0, "which takes no step", 7);
+    rows.taken = 7;
+    m.regions[1].addr = LOW;
+    check(dma330_device_step_rows(&m.device, 0, 1000, m.regions, 3, &rows) == DMA330_BAD_REGIONS && rows.taken == 7,
+          "no report without usable regions", 0);
+    tear_down_both();
+    check(dma330_device_step_rows(&m.device, 0, 1000, m.regions, 0, &rows) == DMA330_NOT_OPEN && rows.taken == 7,
+          "no report of a closed device", 0);
 }
 
 /* ---- any loops ---- */
@@ -116,9 +174,9 @@ static uint32_t any(uint32_t *seed, uint32_t below)
 static uint32_t any_address(uint32_t *seed)
 {
     static const uint32_t places[] = {LOW, LOW + 0x800, NEXT - 0x400, NEXT, NEXT_END - 0x400, FAR, 0xFFFFFC00u};
-    uint32_t far = any(seed, 0x200);
+    uint32_t far = any(seed, 0x200), place = places[any(seed, 7)];
 
-    return places[any(seed, 7)] + (any(seed, 4) == 0 ? far : far & ~15u);
+    return place + (any(seed, 4) == 0 ? far : far & ~15u);
 }
 
 /* Writes a DMAADDH, or at times a DMAADNH. */
@@ -170,6 +228,8 @@ static void test_any_rows(void)
 int main(void)
 {
     test_rectangles();
+    test_steps();
+    test_no_steps();
     test_any_rows();
     return end_checks();
 }

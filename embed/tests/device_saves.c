@@ -419,6 +419,34 @@ static void restores_this_layout(void)
     tear_down(&m);
 }
 
+/* A program that has executed all but one of 2^32 - 1 instructions executes that one, and then fails without a step. */
+static void ends_after_the_last_instruction(void)
+{
+    enum { EXECUTED = HEAD + 20 + 26, LEN = HEAD + 16 };
+    dma330_device_rows r = {{1, 1}, 2, 3, 4, 5, 6, 7};
+    uint32_t len = 0;
+
+    set_up(&m, plain(1, 1, false));
+    put(&m, LOW, DMANOP);
+    put(&m, LOW + 1, DMANOP);
+    put(&m, LOW + 2, DMAEND);
+    start(&m, 0, LOW);
+    take(&m, &bad);
+    for (int n = 0; n < 4; n++) {
+        len |= (uint32_t)bad.bytes[LEN + n] << 8 * n;
+        bad.bytes[EXECUTED + n] = n > 0 ? 0xFF : 0xFE;
+    }
+    seal_bytes(bad.bytes + HEAD + 20, len);
+    seal(&bad);
+    check(dma330_device_restore(&m.device, bad.bytes, bad.len) == DMA330_OK, "one instruction before the last", 0);
+    dma330_device_step_rows(&m.device, 0, 1000, m.regions, REGIONS, &r);
+    check(r.taken == 1 && r.lines_changed == 0 && r.can_step == 1 && get(&m, CSR) % 16 == 1, "the last one", 0);
+    dma330_device_step_rows(&m.device, 0, 1000, m.regions, REGIONS, &r);
+    check(r.taken == 0 && r.lines_changed == 1 && r.can_step == 0 && get(&m, CSR) % 16 == 15, "no step after it", 0);
+    check(get(&m, FTR) == 1u << DMA330_FTR_LOCKUP_ERR, "lockup_err", get(&m, FTR));
+    tear_down(&m);
+}
+
 int main(void)
 {
     for (uint32_t bus = 32; bus <= 128; bus *= 2) {
@@ -429,5 +457,6 @@ int main(void)
     restores_anything();
     needs_room();
     restores_this_layout();
+    ends_after_the_last_instruction();
     return end_checks();
 }

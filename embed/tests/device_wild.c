@@ -135,7 +135,8 @@ static void do_anything(uint32_t *seed)
 /* A configuration, most of which a device can have. */
 static dma330_device_config any_config(uint32_t *seed)
 {
-    dma330_device_config g = plain(1 + any(seed, 8), 1 + any(seed, 32), any(seed, 5) == 0);
+    uint32_t channels = 1 + any(seed, 8), events = 1 + any(seed, 32);
+    dma330_device_config g = plain(channels, events, any(seed, 5) == 0);
 
     g.bus = 32u << any(seed, 3);
     g.lines = 1 + any(seed, 1024);

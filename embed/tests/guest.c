@@ -100,6 +100,7 @@ void set_up(machine *m, dma330_device_config config)
 {
     memset(&m->device, 0, sizeof m->device);
     memset(m->bytes, GUARD_BYTE, sizeof m->bytes);
+    m->steps = 0;
     lend(m);
     for (unsigned n = 0; n < REGIONS; n++)
         for (size_t k = 0; k < m->regions[n].len; k++)
@@ -301,20 +302,47 @@ bool turn(machine *m, uint32_t channel, uint32_t most)
     return status == 1 || status == 4;
 }
 
+/* Returns how many instructions of its program a channel has executed, or 0 if the device doesn't have the channel. */
+static uint32_t executed(machine *m, uint32_t channel)
+{
+    dma330_registers registers = {0};
+    int32_t code = dma330_device_registers(&m->device, (uint8_t)channel, &registers);
+
+    if (code != DMA330_NO_CHANNEL)
+        must(code, "dma330_device_registers");
+    return registers.taken;
+}
+
+/* Lets a channel take a turn, and returns whether this may be its number of steps, by how many instructions it
+ * executed. A last step that waits or fails isn't executed, but a DMASEV of an event that the device doesn't have is
+ * executed and fails. */
+static bool takes_steps(machine *m, uint32_t channel, uint32_t most, uint64_t steps)
+{
+    uint32_t before = executed(m, channel), former = get(m, CSR + 8 * channel) % 16, status;
+
+    turn(m, channel, most);
+    status = get(m, CSR + 8 * channel) % 16;
+    steps -= executed(m, channel) - before;
+    if (status == 15 && former != 15)
+        return steps <= 1;
+    return steps == (most > 0 && status == 4);
+}
+
 bool take_rows(machine *m, machine *by_one, uint32_t channel, uint32_t most)
 {
-    dma330_device_rows r = {{1, 1}, 2, 3, 4, 5, 6};
+    dma330_device_rows r = {{1, 1}, 2, 3, 4, 5, 6, 7};
     uint32_t lines = irqs(m);
     bool line = irq_abort(m), same = true;
 
     must(dma330_device_step_rows(&m->device, (uint8_t)channel, most, m->regions, m->region_count, &r),
          "dma330_device_step_rows");
     for (uint32_t k = 0; k < r.count; k++) {
-        turn(by_one, channel, r.steps);
+        same = takes_steps(by_one, channel, r.steps, r.taken) && same;
         same = same && by_one->written.addr == r.written.addr + k * r.pitch && by_one->written.len == r.written.len;
         same = same && (k == 0 || by_one->written.addr > r.written.addr);
     }
     m->written = r.written;
+    m->steps += r.count * r.taken;
     always(r.count > 0 && (uint64_t)r.count * r.steps <= most, "the turns are as few as asked for", r.count);
     always(r.lines_changed == (lines != irqs(m) || line != irq_abort(m)), "they report a change of the lines", channel);
     always(r.can_step == can_step(m), "they report whether there is more to do", channel);

@@ -42,6 +42,7 @@ typedef struct machine {
     dma330_region regions[DMA330_MAX_REGIONS];
     size_t region_count;
     dma330_segment written;    /* by the last turn */
+    uint64_t steps;            /* that the turns of take_rows took since set_up */
     uint8_t bytes[ALL_BYTES];
     uint8_t wanted[ALL_BYTES]; /* what a test expects them to become */
     uint8_t former[ALL_BYTES]; /* what they were before a turn */
@@ -118,7 +119,8 @@ void stop(machine *m, int thread);
 bool turn(machine *m, uint32_t channel, uint32_t most);
 
 /* Lets a channel take several turns, by dma330_device_step_rows, and that of another machine, which is the same, take them
- * one by one. Checks the report, and that both machines are the same then. Returns whether there were several turns. */
+ * one by one. Checks the report, and that both machines are the same then. Returns whether there were several turns, and
+ * adds their steps to those of the machine. */
 bool take_rows(machine *m, machine *by_one, uint32_t channel, uint32_t most);
 
 /* Lets a channel take turns until it doesn't execute. Returns whether it waits. */

@@ -29,7 +29,7 @@ use Rattle.dma_device.proofs.Writes.{turn_writes_each}
 -- ---- an access
 
 -- a turn of no steps does nothing
-rests : (e : DeviceValue) (regions : List Region) (n : ℕ) → TakesTurn e regions n 0 e regions (record { written = range_at 0 0; lines_changed = lines_differ e e })
+rests : (e : DeviceValue) (regions : List Region) (n : ℕ) → TakesTurn e regions n 0 e regions (record { written = range_at 0 0; lines_changed = lines_differ e e; taken = 0 })
 rests e regions n = record { is = refl; kept = record { places = refl; read_only = refl; names = refl } }
 
 turn_access : (n : ℕ) (a : Access) → is_turn n a ≡ true → a ≡ Turns n (most_of a)

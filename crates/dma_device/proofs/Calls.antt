@@ -1,5 +1,5 @@
 -- A call does nothing, or it takes steps; a turn has two calls.
-use Rattle.std.proofs.Common.{◌≡◌, ◌∙◌, ◌⊎◌, ℕ, ◌^◌, ◌<◌, Bool, true, false, List, [], Option, Some, None, ap, refl, sym, subst, inl, inr, true≢false}
+use Rattle.std.proofs.Common.{◌≡◌, ◌∙◌, ◌⊎◌, ℕ, ◌+◌, ◌^◌, ◌<◌, Bool, true, false, List, [], Option, Some, None, ap, refl, sym, subst, inl, inr, true≢false}
 use Rattle.std.specs.Prelude.{if◌then◌else◌, nat_lt, slice_get}
 use Rattle.std.specs.Option.{option_map_or}
 use Rattle.std.proofs.lemmas.Bool.{and_parts}
@@ -36,9 +36,9 @@ thread_left marks most t s =
     let moved : Thread = record t { channel = (machine_left marks most t s).channel } in
     answered s.device.config.events moved (last_in marks most t s) (signal_in marks most t s)
 
--- what a call that isn't made reports: nothing is written, and no flag is set
+-- what a call that isn't made reports: nothing is written, no flag is set, and no step is taken
 abbrev pub nothing : Called
-nothing = record { written = range_at 0 0; signal = None }
+nothing = record { written = range_at 0 0; signal = None; taken = 0 }
 
 -- nothing is called
 pub record Rests (made : Bool) (marks : MarkList) (n most : ℕ) (s : Setup) : Type 0 where
@@ -86,21 +86,21 @@ pub takes : (marks : MarkList) (most : ℕ) (t : Thread) (s : Setup) → TakesSt
 takes marks most t s = record { count = refl; answer = refl; ends_at = refl }
 
 -- a call has the outcome that its steps have
-pub stepped_is : (marks : MarkList) (n most : ℕ) (t : Thread) (s : Setup) (channel : ChannelValue) (image : List ℕ) (flags taken : ℕ) (last : Option ChanTurn) (made : Called) → flags < 2 ^ 32 → TakesSteps marks (machine_in s t) most taken last (machine channel image (flags_of flags)) → made.signal ≡ signal_after marks (machine_in s t) taken → made.written ≡ written_after marks (machine_in s t) taken → let after = answered s.device.config.events (record t { channel = channel }) last made.signal in stepped marks n most t s ≡ record { left = record { device = with_thread n after (with_flags flags s.device); image = image }; called = made }
-stepped_is marks n most t s channel image flags taken last made few x signal written =
+pub stepped_is : (marks : MarkList) (n most : ℕ) (t : Thread) (s : Setup) (channel : ChannelValue) (image : List ℕ) (flags taken : ℕ) (last : Option ChanTurn) (sent : Option ℕ) (range : Segment) → flags < 2 ^ 32 → TakesSteps marks (machine_in s t) most taken last (machine channel image (flags_of flags)) → sent ≡ signal_after marks (machine_in s t) taken → range ≡ written_after marks (machine_in s t) taken → let after = answered s.device.config.events (record t { channel = channel }) last sent in stepped marks n most t s ≡ record { left = record { device = with_thread n after (with_flags flags s.device); image = image }; called = record { written = range; signal = sent; taken = taken } }
+stepped_is marks n most t s channel image flags taken last sent range few x signal written =
     simp (sym x.count, sym x.ends_at, sym x.answer, sym signal, sym written, number_is flags few)
 
 -- and so it has over regions
-pub called_is : (d e : DeviceValue) (regions left : List Region) (n most : ℕ) (t : Thread) (none : MarkList) (events after : List Bool) (channel : ChannelValue) (flags : ℕ) (taken : Taken) → slice_get d.threads n ≡ Some t → none ≡ [] → events ≡ flags_of (visible_events d) → flags_of flags ≡ after → flags < 2 ^ 32 → let from = machine t.channel (image_of (pieces_of regions)) events in TakesSteps (with_gaps_of regions none) from most taken.count taken.last (machine channel (image_of (pieces_of left)) after) → taken.signal ≡ signal_after (with_gaps_of regions none) from taken.count → taken.written ≡ written_after (with_gaps_of regions none) from taken.count → e ≡ with_thread n (answered d.config.events (record t { channel = channel }) taken.last taken.signal) (with_flags flags d) → called (with_gaps_of regions []) n most (slice_get d.threads n) (setup_of d regions) ≡ outcome_of e left (record { written = taken.written; signal = taken.signal })
+pub called_is : (d e : DeviceValue) (regions left : List Region) (n most : ℕ) (t : Thread) (none : MarkList) (events after : List Bool) (channel : ChannelValue) (flags : ℕ) (taken : Taken) → slice_get d.threads n ≡ Some t → none ≡ [] → events ≡ flags_of (visible_events d) → flags_of flags ≡ after → flags < 2 ^ 32 → let from = machine t.channel (image_of (pieces_of regions)) events in TakesSteps (with_gaps_of regions none) from most taken.count taken.last (machine channel (image_of (pieces_of left)) after) → taken.signal ≡ signal_after (with_gaps_of regions none) from taken.count → taken.written ≡ written_after (with_gaps_of regions none) from taken.count → e ≡ with_thread n (answered d.config.events (record t { channel = channel }) taken.last taken.signal) (with_flags flags d) → called (with_gaps_of regions []) n most (slice_get d.threads n) (setup_of d regions) ≡ outcome_of e left (record { written = taken.written; signal = taken.signal; taken = taken.count })
 called_is d e regions left n most t none events after channel flags taken found unmarked seen bits few steps signal written device =
     let marks = with_gaps_of regions [] in
     let s = setup_of d regions in
-    let made : Called = record { written = taken.written; signal = taken.signal } in
+    let made : Called = record { written = taken.written; signal = taken.signal; taken = taken.count } in
     let now = simp (unmarked, seen, sym bits) at steps in
     let sets = simp (unmarked, seen) at signal in
     let writes = simp (unmarked, seen) at written in
     ap (λ (o : Option Thread). called marks n most o s) found
-    ∙ stepped_is marks n most t s channel (image_of (pieces_of left)) flags taken.count taken.last made few now sets writes
+    ∙ stepped_is marks n most t s channel (image_of (pieces_of left)) flags taken.count taken.last taken.signal taken.written few now sets writes
     ∙ ap (λ (f : DeviceValue). outcome_of f left made) (sym device)
 
 -- ---- a turn
@@ -122,11 +122,11 @@ follows_runs d n first on =
     beside_runs first.written (slice_get d.threads n) (and_parts (raises d first.signal) (is_beside first.written (slice_get d.threads n)) on).1
 
 -- a turn has the outcome of its two calls
-pub turn_is : (d m e : DeviceValue) (regions lent left : List Region) (n most : ℕ) (first second : Called) (range : Segment) (changed : Bool) → called_if (begins d n most) (with_gaps_of regions []) n most (setup_of d regions) ≡ outcome_of m lent first → AreKept lent regions → called_if (follows m n first) (with_gaps_of lent []) n 1 (setup_of m lent) ≡ outcome_of e left second → AreKept left lent → range ≡ joined first.written second.written → changed ≡ lines_differ d e → TakesTurn d regions n most e left (record { written = range; lines_changed = changed })
-turn_is d m e regions lent left n most first second range changed one kept two rest written lines =
+pub turn_is : (d m e : DeviceValue) (regions lent left : List Region) (n most : ℕ) (first second : Called) (range : Segment) (changed : Bool) (taken : ℕ) → called_if (begins d n most) (with_gaps_of regions []) n most (setup_of d regions) ≡ outcome_of m lent first → AreKept lent regions → called_if (follows m n first) (with_gaps_of lent []) n 1 (setup_of m lent) ≡ outcome_of e left second → AreKept left lent → range ≡ joined first.written second.written → changed ≡ lines_differ d e → taken ≡ first.taken + second.taken → TakesTurn d regions n most e left (record { written = range; lines_changed = changed; taken = taken })
+turn_is d m e regions lent left n most first second range changed taken one kept two rest written lines steps =
     let later = rw (marks_kept regions lent kept.places kept.read_only) at two in
     record {
-      is = simp (one, later, written, lines);
+      is = simp (one, later, written, lines, steps);
       kept = record { places = rest.places ∙ kept.places; read_only = rest.read_only ∙ kept.read_only; names = rest.names ∙ kept.names };
     }
 
@@ -145,6 +145,9 @@ module _ {d e : DeviceValue} {regions left : List Region} {n most : ℕ} {turn :
 
   pub turn_lines : lines_differ d (second_in d regions n most).left.device ≡ turn.lines_changed
   turn_lines = ap (λ (p : Setup × Turn). p.1.lines_changed) x.is
+
+  pub turn_taken : (first_in d regions n most).called.taken + (second_in d regions n most).called.taken ≡ turn.taken
+  turn_taken = ap (λ (p : Setup × Turn). p.1.taken) x.is
 
   -- what each of its calls keeps, the turn keeps
   pub turn_keeps : (P : DeviceValue → Type 0) → ((made : Bool) (marks : MarkList) (most : ℕ) (s : Setup) → P s.device → P (called_if made marks n most s).left.device) → P d → P e

@@ -256,8 +256,8 @@ access k = get_or accesses k (Reads 0x028)
 abbrev start : LentDevice
 start = record { device = reset_device largest; ram = record { pieces = ram; read_only = [] } }
 
--- the turn raises the interrupt and ends the program, and writes nothing
-turn_run : (next (access 4) (run access start 4)).1 ≡ Turned (record { written = range_at 0 0; lines_changed = true })
+-- the turn raises the interrupt and ends the program in two steps, and writes nothing
+turn_run : (next (access 4) (run access start 4)).1 ≡ Turned (record { written = range_at 0 0; lines_changed = true; taken = 2 })
 unfolding flags_of
 turn_run = refl
 

@@ -70,8 +70,8 @@ record Alike (p q : Outcome) : Type 0 where
   left : AreLike p.left q.left
   called : p.called ≡ q.called
 
-abbrev called_of : Segment → Option ℕ → Called
-called_of written signal = record { written = written; signal = signal }
+abbrev called_of : ℕ → Segment → Option ℕ → Called
+called_of taken written signal = record { written = written; signal = signal; taken = taken }
 
 -- a call of channel `n` that takes this number of steps
 abbrev counted : MarkList → ℕ → ℕ → Thread → Setup → Outcome
@@ -81,7 +81,7 @@ counted marks n k t s =
     let thread = answered s.device.config.events (record t { channel = to.channel }) (last_of marks (machine_in s t) k) signal in
     record {
       left = record { device = with_thread n thread (with_flags (number_of to.flags) s.device); image = to.image };
-      called = called_of (written_after marks (machine_in s t) k) signal;
+      called = called_of k (written_after marks (machine_in s t) k) signal;
     }
 
 module _ (marks : MarkList) (n most : ℕ) (s u : Setup) (h : AreLike s u) where
@@ -113,7 +113,7 @@ module _ (marks : MarkList) (n most : ℕ) (s u : Setup) (h : AreLike s u) where
           devices = record { same = put_alike n _ _ (with_flags (number_of to.flags) s.device) (with_flags (number_of end.flags) u.device) (first ∙ second ∙ third ∙ fourth) flagged };
           size = ends.size;
         };
-        called = ap (λ (r : Segment). called_of r (signal_after marks a k)) (written_alike marks a b are k) ∙ ap (called_of (written_after marks b k)) signal;
+        called = ap (λ (r : Segment). called_of k r (signal_after marks a k)) (written_alike marks a b are k) ∙ ap (called_of k (written_after marks b k)) signal;
       }
 
   stepped_alike : (t v : Thread) → blank t ≡ blank v → Alike (stepped marks n most t s) (stepped marks n most v u)
@@ -192,7 +192,7 @@ lines_same d e v w h k = rw (irqs_same h, irqs_same k, abort_same h, abort_same 
 
 -- what a turn of two such calls reports
 abbrev turn_of : Called → Called → Bool → Turn
-turn_of first second changed = record { written = joined first.written second.written; lines_changed = changed }
+turn_of first second changed = record { written = joined first.written second.written; lines_changed = changed; taken = first.taken + second.taken }
 
 pub bytes_dont_matter : BytesDontMatter
 bytes_dont_matter marks n most s u h =

@@ -4,6 +4,7 @@ use Rattle.std.proofs.Common.{is_some, ◌≡◌, ◌∙◌, ℕ, zero, suc, ◌
 use Rattle.std.specs.Prelude.{nat_eq, nat_lt, not, slice_get}
 use Rattle.std.specs.Int.{bit_at, bit_not}
 use Rattle.std.specs.List.{list_any}
+use Rattle.std.specs.Option.{option_map_or}
 use borrow.Author.Tests.{ltb-true}
 use Rattle.std.proofs.Math.Pow.{pow_mono}
 use Rattle.std.proofs.lemmas.Bool.{cases_lt, eq-eqb, eqb-true, lt-ltb, and_parts, ne_eqb, not-true}
@@ -27,6 +28,7 @@ use Rattle.dma_chan.specs.declared.turn.ChanTurn.TheVariants.{Waiting}
 use Rattle.dma_chan.specs.declared.turn.FaultKind.{FaultKind}
 use Rattle.dma_chan.proofs.StepsTaken.{steps_move, steps_stop}
 use Rattle.dma_chan.proofs.SteppedOver.{is_still, was_moved, went_before}
+use Rattle.dma_device.specs.declared.device.turns.Called.{Called}
 use Rattle.dma_device.specs.declared.device.turns.Turn.{Turn}
 use Rattle.dma_device.specs.declared.thread.Status.{Status}
 use Rattle.dma_device.specs.declared.thread.Status.TheVariants.{WaitingForEvent}
@@ -40,7 +42,7 @@ use Rattle.dma_device.specs.Idle.{IsSoundDevice, WaitsInVain, no_turn, waiting}
 use Rattle.dma_device.specs.Run.{put_from}
 use Rattle.dma_device.specs.Thread.{IsSound, answered, can_step, has_status, is_faulting, is_signalled, runs, waits_for}
 use Rattle.dma_device.specs.Turns.{Outcome, Setup, TakesTurn, begins, called_if, follows, idle, lines_differ, machine_in, runs_at, setup_of, stepped, steps_in, visible_events, with_flags}
-use Rattle.dma_device.proofs.Calls.{call_acts, call_is, follows_runs, machine_left, nothing, runs_found, stepped_is, takes, turn_device, turn_image, turn_lines, turn_written}
+use Rattle.dma_device.proofs.Calls.{call_acts, call_is, machine_left, runs_found, stepped_is, takes, turn_device, turn_image, turn_lines, turn_taken, turn_written}
 use Rattle.dma_device.proofs.Runs.{put_is}
 use Rattle.dma_device.proofs.Found.{all_at, any_at, any_set, put_back}
 use Rattle.dma_device.proofs.Interrupts.{seen_bit}
@@ -92,6 +94,7 @@ wait_answers marks s e v next clear = grind arith
 
 -- a call of a machine that waits is one step, and changes nothing
 record Still (marks : MarkList) (s w : Machine) (e taken : ℕ) (last : Option ChanTurn) : Type 0 where
+  one : taken ≡ 1
   machine : w ≡ s
   answer : last ≡ Some (Waiting e)
   signal : signal_after marks s taken ≡ None
@@ -110,6 +113,7 @@ still_call marks s w most zero e v last some x next few waits =
     ]
 still_call marks s w most (suc zero) e v last some x next few waits =
     record {
+      one = refl;
       machine = x.ends_at ∙ is_still marks s (subst ChangesNothing (sym waits) tt);
       answer = x.answer ∙ ap (λ (a : ChanTurn). Some a) waits;
       signal = ap signal_of next;
@@ -156,9 +160,13 @@ alike_is regions left places access image = record {
   read_only = access;
 }
 
+-- what a call reports that writes nothing, sets no flag and takes this number of steps
+abbrev quiet : ℕ → Called
+quiet taken = record { written = range_at 0 0; signal = None; taken = taken }
+
 -- what a call leaves that begins to wait
 abbrev wait_of : ℕ → ℕ → Thread → Setup → Outcome
-wait_of n e t s = record { left = record { device = with_thread n (waiting e t) s.device; image = s.image }; called = nothing }
+wait_of n e t s = record { left = record { device = with_thread n (waiting e t) s.device; image = s.image }; called = quiet 1 }
 
 only_waits : (marks : MarkList) (n most : ℕ) (t : Thread) (s : Setup) → IsSoundDevice s.device → 0 < most → (w : AtWait s.device.config.events (visible_events s.device) t) → stepped marks n most t s ≡ wait_of n w.event t s
 only_waits marks n most t s h some w =
@@ -172,11 +180,16 @@ only_waits marks n most t s h some w =
     let all : 2 ^ d.config.events ≤ 2 ^ 32 = pow_mono {i = d.config.events} {j = 32} h.few in
     let few : seen < 2 ^ 32 = omega (arith, and_le_l d.events (bit_not w32 d.inten), h.known.events) in
     let waits : TakesSteps marks from most count (Some (Waiting w.event)) from = record { count = refl; answer = sym still.answer; ends_at = sym still.machine } in
-    stepped_is marks n most t s t.channel s.image seen count (Some (Waiting w.event)) nothing few waits (sym still.signal) (sym still.written)
-    ∙ ap (λ (u : Thread). record { left = record { device = with_thread n u (with_flags seen d); image = s.image }; called = nothing }) (waits_now d.config.events t w.event w.known)
-    ∙ ap (λ (f : DeviceValue). record { left = record { device = with_thread n (waiting w.event t) f; image = s.image }; called = nothing }) (events_back d h)
+    stepped_is marks n most t s t.channel s.image seen count (Some (Waiting w.event)) None (range_at 0 0) few waits (sym still.signal) (sym still.written)
+    ∙ ap (λ (u : Thread). record { left = record { device = with_thread n u (with_flags seen d); image = s.image }; called = quiet count }) (waits_now d.config.events t w.event w.known)
+    ∙ ap (λ (f : DeviceValue). record { left = record { device = with_thread n (waiting w.event t) f; image = s.image }; called = quiet count }) (events_back d h)
+    ∙ ap (λ (k : ℕ). record { left = record { device = with_thread n (waiting w.event t) d; image = s.image }; called = quiet k }) still.one
 
-waits_still : (marks : MarkList) (n most : ℕ) (t : Thread) (s : Setup) → IsSoundDevice s.device → slice_get s.device.threads n ≡ Some t → 0 < most → Waits s.device.config.events (visible_events s.device) t → stepped marks n most t s ≡ idle s
+-- what a call leaves that changes nothing and takes this number of steps
+abbrev rested : ℕ → Setup → Outcome
+rested taken s = record { left = s; called = quiet taken }
+
+waits_still : (marks : MarkList) (n most : ℕ) (t : Thread) (s : Setup) → IsSoundDevice s.device → slice_get s.device.threads n ≡ Some t → 0 < most → Waits s.device.config.events (visible_events s.device) t → stepped marks n most t s ≡ rested 1 s
 waits_still marks n most t s h found some w =
     let d = s.device in
     only_waits marks n most t s h some w.at ∙ simp (same_thread d.config.events (visible_events d) t w, put_back d.threads n t found)
@@ -187,21 +200,57 @@ waits_here d n t h idle found on =
     idle_waits d.config.events (visible_events d) t (all_at (IsSound d.config.events) d.threads n t h.threads found) (sym (runs_found d n t found) ∙ on)
     (any_at (can_step (visible_events d)) d.threads n t idle found)
 
-call_rests : (made : Bool) (marks : MarkList) (n most : ℕ) (s : Setup) → IsSoundDevice s.device → list_any (can_step (visible_events s.device)) s.device.threads ≡ false → (made ≡ true → (0 < most) × (runs_at s.device n ≡ true)) → called_if made marks n most s ≡ idle s
-call_rests made marks n most s h none on = grind (arith, call_acts, call_is, waits_here, waits_still)
+by_runs : (o : Option Thread) → option_map_or runs o false ≡ true → (t : Thread) × (o ≡ Some t)
+by_runs None on = absurd (true≢false (sym on))
+by_runs (Some t) on = (t, refl)
+
+call_rests : (made : Bool) (marks : MarkList) (n most : ℕ) (s : Setup) → IsSoundDevice s.device → list_any (can_step (visible_events s.device)) s.device.threads ≡ false → (made ≡ true → (0 < most) × (runs_at s.device n ≡ true)) → called_if made marks n most s ≡ rested (flag made) s
+call_rests false marks n most s h none on = refl
+call_rests true marks n most s h none on = elim (call_is true marks n most s) [
+  | inl rests ↦
+      let found = by_runs (slice_get s.device.threads n) (on refl).1 in
+      absurd (rests.off (record { on = refl; thread = found.0; found = found.1 }))
+  | inr acts ↦
+      call_acts marks most acts
+      ∙ waits_still marks n most acts.thread s h acts.found (on refl).0 (waits_here s.device n acts.thread h none acts.found (on refl).1)
+]
 
 -- ---- a turn
 
 lines_same : (d e : DeviceValue) → e ≡ d → lines_differ d e ≡ false
 lines_same d e same = rw (same, eq-eqb (irqs d) (irqs d) refl, eq-eqb (flag (irq_abort d)) (flag (irq_abort d)) refl) refl
 
-pub record Rests (d : DeviceValue) (regions : List Region) (e : DeviceValue) (left : List Region) (turn : Turn) : Type 0 where
+-- what a turn reports that writes nothing and changes no line
+reports_none : (turn : Turn) (taken : ℕ) → turn.written ≡ range_at 0 0 → turn.lines_changed ≡ false → turn.taken ≡ taken → turn ≡ no_turn taken
+reports_none turn taken written lines steps =
+    ap (λ (r : Segment). record { written = r; lines_changed = turn.lines_changed; taken = turn.taken }) written
+    ∙ ap (λ (b : Bool). record { written = range_at 0 0; lines_changed = b; taken = turn.taken }) lines
+    ∙ ap no_turn steps
+
+pub record Rests (d : DeviceValue) (regions : List Region) (taken : ℕ) (e : DeviceValue) (left : List Region) (turn : Turn) : Type 0 where
   pub device : e ≡ d
   pub alike : AreAlike left regions
-  pub report : turn ≡ no_turn
+  pub report : turn ≡ no_turn taken
 
-pub turn_rests : (d : DeviceValue) (regions : List Region) (n most : ℕ) (e : DeviceValue) (left : List Region) (turn : Turn) → IsSoundDevice d → list_any (can_step (visible_events d)) d.threads ≡ false → TakesTurn d regions n most e left turn → Rests d regions e left turn
-turn_rests d regions n most e left turn h none x = grind (arith, alike_is, call_rests, follows_runs, lines_same, ltb-true, turn_device, turn_image, turn_lines, turn_written)
+pub turn_rests : (d : DeviceValue) (regions : List Region) (n most : ℕ) (e : DeviceValue) (left : List Region) (turn : Turn) → IsSoundDevice d → list_any (can_step (visible_events d)) d.threads ≡ false → TakesTurn d regions n most e left turn → Rests d regions (flag (begins d n most)) e left turn
+turn_rests d regions n most e left turn h none x =
+    let marks = marks_in regions in
+    let s = setup_of d regions in
+    let made = begins d n most in
+    let after : Outcome → Outcome = λ o. called_if (follows o.left.device n o.called) marks n 1 o.left in
+    let one : first_in d regions n most ≡ rested (flag made) s = call_rests made marks n most s h none (λ on.
+    let both = and_parts (nat_lt 0 most) (runs_at d n) on in (ltb-true 0 most both.0, both.1)) in
+    let two : second_in d regions n most ≡ idle s = ap after one in
+    let device : e ≡ d = sym (turn_device x) ∙ ap (λ (o : Outcome). o.left.device) two in
+    let image = sym (turn_image x) ∙ ap (λ (o : Outcome). o.left.image) two in
+    let written : turn.written ≡ range_at 0 0 = sym (turn_written x) ∙ ap (λ (o : Outcome). joined o.called.written (after o).called.written) one in
+    let lines : turn.lines_changed ≡ false = sym (turn_lines x) ∙ ap (lines_differ d) (turn_device x) ∙ lines_same d e device in
+    let sum : turn.taken ≡ flag made + 0 = sym (turn_taken x) ∙ ap (λ (o : Outcome). o.called.taken + (after o).called.taken) one in
+    record {
+      device = device;
+      alike = alike_is regions left x.kept.places x.kept.read_only image;
+      report = reports_none turn (flag made) written lines (omega (arith, sum));
+    }
 
 -- ---- a turn at a DMAWFE that waits
 
@@ -220,12 +269,6 @@ same_lines d n e t found on =
     let same = any_set is_faulting d.threads n t (waiting e t) found (sym fine) in
     rw (same, eq-eqb (irqs d) (irqs d) refl, eq-eqb (flag (irq_abort d)) (flag (irq_abort d)) refl) refl
 
--- what a turn reports that writes nothing and changes no line
-reports_none : (turn : Turn) → turn.written ≡ range_at 0 0 → turn.lines_changed ≡ false → turn ≡ no_turn
-reports_none turn written lines =
-    ap (λ (r : Segment). record { written = r; lines_changed = turn.lines_changed }) written
-    ∙ ap (λ (b : Bool). record { written = range_at 0 0; lines_changed = b }) lines
-
 pub waits_in_vain : WaitsInVain
 waits_in_vain d e regions left n most event turn t x h w some =
     let marks = marks_in regions in
@@ -235,9 +278,11 @@ waits_in_vain d e regions left n most event turn t x h w some =
     let starts : begins d n most ≡ true = ap (λ (b : Bool). b && runs_at d n) (lt-ltb 0 most some) ∙ runs_found d n t w.found ∙ w.running in
     let one : StepsThread (begins d n most) n s = record { on = starts; thread = t; found = w.found } in
     let is : first ≡ wait_of n event t s = call_acts marks most one ∙ only_waits marks n most t s h some at in
-    let second : second_in d regions n most ≡ wait_of n event t s = ap (λ (o : Outcome). called_if (follows o.left.device n o.called) marks n 1 o.left) is in
+    let after : Outcome → Outcome = λ o. called_if (follows o.left.device n o.called) marks n 1 o.left in
+    let second : second_in d regions n most ≡ idle (wait_of n event t s).left = ap after is in
     let device : with_thread n (waiting event t) d ≡ e = ap (λ (o : Outcome). o.left.device) (sym second) ∙ turn_device x in
     let image = ap (λ (o : Outcome). o.left.image) (sym second) ∙ turn_image x in
-    let written : turn.written ≡ range_at 0 0 = sym (turn_written x) ∙ ap (λ (o : Outcome). joined o.called.written (called_if (follows o.left.device n o.called) marks n 1 o.left).called.written) is in
+    let written : turn.written ≡ range_at 0 0 = sym (turn_written x) ∙ ap (λ (o : Outcome). joined o.called.written (after o).called.written) is in
     let lines : turn.lines_changed ≡ false = sym (turn_lines x) ∙ ap (lines_differ d) (turn_device x ∙ sym device) ∙ same_lines d n event t w.found w.running in
-    (sym device, alike_is regions left x.kept.places x.kept.read_only (sym image), reports_none turn written lines)
+    let steps : turn.taken ≡ 1 = sym (turn_taken x) ∙ ap (λ (o : Outcome). o.called.taken + (after o).called.taken) is in
+    (sym device, alike_is regions left x.kept.places x.kept.read_only (sym image), reports_none turn 1 written lines steps)

@@ -2,6 +2,7 @@
 use Rattle.std.specs.Prelude.{◌≡◌, ◌≢◌, ℕ, ◌+◌, ◌%◌, ◌^◌, ◌<◌, ◌≤◌, Bool, true, false, List, Some, Ok, slice_get}
 use Rattle.std.specs.List.{All, list_any}
 use Rattle.dma_mem.specs.declared.regions.Region.{Region}
+use Rattle.dma_insn.specs.ControlWord.{flag}
 use Rattle.dma_insn.specs.declared.chip.ChipInsn.TheVariants.{Wfe}
 use Rattle.dma_chan.specs.Channel.{ahead_of, last_count}
 use Rattle.dma_chan.specs.Written.{range_at}
@@ -13,7 +14,7 @@ use Rattle.dma_device.specs.Device.{DeviceValue, reset_device, with_thread}
 use Rattle.dma_device.specs.Events.{IsVisible}
 use Rattle.dma_device.specs.Snapshot.{HasKnownEvents, IsDeviceValue, head_of}
 use Rattle.dma_device.specs.Thread.{IsSound, can_step, runs}
-use Rattle.dma_device.specs.Turns.{TakesTurn, visible_events}
+use Rattle.dma_device.specs.Turns.{TakesTurn, begins, visible_events}
 use Rattle.dma_device.specs.declared.thread.Status.TheVariants.{WaitingForEvent}
 use Rattle.dma_device.specs.declared.thread.Thread.{Thread}
 
@@ -31,20 +32,22 @@ pub record StaySound : Type 0 where
   pub kept : (a : Access) (d e : DeviceValue) (regions left : List Region) (answer : Answer) →
       Does a d regions answer e left → IsSoundDevice d → IsSoundDevice e
 
--- the report of a turn that did nothing
-abbrev pub no_turn : Turn
-no_turn = record { written = range_at 0 0; lines_changed = false }
+-- the report of a turn that wrote nothing, changed no line and took this number of steps
+abbrev pub no_turn : ℕ → Turn
+no_turn taken = record { written = range_at 0 0; lines_changed = false; taken = taken }
 
 -- If none of a sound device's threads can step before a turn, of any channel, then the turn changes neither the device
--- nor a byte of the regions, and reports so. The device was sound at first, as it is after a reset and a restore. Each
--- access may be lent other regions.
+-- nor a byte of the regions, and reports so. It takes one step if the channel runs, which then waits, and `most` isn't
+-- 0; else none. The device was sound at first, as it is after a reset and a restore. Each access may be lent other
+-- regions.
 abbrev pub NothingHappens : Type 0
 NothingHappens =
     (access : ℕ → Access) (answer : ℕ → Answer) (before : ℕ → DeviceValue) (lent left : ℕ → List Region)
     (count k n most : ℕ) →
     Happen access answer before lent left count → IsSoundDevice (before 0) → k < count → access k ≡ Turns n most →
     list_any (can_step (visible_events (before k))) (before k).threads ≡ false →
-    (before (k + 1) ≡ before k) × AreAlike (left k) (lent k) × (answer k ≡ Turned no_turn)
+    (before (k + 1) ≡ before k) × AreAlike (left k) (lent k)
+    × (answer k ≡ Turned (no_turn (flag (begins (before k) n most))))
 
 -- If a thread of a sound device can step, each turn of its channel that may take a step changes the device: the thread
 -- executes an instruction, which its channel counts, or it fails, or begins to wait.
@@ -74,9 +77,9 @@ waiting event t =
 
 -- If a thread of a sound device is at a DMAWFE that waits, then a turn of its channel that may take a step changes
 -- nothing but the thread's status and CPC: it waits for the event. No byte of the regions is changed, and the turn
--- reports so.
+-- reports so, and that it took one step.
 abbrev pub WaitsInVain : Type 0
 WaitsInVain =
     (d e : DeviceValue) (regions left : List Region) (n most event : ℕ) (turn : Turn) (t : Thread) →
     TakesTurn d regions n most e left turn → IsSoundDevice d → IsAtWait d n t event → 0 < most →
-    (e ≡ with_thread n (waiting event t) d) × AreAlike left regions × (turn ≡ no_turn)
+    (e ≡ with_thread n (waiting event t) d) × AreAlike left regions × (turn ≡ no_turn 1)

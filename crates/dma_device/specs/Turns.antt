@@ -77,7 +77,7 @@ pub record Outcome : Type 0 where
 
 -- a call that does nothing
 abbrev pub idle : Setup → Outcome
-idle s = record { left = s; called = record { written = range_at 0 0; signal = None } }
+idle s = record { left = s; called = record { written = range_at 0 0; signal = None; taken = 0 } }
 
 -- the channel of a thread, with the memory and the flags that it sees
 abbrev pub machine_in : Setup → Thread → Machine
@@ -97,7 +97,7 @@ stepped marks n most t s =
     let moved : Thread = record t { channel = to.channel } in
     let thread = answered s.device.config.events moved (last_of marks (machine_in s t) k) signal in
     let device = with_thread n thread (with_flags (number_of to.flags) s.device) in
-    let called : Called = record { written = written_after marks (machine_in s t) k; signal = signal } in
+    let called : Called = record { written = written_after marks (machine_in s t) k; signal = signal; taken = k } in
     record { left = record { device = device; image = to.image }; called = called }
 
 -- `stepped`, or `idle` if there is no thread
@@ -124,6 +124,7 @@ turned marks n most s =
     let second = called_if (follows first.left.device n first.called) marks n 1 first.left in
     let turn : Turn = record {
       written = joined first.called.written second.called.written;
+      taken = first.called.taken + second.called.taken;
       lines_changed = lines_differ s.device second.left.device;
     } in
     (second.left, turn)

@@ -161,11 +161,11 @@ pub fn faults_are_exact()
 {}
 
 /// If no thread can step, a turn of any channel changes neither the device nor a byte of the regions, and reports no
-/// change. So nothing happens until the guest's next write, a reset or a restore. This holds of every list of accesses
-/// after a reset, whatever regions each is lent. If a thread can step, each turn of its channel that may take a step
-/// changes the device. At a DMAWFE of one of the device's events that isn't set, or that INTEN makes an interrupt,
-/// which the program may still execute, such a turn changes only the status and CPC of the thread, which waits: it
-/// changes no byte of the regions, and reports no change.
+/// change, and one step if the channel waits, else none. So nothing happens until the guest's next write, a reset or a
+/// restore. This holds of every list of accesses after a reset, whatever regions each is lent. If a thread can step,
+/// each turn of its channel that may take a step changes the device. At a DMAWFE of one of the device's events that
+/// isn't set, or that INTEN makes an interrupt, which the program may still execute, such a turn changes only the
+/// status and CPC of the thread, which waits: it changes no byte of the regions, and reports no change and one step.
 pub fn nothing_happens()
     ensures sound { StaySound }
     ensures nothing { NothingHappens }

@@ -141,10 +141,12 @@ rows_report_of turns e = record {
   steps = turns.rows.steps;
   lines_changed = if turns.lines_changed then 1 else 0;
   can_step = any_can_step e;
+  taken = turns.taken;
 }
 
 -- Turns of channel `n` one after another, at least one, and just one if `most` is 0. Their number times the most steps
--- of each is at most `most`, and each may take a step if `most` isn't 0. No range begins above the last address.
+-- of each is at most `most`, and each may take a step if `most` isn't 0. Each took at most one step more than that. No
+-- range begins above the last address.
 pub record TakesRows (n most : ℕ) (d : DeviceValue) (regions : List Region) (e : DeviceValue) (left : List Region)
     (report : DeviceRows) : Type 0 where
   pub turns : RowTurns
@@ -155,6 +157,7 @@ pub record TakesRows (n most : ℕ) (d : DeviceValue) (regions : List Region) (e
   pub moves : 0 < most → 0 < report.steps
   pub few : report.count * report.steps ≤ most
   pub low : (k : ℕ) → k < report.count → report.written.addr + k * report.pitch < 2 ^ 32
+  pub taken : report.taken ≤ report.steps + 1
 
 -- A call from C that takes such turns.
 abbrev pub ReportsRows : ℕ → ℕ → Option DeviceValue → List Region → DeviceRows → ℤ

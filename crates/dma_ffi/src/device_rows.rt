@@ -28,6 +28,8 @@ pub struct DeviceRows {
     pub lines_changed: u32,
     /// 1 if any channel runs and, by its status, doesn't wait for an event whose flag is clear, else 0.
     pub can_step: u32,
+    /// How many steps each turn took, at most `steps` and one more.
+    pub taken: u64,
 }
 
 // Returns the report of turns that left the device like this.
@@ -41,6 +43,7 @@ fn rows_report_of(turns: RowTurns, device: &Device) -> DeviceRows
         steps: turns.rows.steps,
         lines_changed: u32::from(turns.lines_changed),
         can_step: u32::from(device.can_step()),
+        taken: turns.taken,
     }
 }
 

@@ -65,6 +65,9 @@ pub struct DeviceRows {
     pub count: u32,
     /// Each turn is what [`Device::step`] does with this `most`.
     pub steps: u32,
+    /// The number of steps that each turn took, the last one included, whatever it did: at most `steps`, and one more
+    /// after the DMASEV of an interrupt.
+    pub taken: u64,
     /// Whether a line of [`Device::irqs`], or [`Device::irq_abort`], has changed.
     pub lines_changed: bool,
     /// What [`Device::can_step`] returns now.
@@ -174,7 +177,7 @@ impl Device {
     /// Takes several turns of a channel, one for each row, where a loop copies the rows of a rectangle by pairs of DMALD
     /// and DMAST, then DMAADDH SAR or not, then DMAADDH DAR. Else it takes one turn, which may end early where rows
     /// begin. The result is that of `count` calls of [`Device::step`] with a `most` of `steps`; `count` times `steps` is
-    /// at most `most`.
+    /// at most `most`. Together they took `count` times `taken` steps.
     ///
     /// Fails with `BadRegions`.
     pub fn step_rows(&mut self, channel: u8, most: u32, regions: &mut [Region<'_>]) -> Result<DeviceRows, Error> {
@@ -184,6 +187,7 @@ impl Device {
             pitch: rows.pitch,
             count: rows.count,
             steps: rows.steps,
+            taken: rows.taken,
             lines_changed: rows.lines_changed != 0,
             can_step: rows.can_step != 0,
         })

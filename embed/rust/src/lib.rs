@@ -1,31 +1,4 @@
-//! A verified software DMA controller (ARM DMA-330, memory to memory), for board emulators and for tests of DMA
-//! drivers.
-//!
-//! A client gives scatter-gather copies and fills to channels by the calls of Linux's dmaengine (submit, issue, status,
-//! pause, resume, terminate), and the channels run real PL330 programs, a step at a time and in any interleaving.
-//!
-//! ```
-//! use dma330::{Controller, Events, Segment, Status};
-//!
-//! let mut controller = Controller::open(64, 1)?;
-//! controller.write(0x10, &[0xAA, 0xBB, 0xCC])?;
-//! let cookie = controller.submit(0, &[Segment::new(0x10, 3)], &[Segment::new(0x20, 3)], Events::default())?;
-//! controller.issue(0)?;
-//! while controller.status(0, cookie) == Status::InProgress {
-//!     controller.step(0, 4)?;
-//! }
-//! let mut out = [0; 5];
-//! controller.read(0x1F, &mut out)?;
-//! assert_eq!(out, [0x00, 0xAA, 0xBB, 0xCC, 0x00]);
-//! # Ok::<(), dma330::Error>(())
-//! ```
-//!
-//! A [`Channel`] runs a program over memory of its caller instead, as the RAM of a guest (`examples/guest_ram.rs`). A
-//! [`Device`] is the registers of a DMA-330, over channels that run a guest's programs in its RAM.
-//!
-//! The library behind it is proved. Not proved are this crate's own code and its declarations in `sys`, which a test
-//! compares with the library's. `docs/EMBEDDING.md` of the repository has more on memory, threads and marks.
-
+#![doc = include_str!("../README.md")]
 #![deny(missing_docs, unsafe_code, clippy::undocumented_unsafe_blocks)]
 
 mod channel;

@@ -164,6 +164,7 @@ pub struct RawDeviceRows {
     pub steps: u32,
     pub lines_changed: u32,
     pub can_step: u32,
+    pub taken: u64,
 }
 
 /// A part of the caller's memory, which a channel reads and writes while it is stepped: bytes, and the address of the

@@ -167,13 +167,15 @@ fn rows_are_turns() -> Result<(), Error> {
     assert_eq!(device.step_rows(1, 1000, &mut lent)?.ranges().map(|range| range.len).collect::<Vec<u32>>(), [0]);
     let rows = device.step_rows(1, 1000, &mut lent)?;
     let written = Segment { addr: RAM + 0x200, len: 4 };
-    assert_eq!(rows, DeviceRows { written, pitch: 16, count: 3, steps: 5, lines_changed: false, can_step: true });
+    let wanted = DeviceRows { written, pitch: 16, count: 3, steps: 5, taken: 5, lines_changed: false, can_step: true };
+    assert_eq!(rows, wanted);
     let addrs: Vec<u32> = rows.ranges().map(|range| range.addr).collect();
     assert_eq!(addrs, [RAM + 0x200, RAM + 0x210, RAM + 0x220]);
     let registers = device.registers(1)?;
     assert_eq!((registers.taken, registers.stored, registers.lc0), (4 + 3 * 5, 12, 0));
     assert_eq!(device.registers(2).err(), Some(Error::NoChannel));
-    assert!(!device.step_rows(1, 1000, &mut lent)?.can_step);
+    let end = device.step_rows(1, 1000, &mut lent)?;
+    assert_eq!((end.taken, end.can_step), (5 + 1, false));
     assert_eq!((&ram[0x200..0x204], &ram[0x230..0x234]), (&[0, 1, 2, 3][..], &[24, 25, 26, 27][..]));
     Ok(())
 }

@@ -18,6 +18,8 @@ use dma_mem::segment::Segment;
 pub struct Turn {
     /// The range that it wrote. Each address in it was written, and no other was.
     pub written: Segment,
+    /// How many steps it took, the last one included, whatever it did.
+    pub taken: u64,
     /// Whether a line of `irqs`, or `irq_abort`, has changed.
     pub lines_changed: bool,
 }
@@ -28,6 +30,8 @@ pub(crate) struct Called {
     pub written: Segment,
     // The event whose flag its last step set, if any.
     pub signal: Option<Event>,
+    // How many steps it took.
+    pub taken: u32,
 }
 
 impl Device {
@@ -37,7 +41,8 @@ impl Device {
     /// burst that touches an address outside all regions fails, and so does a store that touches a read-only region.
     pub fn step(&mut self, n: u8, most: u32, regions: &mut [Region<'_>]) -> Turn
         requires { IsTrue (in_order (pieces_of regions.old)) }
-        ensures { TakesTurn self.old regions.old n most self.new regions.new result }
+        ensures turn { TakesTurn self.old regions.old n most self.new regions.new result }
+        ensures few { result.taken ≤ most + 1 }
     {
         let n = usize::from(n);
         let before = (self.irqs(), self.irq_abort());
@@ -45,6 +50,7 @@ impl Device {
         let second = self.call_if(self.follows(n, first), n, 1, regions);
         Turn {
             written: joined(first.written, second.written),
+            taken: u64::from(first.taken) + u64::from(second.taken),
             lines_changed: before.0 != self.irqs() || before.1 != self.irq_abort(),
         }
     }
@@ -63,6 +69,7 @@ impl Device {
         requires runs { IsTrue made → IsTrue (runs_at self.old n) }
         ensures calls { called_if made (with_gaps_of regions.old []) n most
             (setup_of self.old regions.old) ≡ outcome_of self.new regions.new result }
+        ensures few { result.taken ≤ most }
         ensures kept { AreKept regions.new regions.old }
         ensures end { result.written.addr + result.written.len ≤ 2 ^ 32 }
     {
@@ -72,6 +79,7 @@ impl Device {
             Called {
                 written: Segment { addr: 0, len: 0 },
                 signal: None,
+                taken: 0,
             }
         }
     }
@@ -92,6 +100,7 @@ impl Device {
         requires runs { IsTrue (runs_at self.old n) }
         ensures calls { called (with_gaps_of regions.old []) n most (slice_get self.old.threads n)
             (setup_of self.old regions.old) ≡ outcome_of self.new regions.new result }
+        ensures few { result.taken ≤ most }
         ensures kept { AreKept regions.new regions.old }
         ensures end { result.written.addr + result.written.len ≤ 2 ^ 32 }
     {
@@ -104,6 +113,7 @@ impl Device {
         Called {
             written: taken.written,
             signal: taken.signal,
+            taken: taken.count,
         }
     }
 

@@ -1,6 +1,7 @@
-use Rattle.std.proofs.Common.{◌≡◌, ◌∙◌, ◌+◌, ◌%◌, ◌^◌, ◌<◌, Some, ap, refl, rules, subst, sym, arith}
+use Rattle.std.proofs.Common.{◌≡◌, ◌∙◌, ℕ, ◌+◌, ◌%◌, ◌^◌, ◌<◌, ◌≤◌, Some, ap, refl, rules, subst, sym, arith}
 use Rattle.std.specs.Prelude.{slice_get}
 use Rattle.dma_mem.specs.Flags.{flags_of}
+use Rattle.dma_mem.proofs.Steps.{taken_few}
 use Rattle.dma_chan.specs.declared.bus.Bus.TheVariants.{Chip}
 use Rattle.dma_chan.specs.Bus.{fits}
 use Rattle.dma_chan.specs.Channel.{ChannelValue}
@@ -37,6 +38,11 @@ invariant_of-self c =
     (subst (IsSound d.config.events) (sym c.answer.ensures)
     (answered_sound _ _ _ _ c.step_regions-taken.result.count d.config.events c.step_regions-taken.result.last
     (record t { channel = channel }) c.step_regions-taken.result.signal steps refl))
+
+pub returns-clause-few : goal.returns-clause-few
+returns-clause-few c =
+    let steps = c.step_regions-taken.ensures.steps in
+    subst (λ (k : ℕ). k ≤ c.args.most) (sym steps.count) (taken_few _ c.args.most)
 
 pub returns-clause-calls : goal.returns-clause-calls
 returns-clause-calls c =

@@ -1,4 +1,4 @@
-use Rattle.std.proofs.Common.{◌≡◌, ◌≢◌, ◌∙◌, ℕ, Bool, true, [], refl, subst, sym, arith}
+use Rattle.std.proofs.Common.{◌≡◌, ◌≢◌, ◌∙◌, ℕ, ◌+◌, Bool, true, [], refl, subst, sym, arith}
 use Rattle.std.specs.Prelude.{◌==◌, not}
 use Rattle.std.proofs.lemmas.Bool.{eq-eqb, ne_eqb}
 use mathlib.Core.Bool.{beq}
@@ -31,18 +31,18 @@ by_flags x y = grind arith
 same_lines : (d e : DeviceValue) (a b : ℕ) (x y : Bool) → a ≡ irqs d → b ≡ irqs e → a ≡ b → x ≡ irq_abort d → y ≡ irq_abort e → not (beq x y) ≡ lines_differ d e
 same_lines d e a b x y p q same left right = rw (left, right, by_flags (irq_abort d) (irq_abort e), eq-eqb (irqs d) (irqs e) (sym p ∙ same ∙ q)) refl
 
-pub returns-then-before-irqs : goal.returns-then-before-irqs
-returns-then-before-irqs c =
+pub returns-then-before-irqs-clause-turn : goal.returns-then-before-irqs-clause-turn
+returns-then-before-irqs-clause-turn c =
     let one = c.call_if-first in
     let two = c.call_if-second in
     let lines = other_lines c.args.self.now two.new.self c.irqs.result c.irqs-2.result c.irqs.ensures c.irqs-2.ensures c.if-before-irqs.true in
-    turn_is c.args.self.now one.new.self two.new.self c.args.regions.now one.new.regions two.new.regions c.args.n c.args.most one.result two.result c.joined.result (not (c.irqs.result == c.irqs-2.result)) (rw (c.begins.ensures.value, c.from-n.ensures) at one.ensures.calls) one.ensures.kept (rw (c.follows.ensures.value, c.from-n.ensures) at two.ensures.calls) two.ensures.kept c.joined.ensures.range lines
+    turn_is c.args.self.now one.new.self two.new.self c.args.regions.now one.new.regions two.new.regions c.args.n c.args.most one.result two.result c.joined.result (not (c.irqs.result == c.irqs-2.result)) (c.from.result + c.from-2.result) (rw (c.begins.ensures.value, c.from-n.ensures) at one.ensures.calls) one.ensures.kept (rw (c.follows.ensures.value, c.from-n.ensures) at two.ensures.calls) two.ensures.kept c.joined.ensures.range lines (omega (arith, c.from.ensures, c.from-2.ensures))
 
-pub returns-else-before-irqs : goal.returns-else-before-irqs
-returns-else-before-irqs c =
+pub returns-else-before-irqs-clause-turn : goal.returns-else-before-irqs-clause-turn
+returns-else-before-irqs-clause-turn c =
     let one = c.call_if-first in
     let two = c.call_if-second in
     let before = c.irq_abort in
     let after = c.irq_abort-else-before-irqs in
     let lines = same_lines c.args.self.now two.new.self c.irqs.result c.irqs-2.result before.result after.result c.irqs.ensures c.irqs-2.ensures c.if-before-irqs.false before.ensures after.ensures in
-    turn_is c.args.self.now one.new.self two.new.self c.args.regions.now one.new.regions two.new.regions c.args.n c.args.most one.result two.result c.joined.result (not (beq before.result after.result)) (rw (c.begins.ensures.value, c.from-n.ensures) at one.ensures.calls) one.ensures.kept (rw (c.follows.ensures.value, c.from-n.ensures) at two.ensures.calls) two.ensures.kept c.joined.ensures.range lines
+    turn_is c.args.self.now one.new.self two.new.self c.args.regions.now one.new.regions two.new.regions c.args.n c.args.most one.result two.result c.joined.result (not (beq before.result after.result)) (c.from.result + c.from-2.result) (rw (c.begins.ensures.value, c.from-n.ensures) at one.ensures.calls) one.ensures.kept (rw (c.follows.ensures.value, c.from-n.ensures) at two.ensures.calls) two.ensures.kept c.joined.ensures.range lines (omega (arith, c.from.ensures, c.from-2.ensures))
