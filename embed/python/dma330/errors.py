@@ -1,0 +1,256 @@
+"""The exceptions: one for each code of the library, all of which are `Error`.
+
+A call raises the first that applies of those in its documentation; `NotOpen` comes before all others. A call that
+raises has changed nothing, except that `BadSave` leaves a device in its state after a reset. Wrong arguments, such as a
+guest's, are a `ValueError`, too. `Busy` and `Running` have the channel to step before the call is made again.
+"""
+from __future__ import annotations
+
+import re
+from typing import Dict, Tuple, Type
+
+from .values import Cause
+
+__all__ = ["Error", "NotOpen", "AlreadyOpen", "NoMemory", "BadEvent", "BadKind", "NoResult", "NotRunning",
+           "BufferTooSmall", "NoProgram", "OutOfMemoryRange", "Busy", "NoChannel", "CookiesSpent", "StepsSpent",
+           "BadRange", "Running", "BadChannels", "SizeOutOfRange", "BadRegions", "BadConfig", "EmptyList",
+           "TooManySegments", "EmptySegment", "SegmentWraps", "TotalsDiffer", "TooLong", "DestinationsMeet",
+           "SourceMeetsDestination", "ProgramTooLong", "BadSave", "OtherDevice", "BadMnemonic", "BadOperand",
+           "NumberOutOfRange", "CutInstruction", "UnknownInstruction", "BadField", "Unexplained"]
+
+
+class Error(Exception):
+    """A call was refused. `code` is the library's number, `name` its name in dma330.h, as "BUSY"."""
+    code = 0
+    about: Tuple[str, ...] = ()
+
+    def __init__(self, *about: object) -> None:
+        super().__init__(*about)
+        for name, value in zip(self.about, about):
+            setattr(self, name, value)
+
+    @property
+    def name(self) -> str:
+        return re.sub("(?<=[a-z])(?=[A-Z])", "_", type(self).__name__).upper()
+
+    def __str__(self) -> str:
+        return ", ".join([self.name, *("%s %s" % (it, getattr(value, "name", value))
+                                       for it, value in zip(self.about, self.args))])
+
+
+class NotOpen(Error, RuntimeError):
+    """The controller, channel or device is closed."""
+    code = -1
+
+
+class AlreadyOpen(Error, RuntimeError):
+    """It is open already."""
+    code = -2
+
+
+class NoMemory(Error, MemoryError):
+    """Out of memory: an allocation of the library failed."""
+    code = -3
+
+
+class BadEvent(Error, ValueError):
+    """An event is above 31."""
+    code = -4
+
+
+class BadKind(Error, ValueError):
+    """A kind of mark is neither 0 nor 1."""
+    code = -5
+
+
+class NoResult(Error, LookupError):
+    """The cookie hasn't finished, was never given, or its result is forgotten."""
+    code = -6
+
+
+class NotRunning(Error, LookupError):
+    """Nothing runs on the channel, or there is no such channel."""
+    code = -7
+
+
+class BufferTooSmall(Error, RuntimeError):
+    """The output has more bytes than there is room. The module makes room, so no call raises it."""
+    code = -8
+
+
+class NoProgram(Error, RuntimeError):
+    """The channel has no program."""
+    code = -9
+
+
+class OutOfMemoryRange(Error, ValueError):
+    """A range or a segment ends above the memory's size."""
+    code = -10
+
+
+class Busy(Error, RuntimeError):
+    """A running transfer conflicts: `cookie` on `channel`, of several the one on the lowest channel."""
+    code, about = -11, ("channel", "cookie")
+    channel: int
+    cookie: int
+
+
+class NoChannel(Error, ValueError):
+    """The channel's number isn't below the number of channels."""
+    code = -12
+
+
+class CookiesSpent(Error, RuntimeError):
+    """The channel has used cookie 2147483647."""
+    code = -13
+
+
+class StepsSpent(Error, RuntimeError):
+    """An instruction is due, and the step count is 2^64 - 1."""
+    code = -14
+
+
+class BadRange(Error, ValueError):
+    """A range to be marked is empty, or ends above 2^32."""
+    code = -15
+
+
+class Running(Error, RuntimeError):
+    """A checkpoint, and a transfer runs: `cookie` on `channel`."""
+    code, about = -16, ("channel", "cookie")
+    channel: int
+    cookie: int
+
+
+class BadChannels(Error, ValueError):
+    """The number of channels isn't 1 to 8."""
+    code = -20
+
+
+class SizeOutOfRange(Error, ValueError):
+    """The size of a memory isn't 1 to 4294963200."""
+    code = -21
+
+
+class BadRegions(Error, ValueError):
+    """More than 64 regions, or two share an address, or one ends above 2^32."""
+    code = -22
+
+
+class BadConfig(Error, ValueError):
+    """No device can have this configuration, or this bus, or no channel on the bus this CCR."""
+    code = -23
+
+
+class EmptyList(Error, ValueError):
+    """A list has no segment."""
+    code = -30
+
+
+class TooManySegments(Error, ValueError):
+    """A list has more than 64 segments."""
+    code = -31
+
+
+class EmptySegment(Error, ValueError):
+    """A segment has length 0."""
+    code = -32
+
+
+class SegmentWraps(Error, ValueError):
+    """A segment ends above 2^32."""
+    code = -33
+
+
+class TotalsDiffer(Error, ValueError):
+    """The lists have different numbers of bytes."""
+    code = -34
+
+
+class TooLong(Error, ValueError):
+    """A list has more than 1048576 bytes."""
+    code = -35
+
+
+class DestinationsMeet(Error, ValueError):
+    """Two destination segments share an address."""
+    code = -36
+
+
+class SourceMeetsDestination(Error, ValueError):
+    """A source and a destination segment share an address."""
+    code = -37
+
+
+class ProgramTooLong(Error, ValueError):
+    """A program has more than 8192 bytes. Of `assemble`, `place` is the line with which it does, else 0."""
+    code, about = -40, ("place",)
+    place = 0
+
+
+class BadSave(Error, ValueError):
+    """The bytes are no save of a channel in this version, or of any device."""
+    code = -42
+
+
+class OtherDevice(Error, ValueError):
+    """The save is of a device of another version or configuration."""
+    code = -43
+
+
+class BadMnemonic(Error, ValueError):
+    """Assembly: no instruction has this name. `place` is the line, from 1."""
+    code, about = -50, ("place",)
+    place: int
+
+
+class BadOperand(Error, ValueError):
+    """Assembly: an operand is missing, of a wrong form, or one too many. `place` is the line."""
+    code, about = -51, ("place",)
+    place: int
+
+
+class NumberOutOfRange(Error, ValueError):
+    """Assembly: a number is outside its range. `place` is the line."""
+    code, about = -52, ("place",)
+    place: int
+
+
+class CutInstruction(Error, ValueError):
+    """Disassembly: the bytes end within an instruction, which begins at offset `place`."""
+    code, about = -60, ("place",)
+    place: int
+
+
+class UnknownInstruction(Error, ValueError):
+    """Disassembly: no instruction begins with the byte at offset `place`."""
+    code, about = -61, ("place",)
+    place: int
+
+
+class BadField(Error, ValueError):
+    """Disassembly: a field of the instruction at offset `place` is outside its range."""
+    code, about = -62, ("place",)
+    place: int
+
+
+class Unexplained(Error, ValueError):
+    """A program isn't explained, for `cause`, a `Cause`. `pc` is the offset of the instruction that has it (0 for
+    STORES_ZEROS), `steps` how many are executed before it. `addr` is the lowest address that is stored twice, for
+    STORES_TWICE, or read and stored, for STORES_SOURCE, if `explain_work` was called; else it is 0."""
+    code, about = -70, ("cause", "pc", "steps", "addr")
+    cause: Cause
+    pc: int
+    steps: int
+    addr: int
+
+
+BY_CODE: Dict[int, Type[Error]] = {it.code: it for it in Error.__subclasses__()}
+
+
+def check(code: int, *about: object) -> int:
+    """Returns what a call returned, or raises the exception of a negative code. `about` is for one that has members."""
+    if code < 0:
+        refused = BY_CODE[code]
+        raise refused(*about[:len(refused.about)])
+    return code
