@@ -1,5 +1,6 @@
-//! Links the library. DMA330_LIB names the archive. Without it, links this repository's archive, which
-//! `make -C embed library` builds, or, if that is missing, the one that `make install` installed, which pkg-config finds.
+//! Links the library. DMA330_LIB names the archive. Without it, links the one that a release has in this crate's folder
+//! `lib`, else this repository's, which `make -C embed library` builds, else the one that `make install` installed,
+//! which pkg-config finds.
 
 use std::path::{Path, PathBuf};
 use std::process::{exit, Command};
@@ -11,13 +12,18 @@ fn main() {
     if std::env::var_os("DOCS_RS").is_some() {
         return;
     }
-    let here = std::env::var("CARGO_MANIFEST_DIR").expect("cargo names the crate's folder");
-    let built = Path::new(&here).join("../out/libdma330.a");
     match std::env::var_os("DMA330_LIB") {
         Some(named) => link(&PathBuf::from(named)),
-        None if built.is_file() => link(&built),
-        None => link(&installed()),
+        None => link(&nearby().unwrap_or_else(installed)),
     }
+}
+
+fn nearby() -> Option<PathBuf> {
+    let variable = |name| std::env::var(name).expect("cargo names the crate's folder and the target");
+    let target = format!("{}-{}", variable("CARGO_CFG_TARGET_ARCH"), variable("CARGO_CFG_TARGET_OS"));
+    let here = PathBuf::from(variable("CARGO_MANIFEST_DIR"));
+    let places = [here.join("lib").join(target).join("libdma330.a"), here.join("../out/libdma330.a")];
+    places.into_iter().find(|place| place.is_file())
 }
 
 fn installed() -> PathBuf {
@@ -26,8 +32,8 @@ fn installed() -> PathBuf {
     match folder {
         Some(folder) => Path::new(folder.trim()).join("libdma330.a"),
         None => fail(
-            "libdma330.a is missing: it isn't built in this repository, pkg-config finds none that is installed, \
-             and DMA330_LIB isn't set.\n\
+            "libdma330.a is missing for this target: a release has it in this crate's folder lib, but there is none, it \
+             isn't built in this repository, pkg-config finds none that is installed, and DMA330_LIB isn't set.\n\
              To build it, run `make -C embed library` at the top of the repository, which needs the Rattle kit. \
              Or set DMA330_LIB to the path of an archive that is built elsewhere.",
         ),
