@@ -2,11 +2,17 @@
 # Builds and runs the tests of the library for C and Rust, and adds up their counts. `make check` calls it with the
 # compilers (CC, CXX, CARGO) and the archive (LIB). If a compiler is missing, its part is left out, and a line says so.
 # QEMU_FOLDER may name a folder of qemu/build.sh: then the device for QEMU is also compiled with the headers in it.
+# OUT may name another folder than out/check for what it builds. SANITIZERS=no leaves the tests under sanitizers out, and
+# WRONG_DRIVERS=no those of the kit by wrong drivers.
 set -u
 cd "$(dirname "$0")" || exit 2
-out=out/check
+out=${OUT:-out/check}
 rm -rf "$out"
 mkdir -p "$out"
+case $out in
+    /*) full=$out ;;
+    *) full=$PWD/$out ;;
+esac
 passed=0
 failed=0
 
@@ -71,6 +77,14 @@ header() {
         printf '#include "dma330_program.h"\nextern const unsigned char program[6];
             const unsigned char program[6] = {DMA330_DMAMOV_CCR(DMA330_CCR_COPY(16, 4))};\n' |
         "$@" -pedantic-errors -Wall -Wextra -Werror -fsyntax-only -Iinclude -
+}
+
+# other_layouts: succeeds if the header refuses packed structs and a big-endian processor
+other_layouts() {
+    echo '#include "dma330.h"' >"$out/layout.c"
+    layout="$CC -w -fsyntax-only -Iinclude $out/layout.c"
+    $layout && $layout -fpack-struct=2 2>&1 | grep alignment_uint32_t &&
+        $layout -U__BYTE_ORDER__ -D__BYTE_ORDER__=__ORDER_BIG_ENDIAN__ 2>&1 | grep 'little-endian processors'
 }
 
 # names: succeeds if the archive exports the names that the header declares, and no others except those of the kit's
@@ -183,9 +197,10 @@ readme() {
 }
 
 . ./check_install.sh
+. ./check_systemc.sh
 
 # qemu_stubs MAJOR: succeeds if the device for QEMU of this version compiles without a warning, with stubs in place of
-# QEMU's headers, and lends the regions that it should
+# QEMU's headers, lends the regions that it should, and takes as much time as its steps
 qemu_stubs() {
     for it in $(sed -n 's/^#include "\(.*\)"$/\1/p' qemu/dma330.c | grep -vx dma330.h); do
         mkdir -p "$out/qemu/$(dirname "$it")"
@@ -194,7 +209,8 @@ qemu_stubs() {
     stubs="-std=gnu11 -O1 -Wall -Wextra -Wno-unused-parameter -Werror -I$out/qemu -Iqemu -Iinclude"
     stubs="$stubs -DQEMU_VERSION_MAJOR=$1"
     $CC $stubs -fsyntax-only qemu/dma330.c &&
-        $CC $stubs -ffunction-sections -fdata-sections -Wl,--gc-sections -o "$out/lend_test" qemu/lend_test.c &&
+        $CC $stubs -ffunction-sections -fdata-sections -Wl,--gc-sections -o "$out/lend_test" qemu/lend_test.c \
+            "$LIB" &&
         "$out/lend_test"
 }
 
@@ -285,6 +301,7 @@ if has "$CC"; then
     for standard in c89 c99 c11; do
         try "dma330.h in $standard" header $CC -x c -std=$standard
     done
+    try "dma330.h for other layouts" other_layouts
     c89="-std=c89 -pedantic-errors -Wall -Wextra -Iinclude"
     make_it "example.c in C89" $CC $c89 -o "$out/example_89" examples/example.c "$LIB" &&
         try "example.c in C89" example "$out/example_89"
@@ -306,19 +323,24 @@ if has "$CC"; then
     else
         echo "there is no make: the tests of what it installs are left out"
     fi
+    . ./check_abi.sh
     try "calls of dmasim" calls
     in_c plain $CC $c_flags
     kit_flags="$c_flags -Iharness"
-    count "wrong drivers" "$last_line" env "CC=$CC" "FLAGS=$kit_flags" tests/wrong_drivers.sh "$LIB" "$out/wrong"
-    with_sanitizers
+    [ "${WRONG_DRIVERS:-}" = no ] || count "wrong drivers" "$last_line" env "CC=$CC" "FLAGS=$kit_flags" \
+        tests/wrong_drivers.sh "$LIB" "$out/wrong"
+    [ "${SANITIZERS:-}" = no ] || with_sanitizers
     if has "$CXX"; then
         in_cxx
+        with_systemc
     else
         echo "there is no C++ compiler $CXX: the test of the header in C++ is left out"
     fi
 else
     echo "there is no C compiler $CC: the tests in C are left out"
 fi
+
+. ./check_python.sh
 
 # ---- Rust ----
 
@@ -329,11 +351,19 @@ cargo_in() {
     (cd "$folder" && DMA330_LIB="$LIB" $CARGO "$@")
 }
 
+# packed FOLDER: succeeds if cargo packs a crate's README, sources and examples, what a release adds, and nothing else
+packed() {
+    cargo_in "$1" package --offline --allow-dirty --list --quiet | grep -v -e '^Cargo\.' -e '^\.cargo_vcs' |
+        sort >"$out/packed"
+    (cd "$1" && find README.md build.rs examples lib src -type f) 2>/dev/null | sort | diff "$out/packed" -
+}
+
 # with_guest_memory: runs the tests of rust/vm-memory, if the crates that it uses are where Debian installs them
 with_guest_memory() {
     if ls -d /usr/share/cargo/registry/vm-memory-0.10.* >/dev/null 2>&1; then
         count "Rust tests of vm-memory" "$cargo_lines" cargo_in rust/vm-memory test --offline --quiet --no-fail-fast
         try "Rust example vmm" cargo_in rust/vm-memory run --offline --quiet --example vmm
+        try "what cargo packs of vm-memory" packed rust/vm-memory
     else
         echo "there is no librust-vm-memory-dev 0.10: the tests of rust-vmm's guest memory are left out"
     fi
@@ -348,6 +378,7 @@ else
     try "Rust example emulator" example cargo_in rust run --offline --quiet --example emulator
     try "Rust example threads" cargo_in rust run --offline --quiet --example threads
     try "Rust example guest_ram" cargo_in rust run --offline --quiet --example guest_ram
+    try "what cargo packs" packed rust
     with_guest_memory
 fi
 

@@ -1,25 +1,26 @@
 # The part of check.sh that tests what `make install` installs.
 
-prefix=$PWD/$out/prefix
+prefix=$full/prefix
 
 # install_in WORD..: calls `make install` with this archive
 install_in() {
     make --no-print-directory install LIB="$LIB" "$@"
 }
 
-# flags: prints the flags in the installed dma330.pc, with pkg-config if there is one
+# flags PREFIX: prints the flags in the dma330.pc that is installed there, with pkg-config if there is one
 flags() {
+    pcfiledir=$1/lib/pkgconfig
     if has pkg-config; then
-        PKG_CONFIG_PATH=$prefix/lib/pkgconfig pkg-config --cflags --libs dma330
+        PKG_CONFIG_PATH=$pcfiledir pkg-config --cflags --libs dma330
     else
         # dma330.pc writes a variable as a shell does
-        (eval "$(sed -n '/^[a-z]*=/p; s/^\(Cflags\|Libs\): \(.*\)/echo \2/p' "$prefix/lib/pkgconfig/dma330.pc")")
+        (eval "$(sed -n '/^[a-z]*=/p; s/^\(Cflags\|Libs\): \(.*\)/echo \2/p' "$pcfiledir/dma330.pc")")
     fi
 }
 
 # installed: succeeds if the README's lines build and run with the installed files
 installed() {
-    install_in DESTDIR= PREFIX="$prefix" && readme $(flags)
+    install_in DESTDIR= PREFIX="$prefix" && readme $(flags "$prefix")
 }
 
 # shared: succeeds if they do with the shared library, which exports the names that the header declares, and no others
@@ -65,12 +66,14 @@ uninstalled() {
     make --no-print-directory uninstall DESTDIR= PREFIX="$prefix" && [ -z "$(find "$prefix" ! -type d)" ]
 }
 
-# staged: succeeds if DESTDIR is put in front of the paths of the installed files, and does not appear inside the files
+# staged: succeeds if DESTDIR is put in front of the paths of the installed files, all users can read them whatever the
+# umask, no path of it or of the prefix is in a file, and the README's lines build and run with the files where they are
 staged() {
-    install_in PREFIX=/opt/dma330 DESTDIR="$PWD/$out/staged" &&
-        diff -r include "$out/staged/opt/dma330/include" && cmp "$LIB" "$out/staged/opt/dma330/lib/libdma330.a" &&
-        grep -qx prefix=/opt/dma330 "$out/staged/opt/dma330/lib/pkgconfig/dma330.pc" &&
-        ! grep -r "$out" "$out/staged"
+    at=$full/staged
+    (umask 077 && install_in PREFIX=/opt/dma330 DESTDIR="$at") && [ -z "$(find "$at" ! -type l ! -perm -044)" ] &&
+        [ -z "$(find "$at" -type d ! -perm -011)" ] && diff -r include "$at/opt/dma330/include" &&
+        cmp "$LIB" "$at/opt/dma330/lib/libdma330.a" && ! grep -r -e "$out" -e /opt/dma330 "$at" &&
+        readme $(flags "$at/opt/dma330")
 }
 
 # installs: tests what is installed, as far as there are the commands for it

@@ -2,9 +2,13 @@
 # Installs what is built, or removes it again; proves and builds nothing anew: install.sh install|uninstall [library]
 #
 # `make install` calls it at the top, and here with the word library, which leaves out the programs. PREFIX is an
-# absolute path; DESTDIR is put in front of it. LIB may name the library's archive. AS_BUILT=1 installs what was built
-# before a source changed. Nothing is written outside DESTDIR and PREFIX, so the tree may be one that can't be written.
+# absolute path; DESTDIR is put in front of it. LIB may name the library's archive, PROGRAMS the folder of the programs,
+# and TARGET what they are for, such as x86_64-linux. AS_BUILT=1 installs what was built before a source changed.
+# Nothing is written outside DESTDIR and PREFIX, so the tree may be one that can't be written. No installed file has
+# PREFIX in it, so all of it may be moved.
 set -eu
+# (what is installed is for all users, whatever the umask)
+umask 022
 here=$(cd "$(dirname "$0")" && pwd)
 top=$(dirname "$here")
 what=$1
@@ -13,6 +17,8 @@ to=${DESTDIR:-}$PREFIX
 version=$(sed -n 's/^#define DMA330_VERSION_[MP][A-Z]* //p' "$here/include/dma330.h" | paste -s -d .)
 major=${version%%.*}
 share=share/dma330
+# (the folder of the crate in Rust that has the archive, by the names that cargo has for processor and system)
+target=${TARGET:-$(uname -m)-linux}
 programs="dmasim dma330"
 [ "$only" != library ] || programs=
 
@@ -47,9 +53,26 @@ put_into() {
     install -m 644 "$@" "$folder"
 }
 
-# fill_in FILE NAME: installs a file in which the version and the prefix are filled in
+# put_tree FOLDER: installs the files below a folder at the place that they have here, without tests, which need other
+# files, and without what tools leave there
+put_tree() {
+    (cd "$top" && find "$1" \( -name tests -o -name target -o -name '.?*' -o -name __pycache__ \) -prune -o \
+        -type f ! -name Cargo.lock -print) >"$room/tree"
+    while read -r it; do
+        if [ -x "$top/$it" ]; then mode=755; else mode=644; fi
+        put $mode "$top/$it" "$share/$it"
+    done <"$room/tree"
+}
+
+# link_to FILE NAME: installs a link
+link_to() {
+    mkdir -p "$to/$(dirname "$2")"
+    ln -sfn "$1" "$to/$2"
+}
+
+# fill_in FILE NAME: installs a file in which the version is filled in
 fill_in() {
-    sed "s|@PREFIX@|$PREFIX|; s|@VERSION@|$version|; s|@MAJOR@|$major|" "$here/$1" >"$room/filled"
+    sed "s|@VERSION@|$version|; s|@MAJOR@|$major|" "$here/$1" >"$room/filled"
     put 644 "$room/filled" "$2"
 }
 
@@ -74,19 +97,21 @@ find_archive() {
 
 # put_page NAME SECTION DOCUMENT ABOUT: installs a document as a manual page
 put_page() {
-    awk -v name="$1" -v section="$2" -v about="$4" -v version="$version" -v share="$PREFIX/$share" \
-        -f "$here/doc/roff.awk" -f "$here/doc/document.awk" "$top/docs/$3.md" >"$room/page"
+    awk -v name="$1" -v section="$2" -v about="$4" -v version="$version" -f "$here/doc/roff.awk" \
+        -f "$here/doc/document.awk" "$top/docs/$3.md" >"$room/page"
     put 644 "$room/page" "share/man/man$2/$1.$2"
 }
 
 install_library() {
     put_into include "$here"/include/*.h
     put 644 "$archive" lib/libdma330.a
-    if ${CC:-cc} -shared -o "$room/shared" -Wl,--whole-archive "$archive" -Wl,--no-whole-archive -Wl,-z,defs \
-        -Wl,--version-script="$here/dma330.map" -Wl,-soname,"libdma330.so.$major"; then
+    # (without a build id, which is a digest of the linker's version too)
+    if ${CC:-cc} -shared -s -o "$room/shared" -Wl,--whole-archive "$archive" -Wl,--no-whole-archive -Wl,-z,defs \
+        -Wl,--version-script="$here/dma330.map" -Wl,-soname,"libdma330.so.$major" -Wl,--build-id=none \
+        -Wl,-z,relro,-z,now; then
         put 755 "$room/shared" "lib/libdma330.so.$version"
-        ln -sf "libdma330.so.$version" "$to/lib/libdma330.so.$major"
-        ln -sf "libdma330.so.$major" "$to/lib/libdma330.so"
+        link_to "libdma330.so.$version" "lib/libdma330.so.$major"
+        link_to "libdma330.so.$major" lib/libdma330.so
     else
         say "the shared library can't be linked, and is left out"
     fi
@@ -100,19 +125,32 @@ install_library() {
     put_page dma330 7 EMBEDDING 'how to embed a software DMA controller, and to test drivers'
 }
 
-# install_share: installs documents, examples and the kit for tests of drivers, in folders named as in this tree
+# install_share: installs documents, examples, and what has the library's calls in other languages, in folders named as
+# in this tree. In the place of embed/include and embed/out there are links: the crate in Rust has the archive in its
+# own folder, as a package of it has.
 install_share() {
-    put_into $share "$top/README.md" "$top/CHANGES.md"
-    for it in docs examples embed/harness embed/examples; do
+    put_into $share "$top/README.md" "$top/CHANGES.md" "$top/SECURITY.md"
+    for it in docs examples; do
         put_into "$share/$it" "$top/$it"/*.*
     done
+    for it in harness examples rust qemu python systemc; do
+        [ ! -d "$here/$it" ] || put_tree "embed/$it"
+    done
+    link_to ../../../include $share/embed/include
+    link_to ../../../lib $share/embed/lib
+    link_to ../../../lib/libdma330.a "$share/embed/rust/lib/$target/libdma330.a"
 }
 
-# find_programs: sets `found` to the programs that are built; dmasim must be
+# program PROGRAM: prints the path of a program
+program() {
+    echo "${PROGRAMS:-$top/crates/$1/out}/$1"
+}
+
+# find_programs: sets `found` to the programs that PROGRAMS has, or that are built; dmasim must be
 find_programs() {
     found=
     for it in $programs; do
-        if is_current "$it" "$top/crates/$it/out/$it"; then
+        if [ -n "${PROGRAMS:-}" ] && [ -f "$(program "$it")" ] || is_current "$it" "$(program "$it")"; then
             found="$found $it"
         elif [ "$it" = dmasim ]; then
             stop "dmasim isn't built: ./prove dmasim dma_ffi proves and builds all, in 20 to 30 minutes from nothing; it" \
@@ -125,7 +163,7 @@ find_programs() {
 
 install_programs() {
     for it in $found; do
-        put 755 "$top/crates/$it/out/$it" "bin/$it"
+        put 755 "$(program "$it")" "bin/$it"
         case $it in
             dmasim)
                 put 644 "$top/docs/man/dmasim.1" share/man/man1/dmasim.1
@@ -143,7 +181,8 @@ uninstall() {
     for it in "$here"/include/*.h; do
         rm -f "$to/include/$(basename "$it")"
     done
-    rm -f "$to/lib/libdma330.a" "$to/lib/libdma330.so" "$to"/lib/libdma330.so.[0-9]* "$to/lib/pkgconfig/dma330.pc" \
+    rm -f "$to/lib/libdma330.a" "$to/lib/libdma330.so" "$to/lib/libdma330.so.$major" \
+        "$to/lib/libdma330.so.$major".* "$to/lib/pkgconfig/dma330.pc" \
         "$to/share/man/man3/dma330.3" "$to"/share/man/man3/dma330_*.3 "$to/share/man/man7/dma330.7"
     rm -rf "$to/lib/cmake/dma330" "$to/${share:?}"
 }

@@ -1,6 +1,6 @@
 # Prints a document of docs/ as a manual page:
 #
-#     awk -v name=dma330 -v section=1 -v about=.. -v version=1.6.0 -v share=.. -f roff.awk -f document.awk DMA330.md
+#     awk -v name=dma330 -v section=1 -v about=.. -v version=1.6.0 -f roff.awk -f document.awk DMA330.md
 #
 # It reads the parts of Markdown that the documents use: headings, paragraphs, lists, indented code, and within a line
 # `code`, **bold**, *slanted* and [links](..). A paragraph that begins with a command line adds it to the synopsis.
@@ -117,5 +117,5 @@ END {
     printf ".SH DESCRIPTION\n.ad l\n%s", page
     print ".SH SEE ALSO\n.BR dmasim (1),\n.BR dmasim (5),\n.BR dma330 (1),\n.BR dma330 (3),\n.BR dma330 (7)\n.PP"
     print "The documents, and the examples that they name, are in"
-    print ".IR " escaped(share) "."
+    print ".IR share/dma330 ,\nbeside\n.IR share/man ,\nwhich has this page."
 }

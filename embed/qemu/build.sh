@@ -4,8 +4,8 @@
 # FOLDER, mostly an empty one, is the current folder if none is given; its path has no spaces or colons. It gets the
 # source package, and two programs with the Zynq and Exynos4 machines: qemu-stock has QEMU's own PL330, qemu-dma330 has
 # dma330.c in its place. Without --qemu, QEMU is 7.2 if apt has its source package, else 10.0. LIB may name the
-# library's archive, else it is ../out/libdma330.a; JOBS may say how many compilers run at once. A later run builds
-# qemu-dma330 anew and keeps the rest. Nothing outside FOLDER changes.
+# library's archive, else it is ../out/libdma330.a, or ../lib/libdma330.a in a release; JOBS may say how many compilers
+# run at once. A later run builds qemu-dma330 anew and keeps the rest. Nothing outside FOLDER changes.
 set -eu
 here=$(cd "$(dirname "$0")" && pwd)
 # shellcheck source=common.sh
@@ -27,7 +27,9 @@ case ${1:-} in
 esac
 [ $# -le 1 ] || fail "$usage"
 
-lib=$(realpath -m "${LIB:-$here/../out/libdma330.a}")
+built=$here/../out/libdma330.a
+[ -f "$built" ] || [ ! -f "$here/../lib/libdma330.a" ] || built=$here/../lib/libdma330.a
+lib=$(realpath -m "${LIB:-$built}")
 jobs=${JOBS:-$(nproc)}
 mkdir -p "${1:-.}"
 cd "${1:-.}"
