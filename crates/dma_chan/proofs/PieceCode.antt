@@ -1,9 +1,9 @@
 -- The code of pieces, one after the other: its bytes and its cost.
-use Rattle.std.proofs.Common.{◌≡◌, ℕ, zero, suc, ◌+◌, ◌*◌, ◌/◌, ◌%◌, ◌^◌, ◌<◌, ◌≤◌, List, [], ◌∷◌, ◌++◌, length, refl, sym, ap, ◌∙◌, arith, drop, get_or, map, append_assoc, append-nil, length-append, Option, Some, None, Bool, true, false, subst}
+use Rattle.std.proofs.Common.{◌≡◌, ℕ, zero, suc, ◌+◌, ◌*◌, ◌/◌, ◌%◌, ◌^◌, ◌<◌, ◌≤◌, List, [], ◌∷◌, ◌++◌, length, refl, sym, ap, ◌∙◌, arith, map, append_assoc, append-nil, length-append, Option, Some, None, Bool, true, false, subst}
 use Rattle.std.specs.Prelude.{replicate, if◌then◌else◌}
 use Rattle.std.specs.List.{AllByRecursion, All, range_with_len, flat_map}
-use Rattle.std.proofs.lemmas.List.{drop_more, length-map}
-use Rattle.std.proofs.lemmas.List.Elements.{All-from_recursion, All-head, All-tail}
+use Rattle.std.proofs.lemmas.List.{length-map}
+use Rattle.std.proofs.lemmas.List.Elements.{All-head, All-tail}
 use Rattle.std.proofs.lemmas.List.Folds.{flat_map-map}
 use Rattle.std.proofs.lemmas.List.FromFn.{length-range_with_len}
 use Rattle.dma_mem.specs.declared.segment.Segment.{Segment}
@@ -20,10 +20,10 @@ use Rattle.dma_chan.specs.Tree.{Tree, bytes_of, in_order, Nothing}
 use Rattle.dma_chan.proofs.CutPlaces.{IsPiece, pieces_right, read_by, written_by}
 
 -- what is left to spell, after one more piece
-pub rest_more : (bus : Bus) (ps : List Piece) (i : ℕ) (d : Piece) (old now new : List ℕ) → i < length ps → new ≡ now ++ bytes_of (piece_tree bus (get_or ps i d)) → now ++ bytes_of (in_order (map (piece_tree bus) (drop i ps))) ≡ old → new ++ bytes_of (in_order (map (piece_tree bus) (drop (i + 1) ps))) ≡ old
-rest_more bus ps i d old now new h e inv =
-    let rest = bytes_of (in_order (map (piece_tree bus) (drop (i + 1) ps))) in
-    ap (λ (xs : List ℕ). xs ++ rest) e ∙ append_assoc now (bytes_of (piece_tree bus (get_or ps i d))) rest ∙ ap (λ (xs : List Piece). now ++ bytes_of (in_order (map (piece_tree bus) xs))) (sym (drop_more ps i d h)) ∙ inv
+pub piece_more : (bus : Bus) (p : Piece) (ps more : List Piece) (old now new : List ℕ) → ps ≡ p ∷ more → new ≡ now ++ bytes_of (piece_tree bus p) → now ++ bytes_of (in_order (map (piece_tree bus) ps)) ≡ old → new ++ bytes_of (in_order (map (piece_tree bus) more)) ≡ old
+piece_more bus p ps more old now new is e inv =
+    let rest = bytes_of (in_order (map (piece_tree bus) more)) in
+    ap (λ (xs : List ℕ). xs ++ rest) e ∙ append_assoc now (bytes_of (piece_tree bus p)) rest ∙ ap (λ (xs : List Piece). now ++ bytes_of (in_order (map (piece_tree bus) xs))) (sym is) ∙ inv
 
 -- ---- what holds of a transfer's lists
 
@@ -86,13 +86,20 @@ pub all_small : (ps : List Piece) → AllByRecursion IsPiece ps → AllByRecursi
 all_small [] h = tt
 all_small (p ∷ ps) h = (h.0.below, all_small ps h.1)
 
--- no piece is longer than a transfer
-pub pieces_small : (t : Descriptor) → IsTransfer t → All (λ p. p.len ≤ 2 ^ 20) (pieces_of t)
-pieces_small t h = All-from_recursion (λ (p : Piece). p.len ≤ 2 ^ 20) (pieces_of t) (all_small (pieces_of t) (cut_well t h).fit)
-
 -- two lists of at most 64 segments have at most 127 pieces, and a fill one for each destination
 pub pieces_few : (t : Descriptor) → IsTransfer t → length (pieces_of t) ≤ 127
 pieces_few t h = (cut_well t h).few
+
+fewer_by : (fill : Bool) (src dst : List Segment) → (fill ≡ true → (a : ℕ) × (src ≡ record { addr = a; len = 1 } ∷ [])) → IsSegmentList src → IsSegmentList dst → (fill ≡ false → byte_count src ≡ byte_count dst) → byte_count dst ≤ 2 ^ 20 → length (if fill then fill_pieces src dst else pieces src dst) ≤ length src + length dst
+fewer_by false src dst one ss ds same low = let all = pieces_right src dst (are_ranges src ss) (are_ranges dst ds) (same refl) (omega (arith, same refl)) in omega (arith, all.fewer ss.some)
+fewer_by true src dst one ss ds same low =
+    let w = one refl in
+    rw (← fill_pieces_one w.0 src dst w.1) (omega (arith, length-map dst (fill_piece w.0)))
+
+-- no more pieces than segments
+pub pieces_fewer : (t : Descriptor) → IsTransfer t → length (pieces_of t) ≤ length t.src + length t.dst
+pieces_fewer t h =
+    fewer_by t.fill t.src t.dst h.one_byte h.source_list h.destination_list (λ e. same_count_by t.fill t.src t.dst e h.same_length) (omega (arith, h.short, byte_count_places t.dst))
 
 -- ---- how long the code is
 

@@ -14,8 +14,10 @@ ghost use Rattle.dma_chan.specs.Exec.{source_of, destination_of, act, buffer_siz
 ghost use Rattle.dma_chan.specs.Ready.{none_missing};
 ghost use Rattle.dma_chan.specs.inner.Acts.{FaultsWith};
 
+mod stores;
 mod zeros;
 
+pub(crate) use crate::bursts::stores::{store_burst, store_fault};
 pub(crate) use crate::bursts::zeros::{zero_burst, zero_fault};
 use crate::bus::Bus;
 use crate::exec::{Executor, Registers};
@@ -45,6 +47,7 @@ pub struct Burst {
 }
 
 // Returns how many bytes the first beat of a burst leaves out.
+#[inline(always)]
 fn skip_of(bus: Bus, increments: bool, addr: u32, size: u32) -> u32
     requires { 1 ≤ size }
     ensures value { result ≡ skip_of bus increments addr size }
@@ -59,6 +62,7 @@ fn skip_of(bus: Bus, increments: bool, addr: u32, size: u32) -> u32
 
 impl Burst {
     // Returns the burst that begins at this address on a bus, with the fields of one end of a control word.
+    #[inline(always)]
     fn of(bus: Bus, addr: u32, end: BurstEnd) -> Burst
         ensures value { result ≡ record {
           addr = addr;
@@ -81,6 +85,7 @@ impl Burst {
     }
 
     // Returns how many bytes the burst moves.
+    #[inline(always)]
     pub(crate) fn len(self) -> u32
         requires some { MovesSome self }
         requires limit { (self.size ≤ 16) × (self.beats ≤ 16) }
@@ -92,6 +97,7 @@ impl Burst {
     }
 
     // Returns the range of addresses that the burst touches. It contains each address once.
+    #[inline(always)]
     pub(crate) fn span(self) -> Segment
         requires some { MovesSome self }
         requires limit { (self.size ≤ 16) × (self.beats ≤ 16) }
@@ -132,6 +138,7 @@ impl Burst {
 }
 
 // Returns the burst of a load.
+#[inline(always)]
 #[tactic(auto, using(crate::proofs::BurstEnds::burst_of_end))]
 pub(crate) fn source_burst(registers: &Registers) -> Burst
     ensures value { result ≡ source_of registers.now }
@@ -143,6 +150,7 @@ pub(crate) fn source_burst(registers: &Registers) -> Burst
 }
 
 // Returns the burst of a store.
+#[inline(always)]
 #[tactic(auto, using(crate::proofs::BurstEnds::burst_of_end))]
 pub(crate) fn destination_burst(registers: &Registers) -> Burst
     ensures value { result ≡ destination_of registers.now }
@@ -184,6 +192,7 @@ fn put_run(buffer: &mut HeapCircularBuffer<u8>, byte: u8, count: u32)
 }
 
 // Appends the bytes to the buffer `rounds` times. A single byte, as in the source of a fill, is appended as one run.
+#[inline(never)]
 #[tactic(auto, using(crate::proofs::BurstRounds::one_run, crate::proofs::BurstRounds::round_put))]
 fn put_rounds(buffer: &mut HeapCircularBuffer<u8>, bytes: &[u8], rounds: u32)
     requires few { rounds ≤ 16 }
@@ -202,6 +211,7 @@ fn put_rounds(buffer: &mut HeapCircularBuffer<u8>, bytes: &[u8], rounds: u32)
 
 // Loads the bytes of a burst into the buffer. Bytes on one page are read in place, and bytes on two pages through the
 // block.
+#[inline(always)]
 #[tactic(auto, using(crate::proofs::BurstRounds::read_touched))]
 fn load_span<M: Ram>(
     burst: Burst,
@@ -221,17 +231,27 @@ fn load_span<M: Ram>(
 {
     let len = burst.span().len as usize;
     let bytes = memory.bytes(burst.addr, &mut block[..len]);
-    put_rounds(buffer, bytes, burst.rounds());
+    if burst.increments {
+        buffer.fill_from_slice(bytes);
+    } else {
+        put_rounds(buffer, bytes, burst.beats);
+    }
 }
 
-// Returns the fault of DMALD. If it is `None`, the buffer has room for the bytes of the burst, and the burst may touch
-// its addresses.
+// Returns the fault of DMALD, whose burst is `burst`. If it is `None`, the buffer has room for the bytes of the burst,
+// and the burst may touch its addresses.
+#[inline(always)]
 pub(crate) fn load_fault<M: Ram>(
     executor: &Executor,
+    burst: Burst,
     memory: &M,
     marks: &Marks,
 ) -> Option<FaultKind>
     requires capacity { executor.now.buffer.capacity ≡ buffer_size }
+    requires burst { burst ≡ source_of executor.now.registers }
+    requires addr { burst.addr ≡ executor.now.registers.sar }
+    requires some { MovesSome burst }
+    requires limit { (burst.size ≤ 16) × (burst.beats ≤ 16) }
     ensures fault { FaultsWith (with_gaps (M.loan memory.now) marks.now) Ld executor.now.registers
         executor.now.buffer.items (M.paged memory.now).image result }
     ensures room { IsNone result
@@ -243,7 +263,6 @@ pub(crate) fn load_fault<M: Ram>(
     ensures lie { IsNone result → LieIn (M.loan memory.now) (M.paged memory.now)
         executor.now.registers.sar (span_of (source_of executor.now.registers)) }
 {
-    let burst = source_burst(&executor.registers);
     if executor.buffer.len() + burst.len() as usize > BUFFER_SIZE {
         return Some(FaultKind::MfifoErr);
     }
@@ -253,7 +272,8 @@ pub(crate) fn load_fault<M: Ram>(
     None
 }
 
-// Executes DMALD.
+// Executes DMALD. It isn't inlined, so that the loop of a caller stays small.
+#[inline(never)]
 pub(crate) fn load_burst<M: Ram>(executor: &mut Executor, memory: &M, marks: &Marks) -> ChanTurn
     requires capacity { executor.old.buffer.capacity ≡ buffer_size }
     requires block { length executor.old.block.items ≡ buffer_size }
@@ -266,123 +286,12 @@ pub(crate) fn load_burst<M: Ram>(executor: &mut Executor, memory: &M, marks: &Ma
     ensures block { length executor.new.block.items ≡ buffer_size }
     ensures pc { executor.new.registers.pc ≤ executor.old.registers.pc + 1 }
 {
-    if let Some(kind) = load_fault(executor, memory, marks) {
+    let burst = source_burst(&executor.registers);
+    if let Some(kind) = load_fault(executor, burst, memory, marks) {
         return ChanTurn::Fault(kind);
     }
-    let burst = source_burst(&executor.registers);
     load_span(burst, &mut executor.buffer, &mut executor.block, memory);
     executor.registers.pc += 1;
     executor.registers.sar = executor.registers.sar.wrapping_add(burst.advance());
     ChanTurn::Moved
-}
-
-// Returns the first `count` bytes of two slices, as two slices.
-fn first_of<'a>(front: &'a [u8], back: &'a [u8], count: usize) -> (&'a [u8], &'a [u8])
-    requires { count ≤ length (front.now ++ back.now) }
-    ensures bytes { result.0.now ++ result.1.now ≡ take count (front.now ++ back.now) }
-    ensures len { length result.0.now + length result.1.now ≡ count }
-{
-    let of_front = front.len().min(count);
-    (&front[..of_front], &back[..count - of_front])
-}
-
-// Returns what follows the first `count` bytes of two slices, as two slices.
-#[tactic(auto, using(crate::proofs::BurstRounds::drop_parts))]
-fn past<'a>(front: &'a [u8], back: &'a [u8], count: usize) -> (&'a [u8], &'a [u8])
-    requires { count ≤ length (front.now ++ back.now) }
-    ensures bytes { result.0.now ++ result.1.now ≡ drop count (front.now ++ back.now) }
-    ensures len { length result.0.now + length result.1.now + count
-        ≡ length front.now + length back.now }
-{
-    let of_front = front.len().min(count);
-    (&front[of_front..], &back[count - of_front..])
-}
-
-// Stores the oldest bytes of the buffer as a burst. Bytes that a later beat would overwrite are not written.
-fn store_span<M: Ram>(burst: Burst, buffer: &mut HeapCircularBuffer<u8>, memory: &mut M)
-    requires some { MovesSome burst }
-    requires limit { (burst.size ≤ 16) × (burst.beats ≤ 16) }
-    requires bytes { burst_len burst ≤ length buffer.old.items }
-    requires within { burst.addr + span_of burst ≤ length (M.paged memory.old).image }
-    requires clear { Avoids (M.loan memory.old).gaps burst.addr (span_of burst) }
-    requires ready { IsTrue (none_missing (M.paged memory.old) (touched burst)) }
-    ensures written { (M.paged memory.new).image ≡ put (M.paged memory.old).image
-        (writes_of burst (take (burst_len burst) buffer.old.items)) }
-    ensures pages { (M.paged memory.new).made ≡ (M.paged memory.old).made }
-    ensures taken { buffer.new
-        ≡ ring (drop (burst_len burst) buffer.old.items) buffer.old.capacity }
-    ensures loan { M.loan memory.new ≡ M.loan memory.old }
-{
-    let len = burst.len() as usize;
-    let (front, back) = buffer.as_slices();
-    let (front, back) = first_of(front, back, len);
-    let (front, back) = past(front, back, len - burst.span().len as usize);
-    memory.write_parts(burst.addr, front, back);
-    buffer.truncate_front(buffer.len() - len);
-}
-
-// Returns the fault of DMAST. If it is `None`, the buffer has the bytes of the burst, and the burst may touch its
-// addresses.
-pub(crate) fn store_fault<M: Ram>(
-    executor: &Executor,
-    memory: &M,
-    marks: &Marks,
-) -> Option<FaultKind>
-    ensures fault { FaultsWith (with_gaps (M.loan memory.now) marks.now) St executor.now.registers
-        executor.now.buffer.items (M.paged memory.now).image result }
-    ensures bytes { IsNone result
-        → burst_len (destination_of executor.now.registers) ≤ length executor.now.buffer.items }
-    ensures reaches { IsNone result → IsTrue (reaches MarkKind.Writing
-        (with_gaps (M.loan memory.now) marks.now) (length (M.paged memory.now).image)
-        (touched (destination_of executor.now.registers))) }
-    ensures lie { IsNone result → LieIn (M.loan memory.now) (M.paged memory.now)
-        executor.now.registers.dar (span_of (destination_of executor.now.registers)) }
-{
-    let burst = destination_burst(&executor.registers);
-    if executor.buffer.len() < burst.len() as usize {
-        return Some(FaultKind::StDataUnavailable);
-    }
-    if !may_touch(MarkKind::Writing, marks, memory, burst) {
-        return Some(FaultKind::DataWriteErr);
-    }
-    None
-}
-
-// Executes DMAST.
-pub(crate) fn store_burst<M: Ram>(
-    executor: &mut Executor,
-    memory: &mut M,
-    marks: &Marks,
-) -> ChanTurn
-    requires capacity { executor.old.buffer.capacity ≡ buffer_size }
-    requires pc { executor.old.registers.pc < most_program_bytes }
-    requires ready { IsTrue
-        (none_missing (M.paged memory.old) (touched (destination_of executor.old.registers))) }
-    ensures exact { (flags : List Bool) → let before = (M.paged memory.old).image in
-        let after = (M.paged memory.new).image in
-        act (with_gaps (M.loan memory.old) marks.now) St
-        (state executor.old.registers executor.old.buffer.items before flags)
-        ≡ (result, state executor.new.registers executor.new.buffer.items after flags) }
-    ensures pages { (M.paged memory.new).made ≡ (M.paged memory.old).made }
-    ensures capacity { executor.new.buffer.capacity ≡ buffer_size }
-    ensures block { executor.new.block.items ≡ executor.old.block.items }
-    ensures pc { executor.new.registers.pc ≤ executor.old.registers.pc + 1 }
-    ensures loan { M.loan memory.new ≡ M.loan memory.old }
-{
-    if let Some(kind) = store_fault(executor, memory, marks) {
-        return ChanTurn::Fault(kind);
-    }
-    let burst = destination_burst(&executor.registers);
-    store_span(burst, &mut executor.buffer, memory);
-    executor.registers.pc += 1;
-    executor.registers.dar = executor.registers.dar.wrapping_add(burst.advance());
-    ChanTurn::Moved
-}
-
-// Returns how many bytes a store with these registers moves.
-pub(crate) fn stored_len(registers: &Registers) -> u32
-    ensures value { result ≡ burst_len (destination_of registers.now) }
-    ensures limit { result ≤ buffer_size }
-{
-    destination_burst(registers).len()
 }

@@ -1,19 +1,19 @@
 //! The compiler: turns a transfer into the program that copies it.
 
-ghost use Rattle.std.specs.Prelude.{ℕ, Bool, ◌≡◌, ◌+◌, ◌-◌, ◌*◌, ◌≤◌, ◌<◌, ◌^◌, ◌++◌, length, IfOk, IfSome, OnOk, map, All, not};
+ghost use Rattle.std.specs.Prelude.{ℕ, Bool, ◌≡◌, ◌+◌, ◌-◌, ◌*◌, ◌≤◌, ◌<◌, ◌^◌, ◌++◌, length, vec_capacity, IfOk, IfSome, not};
 ghost use Rattle.dma_insn.specs.Chip.{spelling};
 ghost use Rattle.dma_insn.specs.ControlWord.{beat_bytes};
-ghost use Rattle.dma_chan.specs.Tree.{bytes_of, in_order, Repeat};
-ghost use Rattle.dma_chan.specs.inner.Compiling.{Appends, word_of};
-ghost use Rattle.dma_chan.specs.Compiled.{where_some, body, bursts, under, fits, beat_of, parts, piece_tree, wait_tree, signal_tree, tree_on, cost, compiled, compiled_on, pieces_of, most_compiled};
+ghost use Rattle.dma_chan.specs.Tree.{Repeat};
+ghost use Rattle.dma_chan.specs.inner.Compiling.{Appends, cost_of, word_of};
+ghost use Rattle.dma_chan.specs.Compiled.{where_some, body, bursts, under, fits, beat_of, parts, piece_tree, wait_tree, signal_tree, tree_on, cost, cost_on, compiled, compiled_on, pieces_of, most_compiled};
 ghost use Rattle.dma_mem.specs.Limits.{last_event};
 ghost use Rattle.dma_mem.specs.Rules.{IsTransfer};
 
 mod counts;
 
 use crate::bus::Bus;
-use crate::compile::counts::cost_on;
-use crate::pieces::{Piece, pieces_of};
+use crate::compile::counts::{beats_cost, cost_on, events_cost};
+use crate::pieces::{Piece, Pieces};
 use crate::program::Program;
 use dma_insn::chip::{ChipInsn, encode_chip};
 use dma_insn::control::{Attribute, BeatSize, Beats, BurstEnd, Control};
@@ -62,35 +62,36 @@ pub fn compile(alloc: Global, transfer: &Transfer) -> Result<Program, NoMemory>
 /// and a source address that doesn't rise.
 ///
 /// It takes time in proportion to the number of pieces. The error is `NoMemory` if an allocation fails.
-#[tactic(auto, unfolding(crate::specs::Compiled::compiled_on), using(crate::proofs::PieceCode::compiled_bytes))]
+#[tactic(auto, unfolding(crate::specs::Compiled::compiled_on), using(crate::proofs::PieceCode::compiled_bytes, crate::proofs::PieceCode::pieces_fewer))]
 pub fn compile_on(alloc: Global, bus: Bus, transfer: &Transfer) -> Result<Program, NoMemory>
     ensures program { IfOk result (λ program. program ≡ compiled_on bus transfer.now) }
     ensures limit { IfOk result (λ program. length program.bytes ≤ most_compiled) }
 {
-    let pieces = pieces_of(alloc, transfer)?;
-    let code = code_of(alloc, bus, transfer, &pieces)?;
-    let cost = cost_on(bus, transfer);
+    let segments = transfer.src().len() + transfer.dst().len();
+    let mut code = Vec::with_capacity(alloc, PIECE_BYTES * segments + OTHER_BYTES)?;
+    let cost = push_program(&mut code, bus, transfer);
     Ok(Program::of_vec(code, Some(cost)))
 }
 
-// Returns the bytes of a transfer's code for a bus, from its pieces. Room for all bytes is allocated first.
-#[tactic(auto, using(crate::proofs::PieceCode::pieces_small, crate::proofs::PieceCode::pieces_few))]
-fn code_of(
-    alloc: Global,
-    bus: Bus,
-    transfer: &Transfer,
-    pieces: &[Piece],
-) -> Result<Vec<u8>, AllocError>
-    requires rules { IsTransfer transfer.now }
-    requires pieces { pieces.now ≡ pieces_of transfer.now }
-    ensures { IfOk result (λ code. code.items ≡ bytes_of (tree_on bus transfer.now)) }
+// Appends the code of a transfer for a bus, and returns how many instructions it executes.
+#[tactic(auto, using(crate::proofs::TreeCosts::cost_of_tree, crate::proofs::TreeCosts::cost_counted, crate::proofs::TreeCosts::cost_below))]
+pub(crate) fn push_program(code: &mut Vec<u8>, bus: Bus, transfer: &Transfer) -> u32
+    requires room { IsTransfer transfer.now
+        → length code.old.items + 58 * length (pieces_of transfer.now) + 5 ≤ vec_capacity code.old }
+    ensures bytes { Appends code.old.items code.new.items (tree_on bus transfer.now) }
+    ensures most { length code.new.items ≤ length code.old.items + most_compiled }
+    ensures capacity { vec_capacity code.new ≡ vec_capacity code.old }
+    ensures cost { result ≡ cost_on bus transfer.now }
 {
-    let mut code = Vec::with_capacity(alloc, PIECE_BYTES * pieces.len() + OTHER_BYTES)?;
-    push_wait(&mut code, transfer.wait())?;
-    push_pieces(&mut code, bus, pieces)?;
-    push_signal(&mut code, transfer.signal())?;
-    push(&mut code, ChipInsn::End)?;
-    Ok(code)
+    let mut pieces = Pieces::of(transfer);
+    push_wait(code, transfer.wait());
+    let mut cost = events_cost(transfer);
+    while let Some(piece) = pieces.next() {
+        cost += push_piece(code, bus, piece);
+    }
+    push_signal(code, transfer.signal());
+    push(code, ChipInsn::End);
+    cost
 }
 
 /// Returns how many instructions the program of a transfer executes. It takes time in proportion to the number of
@@ -104,61 +105,64 @@ pub fn cost_of(transfer: &Transfer) -> u32
 }
 
 // Appends the wait, if the transfer has one.
-fn push_wait(code: &mut Vec<u8>, wait: Option<u8>) -> Result<(), AllocError>
-    requires { IfSome wait (λ event. event ≤ last_event) }
-    ensures ok { OnOk result (Appends code.old.items code.new.items (wait_tree wait)) }
+fn push_wait(code: &mut Vec<u8>, wait: Option<u8>)
+    requires event { IfSome wait (λ event. event ≤ last_event) }
+    requires room { length code.old.items + 2 ≤ vec_capacity code.old }
+    ensures bytes { Appends code.old.items code.new.items (wait_tree wait) }
+    ensures most { length code.new.items ≤ length code.old.items + 2 }
+    ensures capacity { vec_capacity code.new ≡ vec_capacity code.old }
 {
     let Some(number) = wait else {
-        return Ok(());
+        return;
     };
     let (event, invalid) = (Event::of_number(number), false);
-    push(code, ChipInsn::Wfe { event, invalid })
+    push(code, ChipInsn::Wfe { event, invalid });
 }
 
 // Appends the signal, if the transfer has one.
-fn push_signal(code: &mut Vec<u8>, signal: Option<u8>) -> Result<(), AllocError>
-    requires { IfSome signal (λ event. event ≤ last_event) }
-    ensures ok { OnOk result (Appends code.old.items code.new.items (signal_tree signal)) }
+fn push_signal(code: &mut Vec<u8>, signal: Option<u8>)
+    requires event { IfSome signal (λ event. event ≤ last_event) }
+    requires room { length code.old.items + 2 ≤ vec_capacity code.old }
+    ensures bytes { Appends code.old.items code.new.items (signal_tree signal) }
+    ensures most { length code.new.items ≤ length code.old.items + 2 }
+    ensures capacity { vec_capacity code.new ≡ vec_capacity code.old }
 {
     let Some(number) = signal else {
-        return Ok(());
+        return;
     };
-    push(code, ChipInsn::Sev(Event::of_number(number)))
+    push(code, ChipInsn::Sev(Event::of_number(number)));
 }
 
-// Appends the code of the pieces, in order.
-fn push_pieces(code: &mut Vec<u8>, bus: Bus, pieces: &[Piece]) -> Result<(), AllocError>
-    requires { All (λ p. p.len ≤ 2 ^ 20) pieces.now }
-    ensures ok { OnOk result (Appends code.old.items code.new.items
-        (in_order (map (piece_tree bus) pieces.now))) }
-{
-    for piece in pieces {
-        push_piece(code, bus, *piece)?;
-    }
-    Ok(())
-}
-
-// Appends the code of a piece.
-fn push_piece(code: &mut Vec<u8>, bus: Bus, piece: Piece) -> Result<(), AllocError>
-    requires { piece.len ≤ 2 ^ 20 }
-    ensures ok { OnOk result (Appends code.old.items code.new.items (piece_tree bus piece)) }
+// Appends the code of a piece, and returns how many instructions it executes.
+#[tactic(auto, using(crate::proofs::TreeCosts::piece_counts))]
+fn push_piece(code: &mut Vec<u8>, bus: Bus, piece: Piece) -> u32
+    requires len { piece.len ≤ 2 ^ 20 }
+    requires room { length code.old.items + 58 ≤ vec_capacity code.old }
+    ensures bytes { Appends code.old.items code.new.items (piece_tree bus piece) }
+    ensures most { length code.new.items ≤ length code.old.items + 58 }
+    ensures capacity { vec_capacity code.new ≡ vec_capacity code.old }
+    ensures cost { result ≡ cost_of (piece_tree bus piece) }
+    ensures limit { result ≤ 400000 }
 {
     let beat = Beat {
         size: beat_of(bus, piece),
         source_rises: !piece.fill,
     };
-    push(code, ChipInsn::Mov(Reg::Sar, piece.src))?;
-    push(code, ChipInsn::Mov(Reg::Dar, piece.dst))?;
-    push_parts(code, beat, piece.len)?;
-    Ok(())
+    push(code, ChipInsn::Mov(Reg::Sar, piece.src));
+    push(code, ChipInsn::Mov(Reg::Dar, piece.dst));
+    push_parts(code, beat, piece.len);
+    2 + beats_cost(piece.len, beat.size)
 }
 
 // Appends the bursts that copy or fill `len` bytes, starting at the addresses in the registers.
 #[tactic(auto, unfolding(crate::specs::Compiled::parts))]
-fn push_parts(code: &mut Vec<u8>, beat: Beat, len: u32) -> Result<(), AllocError>
-    requires { len ≤ 2 ^ 20 }
-    ensures ok { OnOk result (Appends code.old.items code.new.items
-        (parts (not beat.source_rises) beat.size len)) }
+fn push_parts(code: &mut Vec<u8>, beat: Beat, len: u32)
+    requires len { len ≤ 2 ^ 20 }
+    requires room { length code.old.items + 46 ≤ vec_capacity code.old }
+    ensures bytes { Appends code.old.items code.new.items
+        (parts (not beat.source_rises) beat.size len) }
+    ensures most { length code.new.items ≤ length code.old.items + 46 }
+    ensures capacity { vec_capacity code.new ≡ vec_capacity code.old }
 {
     let bytes = beat.size.bytes();
     let whole = 16 * bytes;
@@ -167,111 +171,136 @@ fn push_parts(code: &mut Vec<u8>, beat: Beat, len: u32) -> Result<(), AllocError
         size: BeatSize::One,
         ..beat
     };
-    push_whole_bursts(code, beat, len / whole)?;
-    push_burst(code, beat, left / bytes)?;
-    push_burst(code, tail, left % bytes)
+    push_whole_bursts(code, beat, len / whole);
+    push_burst(code, beat, left / bytes);
+    push_burst(code, tail, left % bytes);
 }
 
 // Appends `count` bursts of 16 beats under their control word, or nothing if `count` is 0.
 #[tactic(auto, using(crate::proofs::PieceCode::where_some_there, crate::proofs::PieceCode::where_some_none))]
-fn push_whole_bursts(code: &mut Vec<u8>, beat: Beat, count: u32) -> Result<(), AllocError>
-    requires { count ≤ 65536 }
-    ensures ok { OnOk result (Appends code.old.items code.new.items
-        (where_some count (under (word_of beat 16) (bursts count)))) }
+fn push_whole_bursts(code: &mut Vec<u8>, beat: Beat, count: u32)
+    requires few { count ≤ 65536 }
+    requires room { length code.old.items + 26 ≤ vec_capacity code.old }
+    ensures bytes { Appends code.old.items code.new.items
+        (where_some count (under (word_of beat 16) (bursts count))) }
+    ensures most { length code.new.items ≤ length code.old.items + 26 }
+    ensures capacity { vec_capacity code.new ≡ vec_capacity code.old }
 {
     if count == 0 {
-        return Ok(());
+        return;
     }
-    push(code, ChipInsn::Mov(Reg::Ccr, control_word(beat, 16)))?;
-    push_bursts(code, count)
+    push(code, ChipInsn::Mov(Reg::Ccr, control_word(beat, 16)));
+    push_bursts(code, count);
 }
 
 // Appends `count` bursts.
-fn push_bursts(code: &mut Vec<u8>, count: u32) -> Result<(), AllocError>
-    requires { count ≤ 65536 }
-    ensures ok { OnOk result (Appends code.old.items code.new.items (bursts count)) }
+fn push_bursts(code: &mut Vec<u8>, count: u32)
+    requires few { count ≤ 65536 }
+    requires room { length code.old.items + 20 ≤ vec_capacity code.old }
+    ensures bytes { Appends code.old.items code.new.items (bursts count) }
+    ensures most { length code.new.items ≤ length code.old.items + 20 }
+    ensures capacity { vec_capacity code.new ≡ vec_capacity code.old }
 {
-    push_nested_loop(code, (count / 256) as u16)?;
-    push_rest(code, (count % 256) as u16)
+    push_nested_loop(code, (count / 256) as u16);
+    push_rest(code, (count % 256) as u16);
 }
 
 // Appends `turns` rounds of 256 bursts as nested loops, or nothing if `turns` is 0.
 #[tactic(auto, using(crate::proofs::PieceCode::where_some_there, crate::proofs::PieceCode::where_some_none))]
-fn push_nested_loop(code: &mut Vec<u8>, turns: u16) -> Result<(), AllocError>
-    requires { turns ≤ 256 }
-    ensures ok { OnOk result (Appends code.old.items code.new.items
-        (where_some turns (Repeat Counter.Lc0 turns (Repeat Counter.Lc1 256 body)))) }
+fn push_nested_loop(code: &mut Vec<u8>, turns: u16)
+    requires turns { turns ≤ 256 }
+    requires room { length code.old.items + 12 ≤ vec_capacity code.old }
+    ensures bytes { Appends code.old.items code.new.items
+        (where_some turns (Repeat Counter.Lc0 turns (Repeat Counter.Lc1 256 body))) }
+    ensures most { length code.new.items ≤ length code.old.items + 12 }
+    ensures capacity { vec_capacity code.new ≡ vec_capacity code.old }
 {
     if turns == 0 {
-        return Ok(());
+        return;
     }
     let times = Times::of_number(turns);
     let counter = Counter::Lc0;
-    push(code, ChipInsn::Lp { counter, times })?;
-    push_loop(code, 256)?;
-    push(code, ChipInsn::LpEnd { counter, back: 8 })
+    push(code, ChipInsn::Lp { counter, times });
+    push_loop(code, 256);
+    push(code, ChipInsn::LpEnd { counter, back: 8 });
 }
 
 // Appends a loop of `rest` bursts, or nothing if `rest` is 0.
 #[tactic(auto, using(crate::proofs::PieceCode::where_some_there, crate::proofs::PieceCode::where_some_none))]
-fn push_rest(code: &mut Vec<u8>, rest: u16) -> Result<(), AllocError>
-    requires { rest ≤ 256 }
-    ensures ok { OnOk result (Appends code.old.items code.new.items
-        (where_some rest (Repeat Counter.Lc1 rest body))) }
+fn push_rest(code: &mut Vec<u8>, rest: u16)
+    requires few { rest ≤ 256 }
+    requires room { length code.old.items + 8 ≤ vec_capacity code.old }
+    ensures bytes { Appends code.old.items code.new.items
+        (where_some rest (Repeat Counter.Lc1 rest body)) }
+    ensures most { length code.new.items ≤ length code.old.items + 8 }
+    ensures capacity { vec_capacity code.new ≡ vec_capacity code.old }
 {
     if rest == 0 {
-        return Ok(());
+        return;
     }
-    push_loop(code, rest)
+    push_loop(code, rest);
 }
 
 // Appends a loop around one burst.
-fn push_loop(code: &mut Vec<u8>, turns: u16) -> Result<(), AllocError>
+fn push_loop(code: &mut Vec<u8>, turns: u16)
     requires low { 1 ≤ turns }
     requires high { turns ≤ 256 }
-    ensures ok { OnOk result (Appends code.old.items code.new.items
-        (Repeat Counter.Lc1 turns body)) }
+    requires room { length code.old.items + 8 ≤ vec_capacity code.old }
+    ensures bytes { Appends code.old.items code.new.items
+        (Repeat Counter.Lc1 turns body) }
+    ensures most { length code.new.items ≤ length code.old.items + 8 }
+    ensures capacity { vec_capacity code.new ≡ vec_capacity code.old }
 {
     let times = Times::of_number(turns);
     let counter = Counter::Lc1;
-    push(code, ChipInsn::Lp { counter, times })?;
-    push_body(code)?;
-    push(code, ChipInsn::LpEnd { counter, back: 4 })
+    push(code, ChipInsn::Lp { counter, times });
+    push_body(code);
+    push(code, ChipInsn::LpEnd { counter, back: 4 });
 }
 
 // Appends one burst of this number of beats under its control word, or nothing if the number is 0.
 #[tactic(auto, using(crate::proofs::PieceCode::where_some_there, crate::proofs::PieceCode::where_some_none))]
-fn push_burst(code: &mut Vec<u8>, beat: Beat, beats: u32) -> Result<(), AllocError>
-    requires { beats ≤ 16 }
-    ensures ok { OnOk result (Appends code.old.items code.new.items
-        (where_some beats (under (word_of beat beats) body))) }
+fn push_burst(code: &mut Vec<u8>, beat: Beat, beats: u32)
+    requires few { beats ≤ 16 }
+    requires room { length code.old.items + 10 ≤ vec_capacity code.old }
+    ensures bytes { Appends code.old.items code.new.items
+        (where_some beats (under (word_of beat beats) body)) }
+    ensures most { length code.new.items ≤ length code.old.items + 10 }
+    ensures capacity { vec_capacity code.new ≡ vec_capacity code.old }
 {
     if beats == 0 {
-        return Ok(());
+        return;
     }
-    push(code, ChipInsn::Mov(Reg::Ccr, control_word(beat, beats)))?;
-    push_body(code)
+    push(code, ChipInsn::Mov(Reg::Ccr, control_word(beat, beats)));
+    push_body(code);
 }
 
 // Appends the instructions that read and write one burst.
-fn push_body(code: &mut Vec<u8>) -> Result<(), AllocError>
-    ensures ok { OnOk result (Appends code.old.items code.new.items body) }
+fn push_body(code: &mut Vec<u8>)
+    requires room { length code.old.items + 4 ≤ vec_capacity code.old }
+    ensures bytes { Appends code.old.items code.new.items body }
+    ensures most { length code.new.items ≤ length code.old.items + 4 }
+    ensures capacity { vec_capacity code.new ≡ vec_capacity code.old }
 {
-    push(code, ChipInsn::Ld)?;
-    push(code, ChipInsn::Rmb)?;
-    push(code, ChipInsn::St)?;
-    push(code, ChipInsn::Wmb)
+    push(code, ChipInsn::Ld);
+    push(code, ChipInsn::Rmb);
+    push(code, ChipInsn::St);
+    push(code, ChipInsn::Wmb);
 }
 
 // Appends an instruction's bytes.
 #[inline(always)]
-fn push(code: &mut Vec<u8>, insn: ChipInsn) -> Result<(), AllocError>
-    ensures ok { OnOk result (code.new.items ≡ code.old.items ++ spelling insn) }
+fn push(code: &mut Vec<u8>, insn: ChipInsn)
+    requires room { length code.old.items + length (spelling insn) ≤ vec_capacity code.old }
+    ensures bytes { code.new.items ≡ code.old.items ++ spelling insn }
+    ensures len { length code.new.items ≡ length code.old.items + length (spelling insn) }
+    ensures capacity { vec_capacity code.new ≡ vec_capacity code.old }
 {
     let mut bytes = [0; 6];
     let len = encode_chip(insn, &mut bytes);
-    code.extend_from_slice(&bytes[..len])?;
-    Ok(())
+    for byte in &bytes[..len] {
+        code.push_reserved(*byte);
+    }
 }
 
 // Returns whether beats of this size fit a bus and a piece.

@@ -1,17 +1,21 @@
 //! The registers of a channel, and the execution of one instruction.
 
-ghost use Rattle.std.specs.Prelude.{◌≡◌, ◌+◌, ◌-◌, ◌≤◌, ◌<◌, IsTrue, IsNone, length, Ok};
+ghost use Rattle.std.specs.Prelude.{◌≡◌, ◌+◌, ◌-◌, ◌≤◌, ◌<◌, Bool, List, IsTrue, IsNone, length, Ok};
 ghost use Rattle.dma_insn.specs.AssemblyText.{most_program_bytes};
 ghost use Rattle.dma_insn.specs.Chip.{spelling};
 ghost use Rattle.dma_insn.specs.declared.chip.ChipInsn.TheVariants.{Mov, Lp, LpEnd, Sev, Wfe, AddHalfword, LoopAgain};
 ghost use Rattle.dma_chan.specs.Bursts.{drops};
 ghost use Rattle.dma_chan.specs.Exec.{addend, buffer_size, counter_of, destination_of, act, kept, state};
-ghost use Rattle.dma_chan.specs.inner.Acts.{FaultsAt, FaultsWith, SetsFlags, SetsKeeping, SetsRegisters};
+ghost use Rattle.dma_chan.specs.Channel.{stored_by};
+ghost use Rattle.dma_chan.specs.inner.Acts.{FaultsAt, IsOther, SetsFlags, SetsKeeping, SetsRegisters};
 ghost use Rattle.dma_chan.specs.Ready.{is_ready};
 ghost use Rattle.dma_mem.specs.Lent.{with_gaps};
 
-use crate::bursts::{load_burst, load_fault, store_burst, store_fault, zero_burst, zero_fault};
+mod faults;
+
+use crate::bursts::{load_burst, store_burst, zero_burst};
 use crate::bus::Bus;
+pub(crate) use crate::exec::faults::fault_of;
 use crate::next::Next;
 use crate::turn::{ChanTurn, FaultKind};
 use circular_buffer::HeapCircularBuffer;
@@ -74,23 +78,8 @@ impl Registers {
     }
 }
 
-// Returns the fault of DMAMOV: `OperandInvalid` for a control word that isn't accepted, else `None`.
-fn set_fault(reg: Reg, value: u32, registers: &Registers) -> Option<FaultKind>
-    ensures { FaultsAt (Mov reg value) registers.now result }
-{
-    match reg {
-        Reg::Sar => None,
-        Reg::Dar => None,
-        Reg::Ccr => {
-            if !registers.bus.fits(value) || ControlWord::from_bits(value).is_err() {
-                return Some(FaultKind::OperandInvalid);
-            }
-            None
-        }
-    }
-}
-
 // Executes DMAMOV, whose encoding has `len` bytes.
+#[inline(always)]
 pub(crate) fn set_register(reg: Reg, value: u32, len: u32, registers: &mut Registers) -> ChanTurn
     requires len { len ≡ length (spelling (Mov reg value)) }
     requires pc { registers.old.pc + len ≤ most_program_bytes }
@@ -124,6 +113,7 @@ pub(crate) fn drops(old: &Registers, new: &Registers) -> bool
 }
 
 // Executes DMALP.
+#[inline(always)]
 pub(crate) fn begin_loop(counter: Counter, times: Times, registers: &mut Registers) -> ChanTurn
     requires pc { registers.old.pc + 2 ≤ most_program_bytes }
     ensures exact { SetsRegisters (Lp counter times) registers.old result registers.new }
@@ -162,6 +152,7 @@ fn jump_fault(counter: Counter, back: u8, registers: &Registers) -> Option<Fault
 }
 
 // Executes DMALPEND.
+#[inline(always)]
 #[tactic(auto, using(crate::proofs::TreeWalk::looped_again))]
 pub(crate) fn end_loop(counter: Counter, back: u8, registers: &mut Registers) -> ChanTurn
     requires pc { registers.old.pc + 2 ≤ most_program_bytes }
@@ -216,18 +207,6 @@ pub(crate) fn add_halfword(
     ChanTurn::Moved
 }
 
-// Returns the fault of the DMALPEND of a loop that DMALPFE begins: `InstrFetchErr` if it jumps to before the program's
-// start, else `None`.
-fn again_fault(back: u8, registers: &Registers) -> Option<FaultKind>
-    ensures fault { (counter : Counter) → FaultsAt (LoopAgain counter back) registers.now result }
-    ensures within { IsNone result → back ≤ registers.now.pc }
-{
-    if registers.pc < u32::from(back) {
-        return Some(FaultKind::InstrFetchErr);
-    }
-    None
-}
-
 // Executes the DMALPEND of a loop that DMALPFE begins.
 pub(crate) fn loop_again(back: u8, registers: &mut Registers) -> ChanTurn
     ensures exact { (counter : Counter)
@@ -269,6 +248,7 @@ fn wait(event: Event, invalid: bool, registers: &mut Registers, events: &mut Eve
 }
 
 // Executes an instruction whose only effect is to advance `pc`.
+#[inline(always)]
 pub(crate) fn go_on(registers: &mut Registers) -> ChanTurn
     requires { registers.old.pc + 1 ≤ most_program_bytes }
     ensures turn { result ≡ ChanTurn.Moved }
@@ -289,6 +269,7 @@ pub(crate) struct Executor {
 
 impl Executor {
     // Drops the bytes in the buffer if a channel does after a DMAMOV, DMAADDH or DMAADNH that began at these registers.
+    #[inline(always)]
     fn keep(&mut self, old: &Registers)
         ensures buffer { self.new.buffer.items
             ≡ kept old.now self.old.registers self.old.buffer.items }
@@ -301,14 +282,14 @@ impl Executor {
         }
     }
 
-    // Executes the instruction `next`.
+    // Executes the instruction `next`. Returns also how many bytes it stored.
     pub(crate) fn execute<M: Ram>(
         &mut self,
         next: Next,
         memory: &mut M,
         events: &mut Events,
         marks: &Marks,
-    ) -> ChanTurn
+    ) -> (ChanTurn, u32)
         requires capacity { self.old.buffer.capacity ≡ buffer_size }
         requires block { length self.old.block.items ≡ buffer_size }
         requires pc { self.old.registers.pc + length (spelling next) ≤ most_program_bytes }
@@ -317,7 +298,47 @@ impl Executor {
             let after = (M.paged memory.new).image in
             act (with_gaps (M.loan memory.old) marks.now) next
             (state self.old.registers self.old.buffer.items before events.old)
-            ≡ (result, state self.new.registers self.new.buffer.items after events.new) }
+            ≡ (result.0, state self.new.registers self.new.buffer.items after events.new) }
+        ensures stored { result.0 ≡ ChanTurn.Moved
+            → result.1 ≡ stored_by (Ok next) self.old.registers }
+        ensures limit { result.1 ≤ buffer_size }
+        ensures pages { (M.paged memory.new).made ≡ (M.paged memory.old).made }
+        ensures capacity { self.new.buffer.capacity ≡ buffer_size }
+        ensures block { length self.new.block.items ≡ buffer_size }
+        ensures pc { self.new.registers.pc ≤ self.old.registers.pc + length (spelling next) }
+        ensures loan { M.loan memory.new ≡ M.loan memory.old }
+    {
+        match next.insn() {
+            ChipInsn::Sev(event) => (signal(event, &mut self.registers, events), 0),
+            ChipInsn::Wfe { event, invalid } => {
+                (wait(event, invalid, &mut self.registers, events), 0)
+            }
+            ChipInsn::End => (ChanTurn::Ended, 0),
+            _ => self.execute_other(next, memory, marks),
+        }
+    }
+
+    // Executes the instruction `next`, which neither signals, waits nor ends. Returns also how many bytes it stored.
+    #[inline(always)]
+    pub(crate) fn execute_other<M: Ram>(
+        &mut self,
+        next: Next,
+        memory: &mut M,
+        marks: &Marks,
+    ) -> (ChanTurn, u32)
+        requires other { IsOther next }
+        requires capacity { self.old.buffer.capacity ≡ buffer_size }
+        requires block { length self.old.block.items ≡ buffer_size }
+        requires pc { self.old.registers.pc + length (spelling next) ≤ most_program_bytes }
+        requires ready { IsTrue (is_ready (Ok next) self.old.registers (M.paged memory.old)) }
+        ensures exact { (flags : List Bool) → let before = (M.paged memory.old).image in
+            let after = (M.paged memory.new).image in
+            act (with_gaps (M.loan memory.old) marks.now) next
+            (state self.old.registers self.old.buffer.items before flags)
+            ≡ (result.0, state self.new.registers self.new.buffer.items after flags) }
+        ensures stored { result.0 ≡ ChanTurn.Moved
+            → result.1 ≡ stored_by (Ok next) self.old.registers }
+        ensures limit { result.1 ≤ buffer_size }
         ensures pages { (M.paged memory.new).made ≡ (M.paged memory.old).made }
         ensures capacity { self.new.buffer.capacity ≡ buffer_size }
         ensures block { length self.new.block.items ≡ buffer_size }
@@ -329,18 +350,19 @@ impl Executor {
                 let old = self.registers;
                 let turn = set_register(reg, value, next.len(), &mut self.registers);
                 self.keep(&old);
-                turn
+                (turn, 0)
             }
-            ChipInsn::Ld => load_burst(self, memory, marks),
+            ChipInsn::Ld => (load_burst(self, memory, marks), 0),
             ChipInsn::St => store_burst(self, memory, marks),
-            ChipInsn::Rmb => go_on(&mut self.registers),
-            ChipInsn::Wmb => go_on(&mut self.registers),
-            ChipInsn::Nop => go_on(&mut self.registers),
-            ChipInsn::Lp { counter, times } => begin_loop(counter, times, &mut self.registers),
-            ChipInsn::LpEnd { counter, back } => end_loop(counter, back, &mut self.registers),
-            ChipInsn::Sev(event) => signal(event, &mut self.registers, events),
-            ChipInsn::Wfe { event, invalid } => wait(event, invalid, &mut self.registers, events),
-            ChipInsn::End => ChanTurn::Ended,
+            ChipInsn::Rmb => (go_on(&mut self.registers), 0),
+            ChipInsn::Wmb => (go_on(&mut self.registers), 0),
+            ChipInsn::Nop => (go_on(&mut self.registers), 0),
+            ChipInsn::Lp { counter, times } => {
+                (begin_loop(counter, times, &mut self.registers), 0)
+            }
+            ChipInsn::LpEnd { counter, back } => {
+                (end_loop(counter, back, &mut self.registers), 0)
+            }
             ChipInsn::StoreZeros => zero_burst(self, memory, marks),
             ChipInsn::AddHalfword {
                 address,
@@ -350,38 +372,12 @@ impl Executor {
                 let old = self.registers;
                 let turn = add_halfword(address, half, negative, &mut self.registers);
                 self.keep(&old);
-                turn
+                (turn, 0)
             }
-            ChipInsn::LoopAgain { back, .. } => loop_again(back, &mut self.registers),
+            ChipInsn::LoopAgain { back, .. } => (loop_again(back, &mut self.registers), 0),
+            ChipInsn::Sev(_) => unreachable!(),
+            ChipInsn::Wfe { .. } => unreachable!(),
+            ChipInsn::End => unreachable!(),
         }
-    }
-}
-
-// Returns the fault that an instruction would return, or `None`. Nothing is executed.
-pub(crate) fn fault_of<M: Ram>(
-    insn: ChipInsn,
-    executor: &Executor,
-    memory: &M,
-    marks: &Marks,
-) -> Option<FaultKind>
-    requires capacity { executor.now.buffer.capacity ≡ buffer_size }
-    ensures { FaultsWith (with_gaps (M.loan memory.now) marks.now) insn executor.now.registers
-        executor.now.buffer.items (M.paged memory.now).image result }
-{
-    match insn {
-        ChipInsn::Mov(reg, value) => set_fault(reg, value, &executor.registers),
-        ChipInsn::Ld => load_fault(executor, memory, marks),
-        ChipInsn::St => store_fault(executor, memory, marks),
-        ChipInsn::LpEnd { counter, back } => jump_fault(counter, back, &executor.registers),
-        ChipInsn::Rmb => None,
-        ChipInsn::Wmb => None,
-        ChipInsn::Nop => None,
-        ChipInsn::Lp { .. } => None,
-        ChipInsn::Sev(_) => None,
-        ChipInsn::Wfe { .. } => None,
-        ChipInsn::End => None,
-        ChipInsn::StoreZeros => zero_fault(executor, memory, marks),
-        ChipInsn::AddHalfword { .. } => None,
-        ChipInsn::LoopAgain { back, .. } => again_fault(back, &executor.registers),
     }
 }

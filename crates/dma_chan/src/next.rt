@@ -60,6 +60,15 @@ fn decode_on(bus: Bus, bytes: &[u8]) -> Result<(ChipInsn, usize), DecodeFault>
 }
 
 impl Next {
+    // Returns this instruction, whose encoding has `len` bytes.
+    #[inline(always)]
+    pub(crate) fn of(insn: ChipInsn, len: u32) -> Next
+        requires { len ≡ length (spelling insn) }
+        ensures { result ≡ insn }
+    {
+        Next { insn, len }
+    }
+
     // Returns the instruction at an offset of a program for a channel on a bus, or the fault of fetching it.
     #[inline(always)]
     pub(crate) fn on(bus: Bus, program: &[u8], pc: u32) -> Result<Next, FaultKind>

@@ -1,6 +1,6 @@
 //! Cuts a transfer's lists into pieces, each of bytes that are moved together.
 
-ghost use Rattle.std.specs.Prelude.{◌≡◌, ◌∷◌, ◌≤◌, [], slice_get, IfOk, IfSome, MatchOption};
+ghost use Rattle.std.specs.Prelude.{◌≡◌, ◌∷◌, ◌≤◌, [], slice_get, IfSome, MatchOption};
 ghost use Rattle.std.specs.List.{AllByRecursion};
 ghost use Rattle.dma_mem.specs.Rules.{IsTransfer};
 ghost use Rattle.dma_chan.specs.Compiled.{pieces_of};
@@ -9,7 +9,6 @@ ghost use Rattle.dma_chan.specs.inner.Cutting.{past};
 
 use dma_mem::segment::Segment;
 use dma_mem::transfer::Transfer;
-use std::alloc::{AllocError, Global};
 use std::marker::Model;
 
 /// Bytes that are contiguous at both ends, or in a fill at the destination alone.
@@ -135,17 +134,4 @@ impl<'a> Pieces<'a> {
             fill,
         })
     }
-}
-
-// Returns the pieces of a transfer, in order.
-pub(crate) fn pieces_of(alloc: Global, transfer: &Transfer) -> Result<Vec<Piece>, AllocError>
-    ensures value { IfOk result (λ v. v.items ≡ pieces_of transfer.now) }
-    ensures rules { IsTransfer transfer.now }
-{
-    let mut pieces = Pieces::of(transfer);
-    let mut out = Vec::with_capacity(alloc, transfer.src().len() + transfer.dst().len())?;
-    while let Some(piece) = pieces.next() {
-        out.push(piece)?;
-    }
-    Ok(out)
 }

@@ -228,6 +228,7 @@ impl Memory {
 
     /// Returns the bytes from `addr` on, as many as `block` has. They are copied to `block` only if they aren't in one
     /// piece.
+    #[inline(always)]
     pub fn bytes<'a>(&'a self, addr: u32, block: &'a mut [u8]) -> &'a [u8]
         requires { addr + length block.old ≤ length self.now.image }
         ensures { result.now ≡ take (length block.old) (drop addr self.now.image) }
@@ -240,6 +241,7 @@ impl Memory {
     }
 
     /// Writes the bytes of `front` and then those of `back` from `addr` on. Their pages are already made.
+    #[inline(always)]
     pub fn write_parts(&mut self, addr: u32, front: &[u8], back: &[u8])
         requires within { addr + length front.now + length back.now ≤ length self.old.image }
         requires made { AllMade self.old

@@ -40,6 +40,7 @@ fn ended_by(ranges: &[Segment], end: u64) -> usize
 
 // Returns whether there are no ranges, or the segment lies below the first range or above the last one. It then shares
 // no address with a range.
+#[inline(always)]
 fn lies_outside(ranges: &[Segment], segment: Segment) -> bool
     requires { IsOrdered ranges.now }
     ensures { IsTrue result → share (range_of segment) (places ranges.now) ≡ false }
@@ -108,6 +109,7 @@ pub fn add_in_order(ranges: &mut Vec<Segment>, segment: Segment) -> Result<(), A
 
 /// Returns whether a range shares an address with the segment. The common case, a segment below or above all ranges, is
 /// decided inline from the first and the last range; every other case by binary search.
+#[inline(always)]
 pub fn meets_ordered(ranges: &[Segment], segment: Segment) -> bool
     requires { IsOrdered ranges.now }
     ensures { result ≡ share (range_of segment) (places ranges.now) }

@@ -1,10 +1,9 @@
 //! Sets of addresses as coalesced ranges.
 
-ghost use Rattle.std.specs.Prelude.{◌≡◌, ◌+◌, ◌≤◌, ◌<◌, length, All, IsOk, IfOk};
+ghost use Rattle.std.specs.Prelude.{◌≡◌, ◌+◌, ◌≤◌, ◌<◌, [], length, All, IsOk, IfOk, OnOk, OnErr};
 ghost use Rattle.std.specs.List.Sorted.{IsNonDecreasingBy};
 ghost use Rattle.dma_mem.specs.declared.segment.Segment.{Segment};
 ghost use Rattle.dma_mem.specs.Places.{places, range_of, share};
-ghost use Rattle.dma_mem.specs.inner.KeptRanges.{ranges_of};
 ghost use Rattle.dma_mem.specs.Ranges.{IsCoalesced, SameAddresses};
 ghost use Rattle.dma_mem.specs.inner.RangesInOrder.{Joins};
 
@@ -13,30 +12,13 @@ use crate::segment::Segment;
 use std::alloc::{AllocError, Global};
 use std::marker::Model;
 
-// The ranges of a set. A single one is kept in the value, so a set of one segment allocates nothing.
-#[derive(Drop)]
-enum Kept {
-    One(Segment),
-    Many(Vec<Segment>),
-}
-
-impl Kept {
-    // Returns the ranges, in order.
-    fn as_slice(&self) -> &[Segment]
-        ensures { result.now ≡ ranges_of self.now }
-    {
-        match self {
-            Kept::One(range) => std::slice::from_ref(range),
-            Kept::Many(ranges) => ranges.as_slice(),
-        }
-    }
-}
-
 /// A set of addresses, each at most 4,294,967,294. Contracts see it as ranges in rising order, of which no two meet or
 /// touch.
 #[derive(Drop)]
 pub struct RangeSet {
-    kept: Kept,
+    // The range of a set of one segment, which so needs no memory. The list is then out of use.
+    single: Option<Segment>,
+    list: Vec<Segment>,
 }
 
 impl Model for RangeSet {
@@ -48,9 +30,9 @@ impl Model for RangeSet {
 
     ghost use Rattle.dma_mem.specs.inner.KeptRanges.{ranges_of};
 
-    ghost view = { λ set. ranges_of set.kept };
+    ghost view = { λ set. ranges_of set.single set.list.items };
 
-    ghost invariant = { λ set. IsCoalesced (ranges_of set.kept) };
+    ghost invariant = { λ set. IsCoalesced (ranges_of set.single set.list.items) };
 }
 
 // Joins segments that meet or touch, in place. They are sorted by their first addresses. Each ends at or below
@@ -88,17 +70,35 @@ impl RangeSet {
         ensures coalesced { IfOk result (λ set. IsCoalesced set) }
         ensures one { length segments.now ≡ 1 → IsOk result }
     {
+        let mut set = RangeSet {
+            single: None,
+            list: Vec::new(alloc),
+        };
+        set.set(segments)?;
+        Ok(set)
+    }
+
+    /// Makes the set that of the segments' addresses, like [`RangeSet::new`], in the memory that it has if that is
+    /// enough. If there is no memory for a copy of the list, it fails with `AllocError` and the set is empty; with one
+    /// segment it never fails.
+    pub fn set(&mut self, segments: &[Segment]) -> Result<(), AllocError>
+        requires filled { All (λ s. 0 < s.len) segments.now }
+        requires within { All (λ s. s.addr + s.len ≤ u32.MAX) segments.now }
+        ensures same { OnOk result (SameAddresses self.new segments.now) }
+        ensures coalesced { IsCoalesced self.new }
+        ensures one { length segments.now ≡ 1 → IsOk result }
+        ensures err { OnErr result (self.new ≡ []) }
+    {
         if segments.len() == 1 {
-            return Ok(RangeSet {
-                kept: Kept::One(segments[0]),
-            });
+            self.single = Some(segments[0]);
+            return Ok(());
         }
-        let mut ranges = Vec::from_slice(alloc, segments)?;
-        sort_by_address(&mut ranges);
-        coalesce(&mut ranges);
-        Ok(RangeSet {
-            kept: Kept::Many(ranges),
-        })
+        self.single = None;
+        self.list.clear();
+        self.list.extend_from_slice(segments)?;
+        sort_by_address(&mut self.list);
+        coalesce(&mut self.list);
+        Ok(())
     }
 
     /// Returns the addresses as ranges in rising order, of which no two meet or touch.
@@ -106,7 +106,10 @@ impl RangeSet {
         ensures ranges { result.now ≡ self.now }
         ensures coalesced { IsCoalesced self.now }
     {
-        self.kept.as_slice()
+        match &self.single {
+            Some(range) => std::slice::from_ref(range),
+            None => self.list.as_slice(),
+        }
     }
 
     /// Returns whether the segment has an address of the set. An empty segment has none.

@@ -1,6 +1,6 @@
 //! A table of chunks, by number. A chunk is four pages in one piece, and is made when one of them is first made.
 
-ghost use Rattle.std.specs.Prelude.{◌≡◌, ◌≢◌, ℕ, ◌+◌, ◌*◌, ◌/◌, ◌%◌, ◌<◌, ◌≤◌, ◌++◌, [], length, take, slice_index, slice_index_or, vec_capacity, IfOk, OnOk, OnErr};
+ghost use Rattle.std.specs.Prelude.{◌≡◌, ◌≢◌, ℕ, ◌+◌, ◌*◌, ◌/◌, ◌%◌, ◌<◌, ◌≤◌, ◌++◌, [], length, take, slice_index, slice_index_or, vec_capacity, IsTrue, IfOk, OnOk, OnErr};
 ghost use Rattle.dma_mem.specs.Image.{put, bytes_at};
 ghost use Rattle.dma_mem.specs.inner.ChunkTable.{bytes_shown, chunk_size, group_size, chunk_at, is_blank, PutsInChunk, OthersStay, SameBytes};
 
@@ -20,6 +20,7 @@ const GROUP_SIZE: usize = 256;
 static BLANK_CHUNK: [u8; CHUNK_SIZE] = [0; CHUNK_SIZE];
 
 // Writes the bytes from index `start` on.
+#[inline(always)]
 pub(crate) fn put_bytes(all: &mut [u8], start: usize, bytes: &[u8])
     requires { start + length bytes.now ≤ length all.old }
     ensures { all.new ≡ put all.old (bytes_at start bytes.now) }
@@ -28,6 +29,7 @@ pub(crate) fn put_bytes(all: &mut [u8], start: usize, bytes: &[u8])
 }
 
 // Writes the bytes of `front` and then those of `back` from index `start` on.
+#[inline(always)]
 #[tactic(auto, using(crate::proofs::BytesPut::put_parts))]
 pub(crate) fn put_parts(all: &mut [u8], start: usize, front: &[u8], back: &[u8])
     requires { start + length front.now + length back.now ≤ length all.old }
@@ -47,16 +49,28 @@ fn is_blank(bytes: &Vec<u8>) -> bool
     bytes.is_empty() && bytes.capacity() > 0
 }
 
+// Adds the zeros of a chunk to its empty list, which has memory for them.
+#[inline(never)]
+fn push_zeros(bytes: &mut Vec<u8>)
+    requires blank { IsTrue (is_blank (vec_capacity bytes.old) bytes.old.items) }
+    requires room { chunk_size ≤ vec_capacity bytes.old }
+    ensures bytes { bytes.new.items ≡ bytes_shown (vec_capacity bytes.old) bytes.old.items }
+    ensures capacity { vec_capacity bytes.old ≤ vec_capacity bytes.new }
+{
+    let Ok(()) = bytes.resize(CHUNK_SIZE, 0) else {
+        unreachable!();
+    };
+}
+
 // Adds the zeros of a chunk to its list, if the list has memory but no bytes.
+#[inline(always)]
 fn add_zeros(bytes: &mut Vec<u8>)
     requires { 0 < vec_capacity bytes.old → chunk_size ≤ vec_capacity bytes.old }
     ensures bytes { bytes.new.items ≡ bytes_shown (vec_capacity bytes.old) bytes.old.items }
     ensures capacity { vec_capacity bytes.old ≤ vec_capacity bytes.new }
 {
     if is_blank(bytes) {
-        let Ok(()) = bytes.resize(CHUNK_SIZE, 0) else {
-            unreachable!();
-        };
+        push_zeros(bytes);
     }
 }
 
@@ -117,6 +131,7 @@ impl Chunk {
     }
 
     // Writes the bytes of `front` and then those of `back` from an offset on. The chunk is already made.
+    #[inline(always)]
     fn put(&mut self, offset: usize, front: &[u8], back: &[u8])
         requires fits { offset + length front.now + length back.now ≤ chunk_size }
         requires made { 0 < length self.old }
@@ -225,6 +240,7 @@ impl Group {
     }
 
     // Writes the bytes of `front` and then those of `back` to a chunk that is already made, from an offset on.
+    #[inline(always)]
     fn put(&mut self, index: usize, offset: usize, front: &[u8], back: &[u8])
         requires fits { offset + length front.now + length back.now ≤ chunk_size }
         requires made { 0 < length (chunk_at self.old index) }
@@ -313,6 +329,7 @@ impl Table {
     }
 
     // Writes the bytes of `front` and then those of `back` to a chunk that is already made, from an offset on.
+    #[inline(always)]
     fn put_in_chunk(&mut self, number: usize, offset: usize, front: &[u8], back: &[u8])
         requires fits { offset + length front.now + length back.now ≤ chunk_size }
         requires made { 0 < length (chunk_at self.old number) }

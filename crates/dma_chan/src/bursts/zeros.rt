@@ -5,7 +5,7 @@ ghost use Rattle.dma_insn.specs.declared.chip.ChipInsn.TheVariants.{StoreZeros};
 ghost use Rattle.dma_insn.specs.AssemblyText.{most_program_bytes};
 ghost use Rattle.dma_mem.specs.Image.{put};
 ghost use Rattle.dma_mem.specs.Lent.{Avoids, with_gaps};
-ghost use Rattle.dma_chan.specs.Bursts.{touched, zeros_of, reaches, span_of};
+ghost use Rattle.dma_chan.specs.Bursts.{burst_len, touched, zeros_of, reaches, span_of};
 ghost use Rattle.dma_chan.specs.inner.Spans.{LieIn, MovesSome};
 ghost use Rattle.dma_chan.specs.Exec.{destination_of, act, buffer_size, state};
 ghost use Rattle.dma_chan.specs.Ready.{none_missing};
@@ -53,8 +53,12 @@ pub(crate) fn zero_fault<M: Ram>(
     None
 }
 
-// Executes DMASTZ.
-pub(crate) fn zero_burst<M: Ram>(executor: &mut Executor, memory: &mut M, marks: &Marks) -> ChanTurn
+// Executes DMASTZ. Returns also how many bytes it stored.
+pub(crate) fn zero_burst<M: Ram>(
+    executor: &mut Executor,
+    memory: &mut M,
+    marks: &Marks,
+) -> (ChanTurn, u32)
     requires capacity { executor.old.buffer.capacity ≡ buffer_size }
     requires pc { executor.old.registers.pc < most_program_bytes }
     requires ready { IsTrue
@@ -63,7 +67,10 @@ pub(crate) fn zero_burst<M: Ram>(executor: &mut Executor, memory: &mut M, marks:
         let after = (M.paged memory.new).image in
         act (with_gaps (M.loan memory.old) marks.now) StoreZeros
         (state executor.old.registers executor.old.buffer.items before flags)
-        ≡ (result, state executor.new.registers executor.new.buffer.items after flags) }
+        ≡ (result.0, state executor.new.registers executor.new.buffer.items after flags) }
+    ensures stored { result.0 ≡ ChanTurn.Moved
+        → result.1 ≡ burst_len (destination_of executor.old.registers) }
+    ensures limit { result.1 ≤ buffer_size }
     ensures pages { (M.paged memory.new).made ≡ (M.paged memory.old).made }
     ensures capacity { executor.new.buffer.capacity ≡ buffer_size }
     ensures block { executor.new.block.items ≡ executor.old.block.items }
@@ -71,11 +78,11 @@ pub(crate) fn zero_burst<M: Ram>(executor: &mut Executor, memory: &mut M, marks:
     ensures loan { M.loan memory.new ≡ M.loan memory.old }
 {
     if let Some(kind) = zero_fault(executor, memory, marks) {
-        return ChanTurn::Fault(kind);
+        return (ChanTurn::Fault(kind), 0);
     }
     let burst = destination_burst(&executor.registers);
     zero_span(burst, memory);
     executor.registers.pc += 1;
     executor.registers.dar = executor.registers.dar.wrapping_add(burst.advance());
-    ChanTurn::Moved
+    (ChanTurn::Moved, burst.len())
 }

@@ -3,10 +3,14 @@
 ghost use Rattle.std.specs.Prelude.{◌≡◌, ◌≤◌, length, take, is_some, None, Some, IfOk};
 ghost use Rattle.dma_insn.specs.AssemblyText.{most_program_bytes};
 ghost use Rattle.dma_mem.specs.Regions.{pieces_of, run_from};
+ghost use Rattle.dma_chan.specs.Compiled.{compiled};
 ghost use Rattle.dma_chan.specs.Channel.{bytes_of_program, cost_of_program};
 
+use crate::bus::Bus;
+use crate::compile::push_program;
 use crate::program::MAX_PROGRAM_BYTES;
 use dma_mem::regions::{Region, copy_run};
+use dma_mem::transfer::Transfer;
 use std::alloc::{AllocError, Global};
 use std::marker::Model;
 
@@ -52,6 +56,17 @@ impl Code {
             unreachable!()
         };
         self.cost = cost;
+        self.is_loaded = true;
+    }
+
+    // Loads the compiled program of a transfer in place of the one before.
+    #[tactic(auto, unfolding(crate::specs::Compiled::compiled, crate::specs::Compiled::compiled_on), using(crate::proofs::PieceCode::pieces_few))]
+    pub(super) fn compile(&mut self, transfer: &Transfer)
+        ensures value { self.new ≡ Some (compiled transfer.now) }
+        ensures limit { length (bytes_of_program self.new) ≤ most_program_bytes }
+    {
+        self.bytes.clear();
+        self.cost = Some(push_program(&mut self.bytes, Bus::Ideal, transfer));
         self.is_loaded = true;
     }
 

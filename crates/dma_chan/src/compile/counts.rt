@@ -1,6 +1,6 @@
 //! How many instructions compiled programs execute.
 
-ghost use Rattle.std.specs.Prelude.{ℕ, Bool, ◌≡◌, ◌≤◌, ◌<◌, ◌^◌};
+ghost use Rattle.std.specs.Prelude.{ℕ, Bool, ◌≡◌, ◌+◌, ◌≤◌, ◌<◌, ◌^◌};
 ghost use Rattle.dma_insn.specs.declared.control.BeatSize.{BeatSize};
 ghost use Rattle.dma_insn.specs.ControlWord.{beat_bytes};
 ghost use Rattle.dma_chan.specs.inner.Compiling.{cost_of};
@@ -19,11 +19,20 @@ pub(super) fn cost_on(bus: Bus, transfer: &Transfer) -> u32
     ensures limit { result < 2 ^ 19 }
 {
     let mut pieces = Pieces::of(transfer);
-    let mut cost = event_cost(transfer.wait()) + event_cost(transfer.signal()) + 1;
+    let mut cost = events_cost(transfer);
     while let Some(piece) = pieces.next() {
         cost += piece_cost(bus, piece);
     }
     cost
+}
+
+// Returns how many instructions a transfer's wait, signal and end execute.
+pub(super) fn events_cost(transfer: &Transfer) -> u32
+    ensures value { let t = transfer.now in
+        result ≡ cost_of (wait_tree t.wait) + cost_of (signal_tree t.signal) + 1 }
+    ensures limit { result ≤ 3 }
+{
+    event_cost(transfer.wait()) + event_cost(transfer.signal()) + 1
 }
 
 // Returns how many instructions a wait or a signal executes: 1, or 0 if the transfer has none.
@@ -51,7 +60,7 @@ fn piece_cost(bus: Bus, piece: Piece) -> u32
 
 // Returns how many instructions the bursts of `len` bytes execute, with beats of this size. Each arm divides by
 // constants.
-fn beats_cost(len: u32, beat: BeatSize) -> u32
+pub(super) fn beats_cost(len: u32, beat: BeatSize) -> u32
     requires { len ≤ 2 ^ 20 }
     ensures value { (fill : Bool) → result ≡ cost_of (parts fill beat len) }
     ensures limit { result ≤ 390010 }

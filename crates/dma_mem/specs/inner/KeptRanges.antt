@@ -1,10 +1,8 @@
 -- How a set of addresses keeps its ranges.
-use Rattle.std.specs.Prelude.{List, [], ◌∷◌}
+use Rattle.std.specs.Prelude.{List, [], ◌∷◌, Option, Some, None}
 use Rattle.dma_mem.specs.declared.segment.Segment.{Segment}
-use Rattle.dma_mem.specs.declared.range_set.Kept.{Kept}
-use Rattle.dma_mem.specs.declared.range_set.Kept.TheVariants.{One, Many}
 
--- the ranges of a set, one or a list
-abbrev pub ranges_of : Kept → List Segment
-ranges_of (One range) = range ∷ []
-ranges_of (Many ranges) = ranges.items
+-- the ranges of a set: a single one, or else the list
+abbrev pub ranges_of : Option Segment → List Segment → List Segment
+ranges_of (Some range) list = range ∷ []
+ranges_of None list = list

@@ -105,6 +105,7 @@ impl Table {
 
     /// Writes the bytes of `front` and then those of `back` from `start` on to chunks that are already made, with one
     /// look-up if they lie in one chunk.
+    #[inline(always)]
     pub(crate) fn put_parts(&mut self, start: usize, front: &[u8], back: &[u8])
         requires limit { start + length front.now + length back.now < 2 ^ 33 }
         requires made { RangeMade self.old start (start + length front.now + length back.now) }

@@ -1,23 +1,8 @@
 use Rattle.dma_mem.specs.Lent.{with_gaps}
 use Rattle.dma_chan.proofs.exec.Executor.execute.Goals as goal
 
-pub returns-in-Mov-clause-exact : goal.returns-in-Mov-clause-exact
-returns-in-Mov-clause-exact g c = rw (← c.insn.ensures, c.in-Mov.is, c.keep.ensures.buffer, c.keep.ensures.registers) (c.set_register-turn.ensures.exact (with_gaps (g.M.Ram.loan c.args.memory.now) c.args.marks.now) c.args.self.now.buffer.items (g.M.Ram.paged c.args.memory.now).image c.args.events.now)
-
-pub returns-in-Lp-clause-exact : goal.returns-in-Lp-clause-exact
-returns-in-Lp-clause-exact g c = rw (← c.insn.ensures, c.in-Lp.is) (c.begin_loop.ensures.exact (with_gaps (g.M.Ram.loan c.args.memory.now) c.args.marks.now) c.args.self.now.buffer.items (g.M.Ram.paged c.args.memory.now).image c.args.events.now)
-
-pub returns-in-LpEnd-clause-exact : goal.returns-in-LpEnd-clause-exact
-returns-in-LpEnd-clause-exact g c = rw (← c.insn.ensures, c.in-LpEnd.is) (c.end_loop.ensures.exact (with_gaps (g.M.Ram.loan c.args.memory.now) c.args.marks.now) c.args.self.now.buffer.items (g.M.Ram.paged c.args.memory.now).image c.args.events.now)
-
 pub returns-in-Sev-clause-exact : goal.returns-in-Sev-clause-exact
 returns-in-Sev-clause-exact g c = rw (← c.insn.ensures, c.in-Sev.is) (c.signal.ensures.exact (with_gaps (g.M.Ram.loan c.args.memory.now) c.args.marks.now) c.args.self.now.buffer.items (g.M.Ram.paged c.args.memory.now).image)
 
 pub returns-in-Wfe-clause-exact : goal.returns-in-Wfe-clause-exact
 returns-in-Wfe-clause-exact g c = rw (← c.insn.ensures, c.in-Wfe.is) (c.wait.ensures.exact (with_gaps (g.M.Ram.loan c.args.memory.now) c.args.marks.now) c.args.self.now.buffer.items (g.M.Ram.paged c.args.memory.now).image)
-
-pub returns-in-AddHalfword-clause-exact : goal.returns-in-AddHalfword-clause-exact
-returns-in-AddHalfword-clause-exact g c = rw (← c.insn.ensures, c.in-AddHalfword.is, c.keep-in-AddHalfword.ensures.buffer, c.keep-in-AddHalfword.ensures.registers) (c.add_halfword-turn.ensures.exact (with_gaps (g.M.Ram.loan c.args.memory.now) c.args.marks.now) c.args.self.now.buffer.items (g.M.Ram.paged c.args.memory.now).image c.args.events.now)
-
-pub returns-in-LoopAgain-clause-exact : goal.returns-in-LoopAgain-clause-exact
-returns-in-LoopAgain-clause-exact g c = rw (← c.insn.ensures, c.in-LoopAgain.is) (c.loop_again.ensures.exact c.in-LoopAgain.counter (with_gaps (g.M.Ram.loan c.args.memory.now) c.args.marks.now) c.args.self.now.buffer.items (g.M.Ram.paged c.args.memory.now).image c.args.events.now)

@@ -1,7 +1,7 @@
 use Rattle.std.proofs.Common.{arith}
 use Rattle.dma_chan.proofs.BurstRounds.{span_within}
 use Rattle.dma_chan.proofs.ReadyLaws.{span_made}
-use Rattle.dma_chan.proofs.bursts.store_span.Goals as goal
+use Rattle.dma_chan.proofs.bursts.stores.store_parts.Goals as goal
 
 pub overflow_sub-len : goal.overflow_sub-len
 overflow_sub-len g c = omega (arith, c.span.ensures.len, c.len-len.ensures.value, span_within c.args.burst c.requires.some)

@@ -1,5 +1,5 @@
 use Rattle.dma_mem.specs.Lent.{with_gaps}
-use Rattle.dma_chan.proofs.exec.fault_of.Goals as goal
+use Rattle.dma_chan.proofs.exec.faults.fault_of.Goals as goal
 
 pub returns-in-Mov : goal.returns-in-Mov
 returns-in-Mov g c = λ flags. rw c.in-Mov.is (c.set_fault.ensures (with_gaps (g.M.Ram.loan c.args.memory.now) c.args.marks.now) c.args.executor.now.buffer.items (g.M.Ram.paged c.args.memory.now).image flags)

@@ -1,19 +1,18 @@
-use Rattle.std.proofs.Common.{◌+◌, ◌<◌, ◌≤◌, ◌++◌, length, take, drop, sym, ◌∙◌, subst, arith}
+use Rattle.std.proofs.Common.{◌+◌, ◌<◌, ◌≤◌, ◌++◌, List, length, take, drop, ap, sym, ◌∙◌, subst}
 use Rattle.std.specs.List.Sorted.{IsPermutation}
 use Rattle.std.proofs.lemmas.List.{take_at}
 use Rattle.std.proofs.lemmas.List.Sorted.{All-permutation, length_permutation}
-use Rattle.std.proofs.lemmas.Grind.{common_steps}
 use Rattle.dma_mem.specs.declared.segment.Segment.{Segment}
 use Rattle.dma_mem.proofs.RangeSets.{same_permuted, same_trans}
-use Rattle.dma_mem.proofs.range_set.RangeSet.new.Goals as goal
-use Rattle.dma_mem.proofs.range_set.RangeSet.new.Goals.{After-sort_by_address}
+use Rattle.dma_mem.proofs.range_set.RangeSet.set.Goals as goal
+use Rattle.dma_mem.proofs.range_set.RangeSet.set.Goals.{After-sort_by_address}
 
 -- the list that is coalesced has the segments that were given
-sorted : (c : After-sort_by_address) → IsPermutation c.args.segments.now (take c.in_ok-ranges.ranges.len (c.sort_by_address.new.segments ++ drop (length c.sort_by_address.new.segments) c.in_ok-ranges.ranges.items))
+sorted : (c : After-sort_by_address) → IsPermutation c.args.segments.now (take c.extend_from_slice.new.self.len (c.sort_by_address.new.segments ++ drop (length c.sort_by_address.new.segments) c.extend_from_slice.new.self.items))
 sorted c =
     let list = c.sort_by_address.new.segments in
     let whole = take_at list _ _ (length_permutation _ _ c.sort_by_address.ensures.same ∙ c.deref_mut.ensures.len) in
-    let given = c.deref_mut.ensures.value ∙ c.in_ok-ranges.ensures.items in
+    let given = c.deref_mut.ensures.value ∙ c.in_ok-extend_from_slice.ensures.items ∙ ap (λ (xs : List Segment). xs ++ c.args.segments.now) c.clear.ensures.items in
     subst (λ xs. IsPermutation c.args.segments.now xs) (sym whole) (subst (λ xs. IsPermutation xs list) given c.sort_by_address.ensures.same)
 
 pub coalesce-requires-clause-filled : goal.coalesce-requires-clause-filled
@@ -26,7 +25,4 @@ coalesce-requires-clause-within c =
 
 pub returns-clause-same : goal.returns-clause-same
 returns-clause-same c =
-    same_trans c.coalesce.new.segments.items (take c.in_ok-ranges.ranges.len (c.sort_by_address.new.segments ++ drop (length c.sort_by_address.new.segments) c.in_ok-ranges.ranges.items)) c.args.segments.now c.coalesce.ensures.same (same_permuted c.args.segments.now _ (sorted (goal.at.returns-clause-same c).After-sort_by_address))
-
-pub coalesce-requires-clause-rising : goal.coalesce-requires-clause-rising
-coalesce-requires-clause-rising c = grind (arith, common_steps)
+    same_trans c.coalesce.new.segments.items (take c.extend_from_slice.new.self.len (c.sort_by_address.new.segments ++ drop (length c.sort_by_address.new.segments) c.extend_from_slice.new.self.items)) c.args.segments.now c.coalesce.ensures.same (same_permuted c.args.segments.now _ (sorted (goal.at.returns-clause-same c).After-sort_by_address))
