@@ -27,6 +27,7 @@ use Rattle.dma_mem.proofs.ImagePut.{get_or_put_other}
 use Rattle.dma_mem.proofs.SharedPlaces.{is_free_of_true}
 use Rattle.dma_mem.proofs.OverTransfers.{moves_writes, Contains_take, Contains_drop, over_sources}
 use Rattle.dma_chan.specs.Exec.{read_at, fault_in}
+use Rattle.dma_chan.specs.inner.Acts.{IsOther}
 use Rattle.dma_chan.specs.Layer.{Shared, StepAgrees, step_at, AnswerImplies, effect_of}
 use Rattle.dma_mem.specs.Marking.{meets_mark}
 use Rattle.dma_chan.specs.Ready.{OnPages, ready_of}
@@ -37,7 +38,7 @@ use Rattle.dma_chan.proofs.ReadyLaws.{ready_is}
 use Rattle.dma_chan.proofs.ShapeLaws.{stored_is}
 use Rattle.dma_engine.specs.declared.entry.Entry.TheVariants.{Passed, Signalled}
 use Rattle.dma_engine.specs.declared.entry.Signaller.TheVariants.{Channel}
-use Rattle.dma_engine.specs.inner.Due.{Waits, Signals, IsOther, Finishes, failure_of, IsDue, IsNext}
+use Rattle.dma_engine.specs.inner.Due.{Waits, Signals, Finishes, failure_of, IsDue, IsNext}
 use Rattle.dma_engine.specs.declared.fault.EngineFault.TheVariants.{NoMemory}
 use Rattle.dma_chan.specs.declared.turn.FaultKind.{FaultKind}
 use Rattle.dma_chan.specs.declared.turn.FaultKind.TheVariants.{DataReadErr, DataWriteErr}

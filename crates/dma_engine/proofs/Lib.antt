@@ -1,5 +1,5 @@
 -- Lemmas on histories, on what runs, on memory, queues and counts, and on what each call changes, keeps and answers;
--- worked rows.
+-- worked rows; consecutive steps taken apart.
 pub mod Histories
 pub mod WhatRuns
 pub mod ConflictsByRanges
@@ -17,6 +17,7 @@ pub mod StartsAndEnds
 pub mod StepCases
 pub mod Fronts
 pub mod Instructions
+pub mod Moves
 pub mod StepsInRow
 pub mod Rooms
 pub mod Opening
@@ -32,6 +33,7 @@ pub mod JoinedCalls
 pub mod StepReplies
 pub mod StaysSound
 pub mod Advances
+pub mod AdvanceResults
 pub mod StepsAtOnce
 pub mod AtOnce
 pub mod Interleavings

@@ -7,6 +7,8 @@ use Rattle.std.proofs.lemmas.Option.{some_pair_parts}
 use Rattle.dma_engine.specs.inner.Found.{front_in, known_with}
 use Rattle.dma_engine.specs.declared.entry.Entry.{Entry}
 use Rattle.dma_mem.specs.Places.{Descriptor, lies_below, size_of, destinations}
+use Rattle.dma_chan.specs.Channel.{loaded}
+use Rattle.dma_chan.specs.Compiled.{compiled}
 use Rattle.dma_chan.specs.Ready.{OnPages}
 use Rattle.dma_chan.specs.Traffic.{stored_after}
 use Rattle.dma_chan.proofs.LayerLaws.{starts_at}
@@ -21,7 +23,7 @@ use Rattle.dma_engine.specs.declared.fault.EngineFault.TheVariants.{NoMemory}
 use Rattle.dma_engine.specs.declared.queue.Queue.{Queue}
 use Rattle.dma_engine.specs.declared.turn.Turn.TheVariants.{Held, Started, Finished as TurnFinished}
 use Rattle.dma_engine.specs.Object.{ChannelState, channel, front, issued_front, finished, unfinished, Object, after, front_of, no_transfer, with_outcome, with_all_aborted, outcome_of, aborted, is_failure, with_channel, with_front_laid}
-use Rattle.dma_engine.specs.View.{View, ChannelSchedule, RunningTransfer, IsSound, runs, running_in, object_of, size, channels, memory_shown}
+use Rattle.dma_engine.specs.View.{View, ChannelSchedule, RunningTransfer, IsSound, runs, running_in, object_of, size, channels, memory_shown, schedule_at}
 use Rattle.dma_engine.specs.Turn.{front_cookie, first_conflicting, start_turn, with_entry, with_step, with_taken, turn, Stepped}
 use Rattle.dma_engine.specs.inner.Accesses.{named}
 use Rattle.dma_engine.specs.Answer.{CallAnswers, is_started, done_on, terminated}
@@ -70,6 +72,22 @@ now_started q r t h = by r.ranges h where
   by : (o : Option Ranges) → IsSomeAnd o (λ ranges. HasRangesOf ranges t × (r ≡ queue_started q t ranges)) → IsStarted q r t
   by None g = absurd g
   by (Some ranges) g = record { ranges = ranges; has = g.0; is = g.1 }
+
+-- it keeps these ranges
+pub started_with : (q : Queue) (t : Descriptor) (x : Option Ranges) → IsSomeAnd x (λ ranges. HasRangesOf ranges t) → IsSomeAnd x (λ ranges. HasRangesOf ranges t × (record q { channel = loaded (compiled t); ranges = x } ≡ queue_started q t ranges))
+started_with q t None h = h
+started_with q t (Some ranges) h = (h, refl)
+
+-- a queue on which nothing runs keeps no ranges
+pub idle_ranges : {p : Parts} {ch : ℕ} {q : Queue} → HoldsAt p ch q → (schedule_at (view_of p) ch).taken ≡ None → q.ranges ≡ None
+idle_ranges {p} {ch} {q} at idle =
+    let v : View = view_of p in
+    let there : (schedule_of q).taken ≡ None = sym (ap (λ (y : ChannelSchedule). y.taken) at.schedule_is) ∙ idle in
+    let none : runs (object_of v) v.schedule ch ≡ None = at.runs_is ∙ ap (running_in ch (channel (object_of v) ch)) there in
+    by q.ranges (subst (AreOfRunning q.ranges) none at.ranges) where
+      by : (x : Option Ranges) → AreOfRunning x None → x ≡ None
+      by None h = refl
+      by (Some r) h = absurd h
 
 -- The front of the channel is t, and it is found among the transfers of the base and of the history.
 pub record FrontFound (p : Parts) (ch : ℕ) (q : Queue) (kept : List Descriptor) (history : List Entry) (t : Descriptor) : Type 0 where

@@ -1,6 +1,7 @@
 //! The addresses of running transfers, and what conflicts with them.
 
-ghost use Rattle.std.specs.Prelude.{◌≡◌, true, IfOk};
+ghost use Rattle.std.specs.Prelude.{◌≡◌, true, None, IfOk, IsSomeAnd, OnErr, OnOk};
+ghost use Rattle.std.specs.Option.{option_copied};
 ghost use Rattle.dma_mem.specs.Places.{Descriptor, lies_below};
 ghost use Rattle.dma_engine.specs.inner.Ranges.{HasRangesOf};
 ghost use Rattle.dma_engine.specs.inner.Accesses.{conflicts};
@@ -9,6 +10,7 @@ use dma_mem::range_set::RangeSet;
 use dma_mem::segment::Segment;
 use dma_mem::transfer::Transfer;
 use std::alloc::{AllocError, Global};
+use std::marker::Model;
 
 /// An access to memory, which must not conflict with running transfers.
 #[derive(Clone, Copy)]
@@ -25,6 +27,7 @@ pub enum Access<'a> {
 
 impl Access<'_> {
     /// Returns whether a running transfer with these ranges conflicts with `self`.
+    #[inline(never)]
     pub fn conflicts_with(&self, ranges: &Ranges) -> bool
         ensures { (t : Descriptor) → HasRangesOf ranges.now t
             → result ≡ conflicts self.now t }
@@ -53,18 +56,67 @@ pub struct Ranges {
     pub destinations: RangeSet,
 }
 
-impl Ranges {
-    /// Returns the addresses of a transfer whose segments end at 4,294,967,295 or below. The error is `AllocError` if a
-    /// copy of one of its lists can't be allocated.
-    pub fn of(alloc: Global, transfer: &Transfer) -> Result<Ranges, AllocError>
-        requires { lies_below transfer.now u32.MAX ≡ true }
-        ensures { IfOk result (λ ranges. HasRangesOf ranges transfer.now) }
+/// The addresses of the front of a channel, if it runs. Their memory is kept for the next front.
+#[derive(Drop)]
+pub struct FrontRanges {
+    ranges: Ranges,
+    is_running: bool,
+}
+
+impl Model for FrontRanges {
+    ghost use Rattle.std.specs.Prelude.{Option, Some, None, if◌then◌else◌};
+    ghost use Rattle.dma_engine.specs.declared.access.Ranges.{Ranges};
+
+    ghost Value = { Option Ranges };
+
+    ghost view = { λ front. if front.is_running then Some (front.ranges) else None };
+}
+
+impl FrontRanges {
+    /// Returns the addresses of no front. The error is `AllocError` if memory runs out.
+    pub fn new(alloc: Global) -> Result<FrontRanges, AllocError>
+        ensures { IfOk result (λ front. front ≡ None) }
     {
-        let sources = RangeSet::new(alloc, transfer.src())?;
-        let destinations = RangeSet::new(alloc, transfer.dst())?;
-        Ok(Ranges {
-            sources,
-            destinations,
+        let ranges = Ranges {
+            sources: RangeSet::new(alloc, &[])?,
+            destinations: RangeSet::new(alloc, &[])?,
+        };
+        Ok(FrontRanges {
+            ranges,
+            is_running: false,
         })
+    }
+
+    /// Returns the addresses, if the front runs.
+    pub fn get(&self) -> Option<&Ranges>
+        ensures { option_copied result ≡ self.now }
+    {
+        if self.is_running {
+            Some(&self.ranges)
+        } else {
+            None
+        }
+    }
+
+    /// Makes them the addresses of a transfer, which runs now and whose segments end at 4,294,967,295 or below. The error
+    /// is `AllocError` if a copy of one of its lists can't be allocated; then no front runs.
+    pub fn set(&mut self, transfer: &Transfer) -> Result<(), AllocError>
+        requires { lies_below transfer.now u32.MAX ≡ true }
+        ensures set { OnOk result
+            (IsSomeAnd self.new (λ ranges. HasRangesOf ranges transfer.now)) }
+        ensures err { OnErr result (self.new ≡ None) }
+    {
+        self.is_running = false;
+        self.ranges.sources.set(transfer.src())?;
+        self.ranges.destinations.set(transfer.dst())?;
+        self.is_running = true;
+        Ok(())
+    }
+
+    /// Makes them those of no front.
+    pub fn clear(&mut self)
+        ensures { self.new ≡ None }
+    {
+        self.is_running = false;
     }
 }

@@ -3,7 +3,8 @@
 ghost use Rattle.std.specs.Prelude.{◌≡◌, ◌≤◌, IfSome, IsNone, Ok};
 ghost use Rattle.dma_mem.specs.Limits.{last_event};
 ghost use Rattle.dma_engine.specs.Turn.{turn};
-ghost use Rattle.dma_engine.specs.inner.Due.{IsDue, IsNext, IsOther, MayStart, Waits, Finishes};
+ghost use Rattle.dma_chan.specs.inner.Acts.{IsOther};
+ghost use Rattle.dma_engine.specs.inner.Due.{IsDue, IsNext, MayStart, Waits, Finishes};
 
 use crate::access::Access;
 use crate::engine::Engine;

@@ -16,7 +16,7 @@ use Rattle.dma_engine.proofs.CallCases.{named_none, refusal}
 use Rattle.dma_engine.proofs.Changes.{holds_pages}
 use Rattle.dma_engine.proofs.Queues.{holds_at, many_queues}
 use Rattle.dma_engine.proofs.Sizes.{many_channels}
-use Rattle.dma_engine.proofs.StartsAndEnds.{FrontFound, found_front, front_with_cookie_law, held_is, holds_started, now_started, start_answers, start_starved}
+use Rattle.dma_engine.proofs.StartsAndEnds.{FrontFound, found_front, front_with_cookie_law, held_is, holds_started, idle_ranges, now_started, start_answers, start_starved}
 use Rattle.dma_engine.proofs.StepCases.{stepped_so}
 use Rattle.dma_engine.proofs.engine.Engine.start.Goals as goal
 use Rattle.dma_engine.proofs.engine.Engine.start.Goals.{After-deref}
@@ -43,7 +43,7 @@ found c =
 pub start-requires : goal.start-requires
 start-requires c =
     let f = found (goal.at.start-requires c).After-deref in
-    record { issued = f.known; front = ap is_some f.is; below = rw f.is f.low }
+    record { idle = idle_ranges f.at (rw (← c.self.view_is) at c.requires).3; issued = f.known; front = ap is_some f.is; below = rw f.is f.low }
 
 pub invariant_of-self : goal.invariant_of-self
 invariant_of-self c =
