@@ -4,7 +4,7 @@ ghost use Rattle.dma_work.specs.Desk.{Names};
 
 use crate::case::Case;
 use crate::watch::{Measured, Times, Watch};
-use dma_work::{DeskName, Job, NoGate, Parts, Shared, StatusReader, Tally, run_workers};
+use dma_work::{DeskName, InARow, Job, NoGate, Parts, Shared, StatusReader, Tally, run_workers};
 use std::alloc::Global;
 use std::rt::Clock;
 use std::sync::Wait;
@@ -59,7 +59,11 @@ fn work<N: DeskName + Send + Sync, R: Threads + Wait + Sync>(
     if jobs.len() > 8 {
         return None;
     }
-    run_workers(rt, alloc, shared, &jobs, &NoGate).ok()
+    // with `NoGate` the compiler leaves out the rows
+    if case.row == 1 {
+        return run_workers(rt, alloc, shared, &jobs, &NoGate).ok();
+    }
+    run_workers(rt, alloc, shared, &jobs, &InARow(case.row)).ok()
 }
 
 // Returns the tallies, none if the workers didn't begin, and how long they took.

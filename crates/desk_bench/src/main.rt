@@ -1,5 +1,5 @@
 //! Measures requests for statuses without the lock, and steps with and without a desk. It does nothing unless its
-//! arguments say what to measure: the six numbers of a [`Case`], in order.
+//! arguments say what to measure: the seven numbers of a [`Case`], in order.
 #![tactic(auto)]
 
 mod case;
@@ -46,17 +46,21 @@ fn measure<R: Threads + Wait + Clock + CpuClock + Sync>(
 ) -> Option<Measured> {
     let engine = case.engine(alloc)?;
     if case.readers == 0 && case.workers == 0 {
-        return time_engine(rt, engine, case.turns());
+        return time_engine(rt, engine, case);
     }
     let (parts, readers) = Parts::new(rt, alloc, engine, case.readers as usize).ok()?;
     time_desk::<Brand, _>(rt, alloc, parts, readers, case)
 }
 
-// Measures `turns` steps of channel 0 of an engine.
-fn time_engine<R: Clock + CpuClock>(rt: &R, mut engine: Engine, turns: u64) -> Option<Measured> {
+// Measures the steps of channel 0 of an engine.
+fn time_engine<R: Clock + CpuClock>(rt: &R, mut engine: Engine, case: Case) -> Option<Measured> {
     let watch = Watch::started(rt);
-    for _ in 0..turns {
-        let _ = engine.step(0);
+    if case.row > 1 {
+        advance(&mut engine, case);
+    } else {
+        for _ in 0..case.turns() {
+            let _ = engine.step(0);
+        }
     }
     Some(Measured {
         asked: Times::default(),
@@ -64,4 +68,14 @@ fn time_engine<R: Clock + CpuClock>(rt: &R, mut engine: Engine, turns: u64) -> O
         finished: engine.finished_all(),
         stepped: Watch::times(watch, rt)?,
     })
+}
+
+// Carries out the copies of channel 0 by calls that take a row of steps each.
+fn advance(engine: &mut Engine, case: Case) {
+    for _ in 0..case.turns() {
+        if engine.finished(0) >= case.copies {
+            return;
+        }
+        let _ = engine.advance(0, case.row);
+    }
 }

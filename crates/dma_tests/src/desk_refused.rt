@@ -141,11 +141,16 @@ fn at_a_desk<N: DeskName, R: Wait + Print>(
         other => other,
     };
     let is_seen = are_seen(&mut desk, readers, wanted);
+    let last = desk.reader();
     desk.close(rt);
+    let is_over = match last {
+        Some(mut reader) => seen(&mut reader) == [None; 3],
+        None => false,
+    };
     if first.is_err() {
         println!(rt; "refused Desk {name}")?;
     }
-    Ok(was_seen && second.is_ok() && is_seen)
+    Ok(was_seen && second.is_ok() && is_seen && is_over)
 }
 
 /// Returns the parts of a desk over an engine, with `count` readers. Makes them once more if they are out of memory.

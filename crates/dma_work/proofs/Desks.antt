@@ -1,38 +1,43 @@
 -- What each call keeps of a desk.
-use Rattle.std.proofs.Common.{◌≡◌, ℕ, ◌+◌, ◌<◌, ◌≤◌, List, [], ◌∷◌, ◌++◌, length, true, false, refl, ap, sym, ◌∙◌, arith, append-nil, append_assoc, subst, inl, inr, zero-add}
+use Rattle.std.proofs.Common.{◌≡◌, ℕ, ◌+◌, ◌<◌, ◌≤◌, Option, None, Some, List, [], ◌∷◌, ◌++◌, length, true, false, refl, ap, sym, ◌∙◌, arith, append-nil, append_assoc, subst, inl, inr, zero-add}
 use Rattle.std.specs.Prelude.{if◌then◌else◌, slice_set, Result, Ok}
 use Rattle.std.specs.List.{All}
 use Rattle.std.proofs.lemmas.Bool.{cases_eq}
-use Rattle.std.proofs.lemmas.List.{ext_get_or, length-map, length-set, get_or-set_same, get_or-set_other}
+use Rattle.std.proofs.lemmas.List.{ext_get_or, length-map, get_or-set_same, get_or-set_other}
 use Rattle.std.proofs.lemmas.List.FromFn.{get_or-map-range_with_len}
 use Rattle.std.proofs.lemmas.List.Elements.{All-head, All-tail}
 use Rattle.std.proofs.Math.ListN.{get_or-map}
-use Rattle.logbook.specs.Pages.{Book}
+use Rattle.atomic_table.specs.Seated.{TableId}
 use Rattle.dma_mem.specs.Places.{Descriptor}
 use Rattle.dma_mem.specs.declared.call.Call.{Call}
 use Rattle.dma_mem.specs.declared.call.Call.TheVariants.{Checkpoint, Step, Submit, Terminate}
 use Rattle.dma_engine.specs.declared.call.Reply.{Reply}
-use Rattle.dma_engine.specs.declared.call.Reply.TheVariants.{Cookie, Count, Done, Turned}
+use Rattle.dma_engine.specs.declared.call.Reply.TheVariants.{Cookie, Count, Done, Refused, Turned}
 use Rattle.dma_engine.specs.declared.entry.Entry.{Entry}
 use Rattle.dma_engine.specs.declared.fault.EngineFault.{EngineFault}
+use Rattle.dma_engine.specs.declared.turn.Advanced.{Advanced}
 use Rattle.dma_engine.specs.declared.turn.Turn.{Turn}
-use Rattle.dma_engine.specs.Answer.{CallAnswers, StepAnswers, checkpoint_fault, checkpointed, reply_of}
+use Rattle.dma_engine.specs.Advance.{IsAdvance, finishes_counted, steps_counted, ticks_counted}
+use Rattle.dma_engine.specs.Answer.{CallAnswers, StepAnswers, checkpoint_fault, checkpointed, reply_of, submit_fault, unless}
 use Rattle.dma_engine.specs.Laws.{Adds, IsQuiet, ticks_in}
 use Rattle.dma_engine.specs.Object.{Object, channel, empty_channel, forget, used}
 use Rattle.dma_engine.specs.Ticks.{Tick, Submitted, Finished, Board, Counts, added_up, board_after, board_of, counts, counts_of, no_counts, tick_channel, ticked, ticks_of}
 use Rattle.dma_engine.specs.Turn.{ends, finishes_in, steps_in, turn}
 use Rattle.dma_engine.specs.View.{EngineState, IsSound, View, channels, object_of, size}
+use Rattle.dma_engine.proofs.AdvanceResults.{advance_adds}
+use Rattle.dma_engine.proofs.Advances.{advance_keeps}
 use Rattle.dma_engine.proofs.CallLists.{answers_extend, quiet_extends}
 use Rattle.dma_engine.proofs.AnswerCounts.{quiet_calls_keep_counts, steps_add, ends_as_reported}
 use Rattle.dma_engine.proofs.Checkpoint.{accepted, checkpoints_keep}
 use Rattle.dma_engine.proofs.Sizes.{many_channels, size_object}
+use Rattle.dma_engine.proofs.Turns.{answer_is}
 use Rattle.dma_engine.proofs.CookieCounts.{boards_count, base_counts_bounded, submits_add, terminates_add, ticks_name_channels}
 use Rattle.dma_work.specs.declared.worker.Totals.{Totals}
-use Rattle.dma_work.specs.Desk.{Names, stepped_book}
+use Rattle.dma_work.specs.Desk.{Names, advanced_book, stepped_book}
 use Rattle.dma_work.specs.inner.DeskKept.{IsKept}
-use Rattle.dma_work.specs.inner.Published.{EditionState, HasActed, PublisherState, edition_and, edition_with}
+use Rattle.dma_work.specs.inner.Published.{PublishedList, HasActed, PublisherState, list_and, list_with}
 use Rattle.dma_work.specs.Ticks.{AreFinished, IsGiven, base_of, board_from, eight}
-use Rattle.dma_work.proofs.Boards.{board_append}
+use Rattle.dma_work.proofs.Boards.{after_length, board_append, ticked_length}
 
 -- ---- boards that agree at the channels 0 to 7
 
@@ -49,14 +54,6 @@ tick_alike : (a b : Board) (t : Tick) → length a ≡ 8 → length b ≤ 8 → 
 unfolding Alike
 tick_alike a b (Submitted c) la few less e ch in_8 = set_alike (λ x. record x { used = added_up x.used 1 }) a b c ch (omega arith) less (e c (omega arith)) (e ch in_8)
 tick_alike a b (Finished c n) la few less e ch in_8 = set_alike (λ x. record x { finished = added_up x.finished n }) a b c ch (omega arith) less (e c (omega arith)) (e ch in_8)
-
-ticked_length : (a : Board) (t : Tick) → length (ticked a t) ≡ length a
-ticked_length a (Submitted c) = length-set a c _
-ticked_length a (Finished c n) = length-set a c _
-
-after_length : (b : Board) (ts : List Tick) → length (board_after b ts) ≡ length b
-after_length b [] = refl
-after_length b (t ∷ ts) = after_length (ticked b t) ts ∙ ticked_length b t
 
 boards_alike : (a b : Board) (ts : List Tick) → length a ≡ 8 → length b ≤ 8 → All (λ t. tick_channel t < length b) ts → Alike a b → Alike (board_after a ts) (board_after b ts)
 boards_alike a b [] la few below e = e
@@ -82,51 +79,48 @@ history_eight v h =
     let o = base_counts_bounded v h in
     after_eight (board_of v.base) (ticks_of v.history) (omega (arith, o.0, o.1)) (subst (λ n. All (λ t. tick_channel t < n) (ticks_of v.history)) (sym o.0) (ticks_name_channels v h))
 
--- ---- steps
+-- ---- calls that are refused
 
--- a step that its turn doesn't end
-pub goes_on : (v w : View) (ch : ℕ) (r : Result Turn EngineFault) → ends (turn v ch).0 ≡ false → StepAnswers v ch r w → ticks_in ch r ≡ []
-goes_on v w ch r on h =
-    let is : ends r ≡ false = elim (ends_as_reported v w ch r h) [ inl starved ↦ ap ends starved | inr same ↦ same ∙ on ] in
-    ap (λ x. if x then Finished ch 1 ∷ [] else []) is
+refused_still : (f : Option EngineFault) (v w : View) (x : Reply × View) (g : EngineFault) → (Refused g ≡ x.0 → ⊥) → (Refused g, w) ≡ unless f v x → w ≡ v
+refused_still None v w x g other h = absurd (other (ap (λ (y : Reply × View). y.0) h))
+refused_still (Some fault) v w x g other h = ap (λ (y : Reply × View). y.1) h
 
--- and one that its turn ends
-pub ended : (v w : View) (ch : ℕ) (t : Turn) → ends (turn v ch).0 ≡ true → StepAnswers v ch (Ok t) w → ticks_in ch (Ok t) ≡ Finished ch 1 ∷ []
-ended v w ch t over h =
-    let is : ends (Ok t) ≡ true = elim (ends_as_reported v w ch (Ok t) h) [ inl starved ↦ absurd (cc starved) | inr same ↦ same ∙ over ] in
-    ap (λ x. if x then Finished ch 1 ∷ [] else []) is
+pub submit_still : (v w : View) (ch : ℕ) (t : Descriptor) (g : EngineFault) → CallAnswers v (Submit ch t) (Refused g) w → w ≡ v
+submit_still v w ch t g h = elim (answer_is v w (Submit ch t) (Refused g) h) [
+  | inl none ↦ none.1
+  | inr is ↦ refused_still (submit_fault v ch t) v w _ g (λ e. absurd cc) is
+]
 
 -- ---- what is published after a call
 
--- one more tick was made ready, and the engine has added it
-pub acted_next : (p r : PublisherState) (v m w : View) (l : List EditionState) (t u : Tick) → m ≡ v → ticks_of w.history ≡ ticks_of m.history ++ u ∷ [] → t ≡ u → r ≡ record p { pending = l } → p.before ++ ticks_of v.history ≡ p.shown.ticks → HasActed r w t
-acted_next p r v m w l t u same more is ready shown =
-    rw (ready, is, more, same) ((ticks_of v.history, shown), sym (append_assoc p.before (ticks_of v.history) (u ∷ [])) ∙ ap (λ x. x ++ u ∷ []) shown)
+-- the engine has added one more tick
+pub acted_next : (p : PublisherState) (v w : View) (t u : Tick) → ticks_of w.history ≡ ticks_of v.history ++ u ∷ [] → t ≡ u → p.before ++ ticks_of v.history ≡ p.shown.ticks → HasActed p w t
+acted_next p v w t u more is shown =
+    rw (is, more) (sym (append_assoc p.before (ticks_of v.history) (u ∷ [])) ∙ ap (λ x. x ++ u ∷ []) shown)
 
 -- no tick more is published
-pub no_more : (p : PublisherState) → p ≡ record p { shown = edition_and p.shown [] }
+pub no_more : (p : PublisherState) → p ≡ record p { shown = list_and p.shown [] }
 no_more p = ap (λ l. record p { shown = record (p.shown) { ticks = l } }) (sym (append-nil p.shown.ticks))
 
 -- the sizes of views with one base
-same_size : (v w : View) → w.base ≡ v.base → size w ≡ size v
+pub same_size : (v w : View) → w.base ≡ v.base → size w ≡ size v
 same_size v w same =
     size_object w.base w.history ∙ ap (λ (o : Object). length o.image) same ∙ sym (size_object v.base v.history)
 
-same_many : (v w : View) → w.base ≡ v.base → channels w ≡ channels v
+pub same_many : (v w : View) → w.base ≡ v.base → channels w ≡ channels v
 same_many v w same =
     many_channels w.base w.history ∙ ap (λ (o : Object). length o.channels) same ∙ sym (many_channels v.base v.history)
 
-module _ (opening : View) (base : Board) (log : Book) where
-  board : List Tick → EditionState
+module _ (opening : View) (base : Board) (log : TableId) where
+  board : List Tick → PublishedList
   board ticks = record { base = base; ticks = ticks; log = log }
 
   -- a call that adds ticks, which are published, and counts in the book as it does in the engine
-  kept_by : (old new : EngineState) (p q : PublisherState) (b e : Totals) (more : List Tick) (moves finishes : ℕ) → Adds old.view new.view more moves finishes → new.view.base ≡ old.view.base → q ≡ record p { shown = edition_and p.shown more } → e.steps ≡ b.steps + moves → e.finished + e.terminated ≡ b.finished + b.terminated + finishes → IsKept opening base log old p b → IsKept opening base log new q e
+  kept_by : (old new : EngineState) (p q : PublisherState) (b e : Totals) (more : List Tick) (moves finishes : ℕ) → Adds old.view new.view more moves finishes → new.view.base ≡ old.view.base → q ≡ record p { shown = list_and p.shown more } → e.steps ≡ b.steps + moves → e.finished + e.terminated ≡ b.finished + b.terminated + finishes → IsKept opening base log old p b → IsKept opening base log new q e
   unfolding board
   kept_by old new p q b e more moves finishes a same is steps done k = rw is (record {
-    shown = ap (λ (x : EditionState). edition_and x more) k.shown
+    shown = ap (λ (x : PublishedList). list_and x more) k.shown
         ∙ ap board (append_assoc p.before (ticks_of old.view.history) more ∙ ap (λ l. p.before ++ l) (sym a.ticks));
-    pending = k.pending;
     opens = k.opens ∙ ap (λ o. eight (board_of o)) (sym same);
     small = k.small;
     counts = record {
@@ -136,6 +130,17 @@ module _ (opening : View) (base : Board) (log : Book) where
     bytes_are = same_size old.view new.view same ∙ k.bytes_are;
     many_are = same_many old.view new.view same ∙ k.many_are;
   })
+
+  -- a call that changes no view
+  pub kept_still : (old new : EngineState) (p : PublisherState) (b : Totals) → new.view ≡ old.view → IsKept opening base log old p b → IsKept opening base log new p b
+  kept_still old new p b same k = record {
+    shown = rw same k.shown;
+    opens = rw same k.opens;
+    small = k.small;
+    counts = rw same k.counts;
+    bytes_are = rw same k.bytes_are;
+    many_are = rw same k.many_are;
+  }
 
   -- a call that gives no cookie and finishes none
   pub kept_quiet : (old new : EngineState) (p : PublisherState) (b : Totals) (call : Call) (reply : Reply) → IsQuiet call → CallAnswers old.view call reply new.view → IsKept opening base log old p b → IsKept opening base log new p b
@@ -149,21 +154,19 @@ module _ (opening : View) (base : Board) (log : Book) where
       kept_by old new p p b b [] 0 0 a (answers_extend old.view new.view call reply (quiet_extends call reply q) h).0 (no_more p) (omega arith) (omega arith) k
 
   -- a step
-  pub kept_step : (old new : EngineState) (p q : PublisherState) (b : Totals) (ch : ℕ) (r : Result Turn EngineFault) → StepAnswers old.view ch r new.view → q ≡ record p { shown = edition_and p.shown (ticks_in ch r) } → IsKept opening base log old p b → IsKept opening base log new q (stepped_book b r)
+  pub kept_step : (old new : EngineState) (p q : PublisherState) (b : Totals) (ch : ℕ) (r : Result Turn EngineFault) → StepAnswers old.view ch r new.view → q ≡ record p { shown = list_and p.shown (ticks_in ch r) } → IsKept opening base log old p b → IsKept opening base log new q (stepped_book b r)
   kept_step old new p q b ch r h is k =
       kept_by old new p q b (stepped_book b r) (ticks_in ch r) (steps_in r) (finishes_in r) (steps_add old.view new.view ch r h) (answers_extend old.view new.view (Step ch) (reply_of Turned r) refl h).0 is refl (omega arith) k
 
-  -- a step that finishes no cookie, which publishes nothing
-  pub kept_on : (old new : EngineState) (p : PublisherState) (b : Totals) (ch : ℕ) (r : Result Turn EngineFault) → ends (turn old.view ch).0 ≡ false → StepAnswers old.view ch r new.view → IsKept opening base log old p b → IsKept opening base log new p (stepped_book b r)
-  kept_on old new p b ch r on h k =
-      kept_step old new p p b ch r h (no_more p ∙ ap (λ l. record p { shown = edition_and p.shown l }) (sym (goes_on old.view new.view ch r on h))) k
+  -- consecutive steps
+  pub kept_advance : (old new : EngineState) (p q : PublisherState) (b : Totals) (ch most : ℕ) (a : Advanced) → IsAdvance old.view ch most a new.view → q ≡ record p { shown = list_and p.shown (ticks_counted ch a) } → IsKept opening base log old p b → IsKept opening base log new q (advanced_book b a)
+  kept_advance old new p q b ch most a h is k =
+      kept_by old new p q b (advanced_book b a) (ticks_counted ch a) (steps_counted a) (finishes_counted a) (advance_adds old.view new.view ch most a h) (advance_keeps old.view new.view ch most a h).0.0 is refl (omega arith) k
 
-  -- one more tick was made ready, the engine added it, and it was published
-  pub kept_next : (old m new : EngineState) (p r q : PublisherState) (b e : Totals) (l : List EditionState) (t u : Tick) (moves finishes : ℕ) → m.view ≡ old.view → Adds m.view new.view (u ∷ []) moves finishes → new.view.base ≡ m.view.base → t ≡ u → r ≡ record p { pending = l } → q ≡ record r { shown = edition_with r.shown t; pending = [] } → e.steps ≡ b.steps + moves → e.finished + e.terminated ≡ b.finished + b.terminated + finishes → IsKept opening base log old p b → IsKept opening base log new q e
-  kept_next old m new p r q b e l t u moves finishes same a from is ready published steps done k =
-      let all : q ≡ record p { shown = edition_and p.shown (u ∷ []) } =
-      published ∙ rw (ready, is) (ap (λ (x : List EditionState). record p { shown = edition_with p.shown u; pending = x }) (sym k.pending)) in
-      kept_by old new p q b e (u ∷ []) moves finishes (subst (λ v. Adds v new.view (u ∷ []) moves finishes) same a) (from ∙ ap (λ (v : View). v.base) same) all steps done k
+  -- the engine added one more tick, and it was published
+  pub kept_next : (old new : EngineState) (p q : PublisherState) (b e : Totals) (t u : Tick) (moves finishes : ℕ) → Adds old.view new.view (u ∷ []) moves finishes → new.view.base ≡ old.view.base → t ≡ u → q ≡ record p { shown = list_with p.shown t } → e.steps ≡ b.steps + moves → e.finished + e.terminated ≡ b.finished + b.terminated + finishes → IsKept opening base log old p b → IsKept opening base log new q e
+  kept_next old new p q b e t u moves finishes a from is published steps done k =
+      kept_by old new p q b e (u ∷ []) moves finishes a from (published ∙ ap (λ x. record p { shown = list_with p.shown x }) is) steps done k
 
   -- a checkpoint: what was published comes before the new history
   pub kept_checkpoint : (old new : EngineState) (p q : PublisherState) (b : Totals) → IsSound old.view → CallAnswers old.view Checkpoint Done new.view → q ≡ record p { before = p.shown.ticks } → IsKept opening base log old p b → IsKept opening base log new q b
@@ -172,10 +175,9 @@ module _ (opening : View) (base : Board) (log : Book) where
       let c = checkpoints_keep old.view new.view sound h in
       let ticks = ticks_of old.view.history in
       let next : new.view ≡ checkpointed old.view = accepted (checkpoint_fault old.view) old.view new.view (checkpointed old.view) h in
-      let before : p.shown.ticks ≡ p.before ++ ticks = ap (λ (x : EditionState). x.ticks) k.shown in
+      let before : p.shown.ticks ≡ p.before ++ ticks = ap (λ (x : PublishedList). x.ticks) k.shown in
       rw is (record {
         shown = k.shown ∙ ap board (sym before ∙ sym (ap (λ (es : List Entry). p.shown.ticks ++ ticks_of es) c.0 ∙ append-nil p.shown.ticks));
-        pending = k.pending;
         opens = ap (board_from base) before ∙ board_append base p.before ticks ∙ ap (λ x. board_after x ticks) k.opens
             ∙ history_eight old.view sound
             ∙ ap eight (boards_count old.view sound ∙ sym c.1);
@@ -186,10 +188,9 @@ module _ (opening : View) (base : Board) (log : Book) where
       })
 
 -- The same desk under a new name, with an empty book.
-pub kept_anew : (opening opening_now : View) (base base_now : Board) (log log_now : Book) (engine : EngineState) (p : PublisherState) (b e : Totals) → IsKept opening base log engine p b → Names opening_now base_now log_now (record { engine = engine; base = base; log = log }) → (e.steps ≡ 0) × (e.finished ≡ 0) × (e.terminated ≡ 0) → IsKept opening_now base_now log_now engine p e
+pub kept_anew : (opening opening_now : View) (base base_now : Board) (log log_now : TableId) (engine : EngineState) (p : PublisherState) (b e : Totals) → IsKept opening base log engine p b → Names opening_now base_now log_now (record { engine = engine; base = base; log = log }) → (e.steps ≡ 0) × (e.finished ≡ 0) × (e.terminated ≡ 0) → IsKept opening_now base_now log_now engine p e
 kept_anew opening opening_now base base_now log log_now engine p b e k names none = record {
   shown = rw (names.1, names.2) k.shown;
-  pending = k.pending;
   opens = rw names.1 k.opens;
   small = rw names.1 k.small;
   counts = rw names.0 (record { steps = omega (arith, none.0); finished = omega (arith, none.1, none.2) });
@@ -207,12 +208,12 @@ board_counts base before v opens h ch less =
 
 -- ---- what a ticket shows
 
-module _ (opening : View) (base : Board) (log : Book) where
+module _ (opening : View) (base : Board) (log : TableId) where
   -- the cookie of a submit is given in the list that is published then
   pub given_in : (new : EngineState) (q : PublisherState) (b : Totals) (v : View) (ch cookie : ℕ) (t : Descriptor) (list : List Tick) → CallAnswers v (Submit ch t) (Cookie cookie) new.view → IsSound new.view → IsKept opening base log new q b → list ≡ q.shown.ticks → IsGiven base list ch cookie
   given_in new q b v ch cookie t list h sound k is =
       let s = submits_add v new.view ch cookie t h in
-      let all = is ∙ ap (λ (x : EditionState). x.ticks) k.shown in
+      let all = is ∙ ap (λ (x : PublishedList). x.ticks) k.shown in
       let at : (counts (board_from base list) ch).used ≡ used (channel (object_of new.view) ch) =
       ap (λ l. (counts (board_from base l) ch).used) all ∙ ap (λ (x : Counts). x.used) (board_counts base q.before new.view k.opens sound ch s.1) in
       (s.2, omega (arith, at, s.3))
@@ -221,7 +222,7 @@ module _ (opening : View) (base : Board) (log : Book) where
   pub finished_in : (new : EngineState) (q : PublisherState) (b : Totals) (v : View) (ch count through : ℕ) (list : List Tick) → CallAnswers v (Terminate ch) (Count count) new.view → IsSound new.view → IsKept opening base log new q b → list ≡ q.shown.ticks → through ≡ used (channel (object_of new.view) ch) → AreFinished base list ch through
   finished_in new q b v ch count through list h sound k is through_is =
       let s = terminates_add v new.view ch count h in
-      let all = is ∙ ap (λ (x : EditionState). x.ticks) k.shown in
+      let all = is ∙ ap (λ (x : PublishedList). x.ticks) k.shown in
       let at : counts (board_from base list) ch ≡ counts_of (channel (object_of new.view) ch) =
       ap (λ l. counts (board_from base l) ch) all ∙ board_counts base q.before new.view k.opens sound ch s.1 in
       (omega (arith, through_is, ap (λ (x : Counts). x.used) at), omega (arith, through_is, ap (λ (x : Counts). x.finished) at, s.3))

@@ -43,6 +43,10 @@ after_grows b (t ∷ ts) h ch =
     let more = after_grows (ticked b t) ts (λ c. (one c).small) ch in
     record { used = omega (arith, (one ch).used, more.used); finished = omega (arith, (one ch).finished, more.finished); small = more.small }
 
+-- they stay numbers of 32 bits
+pub small_after : (base : Board) (ts : List Tick) → AreCounts base → AreCounts (board_from base ts)
+small_after base ts h ch = (after_grows base ts h ch).small
+
 -- in a longer list they are no less
 longer : (base : Board) (front all : List Tick) (ch : ℕ) → AreCounts base → StartsWith all front → Grows (counts (board_from base front) ch) (counts (board_from base all) ch)
 longer base front all ch h p =

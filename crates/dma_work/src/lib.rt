@@ -12,21 +12,23 @@
 //! that the reader has seen and learnt (`StatusReader::status`, `laws::statuses_stay_true`).
 //!
 //! Not proved: progress; that no turn of a shift is out of memory; that workers run at the same time; when a gate is
-//! passed; which desk of its name a lock holds when it is taken, and so that [`work`], which sees the lock, does
-//! nothing else with the desk; that each tally of a settled desk is right, since two wrong ones may have the right sum.
+//! passed, and how many turns a worker takes in a row; which desk of its name a lock holds when it is taken, and so
+//! that [`work`], which sees the lock, does nothing else with the desk; that each tally of a settled desk is right,
+//! since two wrong ones may have the right sum; how many readers a desk gives, and that they see nothing after its end.
 #![tactic(auto)]
 
+mod board;
 mod desk;
-mod edition;
 mod job;
 pub mod laws;
-mod log;
 mod publisher;
 mod reader;
 mod rota;
+mod rows;
 mod seat;
 mod shared;
 mod shift;
+mod tick;
 mod worker;
 
 pub use desk::{Desk, DeskName};
@@ -37,5 +39,5 @@ pub use rota::Rota;
 pub use shared::{MissingTally, Shared, run_workers, settle, work};
 pub use shift::{Shift, run_shift};
 pub use worker::{
-    Borrower, Gate, Lender, Locked, NoGate, Stepper, Tally, Totals, take_turns, work_at,
+    Borrower, Gate, InARow, Lender, Locked, NoGate, Stepper, Tally, Totals, take_turns, work_at,
 };

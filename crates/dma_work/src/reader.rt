@@ -1,39 +1,36 @@
 //! Readers of statuses, which take no lock, and the tickets that they learn.
 
-ghost use Rattle.std.specs.Prelude.{◌≡◌, ◌⊎◌, Some, IfSome};
-ghost use Rattle.left_right.specs.Sides.{view};
-ghost use Rattle.dma_work.specs.inner.Published.{IsLaterEdition, known_by, seen_edition};
+ghost use Rattle.std.specs.Prelude.{◌≡◌, ◌⊎◌, [], IfSome};
 ghost use Rattle.dma_work.specs.Ticks.{AreFinished, IsGiven, StartsWith, status_after};
+ghost use Rattle.dma_work.specs.inner.Published.{known_at};
 
+use crate::board::{Place, TickSeat};
 use crate::desk::DeskName;
-use crate::edition::{EditionReader, Published};
-use crate::log::Snapshot;
-use core::mem::replace_with;
 use dma_engine::Status;
 use std::marker::{Model, PhantomData};
 
 /// A ticket for a published list of ticks. Contracts see the ticks.
 #[derive(Drop)]
 pub struct Ticket<N: DeskName> {
-    list: Snapshot,
+    list: TickSeat,
     of: PhantomData<N>,
 }
 
 impl<N: DeskName> Model for Ticket<N> {
-    ghost use Rattle.std.specs.Prelude.{◌≡◌, List};
+    ghost use Rattle.std.specs.Prelude.{◌≡◌, [], List};
     ghost use Rattle.dma_engine.specs.Ticks.{Tick as EngineTick};
 
     ghost Value = { List EngineTick };
 
-    ghost view = { λ t. t.list.ticks };
+    ghost view = { λ t. t.list.me.0.seen };
 
-    ghost invariant = { λ t. t.list.log ≡ N.log };
+    ghost invariant = { λ t. (t.list.table_id ≡ N.log) × (t.list.me.1 ≡ []) };
 }
 
 impl<N: DeskName> Ticket<N> {
-    pub(crate) fn new(list: Snapshot) -> Ticket<N>
-        requires { list.log ≡ N.log }
-        ensures { result ≡ list.ticks }
+    pub(crate) fn new(list: TickSeat) -> Ticket<N>
+        requires { (list.table_id ≡ N.log) × (list.me.1 ≡ []) }
+        ensures { result ≡ list.me.0.seen }
     {
         Ticket {
             list,
@@ -71,60 +68,33 @@ pub struct Closed<N: DeskName> {
 
 /// Returns the status of cookies, without waiting for another thread. Contracts see the ticks that it has seen, and
 /// those that it has learnt.
-#[derive(Drop)]
 pub struct StatusReader {
-    reader: EditionReader,
-    learnt: Snapshot,
+    place: Place,
 }
 
 impl Model for StatusReader {
-    ghost use Rattle.std.specs.Prelude.{◌≡◌, Some};
-    ghost use Rattle.left_right.specs.Sides.{view as seen_by};
     ghost use Rattle.dma_work.specs.Known.{Known};
-    ghost use Rattle.dma_work.specs.inner.Published.{known_by, seen_edition};
+    ghost use Rattle.dma_work.specs.inner.Published.{known_at};
 
     ghost Value = { Known };
 
-    ghost view = { λ r. known_by (seen_edition (seen_by r.reader.place)) r.learnt };
-
-    ghost invariant = { λ r.
-        (seen_by r.reader.place ≡ Some (seen_edition (seen_by r.reader.place)))
-        × ((seen_edition (seen_by r.reader.place)).log ≡ r.learnt.log) };
+    ghost view = { λ r. known_at r.place.seat };
 }
 
-// Returns the status of a cookie on the published edition, or `None` unless the edition's list begins with `list`.
-fn look(
-    reader: EditionReader,
-    list: &Snapshot,
-    ch: u8,
-    cookie: u32,
-) -> (EditionReader, Option<Status>)
-    requires there { view reader.place ≡ Some (seen_edition (view reader.place)) }
-    requires log { (seen_edition (view reader.place)).log ≡ list.now.log }
-    ensures there { view result.0.place ≡ Some (seen_edition (view result.0.place)) }
-    ensures later { IsLaterEdition (seen_edition (view reader.place)) (seen_edition (view result.0.place)) }
-    ensures covers { IfSome result.1 (λ s.
-        StartsWith (seen_edition (view result.0.place)).ticks list.now.ticks) }
-    ensures some { IfSome result.1 (λ s. s ≡ status_after (seen_edition (view result.0.place)).base
-        (seen_edition (view result.0.place)).ticks ch cookie) }
-{
-    match reader.enter_as::<Published>() {
-        Ok(reading) => {
-            let status = reading.get().status(list, ch, cookie);
-            (reading.leave(), status)
-        }
-        Err(reader) => (reader, None),
+impl Drop for StatusReader {
+    /// Frees the reader's place.
+    fn drop(self) {
+        let Self { place } = self;
+        place.leave();
     }
 }
 
 impl StatusReader {
-    /// Returns a reader that has learnt a snapshot. The snapshot is of the log of the edition that the reader has seen.
-    pub(crate) fn new(reader: EditionReader, learnt: Snapshot) -> StatusReader
-        requires there { view reader.place ≡ Some (seen_edition (view reader.place)) }
-        requires log { (seen_edition (view reader.place)).log ≡ learnt.log }
-        ensures { result ≡ known_by (seen_edition (view reader.place)) learnt }
+    /// Returns a reader on this place.
+    pub(crate) fn new(place: Place) -> StatusReader
+        ensures { result ≡ known_at place.seat }
     {
-        StatusReader { reader, learnt }
+        StatusReader { place }
     }
 
     /// Learns a ticket: from then on each status is that of a list that begins with the ticket's list. N names this
@@ -138,9 +108,7 @@ impl StatusReader {
         ensures ticket { StartsWith self.new.learnt ticket }
     {
         let Ticket { list, .. } = ticket;
-        if self.learnt.is_within(&list) {
-            self.learnt = list;
-        }
+        self.place.learn::<N>(list);
     }
 
     /// Returns the status of a cookie after some published ticks. They begin with all ticks that this reader has seen
@@ -155,10 +123,6 @@ impl StatusReader {
         ensures some { IfSome result
             (λ s. s ≡ status_after self.old.base self.new.seen ch cookie) }
     {
-        replace_with(
-            &mut self.reader,
-            (&self.learnt, ch, cookie),
-            |reader, (learnt, ch, cookie)| look(reader, learnt, ch, cookie),
-        )
+        self.place.status(ch, cookie)
     }
 }

@@ -9,6 +9,7 @@ ghost use Rattle.dma_work.specs.inner.Begun.{IsBegun, IsOf};
 use crate::desk::{Desk, DeskName};
 use crate::job::Job;
 use crate::publisher::Parts;
+use crate::rows::work_in_rows;
 use crate::worker::{Gate, Locked, Tally, Totals, work_at};
 use core::mem::replace;
 use dma_engine::{Engine, NoMemory};
@@ -97,7 +98,7 @@ pub fn settle<N: DeskName, R: Wait>(
 }
 
 /// Takes the turns of a job like [`work_at`], and returns the tally. The worker passes the gate without the lock, and
-/// holds the lock for each step.
+/// holds the lock for each step, or for as many steps in a row as the gate allows ([`Gate::most_in_a_row`]).
 pub fn work<N: DeskName, R: Wait, G: Gate>(
     rt: &R,
     shared: &Shared<N>,
@@ -107,7 +108,10 @@ pub fn work<N: DeskName, R: Wait, G: Gate>(
 ) -> Tally<N>
     ensures { TookTurns N.opening G.passes worker job result }
 {
-    work_at(rt, shared.lent(), worker, job, gate).1
+    match gate.most_in_a_row() {
+        0 | 1 => work_at(rt, shared.lent(), worker, job, gate).1,
+        longest => work_in_rows(rt, shared.desk(), worker, job, gate, longest),
+    }
 }
 
 // What the thread of a job guarantees of the tally that it returns: a new worker with this number took the job's turns.

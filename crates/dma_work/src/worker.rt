@@ -1,15 +1,16 @@
 //! Workers: the tallies of their steps, the turns of their jobs, and the worker that borrows a desk for each step.
 
-ghost use Rattle.std.specs.Prelude.{◌≡◌, ◌+◌, ◌<◌, ◌^◌, IsTrue, false};
+ghost use Rattle.std.specs.Prelude.{◌≡◌, ◌+◌, ◌<◌, ◌≤◌, ◌^◌, IsTrue, false};
+ghost use Rattle.dma_engine.specs.Advance.{finishes_counted, steps_counted, steps_taken};
 ghost use Rattle.dma_engine.specs.Interleaved.{rotation};
 ghost use Rattle.dma_engine.specs.Turn.{finishes_in, steps_in};
-ghost use Rattle.dma_work.specs.Desk.{AddUp, Differ, counted, new_tally, stepped_book};
+ghost use Rattle.dma_work.specs.Desk.{AddUp, Differ, advanced_book, counted, counted_all, new_tally, stepped_book};
 ghost use Rattle.dma_work.specs.Rotation.{StepsInTurn};
 ghost use Rattle.dma_work.specs.Tallies.{TookTurnsAt};
 
 use crate::desk::{Desk, DeskName};
 use crate::job::Job;
-use dma_engine::{EngineFault, Turn};
+use dma_engine::{Advanced, EngineFault, Turn};
 use std::marker::{Model, PhantomData};
 use std::sync::{Mutex, MutexGuard, Wait};
 
@@ -72,6 +73,16 @@ impl<N: DeskName> Tally<N> {
         self.counts.count(answer);
     }
 
+    /// Counts the turns of consecutive steps.
+    pub(crate) fn count_all(&mut self, advanced: &Advanced)
+        requires number { steps_taken advanced.now ≤ u32.MAX }
+        requires few { self.old.turns + steps_taken advanced.now < 2 ^ 64 }
+        ensures { self.new ≡ counted_all advanced.now self.old }
+    {
+        self.turns += u64::from(advanced.steps_taken());
+        self.counts.count_all(advanced);
+    }
+
     /// Returns the worker's number.
     pub fn worker(&self) -> u32
         ensures { result ≡ self.now.worker }
@@ -118,6 +129,18 @@ impl Totals {
         }
     }
 
+    /// Counts what consecutive steps add: a step for each that moved, and what the last one adds.
+    pub(crate) fn count_all(&mut self, advanced: &Advanced)
+        requires steps { self.old.steps + steps_counted advanced.now < 2 ^ 64 }
+        requires finished { self.old.finished + finishes_counted advanced.now < 2 ^ 64 }
+        ensures { self.new ≡ advanced_book self.old advanced.now }
+    {
+        self.steps += u64::from(advanced.moved);
+        if let Some(last) = &advanced.last {
+            self.count(last);
+        }
+    }
+
     /// Returns whether the tallies' steps and finishes add up to these totals.
     pub(crate) fn are_sums_of<N: DeskName>(&self, tallies: &[Tally<N>]) -> bool
         ensures yes { IsTrue result → AddUp tallies.now self.now }
@@ -146,6 +169,13 @@ pub trait Gate: Sync {
     /// Called when worker `worker` is about to take its turn `n`, the first of which is 1.
     fn turn<R: Wait>(&self, rt: &R, worker: u32, n: u64)
         ensures { passes worker n };
+
+    /// Returns how many turns in a row a worker may take with the desk's lock held; 0 is like 1, the default. The worker
+    /// passes the gate for all turns of a row, in order, before it takes the lock. So a gate must return 1 if it waits
+    /// for something that another worker does between two turns of this one. It is asked once for a job.
+    fn most_in_a_row(&self) -> u32 {
+        1
+    }
 }
 
 /// A gate that never waits.
@@ -157,6 +187,26 @@ impl Gate for NoGate {
 
     /// Returns at once.
     fn turn<R: Wait>(&self, _rt: &R, _worker: u32, _n: u64) {}
+}
+
+/// A gate that never waits. A worker takes up to this many turns in a row with the desk's lock held.
+#[derive(Clone, Copy, Debug)]
+pub struct InARow(pub u32);
+
+impl Gate for InARow {
+    ghost use Rattle.std.specs.Prelude.{◌≡◌};
+
+    ghost passes = { λ worker n. Unit {0} };
+
+    /// Returns at once.
+    fn turn<R: Wait>(&self, _rt: &R, _worker: u32, _n: u64) {}
+
+    /// Returns the number that it was made with.
+    fn most_in_a_row(&self) -> u32
+        ensures { result ≡ self.now.0 }
+    {
+        self.0
+    }
 }
 
 /// Takes the turns of a worker, each of which steps one channel. The worker passes the gate before each turn. Contracts

@@ -1,111 +1,145 @@
--- The log of ticks, what is published of it, and what readers have seen.
-use Rattle.std.specs.Prelude.{ℕ, ◌≡◌, ◌==◌, true, Option, Some, None, List, [], ◌∷◌, ◌++◌, length, IfSome, MatchBool}
-use Rattle.std.specs.List.{fold}
+-- The published list of ticks, the table at which it is read, and what readers know of it.
+use Rattle.std.specs.Prelude.{ℕ, ◌≡◌, ◌+◌, ◌*◌, ◌/◌, ◌%◌, ◌<◌, true, if◌then◌else◌, nat_lt, false, List, [], ◌∷◌, ◌++◌, length, slice_index}
 use mathlib.Core.Option.{some}
 use lib.ListN.{get_elem?}
-use Rattle.logbook.specs.Pages.{Cell, Step, View, Book, Named}
-use Rattle.dma_engine.specs.Ticks.{Board, Tick, ticks_of}
-use Rattle.dma_engine.specs.View.{View as EngineView}
-use Rattle.dma_work.specs.Ticks.{StartsWith}
+use Rattle.atomic_table.specs.Seated.{TableId}
+use Rattle.atomic_table.specs.Table.{Me, State, Step}
+use Rattle.atomic_table.specs.declared.shared.Seat.{Seat}
+use Rattle.dma_engine.specs.Ticks.{Board, Counts, Tick, counts, ticks_of}
+use Rattle.dma_engine.specs.View.{View}
+use Rattle.dma_work.specs.declared.board.Sight.{Sight}
 use Rattle.dma_work.specs.Known.{Known}
+use Rattle.dma_work.specs.Laws.{AreCounts}
+use Rattle.dma_work.specs.Ticks.{StartsWith, board_from}
 
--- ---- the log
+-- ---- the published list
 
--- A snapshot of a log: the log, and the ticks that it had.
-pub record SnapshotState : Type 0 where
-  pub log : Book
-  pub ticks : List Tick
-
--- a list of one tick, or of none
-abbrev pub ticks_of_option : Option Tick → List Tick
-ticks_of_option (Some t) = t ∷ []
-ticks_of_option None = []
-
--- the snapshot with one more tick
-abbrev pub with_tick : SnapshotState → Tick → SnapshotState
-with_tick s t = record s { ticks = s.ticks ++ t ∷ [] }
-
--- The rule of a log: its first word is the number of ticks. A log has two words; the second one stays 0.
-abbrev pub IsCounted : List Cell → List Tick → Type 0
-IsCounted cells ticks = cells ≡ (length ticks, true) ∷ (0, true) ∷ []
-
--- the first word of a log
-abbrev pub head_of : Book → Named
-head_of b = record { tracked = true; key = 0; book = b }
-
--- What an exchange shows: if it found the number that it expected, the tick follows all that was seen before; otherwise
--- the log is longer.
-abbrev pub Adds : Step Tick → View Tick ℕ → ℕ → View Tick ℕ → Type 0
-Adds s v found w = MatchBool (found == s.old) (w.0 ≡ v.0 ++ s.ask ∷ []) (length w.0 ≡ found)
-
--- ---- editions
-
--- A published edition: the counts that it begins with, its ticks, and the log that records them.
-pub record EditionState : Type 0 where
+-- The published list: the counts that it begins with, its ticks, and the table at which it is read.
+pub record PublishedList : Type 0 where
   pub base : Board
   pub ticks : List Tick
-  pub log : Book
+  pub log : TableId
 
--- the edition with more ticks
-abbrev pub edition_and : EditionState → List Tick → EditionState
-edition_and b more = record b { ticks = b.ticks ++ more }
+-- the list with more ticks
+abbrev pub list_and : PublishedList → List Tick → PublishedList
+list_and b more = record b { ticks = b.ticks ++ more }
 
--- the edition with one more tick
-abbrev pub edition_with : EditionState → Tick → EditionState
-edition_with b t = edition_and b (t ∷ [])
+-- the list with one more tick
+abbrev pub list_with : PublishedList → Tick → PublishedList
+list_with b t = list_and b (t ∷ [])
 
--- A later edition begins with the earlier one.
-pub record IsLaterEdition (old new : EditionState) : Type 0 where
-  pub base : new.base ≡ old.base
-  pub log : new.log ≡ old.log
-  pub ticks : StartsWith new.ticks old.ticks
-
--- the last of the editions that are to be published next, or the one that is published
-abbrev pub newest : EditionState → List EditionState → EditionState
-newest b next = fold (λ (x : EditionState) (y : EditionState). y) b next
-
--- a snapshot of an edition's log that has the edition's ticks
-abbrev pub snapshot_of : EditionState → SnapshotState
-snapshot_of b = record { log = b.log; ticks = b.ticks }
-
--- A publisher: the edition that is published, those to be published next, and the ticks that were published before
--- those of the engine's history.
+-- A publisher: the published list, and the ticks that were published before those of the engine's history.
 pub record PublisherState : Type 0 where
-  pub shown : EditionState
-  pub pending : List EditionState
+  pub shown : PublishedList
   pub before : List Tick
 
--- The edition has the ticks before the engine's history, and those of the history.
-abbrev pub IsOfHistory : List Tick → EngineView → EditionState → Type 0
-IsOfHistory before v b = b.ticks ≡ before ++ ticks_of v.history
+-- The engine has acted: the published ticks followed by this one are `before` followed by the ticks of the engine's
+-- history.
+abbrev pub HasActed : PublisherState → View → Tick → Type 0
+HasActed p v t = p.before ++ ticks_of v.history ≡ p.shown.ticks ++ t ∷ []
 
--- The engine has acted: the published ticks begin with `before`, and the published ticks followed by this one are
--- `before` followed by the ticks of the engine's history.
-abbrev pub HasActed : PublisherState → EngineView → Tick → Type 0
-HasActed p v t =
-    StartsWith p.shown.ticks p.before × (p.before ++ ticks_of v.history ≡ p.shown.ticks ++ t ∷ [])
+-- ---- the rule of the table
 
--- ---- the rule of what is published: it only grows, and begins with all that anyone has seen
+-- the counts of a channel, in a word
+abbrev pub packed : Counts → ℕ
+packed c = c.used + 4294967296 * c.finished
 
--- The edition that the writer or a reader has seen, if any, is an earlier state of this edition.
-abbrev pub IsSeen : EditionState → Option EditionState → Type 0
-IsSeen b view = IfSome view (λ seen. IsLaterEdition seen b)
+-- the counts that a word has
+abbrev pub unpacked : ℕ → Counts
+unpacked n = record { used = n % 4294967296; finished = n / 4294967296 }
 
--- Each edition that was seen is an earlier state of this edition.
-abbrev pub Keeps : EditionState → List (Option EditionState) → Type 0
-Keeps b views = (seat : ℕ) (view : Option EditionState) → get_elem? views seat ≡ some view → IsSeen b view
+-- What a seat knows: the counts with which the list begins, and lists that are beginnings of the published one. The
+-- writer knows all of it, and only the seat that the table was made with may be the writer's.
+pub record IsKnown (base : Board) (ticks : List Tick) (seat : ℕ) (v : Sight) : Type 0 where
+  pub base_is : v.base ≡ base
+  pub seen : StartsWith ticks v.seen
+  pub learnt : StartsWith ticks v.learnt
+  pub offered : StartsWith ticks v.offered
+  pub writer : v.writes ≡ true → (seat ≡ 0) × (v.seen ≡ ticks)
 
--- Whoever reads or publishes an edition has then seen it, and the edition seen before is an earlier state of it.
-abbrev pub Sees : Option EditionState → EditionState → EditionState → Option EditionState → Type 0
-Sees before old new after = IsSeen new before × (after ≡ Some new)
+-- The words of the channels 0 to 7 have the counts that the published list adds up to.
+abbrev pub AreWords : Board → List ℕ → Type 0
+AreWords board words = (ch : ℕ) → ch < 8 → slice_index words ch ≡ packed (counts board ch)
 
--- ---- readers
+-- The rule. There is a published list: the words have the counts that it adds up to, and each seat knows beginnings of
+-- it. Its base has the counts of eight channels, which are numbers of 32 bits.
+pub record Keeps (base : Board) (s : State Tick Sight) : Type 0 where
+  pub ticks : List Tick
+  pub known : (seat : ℕ) (v : Sight) → get_elem? s.views seat ≡ some v → IsKnown base ticks seat v
+  pub eight : length base ≡ 8
+  pub small : AreCounts base
+  pub many : length s.words ≡ 10
+  pub words : AreWords (board_from base ticks) s.words
 
--- the edition that was seen, or an empty one
-abbrev pub seen_edition : Option EditionState → EditionState
-seen_edition (Some b) = b
-seen_edition None = record { base = []; ticks = []; log = record { number = 0; log_name = 0; cells_name = 0 } }
+-- what the writer knows at first
+abbrev pub first_sight : Board → Sight
+first_sight base = record { writes = true; base = base; seen = []; learnt = []; offered = [] }
 
--- what a reader knows that has seen this edition and learnt this snapshot
-abbrev pub known_by : EditionState → SnapshotState → Known
-known_by b learnt = record { base = b.base; log = b.log; seen = b.ticks; learnt = learnt.ticks }
+-- ---- steps at the table
+
+-- a seat, as a step at the table sees it
+abbrev Sat : Type 0
+Sat = Me Tick Sight
+
+-- A word was read. If it is a channel's, it has the counts that the list adds up to that this seat has seen.
+pub record WasLooked (ch : ℕ) (v : Sight) (n : ℕ) : Type 0 where
+  pub eight : length (board_from v.base v.seen) ≡ 8
+  pub small : AreCounts (board_from v.base v.seen)
+  pub word : ch < 8 → n ≡ packed (counts (board_from v.base v.seen) ch)
+
+-- The writer has read a word, and knows what it knew.
+abbrev pub looks : Step Tick → Sat → ℕ → Sat → Type 0
+looks st m n m' = (m' ≡ m) × WasLooked st.word m.0 n
+
+-- A tick was added to the list.
+abbrev pub adds : Step Tick → Sat → ℕ → Sat → Type 0
+adds st m n m' = (t : Tick) → st.said ≡ some t → m' ≡ (record (m.0) { seen = m.0.seen ++ t ∷ [] }, m.1)
+
+-- A word was read by a reader, which has then seen a list that begins with all that it has seen or learnt. The word has
+-- the counts of that list.
+pub record WasRead (ch : ℕ) (old : Sight) (n : ℕ) (new : Sight) : Type 0 where
+  pub same : new ≡ record old { seen = new.seen }
+  pub later : StartsWith new.seen old.seen
+  pub covers : StartsWith new.seen old.learnt
+  pub read : WasLooked ch new n
+
+-- A reader has read a word.
+abbrev pub reads : Step Tick → Sat → ℕ → Sat → Type 0
+reads st m n m' = WasRead st.word m.0 n m'.0 × (m'.1 ≡ m.1)
+
+-- the longer of two lists
+abbrev pub longer : List Tick → List Tick → List Tick
+longer xs ys = if nat_lt (length xs) (length ys) then ys else xs
+
+-- A reader has learnt the longer one of two lists: the one that it had learnt and the one that it was offered. It
+-- begins with both.
+pub record WasLearnt (old new : Sight) : Type 0 where
+  pub is : new ≡ record old { learnt = longer old.learnt old.offered }
+  pub before : StartsWith (longer old.learnt old.offered) old.learnt
+  pub ticket : StartsWith (longer old.learnt old.offered) old.offered
+
+-- A reader has learnt the list that it was offered, or had learnt a longer one.
+abbrev pub learns : Step Tick → Sat → ℕ → Sat → Type 0
+learns st m n m' = WasLearnt m.0 m'.0 × (m'.1 ≡ m.1)
+
+-- Nothing changes at the seat.
+abbrev pub stays : Step Tick → Sat → ℕ → Sat → Type 0
+stays st m n m' = m' ≡ m
+
+-- ---- seats
+
+-- what a new reader or a ticket knows of what the writer knows
+abbrev pub told : Sight → Sight
+told v = record v { writes = false; learnt = v.seen; offered = [] }
+
+-- what a reader knows after it was offered a list
+abbrev pub offered : Sight → List Tick → Sight
+offered v list = record v { offered = list }
+
+-- the list that a seat has seen
+abbrev pub list_at : Seat Tick Sight → PublishedList
+list_at s = record { base = s.me.0.base; ticks = s.me.0.seen; log = s.table_id }
+
+-- what a reader on this seat knows
+abbrev pub known_at : Seat Tick Sight → Known
+known_at s = record { base = s.me.0.base; log = s.table_id; seen = s.me.0.seen; learnt = s.me.0.learnt }

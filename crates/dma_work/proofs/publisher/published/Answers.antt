@@ -5,7 +5,7 @@ use Rattle.dma_work.specs.inner.Published.{PublisherState}
 use Rattle.dma_work.proofs.publisher.published.Goals as goal
 
 pub loop-made-preserved : goal.loop-made-preserved
-loop-made-preserved g c =
+loop-made-preserved c =
     let i = c.loop-made.invariant in
     let shown = c.in-Some.publisher.shown in
     let P : Known → Type 0 = λ s. s ≡ knows shown.base shown.log shown.ticks in

@@ -5,7 +5,7 @@ use Rattle.dma_work.specs.Known.{Known, knows}
 use Rattle.dma_work.proofs.publisher.published.Given as goal
 
 abbrev pub invariant-loop-made : goal.invariant-loop-made
-invariant-loop-made g l =
+invariant-loop-made l =
     let shown = l.initial.publisher.shown in record {
       count : vec_len l.readers ≡ l.made;
       room : l.count ≤ vec_capacity l.readers;

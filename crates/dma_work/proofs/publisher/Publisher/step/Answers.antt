@@ -1,38 +1,18 @@
 use Rattle.std.proofs.lemmas.Grind.{common_steps}
-use Rattle.std.proofs.Common.{◌≡◌, ◌∙◌, ◌++◌, ap, true, arith}
+use Rattle.std.proofs.Common.{◌≡◌, ◌∙◌, ◌∷◌, ◌++◌, [], ap, true, arith}
+use Rattle.std.specs.Prelude.{if◌then◌else◌}
 use Rattle.dma_engine.specs.Ticks.{Finished, ticks_of}
-use Rattle.dma_engine.specs.Turn.{ends, turn}
-use Rattle.dma_engine.specs.View.{View}
+use Rattle.dma_engine.specs.Turn.{ends}
 use Rattle.dma_engine.proofs.AnswerCounts.{steps_add}
-use Rattle.dma_work.proofs.Desks.{acted_next, ended}
-use Rattle.std.specs.Prelude.{Ok}
+use Rattle.dma_work.proofs.Desks.{acted_next}
 use Rattle.dma_work.proofs.publisher.Publisher.step.Goals as goal
 
-pub publish-requires-clause-acted : goal.publish-requires-clause-acted
-publish-requires-clause-acted g c =
-    let m = c.make_room.new.self.view in
-    let w = c.step.new.self.view in
+pub publish-requires : goal.publish-requires
+publish-requires c =
+    let v = c.args.engine.now.view in
+    let w = c.step-answer.new.self.view in
     let ch = c.args.ch in
-    let same = c.make_room.ensures.view in
-    let over : ends (turn m ch).0 ≡ true = ap (λ (u : View). ends (turn u ch).0) same ∙ c.requires.ends in
-    let h = c.in-Ok.ensures.answer in
-    let more = (steps_add m w ch (Ok c.in-Ok.turn) h).ticks ∙ ap (λ l. ticks_of m.history ++ l) (ended m w ch c.in-Ok.turn over h) in
-    acted_next c.args.self.now c.ready.new.self c.args.engine.now.view m w _ c.new-tick.result (Finished ch 1) same more c.new-tick.ensures (c.ready.ensures.ready c.if-not-ready.false) c.requires.shown
-
-pub publish-requires-clause-pending : goal.publish-requires-clause-pending
-publish-requires-clause-pending g c = grind (arith, common_steps)
-
-pub publish-requires-clause-few : goal.publish-requires-clause-few
-publish-requires-clause-few g c = grind (arith, common_steps)
-
-pub returns-then-is_err-clause-answer : goal.returns-then-is_err-clause-answer
-returns-then-is_err-clause-answer g c = grind (arith, common_steps)
-
-pub returns-then-is_err-clause-published : goal.returns-then-is_err-clause-published
-returns-then-is_err-clause-published g c = grind (arith, common_steps)
-
-pub returns-clause-answer : goal.returns-clause-answer
-returns-clause-answer g c = grind (arith, common_steps)
-
-pub returns-clause-published : goal.returns-clause-published
-returns-clause-published g c = grind (arith, common_steps)
+    let r = c.step-answer.result in
+    let over : ends r ≡ true = grind (arith, common_steps) in
+    let more = (steps_add v w ch r c.step-answer.ensures.answer).ticks ∙ ap (λ x. ticks_of v.history ++ (if x then Finished ch 1 ∷ [] else [])) over in
+    acted_next c.args.self.now v w c.new.result (Finished ch 1) more c.new.ensures c.requires
