@@ -38,7 +38,7 @@ SPECS_IMPORT = re.compile(r"use Rattle\.((?:\w+\.)*\w+)\.\{([^}]*)\}")
 CODE_IMPORT = re.compile(r"^(?:pub )?use ((?:\w+::)*)(?:(\w+)|\{([^}]*)\});", re.M)
 DEFINITION = re.compile(r"(?:(?:abbrev|unfoldable|data|record|pub) )+([A-Za-z_][\w']*|◌\S+◌)")
 LABEL = re.compile(r"(?<=ensures |equires )\w+(?= \{)")
-PUBLIC = re.compile(r"^ *pub (?:extern \"C\" |unsafe )*fn \w+.*?\n *\{\}?$", re.M | re.S)
+PUBLIC = re.compile(r"^ *pub (?:extern \"C\" |unsafe )*fn \w+(.*?\n *\{\}?)$", re.M | re.S)
 RULE = re.compile(r"(?:(dma\w+) )?([\w/.]+)(?: \((\w+)\))?")
 DECLARATION = re.compile(r"pub(?:\(crate\))? (?:enum|struct|const|trait) (\w+)")
 

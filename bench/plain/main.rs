@@ -2,7 +2,7 @@
 //! `plan` and `run`, without fills and checkpoints, and memories of up to 16 MiB. `workers N long|short COUNT` times
 //! workers on its engine.
 
-#![forbid(unsafe_code)]
+#![deny(unsafe_code)]
 
 mod assembly;
 mod chan;
