@@ -340,6 +340,11 @@ else
     echo "there is no C compiler $CC: the tests in C are left out"
 fi
 
+if has python3; then
+    count "declarations" "$last_line" ./declarations --check
+else
+    echo "there is no python3: the comparison of the declarations in C, Rattle and Rust is left out"
+fi
 . ./check_python.sh
 
 # ---- Rust ----

@@ -1,6 +1,6 @@
 //! A channel without a controller, over memory and event flags of its caller.
 
-use crate::{event, fault_of, named, number_of, small, sys, Error, Events, Fault, MarkKind, Region, Segment};
+use crate::{calls, event, named, number_of, small, sys, unnamed, Error, Events, Fault, MarkKind, Region, Segment};
 use std::fmt;
 
 /// What the last of some steps of a [`Channel`] did.
@@ -75,9 +75,13 @@ pub(crate) fn registers_of(raw: sys::RawRegisters) -> Registers {
 fn turn_of(report: &sys::RawChannelReport) -> ChannelTurn {
     let event = small(report.event);
     match report.turn {
-        4 => ChannelTurn::Fault { fault: fault_of(report.fault) },
-        5 => ChannelTurn::Signalled { event },
-        turn => named(&[ChannelTurn::NoStep, ChannelTurn::Moved, ChannelTurn::Waiting { event }, ChannelTurn::Ended], turn),
+        sys::CHANNEL_NO_STEP => ChannelTurn::NoStep,
+        sys::CHANNEL_MOVED => ChannelTurn::Moved,
+        sys::CHANNEL_WAITING => ChannelTurn::Waiting { event },
+        sys::CHANNEL_ENDED => ChannelTurn::Ended,
+        sys::CHANNEL_FAULT => ChannelTurn::Fault { fault: named(&sys::FAULTS, report.fault) },
+        sys::CHANNEL_SIGNALLED => ChannelTurn::Signalled { event },
+        number => unnamed(number),
     }
 }
 
@@ -108,7 +112,7 @@ fn turn_of(report: &sys::RawChannelReport) -> ChannelTurn {
 ///
 /// Like a [`Controller`](crate::Controller), it may move from thread to thread, and is not `Sync`.
 pub struct Channel {
-    handle: sys::ChannelHandle,
+    handle: calls::ChannelHandle,
 }
 
 impl Channel {
@@ -116,7 +120,7 @@ impl Channel {
     ///
     /// Fails with `NoMemory`.
     pub fn open() -> Result<Channel, Error> {
-        Ok(Channel { handle: sys::ChannelHandle::open()? })
+        Ok(Channel { handle: calls::ChannelHandle::open()? })
     }
 
     /// Loads the program of a copy in place of the one before, sets registers and counts to 0, and empties the buffer.
@@ -181,7 +185,7 @@ impl Channel {
     ///
     /// Fails with `BadRange` or `NoMemory`.
     pub fn mark(&mut self, kind: MarkKind, range: Segment) -> Result<(), Error> {
-        self.handle.mark(number_of(kind), range)
+        self.handle.mark(number_of(&sys::MARK_KINDS, &kind), range)
     }
 
     /// Removes the marks of this channel.

@@ -2,7 +2,7 @@
 
 use crate::channel::registers_of;
 use crate::explain::{explanation_of, work_of};
-use crate::{sys, Error, Explanation, Region, Registers, Segment, Work};
+use crate::{calls, sys, Error, Explanation, Region, Registers, Segment, Work};
 use std::fmt;
 
 /// The width of a [`Device`]'s data bus. A wider beat is an invalid operand.
@@ -118,11 +118,8 @@ impl DeviceRows {
 ///
 /// Like a [`Controller`](crate::Controller), it may move from thread to thread, and is not `Sync`.
 pub struct Device {
-    handle: sys::DeviceHandle,
+    handle: calls::DeviceHandle,
 }
-
-// The most bytes of a save.
-const MAX_SAVE: usize = 68204;
 
 impl Device {
     /// Opens a device in its state after a reset. Of the other calls only [`Device::explain`] and
@@ -138,7 +135,7 @@ impl Device {
             lines: config.lines.into(),
             revision: config.revision as u32,
         };
-        Ok(Device { handle: sys::DeviceHandle::open(&raw)? })
+        Ok(Device { handle: calls::DeviceHandle::open(&raw)? })
     }
 
     /// Puts the device into its state after a reset.
@@ -259,7 +256,7 @@ impl Device {
 
     /// Returns the whole device as bytes. The last 4 are a checksum of all before them.
     pub fn save(&self) -> Vec<u8> {
-        let mut out = vec![0; MAX_SAVE];
+        let mut out = vec![0; sys::MAX_DEVICE_SAVE];
         let len = self.handle.save(&mut out).expect("no save is longer");
         out.truncate(len);
         out

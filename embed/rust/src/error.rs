@@ -1,6 +1,7 @@
 //! Why a call was refused.
 
-use crate::explain::Cause;
+use crate::sys::{self, BUSY, CODES, LINE_CODES, OFFSET_CODES, RUNNING, UNEXPLAINED};
+use crate::{found, named, number_of, Cause};
 use std::error;
 use std::fmt;
 
@@ -124,73 +125,20 @@ pub enum DisassemblyFault {
     BadField,
 }
 
-pub(crate) const BUSY: i32 = -11;
-pub(crate) const RUNNING: i32 = -16;
-const PROGRAM_TOO_LONG: i32 = -40;
-const UNEXPLAINED: i32 = -70;
-
-// The numbers of dma330.h.
-const CODES: [(i32, Error); 23] = [
-    (-3, Error::NoMemory),
-    (-4, Error::BadEvent),
-    (-9, Error::NoProgram),
-    (-10, Error::OutOfMemoryRange),
-    (-12, Error::NoChannel),
-    (-13, Error::CookiesSpent),
-    (-14, Error::StepsSpent),
-    (-15, Error::BadRange),
-    (-20, Error::BadChannels),
-    (-21, Error::SizeOutOfRange),
-    (-22, Error::BadRegions),
-    (-23, Error::BadConfig),
-    (-30, Error::EmptyList),
-    (-31, Error::TooManySegments),
-    (-32, Error::EmptySegment),
-    (-33, Error::SegmentWraps),
-    (-34, Error::TotalsDiffer),
-    (-35, Error::TooLong),
-    (-36, Error::DestinationsMeet),
-    (-37, Error::SourceMeetsDestination),
-    (PROGRAM_TOO_LONG, Error::ProgramTooLong),
-    (-42, Error::BadSave),
-    (-43, Error::OtherDevice),
-];
-
-const ASSEMBLY_CODES: [(i32, AssemblyFault); 4] = [
-    (-50, AssemblyFault::BadMnemonic),
-    (-51, AssemblyFault::BadOperand),
-    (-52, AssemblyFault::NumberOutOfRange),
-    (PROGRAM_TOO_LONG, AssemblyFault::ProgramTooLong),
-];
-
-const DISASSEMBLY_CODES: [(i32, DisassemblyFault); 3] = [
-    (-60, DisassemblyFault::CutInstruction),
-    (-61, DisassemblyFault::UnknownInstruction),
-    (-62, DisassemblyFault::BadField),
-];
-
-fn found<T: Copy>(codes: &[(i32, T)], code: i32) -> Option<T> {
-    codes.iter().find(|(number, _)| *number == code).map(|(_, value)| *value)
-}
-
-fn number_of<T: PartialEq>(codes: &[(i32, T)], value: &T) -> i32 {
-    codes.iter().find(|(_, known)| known == value).map_or(0, |(number, _)| *number)
-}
-
 impl Error {
     /// Returns the error of a code that has no place.
     pub(crate) fn of(code: i32) -> Error {
-        found(&CODES, code).unwrap_or_else(|| unreachable!("the library returned the code {code}"))
+        named(&CODES, code)
     }
 
     /// Returns the error of a code of `dma330_assemble`.
     pub(crate) fn of_line(code: i32, line: usize) -> Error {
-        found(&ASSEMBLY_CODES, code).map_or_else(|| Error::of(code), |fault| Error::Assembly { line, fault })
+        found(&LINE_CODES, code).map_or_else(|| Error::of(code), |fault| Error::Assembly { line, fault })
     }
 
     /// Returns the error of a code of `dma330_disassemble`.
     pub(crate) fn of_offset(code: i32, offset: usize) -> Error {
-        found(&DISASSEMBLY_CODES, code).map_or_else(|| Error::of(code), |fault| Error::Disassembly { offset, fault })
+        found(&OFFSET_CODES, code).map_or_else(|| Error::of(code), |fault| Error::Disassembly { offset, fault })
     }
 
     /// Returns the error of a code of a call that explains a program. `why` is the cause, its offset, and the number of
@@ -198,7 +146,7 @@ impl Error {
     pub(crate) fn of_explanation(code: i32, why: [u32; 3]) -> Error {
         let [cause, pc, steps] = why;
         match code {
-            UNEXPLAINED => Error::Unexplained { cause: Cause::of(cause), pc, steps },
+            UNEXPLAINED => Error::Unexplained { cause: named(&sys::CAUSES, cause), pc, steps },
             _ => Error::of(code),
         }
     }
@@ -212,8 +160,8 @@ impl Error {
         match self {
             Error::Busy { .. } => BUSY,
             Error::Running { .. } => RUNNING,
-            Error::Assembly { fault, .. } => number_of(&ASSEMBLY_CODES, &fault),
-            Error::Disassembly { fault, .. } => number_of(&DISASSEMBLY_CODES, &fault),
+            Error::Assembly { fault, .. } => number_of(&LINE_CODES, &fault),
+            Error::Disassembly { fault, .. } => number_of(&OFFSET_CODES, &fault),
             Error::Unexplained { .. } => UNEXPLAINED,
             plain => number_of(&CODES, &plain),
         }

@@ -1,6 +1,6 @@
 //! What programs copy and set to 0, and the programs of transfers.
 
-use crate::{event, named, small, sys, BusWidth, Error, Events, Registers, Segment, MAX_PROGRAM};
+use crate::{calls, event, named, small, sys, BusWidth, Error, Events, Registers, Segment};
 use std::fmt;
 
 /// The data bus for which a program is explained or planned.
@@ -153,31 +153,6 @@ pub enum Cause {
     StoresZeros,
 }
 
-// The numbers of dma330.h.
-const CAUSES: [(u32, Cause); 14] = [
-    (1, Cause::UndefInstr),
-    (2, Cause::OperandInvalid),
-    (3, Cause::MfifoErr),
-    (4, Cause::StDataUnavailable),
-    (5, Cause::InstrFetchErr),
-    (8, Cause::LoadsPast),
-    (9, Cause::StoresPast),
-    (10, Cause::StoresFixed),
-    (11, Cause::DropsBytes),
-    (12, Cause::BytesLeft),
-    (13, Cause::StoresTwice),
-    (14, Cause::StoresSource),
-    (15, Cause::NoEnd),
-    (16, Cause::StoresZeros),
-];
-
-impl Cause {
-    pub(crate) fn of(number: u32) -> Cause {
-        let found = CAUSES.iter().find(|(known, _)| *known == number).map(|(_, cause)| *cause);
-        found.unwrap_or_else(|| unreachable!("the library wrote the number {number}"))
-    }
-}
-
 impl fmt::Display for Cause {
     fn fmt(&self, f: &mut fmt::Formatter<'_>) -> fmt::Result {
         f.write_str(match self {
@@ -200,12 +175,12 @@ impl fmt::Display for Cause {
 }
 
 fn happening_of(raw: &sys::RawHappening) -> Happening {
-    let kind = named(&[HappeningKind::Waits, HappeningKind::Signals], raw.kind);
+    let kind = named(&sys::HAPPENING_KINDS, raw.kind);
     Happening { kind, event: small(raw.event), stored: raw.stored }
 }
 
 fn moment_of(raw: &sys::RawMoment) -> Moment {
-    let kind = named(&[HappeningKind::Waits, HappeningKind::Signals], raw.kind);
+    let kind = named(&sys::HAPPENING_KINDS, raw.kind);
     Moment { kind, event: small(raw.event), copied: raw.copied, cleared: raw.cleared }
 }
 
@@ -216,13 +191,13 @@ fn each<T, U>(list: &[T], of: fn(&T) -> U) -> Result<Vec<U>, Error> {
     Ok(out)
 }
 
-pub(crate) fn explanation_of(raw: sys::RawExplained<sys::RawExplanation>) -> Result<Explanation, Error> {
+pub(crate) fn explanation_of(raw: calls::RawExplained<sys::RawExplanation>) -> Result<Explanation, Error> {
     let happenings = each(&raw.happenings, happening_of)?;
     let (size, steps) = (raw.answer.size, raw.answer.steps);
     Ok(Explanation { src: raw.src, dst: raw.dst, happenings, size, steps })
 }
 
-pub(crate) fn work_of(raw: sys::RawExplained<sys::RawWork>) -> Result<Work, Error> {
+pub(crate) fn work_of(raw: calls::RawExplained<sys::RawWork>) -> Result<Work, Error> {
     let moments = each(&raw.happenings, moment_of)?;
     let sys::RawWork { copied, cleared, steps, .. } = raw.answer;
     Ok(Work { src: raw.src, dst: raw.dst, zeros: raw.zeros, moments, copied, cleared, steps })
@@ -255,7 +230,7 @@ pub(crate) fn work_of(raw: sys::RawExplained<sys::RawWork>) -> Result<Work, Erro
 /// # Ok::<(), Error>(())
 /// ```
 pub fn explain(program: &[u8], bus: Bus, most: u32) -> Result<Explanation, Error> {
-    sys::explain(program, bus.number(), most).and_then(explanation_of)
+    calls::explain(program, bus.number(), most).and_then(explanation_of)
 }
 
 /// Returns all that a program does: what it copies, as [`explain`] does, and what its DMASTZ set to 0. It begins with
@@ -285,12 +260,12 @@ pub fn explain(program: &[u8], bus: Bus, most: u32) -> Result<Explanation, Error
 pub fn explain_work(program: &[u8], bus: Bus, start: &Registers, most: u32) -> Result<Work, Error> {
     let Registers { sar, dar, ccr, lc0, lc1, .. } = *start;
     let start = sys::RawRegisters { sar, dar, ccr, lc0, lc1, ..Default::default() };
-    sys::explain_work(program, bus.number(), &start, most).and_then(work_of)
+    calls::explain_work(program, bus.number(), &start, most).and_then(work_of)
 }
 
 // Returns the program that a call writes.
 fn planned(call: impl Fn(&mut [u8]) -> Result<usize, Error>) -> Result<Vec<u8>, Error> {
-    let mut out = vec![0; MAX_PROGRAM];
+    let mut out = vec![0; sys::MAX_PROGRAM];
     let len = call(&mut out)?;
     out.truncate(len);
     Ok(out)
@@ -313,7 +288,7 @@ fn planned(call: impl Fn(&mut [u8]) -> Result<usize, Error>) -> Result<Vec<u8>, 
 /// # Ok::<(), Error>(())
 /// ```
 pub fn plan(src: &[Segment], dst: &[Segment], events: Events, bus: Bus) -> Result<Vec<u8>, Error> {
-    planned(|out| sys::plan(src, dst, event(events.wait), event(events.signal), bus.number(), out))
+    planned(|out| calls::plan(src, dst, event(events.wait), event(events.signal), bus.number(), out))
 }
 
 /// Returns the program of a fill, which copies the byte at address `src` to every place of the destination list, in the
@@ -328,5 +303,5 @@ pub fn plan(src: &[Segment], dst: &[Segment], events: Events, bus: Bus) -> Resul
 /// # Ok::<(), dma330::Error>(())
 /// ```
 pub fn plan_fill(src: u32, dst: &[Segment], events: Events, bus: Bus) -> Result<Vec<u8>, Error> {
-    planned(|out| sys::plan_fill(src, dst, event(events.wait), event(events.signal), bus.number(), out))
+    planned(|out| calls::plan_fill(src, dst, event(events.wait), event(events.signal), bus.number(), out))
 }

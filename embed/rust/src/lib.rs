@@ -1,19 +1,20 @@
 #![doc = include_str!("../README.md")]
 #![deny(missing_docs, unsafe_code, clippy::undocumented_unsafe_blocks)]
 
+#[allow(unsafe_code)]
+mod calls;
 mod channel;
 mod device;
 mod error;
 mod explain;
-#[allow(missing_docs, unsafe_code)]
 mod sys;
 
+pub use calls::Region;
 pub use channel::{Channel, ChannelSteps, ChannelTurn, Registers};
 pub use device::{BusWidth, Device, DeviceConfig, DeviceRows, DeviceTurn, Revision};
 pub use error::{AssemblyFault, DisassemblyFault, Error};
 pub use explain::{explain, explain_work, plan, plan_fill};
 pub use explain::{Bus, Cause, Explanation, Happening, HappeningKind, Moment, Repeated, Work};
-pub use sys::Region;
 
 use std::fmt;
 
@@ -178,46 +179,53 @@ pub enum RunEnd {
     },
 }
 
-// Returns the name of a number that the library wrote. The library writes only numbers that have one.
-fn named<T: Copy>(names: &[T], number: u32) -> T {
-    *names.get(number as usize).unwrap_or_else(|| unreachable!("the library wrote the number {number}"))
+// Fails for a number that the library never returns or writes.
+fn unnamed(number: impl fmt::Display) -> ! {
+    unreachable!("the library gave the number {number}")
+}
+
+// Returns the name of a number in a table, if it has one.
+fn found<N: PartialEq, T: Copy>(names: &[(N, T)], number: N) -> Option<T> {
+    names.iter().find(|(known, _)| *known == number).map(|(_, name)| *name)
+}
+
+// Returns the name of a number that the library returned or wrote.
+fn named<N: PartialEq + Copy + fmt::Display, T: Copy>(names: &[(N, T)], number: N) -> T {
+    found(names, number).unwrap_or_else(|| unnamed(number))
+}
+
+// Returns the number of a name.
+fn number_of<N: Copy, T: PartialEq>(names: &[(N, T)], name: &T) -> N {
+    names.iter().find(|(_, known)| known == name).expect("the table has it").0
 }
 
 // Returns a channel or an event, which the library writes as 32 bits.
 fn small(number: u32) -> u8 {
-    u8::try_from(number).unwrap_or_else(|_| unreachable!("the library wrote the number {number}"))
-}
-
-fn number_of(kind: MarkKind) -> u32 {
-    match kind {
-        MarkKind::Reading => 0,
-        MarkKind::Writing => 1,
-    }
+    u8::try_from(number).unwrap_or_else(|_| unnamed(number))
 }
 
 fn event(event: Option<u8>) -> i32 {
-    event.map_or(-1, i32::from)
+    event.map_or(sys::NO_EVENT, i32::from)
 }
 
 fn outcome_of(result: u32, residue: u32) -> Outcome {
-    use TransferResult::{Aborted, NoError, ReadFailed, WriteFailed};
-    Outcome { result: named(&[NoError, ReadFailed, WriteFailed, Aborted], result), residue }
+    Outcome { result: named(&sys::RESULT_CODES, result), residue }
 }
 
 fn turn_of(report: &sys::RawReport) -> Option<Turn> {
     let cookie = report.cookie;
-    let turns = [
-        None,
-        Some(Turn::Started { cookie }),
-        Some(Turn::Moved),
-        Some(Turn::Nothing),
-        Some(Turn::Held { channel: small(report.channel), cookie }),
-        Some(Turn::Waiting { event: small(report.event) }),
-        Some(Turn::Paused),
-        Some(Turn::Halted),
-        Some(Turn::Finished { cookie, outcome: outcome_of(report.result, report.residue) }),
-    ];
-    named(&turns, report.turn)
+    Some(match report.turn {
+        sys::NO_STEP => return None,
+        sys::STARTED => Turn::Started { cookie },
+        sys::MOVED => Turn::Moved,
+        sys::NOTHING => Turn::Nothing,
+        sys::HELD => Turn::Held { channel: small(report.channel), cookie },
+        sys::WAITING => Turn::Waiting { event: small(report.event) },
+        sys::PAUSED => Turn::Paused,
+        sys::HALTED => Turn::Halted,
+        sys::FINISHED => Turn::Finished { cookie, outcome: outcome_of(report.result, report.residue) },
+        number => unnamed(number),
+    })
 }
 
 /// A controller over a memory of its own. It is closed when it is dropped.
@@ -245,7 +253,7 @@ fn turn_of(report: &sys::RawReport) -> Option<Turn> {
 /// is_shared::<dma330::Controller>();
 /// ```
 pub struct Controller {
-    handle: sys::Handle,
+    handle: calls::Handle,
 }
 
 impl Controller {
@@ -259,7 +267,7 @@ impl Controller {
     /// assert_eq!(Controller::open(0, 9).err(), Some(Error::BadChannels));
     /// ```
     pub fn open(size: u32, channels: u8) -> Result<Controller, Error> {
-        Ok(Controller { handle: sys::Handle::open(size, channels)? })
+        Ok(Controller { handle: calls::Handle::open(size, channels)? })
     }
 
     /// Writes bytes into the memory from an address on.
@@ -360,8 +368,7 @@ impl Controller {
 
     /// Returns the state of a cookie.
     pub fn status(&self, channel: u8, cookie: u32) -> Status {
-        let state = u32::try_from(self.handle.status(channel, cookie)).unwrap_or(u32::MAX);
-        named(&[Status::Unknown, Status::InProgress, Status::Complete], state)
+        named(&sys::STATES, self.handle.status(channel, cookie))
     }
 
     /// Returns how a cookie finished; `None` if it hasn't, if it was never given, or if a checkpoint has forgotten its
@@ -434,7 +441,7 @@ impl Controller {
     /// # Ok::<(), dma330::Error>(())
     /// ```
     pub fn mark(&mut self, kind: MarkKind, range: Segment) -> Result<(), Error> {
-        self.handle.mark(number_of(kind), range)
+        self.handle.mark(number_of(&sys::MARK_KINDS, &kind), range)
     }
 
     /// Removes all marks.
@@ -473,7 +480,7 @@ impl fmt::Debug for Controller {
 pub fn version() -> String {
     let mut out = vec![0; 64];
     loop {
-        if let Some(len) = sys::version(&mut out) {
+        if let Some(len) = calls::version(&mut out) {
             return text_of(&out[..len]);
         }
         out.resize(2 * out.len(), 0);
@@ -495,31 +502,15 @@ pub fn version() -> String {
 /// # Ok::<(), dma330::Error>(())
 /// ```
 pub fn run_program(program: &[u8], memory: &mut [u8], limit: u32) -> Result<RunEnd, Error> {
-    let end = sys::run_program(program, memory, limit)?;
+    let end = calls::run_program(program, memory, limit)?;
     Ok(match end.end {
-        1 => RunEnd::Ended { turns: end.turns },
-        2 => RunEnd::OutOfTurns,
-        3 => RunEnd::Waiting { event: small(end.event) },
-        4 => RunEnd::Fault { fault: fault_of(end.fault), pc: end.pc },
-        number => unreachable!("the library wrote the number {number}"),
+        sys::END_ENDED => RunEnd::Ended { turns: end.turns },
+        sys::END_OUT_OF_TURNS => RunEnd::OutOfTurns,
+        sys::END_WAITING => RunEnd::Waiting { event: small(end.event) },
+        sys::END_FAULT => RunEnd::Fault { fault: named(&sys::FAULTS, end.fault), pc: end.pc },
+        number => unnamed(number),
     })
 }
-
-// Returns the fault of a number from 1 to 7.
-fn fault_of(number: u32) -> Fault {
-    let faults = [
-        Fault::UndefInstr,
-        Fault::OperandInvalid,
-        Fault::MfifoErr,
-        Fault::StDataUnavailable,
-        Fault::InstrFetchErr,
-        Fault::DataWriteErr,
-        Fault::DataReadErr,
-    ];
-    named(&faults, number.wrapping_sub(1))
-}
-
-const MAX_PROGRAM: usize = 8192;
 
 // The most bytes of text for one byte of a program.
 const MAX_TEXT: usize = 9;
@@ -535,8 +526,8 @@ const MAX_TEXT: usize = 9;
 /// assert_eq!(assemble("DMALD\nDMALP 2 1"), Err(Error::Assembly { line: 2, fault: AssemblyFault::NumberOutOfRange }));
 /// ```
 pub fn assemble(text: &str) -> Result<Vec<u8>, Error> {
-    let mut out = vec![0; MAX_PROGRAM];
-    let len = sys::assemble(text.as_bytes(), &mut out)?;
+    let mut out = vec![0; sys::MAX_PROGRAM];
+    let len = calls::assemble(text.as_bytes(), &mut out)?;
     out.truncate(len);
     Ok(out)
 }
@@ -553,7 +544,7 @@ pub fn assemble(text: &str) -> Result<Vec<u8>, Error> {
 /// ```
 pub fn disassemble(program: &[u8]) -> Result<String, Error> {
     let mut out = vec![0; MAX_TEXT * program.len()];
-    let len = sys::disassemble(program, &mut out)?;
+    let len = calls::disassemble(program, &mut out)?;
     Ok(text_of(&out[..len]))
 }
 
