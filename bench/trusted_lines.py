@@ -297,7 +297,7 @@ def sentences_of(found, met):
         yield trust, f"of `{command}` some {tens(lines)} lines in {files} files"
     functions = ("listing", "assembly", "explanation", "tracing", "racing", "racing_seeds", "reasons")
     replies = [(CRATES / "dma330/src/replies.rt", it) for it in functions]
-    for file, function in (CRATES / "dma_chan/src/explain.rt", "explain"), *replies:
+    for file, function in (CRATES / "dma_explain/src/explain.rt", "explain"), *replies:
         lines, _, files = total(cited(file, function, []), "specs")
         yield trust, f"of `{function}` some {tens(lines)} lines in {files} files"
 

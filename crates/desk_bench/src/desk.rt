@@ -86,7 +86,7 @@ pub fn time_desk<N: DeskName + Send + Sync, R: Threads + Wait + Clock + CpuClock
     readers: Vec<StatusReader>,
     case: Case,
 ) -> Option<Measured>
-    requires { Names N.opening N.base N.log parts }
+    requires { Names N.opening N.base N.table parts }
 {
     let shared = Shared::<N>::new(parts);
     let (asked, (tallies, stepped)) = thread::join(

@@ -4,7 +4,7 @@ use crate::values::{RamRange, number, ram_range, range, seed_range};
 use clap::error::ErrorKind;
 use clap::{ArgMatches, Command, Error};
 use dma_chan::bus::{Bus, BusWidth};
-use dma_manual::hexadecimal::Notation;
+use dma_io::hexadecimal::Notation;
 use dma_manual::pasted::Spelling;
 use dma_mem::segment::Segment;
 use dma_seeds::seeds::SeedRange;

@@ -4,12 +4,12 @@ ghost use Rattle.dma_mem.specs.Regions.{in_order, pieces_of};
 ghost use Rattle.dma_seeds.specs.Expect.{is_good, verdict_text};
 ghost use Rattle.dma_seeds.specs.Faults.{race_message};
 ghost use Rattle.dma_seeds.specs.Seeds.{seeds_verdict_text};
-ghost use Rattle.dma_manual.specs.Answer.{printed_of};
+ghost use Rattle.dma_io.specs.Answer.{reply_of};
 ghost use Rattle.dma330.specs.Replies.{Answers, Assembles, Explains, FormReplies, InputReplies, Lists, ProgramReplies, Races, RacesSeeds, RawReplies, Reasons, Replies, TextReplies, Traces, program_of, takes_program};
 
 use crate::command_line::Request;
 use dma_chan::bus::Bus;
-use dma_manual::answer::Answer;
+use dma_io::answer::Answer;
 use dma_manual::assembler::{assemble, assemble_text};
 use dma_manual::errors::AsmError;
 use dma_manual::listing::disassemble;
@@ -31,7 +31,7 @@ use std::alloc::{AllocError, Global};
 
 /// Returns what `dis` prints for a program.
 fn listing(alloc: Global, program: &[u8], at: u32) -> Result<Answer, AllocError>
-    ensures { IfOk result (λ answer. Lists at program.now (printed_of answer)) }
+    ensures { IfOk result (λ answer. Lists at program.now (reply_of answer)) }
 {
     let mut out = Vec::new(alloc);
     let mut err = Vec::new(alloc);
@@ -52,7 +52,7 @@ fn program_of(alloc: Global, text: &[u8]) -> Result<Vec<u8>, AllocError>
 
 /// Returns what `asm` prints for a text.
 fn assembly(alloc: Global, text: &[u8], to_file: bool) -> Result<Answer, AllocError>
-    ensures { IfOk result (λ answer. Assembles to_file text.now (printed_of answer)) }
+    ensures { IfOk result (λ answer. Assembles to_file text.now (reply_of answer)) }
 {
     let mut out = Vec::new(alloc);
     let mut err = Vec::new(alloc);
@@ -78,7 +78,7 @@ fn explanation<P: Progress>(
     most: u32,
     progress: &mut P,
 ) -> Result<Answer, AllocError>
-    ensures { IfOk result (λ answer. Explains bus most program.now (printed_of answer)) }
+    ensures { IfOk result (λ answer. Explains bus most program.now (reply_of answer)) }
 {
     let mut out = Vec::new(alloc);
     let mut err = Vec::new(alloc);
@@ -96,7 +96,7 @@ fn tracing<P: Progress>(
 ) -> Result<Answer, AllocError>
     requires { IsTrue (in_order (pieces_of ram.old)) }
     ensures { IfOk result (λ answer.
-        Traces options.now ram.old program.now (printed_of answer)) }
+        Traces options.now ram.old program.now (reply_of answer)) }
 {
     let mut out = Vec::new(alloc);
     let mut err = Vec::new(alloc);
@@ -120,7 +120,7 @@ fn judged(
     verdict: &Verdict,
     file: Vec<u8>,
 ) -> Result<Answer, AllocError>
-    ensures { IfOk result (λ answer. printed_of answer ≡ record {
+    ensures { IfOk result (λ answer. reply_of answer ≡ record {
       out = out.items;
       err = race_message script.now ++ verdict_text verdict.now;
       file = file.items;
@@ -141,7 +141,7 @@ fn judged(
 
 /// Returns what `race` prints for a script, with the script of `run` for its file.
 fn racing(alloc: Global, script: &[u8], seed: u64) -> Result<Answer, AllocError>
-    ensures { IfOk result (λ answer. Races seed script.now (printed_of answer)) }
+    ensures { IfOk result (λ answer. Races seed script.now (reply_of answer)) }
 {
     let mut file = Vec::new(alloc);
     script_of_seed(alloc, script, seed, &mut file)?;
@@ -158,7 +158,7 @@ fn all_judged(
     out: Vec<u8>,
     verdict: &SeedsVerdict,
 ) -> Result<Answer, AllocError>
-    ensures { IfOk result (λ answer. printed_of answer ≡ record {
+    ensures { IfOk result (λ answer. reply_of answer ≡ record {
       out = out.items;
       err = race_message script.now ++ seeds_verdict_text verdict.now seeds;
       file = [];
@@ -179,7 +179,7 @@ fn racing_seeds<P: Progress>(
     seeds: SeedRange,
     progress: &mut P,
 ) -> Result<Answer, AllocError>
-    ensures { IfOk result (λ answer. RacesSeeds seeds script.now (printed_of answer)) }
+    ensures { IfOk result (λ answer. RacesSeeds seeds script.now (reply_of answer)) }
 {
     let mut out = Vec::new(alloc);
     let verdict = race_by_seeds(alloc, script, seeds, &mut out, progress)?;
@@ -188,7 +188,7 @@ fn racing_seeds<P: Progress>(
 
 /// Returns what `why` prints for a script.
 fn reasons(alloc: Global, script: &[u8]) -> Result<Answer, AllocError>
-    ensures { IfOk result (λ answer. Reasons script.now (printed_of answer)) }
+    ensures { IfOk result (λ answer. Reasons script.now (reply_of answer)) }
 {
     let mut out = Vec::new(alloc);
     let succeeds = why(alloc, script, &mut out)?;
@@ -207,7 +207,7 @@ fn reply<P: Progress>(
 ) -> Result<Answer, AllocError>
     requires { IsTrue (in_order (pieces_of ram.old)) }
     ensures { IfOk result (λ answer.
-        Replies request.now ram.old input.now (printed_of answer)) }
+        Replies request.now ram.old input.now (reply_of answer)) }
 {
     match request {
         Request::Dis { at } => listing(alloc, input, *at),
@@ -240,7 +240,7 @@ fn program_reply<P: Progress>(
 ) -> Result<Answer, AllocError>
     requires { IsTrue (in_order (pieces_of ram.old)) }
     ensures { IfOk result (λ answer.
-        ProgramReplies request.now ram.old program.now (printed_of answer)) }
+        ProgramReplies request.now ram.old program.now (reply_of answer)) }
 {
     let replied = reply(alloc, request, program, ram, progress)?;
     let note = end_warning(takes_program(request), program, replied.succeeds);
@@ -257,7 +257,7 @@ fn pasted_reply<P: Progress>(
 ) -> Result<Answer, AllocError>
     requires { IsTrue (in_order (pieces_of ram.old)) }
     ensures { IfOk result (λ answer. FormReplies request.now ram.old
-        (program.now.form, program.now.bytes.items) (printed_of answer)) }
+        (program.now.form, program.now.bytes.items) (reply_of answer)) }
 {
     let replied = program_reply(alloc, request, &program.bytes, ram, progress)?;
     with_form(replied, program.form)
@@ -274,7 +274,7 @@ fn text_reply<P: Progress>(
 ) -> Result<Answer, AllocError>
     requires { IsTrue (in_order (pieces_of ram.old)) }
     ensures { IfOk result (λ answer.
-        TextReplies request.now spelling ram.old text.now (printed_of answer)) }
+        TextReplies request.now spelling ram.old text.now (reply_of answer)) }
 {
     match read_pasted(alloc, spelling, text)? {
         Ok(program) => pasted_reply(alloc, request, &program, ram, progress),
@@ -292,7 +292,7 @@ fn raw_reply<P: Progress>(
 ) -> Result<Answer, AllocError>
     requires { IsTrue (in_order (pieces_of ram.old)) }
     ensures { IfOk result (λ answer.
-        RawReplies request.now ram.old input.now (printed_of answer)) }
+        RawReplies request.now ram.old input.now (reply_of answer)) }
 {
     let replied = program_reply(alloc, request, input, ram, progress)?;
     let note = hint(takes_program(request), input, replied.succeeds);
@@ -310,7 +310,7 @@ fn input_reply<P: Progress>(
 ) -> Result<Answer, AllocError>
     requires { IsTrue (in_order (pieces_of ram.old)) }
     ensures { IfOk result (λ answer.
-        InputReplies request.now spelling ram.old input.now (printed_of answer)) }
+        InputReplies request.now spelling ram.old input.now (reply_of answer)) }
 {
     match spelling {
         Some(spelling) => text_reply(alloc, request, spelling, input, ram, progress),
@@ -330,7 +330,7 @@ pub fn answer<P: Progress>(
 ) -> Result<Answer, AllocError>
     requires { IsTrue (in_order (pieces_of ram.old)) }
     ensures { IfOk result (λ answer.
-        Answers request.now spelling name.now ram.old input.now (printed_of answer)) }
+        Answers request.now spelling name.now ram.old input.now (reply_of answer)) }
 {
     let replied = input_reply(alloc, request, spelling, input, ram, progress)?;
     replied.under_name(alloc, name)

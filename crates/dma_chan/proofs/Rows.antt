@@ -1,9 +1,7 @@
 -- The limits, as numbers, and a program worked out: rows computed from the definitions, and the code's own constants.
 -- And what a law refuses.
-use Rattle.std.proofs.Common.{◌≡◌, ℕ, zero, suc, ◌<◌, ap, ◌+◌, ◌-◌, ◌*◌, ◌^◌, ◌≤◌, [], ◌∷◌, map, Some, None, Ok, Err, true, false, refl, arith, List, ◌++◌}
-use Rattle.dma_mem.specs.Places.{Descriptor, copying, filling, size_of}
-use Rattle.dma_mem.specs.Rules.{IsTransfer}
-use Rattle.dma_mem.proofs.TransferRules.{size_of_some}
+use Rattle.std.proofs.Common.{◌≡◌, ℕ, zero, suc, ◌<◌, ◌+◌, ◌*◌, ◌^◌, [], ◌∷◌, map, Some, None, Ok, Err, true, false, refl, arith, List, ◌++◌}
+use Rattle.dma_mem.specs.Places.{Descriptor, filling}
 use Rattle.dma_insn.specs.AssemblyText.{most_program_bytes}
 use Rattle.dma_insn.specs.ControlWord.{bits_of, control_of, end_at, end_bits, is_control}
 use Rattle.dma_insn.specs.declared.assembler.TheConstants.{MAX_PROGRAM_BYTES}
@@ -13,26 +11,18 @@ use Rattle.dma_insn.specs.declared.chip.ChipInsn.TheVariants.{Ld, StoreZeros, Ad
 use Rattle.dma_insn.specs.declared.codec.DecodeFault.TheVariants.{Unknown}
 use Rattle.dma_insn.specs.declared.insn.Counter.TheVariants.{Lc0, Lc1}
 use Rattle.dma_chan.specs.declared.bursts.TheConstants.{BUFFER_SIZE}
-use Rattle.dma_chan.specs.declared.bus.Bus.{Bus}
 use Rattle.dma_chan.specs.declared.bus.Bus.TheVariants.{Ideal, Chip}
 use Rattle.dma_chan.specs.declared.bus.BusWidth.TheVariants.{Bits32, Bits64, Bits128}
 use Rattle.dma_mem.specs.Image.{put}
 use Rattle.dma_chan.specs.Bursts.{burst_at, burst_len, reaches, touched}
 use Rattle.dma_chan.specs.Bus.{accepts}
-use Rattle.dma_chan.specs.Changes.{Call, HasCopied}
-use Rattle.dma_chan.specs.declared.exec.Registers.{Registers}
-use Rattle.dma_chan.specs.declared.explain.Amounts.{Amounts}
-use Rattle.dma_chan.specs.declared.explain.Cause.TheVariants.{StoresFixed}
 use Rattle.dma_chan.specs.declared.rowwise.Rows.{Rows}
-use Rattle.dma_chan.specs.Explains.{Explains, GoesOn, Work, next_in, only, stop_of_insn, traced, untraced}
-use Rattle.dma_chan.proofs.LowestPlaces.{once_of}
 use Rattle.dma_chan.specs.Rowwise.{RunsRows, WritesRow, row_of}
 use Rattle.dma_chan.specs.Stepping.{Machine, after_steps}
 use Rattle.dma_chan.specs.Written.{adjoins, range_at}
 use Rattle.dma_chan.specs.Exec.{act, buffer_size, start, start_on, state, moved}
-use Rattle.dma_chan.specs.Compiled.{beat_of, parts, members, cost, compiled, compiled_on, cost_on, most_compiled}
+use Rattle.dma_chan.specs.Compiled.{beat_of, parts, members, cost, compiled, compiled_on, most_compiled}
 use Rattle.dma_chan.specs.Traffic.{read_len, write_len}
-use Rattle.dma_chan.proofs.CompiledExplained.{compiled_events}
 
 -- ---- the code's constants
 
@@ -183,35 +173,6 @@ zeros_at_1 : (act [] StoreZeros (state (record (start_on (Chip Bits32)) { dar = 
 unfolding burst_at reaches put
 zeros_at_1 = refl
 
--- DMASTZ and DMAEND, begun with a burst of two bytes at address 1: the program sets these two bytes to 0
-zeros_start : Registers
-zeros_start = record (start_on (Chip Bits32)) { dar = 1; ccr = 0x44000 }
-
-two_zeros : Work
-two_zeros = record { copy = copying [] [] None None; zeros = record { addr = 1; len = 2 } ∷ [] }
-
-zeros_go_on : (k : ℕ) → k < 1 → let x = traced zeros_start (0x0c ∷ 0 ∷ []) k in GoesOn (next_in (0x0c ∷ 0 ∷ []) x) x
-unfolding burst_at zeros_start
-zeros_go_on zero l = ((λ e. cc), refl)
-zeros_go_on (suc k) l = absurd (omega (arith, l))
-
-zeros_are_explained : Explains zeros_start (0x0c ∷ 0 ∷ []) two_zeros 1
-unfolding burst_at zeros_start two_zeros
-zeros_are_explained = record {
-  goes = zeros_go_on;
-  ends = refl;
-  loads = refl;
-  stores = refl;
-  zeros = refl;
-  few = omega arith;
-  work = record { same_length = refl; once = once_of (1 ∷ 2 ∷ []) refl; apart = λ a i j. absurd (omega (arith, i.1)) };
-}
-
--- with an address that stays the program is refused
-zeros_of_one_address : stop_of_insn StoreZeros (untraced (record (start_on (Chip Bits32)) { ccr = 0x40000 })) ≡ Some StoresFixed
-unfolding burst_at
-zeros_of_one_address = refl
-
 -- ---- two rows of one byte, whose sources are 2 apart and whose destinations are 3 apart
 
 -- the body: DMALD, DMAST, DMAADDH SAR 1, DMAADDH DAR 2, DMALPEND; two rounds follow the first
@@ -263,14 +224,3 @@ rows_called (suc (suc k)) l = absurd (omega (arith, l))
 rows_are_calls : RunsRows [] two_rows the_rows after_two
 unfolding the_rows two_rows between_rows
 rows_are_calls = record { between = between_rows; begins = refl; ends = refl; calls = rows_called }
-
--- ---- what a law refuses
-
--- A channel that reports a signal of a compiled program before it has stored anything breaks the law of copies.
-early_signal_is_refused : (bus : Bus) (t : Descriptor) (first memory : ℕ → ℕ) (call : Call) (e : ℕ) → IsTransfer t → call.signal ≡ Some e → call.left.channel.stored ≡ 0 → ¬ HasCopied (start_on bus) (compiled_on bus t).bytes (only t) (cost_on bus t - 1) first memory call
-early_signal_is_refused bus t first memory call e h signals none copied =
-    let at = (compiled_events (start_on bus) t h).signals e copied.done (copied.signals e signals) in
-    let all : copied.done.copied ≡ size_of t = ap (λ (done : Amounts). done.copied) at.1 in
-    let some : 1 ≤ size_of t = size_of_some t h in
-    let count = copied.count in
-    omega arith

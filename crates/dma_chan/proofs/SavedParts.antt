@@ -1,7 +1,6 @@
 -- A save is the save of the channel that its parts make, and a channel's save has that channel's parts.
 use Rattle.std.proofs.Common.{◌≡◌, ◌≢◌, ℕ, zero, suc, ◌∷◌, ◌+◌, ◌^◌, ◌<◌, ◌≤◌, Bool, true, false, cond, List, [], ◌++◌, length, Option, Some, None, refl, sym, ◌∙◌, append_assoc, arith}
 use Rattle.std.proofs.lemmas.List.{take_at, drop_at, length-append, length-take, length-drop, nil_from_length}
-use Rattle.std.proofs.Common.{append-nil}
 use Rattle.std.specs.Prelude.{is_some, IfSome}
 use Rattle.std.specs.Int.{w32, to_le_bytes}
 use Rattle.dma_chan.specs.declared.save.head.Head.{Head}
@@ -45,11 +44,11 @@ head_again save h f =
 
 -- What has the parts of a save and is written with them is the save of the channel with these parts.
 pub sealed_is_saved : (save : List ℕ) (h : Head) → FitsIn (length save) h
-    → sealed (head_bytes h ++ (buffer_in save h ++ []) ++ program_in save h) ≡ saved (channel_in save h)
+    → sealed (head_bytes h ++ buffer_in save h ++ program_in save h) ≡ saved (channel_in save h)
 unfolding saved
 sealed_is_saved save h f =
     let code = code_again h.is_loaded h (program_in save h) (program_len save h f) f.loads in
-    rw (head_again save h f, code, append-nil) refl
+    rw (head_again save h f, code) refl
 
 -- ---- from the channel to the parts
 
@@ -111,7 +110,7 @@ pub record HasParts (c : ChannelValue) (save : List ℕ) : Type 0 where
   pub rest : save ≡ head_bytes (head_of c) ++ rest_of c
   pub fits : FitsIn (length save) (head_of c)
   pub channel : channel_in save (head_of c) ≡ c
-  pub again : sealed (head_bytes (head_of c) ++ (buffer_in save (head_of c) ++ []) ++ program_in save (head_of c)) ≡ save
+  pub again : sealed (head_bytes (head_of c) ++ buffer_in save (head_of c) ++ program_in save (head_of c)) ≡ save
 
 -- The save of a channel has that channel's parts.
 pub saved_parts : (c : ChannelValue) (save : List ℕ) → IsChannelValue c → save ≡ saved c → HasParts c save
@@ -136,7 +135,7 @@ saved_parts c save v e =
         few = v.few;
       };
       channel = rw (program, buffer, program_again c.program) refl;
-      again = rw (buffer, program, append-nil) (sym e);
+      again = rw (buffer, program) (sym e);
     }
 
 -- so does the save of the same channel on any bus
@@ -161,11 +160,6 @@ parts_make_channel save h f r buffer program = record {
   taken = r.taken;
   few = f.few;
 }
-
-pub bytes_append : (xs ys : List ℕ) → AreBytes xs → AreBytes ys → AreBytes (xs ++ ys)
-bytes_append [] ys h g k = g k
-bytes_append (x ∷ xs) ys h g zero = h zero
-bytes_append (x ∷ xs) ys h g (suc k) = bytes_append xs ys (λ j. h (suc j)) g k
 
 pub loaded_at : (p : Option ProgramValue) (pc : ℕ) → length (bytes_of_program p) ≤ 8192 → AreBytes (bytes_of_program p)
     → (p ≢ None → pc ≤ length (bytes_of_program p)) → IfSome (cost_of_program p) (λ n. n < 2 ^ 32) → IfSome p (IsLoadedAt pc)

@@ -19,16 +19,10 @@ pub mod Traffic
 pub mod Layer
 pub mod Ready
 pub mod Fails
-pub mod Items
-pub mod Explains
-pub mod OnBuses
 pub mod RunPages
 pub mod Others
-pub mod Alone
 pub mod CallWrites
 pub mod Reads
 pub mod Pace
-pub mod Changes
 pub mod LentRegions
-pub mod Refusals
 pub mod inner

@@ -1,19 +1,16 @@
 -- The addresses that a channel's instructions read, and that nothing else in the memory has any effect on them.
-use Rattle.std.specs.Prelude.{◌≡◌, ◌⊎◌, ℕ, ◌<◌, ◌≤◌, Bool, List, [], length, slice_index, Option, Result, Ok}
+use Rattle.std.specs.Prelude.{◌≡◌, ℕ, ◌<◌, Bool, List, [], length, slice_index, Result, Ok}
 use Rattle.std.specs.List.{Contains}
 use Rattle.dma_insn.specs.declared.chip.ChipInsn.{ChipInsn}
 use Rattle.dma_insn.specs.declared.chip.ChipInsn.TheVariants.{Ld}
 use Rattle.dma_mem.specs.Image.{put}
 use Rattle.dma_mem.specs.Marking.{MarkList}
-use Rattle.dma_mem.specs.Places.{sources}
 use Rattle.dma_chan.specs.declared.exec.Registers.{Registers}
-use Rattle.dma_chan.specs.declared.turn.ChanTurn.{ChanTurn}
 use Rattle.dma_chan.specs.declared.turn.FaultKind.{FaultKind}
 use Rattle.dma_chan.specs.Bursts.{touched}
 use Rattle.dma_chan.specs.Channel.{ChannelValue, ahead_of, step_of, stepped}
 use Rattle.dma_chan.specs.Exec.{source_of}
-use Rattle.dma_chan.specs.Explains.{Executes, Explains, Work}
-use Rattle.dma_chan.specs.Stepping.{Machine, TakesSteps, after_steps}
+use Rattle.dma_chan.specs.Stepping.{Machine, after_steps}
 
 -- the addresses that an instruction reads: those of its burst for a DMALD, and none for any other instruction or a
 -- fault of fetching
@@ -46,40 +43,6 @@ ReadsNoOther =
     (marks : MarkList) (c : ChannelValue) (x y : List ℕ) (flags : List Bool) → AgreeAt (read_next c) x y →
     SameStep marks c x y flags
 
--- ---- of a program that copies
-
 -- one of this number of steps is of an instruction that reads an address
 abbrev pub Reads : MarkList → Machine → ℕ → ℕ → Type 0
 Reads marks s n a = (k : ℕ) × (k < n) × Contains (read_next (after_steps marks s k).channel) a
-
--- Each call on a channel that executes a program that a work explains reads only the sources of its copy, whatever the
--- memory's size and bytes, the marks and the flags are, and whatever others wrote before.
-abbrev pub CallReadsIn : Type 0
-CallReadsIn =
-    (start : Registers) (program : List ℕ) (w : Work) (n : ℕ) (marks : MarkList) (s : Machine) (most taken : ℕ)
-    (last : Option ChanTurn) (after : Machine) (a : ℕ) →
-    Explains start program w n → Executes start program n s.channel → TakesSteps marks s most taken last after →
-    Reads marks s taken a → Contains (sources w.copy) a
-
--- two machines with the same channel and flags, over memories of one size that have the same bytes at these addresses
-pub record AlikeAt (places : List ℕ) (s u : Machine) : Type 0 where
-  pub channel : u.channel ≡ s.channel
-  pub flags : u.flags ≡ s.flags
-  pub image : AgreeAt places s.image u.image
-
--- Of two memories x and y, which became v and w, each byte is the same in v and w, or has changed in neither.
-abbrev pub SameOrKept : (x y v w : List ℕ) → Type 0
-SameOrKept x y v w =
-    (a : ℕ) → (slice_index v a ≡ slice_index w a)
-    ⊎ ((slice_index v a ≡ slice_index x a) × (slice_index w a ≡ slice_index y a))
-
--- Bytes outside these sources have no effect on the steps of such a call: after each of them, the channel, the flags
--- and all bytes that were written are the same, whatever bytes the memory had there.
-abbrev pub CallReadsNoOther : Type 0
-CallReadsNoOther =
-    (start : Registers) (program : List ℕ) (w : Work) (n : ℕ) (marks : MarkList) (s u : Machine) (most taken : ℕ)
-    (last : Option ChanTurn) (after : Machine) (k : ℕ) →
-    Explains start program w n → Executes start program n s.channel → TakesSteps marks s most taken last after →
-    AlikeAt (sources w.copy) s u → k ≤ taken →
-    let x = after_steps marks s k in let y = after_steps marks u k in
-    AlikeAt (sources w.copy) x y × SameOrKept s.image u.image x.image y.image

@@ -1,7 +1,8 @@
 -- Definitions that no reader of a public law has to trust: how a channel stores its value, how far it is in a
--- transfer's program, and what contracts of private functions cite.
+-- transfer's program, and what contracts of private functions, or of those that only other crates' code calls, cite.
 pub mod Fields
 pub mod Codes
+pub mod Fifo
 pub mod Saves
 pub mod At
 pub mod Spans
@@ -11,5 +12,3 @@ pub mod Cutting
 pub mod Blocks
 pub mod Grids
 pub mod Acts
-pub mod Tracing
-pub mod Turns

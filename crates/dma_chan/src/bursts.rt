@@ -2,13 +2,13 @@
 
 ghost use Rattle.std.specs.Prelude.{◌≡◌, ◌+◌, ◌*◌, ◌≤◌, ◌<◌, ◌++◌, IsTrue, IsNone, Bool, List, length, take, drop, replicate, false};
 ghost use Rattle.std.specs.List.{flat_map};
-ghost use Rattle.circular_buffer.specs.Buffer.{buffer as ring};
 ghost use Rattle.dma_insn.specs.declared.chip.ChipInsn.TheVariants.{Ld, St, StoreZeros};
 ghost use Rattle.dma_insn.specs.AssemblyText.{most_program_bytes};
 ghost use Rattle.dma_insn.specs.ControlWord.{beat_bytes};
 ghost use Rattle.dma_mem.specs.Image.{put};
 ghost use Rattle.dma_mem.specs.Lent.{Avoids, with_gaps};
 ghost use Rattle.dma_chan.specs.Bursts.{burst_len, touched, writes_of, zeros_of, advance, reaches, skip_of, span_of};
+ghost use Rattle.dma_chan.specs.inner.Fifo.{fifo};
 ghost use Rattle.dma_chan.specs.inner.Spans.{rounds_of, LieIn, MovesSome};
 ghost use Rattle.dma_chan.specs.Exec.{source_of, destination_of, act, buffer_size, read_at, state};
 ghost use Rattle.dma_chan.specs.Ready.{none_missing};
@@ -21,8 +21,8 @@ pub(crate) use crate::bursts::stores::{store_burst, store_fault};
 pub(crate) use crate::bursts::zeros::{zero_burst, zero_fault};
 use crate::bus::Bus;
 use crate::exec::{Executor, Registers};
+use crate::fifo::Fifo;
 use crate::turn::{ChanTurn, FaultKind};
-use circular_buffer::HeapCircularBuffer;
 use dma_insn::control::BurstEnd;
 use dma_mem::marks::{MarkKind, Marks};
 use dma_mem::ram::Ram;
@@ -84,9 +84,9 @@ impl Burst {
         }
     }
 
-    // Returns how many bytes the burst moves.
+    /// Returns how many bytes the burst moves.
     #[inline(always)]
-    pub(crate) fn len(self) -> u32
+    pub fn len(self) -> u32
         requires some { MovesSome self }
         requires limit { (self.size ≤ 16) × (self.beats ≤ 16) }
         ensures value { result ≡ burst_len self }
@@ -96,9 +96,9 @@ impl Burst {
         self.beats * self.size - self.skip
     }
 
-    // Returns the range of addresses that the burst touches. It contains each address once.
+    /// Returns the range of addresses that the burst touches. It contains each address once.
     #[inline(always)]
-    pub(crate) fn span(self) -> Segment
+    pub fn span(self) -> Segment
         requires some { MovesSome self }
         requires limit { (self.size ≤ 16) × (self.beats ≤ 16) }
         ensures addr { result.addr ≡ self.addr }
@@ -115,8 +115,8 @@ impl Burst {
         }
     }
 
-    // Returns how often the burst touches each address of its span.
-    pub(crate) fn rounds(self) -> u32
+    /// Returns how often the burst touches each address of its span.
+    pub fn rounds(self) -> u32
         requires some { MovesSome self }
         requires limit { (self.size ≤ 16) × (self.beats ≤ 16) }
         ensures value { result ≡ rounds_of self }
@@ -126,8 +126,8 @@ impl Burst {
         if self.increments { 1 } else { self.beats }
     }
 
-    // Returns how far the burst moves its address.
-    pub(crate) fn advance(self) -> u32
+    /// Returns how far the burst moves its address.
+    pub fn advance(self) -> u32
         requires some { MovesSome self }
         requires limit { (self.size ≤ 16) × (self.beats ≤ 16) }
         ensures value { result ≡ advance self }
@@ -137,10 +137,10 @@ impl Burst {
     }
 }
 
-// Returns the burst of a load.
+/// Returns the burst of a load.
 #[inline(always)]
 #[tactic(auto, using(crate::proofs::BurstEnds::burst_of_end))]
-pub(crate) fn source_burst(registers: &Registers) -> Burst
+pub fn source_burst(registers: &Registers) -> Burst
     ensures value { result ≡ source_of registers.now }
     ensures addr { result.addr ≡ registers.now.sar }
     ensures some { MovesSome result }
@@ -149,10 +149,10 @@ pub(crate) fn source_burst(registers: &Registers) -> Burst
     Burst::of(registers.bus, registers.sar, registers.ccr.source())
 }
 
-// Returns the burst of a store.
+/// Returns the burst of a store.
 #[inline(always)]
 #[tactic(auto, using(crate::proofs::BurstEnds::burst_of_end))]
-pub(crate) fn destination_burst(registers: &Registers) -> Burst
+pub fn destination_burst(registers: &Registers) -> Burst
     ensures value { result ≡ destination_of registers.now }
     ensures addr { result.addr ≡ registers.now.dar }
     ensures some { MovesSome result }
@@ -182,10 +182,10 @@ fn may_touch<M: Ram>(kind: MarkKind, marks: &Marks, memory: &M, burst: Burst) ->
 
 // Appends a byte to the buffer `count` times, as one run.
 #[tactic(auto, using(crate::proofs::BurstRounds::run_put))]
-fn put_run(buffer: &mut HeapCircularBuffer<u8>, byte: u8, count: u32)
+fn put_run(buffer: &mut Fifo, byte: u8, count: u32)
     requires few { count ≤ 16 }
     requires room { length buffer.old.items + count ≤ buffer.old.capacity }
-    ensures { buffer.new ≡ ring (buffer.old.items ++ replicate count byte) buffer.old.capacity }
+    ensures { buffer.new ≡ fifo (buffer.old.items ++ replicate count byte) buffer.old.capacity }
 {
     let run = [byte; MAX_BEATS];
     buffer.fill_from_slice(&run[..count as usize]);
@@ -194,10 +194,10 @@ fn put_run(buffer: &mut HeapCircularBuffer<u8>, byte: u8, count: u32)
 // Appends the bytes to the buffer `rounds` times. A single byte, as in the source of a fill, is appended as one run.
 #[inline(never)]
 #[tactic(auto, using(crate::proofs::BurstRounds::one_run, crate::proofs::BurstRounds::round_put))]
-fn put_rounds(buffer: &mut HeapCircularBuffer<u8>, bytes: &[u8], rounds: u32)
+fn put_rounds(buffer: &mut Fifo, bytes: &[u8], rounds: u32)
     requires few { rounds ≤ 16 }
     requires room { length buffer.old.items + rounds * length bytes.now ≤ buffer.old.capacity }
-    ensures { buffer.new ≡ ring
+    ensures { buffer.new ≡ fifo
         (buffer.old.items ++ flat_map (λ xs. xs) (replicate rounds bytes.now)) buffer.old.capacity }
 {
     if bytes.len() == 1 {
@@ -213,19 +213,14 @@ fn put_rounds(buffer: &mut HeapCircularBuffer<u8>, bytes: &[u8], rounds: u32)
 // block.
 #[inline(always)]
 #[tactic(auto, using(crate::proofs::BurstRounds::read_touched))]
-fn load_span<M: Ram>(
-    burst: Burst,
-    buffer: &mut HeapCircularBuffer<u8>,
-    block: &mut [u8],
-    memory: &M,
-)
+fn load_span<M: Ram>(burst: Burst, buffer: &mut Fifo, block: &mut [u8], memory: &M)
     requires some { MovesSome burst }
     requires limit { (burst.size ≤ 16) × (burst.beats ≤ 16) }
     requires room { length buffer.old.items + burst_len burst ≤ buffer.old.capacity }
     requires within { burst.addr + span_of burst ≤ length (M.paged memory.now).image }
     requires clear { Avoids (M.loan memory.now).gaps burst.addr (span_of burst) }
     requires block { length block.old ≡ buffer_size }
-    ensures { buffer.new ≡ ring
+    ensures { buffer.new ≡ fifo
         (buffer.old.items ++ read_at (M.paged memory.now).image (touched burst))
         buffer.old.capacity }
 {
@@ -290,8 +285,9 @@ pub(crate) fn load_burst<M: Ram>(executor: &mut Executor, memory: &M, marks: &Ma
     if let Some(kind) = load_fault(executor, burst, memory, marks) {
         return ChanTurn::Fault(kind);
     }
-    load_span(burst, &mut executor.buffer, &mut executor.block, memory);
+    // Not beside `sar`: the compiler would change both by one access, which waits until the last store of `pc` is done.
     executor.registers.pc += 1;
+    load_span(burst, &mut executor.buffer, &mut executor.block, memory);
     executor.registers.sar = executor.registers.sar.wrapping_add(burst.advance());
     ChanTurn::Moved
 }

@@ -16,9 +16,9 @@ mod faults;
 use crate::bursts::{load_burst, store_burst, zero_burst};
 use crate::bus::Bus;
 pub(crate) use crate::exec::faults::fault_of;
+use crate::fifo::Fifo;
 use crate::next::Next;
 use crate::turn::{ChanTurn, FaultKind};
-use circular_buffer::HeapCircularBuffer;
 use dma_insn::chip::{Address, ChipInsn};
 use dma_insn::control::ControlWord;
 use dma_insn::insn::{Counter, Event, Reg, Times};
@@ -78,9 +78,9 @@ impl Registers {
     }
 }
 
-// Executes DMAMOV, whose encoding has `len` bytes.
+/// Executes DMAMOV, whose encoding has `len` bytes.
 #[inline(always)]
-pub(crate) fn set_register(reg: Reg, value: u32, len: u32, registers: &mut Registers) -> ChanTurn
+pub fn set_register(reg: Reg, value: u32, len: u32, registers: &mut Registers) -> ChanTurn
     requires len { len ≡ length (spelling (Mov reg value)) }
     requires pc { registers.old.pc + len ≤ most_program_bytes }
     ensures exact { SetsKeeping (Mov reg value) registers.old result registers.new }
@@ -103,18 +103,19 @@ pub(crate) fn set_register(reg: Reg, value: u32, len: u32, registers: &mut Regis
     ChanTurn::Moved
 }
 
-// Returns whether a channel drops the bytes in its buffer when a DMAMOV, DMAADDH or DMAADNH changes its registers.
+/// Returns whether a channel drops the bytes in its buffer when a DMAMOV, DMAADDH or DMAADNH changes its registers.
+#[inline(always)]
 #[tactic(auto, unfolding(crate::specs::Bursts::burst_at))]
-pub(crate) fn drops(old: &Registers, new: &Registers) -> bool
+pub fn drops(old: &Registers, new: &Registers) -> bool
     ensures { result ≡ drops old.now.bus (destination_of old.now) (destination_of new.now) }
 {
     old.bus
         .drops(old.dar, old.ccr.bits(), new.dar, new.ccr.bits())
 }
 
-// Executes DMALP.
+/// Executes DMALP.
 #[inline(always)]
-pub(crate) fn begin_loop(counter: Counter, times: Times, registers: &mut Registers) -> ChanTurn
+pub fn begin_loop(counter: Counter, times: Times, registers: &mut Registers) -> ChanTurn
     requires pc { registers.old.pc + 2 ≤ most_program_bytes }
     ensures exact { SetsRegisters (Lp counter times) registers.old result registers.new }
     ensures pc { registers.new.pc ≤ registers.old.pc + 2 }
@@ -128,8 +129,8 @@ pub(crate) fn begin_loop(counter: Counter, times: Times, registers: &mut Registe
     ChanTurn::Moved
 }
 
-// Returns the value of a loop counter.
-pub(crate) fn counter_of(counter: Counter, registers: &Registers) -> u8
+/// Returns the value of a loop counter.
+pub fn counter_of(counter: Counter, registers: &Registers) -> u8
     ensures { result ≡ counter_of counter registers.now }
 {
     match counter {
@@ -151,10 +152,10 @@ fn jump_fault(counter: Counter, back: u8, registers: &Registers) -> Option<Fault
     None
 }
 
-// Executes DMALPEND.
+/// Executes DMALPEND.
 #[inline(always)]
 #[tactic(auto, using(crate::proofs::TreeWalk::looped_again))]
-pub(crate) fn end_loop(counter: Counter, back: u8, registers: &mut Registers) -> ChanTurn
+pub fn end_loop(counter: Counter, back: u8, registers: &mut Registers) -> ChanTurn
     requires pc { registers.old.pc + 2 ≤ most_program_bytes }
     ensures exact { SetsRegisters (LpEnd counter back) registers.old result registers.new }
     ensures pc { registers.new.pc ≤ registers.old.pc + 2 }
@@ -186,8 +187,8 @@ fn addend(negative: bool, half: u16) -> u32
     }
 }
 
-// Executes DMAADDH or DMAADNH.
-pub(crate) fn add_halfword(
+/// Executes DMAADDH or DMAADNH.
+pub fn add_halfword(
     address: Address,
     half: u16,
     negative: bool,
@@ -207,8 +208,8 @@ pub(crate) fn add_halfword(
     ChanTurn::Moved
 }
 
-// Executes the DMALPEND of a loop that DMALPFE begins.
-pub(crate) fn loop_again(back: u8, registers: &mut Registers) -> ChanTurn
+/// Executes the DMALPEND of a loop that DMALPFE begins.
+pub fn loop_again(back: u8, registers: &mut Registers) -> ChanTurn
     ensures exact { (counter : Counter)
         → SetsRegisters (LoopAgain counter back) registers.old result registers.new }
     ensures pc { registers.new.pc ≤ registers.old.pc }
@@ -247,9 +248,9 @@ fn wait(event: Event, invalid: bool, registers: &mut Registers, events: &mut Eve
     ChanTurn::Moved
 }
 
-// Executes an instruction whose only effect is to advance `pc`.
+/// Executes an instruction whose only effect is to advance `pc`.
 #[inline(always)]
-pub(crate) fn go_on(registers: &mut Registers) -> ChanTurn
+pub fn go_on(registers: &mut Registers) -> ChanTurn
     requires { registers.old.pc + 1 ≤ most_program_bytes }
     ensures turn { result ≡ ChanTurn.Moved }
     ensures registers { registers.new ≡ record (registers.old) { pc = registers.old.pc + 1 } }
@@ -262,7 +263,7 @@ pub(crate) fn go_on(registers: &mut Registers) -> ChanTurn
 #[derive(Drop)]
 pub(crate) struct Executor {
     pub(crate) registers: Registers,
-    pub(crate) buffer: HeapCircularBuffer<u8>,
+    pub(crate) buffer: Fifo,
     // A load joins bytes here that memory doesn't have in one piece. The contents have no meaning between loads.
     pub(crate) block: Vec<u8>,
 }

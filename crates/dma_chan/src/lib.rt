@@ -5,33 +5,27 @@
 //! gaps.
 //!
 //! Proved: a step executes one instruction, or waits or fails and changes nothing (`Channel::step`). A compiled program
-//! moves its transfer's bytes in order and fails only at marks (`compile`, `laws::runs_in_step`, `pace`). Run
-//! alone, a program without DMAWFE makes one simultaneous copy (`laws::explained_copies_alone`, `run_program`);
-//! `copy::copy_at_once` makes it without the program. A call over lent memory is a chain of single steps
+//! moves its transfer's bytes in order and fails only at marks (`compile`, `laws::runs_in_step`, `pace`);
+//! `copy::copy_at_once` moves them without the program. A call over lent memory is a chain of single steps
 //! (`lent::step_regions`: `TakesSteps`). It changes no byte outside the range that it reports (`kept`,
 //! `laws::call_writes_no_other`), and each address in it was written (`writes_each`). `lent::step_rows` makes many such
-//! calls at once, one for each row of a rectangle (`RunsRows`). A program, compiled or not, that
-//! a work explains (`Explains`) has copied and set to 0 as many bytes as the channel counts, and all of them at its
-//! end, if since its load nobody else wrote what the work reads or writes; its signals and waits are the program's
-//! (`copies_since_load`, `channels_copy`). Until its end it writes only what the work writes and reads only its sources
-//! (`writes_its_destinations`, `reads_its_sources`); what a step doesn't read has no effect on it (`reads_no_other`).
-//! `explain::explain` finds the work and the events, or why and where there is none (`refused_is_unexplained`). A save
-//! restores its channel, and nothing else is accepted (`Channel::save`, `restore`). No page is made except for a store
-//! (`run_program`).
+//! calls at once, one for each row of a rectangle (`RunsRows`). What a step doesn't read has no effect on it
+//! (`reads_no_other`). A save restores its channel, and nothing else is accepted (`Channel::save`, `restore`). No page
+//! is made except for a store (`run_program`). What programs copy is said in `dma_explain`.
 //!
 //! Not proved: that an allocation succeeds, and that blocks and rows are moved. A `run_bodies` or a `run_rows` that
 //! moves nothing satisfies its contract.
 #![tactic(auto)]
 
 mod blocks;
-mod bursts;
+pub mod bursts;
 pub mod bus;
 pub mod channel;
 mod chip_bodies;
 pub mod compile;
 pub mod copy;
 pub mod exec;
-pub mod explain;
+mod fifo;
 pub mod laws;
 pub mod lent;
 pub mod next;

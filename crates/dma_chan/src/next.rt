@@ -69,9 +69,9 @@ impl Next {
         Next { insn, len }
     }
 
-    // Returns the instruction at an offset of a program for a channel on a bus, or the fault of fetching it.
+    /// Returns the instruction at an offset of a program for a channel on a bus, or the fault of fetching it.
     #[inline(always)]
-    pub(crate) fn on(bus: Bus, program: &[u8], pc: u32) -> Result<Next, FaultKind>
+    pub fn on(bus: Bus, program: &[u8], pc: u32) -> Result<Next, FaultKind>
         requires offset { pc ≤ length program.now }
         requires limit { length program.now ≤ most_program_bytes }
         ensures { result ≡ next_on bus program.now pc }
@@ -85,9 +85,9 @@ impl Next {
         }
     }
 
-    // Returns the same in the grammar of the model alone.
+    /// Returns the same in the grammar of the model alone.
     #[inline(always)]
-    pub(crate) fn at(program: &[u8], pc: u32) -> Result<Next, FaultKind>
+    pub fn at(program: &[u8], pc: u32) -> Result<Next, FaultKind>
         requires offset { pc ≤ length program.now }
         requires limit { length program.now ≤ most_program_bytes }
         ensures { result ≡ next_of program.now pc }
@@ -102,8 +102,8 @@ impl Next {
         self.insn
     }
 
-    // Returns the length of the encoding in bytes.
-    pub(crate) fn len(self) -> u32
+    /// Returns the length of the encoding in bytes.
+    pub fn len(self) -> u32
         ensures { result ≡ length (spelling self) }
     {
         self.len

@@ -107,19 +107,17 @@ fn write_head(head: &Head) -> SaveBytes
     out
 }
 
-// Returns the save of these parts. The buffer's bytes are in two slices.
-pub(crate) fn write(head: &Head, front: &[u8], back: &[u8], program: &[u8]) -> SaveBytes
-    requires buffer { length front.now + length back.now ≤ buffer_size }
+// Returns the save of these parts.
+pub(crate) fn write(head: &Head, buffer: &[u8], program: &[u8]) -> SaveBytes
+    requires buffer { length buffer.now ≤ buffer_size }
     requires program { length program.now ≤ most_program_bytes }
-    ensures bytes { result.items
-        ≡ sealed (head_bytes head.now ++ (front.now ++ back.now) ++ program.now) }
+    ensures bytes { result.items ≡ sealed (head_bytes head.now ++ buffer.now ++ program.now) }
     ensures ranges { HasHeadRanges head.now }
-    ensures buffer_bytes { AreBytes (front.now ++ back.now) }
+    ensures buffer_bytes { AreBytes buffer.now }
     ensures program_bytes { AreBytes program.now }
 {
     let mut out = write_head(head);
-    push(&mut out, front);
-    push(&mut out, back);
+    push(&mut out, buffer);
     push(&mut out, program);
     let sum = checksum_of(out.as_slice());
     push(&mut out, &sum.to_le_bytes());

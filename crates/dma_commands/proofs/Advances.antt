@@ -3,7 +3,7 @@ use Rattle.std.proofs.Common.{◌≡◌, ◌≢◌, ℕ, ◌+◌, ◌-◌, ◌<�
 use Rattle.std.specs.Prelude.{if◌then◌else◌, is_some, replicate, ◌⊎◌, OnErr, OnOk, Option, Some, None, Result, Ok}
 use Rattle.std.proofs.lemmas.Result.{on_ok_weaker}
 use Rattle.std.proofs.lemmas.List.{append-nil, map-append}
-use Rattle.dma_script.specs.Command.{text_of}
+use Rattle.dma_io.specs.Command.{text_of}
 use Rattle.dma_engine.specs.declared.outcome.TransResult.TheVariants.{NoError}
 use Rattle.dma_engine.specs.declared.turn.Advanced.{Advanced}
 use Rattle.dma_mem.specs.declared.call.Call.{Call}

@@ -13,7 +13,7 @@ use Rattle.dma_insn.specs.AssemblyText.{joined}
 use Rattle.dma_insn.specs.Disassembly.{AllInRange, Disassembles, StopsAt, insn_text, text_of}
 use Rattle.dma_insn.proofs.Laws.{IsBytes, decoded_spelling, spelling_some}
 use Rattle.dma_insn.proofs.Fronts.{disassembly_reports}
-use Rattle.dma_script.specs.Command as command
+use Rattle.dma_io.specs.Command as command
 use Rattle.dma_script.specs.Words.{hex_digit_of}
 use Rattle.dma_script.specs.Lines.{◌>>=◌}
 use Rattle.dma_script.specs.declared.fault.Fault.{Fault}

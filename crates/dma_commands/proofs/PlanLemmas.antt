@@ -4,7 +4,7 @@ use Rattle.std.specs.Prelude.{OnOk}
 use Rattle.std.proofs.Math.Nat.{zero-lt-suc}
 use Rattle.dma_mem.specs.declared.transfer.TransferFault.{TransferFault}
 use Rattle.dma_mem.specs.Refusals.{refusal_of}
-use Rattle.dma_script.specs.Command.{Answers, AppendsGroups, printed_text, refusal}
+use Rattle.dma_io.specs.Command.{Answers, AppendsGroups, printed_text, refusal}
 use Rattle.dma_script.specs.Lines.{Gives}
 use Rattle.dma_script.specs.Plan.{plan_of}
 use Rattle.dma_script.specs.Printing.{error_line}

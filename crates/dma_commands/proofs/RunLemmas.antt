@@ -18,7 +18,7 @@ use Rattle.dma_engine.specs.Turn.{with_entry}
 use Rattle.dma_engine.proofs.Queues.{slice_get_push_last}
 use Rattle.dma_mem.specs.declared.transfer.TransferFault.{TransferFault}
 use Rattle.dma_engine.specs.View.{View, object_of}
-use Rattle.dma_script.specs.Command.{Answers, AppendsGroups, Printed, printed_text, text_of}
+use Rattle.dma_io.specs.Command.{Answers, AppendsGroups, Printed, printed_text, text_of}
 use Rattle.dma_script.specs.Interpreted.{ActsInTurn, PrintsLines, StopsAtALine}
 use Rattle.dma_script.specs.declared.statements.Statement.{Statement}
 use Rattle.dma_text.specs.Digits.{hex_digits, spaced_bytes}

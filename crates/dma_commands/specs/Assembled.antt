@@ -6,8 +6,8 @@ use Rattle.dma_insn.specs.declared.assembler.AsmFault.{AsmFault}
 use Rattle.dma_insn.specs.declared.assembler.AsmFault.TheVariants.{Line, ProgramTooLong, NoMemory}
 use Rattle.dma_insn.specs.AssemblyText.{Assembles, IsFirstFault}
 use Rattle.dma_insn.specs.LineReading.{assembled}
-use Rattle.dma_script.specs.Command.{Printed, refusal}
-use Rattle.dma_script.specs.Printing.{program_lines}
+use Rattle.dma_io.specs.Command.{Printed, refusal}
+use Rattle.dma_io.specs.Printing.{program_lines}
 
 -- the name of a cause
 abbrev pub cause_name : AsmCause → List ℕ

@@ -4,7 +4,7 @@ use Rattle.dma_insn.specs.declared.codec.DecodeFault.{DecodeFault}
 use Rattle.dma_insn.specs.declared.codec.DecodeFault.TheVariants.{Cut, Unknown, BadField}
 use Rattle.dma_insn.specs.Decoding.{Decoded, decoded}
 use Rattle.dma_insn.specs.Disassembly.{insn_text, Disassembles, StopsAt}
-use Rattle.dma_script.specs.Command.{Printed, refusal, text_of}
+use Rattle.dma_io.specs.Command.{Printed, refusal, text_of}
 use Rattle.dma_text.specs.Digits.{hex_pair}
 use Rattle.dma_script.specs.Pairs.{pairs_of}
 use Rattle.dma_script.specs.Printing.{fault_line}

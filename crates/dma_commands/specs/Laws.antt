@@ -13,7 +13,7 @@ use Rattle.dma_engine.specs.Advance.{goes_on}
 use Rattle.dma_engine.specs.View.{View, new_fault, new_view}
 use Rattle.dma_engine.specs.Answer.{AreAnswers, answer, answers}
 use Rattle.dma_engine.specs.Laws.{IsCall}
-use Rattle.dma_script.specs.Command.{Printed}
+use Rattle.dma_io.specs.Command.{Printed}
 use Rattle.dma_script.specs.Statements.{run_script_of}
 use Rattle.dma_script.specs.declared.statements.RunScript.{RunScript}
 use Rattle.dma_script.specs.declared.statements.Statement.{Statement}

@@ -4,8 +4,9 @@ use Rattle.dma_mem.specs.declared.transfer.TransferFault.{TransferFault}
 use Rattle.dma_mem.specs.Refusals.{refusal_of}
 use Rattle.dma_chan.specs.Programs.{ProgramValue}
 use Rattle.dma_chan.specs.Compiled.{compiled}
-use Rattle.dma_script.specs.Command.{Printed, refusal}
-use Rattle.dma_script.specs.Printing.{program_lines, fault_line}
+use Rattle.dma_io.specs.Command.{Printed, refusal}
+use Rattle.dma_io.specs.Printing.{program_lines}
+use Rattle.dma_script.specs.Printing.{fault_line}
 use Rattle.dma_script.specs.Plan.{plan_of}
 use Rattle.dma_script.specs.declared.fault.Fault.{Fault}
 use Rattle.dma_script.specs.declared.transfer_line.PlanLine.{PlanLine}

@@ -11,7 +11,7 @@ use Rattle.dma_engine.specs.Answer.{reply_of}
 use Rattle.dma_engine.specs.Interleaved.{Interleaves, JobTurn, rotation, turns_taken}
 use Rattle.dma_engine.specs.Turn.{finishes_in, steps_in}
 use Rattle.dma_engine.specs.View.{View, new_view}
-use Rattle.dma_script.specs.Command.{Printed, refusal}
+use Rattle.dma_io.specs.Command.{Printed, refusal}
 use Rattle.dma_script.specs.Interpreted.{ActsInTurn}
 use Rattle.dma_script.specs.Printing.{fault_line}
 use Rattle.dma_script.specs.Race.{race_script_of}

@@ -15,7 +15,7 @@ use Rattle.dma_engine.specs.Advance.{after_steps, goes_on}
 use Rattle.dma_engine.specs.Object.{channel, unfinished}
 use Rattle.dma_engine.specs.View.{View, IsSound, new_view, object_of, schedule_at, running}
 use Rattle.dma_engine.specs.Answer.{answer, answers}
-use Rattle.dma_script.specs.Command.{Printed, refusal}
+use Rattle.dma_io.specs.Command.{Printed, refusal}
 use Rattle.dma_script.specs.Statements.{run_script_of}
 use Rattle.dma_script.specs.Printing.{fault_line}
 use Rattle.dma_script.specs.declared.fault.Fault.{Fault}

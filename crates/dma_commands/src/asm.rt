@@ -1,13 +1,13 @@
 //! The command `asm`: prints the bytes of the program that an assembly text describes.
 ghost use Rattle.std.specs.Prelude.{◌≡◌, ◌≤◌, ◌+◌, IfSome};
-ghost use Rattle.dma_script.specs.Command.{Ends, failures, longest_input, printed_within};
+ghost use Rattle.dma_io.specs.Command.{Ends, failures, longest_input, printed_within};
 ghost use Rattle.dma_commands.specs.Assembled.{AsmPrints, asm_printed, cause_name};
 
 use dma_insn::assembler::{AsmCause, AsmFault, assemble};
-use dma_script::command::{Command, SUCCESS, refuse, serve};
-use dma_script::input::Source;
-use dma_script::output::Sink;
-use dma_script::printing::ProgramLines;
+use dma_io::command::{Command, SUCCESS, refuse, serve};
+use dma_io::input::Source;
+use dma_io::output::Sink;
+use dma_io::printing::ProgramLines;
 use dma_text::text::print;
 use std::alloc::{AllocError, Global};
 

@@ -1,13 +1,13 @@
 //! The command `dis`: prints the disassembled text of a program's bytes.
 ghost use Rattle.std.specs.Prelude.{◌≤◌, ◌+◌, IfSome};
-ghost use Rattle.dma_script.specs.Command.{Answers, Ends, failures, longest_input, printed_within, refusal};
+ghost use Rattle.dma_io.specs.Command.{Answers, Ends, failures, longest_input, printed_within, refusal};
 ghost use Rattle.dma_commands.specs.Disassembled.{DisPrints, decode_fault_line, dis_printed, lines_from, lines_printed};
 
 use dma_insn::codec::DecodeFault;
 use dma_insn::disassembler::{DisFault, disassemble};
-use dma_script::command::{Command, SUCCESS, refuse, serve};
-use dma_script::input::Source;
-use dma_script::output::Sink;
+use dma_io::command::{Command, SUCCESS, refuse, serve};
+use dma_io::input::Source;
+use dma_io::output::Sink;
 use dma_script::pairs::read_pairs;
 use dma_text::text::{HexByte, print};
 use std::alloc::{AllocError, Global};

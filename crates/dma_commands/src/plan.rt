@@ -1,7 +1,7 @@
 //! The command `plan`: prints the program of a transfer and its cost.
 ghost use Rattle.std.specs.Prelude.{◌≤◌, ◌+◌, IfSome};
 ghost use Rattle.dma_mem.specs.Refusals.{refusal_of};
-ghost use Rattle.dma_script.specs.Command.{Answers, Ends, failures, longest_input, printed_within, text_of};
+ghost use Rattle.dma_io.specs.Command.{Answers, Ends, failures, longest_input, printed_within, text_of};
 ghost use Rattle.dma_commands.specs.Planned.{plan_printed, program_printed, transfer_printed};
 ghost use Rattle.dma_commands.specs.Transfers.{transfer_of};
 
@@ -9,10 +9,10 @@ use crate::printing::Shown;
 use crate::transfers::transfer_of;
 use dma_chan::compile::compile;
 use dma_chan::program::Program;
-use dma_script::command::{Command, SUCCESS, refuse, serve};
-use dma_script::input::Source;
-use dma_script::output::Sink;
-use dma_script::printing::ProgramLines;
+use dma_io::command::{Command, SUCCESS, refuse, serve};
+use dma_io::input::Source;
+use dma_io::output::Sink;
+use dma_io::printing::ProgramLines;
 use dma_script::transfer_line::{PlanLine, read_plan};
 use dma_text::text::{Text, print};
 use std::alloc::{AllocError, Global};

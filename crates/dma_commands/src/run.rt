@@ -1,6 +1,6 @@
 //! The command `run`: executes a script line by line.
 ghost use Rattle.std.specs.Prelude.{◌≡◌, ◌≤◌, ◌+◌, ◌++◌, IfSome, OnErr, OnOk};
-ghost use Rattle.dma_script.specs.Command.{Answers, Ends, failures, longest_input, printed_within, text_of};
+ghost use Rattle.dma_io.specs.Command.{Answers, Ends, failures, longest_input, printed_within, text_of};
 ghost use Rattle.dma_commands.specs.Run.{line_answer, lines_answered, printed};
 ghost use Rattle.dma_commands.specs.inner.RunSteps.{RunsLine};
 
@@ -17,10 +17,10 @@ use crate::run::copies::answer_copy;
 pub use crate::run::left::{engine_after, new_engine};
 use crate::run::steps::{StepLines, answer_step, answer_steps};
 use dma_engine::{Call, Engine};
-use dma_script::command::{Command, SUCCESS, refuse, serve};
-use dma_script::input::{MOST_RESERVED, Source};
+use dma_io::command::{Command, SUCCESS, refuse, serve};
+use dma_io::input::{MOST_RESERVED, Source};
+use dma_io::output::Sink;
 use dma_script::interpreter::Interpreter;
-use dma_script::output::Sink;
 use dma_script::statements::{Statement, Statements, read_run_script};
 use std::alloc::{AllocError, Global};
 

@@ -5,10 +5,10 @@ use Rattle.std.proofs.lemmas.Bool.{and_parts, cases_Bool, eqb-false, eqb-true}
 use Rattle.std.proofs.lemmas.List.{get_or-set_other, length-set}
 use Rattle.dma_mem.specs.Regions.{Piece, image_of, pieces_of}
 use Rattle.dma_mem.specs.declared.regions.Region.{Region}
-use Rattle.dma_chan.specs.Explains.{Work}
-use Rattle.dma_chan.specs.Others.{IsWorked, Uses, work_below}
+use Rattle.dma_explain.specs.Explains.{Work}
+use Rattle.dma_explain.specs.Works.{IsWorked, Uses, work_below}
 use Rattle.dma_chan.specs.Written.{LiesIn, range_at}
-use Rattle.dma_chan.proofs.CallWrites.{load_executes}
+use Rattle.dma_explain.proofs.CallStays.{load_executes}
 use Rattle.dma_device.specs.Accesses.{Access, Answer, Does, Resets, Restores, Stores, Turned, Turns, Writes}
 use Rattle.dma_device.specs.Board.{ABoardCopies, BoardRunsCopy, BoardSpares, BoardStaysIn, CopiesOn, Happens, BoardEvents, RunsOn, SparesBytes, SparesThread, WritesApart, is_turn, is_turn_at, later, most_of, turns_of}
 use Rattle.dma_device.specs.Device.{DeviceValue, program_at, written}

@@ -8,13 +8,13 @@ use Rattle.dma_mem.specs.Marking.{MarkList}
 use Rattle.dma_mem.specs.Places.{destinations, size_of}
 use Rattle.dma_mem.specs.declared.regions.Region.{Region}
 use Rattle.dma_mem.proofs.OverTransfers.{Contains_take}
-use Rattle.dma_chan.specs.Explains.{IsAtLeast, IsSignal, IsWait, Work, all_of, amounts_of, cleared, traced, Explains}
-use Rattle.dma_chan.specs.Others.{IsWorked, MissesAll}
-use Rattle.dma_chan.specs.declared.explain.Amounts.{Amounts}
+use Rattle.dma_explain.specs.Explains.{IsAtLeast, IsSignal, IsWait, Work, all_of, amounts_of, cleared, traced, Explains}
+use Rattle.dma_explain.specs.Works.{IsWorked, MissesAll}
+use Rattle.dma_explain.specs.declared.explain.Amounts.{Amounts}
 use Rattle.dma_chan.specs.Channel.{ChannelValue, ahead_of}
-use Rattle.dma_chan.proofs.CallsAmongOthers.{call_answers, call_fails, call_waits, done_at, signalled, Runs, many, moved_on}
-use Rattle.dma_chan.proofs.SinceLoads.{IsPart, part_first, runs_so, worked_part}
-use Rattle.dma_chan.proofs.RegionsHave.{gaps_miss}
+use Rattle.dma_explain.proofs.CallsAmongOthers.{call_answers, call_fails, call_waits, done_at, signalled, Runs, many, moved_on}
+use Rattle.dma_explain.proofs.SinceLoads.{IsPart, part_first, runs_so, worked_part}
+use Rattle.dma_explain.proofs.RegionsHave.{gaps_miss}
 use Rattle.dma_device.specs.CallSteps.{first_in, marks_in}
 use Rattle.dma_device.specs.Copies.{AreDone, DmagoCopies, DmagoInterrupts, DmagoNeverFails, HasRisen, IsFit}
 use Rattle.dma_device.specs.Device.{DeviceValue, irqs}
@@ -31,8 +31,8 @@ use Rattle.dma_chan.specs.Exec.{ChangesNothing}
 use Rattle.dma_chan.specs.Stepping.{Machine, TakesSteps, machine, after_step, after_steps, answer_at, goes_on_after}
 use Rattle.dma_chan.specs.declared.turn.ChanTurn.{ChanTurn}
 use Rattle.dma_chan.specs.declared.turn.ChanTurn.TheVariants.{Moved, Ended}
-use Rattle.dma_chan.proofs.AmongOthers.{Among, Fits}
-use Rattle.dma_chan.proofs.SinceLoads.{done_grows}
+use Rattle.dma_explain.proofs.AmongOthers.{Among, Fits}
+use Rattle.dma_explain.proofs.SinceLoads.{done_grows}
 use Rattle.dma_chan.proofs.StepsTaken.{steps_move}
 use Rattle.dma_chan.proofs.SteppedOver.{is_still, was_moved, went_before}
 use Rattle.dma_device.proofs.Answered.{answer_fine}

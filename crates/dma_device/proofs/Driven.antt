@@ -6,14 +6,14 @@ use Rattle.dma_mem.specs.Places.{size_of}
 use Rattle.dma_mem.specs.declared.regions.Region.{Region}
 use Rattle.dma_chan.specs.declared.exec.Registers.{Registers}
 use Rattle.dma_chan.specs.Channel.{ChannelValue}
-use Rattle.dma_chan.specs.Explains.{Explains, Work, cleared}
-use Rattle.dma_chan.specs.Others.{IsWorked}
+use Rattle.dma_explain.specs.Explains.{Explains, Work, cleared}
+use Rattle.dma_explain.specs.Works.{IsWorked}
 use Rattle.dma_chan.specs.Programs.{ProgramValue}
 use Rattle.dma_chan.specs.Stepping.{Machine, TakesSteps, machine}
 use Rattle.dma_chan.specs.declared.turn.ChanTurn.{ChanTurn}
 use Rattle.dma_chan.specs.declared.turn.ChanTurn.TheVariants.{Ended}
-use Rattle.dma_chan.proofs.AmongOthers.{Fits, uses_below}
-use Rattle.dma_chan.proofs.CallsAmongOthers.{Leads, Runs, at_first, call, survived}
+use Rattle.dma_explain.proofs.AmongOthers.{Fits, uses_below}
+use Rattle.dma_explain.proofs.CallsAmongOthers.{Leads, Runs, at_first, call, survived}
 use Rattle.dma_device.specs.CallSteps.{StepsThread, first_in, last_in, marks_in, signal_in}
 use Rattle.dma_device.specs.Device.{DeviceValue, program_at}
 use Rattle.dma_device.specs.Dmago.{Go, RunsCopy, GivenTurns, image_in, start_of}

@@ -11,14 +11,14 @@ use Rattle.dma_mem.specs.Regions.{Piece, pieces_of}
 use Rattle.dma_mem.specs.declared.regions.Region.{Region}
 use Rattle.dma_chan.specs.declared.exec.Registers.{Registers}
 use Rattle.dma_chan.specs.declared.bus.BusWidth.{BusWidth}
-use Rattle.dma_chan.specs.declared.explain.Explained.{Explained}
-use Rattle.dma_chan.specs.Changes.{Holds}
+use Rattle.dma_explain.specs.declared.explain.Explained.{Explained}
+use Rattle.dma_explain.specs.Changes.{Holds}
 use Rattle.dma_chan.specs.Channel.{ChannelValue, bytes_of_program, code_of}
-use Rattle.dma_chan.specs.Explains.{Executes, Explains, Finds, Work, work_of, written as writes_of}
+use Rattle.dma_explain.specs.Explains.{Executes, Explains, Finds, Work, work_of, written as writes_of}
 use Rattle.dma_chan.specs.Programs.{ProgramValue}
 use Rattle.dma_chan.specs.Stepping.{after_steps}
-use Rattle.dma_chan.proofs.CallWrites.{call_stays_in, load_executes, many_in, next_inside, nexts}
-use Rattle.dma_chan.proofs.ReadsOnly.{reads_inside}
+use Rattle.dma_explain.proofs.CallStays.{call_stays_in, load_executes, many_in, next_inside, nexts}
+use Rattle.dma_explain.proofs.CallReads.{reads_inside}
 use Rattle.dma_chan.proofs.StepsTaken.{steps_move}
 use Rattle.dma_device.specs.Accesses.{Access, Answer, Does, Happen, Resets, Restores, Turns, Writes}
 use Rattle.dma_device.specs.CallSteps.{StepsThread, first_in, last_in, marks_in, signal_in}

@@ -17,9 +17,10 @@ use Rattle.dma_chan.specs.declared.bus.BusWidth.TheVariants.{Bits32}
 use Rattle.dma_chan.specs.declared.exec.Registers.{Registers}
 use Rattle.dma_chan.specs.declared.turn.FaultKind.{FaultKind}
 use Rattle.dma_chan.specs.Bursts.{burst_at, reaches}
-use Rattle.dma_chan.specs.Explains.{Explains, GoesOn, IsWork, Work, next_in, only, traced}
-use Rattle.dma_chan.specs.LentRegions.{HaveAll, with_gaps_of}
-use Rattle.dma_chan.proofs.CallWrites.{load_executes}
+use Rattle.dma_explain.specs.Explains.{Explains, GoesOn, IsWork, Work, next_in, only, traced}
+use Rattle.dma_chan.specs.LentRegions.{with_gaps_of}
+use Rattle.dma_explain.specs.RegionsHave.{HaveAll}
+use Rattle.dma_explain.proofs.CallStays.{load_executes}
 use Rattle.dma_device.specs.declared.config.Config.{Config}
 use Rattle.dma_device.specs.declared.config.Revision.TheVariants.{R1p2}
 use Rattle.dma_device.specs.declared.device.turns.Turn.{Turn}

@@ -15,15 +15,15 @@ use Rattle.dma_mem.specs.declared.regions.Region.{Region}
 use Rattle.dma_chan.specs.declared.exec.Registers.{Registers}
 use Rattle.dma_chan.specs.Channel.{ChannelValue, ahead_of, step_of, stored_by}
 use Rattle.dma_chan.specs.Exec.{ChangesNothing}
-use Rattle.dma_chan.specs.Explains.{Explains, HasEvents as HasTheEvents, IsIn, IsWait, StartsWith, Work, next_in, traced}
-use Rattle.dma_chan.specs.Others.{MissesAll}
+use Rattle.dma_explain.specs.Explains.{Explains, HasEvents as HasTheEvents, IsIn, IsWait, StartsWith, Work, next_in, traced}
+use Rattle.dma_explain.specs.Works.{MissesAll}
 use Rattle.dma_chan.specs.Programs.{ProgramValue}
 use Rattle.dma_chan.specs.Stepping.{Machine, TakesSteps, after_step, after_steps, answer_at, goes_on_after}
 use Rattle.dma_chan.specs.declared.turn.ChanTurn.{ChanTurn}
 use Rattle.dma_chan.specs.declared.turn.ChanTurn.TheVariants.{Moved, Waiting, Ended, Fault}
-use Rattle.dma_chan.proofs.AmongOthers.{Fits, is_in}
-use Rattle.dma_chan.proofs.CallsAmongOthers.{Runs, call_answers, call_fails, many, next_ahead}
-use Rattle.dma_chan.proofs.CompiledExplained.{compiled_events}
+use Rattle.dma_explain.proofs.AmongOthers.{Fits, is_in}
+use Rattle.dma_explain.proofs.CallsAmongOthers.{Runs, call_answers, call_fails, many, next_ahead}
+use Rattle.dma_explain.proofs.CompiledExplained.{compiled_events}
 use Rattle.dma_chan.proofs.RunAlone.{moved_count}
 use Rattle.dma_chan.proofs.StepsTaken.{steps_move}
 use Rattle.dma_chan.proofs.SteppedOver.{is_still, was_moved, went_before}

@@ -4,7 +4,7 @@ use Rattle.dma_insn.specs.declared.chip.ChipInsn.{ChipInsn}
 use Rattle.dma_insn.specs.declared.chip.ChipInsn.TheVariants.{Wfe}
 use Rattle.dma_mem.specs.Flags.{flags_of}
 use Rattle.dma_mem.specs.Regions.{Piece}
-use Rattle.dma_chan.specs.Explains.{IsWait, Work, next_in, traced}
+use Rattle.dma_explain.specs.Explains.{IsWait, Work, next_in, traced}
 use Rattle.dma_chan.specs.declared.turn.FaultKind.{FaultKind}
 use Rattle.dma_device.specs.Accesses.{Access, Reads, Turns, Value, Writes}
 use Rattle.dma_device.specs.Copies.{IsFit}

@@ -11,16 +11,16 @@ use Rattle.dma_mem.specs.declared.regions.Region.{Region}
 use Rattle.dma_mem.proofs.Pieces.{image_of_most}
 use Rattle.dma_chan.specs.Channel.{ChannelValue, ahead_of}
 use Rattle.dma_chan.specs.Exec.{begun, fault_bit}
-use Rattle.dma_chan.specs.Explains.{GoesOn, HasAddress, Refuses, Trace, after_fetch, next_in, stop_of, traced, written_in}
-use Rattle.dma_chan.specs.Refusals.{fault_of_cause}
+use Rattle.dma_explain.specs.Explains.{GoesOn, HasAddress, Refuses, Trace, after_fetch, next_in, stop_of, traced, written_in}
+use Rattle.dma_explain.specs.Refusals.{fault_of_cause}
 use Rattle.dma_chan.specs.Stepping.{Machine, TakesSteps, answer_at}
-use Rattle.dma_chan.specs.declared.explain.Cause.TheVariants.{NoEnd, NoMemory, TooLong}
-use Rattle.dma_chan.specs.declared.explain.Unexplained.{Unexplained}
+use Rattle.dma_explain.specs.declared.explain.Cause.TheVariants.{NoEnd, NoMemory, TooLong}
+use Rattle.dma_explain.specs.declared.explain.Unexplained.{Unexplained}
 use Rattle.dma_chan.specs.declared.exec.Registers.{Registers}
 use Rattle.dma_chan.specs.declared.turn.ChanTurn.{ChanTurn}
 use Rattle.dma_chan.specs.declared.turn.ChanTurn.TheVariants.{Moved, Waiting, Ended, Fault}
 use Rattle.dma_chan.specs.declared.turn.FaultKind.{FaultKind}
-use Rattle.dma_chan.proofs.Refusals.{Before as HasBefore, LastLeads, call_fails_there, call_leads, call_signals}
+use Rattle.dma_explain.proofs.Refusals.{Before as HasBefore, LastLeads, call_fails_there, call_leads, call_signals}
 use Rattle.dma_chan.proofs.StepsTaken.{steps_move}
 use Rattle.dma_chan.proofs.SteppedOver.{steps_size, was_moved, went_before}
 use Rattle.dma_device.specs.CallSteps.{StepsThread, first_in}

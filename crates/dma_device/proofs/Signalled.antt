@@ -7,13 +7,13 @@ use Rattle.dma_mem.specs.declared.regions.Region.{Region}
 use Rattle.dma_chan.specs.declared.exec.Registers.{Registers}
 use Rattle.dma_chan.specs.Channel.{ChannelValue, ahead_of}
 use Rattle.dma_chan.specs.Exec.{ChangesNothing}
-use Rattle.dma_chan.specs.Explains.{Explains, IsSignal, Work, next_in, traced}
-use Rattle.dma_chan.specs.declared.explain.Amounts.{Amounts}
+use Rattle.dma_explain.specs.Explains.{Explains, IsSignal, Work, next_in, traced}
+use Rattle.dma_explain.specs.declared.explain.Amounts.{Amounts}
 use Rattle.dma_chan.specs.Stepping.{Machine, TakesSteps, after_steps, answer_at, goes_on, goes_on_after, signal_after, signal_of}
 use Rattle.dma_chan.specs.declared.turn.ChanTurn.{ChanTurn}
 use Rattle.dma_chan.specs.declared.turn.ChanTurn.TheVariants.{Moved, Waiting, Ended, Fault}
-use Rattle.dma_chan.proofs.AmongOthers.{Fits, goes_on_at}
-use Rattle.dma_chan.proofs.CallsAmongOthers.{Runs, many, next_ahead}
+use Rattle.dma_explain.proofs.AmongOthers.{Fits, goes_on_at}
+use Rattle.dma_explain.proofs.CallsAmongOthers.{Runs, many, next_ahead}
 use Rattle.dma_chan.proofs.StepsTaken.{steps_move}
 use Rattle.dma_chan.proofs.SteppedOver.{is_still, went_before}
 use Rattle.dma_device.specs.Device.{DeviceValue}

@@ -9,18 +9,18 @@ use Rattle.dma_mem.specs.Marking.{MarkList}
 use Rattle.dma_mem.specs.declared.regions.Region.{Region}
 use Rattle.dma_chan.specs.Channel.{ChannelValue, ahead_of}
 use Rattle.dma_chan.specs.Exec.{State}
-use Rattle.dma_chan.specs.Explains.{Explains, IsAtLeast, Work, all_of, amounts_of, events_in, happening_of, next_in, traced}
+use Rattle.dma_explain.specs.Explains.{Explains, IsAtLeast, Work, all_of, amounts_of, events_in, happening_of, next_in, traced}
 use Rattle.dma_chan.specs.Stepping.{Machine, TakesSteps, after_step, after_steps, answer_at, machine, signal_after, signal_of}
 use Rattle.dma_chan.specs.declared.exec.Registers.{Registers}
-use Rattle.dma_chan.specs.declared.explain.Amounts.{Amounts}
-use Rattle.dma_chan.specs.declared.explain.Happening.{Happening}
+use Rattle.dma_explain.specs.declared.explain.Amounts.{Amounts}
+use Rattle.dma_explain.specs.declared.explain.Happening.{Happening}
 use Rattle.dma_chan.specs.declared.turn.ChanTurn.{ChanTurn}
 use Rattle.dma_chan.specs.declared.turn.ChanTurn.TheVariants.{Moved}
 use Rattle.dma_chan.specs.declared.turn.FaultKind.{FaultKind}
-use Rattle.dma_chan.proofs.AmongOthers.{Fits}
+use Rattle.dma_explain.proofs.AmongOthers.{Fits}
 use Rattle.dma_chan.proofs.CallWrites.{does_next}
-use Rattle.dma_chan.proofs.CallsAmongOthers.{Runs, done_at, is_signal, many, moved_on, next_ahead}
-use Rattle.dma_chan.proofs.SinceLoads.{done_grows, runs_so, worked_part}
+use Rattle.dma_explain.proofs.CallsAmongOthers.{Runs, done_at, is_signal, many, moved_on, next_ahead}
+use Rattle.dma_explain.proofs.SinceLoads.{done_grows, runs_so, worked_part}
 use Rattle.dma_chan.proofs.StepsTaken.{steps_move}
 use Rattle.dma_device.specs.Copies.{AreDone, DmagoInterruptsEach, IsSignalNumber, Rises, RisesInEach, is_signal_of, signals_in}
 use Rattle.dma_device.specs.Device.{DeviceValue}

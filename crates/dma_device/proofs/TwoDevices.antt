@@ -10,9 +10,9 @@ use Rattle.dma_mem.specs.Image.{put}
 use Rattle.dma_mem.specs.Regions.{has, pieces_of}
 use Rattle.dma_mem.specs.declared.regions.Region.{Region}
 use Rattle.dma_chan.specs.Bursts.{burst_at, reaches}
-use Rattle.dma_chan.specs.Explains.{Explains, GoesOn, next_in, traced}
+use Rattle.dma_explain.specs.Explains.{Explains, GoesOn, next_in, traced}
 use Rattle.dma_chan.specs.LentRegions.{with_gaps_of}
-use Rattle.dma_chan.specs.Others.{IsWorked, work_below}
+use Rattle.dma_explain.specs.Works.{IsWorked, work_below}
 use Rattle.dma_device.specs.Accesses.{Does, Done, Turned, Turns, Writes}
 use Rattle.dma_device.specs.Board.{CopiesOn, Happens, BoardEvents, RunsOn, SparesBytes, SparesThread, WritesApart, is_turn_at, later}
 use Rattle.dma_device.specs.Device.{DeviceValue, reset_device}

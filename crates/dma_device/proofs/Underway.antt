@@ -1,10 +1,10 @@
 -- How far a program that a DMAGO starts has got after a turn.
 use Rattle.std.proofs.Common.{◌≡◌, ◌∙◌, ℕ, ◌<◌, List, [], Some, ap, refl, subst, arith, inl, inr}
 use Rattle.std.specs.Prelude.{slice_get}
-use Rattle.dma_chan.specs.Explains.{Work, all_of}
+use Rattle.dma_explain.specs.Explains.{Work, all_of}
 use Rattle.dma_chan.specs.Stepping.{machine}
-use Rattle.dma_chan.proofs.CallsAmongOthers.{done_at}
-use Rattle.dma_chan.proofs.SinceLoads.{all_done, part_first, runs_so, worked_part}
+use Rattle.dma_explain.proofs.CallsAmongOthers.{done_at}
+use Rattle.dma_explain.proofs.SinceLoads.{all_done, part_first, runs_so, worked_part}
 use Rattle.dma_device.specs.Dmago.{Go, GivenTurns, RunsCopy, image_in}
 use Rattle.dma_device.specs.Underway.{DmagoUnderway, HasDone, KilledKeepsCounts}
 use Rattle.dma_device.specs.declared.thread.Thread.{Thread}

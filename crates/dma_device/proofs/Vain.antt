@@ -10,13 +10,13 @@ use Rattle.dma_insn.specs.ControlWord.{flag}
 use Rattle.dma_insn.specs.declared.chip.ChipInsn.{ChipInsn}
 use Rattle.dma_insn.specs.declared.chip.ChipInsn.TheVariants.{Wfe}
 use Rattle.dma_chan.specs.Channel.{ahead_of}
-use Rattle.dma_chan.specs.Explains.{IsWait, Work, next_in, traced}
+use Rattle.dma_explain.specs.Explains.{IsWait, Work, next_in, traced}
 use Rattle.dma_chan.specs.declared.turn.FaultKind.{FaultKind}
 use Rattle.dma_chan.specs.Programs.{ProgramValue}
 use Rattle.dma_chan.specs.Stepping.{machine}
-use Rattle.dma_chan.proofs.AmongOthers.{is_in}
-use Rattle.dma_chan.proofs.CallWrites.{ahead_at}
-use Rattle.dma_chan.proofs.CallsAmongOthers.{next_ahead}
+use Rattle.dma_explain.proofs.AmongOthers.{is_in}
+use Rattle.dma_explain.proofs.CallStays.{ahead_at}
+use Rattle.dma_explain.proofs.CallsAmongOthers.{next_ahead}
 use Rattle.dma_device.specs.Copies.{IsFit}
 use Rattle.dma_device.specs.Device.{DeviceValue}
 use Rattle.dma_device.specs.Dmago.{Go, RunsCopy, GivenTurns, csr_status, image_in}

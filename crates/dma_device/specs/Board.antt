@@ -3,8 +3,8 @@ use Rattle.std.specs.Prelude.{◌≡◌, ◌≢◌, ℕ, ◌+◌, ◌-◌, ◌<�
 use Rattle.std.specs.List.{Contains}
 use Rattle.dma_mem.specs.Regions.{pieces_of}
 use Rattle.dma_mem.specs.declared.regions.Region.{Region}
-use Rattle.dma_chan.specs.Explains.{Explains, Work, written}
-use Rattle.dma_chan.specs.Others.{IsWorked, Uses, work_below}
+use Rattle.dma_explain.specs.Explains.{Explains, Work, written}
+use Rattle.dma_explain.specs.Works.{IsWorked, Uses, work_below}
 use Rattle.dma_chan.specs.Written.{LiesIn}
 use Rattle.dma_device.specs.Accesses.{Access, Answer, Does, Resets, Restores, Stores, Turned, Turns, Writes}
 use Rattle.dma_device.specs.Device.{DeviceValue}

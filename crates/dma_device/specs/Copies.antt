@@ -4,13 +4,13 @@ use Rattle.std.specs.List.{Contains, count_by}
 use Rattle.dma_mem.specs.Places.{destinations, size_of, sources}
 use Rattle.dma_mem.specs.Regions.{in_order, pieces_of}
 use Rattle.dma_mem.specs.declared.regions.Region.{Region}
-use Rattle.dma_chan.specs.Explains.{IsAtLeast, IsSignal, IsWait, Work, cleared, events_in}
+use Rattle.dma_explain.specs.Explains.{IsAtLeast, IsSignal, IsWait, Work, cleared, events_in}
 use Rattle.dma_chan.specs.declared.exec.Registers.{Registers}
-use Rattle.dma_chan.specs.declared.explain.Amounts.{Amounts}
-use Rattle.dma_chan.specs.declared.explain.Sync.{Sync}
-use Rattle.dma_chan.specs.declared.explain.Sync.TheVariants.{Signals, Waits}
-use Rattle.dma_chan.specs.LentRegions.{HaveAll}
-use Rattle.dma_chan.specs.Others.{IsWorked}
+use Rattle.dma_explain.specs.declared.explain.Amounts.{Amounts}
+use Rattle.dma_explain.specs.declared.explain.Sync.{Sync}
+use Rattle.dma_explain.specs.declared.explain.Sync.TheVariants.{Signals, Waits}
+use Rattle.dma_explain.specs.RegionsHave.{HaveAll}
+use Rattle.dma_explain.specs.Works.{IsWorked}
 use Rattle.dma_device.specs.Device.{DeviceValue, irqs}
 use Rattle.dma_device.specs.Dmago.{Go, RunsCopy, GivenTurns, csr_status, image_in, start_of}
 use Rattle.dma_device.specs.Interrupts.{HasLine, IsHigh}

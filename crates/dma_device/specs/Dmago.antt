@@ -8,8 +8,8 @@ use Rattle.dma_mem.specs.Regions.{Piece, has, image_of, in_order, pieces_of}
 use Rattle.dma_mem.specs.declared.regions.Region.{Region}
 use Rattle.dma_chan.specs.declared.bus.Bus.{Bus}
 use Rattle.dma_chan.specs.declared.exec.Registers.{Registers}
-use Rattle.dma_chan.specs.Explains.{Explains, Work}
-use Rattle.dma_chan.specs.Others.{Uses, work_below}
+use Rattle.dma_explain.specs.Explains.{Explains, Work}
+use Rattle.dma_explain.specs.Works.{Uses, work_below}
 use Rattle.dma_device.specs.Device.{DeviceValue, read_at, written}
 use Rattle.dma_device.specs.Offsets as offset
 use Rattle.dma_device.specs.Thread.{reset_thread}

@@ -6,11 +6,11 @@ use Rattle.dma_mem.specs.Marking.{MarkList}
 use Rattle.dma_mem.specs.Places.{sources}
 use Rattle.dma_mem.specs.declared.regions.Region.{Region}
 use Rattle.dma_chan.specs.declared.exec.Registers.{Registers}
-use Rattle.dma_chan.specs.declared.explain.Cause.TheVariants.{NoMemory, TooLong}
-use Rattle.dma_chan.specs.declared.explain.Explained.{Explained}
-use Rattle.dma_chan.specs.Changes.{Holds}
+use Rattle.dma_explain.specs.declared.explain.Cause.TheVariants.{NoMemory, TooLong}
+use Rattle.dma_explain.specs.declared.explain.Explained.{Explained}
+use Rattle.dma_explain.specs.Changes.{Holds}
 use Rattle.dma_chan.specs.Channel.{ChannelValue, code_of}
-use Rattle.dma_chan.specs.Explains.{Executes, Finds, Refuses, Work, work_of, written}
+use Rattle.dma_explain.specs.Explains.{Executes, Finds, Refuses, Work, work_of, written}
 use Rattle.dma_chan.specs.Programs.{ProgramValue}
 use Rattle.dma_chan.specs.Reads.{Reads}
 use Rattle.dma_chan.specs.Written.{LiesIn}

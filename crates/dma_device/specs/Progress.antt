@@ -9,8 +9,8 @@ use Rattle.dma_mem.specs.Places.{Descriptor}
 use Rattle.dma_mem.specs.Rules.{IsTransfer}
 use Rattle.dma_chan.specs.Channel.{ahead_of}
 use Rattle.dma_chan.specs.Compiled.{compiled_on, cost_on}
-use Rattle.dma_chan.specs.Explains.{IsIn, IsSignal, IsWait, Work, all_of, only}
-use Rattle.dma_chan.specs.declared.explain.Amounts.{Amounts}
+use Rattle.dma_explain.specs.Explains.{IsIn, IsSignal, IsWait, Work, all_of, only}
+use Rattle.dma_explain.specs.declared.explain.Amounts.{Amounts}
 use Rattle.dma_chan.specs.declared.turn.FaultKind.{FaultKind}
 use Rattle.dma_device.specs.Copies.{DeviceHasEvents, IsFit}
 use Rattle.dma_device.specs.Device.{DeviceValue, irqs}

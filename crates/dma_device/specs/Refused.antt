@@ -4,8 +4,8 @@ use Rattle.std.specs.Prelude.{◌≡◌, ◌≢◌, ℕ, ◌+◌, ◌*◌, ◌%�
 use Rattle.dma_mem.specs.Regions.{in_order, pieces_of}
 use Rattle.dma_chan.specs.Channel.{last_count}
 use Rattle.dma_chan.specs.Exec.{fault_bit}
-use Rattle.dma_chan.specs.Refusals.{fault_of_cause}
-use Rattle.dma_chan.specs.declared.explain.Unexplained.{Unexplained}
+use Rattle.dma_explain.specs.Refusals.{fault_of_cause}
+use Rattle.dma_explain.specs.declared.explain.Unexplained.{Unexplained}
 use Rattle.dma_chan.specs.declared.turn.FaultKind.{FaultKind}
 use Rattle.dma_device.specs.Copies.{DeviceHasEvents}
 use Rattle.dma_device.specs.Device.{DeviceValue, of_thread, program_at, read_at}

@@ -18,9 +18,9 @@
 //! configuration, and other bytes are refused exactly if they are the save of no device (`save`, `restore`), as is each
 //! save in which a bit is flipped (`laws::damage_is_refused`).
 //!
-//! A program that is explained from the registers that its channel has (`dma_chan`'s specs/Explains.antt), put into RAM
-//! and started by a DMAGO, makes one simultaneous copy and sets its other ranges to 0, whatever events it waits for and
-//! signals; from any registers a transfer explains its program that is compiled for the bus. All is done once the
+//! A program that is explained from the registers that its channel has (`dma_explain`'s specs/Explains.antt), put into
+//! RAM and started by a DMAGO, makes one simultaneous copy and sets its other ranges to 0, whatever events it waits for
+//! and signals; from any registers a transfer explains its program that is compiled for the bus. All is done once the
 //! channel's CSR reads as stopped (`laws::a_dmago_copies`). Once a line that was low is high after one of its turns, at
 //! least as much is done as before the first DMASEV of its event. If the device has the event of a DMASEV, and INTEN
 //! makes it an interrupt in each turn, then once CSR reads as stopped, the event's line was high after one of the turns

@@ -98,8 +98,8 @@ impl FrontRanges {
         }
     }
 
-    /// Makes them the addresses of a transfer, which runs now and whose segments end at 4,294,967,295 or below. The error
-    /// is `AllocError` if a copy of one of its lists can't be allocated; then no front runs.
+    /// Makes them the addresses of a transfer, which runs now and whose segments end at 4,294,967,295 or below. The
+    /// error is `AllocError` if a copy of one of its lists can't be allocated; then no front runs.
     pub fn set(&mut self, transfer: &Transfer) -> Result<(), AllocError>
         requires { lies_below transfer.now u32.MAX ≡ true }
         ensures set { OnOk result

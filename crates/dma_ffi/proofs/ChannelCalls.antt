@@ -15,23 +15,24 @@ use Rattle.dma_mem.proofs.Pieces.{first as first_piece, has_parts}
 use Rattle.dma_mem.proofs.TransferRules.{IsTransfer_from_no_refusal}
 use Rattle.dma_chan.specs.declared.bus.Bus.TheVariants.{Ideal}
 use Rattle.dma_chan.specs.Channel.{ChannelValue}
-use Rattle.dma_chan.specs.Changes as chan
+use Rattle.dma_explain.specs.Changes as chan
 use Rattle.dma_chan.specs.Compiled.{compiled, cost}
 use Rattle.dma_chan.specs.Exec.{start_on}
-use Rattle.dma_chan.specs.Explains.{Explains, HasEvents, IsLoadedWith, cleared, only}
-use Rattle.dma_chan.specs.LentRegions.{HaveAll}
-use Rattle.dma_chan.specs.Others.{Misses, MissesAll}
-use Rattle.dma_chan.specs.declared.explain.Amounts.{Amounts}
+use Rattle.dma_explain.specs.Explains.{Explains, HasEvents, IsLoadedWith, cleared, only}
+use Rattle.dma_explain.specs.RegionsHave.{HaveAll}
+use Rattle.dma_chan.specs.Others.{Misses}
+use Rattle.dma_explain.specs.Works.{MissesAll}
+use Rattle.dma_explain.specs.declared.explain.Amounts.{Amounts}
 use Rattle.dma_chan.specs.Stepping.{Machine, Wrote}
 use Rattle.dma_chan.specs.Written.{KeepsOutside, LiesIn}
 use Rattle.dma_chan.specs.declared.lent.Taken.{Taken}
 use Rattle.dma_chan.specs.declared.turn.ChanTurn.{ChanTurn}
 use Rattle.dma_chan.specs.declared.turn.ChanTurn.TheVariants.{Waiting, Ended, Fault}
 use Rattle.dma_chan.specs.declared.turn.FaultKind.{FaultKind}
-use Rattle.dma_chan.proofs.CompiledExplained.{compiled_events, compiled_explained}
+use Rattle.dma_explain.proofs.CompiledExplained.{compiled_events, compiled_explained}
 use Rattle.dma_chan.proofs.PlacesKept.{long_above}
-use Rattle.dma_chan.proofs.RegionsHave.{gaps_miss}
-use Rattle.dma_chan.proofs.SinceLoads.{channels_copy, cleared_within, copies_since_load}
+use Rattle.dma_explain.proofs.RegionsHave.{gaps_miss}
+use Rattle.dma_explain.proofs.SinceLoads.{channels_copy, cleared_within, copies_since_load}
 use Rattle.dma_chan.proofs.StepsTaken.{steps_move}
 use Rattle.dma_chan.proofs.SteppedOver.{writes_each}
 use Rattle.dma_ffi.specs.declared.channel_steps.ChannelReport.{ChannelReport}

@@ -9,10 +9,10 @@ use Rattle.dma_mem.specs.declared.transfer.TransferFault.TheVariants as transfer
 use Rattle.dma_chan.specs.declared.bus.Bus.{Bus}
 use Rattle.dma_chan.specs.declared.exec.Registers.{Registers}
 use Rattle.dma_insn.specs.AssemblyText.{most_program_bytes}
-use Rattle.dma_chan.specs.Explains.{Finds, Refuses}
-use Rattle.dma_chan.specs.declared.explain.Cause.TheVariants.{NoMemory, TooLong}
-use Rattle.dma_chan.specs.declared.explain.Explained.{Explained}
-use Rattle.dma_chan.specs.declared.explain.Unexplained.{Unexplained as Refusal}
+use Rattle.dma_explain.specs.Explains.{Finds, Refuses}
+use Rattle.dma_explain.specs.declared.explain.Cause.TheVariants.{NoMemory, TooLong}
+use Rattle.dma_explain.specs.declared.explain.Explained.{Explained}
+use Rattle.dma_explain.specs.declared.explain.Unexplained.{Unexplained as Refusal}
 use Rattle.dma_chan.specs.Channel.{ChannelValue}
 use Rattle.dma_device.specs.Device.{DeviceValue}
 use Rattle.dma_device.specs.Explaining.{FailsFor, FindsFor, channel_of}

@@ -9,14 +9,14 @@ use Rattle.dma_mem.specs.Rules.{HasOneByte}
 use Rattle.dma_mem.specs.declared.regions.Region.{Region}
 use Rattle.dma_insn.specs.AssemblyText.{most_program_bytes}
 use Rattle.dma_chan.specs.declared.bus.Bus.TheVariants.{Ideal}
-use Rattle.dma_chan.specs.declared.explain.Amounts.{Amounts}
+use Rattle.dma_explain.specs.declared.explain.Amounts.{Amounts}
 use Rattle.dma_chan.specs.declared.turn.ChanTurn.TheVariants.{Ended, Waiting}
-use Rattle.dma_chan.specs.Changes.{Call, Change, DoesAll, DoesCall, HasCopied, HaveWorks, IsApart, LeavesAlone, SinceLoad, System}
+use Rattle.dma_explain.specs.Changes.{Call, Change, DoesAll, DoesCall, HasCopied, HaveWorks, IsApart, LeavesAlone, SinceLoad, System}
 use Rattle.dma_chan.specs.Channel.{ChannelValue, unloaded}
 use Rattle.dma_chan.specs.Compiled.{compiled, cost}
 use Rattle.dma_chan.specs.Exec.{start_on}
-use Rattle.dma_chan.specs.Explains.{Explains, HasEvents, IsLoadedWith, Work, only}
-use Rattle.dma_chan.specs.LentRegions.{HaveAll}
+use Rattle.dma_explain.specs.Explains.{Explains, HasEvents, IsLoadedWith, Work, only}
+use Rattle.dma_explain.specs.RegionsHave.{HaveAll}
 use Rattle.dma_chan.specs.Others.{Misses}
 use Rattle.dma_chan.specs.Stepping.{Machine, Wrote, machine}
 use Rattle.dma_chan.specs.Written.{KeepsOutside, LiesIn}
@@ -102,7 +102,7 @@ StepsKeepTheRest = (call : StepCall) → IsMade call → KeepsTheRest call
 
 -- ---- among other channels
 
--- A call on the channel with this number, in the words of `dma_chan::laws::channels_copy`, is this call from C. It is
+-- A call on the channel with this number, in the words of `dma_explain::laws::channels_copy`, is this call from C. It is
 -- lent the addresses of the regions, which are usable, and it reports the same.
 pub record IsCallOf (ch : ℕ) (from : StepCall) (call : Call) : Type 0 where
   pub does : DoesCall call

@@ -3,21 +3,21 @@ use Rattle.std.specs.Prelude.{◌≡◌, ◌≢◌, ℕ, ◌<◌, ◌≤◌, ◌
 use Rattle.std.specs.Option.{option_map}
 use Rattle.dma_mem.specs.declared.segment.Segment.{Segment}
 use Rattle.dma_insn.specs.AssemblyText.{most_program_bytes}
-use Rattle.dma_chan.specs.Explains.{Finds, Refuses}
+use Rattle.dma_explain.specs.Explains.{Finds, Refuses}
 use Rattle.dma_chan.specs.declared.bus.Bus.{Bus}
 use Rattle.dma_chan.specs.declared.bus.Bus.TheVariants.{Chip, Ideal}
 use Rattle.dma_chan.specs.declared.bus.BusWidth.{BusWidth}
 use Rattle.dma_chan.specs.declared.exec.Registers.{Registers}
 use Rattle.dma_chan.specs.Bus.{accepts}
 use Rattle.dma_chan.specs.Exec.{start_on}
-use Rattle.dma_chan.specs.declared.explain.Cause.{Cause}
-use Rattle.dma_chan.specs.declared.explain.Cause.TheVariants.{TooLong, Fails, LoadsPast, StoresPast, StoresFixed, DropsBytes, BytesLeft, StoresTwice, StoresSource, NoEnd, NoMemory}
-use Rattle.dma_chan.specs.declared.explain.Explained.{Explained}
-use Rattle.dma_chan.specs.declared.explain.Happening.{Happening}
-use Rattle.dma_chan.specs.declared.explain.Repeated.{Repeated}
-use Rattle.dma_chan.specs.declared.explain.Sync.{Sync}
-use Rattle.dma_chan.specs.declared.explain.Sync.TheVariants.{Waits, Signals}
-use Rattle.dma_chan.specs.declared.explain.Unexplained.{Unexplained}
+use Rattle.dma_explain.specs.declared.explain.Cause.{Cause}
+use Rattle.dma_explain.specs.declared.explain.Cause.TheVariants.{TooLong, Fails, LoadsPast, StoresPast, StoresFixed, DropsBytes, BytesLeft, StoresTwice, StoresSource, NoEnd, NoMemory}
+use Rattle.dma_explain.specs.declared.explain.Explained.{Explained}
+use Rattle.dma_explain.specs.declared.explain.Happening.{Happening}
+use Rattle.dma_explain.specs.declared.explain.Repeated.{Repeated}
+use Rattle.dma_explain.specs.declared.explain.Sync.{Sync}
+use Rattle.dma_explain.specs.declared.explain.Sync.TheVariants.{Waits, Signals}
+use Rattle.dma_explain.specs.declared.explain.Unexplained.{Unexplained}
 use Rattle.dma_device.specs.Device.{DeviceValue}
 use Rattle.dma_device.specs.Explaining.{IsLoadedAnd, program_of}
 use Rattle.dma_ffi.specs.declared.channel_calls.ChannelRegisters.{ChannelRegisters}

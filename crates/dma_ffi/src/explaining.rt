@@ -13,8 +13,8 @@ use crate::codes::{
 use crate::device_config::any_bus;
 use crate::kept_device::KeptDevice;
 use dma_chan::exec::Registers;
-use dma_chan::explain::{Cause, Explained, Happening, Repeated, Sync, Unexplained, explain};
 use dma_device::device::explain::ExplainFault;
+use dma_explain::explain::{Cause, Explained, Happening, Repeated, Sync, Unexplained, explain};
 use dma_mem::segment::Segment;
 use std::alloc::Global;
 

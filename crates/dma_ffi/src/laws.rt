@@ -20,7 +20,7 @@ pub fn exchanges_are_the_engines()
 {}
 
 /// A call from C that steps a channel and succeeds is one of the calls in
-/// [`copies_since_load`](dma_chan::laws::copies_since_load) and [`channels_copy`](dma_chan::laws::channels_copy). If a
+/// [`copies_since_load`](dma_explain::laws::copies_since_load) and [`channels_copy`](dma_explain::laws::channels_copy). If a
 /// transfer explains the channel's program, and all changes since its load left the transfer alone, or all were apart
 /// from it, as in these laws, then the transfer's first bytes are copied, as many as the channel counts, and the report
 /// says what the call did. A load from C that succeeds gives a channel such a program, if it loads a copy, a fill whose

@@ -193,8 +193,9 @@ fn wait(rest: &[u8]) -> Result<(Insn, usize), DecodeFault>
     Ok((Insn::Wfe { event, invalid }, 2))
 }
 
-// Decodes DMAMOV from its second byte.
-fn set_register(rest: &[u8]) -> Result<(Insn, usize), DecodeFault>
+/// Decodes DMAMOV from its second byte.
+#[inline(always)]
+pub fn set_register(rest: &[u8]) -> Result<(Insn, usize), DecodeFault>
     ensures { result ≡ set_by rest.now }
 {
     if rest.len() < 5 {

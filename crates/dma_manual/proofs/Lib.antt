@@ -14,5 +14,4 @@ mod Growth
 mod Listed
 mod OneLine
 mod Columns
-mod HexadecimalLemmas
 mod Rows

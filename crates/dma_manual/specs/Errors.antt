@@ -2,8 +2,8 @@
 use Rattle.std.specs.Prelude.{◌≡◌, ℕ, ◌+◌, ◌-◌, Bool, true, false, ◌==◌, ◌||◌, if◌then◌else◌, List, [], ◌∷◌, ◌++◌, length, take, drop, map, min, nat_le, codes, decimal, Option, Some, None, Result, Ok, Err}
 use Rattle.std.specs.Str.{bytes_eq}
 use Rattle.dma_insn.specs.AssemblyText.{text_lines}
-use Rattle.dma_script.specs.Command.{text_of}
-use Rattle.dma_script.specs.Printing.{program_lines}
+use Rattle.dma_io.specs.Command.{text_of}
+use Rattle.dma_io.specs.Printing.{program_lines}
 use Rattle.dma_manual.specs.ManualText.{end_name}
 use Rattle.dma_manual.specs.Words.{code_of, has_sign, plain_byte}
 use Rattle.dma_manual.specs.Assembled.{Read, assembled, label_in}

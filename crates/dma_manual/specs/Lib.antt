@@ -9,9 +9,6 @@ pub mod Statements
 pub mod Assembled
 pub mod Errors
 pub mod Laws
-pub mod Addresses
-pub mod Hexadecimal
-pub mod Answer
 pub mod Refusal
 pub mod Notes
 pub mod Forms

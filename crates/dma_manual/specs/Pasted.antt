@@ -5,7 +5,7 @@ use Rattle.dma_insn.specs.LineReading.{◌>>=◌}
 use Rattle.dma_manual.specs.Array.{is_of_array}
 use Rattle.dma_manual.specs.Dump.{Step, next_of}
 use Rattle.dma_manual.specs.Forms.{bytes_first, form, plain_forms, size_of, words_first}
-use Rattle.dma_manual.specs.Hexadecimal.{spelled}
+use Rattle.dma_io.specs.Hexadecimal.{spelled}
 use Rattle.dma_manual.specs.declared.array.ArrayPlace.{ArrayPlace}
 use Rattle.dma_manual.specs.declared.array.ArrayPlace.TheVariants.{Front, Rest}
 use Rattle.dma_manual.specs.Notes.{ends_at_once}
@@ -21,8 +21,8 @@ use Rattle.dma_manual.specs.declared.forms.Column.TheVariants.{Colon, Hex, Octal
 use Rattle.dma_manual.specs.declared.forms.Group.{Group}
 use Rattle.dma_manual.specs.declared.forms.Group.TheVariants.{Byte, Half, Word, Long, Octal as Octals}
 use Rattle.dma_manual.specs.declared.forms.Form.{Form}
-use Rattle.dma_manual.specs.declared.hexadecimal.Notation.{Notation}
-use Rattle.dma_manual.specs.declared.hexadecimal.Notation.TheVariants.{Pairs, Words}
+use Rattle.dma_io.specs.declared.hexadecimal.Notation.{Notation}
+use Rattle.dma_io.specs.declared.hexadecimal.Notation.TheVariants.{Pairs, Words}
 use Rattle.dma_manual.specs.declared.pasted.Fault.{Fault}
 use Rattle.dma_manual.specs.declared.pasted.Refused.{Refused}
 use Rattle.dma_manual.specs.declared.pasted.Refused.TheVariants.{Digits as BadDigits, Dump as BadDump, Ambiguous}

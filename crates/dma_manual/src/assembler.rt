@@ -10,7 +10,7 @@ use crate::errors::{AsmError, Wrong, note_of, word_at};
 use crate::manual::Side;
 use crate::warning::warning_of;
 use crate::words::{plain_line, split_line};
-use dma_script::printing::ProgramLines;
+use dma_io::printing::ProgramLines;
 use dma_text::text::print;
 use std::alloc::{AllocError, Global};
 

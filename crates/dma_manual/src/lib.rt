@@ -1,5 +1,5 @@
 //! Channel programs as text: in the syntax of the DMA-330's manual (ARM DDI 0424, instruction set and assembler
-//! directives), and in hexadecimal digits; and how the answer of a call about a program is written.
+//! directives), and in dumps.
 //!
 //! Contracts see a program and a text as lists of bytes.
 //!
@@ -7,13 +7,11 @@
 //! program or the text's first fault with its place, as a function of the text; the listing of a program assembles to
 //! the bytes that it shows, if they are at most 8,192 (`laws::listings_assemble`), and the text of each instruction to
 //! the instruction's bytes (`laws::texts_assemble`); `read_pasted` returns the bytes that digits or a dump spell, as
-//! definitions of their forms say, or why a text spells none; `deliver` writes an answer, unless a write fails.
+//! definitions of their forms say, or why a text spells none.
 //!
 //! Not proved: that syntax and defaults are those of the manual; that an allocation succeeds.
 #![tactic(auto)]
 
-mod addresses;
-pub mod answer;
 pub mod array;
 pub mod assembler;
 pub mod chip_only;
@@ -23,7 +21,6 @@ pub mod dump;
 pub mod errors;
 mod fields;
 pub mod forms;
-pub mod hexadecimal;
 pub mod insns;
 pub mod laws;
 mod line_contents;

@@ -6,8 +6,8 @@ ghost use Rattle.dma_manual.specs.Pasted.{applied, begun, colon_form, digits_of,
 use crate::array::{ArrayPlace, is_of_array};
 use crate::dump::{Cause, Effect, Place, Scan};
 use crate::forms::{Column, Form, Group, bytes_first, plain_forms, words_first};
-use crate::hexadecimal::{Notation, read_hexadecimal};
 use crate::notes::ends_at_once;
+use dma_io::hexadecimal::{Notation, read_hexadecimal};
 use std::alloc::{AllocError, Global};
 
 /// The most bytes that a dump has.

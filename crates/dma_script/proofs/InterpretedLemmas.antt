@@ -3,7 +3,7 @@ use Rattle.std.proofs.Common.{◌≡◌, ℕ, List, [], ◌∷◌, ◌++◌, ref
 use Rattle.std.proofs.lemmas.List.{append-nil}
 use Rattle.std.specs.List.{All}
 use Rattle.std.proofs.lemmas.List.Concat.{flat_map-append}
-use Rattle.dma_script.specs.Command.{text_of, printed_text}
+use Rattle.dma_io.specs.Command.{text_of, printed_text}
 use Rattle.dma_script.specs.Interpreted.{ActsInTurn, PrintsLine, PrintsLines}
 
 pub printed_text_append : (xs ys : List (List (List ℕ))) → printed_text (xs ++ ys) ≡ printed_text xs ++ printed_text ys

@@ -1,9 +1,8 @@
--- Lemmas on how a command ends, on lines, their words, and which are skipped, on parts of a line, on what a line means
--- and what is read of it, on the causes of faulty lines, on lines that run one after another, on numbers, hexadecimal
--- words and lists of segments; worked scripts.
+-- Lemmas on lines, their words, and which are skipped, on parts of a line, on what a line means and what is read of it,
+-- on the causes of faulty lines, on lines that run one after another, on numbers, hexadecimal words and lists of
+-- segments; worked scripts.
 pub mod Agreement
 pub mod CauseLemmas
-pub mod EndLemmas
 pub mod FaultLemmas
 pub mod HexLemmas
 pub mod InterpretedLemmas
@@ -15,7 +14,6 @@ pub mod PlainLines
 pub mod QueueLemmas
 pub mod Within
 pub mod Reading
-pub mod RowLemmas
 pub mod Rows
 pub mod SegmentLemmas
 pub mod Skipped

@@ -1,12 +1,10 @@
 -- Worked scripts, computed from the definitions.
 use Rattle.std.proofs.Common.{◌≡◌, List, ℕ, [], ◌∷◌, ◌++◌, codes, flat_map, Some, None, Ok, Err, refl}
 use Rattle.std.specs.List.{range_with_len}
-use Rattle.dma_script.specs.Command.{longest_input}
 use Rattle.dma_script.specs.Words.{number_of}
 use Rattle.dma_script.specs.Statements.{run_script_of}
 use Rattle.dma_script.specs.Race.{race_script_of}
 use Rattle.dma_text.specs.Digits.{hex_digits, spaced_bytes}
-use Rattle.dma_script.specs.Printing.{program_lines}
 use Rattle.dma_script.specs.Pairs.{pairs_of}
 use Rattle.dma_script.specs.Plan.{plain, plan_of}
 use Rattle.dma_script.specs.declared.fault.Cause.TheVariants.{Byte, Command, First, Words, Number, Hex, Range, SizeOutOfRange, BadChannels, Go}
@@ -90,12 +88,6 @@ printed_bytes = refl
 
 largest_memory : run_script_of (codes "memory 4294963200 8") ≡ Ok (record { size = 4294963200; channels = 8; statements = [] })
 largest_memory = refl
-
-no_program_line : program_lines [] ≡ []
-no_program_line = refl
-
-program_rows : program_lines (0 ∷ 1 ∷ 2 ∷ 3 ∷ 4 ∷ 5 ∷ 6 ∷ 7 ∷ 8 ∷ 9 ∷ 10 ∷ 11 ∷ 12 ∷ 13 ∷ 14 ∷ 15 ∷ 188 ∷ 64 ∷ []) ≡ codes "00 01 02 03 04 05 06 07 08 09 0A 0B 0C 0D 0E 0F" ∷ codes "BC 40" ∷ []
-program_rows = refl
 
 some_pairs : pairs_of (codes "22 fF" ++ 10 ∷ codes "0a" ++ 13 ∷ 9 ∷ []) ≡ Ok (34 ∷ 255 ∷ 10 ∷ [])
 some_pairs = refl
@@ -182,9 +174,6 @@ memory_after_go : race_script_of (after_memory (codes "go" ++ 10 ∷ codes "memo
 memory_after_go = refl
 
 -- ---- limits
-
-longest : longest_input ≡ 4194304
-longest = refl
 
 largest_number : number_of (codes "4294967295") ≡ Some 4294967295
 largest_number = refl

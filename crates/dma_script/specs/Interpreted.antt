@@ -1,6 +1,6 @@
 -- What lines print that run one after another, with any interpreter.
 use Rattle.std.specs.Prelude.{◌≡◌, ℕ, List, [], ◌∷◌, ◌++◌}
-use Rattle.dma_script.specs.Command.{text_of, printed_text}
+use Rattle.dma_io.specs.Command.{text_of, printed_text}
 
 -- A line ran: `acts` holds of the lines that it printed and the state `left` after it, and the text of these lines was
 -- appended.

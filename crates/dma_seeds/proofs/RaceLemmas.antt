@@ -10,7 +10,7 @@ use Rattle.dma_engine.specs.declared.turn.Turn.TheVariants.{Moved, Finished}
 use Rattle.dma_engine.specs.Interleaved.{JobTurn, turns_taken}
 use Rattle.dma_engine.specs.Turn.{Stepped, finishes_in, steps_in, turn}
 use Rattle.dma_engine.specs.View.{View}
-use Rattle.dma_script.specs.Command.{printed_text, text_of}
+use Rattle.dma_io.specs.Command.{printed_text, text_of}
 use Rattle.dma_script.specs.Interpreted.{ActsInTurn, PrintsLines}
 use Rattle.dma_script.specs.Race.{race_script_of}
 use Rattle.dma_script.specs.declared.fault.Fault.{Fault}

@@ -8,7 +8,7 @@ use Rattle.std.specs.Str.Lines.{lines}
 use Rattle.std.proofs.lemmas.Bool.{cases_Bool}
 use Rattle.std.proofs.lemmas.Fmt.{decimal_digit}
 use Rattle.std.proofs.lemmas.Result.{IfOk-at_ok, IfOk-weaker}
-use Rattle.dma_script.specs.Command.{text_of}
+use Rattle.dma_io.specs.Command.{text_of}
 use Rattle.dma_script.specs.Lines.{◌>>=◌, after_line, after_lines, at_line, is_skipped}
 use Rattle.dma_script.specs.Race.{IsRace, RaceRead, behind_memory, is_early, job_line, most_jobs, no_words, nothing_read, race_script_of, race_step, where_holds}
 use Rattle.dma_script.specs.Statements.{keyword_of, later_line, next_line, run_script_of, run_step}

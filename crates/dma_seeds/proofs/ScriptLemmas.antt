@@ -3,7 +3,7 @@ use Rattle.std.proofs.Common.{List, [], ◌∷◌, ◌++◌, ℕ, ◌≡◌, ap,
 use Rattle.std.proofs.lemmas.List.Concat.{flat_map-append}
 use Rattle.dma_engine.specs.Interleaved.{JobTurn, turns_taken}
 use Rattle.dma_engine.specs.View.{View}
-use Rattle.dma_script.specs.Command.{Printed, text_of}
+use Rattle.dma_io.specs.Command.{Printed, text_of}
 use Rattle.dma_script.specs.declared.statements.Statement.{Statement}
 use Rattle.dma_commands.specs.Left.{lines_left, view_after}
 use Rattle.dma_commands.specs.Raced.{first_view, step_groups, step_statements}

@@ -8,7 +8,7 @@ use Rattle.std.proofs.Math.Seq.{drop-append-add, get_or-append_seam, take-append
 use Rattle.std.proofs.lemmas.Bool.{cases_lt, ne_eqb, true≢false}
 use Rattle.std.proofs.lemmas.List.{get_or_past}
 use Rattle.std.proofs.lemmas.List.Sums.{AllPass-from_list_all, position_or_len_is}
-use Rattle.dma_script.specs.Command.{text_of}
+use Rattle.dma_io.specs.Command.{text_of}
 use Rattle.dma_script.specs.Words.{is_plain}
 use Rattle.dma_script.proofs.LineLemmas.{lines_first}
 

@@ -1,7 +1,7 @@
 -- What a race prints whose turns are taken in a given order (profile).
 use Rattle.std.specs.Prelude.{ℕ, List, Result, Ok, Err}
 use Rattle.dma_engine.specs.Interleaved.{JobTurn}
-use Rattle.dma_script.specs.Command.{Printed, refusal}
+use Rattle.dma_io.specs.Command.{Printed, refusal}
 use Rattle.dma_script.specs.Printing.{fault_line}
 use Rattle.dma_script.specs.Race.{race_script_of}
 use Rattle.dma_script.specs.declared.fault.Fault.{Fault}

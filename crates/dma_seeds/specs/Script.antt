@@ -3,7 +3,7 @@ use Rattle.std.specs.Prelude.{◌≡◌, ◌==◌, ℕ, if◌then◌else◌, Lis
 use Rattle.std.specs.Str.{bytes_eq}
 use Rattle.std.specs.Str.Lines.{lines}
 use Rattle.dma_engine.specs.Interleaved.{JobTurn, turns_taken}
-use Rattle.dma_script.specs.Command.{text_of}
+use Rattle.dma_io.specs.Command.{text_of}
 use Rattle.dma_script.specs.Race.{race_script_of}
 use Rattle.dma_script.specs.Statements.{run_script_of}
 use Rattle.dma_script.specs.Words.{words_of}

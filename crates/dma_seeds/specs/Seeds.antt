@@ -3,7 +3,7 @@ use Rattle.std.specs.Prelude.{ℕ, zero, suc, ◌+◌, ◌-◌, Bool, ◌==◌, 
 use Rattle.std.specs.List.{list_any, range_with_len}
 use Rattle.std.specs.Str.{bytes_eq}
 use Rattle.std.specs.Str.Lines.{lines}
-use Rattle.dma_script.specs.Command.{printed_text, text_of}
+use Rattle.dma_io.specs.Command.{printed_text, text_of}
 use Rattle.dma_script.specs.Printing.{fault_line}
 use Rattle.dma_script.specs.Race.{race_script_of}
 use Rattle.dma_script.specs.declared.fault.Fault.{Fault}

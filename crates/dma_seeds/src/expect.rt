@@ -4,13 +4,13 @@ ghost use Rattle.std.specs.Prelude.{◌≡◌, ◌≤◌, ◌++◌, IfOk, MatchO
 ghost use Rattle.std.specs.List.{sum};
 ghost use Rattle.std.specs.Option.{option_map};
 ghost use Rattle.std.specs.Str.Lines.{lines};
-ghost use Rattle.dma_script.specs.Command.{text_of};
+ghost use Rattle.dma_io.specs.Command.{text_of};
 ghost use Rattle.dma_script.specs.Words.{words_of};
 ghost use Rattle.dma_seeds.specs.Expect.{after_line, after_lines, compared, emptied, expected_in, has_expects, is_answered, is_good, missed_line, next_answer, spaced, verdict_on, verdict_text, without_expects};
 ghost use Rattle.dma_seeds.specs.inner.Measured.{pieces};
 
+use dma_io::printing::print_line;
 use dma_mem::lists::Bytes;
-use dma_script::printing::print_line;
 use dma_script::words::{next_word, split_line};
 use dma_text::bytes::is_text;
 use dma_text::text::Text;

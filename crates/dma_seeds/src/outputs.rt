@@ -6,8 +6,8 @@ ghost use Rattle.std.specs.Str.{bytes_eq};
 ghost use Rattle.dma_seeds.specs.Seeds.{indented, number_of_things, numbered, output_text};
 ghost use Rattle.dma_seeds.specs.inner.Counted.{counted};
 
+use dma_io::printing::print_line;
 use dma_mem::lists::Bytes;
-use dma_script::printing::print_line;
 use dma_script::words::split_line;
 use dma_text::text::{Text, print};
 use std::alloc::AllocError;

@@ -6,7 +6,7 @@ ghost use Rattle.std.specs.Str.Lines.{lines};
 ghost use Rattle.dma_engine.specs.Interleaved.{turns_taken};
 ghost use Rattle.dma_engine.specs.Turn.{finishes_in, steps_in, turn};
 ghost use Rattle.dma_engine.specs.View.{new_view};
-ghost use Rattle.dma_script.specs.Command.{printed_text};
+ghost use Rattle.dma_io.specs.Command.{printed_text};
 ghost use Rattle.dma_script.specs.Race.{IsRace};
 ghost use Rattle.dma_script.specs.Statements.{IsWithin};
 ghost use Rattle.dma_commands.specs.Left.{lines_left};
@@ -22,9 +22,9 @@ use crate::expect::{Verdict, lines_verdict, without_expects};
 use crate::turns::Turns;
 use dma_commands::run::{new_engine, run_line};
 use dma_engine::{Call, Engine, EngineFault, Reply, Turn};
+use dma_io::printing::print_line;
 use dma_script::fault::ScriptError;
 use dma_script::interpreter::Interpreter;
-use dma_script::printing::print_line;
 use dma_script::race::{RaceScript, read_race_script};
 use dma_script::statements::{RunScript, Statement, Statements};
 use std::alloc::{AllocError, Global};
@@ -38,7 +38,7 @@ pub(crate) struct MeasuredEngine {
 
 impl Interpreter for MeasuredEngine {
     ghost use Rattle.std.specs.Prelude.{◌++◌, ◌∷◌, [], length};
-    ghost use Rattle.dma_script.specs.Command.{text_of};
+    ghost use Rattle.dma_io.specs.Command.{text_of};
 
     type Line = Statement;
 

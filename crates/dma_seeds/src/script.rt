@@ -9,8 +9,8 @@ ghost use Rattle.dma_seeds.specs.Turns.{turns_of_seed};
 
 use crate::expect::without_expects;
 use crate::turns::Turns;
+use dma_io::printing::print_line;
 use dma_script::fault::ScriptError;
-use dma_script::printing::print_line;
 use dma_script::race::{JobLine, read_race_script};
 use dma_script::words::{next_word, split_line};
 use dma_text::bytes::is_text;

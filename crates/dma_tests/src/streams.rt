@@ -2,10 +2,10 @@
 
 ghost use Rattle.std.specs.Prelude.{Some, IsTrue};
 
-use dma_script::command::{Command, SUCCESS, serve};
-use dma_script::input::Source;
-use dma_script::output::Sink;
-use dma_script::printing::print_line;
+use dma_io::command::{Command, SUCCESS, serve};
+use dma_io::input::Source;
+use dma_io::output::Sink;
+use dma_io::printing::print_line;
 use std::alloc::{AllocError, Global};
 use std::io;
 use std::io::{ErrorKind, Read, Write};

@@ -9,17 +9,17 @@ use Rattle.dma_insn.specs.declared.chip.Address.TheVariants.{Destination}
 use Rattle.dma_insn.specs.declared.insn.Reg.TheVariants.{Ccr, Dar}
 use Rattle.dma_chan.specs.declared.bus.Bus.{Bus}
 use Rattle.dma_chan.specs.declared.exec.Registers.{Registers}
-use Rattle.dma_chan.specs.declared.explain.Cause.TheVariants.{Fails}
-use Rattle.dma_chan.specs.declared.explain.Unexplained.{Unexplained}
+use Rattle.dma_explain.specs.declared.explain.Cause.TheVariants.{Fails}
+use Rattle.dma_explain.specs.declared.explain.Unexplained.{Unexplained}
 use Rattle.dma_chan.specs.declared.turn.FaultKind.{FaultKind}
 use Rattle.dma_chan.specs.declared.turn.FaultKind.TheVariants.{MfifoErr, StDataUnavailable}
 use Rattle.dma_chan.specs.Bursts.{burst_len, touched}
 use Rattle.dma_chan.specs.Exec.{buffer_size, destination_of, moved, source_of, start_on}
-use Rattle.dma_chan.specs.Explains.{GoesOn, Trace, after_fetch, after_insn, held, next_in, stop_of, stop_of_insn, traced, untraced}
+use Rattle.dma_explain.specs.Explains.{GoesOn, Trace, after_fetch, after_insn, held, next_in, stop_of, stop_of_insn, traced, untraced}
 use Rattle.dma_chan.specs.Next.{next_on}
 use Rattle.dma_chan.proofs.ControlWords.{moves_some}
-use Rattle.dma_chan.proofs.GoingOn.{can, dropped, none_first}
-use Rattle.dma_chan.proofs.TracerBursts.{length_touched}
+use Rattle.dma_explain.proofs.GoingOn.{can, dropped, none_first}
+use Rattle.dma_explain.proofs.TracerBursts.{length_touched}
 use Rattle.dma_trace.specs.declared.front.Front.{Front}
 use Rattle.dma_trace.specs.Explained.{unexplained_text}
 use Rattle.dma_trace.specs.Touches.{after_next, after_touch, conflict_text, touches_in}

@@ -7,10 +7,10 @@ use Rattle.dma_mem.specs.Lent.{lies_in_any}
 use Rattle.dma_mem.specs.Places.{end_of_addresses}
 use Rattle.dma_mem.specs.Regions.{Piece, in_order}
 use Rattle.dma_chan.specs.declared.exec.Registers.{Registers}
-use Rattle.dma_chan.specs.declared.explain.Explained.{Explained}
-use Rattle.dma_chan.specs.declared.explain.Repeated.{Repeated}
+use Rattle.dma_explain.specs.declared.explain.Explained.{Explained}
+use Rattle.dma_explain.specs.declared.explain.Repeated.{Repeated}
 use Rattle.dma_chan.specs.Exec.{start_on}
-use Rattle.dma_chan.specs.Explains.{Finds}
+use Rattle.dma_explain.specs.Explains.{Finds}
 use Rattle.dma_trace.specs.declared.options.TraceOptions.{TraceOptions}
 use Rattle.dma_trace.specs.Found.{ShowsAlone, most_explained, ranges_of, zero_piece}
 use Rattle.dma_trace.specs.inner.Explaining.{ShowsOver}

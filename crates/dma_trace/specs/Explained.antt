@@ -3,16 +3,16 @@ use Rattle.std.specs.Prelude.{◌≡◌, ℕ, ◌-◌, ◌==◌, ◌++◌, ◌<�
 use Rattle.dma_mem.specs.declared.segment.Segment.{Segment}
 use Rattle.dma_insn.specs.AssemblyText.{most_program_bytes}
 use Rattle.dma_chan.specs.declared.bus.Bus.{Bus}
-use Rattle.dma_chan.specs.declared.explain.Amounts.{Amounts}
-use Rattle.dma_chan.specs.declared.explain.BurstCounts.{BurstCounts}
-use Rattle.dma_chan.specs.declared.explain.Explained.{Explained}
-use Rattle.dma_chan.specs.declared.explain.Happening.{Happening}
-use Rattle.dma_chan.specs.declared.explain.Repeated.{Repeated}
-use Rattle.dma_chan.specs.declared.explain.Sync.{Sync}
-use Rattle.dma_chan.specs.declared.explain.Sync.TheVariants.{Waits, Signals}
-use Rattle.dma_chan.specs.declared.explain.Unexplained.{Unexplained}
+use Rattle.dma_explain.specs.declared.explain.Amounts.{Amounts}
+use Rattle.dma_explain.specs.declared.explain.BurstCounts.{BurstCounts}
+use Rattle.dma_explain.specs.declared.explain.Explained.{Explained}
+use Rattle.dma_explain.specs.declared.explain.Happening.{Happening}
+use Rattle.dma_explain.specs.declared.explain.Repeated.{Repeated}
+use Rattle.dma_explain.specs.declared.explain.Sync.{Sync}
+use Rattle.dma_explain.specs.declared.explain.Sync.TheVariants.{Waits, Signals}
+use Rattle.dma_explain.specs.declared.explain.Unexplained.{Unexplained}
 use Rattle.dma_chan.specs.Exec.{start_on}
-use Rattle.dma_chan.specs.Explains.{Finds, Refuses, bursts_in, next_in, traced}
+use Rattle.dma_explain.specs.Explains.{Finds, Refuses, bursts_in, next_in, traced}
 use Rattle.dma_trace.specs.Front.{front_at}
 use Rattle.dma_trace.specs.Touches.{conflict_text, touches_in}
 use Rattle.dma_trace.specs.Warnings.{warnings_of, warnings_text}

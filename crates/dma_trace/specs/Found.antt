@@ -5,9 +5,9 @@ use Rattle.dma_mem.specs.declared.regions.Region.{Region}
 use Rattle.dma_mem.specs.declared.segment.Segment.{Segment}
 use Rattle.dma_mem.specs.Lent.{lies_in_any}
 use Rattle.dma_mem.specs.Regions.{Piece, in_order, pieces_of}
-use Rattle.dma_chan.specs.declared.explain.Explained.{Explained}
+use Rattle.dma_explain.specs.declared.explain.Explained.{Explained}
 use Rattle.dma_chan.specs.Exec.{start_on}
-use Rattle.dma_chan.specs.Explains.{Finds}
+use Rattle.dma_explain.specs.Explains.{Finds}
 use Rattle.dma_trace.specs.declared.options.TraceOptions.{TraceOptions}
 use Rattle.dma_trace.specs.Explained.{Prints}
 use Rattle.dma_trace.specs.Traced.{Shows}

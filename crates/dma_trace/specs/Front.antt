@@ -8,7 +8,7 @@ use Rattle.dma_chan.specs.declared.bursts.Burst.{Burst}
 use Rattle.dma_chan.specs.declared.exec.Registers.{Registers}
 use Rattle.dma_chan.specs.Bursts.{advance, burst_len, drops, span_of}
 use Rattle.dma_chan.specs.Exec.{destination_of, moved, source_of}
-use Rattle.dma_chan.specs.Explains.{Trace, held}
+use Rattle.dma_explain.specs.Explains.{Trace, held}
 use Rattle.dma_trace.specs.declared.front.Front.{Front}
 use Rattle.dma_trace.specs.declared.front.Span.{Span}
 

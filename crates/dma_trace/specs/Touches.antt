@@ -5,11 +5,11 @@ use Rattle.dma_text.specs.Digits.{hex_digits}
 use Rattle.dma_insn.specs.declared.chip.ChipInsn.{ChipInsn}
 use Rattle.dma_insn.specs.declared.chip.ChipInsn.TheVariants.{Ld, St, StoreZeros}
 use Rattle.dma_chan.specs.declared.bus.Bus.{Bus}
-use Rattle.dma_chan.specs.declared.explain.Cause.{Cause}
-use Rattle.dma_chan.specs.declared.explain.Cause.TheVariants.{StoresTwice, StoresSource}
+use Rattle.dma_explain.specs.declared.explain.Cause.{Cause}
+use Rattle.dma_explain.specs.declared.explain.Cause.TheVariants.{StoresTwice, StoresSource}
 use Rattle.dma_chan.specs.declared.turn.FaultKind.{FaultKind}
 use Rattle.dma_chan.specs.Exec.{destination_of, source_of, start_on}
-use Rattle.dma_chan.specs.Explains.{next_in, traced}
+use Rattle.dma_explain.specs.Explains.{next_in, traced}
 use Rattle.dma_trace.specs.declared.front.Front.{Front}
 use Rattle.dma_trace.specs.declared.front.Span.{Span}
 use Rattle.dma_trace.specs.declared.touches.Access.{Access}

@@ -12,7 +12,7 @@ use Rattle.dma_mem.specs.declared.regions.Region.{Region}
 use Rattle.dma_mem.specs.Lent.{marks_at}
 use Rattle.dma_mem.specs.Regions.{Piece, image_of, pieces_of, run_from}
 use Rattle.dma_chan.specs.LentRegions.{segment_of, with_gaps_of}
-use Rattle.dma_chan.specs.declared.explain.Cause.TheVariants.{NoEnd}
+use Rattle.dma_explain.specs.declared.explain.Cause.TheVariants.{NoEnd}
 use Rattle.dma_chan.specs.declared.turn.ChanTurn.{ChanTurn}
 use Rattle.dma_chan.specs.declared.turn.ChanTurn.TheVariants.{Moved, Waiting, Ended, Fault}
 use Rattle.dma_chan.specs.declared.turn.FaultKind.{FaultKind}

@@ -11,8 +11,8 @@ use Rattle.dma_insn.specs.declared.control.ControlFault.TheVariants.{ReservedSiz
 use Rattle.dma_manual.specs.ChipOnly.{chip_only_name, needs_chip_bus}
 use Rattle.dma_manual.specs.ManualText.{manual_text}
 use Rattle.dma_chan.specs.declared.bus.Bus.{Bus}
-use Rattle.dma_chan.specs.declared.explain.Cause.{Cause}
-use Rattle.dma_chan.specs.declared.explain.Cause.TheVariants as causes
+use Rattle.dma_explain.specs.declared.explain.Cause.{Cause}
+use Rattle.dma_explain.specs.declared.explain.Cause.TheVariants as causes
 use Rattle.dma_chan.specs.declared.turn.FaultKind.{FaultKind}
 use Rattle.dma_chan.specs.declared.turn.FaultKind.TheVariants.{UndefInstr, OperandInvalid, MfifoErr, StDataUnavailable, InstrFetchErr, DataWriteErr, DataReadErr}
 use Rattle.dma_chan.specs.Bursts.{burst_len}

@@ -4,7 +4,7 @@
 ghost use Rattle.std.specs.Prelude.{◌≡◌, ◌<◌, ◌≤◌, ◌++◌, ℕ, OnOk, OnErr, IfOk, flat_map, length};
 ghost use Rattle.dma_insn.specs.AssemblyText.{most_program_bytes};
 ghost use Rattle.dma_chan.specs.Exec.{start_on};
-ghost use Rattle.dma_chan.specs.Explains.{GoesOn, next_in, traced};
+ghost use Rattle.dma_explain.specs.Explains.{GoesOn, next_in, traced};
 ghost use Rattle.dma_chan.specs.Next.{next_on};
 ghost use Rattle.dma_text.specs.Text.{Begins};
 ghost use Rattle.dma_trace.specs.Explained.{Appends, amounts_text, bursts_text, unexplained_text, event_line, explained_text, segment_line, source_line};
@@ -20,11 +20,11 @@ use crate::warnings::{push_warnings, warnings_of};
 use crate::words::{LongProgram, Place, Point, State, Why, first_byte};
 use dma_chan::bus::Bus;
 use dma_chan::exec::Registers;
-use dma_chan::explain as runs;
-use dma_chan::explain::{
+use dma_chan::turn::FaultKind;
+use dma_explain::explain as runs;
+use dma_explain::explain::{
     Amounts, BurstCounts, Cause, Explained, Happening, Repeated, Sync, Unexplained,
 };
-use dma_chan::turn::FaultKind;
 use dma_insn::chip::{ChipInsn, decode_chip, decode_core};
 use dma_insn::codec::DecodeFault;
 use dma_mem::segment::Segment;

@@ -1,6 +1,6 @@
 //! What a program copies and sets to 0, and a trace of its instructions, as text.
 //!
-//! Proved: `explain::explain` prints what `dma_chan::explain::explain` finds (`Finds`) and the counts of its bursts
+//! Proved: `explain::explain` prints what `dma_explain::explain::explain` finds (`Finds`) and the counts of its bursts
 //! (`bursts_in`) or, if nothing explains the program, the cause and the place (`Refuses`) with the registers there. If
 //! a byte is stored twice or over a source, it also prints the lowest such address and the instructions that touch it
 //! first (`touches_in`). It prints warnings about the program's loops in each case (`warnings_of`). `trace::trace`

@@ -11,7 +11,7 @@ ghost use Rattle.dma_mem.specs.Refusals.{total};
 ghost use Rattle.dma_mem.specs.Regions.{in_order, pieces_of};
 ghost use Rattle.dma_trace.specs.Found.{ranges_of, zero_piece};
 
-use dma_chan::explain::Explained;
+use dma_explain::explain::Explained;
 use dma_mem::ordered::sort_by_address;
 use dma_mem::regions::Region;
 use dma_mem::segment::Segment;

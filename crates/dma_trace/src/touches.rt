@@ -6,7 +6,7 @@ ghost use Rattle.dma_trace.specs.Touches.{access_text, after_touch, conflict_tex
 
 use crate::amounts::Offset;
 use crate::front::Front;
-use dma_chan::explain::Cause;
+use dma_explain::explain::Cause;
 use dma_insn::chip::ChipInsn;
 use dma_text::text::{Address, Text};
 use std::alloc::AllocError;

@@ -1,7 +1,7 @@
 -- Texts that are appended piece by piece.
 use Rattle.std.proofs.Common.{◌≡◌, ℕ, List, [], ◌∷◌, ◌++◌, ap, sym, ◌∙◌, append_assoc, append-nil}
 use Rattle.dma_engine.specs.View.{View}
-use Rattle.dma_script.specs.Command.{printed_text, text_of}
+use Rattle.dma_io.specs.Command.{printed_text, text_of}
 
 -- a line of three texts and a line feed, and what follows it
 pub line_text : (o x f s nl ev a b c d e : List ℕ) → a ≡ o ++ x → b ≡ a ++ f → c ≡ b ++ s → d ≡ c ++ nl → e ≡ d ++ ev → e ≡ o ++ ((((x ++ f) ++ s) ++ nl) ++ ev)

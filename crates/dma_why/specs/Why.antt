@@ -15,7 +15,7 @@ use Rattle.dma_engine.specs.Cookies.{transfer_of}
 use Rattle.dma_engine.specs.Object.{Object, channel, finished, no_transfer, unfinished}
 use Rattle.dma_engine.specs.Turn.{turn}
 use Rattle.dma_engine.specs.View.{View, channels, object_of}
-use Rattle.dma_script.specs.Command.{Printed, refusal}
+use Rattle.dma_io.specs.Command.{Printed, refusal}
 use Rattle.dma_script.specs.Printing.{fault_line}
 use Rattle.dma_script.specs.Statements.{run_script_of}
 use Rattle.dma_script.specs.declared.fault.Fault.{Fault}

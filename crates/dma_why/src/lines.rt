@@ -7,7 +7,7 @@ ghost use Rattle.dma_mem.specs.Places.{size_of};
 ghost use Rattle.dma_engine.specs.Object.{channel, finished};
 ghost use Rattle.dma_engine.specs.Answer.{done_on, result_of};
 ghost use Rattle.dma_engine.specs.View.{channels, object_of};
-ghost use Rattle.dma_script.specs.Command.{text_of};
+ghost use Rattle.dma_io.specs.Command.{text_of};
 ghost use Rattle.dma_why.specs.Waits.{holders, waits_of};
 ghost use Rattle.dma_why.specs.Why.{address_text, channel_lines, circle_lines, cookie_text, ending_text, event_lines, explanation, failed_at, front_text, last_text, signaller_line, signaller_lines, state_text, texts_between, transfer_or_none};
 
@@ -15,8 +15,8 @@ use crate::circles::circle_from;
 use crate::waits::{Cookie, Wait, holders, signallers, waits};
 use dma_commands::printing::Shown;
 use dma_engine::{Engine, EngineFault, Outcome, TransResult, Turn};
+use dma_io::printing::print_line;
 use dma_mem::transfer::Transfer;
-use dma_script::printing::print_line;
 use dma_text::text::{Address, Text};
 use std::alloc::{AllocError, Global};
 

@@ -1,15 +1,15 @@
 //! Why each channel is where it is after a script.
 
 ghost use Rattle.std.specs.Prelude.{◌≡◌, ◌==◌, ◌++◌, IfOk, Ok, OnErr, OnOk};
-ghost use Rattle.dma_script.specs.Command.{printed_text};
+ghost use Rattle.dma_io.specs.Command.{printed_text};
 ghost use Rattle.dma_script.specs.Statements.{IsWithin};
 ghost use Rattle.dma_why.specs.Laws.{CirclesStayAfter};
 ghost use Rattle.dma_why.specs.Why.{why_printed, why_printed_of};
 
 use crate::lines::push_explanation;
 use dma_commands::run::engine_after;
+use dma_io::printing::print_line;
 use dma_script::fault::ScriptError;
-use dma_script::printing::print_line;
 use dma_script::statements::{RunScript, read_run_script};
 use std::alloc::{AllocError, Global};
 

@@ -111,12 +111,12 @@ pub same_many : (v w : View) → w.base ≡ v.base → channels w ≡ channels v
 same_many v w same =
     many_channels w.base w.history ∙ ap (λ (o : Object). length o.channels) same ∙ sym (many_channels v.base v.history)
 
-module _ (opening : View) (base : Board) (log : TableId) where
+module _ (opening : View) (base : Board) (table : TableId) where
   board : List Tick → PublishedList
-  board ticks = record { base = base; ticks = ticks; log = log }
+  board ticks = record { base = base; ticks = ticks; table = table }
 
   -- a call that adds ticks, which are published, and counts in the book as it does in the engine
-  kept_by : (old new : EngineState) (p q : PublisherState) (b e : Totals) (more : List Tick) (moves finishes : ℕ) → Adds old.view new.view more moves finishes → new.view.base ≡ old.view.base → q ≡ record p { shown = list_and p.shown more } → e.steps ≡ b.steps + moves → e.finished + e.terminated ≡ b.finished + b.terminated + finishes → IsKept opening base log old p b → IsKept opening base log new q e
+  kept_by : (old new : EngineState) (p q : PublisherState) (b e : Totals) (more : List Tick) (moves finishes : ℕ) → Adds old.view new.view more moves finishes → new.view.base ≡ old.view.base → q ≡ record p { shown = list_and p.shown more } → e.steps ≡ b.steps + moves → e.finished + e.terminated ≡ b.finished + b.terminated + finishes → IsKept opening base table old p b → IsKept opening base table new q e
   unfolding board
   kept_by old new p q b e more moves finishes a same is steps done k = rw is (record {
     shown = ap (λ (x : PublishedList). list_and x more) k.shown
@@ -132,7 +132,7 @@ module _ (opening : View) (base : Board) (log : TableId) where
   })
 
   -- a call that changes no view
-  pub kept_still : (old new : EngineState) (p : PublisherState) (b : Totals) → new.view ≡ old.view → IsKept opening base log old p b → IsKept opening base log new p b
+  pub kept_still : (old new : EngineState) (p : PublisherState) (b : Totals) → new.view ≡ old.view → IsKept opening base table old p b → IsKept opening base table new p b
   kept_still old new p b same k = record {
     shown = rw same k.shown;
     opens = rw same k.opens;
@@ -143,7 +143,7 @@ module _ (opening : View) (base : Board) (log : TableId) where
   }
 
   -- a call that gives no cookie and finishes none
-  pub kept_quiet : (old new : EngineState) (p : PublisherState) (b : Totals) (call : Call) (reply : Reply) → IsQuiet call → CallAnswers old.view call reply new.view → IsKept opening base log old p b → IsKept opening base log new p b
+  pub kept_quiet : (old new : EngineState) (p : PublisherState) (b : Totals) (call : Call) (reply : Reply) → IsQuiet call → CallAnswers old.view call reply new.view → IsKept opening base table old p b → IsKept opening base table new p b
   kept_quiet old new p b call reply q h k =
       let t = quiet_calls_keep_counts old.view new.view call reply q h in
       let a : Adds old.view new.view [] 0 0 = record {
@@ -154,22 +154,22 @@ module _ (opening : View) (base : Board) (log : TableId) where
       kept_by old new p p b b [] 0 0 a (answers_extend old.view new.view call reply (quiet_extends call reply q) h).0 (no_more p) (omega arith) (omega arith) k
 
   -- a step
-  pub kept_step : (old new : EngineState) (p q : PublisherState) (b : Totals) (ch : ℕ) (r : Result Turn EngineFault) → StepAnswers old.view ch r new.view → q ≡ record p { shown = list_and p.shown (ticks_in ch r) } → IsKept opening base log old p b → IsKept opening base log new q (stepped_book b r)
+  pub kept_step : (old new : EngineState) (p q : PublisherState) (b : Totals) (ch : ℕ) (r : Result Turn EngineFault) → StepAnswers old.view ch r new.view → q ≡ record p { shown = list_and p.shown (ticks_in ch r) } → IsKept opening base table old p b → IsKept opening base table new q (stepped_book b r)
   kept_step old new p q b ch r h is k =
       kept_by old new p q b (stepped_book b r) (ticks_in ch r) (steps_in r) (finishes_in r) (steps_add old.view new.view ch r h) (answers_extend old.view new.view (Step ch) (reply_of Turned r) refl h).0 is refl (omega arith) k
 
   -- consecutive steps
-  pub kept_advance : (old new : EngineState) (p q : PublisherState) (b : Totals) (ch most : ℕ) (a : Advanced) → IsAdvance old.view ch most a new.view → q ≡ record p { shown = list_and p.shown (ticks_counted ch a) } → IsKept opening base log old p b → IsKept opening base log new q (advanced_book b a)
+  pub kept_advance : (old new : EngineState) (p q : PublisherState) (b : Totals) (ch most : ℕ) (a : Advanced) → IsAdvance old.view ch most a new.view → q ≡ record p { shown = list_and p.shown (ticks_counted ch a) } → IsKept opening base table old p b → IsKept opening base table new q (advanced_book b a)
   kept_advance old new p q b ch most a h is k =
       kept_by old new p q b (advanced_book b a) (ticks_counted ch a) (steps_counted a) (finishes_counted a) (advance_adds old.view new.view ch most a h) (advance_keeps old.view new.view ch most a h).0.0 is refl (omega arith) k
 
   -- the engine added one more tick, and it was published
-  pub kept_next : (old new : EngineState) (p q : PublisherState) (b e : Totals) (t u : Tick) (moves finishes : ℕ) → Adds old.view new.view (u ∷ []) moves finishes → new.view.base ≡ old.view.base → t ≡ u → q ≡ record p { shown = list_with p.shown t } → e.steps ≡ b.steps + moves → e.finished + e.terminated ≡ b.finished + b.terminated + finishes → IsKept opening base log old p b → IsKept opening base log new q e
+  pub kept_next : (old new : EngineState) (p q : PublisherState) (b e : Totals) (t u : Tick) (moves finishes : ℕ) → Adds old.view new.view (u ∷ []) moves finishes → new.view.base ≡ old.view.base → t ≡ u → q ≡ record p { shown = list_with p.shown t } → e.steps ≡ b.steps + moves → e.finished + e.terminated ≡ b.finished + b.terminated + finishes → IsKept opening base table old p b → IsKept opening base table new q e
   kept_next old new p q b e t u moves finishes a from is published steps done k =
       kept_by old new p q b e (u ∷ []) moves finishes a from (published ∙ ap (λ x. record p { shown = list_with p.shown x }) is) steps done k
 
   -- a checkpoint: what was published comes before the new history
-  pub kept_checkpoint : (old new : EngineState) (p q : PublisherState) (b : Totals) → IsSound old.view → CallAnswers old.view Checkpoint Done new.view → q ≡ record p { before = p.shown.ticks } → IsKept opening base log old p b → IsKept opening base log new q b
+  pub kept_checkpoint : (old new : EngineState) (p q : PublisherState) (b : Totals) → IsSound old.view → CallAnswers old.view Checkpoint Done new.view → q ≡ record p { before = p.shown.ticks } → IsKept opening base table old p b → IsKept opening base table new q b
   unfolding board
   kept_checkpoint old new p q b sound h is k =
       let c = checkpoints_keep old.view new.view sound h in
@@ -188,8 +188,8 @@ module _ (opening : View) (base : Board) (log : TableId) where
       })
 
 -- The same desk under a new name, with an empty book.
-pub kept_anew : (opening opening_now : View) (base base_now : Board) (log log_now : TableId) (engine : EngineState) (p : PublisherState) (b e : Totals) → IsKept opening base log engine p b → Names opening_now base_now log_now (record { engine = engine; base = base; log = log }) → (e.steps ≡ 0) × (e.finished ≡ 0) × (e.terminated ≡ 0) → IsKept opening_now base_now log_now engine p e
-kept_anew opening opening_now base base_now log log_now engine p b e k names none = record {
+pub kept_anew : (opening opening_now : View) (base base_now : Board) (table table_now : TableId) (engine : EngineState) (p : PublisherState) (b e : Totals) → IsKept opening base table engine p b → Names opening_now base_now table_now (record { engine = engine; base = base; table = table }) → (e.steps ≡ 0) × (e.finished ≡ 0) × (e.terminated ≡ 0) → IsKept opening_now base_now table_now engine p e
+kept_anew opening opening_now base base_now table table_now engine p b e k names none = record {
   shown = rw (names.1, names.2) k.shown;
   opens = rw names.1 k.opens;
   small = rw names.1 k.small;
@@ -208,9 +208,9 @@ board_counts base before v opens h ch less =
 
 -- ---- what a ticket shows
 
-module _ (opening : View) (base : Board) (log : TableId) where
+module _ (opening : View) (base : Board) (table : TableId) where
   -- the cookie of a submit is given in the list that is published then
-  pub given_in : (new : EngineState) (q : PublisherState) (b : Totals) (v : View) (ch cookie : ℕ) (t : Descriptor) (list : List Tick) → CallAnswers v (Submit ch t) (Cookie cookie) new.view → IsSound new.view → IsKept opening base log new q b → list ≡ q.shown.ticks → IsGiven base list ch cookie
+  pub given_in : (new : EngineState) (q : PublisherState) (b : Totals) (v : View) (ch cookie : ℕ) (t : Descriptor) (list : List Tick) → CallAnswers v (Submit ch t) (Cookie cookie) new.view → IsSound new.view → IsKept opening base table new q b → list ≡ q.shown.ticks → IsGiven base list ch cookie
   given_in new q b v ch cookie t list h sound k is =
       let s = submits_add v new.view ch cookie t h in
       let all = is ∙ ap (λ (x : PublishedList). x.ticks) k.shown in
@@ -219,7 +219,7 @@ module _ (opening : View) (base : Board) (log : TableId) where
       (s.2, omega (arith, at, s.3))
 
   -- and after a terminate all cookies of its channel are finished
-  pub finished_in : (new : EngineState) (q : PublisherState) (b : Totals) (v : View) (ch count through : ℕ) (list : List Tick) → CallAnswers v (Terminate ch) (Count count) new.view → IsSound new.view → IsKept opening base log new q b → list ≡ q.shown.ticks → through ≡ used (channel (object_of new.view) ch) → AreFinished base list ch through
+  pub finished_in : (new : EngineState) (q : PublisherState) (b : Totals) (v : View) (ch count through : ℕ) (list : List Tick) → CallAnswers v (Terminate ch) (Count count) new.view → IsSound new.view → IsKept opening base table new q b → list ≡ q.shown.ticks → through ≡ used (channel (object_of new.view) ch) → AreFinished base list ch through
   finished_in new q b v ch count through list h sound k is through_is =
       let s = terminates_add v new.view ch count h in
       let all = is ∙ ap (λ (x : PublishedList). x.ticks) k.shown in

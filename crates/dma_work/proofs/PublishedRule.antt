@@ -13,7 +13,7 @@ use Rattle.atomic_table.specs.Table.{Act, Allows, Joins, Me, Splits, State, keep
 use Rattle.atomic_table.proofs.Lists.{at_set, at_snoc, exchanged}
 use Rattle.dma_engine.specs.Ticks.{Board, Counts, Tick, Submitted, Finished, counts, no_counts, ticked}
 use Rattle.dma_work.specs.declared.board.Sight.{Sight}
-use Rattle.dma_work.specs.inner.Published.{AreWords, IsKnown, Keeps, WasLearnt, WasLooked, adds, first_sight, learns, longer, looks, offered, packed, reads, stays, told, unpacked}
+use Rattle.dma_work.specs.inner.Published.{AreWords, IsKnown, Keeps, WasLearnt, WasLooked, adds, first_sight, learns, longer, looks, offered, packed, reads, stays, new_sight, unpacked}
 use Rattle.dma_work.specs.declared.tick.Change.{Change}
 use Rattle.dma_work.specs.declared.tick.Change.TheVariants.{Given, Finished as ChangeFinished}
 use Rattle.dma_work.specs.inner.TickForms.{changed, channel_of, tick_of}
@@ -221,15 +221,15 @@ adds_kept base slots id i old new me t writes inside low high old_is new_is s k 
 -- ---- seats
 
 -- a new seat has learnt what the writer or a reader has seen
-pub told_kept : (base : Board) (id : ℕ) (v : Sight) → Splits (Keeps base) id v v (told v)
+pub new_sight_kept : (base : Board) (id : ℕ) (v : Sight) → Splits (Keeps base) id v v (new_sight v)
 unfolding Known
-told_kept base id v s k at =
+new_sight_kept base id v s k at =
     let o = k.known id v at in
     let same = set_known base k.ticks s.views id v k.known o in
     record {
       ticks = k.ticks;
       known = λ j u there.
-          ⊎_elim (same j u) (λ (is : told v ≡ u). subst (IsKnown base k.ticks j) is (reader_known base k.ticks j (told v) refl o.base_is o.seen o.seen (k.ticks, refl))) (at_snoc (slice_set s.views id v) (told v) u j there);
+          ⊎_elim (same j u) (λ (is : new_sight v ≡ u). subst (IsKnown base k.ticks j) is (reader_known base k.ticks j (new_sight v) refl o.base_is o.seen o.seen (k.ticks, refl))) (at_snoc (slice_set s.views id v) (new_sight v) u j there);
       eight = k.eight;
       small = k.small;
       many = k.many;

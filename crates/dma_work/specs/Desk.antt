@@ -20,7 +20,7 @@ use Rattle.dma_work.specs.declared.worker.Totals.{Totals}
 pub record PartsState : Type 0 where
   pub engine : EngineState
   pub base : Board
-  pub log : TableId
+  pub table : TableId
 
 -- A desk: its engine, its book of totals, and the ticks that were published before those of the engine's history. There
 -- are none before the desk's first checkpoint.
@@ -46,7 +46,7 @@ pub record CountsSince (opening v : View) (book : Totals) : Type 0 where
 
 -- These parts have this view, base and table.
 abbrev pub Names : View → Board → TableId → PartsState → Type 0
-Names opening base log p = (opening ≡ p.engine.view) × (base ≡ p.base) × (log ≡ p.log)
+Names opening base table p = (opening ≡ p.engine.view) × (base ≡ p.base) × (table ≡ p.table)
 
 -- The book is unchanged, and so are the ticks that were published before those of the history.
 abbrev pub SameBook : DeskState → DeskState → Type 0

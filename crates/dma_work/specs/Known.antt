@@ -7,10 +7,10 @@ use Rattle.dma_engine.specs.Ticks.{Board, Tick}
 -- has seen, and the longest list that it has learnt.
 pub record Known : Type 0 where
   pub base : Board
-  pub log : TableId
+  pub table : TableId
   pub seen : List Tick
   pub learnt : List Tick
 
 -- what a reader knows that has seen and learnt exactly this list
 abbrev pub knows : Board → TableId → List Tick → Known
-knows base log ticks = record { base = base; log = log; seen = ticks; learnt = ticks }
+knows base table ticks = record { base = base; table = table; seen = ticks; learnt = ticks }

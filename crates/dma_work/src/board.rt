@@ -7,7 +7,7 @@ ghost use Rattle.dma_engine.specs.Ticks.{board_of, counts};
 ghost use Rattle.dma_engine.specs.declared.turn.Status.TheVariants.{Unknown};
 ghost use Rattle.dma_work.specs.Laws.{AreCounts};
 ghost use Rattle.dma_work.specs.Ticks.{StartsWith, base_of, status_after};
-ghost use Rattle.dma_work.specs.inner.Published.{AreWords, WasLearnt, first_sight, offered, packed, told, unpacked};
+ghost use Rattle.dma_work.specs.inner.Published.{AreWords, WasLearnt, first_sight, offered, packed, new_sight, unpacked};
 ghost use Rattle.dma_work.specs.inner.TickForms.{changed};
 
 use crate::desk::DeskName;
@@ -169,11 +169,11 @@ impl TableRule<Tick, Sight, Counts> for Published {
 
 // A new reader or a ticket knows what the writer knows.
 impl Split<Sight> for Published {
-    ghost use Rattle.dma_work.specs.inner.Published.{told};
+    ghost use Rattle.dma_work.specs.inner.Published.{new_sight};
 
     ghost left = { λ v. v };
 
-    ghost right = { told };
+    ghost right = { new_sight };
 }
 
 // A reader takes over what a ticket knows.
@@ -315,10 +315,10 @@ impl Place {
     }
 
     /// Returns a seat that has seen and learnt the list.
-    pub fn tell(&mut self) -> TickSeat
+    pub fn new_seat(&mut self) -> TickSeat
         ensures id { self.new.seat.table_id ≡ self.old.seat.table_id }
         ensures sight { self.new.seat.me.0 ≡ self.old.seat.me.0 }
-        ensures told { result.me ≡ (told self.old.seat.me.0, []) }
+        ensures seen { result.me ≡ (new_sight self.old.seat.me.0, []) }
         ensures at { result.table_id ≡ self.old.seat.table_id }
     {
         let table = &self.table.shared;
@@ -330,14 +330,14 @@ impl Place {
     pub fn reader(&mut self, places: usize) -> Option<Place>
         ensures id { self.new.seat.table_id ≡ self.old.seat.table_id }
         ensures sight { self.new.seat.me.0 ≡ self.old.seat.me.0 }
-        ensures told { IfSome result (λ p. p.seat.me.0 ≡ told self.old.seat.me.0) }
+        ensures seen { IfSome result (λ p. p.seat.me.0 ≡ new_sight self.old.seat.me.0) }
         ensures at { IfSome result (λ p. p.seat.table_id ≡ self.old.seat.table_id) }
     {
         if self.table.shared.peek(READERS) >= places as u64 {
             return None;
         }
         let table = Arc::try_clone(&self.table).ok()?;
-        let mut seat = self.tell();
+        let mut seat = self.new_seat();
         table.shared.fetch_add::<Stays>(&mut seat, READERS, 1);
         Some(Place { table, seat })
     }

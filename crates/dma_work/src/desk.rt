@@ -37,7 +37,7 @@ pub trait DeskName {
     ghost base: { Board };
 
     // the table at which the published list is read
-    ghost log: { TableId };
+    ghost table: { TableId };
 
     ghost opening: { View };
 
@@ -50,7 +50,7 @@ impl DeskName for Brand {
 
     ghost base = { [] };
 
-    ghost log = { record {
+    ghost table = { record {
       words = 0;
       slots = 0;
       views_name = 0;
@@ -85,13 +85,13 @@ impl<N: DeskName> Model for Desk<N> {
 
     ghost view = { λ d. record { engine = d.engine; book = d.book; before = d.publisher.before } };
 
-    ghost invariant = { λ d. IsKept N.opening N.base N.log d.engine d.publisher d.book };
+    ghost invariant = { λ d. IsKept N.opening N.base N.table d.engine d.publisher d.book };
 }
 
 impl<N: DeskName> Desk<N> {
     /// Returns a desk of these parts, with an empty book. N names the parts.
     pub fn new(parts: Parts) -> Desk<N>
-        requires { Names N.opening N.base N.log parts }
+        requires { Names N.opening N.base N.table parts }
         ensures { result ≡ record { engine = parts.engine; book = no_totals; before = [] } }
     {
         let Parts { engine, publisher } = parts;
@@ -105,8 +105,8 @@ impl<N: DeskName> Desk<N> {
 
     /// Names the desk anew, with an empty book. M names the desk as it is.
     pub(crate) fn named_anew<M: DeskName>(self) -> Desk<M>
-        requires { Names M.opening M.base M.log
-            (record { engine = self.engine; base = N.base; log = N.log }) }
+        requires { Names M.opening M.base M.table
+            (record { engine = self.engine; base = N.base; table = N.table }) }
         ensures { result ≡ record { engine = self.engine; book = no_totals; before = self.before } }
     {
         let Desk {
@@ -156,7 +156,7 @@ impl<N: DeskName> Desk<N> {
     /// Returns one more reader, which has seen what is published, or `None` if no place is free. There are as many
     /// places as [`Parts::new`] made readers, or one if it made none. A reader that is dropped frees its place.
     pub fn reader(&mut self) -> Option<StatusReader>
-        ensures seen { IfSome result (λ r. r ≡ knows N.base N.log (published self.old)) }
+        ensures seen { IfSome result (λ r. r ≡ knows N.base N.table (published self.old)) }
         ensures same { self.new ≡ self.old }
     {
         self.publisher.reader()

@@ -19,6 +19,7 @@
 
 mod board;
 mod desk;
+mod gate;
 mod job;
 pub mod laws;
 mod publisher;
@@ -32,12 +33,11 @@ mod tick;
 mod worker;
 
 pub use desk::{Desk, DeskName};
+pub use gate::{Gate, InARow, NoGate};
 pub use job::Job;
 pub use publisher::{MAX_READERS, Parts, ShareFault, ShareFaultKind};
 pub use reader::{Closed, Receipt, StatusReader, Ticket};
 pub use rota::Rota;
 pub use shared::{MissingTally, Shared, run_workers, settle, work};
 pub use shift::{Shift, run_shift};
-pub use worker::{
-    Borrower, Gate, InARow, Lender, Locked, NoGate, Stepper, Tally, Totals, take_turns, work_at,
-};
+pub use worker::{Borrower, Lender, Locked, Stepper, Tally, Totals, take_turns, work_at};

@@ -8,7 +8,7 @@ ghost use Rattle.dma_engine.specs.Laws.{ticks_in};
 ghost use Rattle.dma_engine.specs.Ticks.{ticks_of};
 ghost use Rattle.dma_work.specs.Known.{Known, knows};
 ghost use Rattle.dma_work.specs.Laws.{AreCounts};
-ghost use Rattle.dma_work.specs.inner.Published.{HasActed, list_and, list_at, list_with, told};
+ghost use Rattle.dma_work.specs.inner.Published.{HasActed, list_and, list_at, list_with, new_sight};
 ghost use Rattle.dma_work.specs.Ticks.{base_of};
 
 use crate::board::{Place, TickSeat};
@@ -75,7 +75,7 @@ impl Publisher {
         ensures small { AreCounts (base_of engine.now.view) }
     {
         let mut place = Place::new(alloc, engine)?;
-        let before = place.tell();
+        let before = place.new_seat();
         add_all(&mut place, engine);
         Some(Publisher {
             place,
@@ -88,7 +88,7 @@ impl Publisher {
     /// maximum.
     pub fn reader(&mut self) -> Option<StatusReader>
         ensures seen { IfSome result (λ r.
-            r ≡ knows self.old.shown.base self.old.shown.log self.old.shown.ticks) }
+            r ≡ knows self.old.shown.base self.old.shown.table self.old.shown.ticks) }
         ensures same { self.new ≡ self.old }
     {
         let place = self.place.reader(self.places)?;
@@ -109,7 +109,7 @@ impl Publisher {
         ensures carries { result.me.1 ≡ [] }
         ensures same { self.new ≡ self.old }
     {
-        self.place.tell()
+        self.place.new_seat()
     }
 
     /// Takes a step of an engine, and publishes the tick of a finished cookie.
@@ -182,7 +182,7 @@ impl Model for Parts {
     ghost view = { λ p. record {
       engine = p.engine;
       base = p.publisher.shown.base;
-      log = p.publisher.shown.log;
+      table = p.publisher.shown.table;
     } };
 
     ghost invariant = { λ p.
@@ -228,7 +228,7 @@ impl Parts {
         ensures counts { IfOk result (λ r. AreCounts r.0.base) }
         ensures count { IfOk result (λ r. (vec_len r.1 ≡ readers) × (readers ≤ 8)) }
         ensures readers { IfOk result (λ r. All (λ (s : Known).
-            s ≡ knows r.0.base r.0.log (ticks_of engine.view.history)) r.1.items) }
+            s ≡ knows r.0.base r.0.table (ticks_of engine.view.history)) r.1.items) }
         ensures fault { IfErr result
             (λ f. (f.fault ≡ ShareFaultKind.BadReaders) ↔ (8 < readers)) }
         ensures back { IfErr result (λ f. f.engine ≡ engine) }
@@ -252,7 +252,7 @@ fn published(
     ensures small { OnOk result (AreCounts (base_of engine.now.view)) }
     ensures count { IfOk result (λ r. (vec_len r.1 ≡ count) × (count ≤ 8)) }
     ensures readers { IfOk result (λ r. All (λ (s : Known).
-        s ≡ knows r.0.shown.base r.0.shown.log r.0.shown.ticks) r.1.items) }
+        s ≡ knows r.0.shown.base r.0.shown.table r.0.shown.ticks) r.1.items) }
     ensures fault { IfErr result (λ f. (f ≡ ShareFaultKind.BadReaders) ↔ (8 < count)) }
 {
     if count > MAX_READERS {

@@ -24,12 +24,12 @@ impl<N: DeskName> Model for Ticket<N> {
 
     ghost view = { λ t. t.list.me.0.seen };
 
-    ghost invariant = { λ t. (t.list.table_id ≡ N.log) × (t.list.me.1 ≡ []) };
+    ghost invariant = { λ t. (t.list.table_id ≡ N.table) × (t.list.me.1 ≡ []) };
 }
 
 impl<N: DeskName> Ticket<N> {
     pub(crate) fn new(list: TickSeat) -> Ticket<N>
-        requires { (list.table_id ≡ N.log) × (list.me.1 ≡ []) }
+        requires { (list.table_id ≡ N.table) × (list.me.1 ≡ []) }
         ensures { result ≡ list.me.0.seen }
     {
         Ticket {
@@ -100,7 +100,7 @@ impl StatusReader {
     /// Learns a ticket: from then on each status is that of a list that begins with the ticket's list. N names this
     /// reader's list.
     pub fn learn<N: DeskName>(&mut self, ticket: Ticket<N>)
-        requires { (N.log ≡ self.old.log) × (N.base ≡ self.old.base) }
+        requires { (N.table ≡ self.old.table) × (N.base ≡ self.old.base) }
         ensures seen { self.new ≡ record (self.old) { learnt = self.new.learnt } }
         // the longer of the two lists
         ensures one { (self.new.learnt ≡ self.old.learnt) ⊎ (self.new.learnt ≡ ticket) }

@@ -8,8 +8,10 @@ ghost use Rattle.dma_work.specs.Tallies.{TookTurns};
 ghost use Rattle.dma_work.specs.inner.Rows.{AreMore, CountsOne, HasPassed};
 
 use crate::desk::{Desk, DeskName};
+use crate::gate::Gate;
 use crate::job::Job;
-use crate::worker::{Gate, Tally};
+use crate::shared::locked;
+use crate::worker::Tally;
 use std::marker::Model;
 use std::sync::{Mutex, MutexGuard, Wait};
 
@@ -139,7 +141,7 @@ pub(crate) fn work_in_rows<N: DeskName, R: Wait, G: Gate>(
     while left > 0 {
         let row = left.min(u64::from(longest)) as u32;
         pass(rt, gate, worker, job.turns - left, row);
-        let mut desk = lock.lock(rt);
+        let mut desk = locked(rt, lock);
         turns.take(rt, &mut desk, row);
         MutexGuard::unlock(desk);
         left -= u64::from(row);

@@ -7,16 +7,26 @@ ghost use Rattle.dma_work.specs.Tallies.{AreTallies, TookTurns};
 ghost use Rattle.dma_work.specs.inner.Begun.{IsBegun, IsOf};
 
 use crate::desk::{Desk, DeskName};
+use crate::gate::Gate;
 use crate::job::Job;
 use crate::publisher::Parts;
 use crate::rows::work_in_rows;
-use crate::worker::{Gate, Locked, Tally, Totals, work_at};
+use crate::worker::{Locked, Tally, Totals, work_at};
 use core::mem::replace;
 use dma_engine::{Engine, NoMemory};
 use std::alloc::Global;
 use std::marker::PhantomData;
-use std::sync::{Mutex, Wait};
+use std::sync::{Mutex, MutexGuard, Wait};
 use std::thread::{self, Promise, PromisedHandle, Scope, Threads};
+
+// Takes a lock. A free one is taken inline, without a call.
+#[inline(always)]
+pub(crate) fn locked<'a, D, R: Wait>(rt: &R, mutex: &'a Mutex<D>) -> MutexGuard<'a, D> {
+    match mutex.try_lock() {
+        Some(guard) => guard,
+        None => mutex.lock(rt),
+    }
+}
 
 /// A desk that threads share. A thread that has the lock uses the desk's methods; the desk's invariant holds each time.
 ///
@@ -29,7 +39,7 @@ pub struct Shared<N: DeskName> {
 impl<N: DeskName> Shared<N> {
     /// Returns a desk of these parts behind a lock. N names the parts.
     pub fn new(parts: Parts) -> Shared<N>
-        requires { Names N.opening N.base N.log parts }
+        requires { Names N.opening N.base N.table parts }
     {
         Shared::of(Desk::new(parts))
     }

@@ -50,8 +50,8 @@ impl<N: DeskName> Shift<N> {
     /// Names a desk anew, with an empty book, and begins to work on the jobs of a rota. N names the desk as it is, and
     /// the jobs.
     pub fn new<M: DeskName>(desk: Desk<M>, rota: Rota) -> Shift<N>
-        requires names { Names N.opening N.base N.log
-            (record { engine = desk.engine; base = M.base; log = M.log }) }
+        requires names { Names N.opening N.base N.table
+            (record { engine = desk.engine; base = M.base; table = M.table }) }
         requires jobs { N.jobs ≡ rota }
         ensures desk { result.desk
             ≡ record { engine = desk.engine; book = no_totals; before = desk.before } }

@@ -9,7 +9,9 @@ ghost use Rattle.dma_work.specs.Rotation.{StepsInTurn};
 ghost use Rattle.dma_work.specs.Tallies.{TookTurnsAt};
 
 use crate::desk::{Desk, DeskName};
+use crate::gate::Gate;
 use crate::job::Job;
+use crate::shared::locked;
 use dma_engine::{Advanced, EngineFault, Turn};
 use std::marker::{Model, PhantomData};
 use std::sync::{Mutex, MutexGuard, Wait};
@@ -159,56 +161,6 @@ impl Totals {
     }
 }
 
-/// A gate, which a worker passes before each of its turns, without the lock. It may wait. Contracts see that a worker
-/// has passed it before its turn `n` as `passes worker n`.
-pub trait Gate: Sync {
-    ghost use Rattle.std.specs.Prelude.{ℕ};
-
-    ghost passes: { ℕ → ℕ → Type 0 };
-
-    /// Called when worker `worker` is about to take its turn `n`, the first of which is 1.
-    fn turn<R: Wait>(&self, rt: &R, worker: u32, n: u64)
-        ensures { passes worker n };
-
-    /// Returns how many turns in a row a worker may take with the desk's lock held; 0 is like 1, the default. The worker
-    /// passes the gate for all turns of a row, in order, before it takes the lock. So a gate must return 1 if it waits
-    /// for something that another worker does between two turns of this one. It is asked once for a job.
-    fn most_in_a_row(&self) -> u32 {
-        1
-    }
-}
-
-/// A gate that never waits.
-#[derive(Clone, Copy)]
-pub struct NoGate;
-
-impl Gate for NoGate {
-    ghost passes = { λ worker n. Unit {0} };
-
-    /// Returns at once.
-    fn turn<R: Wait>(&self, _rt: &R, _worker: u32, _n: u64) {}
-}
-
-/// A gate that never waits. A worker takes up to this many turns in a row with the desk's lock held.
-#[derive(Clone, Copy, Debug)]
-pub struct InARow(pub u32);
-
-impl Gate for InARow {
-    ghost use Rattle.std.specs.Prelude.{◌≡◌};
-
-    ghost passes = { λ worker n. Unit {0} };
-
-    /// Returns at once.
-    fn turn<R: Wait>(&self, _rt: &R, _worker: u32, _n: u64) {}
-
-    /// Returns the number that it was made with.
-    fn most_in_a_row(&self) -> u32
-        ensures { result ≡ self.now.0 }
-    {
-        self.0
-    }
-}
-
 /// Takes the turns of a worker, each of which steps one channel. The worker passes the gate before each turn. Contracts
 /// see the worker's number, how many turns it has taken, and the effect of a turn on a channel.
 pub trait Stepper<G: Gate> {
@@ -290,8 +242,9 @@ impl<'a, D> Lender<D> for Locked<'a, D> {
     ghost lends = { λ before lent back after. Unit {0} };
 
     /// Takes the lock, lends the value, and releases the lock.
+    #[inline(always)]
     fn lend<R: Wait, B: Borrower<D>>(&mut self, rt: &R, to: &mut B) {
-        let mut value = self.lock.lock(rt);
+        let mut value = locked(rt, self.lock);
         to.borrow(rt, &mut value);
         MutexGuard::unlock(value);
     }
@@ -313,6 +266,7 @@ impl<N: DeskName> Borrower<Desk<N>> for StepAt<N> {
     ghost does = { λ s d t e. CountsAStep N.opening s.ch s.tally d t.tally e };
 
     /// Steps the desk's channel.
+    #[inline(always)]
     fn borrow<R: Wait>(&mut self, rt: &R, lent: &mut Desk<N>) {
         // gives the proof access to the desk's invariant
         let _engine = lent.engine();
@@ -375,6 +329,7 @@ impl<N: DeskName, L: Lender<Desk<N>>, G: Gate> Stepper<G> for Worker<N, L> {
     }
 
     /// Borrows the desk, and steps its channel.
+    #[inline(always)]
     fn turn<R: Wait>(&mut self, rt: &R, ch: u8) {
         self.step.ch = ch;
         self.lender.lend(rt, &mut self.step);

@@ -9,7 +9,7 @@ use Rattle.dma_engine.specs.Interleaved.{Interleaves, rotation, turns_taken}
 use Rattle.dma_engine.specs.View.{View}
 use Rattle.dma_work.specs.Shift.{channels_of_job}
 use Rattle.dma_work.specs.declared.job.Job.{Job}
-use Rattle.dma_script.specs.Command.{Answers, MayAnswer, Printed, printed_text, refusal}
+use Rattle.dma_io.specs.Command.{Answers, MayAnswer, Printed, printed_text, refusal}
 use Rattle.dma_script.specs.Interpreted.{ActsInTurn, PrintsLine, PrintsLines, StopsAtALine}
 use Rattle.dma_script.specs.Lines.{Gives}
 use Rattle.dma_script.specs.Printing.{error_line, fault_line}

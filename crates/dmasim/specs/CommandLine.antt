@@ -1,7 +1,7 @@
 -- Which command a word of the command line names, and how a run of the program ends.
 use Rattle.std.specs.Prelude.{ℕ, ◌∷◌, [], if◌then◌else◌, List, Option, Some, None, IfSome, codes}
 use Rattle.std.specs.Str.{bytes_eq}
-use Rattle.dma_script.specs.Command.{Ends, Failures, Printed, Wrote, may_print_within, printed_within, text_of}
+use Rattle.dma_io.specs.Command.{Ends, Failures, Printed, Wrote, may_print_within, printed_within, text_of}
 use Rattle.dmasim.specs.declared.command_line.Subcommand.{Subcommand}
 use Rattle.dmasim.specs.declared.command_line.Subcommand.TheVariants.{Asm, Dis, Plan, Run, Race}
 use Rattle.dma_commands.specs.Assembled.{asm_printed}

@@ -1,6 +1,6 @@
 //! Selects a command by its word and runs it over a reader and a writer.
 ghost use Rattle.std.specs.Prelude.{◌≡◌, ◌≤◌, ◌+◌, None, IfSome};
-ghost use Rattle.dma_script.specs.Command.{Ends, failures, longest_input};
+ghost use Rattle.dma_io.specs.Command.{Ends, failures, longest_input};
 ghost use Rattle.dmasim.specs.CommandLine.{WordEnds, subcommand_may_print, subcommand_of};
 
 use crate::race::race_script;
@@ -8,9 +8,9 @@ use dma_commands::asm::asm_main;
 use dma_commands::dis::dis_main;
 use dma_commands::plan::plan_main;
 use dma_commands::run::run_script;
-use dma_script::command::finish;
-use dma_script::input::Source;
-use dma_script::output::Sink;
+use dma_io::command::finish;
+use dma_io::input::Source;
+use dma_io::output::Sink;
 use std::alloc::Global;
 use std::sync::Wait;
 use std::thread::Threads;

@@ -10,7 +10,7 @@ mod race;
 use clap::error::ErrorKind;
 use clap::{Command, Error};
 use command_line::serve_word;
-use dma_script::command::OUT_OF_MEMORY;
+use dma_io::command::OUT_OF_MEMORY;
 use std::alloc::Global;
 use std::process::ExitCode;
 use std::{env, io};

@@ -3,7 +3,7 @@
 ghost use Rattle.std.specs.Prelude.{◌≡◌, ◌≤◌, ◌+◌, OnErr, IfOk, IfSome};
 ghost use Rattle.std.specs.List.{All};
 ghost use Rattle.dma_engine.specs.View.{new_view};
-ghost use Rattle.dma_script.specs.Command.{Ends, MayAnswer, failures, longest_input, may_print_within};
+ghost use Rattle.dma_io.specs.Command.{Ends, MayAnswer, failures, longest_input, may_print_within};
 ghost use Rattle.dma_script.specs.Race.{IsEarly, IsJob, IsRace};
 ghost use Rattle.dma_script.specs.Statements.{IsWithin};
 ghost use Rattle.dma_work.specs.Desk.{Names};
@@ -15,10 +15,10 @@ mod early;
 use crate::race::early::run_early_statements;
 use dma_commands::run::{new_engine, run_statements};
 use dma_engine::Engine;
-use dma_script::command::{Command, refuse, serve};
-use dma_script::input::Source;
-use dma_script::output::Sink;
-use dma_script::printing::print_line;
+use dma_io::command::{Command, refuse, serve};
+use dma_io::input::Source;
+use dma_io::output::Sink;
+use dma_io::printing::print_line;
 use dma_script::race::{JobLine, MAX_JOBS, RaceScript, read_race_script};
 use dma_script::statements::{RunScript, Statements};
 use dma_work::{Desk, DeskName, Job, Parts, Rota, ShareFaultKind, Shift, StatusReader, run_shift};
@@ -62,8 +62,8 @@ fn go<M: DeskName, N: DeskName + Send + Sync, R: Threads + Wait + Sync>(
     rota: Rota,
     out: &mut Vec<u8>,
 ) -> Result<Engine, AllocError>
-    requires names { Names N.opening N.base N.log
-        (record { engine = desk.engine; base = M.base; log = M.log }) }
+    requires names { Names N.opening N.base N.table
+        (record { engine = desk.engine; base = M.base; table = M.table }) }
     requires jobs { N.jobs ≡ rota }
     ensures ok { IfOk result (λ engine. PrintsTotals desk.engine.view rota engine.view
         out.old.items out.new.items) }
@@ -93,8 +93,8 @@ fn raced<M: DeskName, R: Threads + Wait + Sync>(
     rota: Rota,
     out: &mut Vec<u8>,
 ) -> Result<Engine, AllocError>
-    requires names { Names M.opening M.base M.log parts }
-    requires follows { (M.log ≡ reader.log) × (M.base ≡ reader.base) }
+    requires names { Names M.opening M.base M.table parts }
+    requires follows { (M.table ≡ reader.table) × (M.base ≡ reader.base) }
     requires early { All IsEarly lines }
     ensures ok { IfOk result (λ engine. PrintsGo parts.engine.view lines rota engine.view
         out.old.items out.new.items) }
@@ -118,7 +118,7 @@ fn parts_of<R: Wait>(
     requires { IsWithin script.now }
     ensures { IfOk result (λ made. IfSome made
         (λ p. (p.0.engine.view ≡ new_view script.now.size script.now.channels)
-        × (p.0.log ≡ p.1.log) × (p.0.base ≡ p.1.base))) }
+        × (p.0.table ≡ p.1.table) × (p.0.base ≡ p.1.base))) }
 {
     let engine = new_engine(alloc, script)?;
     match Parts::new(rt, alloc, engine, 1) {
@@ -166,7 +166,7 @@ impl<R: Threads + Wait + Sync> Command for Race<'_, R> {
     ghost use Rattle.std.specs.Prelude.{◌<◌, [], Ok, Err, codes, length, refl};
     ghost use Rattle.std.specs.Thread.{IsSync};
     ghost use Rattle.std.proofs.Math.Nat.{zero-lt-suc};
-    ghost use Rattle.dma_script.specs.Command.{Printed, refusal};
+    ghost use Rattle.dma_io.specs.Command.{Printed, refusal};
     ghost use Rattle.dma_script.specs.Printing.{fault_line};
     ghost use Rattle.dma_script.specs.Race.{race_script_of};
     ghost use Rattle.dma_commands.specs.Raced.{no_reader, race_may_print, race_prints_of, raced_refused};

@@ -1,12 +1,12 @@
 //! Stores of a channel: from its buffer to memory.
 
 ghost use Rattle.std.specs.Prelude.{◌≡◌, ◌+◌, ◌*◌, ◌≤◌, ◌<◌, ◌++◌, IsTrue, IsNone, Bool, List, length, take, drop};
-ghost use Rattle.circular_buffer.specs.Buffer.{buffer as ring};
 ghost use Rattle.dma_insn.specs.declared.chip.ChipInsn.TheVariants.{St};
 ghost use Rattle.dma_insn.specs.AssemblyText.{most_program_bytes};
 ghost use Rattle.dma_mem.specs.Image.{put};
 ghost use Rattle.dma_mem.specs.Lent.{Avoids, with_gaps};
 ghost use Rattle.dma_chan.specs.Bursts.{burst_len, touched, writes_of, reaches, span_of};
+ghost use Rattle.dma_chan.specs.inner.Fifo.{fifo};
 ghost use Rattle.dma_chan.specs.inner.Spans.{LieIn, MovesSome};
 ghost use Rattle.dma_chan.specs.Exec.{destination_of, act, buffer_size, state};
 ghost use Rattle.dma_chan.specs.Ready.{none_missing};
@@ -14,56 +14,14 @@ ghost use Rattle.dma_chan.specs.inner.Acts.{FaultsWith};
 
 use crate::bursts::{Burst, destination_burst, may_touch};
 use crate::exec::Executor;
+use crate::fifo::Fifo;
 use crate::turn::{ChanTurn, FaultKind};
-use circular_buffer::HeapCircularBuffer;
 use dma_mem::marks::{MarkKind, Marks};
 use dma_mem::ram::Ram;
 
-// Returns the first `count` bytes of two slices, as two slices.
-fn first_of<'a>(front: &'a [u8], back: &'a [u8], count: usize) -> (&'a [u8], &'a [u8])
-    requires { count ≤ length (front.now ++ back.now) }
-    ensures bytes { result.0.now ++ result.1.now ≡ take count (front.now ++ back.now) }
-    ensures len { length result.0.now + length result.1.now ≡ count }
-{
-    let of_front = front.len().min(count);
-    (&front[..of_front], &back[..count - of_front])
-}
-
-// Returns what follows the first `count` bytes of two slices, as two slices.
-#[tactic(auto, using(crate::proofs::BurstRounds::drop_parts))]
-fn past<'a>(front: &'a [u8], back: &'a [u8], count: usize) -> (&'a [u8], &'a [u8])
-    requires { count ≤ length (front.now ++ back.now) }
-    ensures bytes { result.0.now ++ result.1.now ≡ drop count (front.now ++ back.now) }
-    ensures len { length result.0.now + length result.1.now + count
-        ≡ length front.now + length back.now }
-{
-    let of_front = front.len().min(count);
-    (&front[of_front..], &back[count - of_front..])
-}
-
-// Stores the first bytes of two slices as a burst. Bytes that a later beat would overwrite are not written.
-#[inline(never)]
-fn store_parts<M: Ram>(burst: Burst, front: &[u8], back: &[u8], memory: &mut M)
-    requires some { MovesSome burst }
-    requires limit { (burst.size ≤ 16) × (burst.beats ≤ 16) }
-    requires bytes { burst_len burst ≤ length (front.now ++ back.now) }
-    requires within { burst.addr + span_of burst ≤ length (M.paged memory.old).image }
-    requires clear { Avoids (M.loan memory.old).gaps burst.addr (span_of burst) }
-    requires ready { IsTrue (none_missing (M.paged memory.old) (touched burst)) }
-    ensures written { (M.paged memory.new).image ≡ put (M.paged memory.old).image
-        (writes_of burst (take (burst_len burst) (front.now ++ back.now))) }
-    ensures pages { (M.paged memory.new).made ≡ (M.paged memory.old).made }
-    ensures loan { M.loan memory.new ≡ M.loan memory.old }
-{
-    let len = burst.len() as usize;
-    let (front, back) = first_of(front, back, len);
-    let (front, back) = past(front, back, len - burst.span().len as usize);
-    memory.write_parts(burst.addr, front, back);
-}
-
-// Stores the oldest bytes of the buffer as a burst. In the common case they are written as one slice.
+// Stores the oldest bytes of the buffer as a burst. Bytes that a later beat would overwrite are not written.
 #[inline(always)]
-fn store_span<M: Ram>(burst: Burst, buffer: &mut HeapCircularBuffer<u8>, memory: &mut M)
+fn store_span<M: Ram>(burst: Burst, buffer: &mut Fifo, memory: &mut M)
     requires some { MovesSome burst }
     requires limit { (burst.size ≤ 16) × (burst.beats ≤ 16) }
     requires bytes { burst_len burst ≤ length buffer.old.items }
@@ -74,17 +32,14 @@ fn store_span<M: Ram>(burst: Burst, buffer: &mut HeapCircularBuffer<u8>, memory:
         (writes_of burst (take (burst_len burst) buffer.old.items)) }
     ensures pages { (M.paged memory.new).made ≡ (M.paged memory.old).made }
     ensures taken { buffer.new
-        ≡ ring (drop (burst_len burst) buffer.old.items) buffer.old.capacity }
+        ≡ fifo (drop (burst_len burst) buffer.old.items) buffer.old.capacity }
     ensures loan { M.loan memory.new ≡ M.loan memory.old }
 {
     let len = burst.len() as usize;
-    let (front, back) = buffer.as_slices();
-    if burst.increments && len <= front.len() {
-        memory.write_parts(burst.addr, &front[..len], &[]);
-    } else {
-        store_parts(burst, front, back, memory);
-    }
-    buffer.truncate_front(buffer.len() - len);
+    let overwritten = len - burst.span().len as usize;
+    let bytes = &buffer.as_slice()[..len];
+    memory.write_parts(burst.addr, &bytes[overwritten..], &[]);
+    buffer.drop_front(len);
 }
 
 // Returns the fault of DMAST, whose burst is `burst`. If it is `None`, the buffer has the bytes of the burst, and the

@@ -89,8 +89,7 @@ impl Channel {
         ensures channel { IsChannelValue self.now }
     {
         let head = self.head();
-        let (front, back) = self.executor.buffer.as_slices();
-        let program = self.program.bytes();
-        write(&head, front, back, program)
+        let buffer = self.executor.buffer.as_slice();
+        write(&head, buffer, self.program.bytes())
     }
 }

@@ -169,7 +169,7 @@ impl Head {
         if !head.fits(save.len()) {
             return None;
         }
-        let again = write(&head, head.buffer_of(save), &[], head.program_of(save));
+        let again = write(&head, head.buffer_of(save), head.program_of(save));
         if again.as_slice() == save {
             Some(head)
         } else {

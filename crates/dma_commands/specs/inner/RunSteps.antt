@@ -3,7 +3,7 @@ use Rattle.std.specs.Prelude.{◌≡◌, ℕ, ◌++◌, List, [], Option, OnErr,
 use Rattle.dma_engine.specs.declared.entry.Entry.{Entry}
 use Rattle.dma_engine.specs.declared.entry.Entry.TheVariants.{ReadBack}
 use Rattle.dma_engine.specs.View.{View}
-use Rattle.dma_script.specs.Command.{text_of}
+use Rattle.dma_io.specs.Command.{text_of}
 use Rattle.dma_commands.specs.Run.{Answered}
 
 -- The new view is the answer's view, and the answer's lines are appended to the output.

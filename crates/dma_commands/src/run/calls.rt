@@ -1,15 +1,15 @@
 //! The lines of a script that make one call, and `totals`.
 ghost use Rattle.std.specs.Prelude.{◌≡◌, ◌++◌, ◌∷◌, [], OnOk, OnErr, IfOk};
 ghost use Rattle.dma_engine.specs.Answer.{CallAnswers, answer};
-ghost use Rattle.dma_script.specs.Command.{text_of};
+ghost use Rattle.dma_io.specs.Command.{text_of};
 ghost use Rattle.dma_commands.specs.inner.RunSteps.{RunsLine, read_at};
 ghost use Rattle.dma_commands.specs.Run.{call_answer, line_answer, submit_answer, totals_of};
 
 use crate::printing::Shown;
 use crate::transfers::transfer_of;
 use dma_engine::{Call, Engine, EngineFault, Entry, Reply};
+use dma_io::printing::print_line;
 use dma_mem::lists::Bytes;
-use dma_script::printing::print_line;
 use dma_script::statements::Statement;
 use dma_script::transfer_line::TransferLine;
 use dma_text::text::{Address, SpacedBytes, print};

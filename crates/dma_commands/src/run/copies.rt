@@ -10,7 +10,7 @@ use crate::run::calls::reply_to;
 use crate::run::steps::step_reply;
 use crate::transfers::transfer_of;
 use dma_engine::{Call, Engine, Reply};
-use dma_script::printing::print_line;
+use dma_io::printing::print_line;
 use dma_script::transfer_line::{Origin, TransferLine};
 use std::alloc::AllocError;
 

@@ -4,7 +4,7 @@ ghost use Rattle.std.specs.Prelude.{◌≡◌, ◌≢◌, ◌≤◌, ◌<◌, �
 ghost use Rattle.dma_engine.specs.Answer.{answers, reply_of};
 ghost use Rattle.dma_engine.specs.Room.{IsIdle};
 ghost use Rattle.dma_mem.specs.declared.call.Call.TheVariants as calls;
-ghost use Rattle.dma_script.specs.Command.{text_of};
+ghost use Rattle.dma_io.specs.Command.{text_of};
 ghost use Rattle.dma_commands.specs.Printed.{reply_text};
 ghost use Rattle.dma_engine.specs.Advance.{IsAdvance, start_replies, steps_before};
 ghost use Rattle.dma_engine.specs.View.{View};
@@ -14,7 +14,7 @@ ghost use Rattle.dma_commands.specs.Run.{step_answer, step_line};
 
 use crate::printing::Shown;
 use dma_engine::{Advanced, Engine, EngineFault, Reply, TransResult, Turn};
-use dma_script::printing::print_line;
+use dma_io::printing::print_line;
 use dma_text::text::{Text, print};
 use std::alloc::{AllocError, Global};
 use std::mem;

@@ -2,12 +2,12 @@
 
 ghost use Rattle.std.specs.Option.{option_copied};
 ghost use Rattle.std.specs.Prelude.{◌≡◌, ◌-◌, IfErr, IfOk};
-ghost use Rattle.dma_chan.specs.Explains.{bursts_in};
+ghost use Rattle.dma_explain.specs.Explains.{bursts_in};
 ghost use Rattle.dma_device.specs.Explaining.{FailsFor, FindsFor, IsLoadedAnd, channel_of};
 
 use crate::device::Device;
 use dma_chan::channel::Channel;
-use dma_chan::explain::{Explained, Unexplained, explain};
+use dma_explain::explain::{Explained, Unexplained, explain};
 use std::alloc::Global;
 
 /// Why a device can't explain a channel's program.

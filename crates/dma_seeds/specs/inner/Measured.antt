@@ -1,6 +1,6 @@
 -- A text in pieces, with the length of each.
 use Rattle.std.specs.Prelude.{◌≡◌, ℕ, List, [], ◌∷◌, ◌++◌, drop, length, map, take}
-use Rattle.dma_script.specs.Command.{printed_text, text_of}
+use Rattle.dma_io.specs.Command.{printed_text, text_of}
 
 -- the lengths of the texts of groups
 abbrev pub lengths_of : List (List (List ℕ)) → List ℕ

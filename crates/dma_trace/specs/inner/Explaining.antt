@@ -1,9 +1,9 @@
 -- How an explanation is begun.
 use Rattle.std.specs.Prelude.{◌≡◌, ℕ, ◌-◌, ◌++◌, Bool, false, List, [], All, Option, Some, None, map, if◌then◌else◌}
 use Rattle.dma_chan.specs.declared.bus.Bus.{Bus}
-use Rattle.dma_chan.specs.declared.explain.Explained.{Explained}
+use Rattle.dma_explain.specs.declared.explain.Explained.{Explained}
 use Rattle.dma_chan.specs.Exec.{start_on}
-use Rattle.dma_chan.specs.Explains.{Finds, bursts_in}
+use Rattle.dma_explain.specs.Explains.{Finds, bursts_in}
 use Rattle.dma_mem.specs.declared.regions.Region.{Region}
 use Rattle.dma_mem.specs.declared.segment.Segment.{Segment}
 use Rattle.dma_mem.specs.Regions.{pieces_of}

@@ -14,9 +14,9 @@ use Rattle.dma_work.specs.Ticks.{base_of, board_from}
 -- counts of the base are numbers of 32 bits. The book counts since the opening view, whose size and number of channels
 -- the engine has.
 pub record IsKept
-    (opening : View) (base : Board) (log : TableId) (engine : EngineState) (p : PublisherState) (book : Totals)
+    (opening : View) (base : Board) (table : TableId) (engine : EngineState) (p : PublisherState) (book : Totals)
     : Type 0 where
-  pub shown : p.shown ≡ record { base = base; ticks = p.before ++ ticks_of engine.view.history; log = log }
+  pub shown : p.shown ≡ record { base = base; ticks = p.before ++ ticks_of engine.view.history; table = table }
   pub opens : board_from base p.before ≡ base_of engine.view
   pub small : AreCounts base
   pub counts : CountsSince opening engine.view book

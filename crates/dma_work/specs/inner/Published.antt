@@ -18,7 +18,7 @@ use Rattle.dma_work.specs.Ticks.{StartsWith, board_from}
 pub record PublishedList : Type 0 where
   pub base : Board
   pub ticks : List Tick
-  pub log : TableId
+  pub table : TableId
 
 -- the list with more ticks
 abbrev pub list_and : PublishedList → List Tick → PublishedList
@@ -129,8 +129,8 @@ stays st m n m' = m' ≡ m
 -- ---- seats
 
 -- what a new reader or a ticket knows of what the writer knows
-abbrev pub told : Sight → Sight
-told v = record v { writes = false; learnt = v.seen; offered = [] }
+abbrev pub new_sight : Sight → Sight
+new_sight v = record v { writes = false; learnt = v.seen; offered = [] }
 
 -- what a reader knows after it was offered a list
 abbrev pub offered : Sight → List Tick → Sight
@@ -138,8 +138,8 @@ offered v list = record v { offered = list }
 
 -- the list that a seat has seen
 abbrev pub list_at : Seat Tick Sight → PublishedList
-list_at s = record { base = s.me.0.base; ticks = s.me.0.seen; log = s.table_id }
+list_at s = record { base = s.me.0.base; ticks = s.me.0.seen; table = s.table_id }
 
 -- what a reader on this seat knows
 abbrev pub known_at : Seat Tick Sight → Known
-known_at s = record { base = s.me.0.base; log = s.table_id; seen = s.me.0.seen; learnt = s.me.0.learnt }
+known_at s = record { base = s.me.0.base; table = s.table_id; seen = s.me.0.seen; learnt = s.me.0.learnt }

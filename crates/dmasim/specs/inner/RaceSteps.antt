@@ -4,7 +4,7 @@ use Rattle.dma_engine.specs.Interleaved.{Interleaves, JobTurn, turns_taken}
 use Rattle.dma_engine.specs.View.{View}
 use Rattle.dma_work.specs.Shift.{channels_of_job}
 use Rattle.dma_work.specs.declared.job.Job.{Job}
-use Rattle.dma_script.specs.Command.{printed_text, text_of}
+use Rattle.dma_io.specs.Command.{printed_text, text_of}
 use Rattle.dma_script.specs.Interpreted.{ActsInTurn, PrintsLines}
 use Rattle.dma_script.specs.declared.race.JobLine.{JobLine}
 use Rattle.dma_script.specs.declared.statements.Statement.{Statement}

@@ -13,8 +13,8 @@ ghost use Rattle.dmasim.specs.inner.RaceSteps.{PrintsFirst};
 use dma_commands::printing::Shown;
 use dma_commands::transfers::transfer_of;
 use dma_engine::{Call, Reply};
+use dma_io::printing::print_line;
 use dma_script::interpreter::Interpreter;
-use dma_script::printing::print_line;
 use dma_script::statements::{Statement, Statements};
 use dma_script::transfer_line::TransferLine;
 use dma_work::{Desk, DeskName, StatusReader};
@@ -45,10 +45,10 @@ fn answer_submit<N: DeskName, R: Wait>(
     words: TransferLine,
     out: &mut Vec<u8>,
 ) -> Result<(), AllocError>
-    requires follows { (N.log ≡ reader.old.log) × (N.base ≡ reader.old.base) }
+    requires follows { (N.table ≡ reader.old.table) × (N.base ≡ reader.old.base) }
     ensures line { RunsLine (line_answer desk.old.engine.view (Statement.Submit ch words))
         desk.new.engine.view result out.old.items out.new.items }
-    ensures follows { (N.log ≡ reader.new.log) × (N.base ≡ reader.new.base) }
+    ensures follows { (N.table ≡ reader.new.table) × (N.base ≡ reader.new.base) }
 {
     let transfer = match transfer_of(words) {
         Ok(transfer) => transfer,
@@ -71,10 +71,10 @@ fn answer_terminate<N: DeskName, R: Wait>(
     ch: u8,
     out: &mut Vec<u8>,
 ) -> Result<(), AllocError>
-    requires follows { (N.log ≡ reader.old.log) × (N.base ≡ reader.old.base) }
+    requires follows { (N.table ≡ reader.old.table) × (N.base ≡ reader.old.base) }
     ensures line { RunsLine (line_answer desk.old.engine.view (Statement.Call (Call.Terminate ch)))
         desk.new.engine.view result out.old.items out.new.items }
-    ensures follows { (N.log ≡ reader.new.log) × (N.base ≡ reader.new.base) }
+    ensures follows { (N.table ≡ reader.new.table) × (N.base ≡ reader.new.base) }
 {
     match desk.terminate(rt, ch) {
         Ok(closed) => {
@@ -99,7 +99,7 @@ fn answer_status<N: DeskName, R: Wait>(
         (Statement.Call (Call.Status ch cookie))) desk.now.engine.view
         out.old.items out.new.items) }
     ensures err { OnErr result (out.new.items ≡ out.old.items) }
-    ensures same { (reader.new.log ≡ reader.old.log) × (reader.new.base ≡ reader.old.base) }
+    ensures same { (reader.new.table ≡ reader.old.table) × (reader.new.base ≡ reader.old.base) }
 {
     let status = desk.status(ch, cookie);
     match reader.status(ch, cookie) {
@@ -131,7 +131,7 @@ impl<N: DeskName, R: Wait> Interpreter for LinesOnDesk<'_, N, R> {
 
     ghost takes = { IsEarly };
 
-    ghost is_ready = { λ lines. (N.log ≡ lines.reader.log) × (N.base ≡ lines.reader.base) };
+    ghost is_ready = { λ lines. (N.table ≡ lines.reader.table) × (N.base ≡ lines.reader.base) };
 
     ghost acts = { λ found line group left.
         EarlyPrints found.desk.engine.view line group left.desk.engine.view };
@@ -167,7 +167,7 @@ pub fn run_early_statements<N: DeskName, R: Wait>(
     lines: Statements,
     out: &mut Vec<u8>,
 ) -> (Desk<N>, Result<(), AllocError>)
-    requires follows { (N.log ≡ reader.log) × (N.base ≡ reader.base) }
+    requires follows { (N.table ≡ reader.table) × (N.base ≡ reader.base) }
     requires early { All IsEarly lines }
     ensures ok { OnOk result.1 (PrintsLines EarlyPrints desk.engine.view lines
         result.0.engine.view out.old.items out.new.items) }

@@ -2,7 +2,7 @@ use Rattle.std.proofs.Common.{◌≡◌, [], ◌++◌, ◌∙◌, List, ℕ, ap,
 use Rattle.std.specs.Vec.{vec_len}
 use Rattle.std.proofs.lemmas.Bool.{eqb-true}
 use Rattle.std.proofs.lemmas.List.{nil_from_length}
-use Rattle.dma_script.specs.Command.{Answers, Printed}
+use Rattle.dma_io.specs.Command.{Answers, Printed}
 use Rattle.dma_commands.proofs.DisLemmas.{printed_stops, text_answered}
 use Rattle.dma_commands.proofs.dis.print_text.Goals as goal
 

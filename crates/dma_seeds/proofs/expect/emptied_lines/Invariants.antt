@@ -1,7 +1,7 @@
 -- The lines so far, and those that are left.
 use Rattle.std.proofs.Common.{◌≡◌, ◌++◌, length, map}
 use Rattle.std.specs.Str.Lines.{lines}
-use Rattle.dma_script.specs.Command.{text_of}
+use Rattle.dma_io.specs.Command.{text_of}
 use Rattle.dma_seeds.specs.Expect.{emptied}
 use Rattle.dma_seeds.proofs.expect.emptied_lines.Given as goal
 

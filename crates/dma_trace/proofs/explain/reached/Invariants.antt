@@ -1,7 +1,7 @@
 -- The front is that of the run without memory, and the loads and stores of the address are those so far.
 use Rattle.std.proofs.Common.{◌≡◌}
 use Rattle.dma_chan.specs.Exec.{start_on}
-use Rattle.dma_chan.specs.Explains.{traced}
+use Rattle.dma_explain.specs.Explains.{traced}
 use Rattle.dma_trace.specs.Front.{front_at}
 use Rattle.dma_trace.specs.Touches.{touches_in}
 use Rattle.dma_trace.proofs.Fronts.{Within}

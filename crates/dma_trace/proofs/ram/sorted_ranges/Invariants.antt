@@ -1,6 +1,6 @@
 -- The ranges of the first items.
 use Rattle.std.proofs.Common.{◌≡◌, map, take}
-use Rattle.dma_chan.specs.declared.explain.Repeated.{Repeated}
+use Rattle.dma_explain.specs.declared.explain.Repeated.{Repeated}
 use Rattle.dma_trace.proofs.ram.sorted_ranges.Given as goal
 
 abbrev pub invariant-loop-item : goal.invariant-loop-item

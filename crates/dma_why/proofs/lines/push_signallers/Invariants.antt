@@ -1,5 +1,5 @@
 use Rattle.std.proofs.Common.{◌≡◌, ◌++◌, map, take}
-use Rattle.dma_script.specs.Command.{text_of}
+use Rattle.dma_io.specs.Command.{text_of}
 use Rattle.dma_why.specs.Why.{signaller_line}
 use Rattle.dma_why.proofs.lines.push_signallers.Given as goal
 

@@ -9,6 +9,6 @@ invariant-loop-made l =
     let shown = l.initial.publisher.shown in record {
       count : vec_len l.readers ≡ l.made;
       room : l.count ≤ vec_capacity l.readers;
-      each : All (λ (s : Known). s ≡ knows shown.base shown.log shown.ticks) l.readers.items;
+      each : All (λ (s : Known). s ≡ knows shown.base shown.table shown.ticks) l.readers.items;
       same : l.publisher ≡ l.initial.publisher;
     }

@@ -1,10 +1,13 @@
-use Rattle.std.proofs.Common.{◌≡◌, ℕ, refl, arith, length-take}
-use Rattle.dma_chan.specs.Bursts.{burst_len, span_of}
+use Rattle.std.proofs.Common.{ℕ, ap, arith, length, length-drop, length-take}
+use Rattle.dma_chan.proofs.BurstRounds.{span_within}
 use Rattle.dma_chan.proofs.ReadyLaws.{span_made}
 use Rattle.dma_chan.proofs.bursts.stores.store_span.Goals as goal
 
+pub overflow_sub-overwritten : goal.overflow_sub-overwritten
+overflow_sub-overwritten g c =
+    omega (arith, c.span.ensures.len, c.len-len.ensures.value, span_within c.args.burst c.requires.some)
+
 pub write_parts-requires-clause-made : goal.write_parts-requires-clause-made
 write_parts-requires-clause-made g c =
-    let burst = c.args.burst in
-    let span : span_of burst ≡ burst_len burst = rw c.if-burst.true refl in
-    span_made (g.M.Ram.paged c.args.memory.now) burst _ c.requires.some.beats c.requires.ready c.requires.within (omega (arith, span, c.len-len.ensures.value, length-take {A = ℕ}))
+    span_made (g.M.Ram.paged c.args.memory.now) c.args.burst _ c.requires.some.beats c.requires.ready c.requires.within
+    (omega (arith, ap length c.as_slice.ensures, c.span.ensures.len, c.len-len.ensures.value, c.requires.bytes, span_within c.args.burst c.requires.some, length-take {A = ℕ}, length-drop {A = ℕ}))

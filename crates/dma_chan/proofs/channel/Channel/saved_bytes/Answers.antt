@@ -1,5 +1,4 @@
 use Rattle.std.proofs.Common.{◌≡◌, ◌∙◌, ◌≢◌, ◌*◌, ◌≤◌, None, refl, ap, length, subst, arith}
-use Rattle.std.proofs.lemmas.List.{length-append}
 use Rattle.dma_chan.specs.Channel.{ChannelValue, bytes_of_program, code_of}
 use Rattle.dma_chan.specs.Saved.{AreBytes, saved}
 use Rattle.dma_chan.proofs.SavedParts.{loaded_at}
@@ -8,22 +7,22 @@ use Rattle.dma_chan.proofs.channel.Channel.saved_bytes.Goals as goal
 pub write-requires-clause-buffer : goal.write-requires-clause-buffer
 write-requires-clause-buffer c =
     let buffer : c.self.inside.executor.buffer.items ≡ c.args.self.now.buffer = ap (λ (x : ChannelValue). x.buffer) c.self.view_is in
-    omega (arith, c.head-head.ensures.buffer, length-append c.as_slices.result.0.now c.as_slices.result.1.now, ap length c.as_slices.ensures, ap length buffer)
+    omega (arith, c.head-head.ensures.buffer, ap length c.as_slice-buffer.ensures, ap length buffer)
 
 pub returns-clause-bytes : goal.returns-clause-bytes
 unfolding saved
 returns-clause-bytes c =
     let buffer : c.self.inside.executor.buffer.items ≡ c.args.self.now.buffer = ap (λ (x : ChannelValue). x.buffer) c.self.view_is in
-    let program : c.bytes-program.result.now ≡ code_of c.args.self.now = c.bytes-program.ensures.value ∙ ap code_of c.self.view_is in
-    rw (c.write.ensures.bytes, c.head-head.ensures.head, c.as_slices.ensures, program, buffer) refl
+    let program : c.bytes.result.now ≡ code_of c.args.self.now = c.bytes.ensures.value ∙ ap code_of c.self.view_is in
+    rw (c.write.ensures.bytes, c.head-head.ensures.head, c.as_slice-buffer.ensures, program, buffer) refl
 
 pub returns-clause-channel : goal.returns-clause-channel
 returns-clause-channel c =
     let w = rw c.head-head.ensures.head at c.write.ensures.ranges in
-    let program : c.bytes-program.result.now ≡ code_of c.args.self.now = c.bytes-program.ensures.value ∙ ap code_of c.self.view_is in
+    let program : c.bytes.result.now ≡ code_of c.args.self.now = c.bytes.ensures.value ∙ ap code_of c.self.view_is in
     let code = rw program at c.write.ensures.program_bytes in
-    let limit = rw program at c.bytes-program.ensures.limit in
-    let bytes = rw c.as_slices.ensures at c.write.ensures.buffer_bytes in
+    let limit = rw program at c.bytes.ensures.limit in
+    let bytes = rw c.as_slice-buffer.ensures at c.write.ensures.buffer_bytes in
     let buffer = subst (λ (x : ChannelValue). AreBytes x.buffer) c.self.view_is bytes in
     let offset = subst (λ (x : ChannelValue). x.program ≢ None → x.registers.pc ≤ length (bytes_of_program x.program)) c.self.view_is c.self.invariant.offset in
     let few = subst (λ (x : ChannelValue). x.stored ≤ 256 * x.taken) c.self.view_is c.self.invariant.few in

@@ -1,6 +1,6 @@
 use Rattle.std.proofs.Common.{[], ◌∷◌, ◌∙◌, List, ℕ, refl, subst}
 use Rattle.dma_engine.specs.View.{View}
-use Rattle.dma_script.specs.Command.{Answers}
+use Rattle.dma_io.specs.Command.{Answers}
 use Rattle.dma_commands.specs.Run.{lines_answered, printed}
 use Rattle.dma_commands.proofs.RunLemmas.{answers_memory}
 use Rattle.dma_commands.proofs.run.RunCommand.answer.Goals as goal

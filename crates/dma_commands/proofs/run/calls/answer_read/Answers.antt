@@ -1,7 +1,7 @@
 use Rattle.std.proofs.Common.{◌≡◌, ◌∷◌, [], ◌++◌, ◌∙◌, List, ℕ, ap, codes, length}
 use Rattle.std.proofs.lemmas.Result.{on_ok_weaker}
 use Rattle.dma_engine.specs.declared.entry.Entry.{Entry}
-use Rattle.dma_script.specs.Command.{text_of}
+use Rattle.dma_io.specs.Command.{text_of}
 use Rattle.dma_text.specs.Digits.{hex_digits, spaced_bytes}
 use Rattle.dma_commands.specs.inner.RunSteps.{read_at}
 use Rattle.dma_commands.proofs.RunLemmas.{read_runs}

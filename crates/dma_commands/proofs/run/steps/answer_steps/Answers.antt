@@ -4,7 +4,7 @@ use Rattle.std.proofs.lemmas.List.{append-nil}
 use Rattle.std.proofs.lemmas.Result.{on_ok_weaker}
 use Rattle.dma_mem.specs.declared.call.Call.TheVariants.{Step}
 use Rattle.dma_engine.specs.Answer.{answers}
-use Rattle.dma_script.specs.Command.{text_of}
+use Rattle.dma_io.specs.Command.{text_of}
 use Rattle.dma_commands.specs.Printed.{reply_text}
 use Rattle.dma_commands.specs.Run.{step_answer, step_lines}
 use Rattle.dma_commands.proofs.RunLemmas.{printed_runs}

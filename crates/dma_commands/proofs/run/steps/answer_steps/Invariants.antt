@@ -2,7 +2,7 @@ use Rattle.std.proofs.Common.{◌≡◌, ◌≤◌, ◌-◌, ◌++◌, List, ℕ
 use Rattle.std.specs.Prelude.{replicate}
 use Rattle.dma_mem.specs.declared.call.Call.TheVariants.{Step}
 use Rattle.dma_engine.specs.Answer.{answers}
-use Rattle.dma_script.specs.Command.{text_of}
+use Rattle.dma_io.specs.Command.{text_of}
 use Rattle.dma_commands.specs.Printed.{reply_text}
 use Rattle.dma_commands.specs.inner.Counting.{text_with}
 use Rattle.dma_commands.specs.Run.{step_lines}

@@ -1,7 +1,7 @@
 use Rattle.std.proofs.Common.{◌≡◌, ◌+◌, ◌++◌, ◌∷◌, ◌∙◌, [], List, ℕ, OnOk, ap, codes, decimal, lit<, rules, sym}
 use Rattle.std.proofs.lemmas.Fmt.{decimal_digit}
 use Rattle.std.proofs.lemmas.Result.{on_ok_weaker}
-use Rattle.dma_script.specs.Command.{text_of}
+use Rattle.dma_io.specs.Command.{text_of}
 use Rattle.dma_commands.proofs.run.steps.print_moved.Goals as goal
 
 pub returns-clause-ok : goal.returns-clause-ok

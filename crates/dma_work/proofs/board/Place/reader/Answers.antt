@@ -9,6 +9,6 @@ pub fetch_add-requires : goal.fetch_add-requires
 fetch_add-requires c =
     let place = c.args.self.now in
     let same : arc_value c.in_ok-table.table ≡ arc_value place.table = grind (arith, common_steps) in
-    let at = c.tell-seat.ensures.at ∙ place.seated ∙ ap (λ t. t.shared.table_id) (sym same ∙ sym c.deref-2.ensures) in
-    let many = ap (λ (z : TableId). z.words) (sym at ∙ c.tell-seat.ensures.at) ∙ place.many in
-    (at, omega (arith, many), stays_kept _ _ _ 9 c.tell-seat.result.me (λ n. (n + 1) % 2 ^ 64) (omega arith) (omega arith))
+    let at = c.new_seat-seat.ensures.at ∙ place.seated ∙ ap (λ t. t.shared.table_id) (sym same ∙ sym c.deref-2.ensures) in
+    let many = ap (λ (z : TableId). z.words) (sym at ∙ c.new_seat-seat.ensures.at) ∙ place.many in
+    (at, omega (arith, many), stays_kept _ _ _ 9 c.new_seat-seat.result.me (λ n. (n + 1) % 2 ^ 64) (omega arith) (omega arith))

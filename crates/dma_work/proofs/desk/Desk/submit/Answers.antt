@@ -21,7 +21,7 @@ publish-requires g c =
     let s = submits_add v w c.args.ch c.in_ok-cookie.cookie c.args.transfer c.in_ok-cookie.ensures.answer in
     acted_next c.self.inside.publisher v w c.new.result (Submitted c.args.ch) s.0.ticks c.new.ensures (ap (λ (x : PublishedList). x.ticks) (sym c.self.invariant.shown))
 
-kept : (g : Over) (c : goal.After-new-ticket g) → IsKept g.N.DeskName.opening g.N.DeskName.base g.N.DeskName.log c.submit.new.self c.list.new.self c.self.inside.book
+kept : (g : Over) (c : goal.After-new-ticket g) → IsKept g.N.DeskName.opening g.N.DeskName.base g.N.DeskName.table c.submit.new.self c.list.new.self c.self.inside.book
 kept g c =
     let v = c.self.inside.engine.view in
     let w = c.submit.new.self.view in

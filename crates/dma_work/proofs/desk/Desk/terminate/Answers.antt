@@ -23,7 +23,7 @@ publish-requires g c =
     let s = terminates_add v w c.args.ch c.in_ok-count.count c.in_ok-count.ensures.answer in
     acted_next c.self.inside.publisher v w c.new.result (Finished c.args.ch c.in_ok-count.count) s.0.ticks c.new.ensures (ap (λ (x : PublishedList). x.ticks) (sym c.self.invariant.shown))
 
-kept : (g : Over) (c : goal.After-used-through g) → IsKept g.N.DeskName.opening g.N.DeskName.base g.N.DeskName.log c.terminate.new.self c.list.new.self (record (c.self.inside.book) { terminated = c.self.inside.book.terminated + c.from.result })
+kept : (g : Over) (c : goal.After-used-through g) → IsKept g.N.DeskName.opening g.N.DeskName.base g.N.DeskName.table c.terminate.new.self c.list.new.self (record (c.self.inside.book) { terminated = c.self.inside.book.terminated + c.from.result })
 kept g c =
     let v = c.self.inside.engine.view in
     let w = c.terminate.new.self.view in

@@ -7,7 +7,7 @@ use Rattle.dma_work.proofs.publisher.Parts.new.Goals as goal
 pub returns-in-Ok-clause-readers : goal.returns-in-Ok-clause-readers
 returns-in-Ok-clause-readers g c =
     let shown = c.in-Ok.publisher.shown in
-    subst (λ ticks. All (λ (s : Known). s ≡ knows shown.base shown.log ticks) c.in-Ok.readers.items) c.in-Ok.ensures.shown.1 c.in-Ok.ensures.readers
+    subst (λ ticks. All (λ (s : Known). s ≡ knows shown.base shown.table ticks) c.in-Ok.readers.items) c.in-Ok.ensures.shown.1 c.in-Ok.ensures.readers
 
 pub invariant_of-result : goal.invariant_of-result
 invariant_of-result g c = (

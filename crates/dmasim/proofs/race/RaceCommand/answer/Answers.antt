@@ -1,5 +1,5 @@
 use Rattle.std.proofs.Common.{◌≡◌, Ok, subst, sym}
-use Rattle.dma_script.specs.Command.{MayAnswer}
+use Rattle.dma_io.specs.Command.{MayAnswer}
 use Rattle.dma_script.specs.Race.{race_script_of}
 use Rattle.dma_commands.specs.Raced.{race_prints_of}
 use Rattle.dmasim.proofs.RaceLemmas.{race_refused}

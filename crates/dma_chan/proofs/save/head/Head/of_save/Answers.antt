@@ -1,4 +1,4 @@
-use Rattle.std.proofs.Common.{◌≡◌, [], ◌++◌, true, sym, refl, ◌∙◌, append-nil, arith}
+use Rattle.std.proofs.Common.{◌≡◌, ◌++◌, true, sym, refl, ◌∙◌, arith}
 use Rattle.std.proofs.lemmas.Slice.Eq.{slice_eq-Decides}
 use Rattle.std.proofs.lemmas.Bool.Decides.{Decides-eqb}
 use Rattle.dma_chan.specs.Channel.{on_bus}
@@ -32,7 +32,7 @@ pub returns-then-eq-clause-found : goal.returns-then-eq-clause-found
 returns-then-eq-clause-found c =
     let save = c.args.save.now in
     let head = c.in-Some.head in
-    let written : c.as_slice.result.now ≡ sealed (head_bytes head ++ (buffer_in save head ++ []) ++ program_in save head) =
+    let written : c.as_slice.result.now ≡ sealed (head_bytes head ++ buffer_in save head ++ program_in save head) =
     rw (c.as_slice.ensures.value, c.write-again.ensures.bytes, c.buffer_of.ensures, c.program_of.ensures) refl in
     let same = (slice_eq-Decides Decides-eqb _ _ _ c.eq.ensures).0 c.if-eq.true in
     sym same ∙ written ∙ sealed_is_saved save head (c.fits.ensures.0 c.if-not-fits.false)
@@ -40,7 +40,7 @@ returns-then-eq-clause-found c =
 pub returns-then-eq-clause-channel : goal.returns-then-eq-clause-channel
 returns-then-eq-clause-channel c =
     let write = c.write-again.ensures in
-    let buffer = rw (c.buffer_of.ensures, append-nil) at write.buffer_bytes in
+    let buffer = rw c.buffer_of.ensures at write.buffer_bytes in
     let program = rw c.program_of.ensures at write.program_bytes in
     parts_make_channel c.args.save.now c.in-Some.head (c.fits.ensures.0 c.if-not-fits.false) write.ranges buffer program
 

@@ -1,5 +1,0 @@
-use Rattle.dma_chan.proofs.OnBuses.{explained_on_bus}
-use Rattle.dma_chan.proofs.laws.aligned_is_explained.Goals as goal
-
-pub returns : goal.returns
-returns c = explained_on_bus

@@ -1,5 +1,0 @@
-use Rattle.dma_chan.proofs.LaidPlaces.{laid_by_place}
-use Rattle.dma_chan.proofs.laws.laid_by_place.Goals as goal
-
-pub returns : goal.returns
-returns c = laid_by_place

@@ -1,5 +1,0 @@
-use Rattle.dma_chan.proofs.CallWrites.{load_executes, call_stays_in}
-use Rattle.dma_chan.proofs.laws.writes_its_destinations.Goals as goal
-
-pub returns : goal.returns
-returns c = record { load = load_executes; call = call_stays_in }

@@ -1,0 +1,123 @@
+-- What it means that an instruction goes on.
+use Rattle.std.proofs.Common.{◌≡◌, ◌≢◌, ℕ, zero, suc, ◌+◌, ◌≤◌, ◌<◌, Bool, true, false, cond, ◌&&◌, List, length, Option, Some, None, Result, Ok, Err, refl, ap, ◌∙◌, arith, length-append}
+use Rattle.std.specs.Prelude.{nat_lt}
+use Rattle.std.proofs.lemmas.Bool.{le-ltb, ltb-false}
+use Rattle.std.proofs.lemmas.Bool.Decides.{nat_tests}
+use Rattle.std.proofs.lemmas.List.FromFn.{length-range_with_len}
+use Rattle.dma_insn.specs.declared.chip.ChipInsn.{ChipInsn}
+use Rattle.dma_insn.specs.declared.chip.ChipInsn.TheVariants.{Mov, Ld, St, End, LpEnd, StoreZeros, AddHalfword, LoopAgain}
+use Rattle.dma_insn.specs.declared.chip.Address.TheVariants.{Destination}
+use Rattle.dma_insn.specs.declared.insn.Reg.TheVariants.{Ccr, Dar}
+use Rattle.dma_mem.specs.Places.{end_of_addresses}
+use Rattle.dma_chan.specs.declared.bursts.Burst.{Burst}
+use Rattle.dma_chan.specs.declared.exec.Registers.{Registers}
+use Rattle.dma_explain.specs.declared.explain.Cause.{Cause}
+use Rattle.dma_explain.specs.declared.explain.Cause.TheVariants.{Fails, StoresPast, StoresFixed, DropsBytes}
+use Rattle.dma_chan.specs.declared.turn.FaultKind.{FaultKind}
+use Rattle.dma_chan.specs.declared.turn.FaultKind.TheVariants.{OperandInvalid, MfifoErr, StDataUnavailable, InstrFetchErr}
+use Rattle.dma_chan.specs.Bursts.{burst_len, drops, span_of, touched}
+use Rattle.dma_chan.specs.Bus.{accepts}
+use Rattle.dma_chan.specs.Exec.{buffer_size, counter_of, destination_of, moved, source_of}
+use Rattle.dma_explain.specs.Explains.{GoesOn, Trace, after_fetch, after_insn, held, next_in, passes, stop_of_insn, stop_of_mov, traced}
+use Rattle.dma_chan.proofs.ControlWords.{touched_up}
+
+-- ---- tests in turn
+
+pub none_first : (b : Bool) (c : Cause) (o : Option Cause) → cond b (Some c) o ≡ None → (b ≡ false) × (o ≡ None)
+none_first true c o e = absurd (cc)
+none_first false c o e = (refl, e)
+
+pub none_second : (b : Bool) (c : Cause) (o : Option Cause) → cond b o (Some c) ≡ None → (b ≡ true) × (o ≡ None)
+none_second true c o e = (refl, e)
+none_second false c o e = absurd (cc)
+
+pub passed : (b : Bool) (c : Cause) (o : Option Cause) → b ≡ false → o ≡ None → cond b (Some c) o ≡ None
+passed b c o e f = ap (λ (x : Bool). cond x (Some c) o) e ∙ f
+
+-- a jump back that is executed stays in the program
+pub no_jump : (n pc back : ℕ) → (nat_lt 0 n && nat_lt pc back) ≡ false → 0 < n → back ≤ pc
+no_jump n pc back e some = grind (arith, nat_tests)
+
+-- whether an instruction drops bytes that are held
+abbrev pub dropped : ChipInsn → Trace → Bool
+dropped i x =
+    let r = x.registers in nat_lt 0 (held x) && drops r.bus (destination_of r) (destination_of (moved i r))
+
+-- DMAMOV while the buffer is empty
+pub mov_empty : (i : ChipInsn) (x : Trace) → held x ≡ 0 → stop_of_mov i x ≡ None
+mov_empty i x e =
+    let r = x.registers in
+    passed (dropped i x) DropsBytes None (ap (λ (b : Bool). b && drops r.bus (destination_of r) (destination_of (moved i r))) (le-ltb 0 (held x) (omega (arith, e)))) refl
+
+-- a burst that ends at or below the last address
+pub ends_low : (b : Burst) → b.addr + span_of b ≤ end_of_addresses → passes b ≡ false
+ends_low b low = le-ltb end_of_addresses (b.addr + span_of b) low
+
+-- ---- an instruction that goes on
+
+-- the addresses of a burst that rises, as many as its bytes
+pub length_up : (b : Burst) → b.increments ≡ true → length (touched b) ≡ burst_len b
+length_up b e = ap length (touched_up b e) ∙ length-range_with_len b.addr (burst_len b)
+
+abbrev pub Can : ChipInsn → Trace → Type 0
+Can Ld x = length x.loads + burst_len (source_of x.registers) ≤ length x.stores + buffer_size
+Can St x =
+    (length x.stores + burst_len (destination_of x.registers) ≤ length x.loads)
+    × ((destination_of x.registers).increments ≡ true)
+Can (Mov Dar v) x = dropped (Mov Dar v) x ≡ false
+Can (Mov Ccr w) x = (accepts x.registers.bus w ≡ true) × (dropped (Mov Ccr w) x ≡ false)
+Can (AddHalfword Destination half negative) x = dropped (AddHalfword Destination half negative) x ≡ false
+Can (LpEnd c back) x = 0 < counter_of c x.registers → back ≤ x.registers.pc
+Can End x = ⊥
+Can StoreZeros x = (destination_of x.registers).increments ≡ true
+Can (LoopAgain counter back) x = back ≤ x.registers.pc
+Can i x = Unit {0}
+
+-- no more is stored than loaded
+abbrev pub Few : Trace → Type 0
+Few x = length x.stores ≤ length x.loads
+
+pub can : (i : ChipInsn) (x : Trace) → Few x → i ≢ End → stop_of_insn i x ≡ None → Can i x
+can Ld x few ne e =
+    let b = source_of x.registers in
+    let room = none_first (nat_lt buffer_size (held x + burst_len b)) (Fails MfifoErr) _ e in
+    omega (arith, ltb-false buffer_size (held x + burst_len b) room.0, few)
+can St x few ne e =
+    let b = destination_of x.registers in
+    let has = none_first (nat_lt (held x) (burst_len b)) (Fails StDataUnavailable) _ e in
+    let low = none_first (passes b) StoresPast _ has.1 in
+    let up = none_second b.increments StoresFixed None low.1 in (
+      omega (arith, ltb-false (held x) (burst_len b) has.0, few),
+      up.0,
+    )
+can (Mov Dar v) x few ne e = (none_first (dropped (Mov Dar v) x) DropsBytes None e).0
+can (Mov Ccr w) x few ne e =
+    let taken = none_second (accepts x.registers.bus w) (Fails OperandInvalid) _ e in
+    (taken.0, (none_first (dropped (Mov Ccr w) x) DropsBytes None taken.1).0)
+can (AddHalfword Destination half negative) x few ne e =
+    (none_first (dropped (AddHalfword Destination half negative) x) DropsBytes None e).0
+can (LpEnd c back) x few ne e =
+    no_jump (counter_of c x.registers) x.registers.pc back (none_first (nat_lt 0 (counter_of c x.registers) && nat_lt x.registers.pc back) (Fails InstrFetchErr) None e).0
+can End x few ne e = absurd (ne refl)
+can StoreZeros x few ne e =
+    let b = destination_of x.registers in (none_second b.increments StoresFixed None (none_first (passes b) StoresPast _ e).1).0
+can (LoopAgain counter back) x few ne e = ltb-false x.registers.pc back (none_first (nat_lt x.registers.pc back) (Fails InstrFetchErr) None e).0
+can i x few ne e = tt
+
+few_insn : (i : ChipInsn) (x : Trace) → Few x → Can i x → Few (after_insn i x)
+few_insn Ld x few c = omega (arith, few, length-append x.loads (touched (source_of x.registers)))
+few_insn St x few c = let b = destination_of x.registers in omega (arith, c.0, length-append x.stores (touched b), length_up b c.1)
+few_insn i x few c = few
+
+pub can_next : (i : ChipInsn) (x : Trace) → Few x → GoesOn (Ok i) x → Can i x
+can_next i x few go = can i x few (λ e. go.0 (ap (λ (j : ChipInsn). Ok j) e)) go.1
+
+few_next : (r : Result ChipInsn FaultKind) (x : Trace) → Few x → GoesOn r x → Few (after_fetch r x)
+few_next (Ok i) x few go = few_insn i x few (can_next i x few go)
+few_next (Err kind) x few go = absurd (let bad = go.1 in cc)
+
+pub few_at : (start : Registers) (program : List ℕ) (k : ℕ) → ((j : ℕ) → j < k → GoesOn (next_in program (traced start program j)) (traced start program j)) → Few (traced start program k)
+few_at start program zero goes = omega arith
+few_at start program (suc k) goes =
+    let x = traced start program k in
+    few_next (next_in program x) x (few_at start program k (λ j l. goes j (omega arith))) (goes k (omega arith))

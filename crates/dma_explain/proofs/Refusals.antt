@@ -1,0 +1,399 @@
+-- What a channel does at the instruction at which `explain` refuses its program.
+use Rattle.std.proofs.Common.{◌≡◌, ◌≢◌, ℕ, zero, suc, ◌+◌, ◌≤◌, ◌<◌, Bool, true, false, cond, ◌&&◌, List, [], ◌∷◌, length, Option, Some, None, Result, Ok, Err, refl, sym, ap, ◌∙◌, subst, arith, inl, inr, length-append, true≢false}
+use Rattle.std.specs.Prelude.{is_some, nat_lt, not, slice_index, slice_index_or}
+use Rattle.std.specs.List.{list_any, range_with_len}
+use Rattle.std.specs.Option.{option_and_then}
+use Rattle.std.proofs.lemmas.Bool.{cases_lt, cond_both}
+use Rattle.std.proofs.lemmas.Bool.Decides.{nat_tests}
+use Rattle.std.proofs.lemmas.List.{length-drop, length-map}
+use Rattle.std.proofs.lemmas.Option.{none-some, same_Some}
+use Rattle.dma_insn.specs.declared.chip.Address.TheVariants.{Destination}
+use Rattle.dma_insn.specs.declared.insn.Reg.TheVariants.{Ccr, Dar}
+use Rattle.dma_insn.specs.declared.chip.ChipInsn.{ChipInsn}
+use Rattle.dma_insn.specs.declared.chip.ChipInsn.TheVariants.{Mov, Ld, St, End, LpEnd, Sev, Wfe, StoreZeros, AddHalfword, LoopAgain}
+use Rattle.dma_mem.specs.Places.{end_of_addresses, share}
+use Rattle.dma_mem.specs.Marking.{MarkList, is_marked}
+use Rattle.dma_mem.specs.declared.marks.MarkKind.{MarkKind}
+use Rattle.dma_mem.specs.declared.marks.MarkKind.TheVariants.{Reading, Writing}
+use Rattle.dma_chan.specs.declared.exec.Registers.{Registers}
+use Rattle.dma_explain.specs.declared.explain.Amounts.{Amounts}
+use Rattle.dma_explain.specs.declared.explain.Cause.{Cause}
+use Rattle.dma_explain.specs.declared.explain.Cause.TheVariants.{Fails, LoadsPast, StoresPast, StoresFixed, DropsBytes, BytesLeft, StoresTwice, StoresSource}
+use Rattle.dma_chan.specs.declared.turn.ChanTurn.{ChanTurn}
+use Rattle.dma_explain.specs.declared.explain.Unexplained.{Unexplained}
+use Rattle.dma_chan.specs.declared.turn.ChanTurn.TheVariants.{Moved, Waiting, Ended, Fault}
+use Rattle.dma_chan.specs.declared.turn.FaultKind.{FaultKind}
+use Rattle.dma_chan.specs.declared.turn.FaultKind.TheVariants.{OperandInvalid, MfifoErr, StDataUnavailable, InstrFetchErr, DataWriteErr, DataReadErr}
+use Rattle.dma_chan.specs.declared.bursts.Burst.{Burst}
+use Rattle.dma_chan.specs.Bursts.{burst_len, reaches, span_of, touched}
+use Rattle.dma_chan.specs.Bus.{accepts}
+use Rattle.dma_chan.specs.Channel.{ChannelValue, after_turn, ahead_of, code_of, last_count, state_of, step_of, stepped, stored_by}
+use Rattle.dma_chan.specs.Exec.{ChangesNothing, State, act, buffer_size, counter_of, destination_of, exec_fetched, fault_in, faults, kept, moved, read_at, source_of, state}
+use Rattle.dma_explain.specs.Explains.{GoesOn, IsSignal, Refuses, StopsAt, Trace, after_fetch, after_insn, amounts_of, has_twice, held, next_in, passes, stop_of, stop_of_insn, stop_of_lists, stop_of_mov, traced, written_in}
+use Rattle.dma_chan.specs.Next.{next_on}
+use Rattle.dma_explain.specs.Refusals.{FaultsAreRefusals, FirstGoOn, ExecutesFirst, RefusalsAreFaults, fault_of_cause}
+use Rattle.dma_chan.specs.Stepping.{Machine, TakesSteps, after_step, after_steps, answer_at, goes_on_after, signal_after, signal_of}
+use Rattle.dma_chan.specs.inner.Spans.{MovesSome}
+use Rattle.dma_chan.proofs.BurstReach.{reaches_span}
+use Rattle.dma_chan.proofs.CallWrites.{act_leads, turned}
+use Rattle.dma_explain.proofs.CallStays.{registers_after}
+use Rattle.dma_chan.proofs.ControlWords.{moves_some}
+use Rattle.dma_explain.proofs.GoingOn.{Can, Few, can_next, dropped, few_at, length_up}
+use Rattle.dma_chan.proofs.KeptBytes.{kept_held}
+use Rattle.dma_chan.proofs.RunAlone.{moved_count}
+use Rattle.dma_chan.proofs.StepsTaken.{steps_move, steps_stop}
+use Rattle.dma_chan.proofs.SteppedOver.{is_still, steps_size, was_moved, went_before}
+
+-- ---- how many bytes are in the buffer after an instruction that moved
+
+abbrev Holds : ChipInsn → Trace → ChanTurn × State → Type 0
+Holds i x y = y.0 ≡ Moved → length y.1.buffer ≡ held (after_insn i x)
+
+module _ (marks : MarkList) (x : Trace) (buffer image : List ℕ) (flags : List Bool) (holds : length buffer ≡ held x) where
+  abbrev here : State
+  here = state x.registers buffer image flags
+
+  keeps : (i : ChipInsn) → dropped i x ≡ false → length (kept x.registers (moved i x.registers) buffer) ≡ held x
+  keeps i none = ap length (kept_held x.registers (moved i x.registers) buffer _ holds none) ∙ holds
+
+  holds_after : (i : ChipInsn) → Few x → Can i x → Holds i x (act marks i here)
+  holds_after Ld few c =
+      let b = source_of x.registers in
+      let new = touched b in
+      cond_both (nat_lt buffer_size (length buffer + burst_len b)) _ _ (Holds Ld x) (λ full e. absurd (cc))
+      (λ room. cond_both (reaches Reading marks (length image) new) _ _ (Holds Ld x)
+      (λ all e. omega (arith, few, holds, length-append buffer (read_at image new), length-map new (slice_index image), length-append x.loads new))
+      (λ no e. absurd (cc)))
+  holds_after St few c =
+      let b = destination_of x.registers in
+      let new = touched b in
+      cond_both (nat_lt (length buffer) (burst_len b)) _ _ (Holds St x) (λ less e. absurd (cc))
+      (λ enough. cond_both (reaches Writing marks (length image) new) _ _ (Holds St x)
+      (λ all e. omega (arith, holds, length-drop (burst_len b) buffer, length-append x.stores new, length_up b c.1))
+      (λ no e. absurd (cc)))
+  holds_after (Mov Dar v) few c = λ e. keeps (Mov Dar v) c
+  holds_after (Mov Ccr v) few c = rw c.0 (λ e. keeps (Mov Ccr v) c.1)
+  holds_after (AddHalfword Destination half negative) few c = λ e. keeps (AddHalfword Destination half negative) c
+  holds_after (LpEnd k back) few c =
+      cond_both (nat_lt 0 (counter_of k x.registers) && nat_lt x.registers.pc back) _ _ (Holds (LpEnd k back) x) (λ bad e. absurd (cc)) (λ good e. holds)
+  holds_after (LoopAgain k back) few c =
+      cond_both (nat_lt x.registers.pc back) _ _ (Holds (LoopAgain k back) x) (λ bad e. absurd (cc)) (λ good e. holds)
+  holds_after StoreZeros few c =
+      cond_both (reaches Writing marks (length image) (touched (destination_of x.registers))) _ _ (Holds StoreZeros x) (λ all e. holds) (λ no e. absurd (cc))
+  holds_after (Wfe n v) few c =
+      cond_both (slice_index_or flags n false) _ _ (Holds (Wfe n v) x) (λ set e. holds) (λ clear e. absurd (cc))
+  holds_after End few c = absurd c
+  holds_after i few c = λ e. holds
+
+-- ---- a channel beside the run without memory
+
+-- after k instructions
+pub record Beside (start : Registers) (program : List ℕ) (k : ℕ) (c : ChannelValue) : Type 0 where
+  pub code : code_of c ≡ program
+  pub registers : c.registers ≡ (traced start program k).registers
+  pub holds : length c.buffer ≡ held (traced start program k)
+
+module _ (start : Registers) (program : List ℕ) where
+  ahead_beside : (k : ℕ) (c : ChannelValue) → Beside start program k c → ahead_of c ≡ next_in program (traced start program k)
+  ahead_beside k c b =
+      ap (λ (xs : List ℕ). next_on c.registers.bus xs c.registers.pc) b.code
+      ∙ ap (λ (r : Registers). next_on r.bus program r.pc) b.registers
+
+  moved_by : (k : ℕ) (marks : MarkList) (c : ChannelValue) (image : List ℕ) (flags : List Bool) (next : Result ChipInsn FaultKind) → Beside start program k c → Few (traced start program k) → next_in program (traced start program k) ≡ next → GoesOn next (traced start program k) → (step_of marks c image flags).0 ≡ Moved → Beside start program (suc k) (stepped marks c image flags)
+  moved_by k marks c image flags (Err kind) b few next go moves = absurd (let bad = go.1 in cc)
+  moved_by k marks c image flags (Ok i) b few next go moves =
+      let x = traced start program k in
+      let s = state_of c image flags in
+      let e = step_of marks c image flags in
+      let does : e ≡ act marks i s = ap (λ (r : Result ChipInsn FaultKind). exec_fetched marks r s) (ahead_beside k c b ∙ next) in
+      let turn : (act marks i s).0 ≡ Moved = sym (ap (λ (y : ChanTurn × State). y.0) does) ∙ moves in
+      let after : traced start program (suc k) ≡ after_insn i x = ap (λ (r : Result ChipInsn FaultKind). after_fetch r x) next in
+      let channel : stepped marks c image flags ≡ after_turn Moved e.1 (stored_by (ahead_of c) c.registers) c = ap (λ (t : ChanTurn). after_turn t e.1 (stored_by (ahead_of c) c.registers) c) moves in
+      let holds = subst (λ (r : Registers). Holds i x (act marks i (state r c.buffer image flags))) (sym b.registers) (holds_after marks x c.buffer image flags b.holds i few (can_next i x few go)) in
+      subst (Beside start program (suc k)) (sym channel) (record {
+        code = b.code;
+        registers = ap (λ (y : ChanTurn × State). y.1.registers) does ∙ act_leads marks i s turn ∙ ap (moved i) b.registers ∙ sym (registers_after i x) ∙ sym (ap (λ (y : Trace). y.registers) after);
+        holds = ap (λ (y : ChanTurn × State). length y.1.buffer) does ∙ holds turn ∙ sym (ap held after);
+      })
+
+  beside : (n : ℕ) (marks : ℕ → MarkList) (channel : ℕ → ChannelValue) (image : ℕ → List ℕ) (flags : ℕ → List Bool) → FirstGoOn start program n → ExecutesFirst start program n marks channel image flags → (k : ℕ) → k ≤ n → Beside start program k (channel k)
+  beside n marks channel image flags goes g zero l =
+      subst (Beside start program zero) (sym g.begins.2) (record { code = g.begins.1; registers = refl; holds = refl })
+  beside n marks channel image flags goes g (suc k) l =
+      let less : k < n = omega arith in
+      let next : suc k ≡ k + 1 = omega arith in
+      subst (Beside start program (suc k)) (sym (ap channel next ∙ g.goes_on k less)) (moved_by k (marks k) (channel k) (image k) (flags k) (next_in program (traced start program k)) (beside n marks channel image flags goes g k (omega arith)) (few_at start program k (λ j m. goes j (omega arith))) refl (goes k less) (g.moves k less))
+
+-- ---- bursts that end above the last address
+
+none_marked : (kind : MarkKind) (xs : List ℕ) → list_any (is_marked kind []) xs ≡ false
+none_marked kind [] = refl
+none_marked kind (a ∷ xs) = none_marked kind xs
+
+all_past : (hit : Bool) (size n : ℕ) → nat_lt end_of_addresses n ≡ true → size ≤ end_of_addresses → (not hit && not (nat_lt size n)) ≡ false
+all_past hit size n past low = grind (arith, nat_tests)
+
+-- it fails in each memory of at most 2^32 bytes
+past_fails : (kind : MarkKind) (marks : MarkList) (size : ℕ) (b : Burst) → MovesSome b → passes b ≡ true → size ≤ end_of_addresses → reaches kind marks size (touched b) ≡ false
+past_fails kind marks size b some past low =
+    reaches_span kind marks size b some
+    ∙ all_past (list_any (is_marked kind marks) (range_with_len b.addr (span_of b))) size (b.addr + span_of b) past low
+
+-- only it fails in a memory of 2^32 bytes without marks
+whole_reached : (kind : MarkKind) (marks : MarkList) (size : ℕ) (b : Burst) → MovesSome b → size ≡ end_of_addresses → marks ≡ [] → reaches kind marks size (touched b) ≡ not (passes b)
+whole_reached kind marks size b some all unmarked =
+    reaches_span kind marks size b some
+    ∙ ap (λ (ms : MarkList). not (list_any (is_marked kind ms) (range_with_len b.addr (span_of b))) && not (nat_lt size (b.addr + span_of b))) unmarked
+    ∙ ap (λ (hit : Bool). not hit && not (nat_lt size (b.addr + span_of b))) (none_marked kind (range_with_len b.addr (span_of b)))
+    ∙ ap (λ (n : ℕ). not (nat_lt n (b.addr + span_of b))) all
+
+-- ---- the fault of a cause
+
+abbrev refused : Option Cause → Option FaultKind
+refused stop = option_and_then fault_of_cause stop
+
+-- tests of causes that are no fault
+calm : (b : Bool) (stop other : Option Cause) → refused stop ≡ None → refused other ≡ None → refused (cond b stop other) ≡ None
+calm true stop other e f = e
+calm false stop other e f = f
+
+calm_mov : (i : ChipInsn) (x : Trace) → refused (stop_of_mov i x) ≡ None
+calm_mov i x = calm (dropped i x) (Some DropsBytes) None refl refl
+
+calm_lists : (loads stores : List ℕ) → refused (stop_of_lists loads stores) ≡ None
+calm_lists loads stores = calm (has_twice stores) (Some StoresTwice) _ refl (calm (share loads stores) (Some StoresSource) None refl refl)
+
+-- An instruction that stops for this cause, or for none, has this result: the cause's fault in each memory, and no other
+-- fault in a memory of 2^32 bytes without marks.
+record Agrees (marks : MarkList) (s : State) (stop : Option Cause) (y : ChanTurn × State) : Type 0 where
+  pub everywhere : length s.image ≤ end_of_addresses → (kind : FaultKind) → refused stop ≡ Some kind → y ≡ faults kind s
+  pub no_other : length s.image ≡ end_of_addresses → marks ≡ [] → fault_in y.0 ≡ refused stop
+
+module _ (marks : MarkList) (s : State) where
+  fails : (k : FaultKind) → Agrees marks s (Some (Fails k)) (faults k s)
+  fails k = record { everywhere = λ low kind e. ap (λ (j : FaultKind). faults j s) (same_Some k kind e); no_other = λ all unmarked. refl }
+
+  -- no fault
+  none : (stop : Option Cause) (y : ChanTurn × State) → refused stop ≡ None → fault_in y.0 ≡ None → Agrees marks s stop y
+  none stop y e f = record { everywhere = λ low kind g. absurd (none-some kind (sym e ∙ g)); no_other = λ all unmarked. f ∙ sym e }
+
+  -- a test of the machine and of the run without memory
+  if_fails : (b : Bool) (k : FaultKind) (stop : Option Cause) (y : ChanTurn × State) → Agrees marks s stop y → Agrees marks s (cond b (Some (Fails k)) stop) (cond b (faults k s) y)
+  if_fails true k stop y a = fails k
+  if_fails false k stop y a = a
+
+  unless_fails : (b : Bool) (k : FaultKind) (stop : Option Cause) (y : ChanTurn × State) → Agrees marks s stop y → Agrees marks s (cond b stop (Some (Fails k))) (cond b y (faults k s))
+  unless_fails true k stop y a = a
+  unless_fails false k stop y a = fails k
+
+  -- a burst
+  by_tests : (past reached : Bool) (cause : Cause) (k : FaultKind) (stop : Option Cause) (y : ChanTurn × State) → (past ≡ true → length s.image ≤ end_of_addresses → reached ≡ false) → (length s.image ≡ end_of_addresses → marks ≡ [] → reached ≡ not past) → fault_of_cause cause ≡ Some k → refused stop ≡ None → fault_in y.0 ≡ None → Agrees marks s (cond past (Some cause) stop) (cond reached y (faults k s))
+  by_tests true reached cause k stop y fails_there whole is calm_stop moves = record {
+    everywhere = λ low kind e. ap (λ (b : Bool). cond b y (faults k s)) (fails_there refl low) ∙ ap (λ (j : FaultKind). faults j s) (same_Some k kind (sym is ∙ e));
+    no_other = λ all unmarked. ap (λ (b : Bool). fault_in (cond b y (faults k s)).0) (whole all unmarked) ∙ sym is;
+  }
+  by_tests false reached cause k stop y fails_there whole is calm_stop moves = record {
+    everywhere = λ low kind e. absurd (none-some kind (sym calm_stop ∙ e));
+    no_other = λ all unmarked. ap (λ (b : Bool). fault_in (cond b y (faults k s)).0) (whole all unmarked) ∙ moves ∙ sym calm_stop;
+  }
+
+  burst : (kind : MarkKind) (b : Burst) (cause : Cause) (k : FaultKind) (stop : Option Cause) (y : ChanTurn × State) → MovesSome b → fault_of_cause cause ≡ Some k → refused stop ≡ None → fault_in y.0 ≡ None → Agrees marks s (cond (passes b) (Some cause) stop) (cond (reaches kind marks (length s.image) (touched b)) y (faults k s))
+  burst kind b cause k stop y some is calm_stop moves =
+      by_tests (passes b) (reaches kind marks (length s.image) (touched b)) cause k stop y (past_fails kind marks (length s.image) b some) (whole_reached kind marks (length s.image) b some) is calm_stop moves
+
+module _ (marks : MarkList) (x : Trace) (buffer image : List ℕ) (flags : List Bool) (holds : length buffer ≡ held x) where
+  abbrev now : State
+  now = state x.registers buffer image flags
+
+  agrees : (i : ChipInsn) → Agrees marks now (stop_of_insn i x) (act marks i now)
+  agrees Ld =
+      let b = source_of x.registers in
+      rw holds (if_fails marks now (nat_lt buffer_size (held x + burst_len b)) MfifoErr _ _ (burst marks now Reading b LoadsPast DataReadErr None _ (moves_some x.registers.bus 0 x.registers.sar x.registers.ccr) refl refl refl))
+  agrees St =
+      let b = destination_of x.registers in
+      rw holds (if_fails marks now (nat_lt (held x) (burst_len b)) StDataUnavailable _ _ (burst marks now Writing b StoresPast DataWriteErr _ _ (moves_some x.registers.bus 14 x.registers.dar x.registers.ccr) refl (calm b.increments None (Some StoresFixed) refl refl) refl))
+  agrees StoreZeros =
+      let b = destination_of x.registers in
+      burst marks now Writing b StoresPast DataWriteErr _ _ (moves_some x.registers.bus 14 x.registers.dar x.registers.ccr) refl (calm b.increments None (Some StoresFixed) refl refl) refl
+  agrees (Mov Ccr w) =
+      unless_fails marks now (accepts x.registers.bus w) OperandInvalid _ _ (none marks now (stop_of_mov (Mov Ccr w) x) _ (calm_mov (Mov Ccr w) x) refl)
+  agrees (Mov Dar v) = none marks now (stop_of_mov (Mov Dar v) x) _ (calm_mov (Mov Dar v) x) refl
+  agrees (AddHalfword Destination half negative) =
+      none marks now (stop_of_mov (AddHalfword Destination half negative) x) _ (calm_mov (AddHalfword Destination half negative) x) refl
+  agrees (LpEnd c back) =
+      if_fails marks now (nat_lt 0 (counter_of c x.registers) && nat_lt x.registers.pc back) InstrFetchErr None _ (none marks now None _ refl refl)
+  agrees (LoopAgain c back) = if_fails marks now (nat_lt x.registers.pc back) InstrFetchErr None _ (none marks now None _ refl refl)
+  agrees End =
+      none marks now (stop_of_insn End x) (act marks End now) (calm (nat_lt 0 (held x)) (Some BytesLeft) _ refl (calm_lists x.loads (written_in x))) refl
+  agrees (Wfe n v) =
+      none marks now None (act marks (Wfe n v) now) refl (cond_both (slice_index_or flags n false) _ _ (λ (y : ChanTurn × State). fault_in y.0 ≡ None) (λ set. refl) (λ clear. refl))
+  agrees i = none marks now None (act marks i now) refl refl
+
+  agrees_fetched : (next : Result ChipInsn FaultKind) → Agrees marks now (stop_of next x) (exec_fetched marks next now)
+  agrees_fetched (Ok i) = agrees i
+  agrees_fetched (Err kind) = fails marks now kind
+
+-- the next step of a channel beside the run without memory
+agrees_beside : (start : Registers) (program : List ℕ) (n : ℕ) (c : ChannelValue) (marks : MarkList) (image : List ℕ) (flags : List Bool) → Beside start program n c → let x = traced start program n in Agrees marks (state_of c image flags) (stop_of (next_in program x) x) (step_of marks c image flags)
+agrees_beside start program n c marks image flags b =
+    let x = traced start program n in
+    let next = next_in program x in
+    let at_trace = agrees_fetched marks x c.buffer image flags b.holds next in
+    let at_channel = subst (λ (r : Registers). let s = state r c.buffer image flags in Agrees marks s (stop_of next x) (exec_fetched marks next s)) (sym b.registers) at_trace in
+    subst (λ (r : Result ChipInsn FaultKind). Agrees marks (state_of c image flags) (stop_of next x) (exec_fetched marks r (state_of c image flags))) (sym (ahead_beside start program n c b)) at_channel
+
+-- a refusal for a fault is one at an instruction
+stop_there : (start : Registers) (program : List ℕ) (most steps : ℕ) (cause : Cause) (kind : FaultKind) → StopsAt start program most steps cause → fault_of_cause cause ≡ Some kind → let x = traced start program steps in refused (stop_of (next_in program x) x) ≡ Some kind
+stop_there start program most steps cause kind (inl stop) is = ap refused stop.1 ∙ is
+stop_there start program most steps cause kind (inr none) is = absurd (none-some kind (sym (ap fault_of_cause none.1) ∙ is))
+
+-- and comes before the limit
+refused_early : (start : Registers) (program : List ℕ) (most steps : ℕ) (cause : Cause) (kind : FaultKind) → StopsAt start program most steps cause → fault_of_cause cause ≡ Some kind → steps < most
+refused_early start program most steps cause kind (inl stop) is = stop.0
+refused_early start program most steps cause kind (inr none) is = absurd (let bad = sym (ap fault_of_cause none.1) ∙ is in cc)
+
+pub refusals_fault : RefusalsAreFaults
+refusals_fault start program most u marks channel image flags h g ms memory fs kind low is =
+    let c = channel u.steps in
+    let b = beside start program u.steps marks channel image flags h.goes g u.steps (omega arith) in
+    (agrees_beside start program u.steps c ms memory fs b).everywhere low kind (stop_there start program most u.steps u.cause kind h.stops is)
+
+pub faults_refused : FaultsAreRefusals
+faults_refused start program n marks channel image flags goes g memory fs all =
+    let b = beside start program n marks channel image flags goes g n (omega arith) in
+    (agrees_beside start program n (channel n) [] memory fs b).no_other all refl
+
+-- ---- the steps of a channel whose program is refused for a fault
+
+never_ends : (marks : MarkList) (i : ChipInsn) (s : State) → i ≢ End → (act marks i s).0 ≢ Ended
+never_ends marks i s other = grind arith
+
+goes_never_ends : (marks : MarkList) (next : Result ChipInsn FaultKind) (s : State) → next ≢ Ok End → (exec_fetched marks next s).0 ≢ Ended
+goes_never_ends marks (Ok i) s other = never_ends marks i s (λ e. other (ap (λ (j : ChipInsn). Ok j) e))
+goes_never_ends marks (Err kind) s other = λ e. cc
+
+module _ (start : Registers) (program : List ℕ) (most : ℕ) (u : Unexplained) (kind : FaultKind) (h : Refuses start program most u) (is : fault_of_cause u.cause ≡ Some kind) where
+  -- it has executed at most the instructions before the refused one
+  pub record Before (c : ChannelValue) : Type 0 where
+    pub few : c.taken ≤ u.steps
+    pub beside : Beside start program c.taken c
+    pub loaded : is_some c.program ≡ true
+
+  -- and so it has after a step with this answer, which has the refusal's fault at the refused instruction
+  abbrev pub Leads : ChanTurn → ChannelValue → Type 0
+  Leads Moved c = Before c
+  Leads Ended c = ⊥
+  Leads (Waiting e) c = Before c × (c.taken < u.steps)
+  Leads (Fault k) c = Before c × (c.taken ≡ u.steps → k ≡ kind)
+
+  module _ (marks : MarkList) (m : Machine) (low : length m.image ≤ end_of_addresses) (b : Before m.channel) where
+    -- the refused instruction
+    pub fails_there : m.channel.taken ≡ u.steps → answer_at marks m ≡ Fault kind
+    fails_there at =
+        let beside_it = subst (λ (k : ℕ). Beside start program k m.channel) at b.beside in
+        let agrees = agrees_beside start program u.steps m.channel marks m.image m.flags beside_it in
+        ap (λ (y : ChanTurn × State). y.0) (agrees.everywhere low kind (stop_there start program most u.steps u.cause kind h.stops is))
+
+    -- one before it
+    moves_before : m.channel.taken < u.steps → answer_at marks m ≡ Moved → Before (after_step marks m).channel
+    moves_before less moves =
+        let c = m.channel in
+        let k = c.taken in
+        let counted : (after_step marks m).channel.taken ≡ suc k = moved_count (answer_at marks m) (step_of marks c m.image m.flags).1 (stored_by (ahead_of c) c.registers) c moves ∙ omega arith in
+        let after = moved_by start program k marks c m.image m.flags _ b.beside (few_at start program k (λ j l. h.goes j (omega arith))) refl (h.goes k less) moves in
+        record {
+          few = omega (arith, counted, less);
+          beside = subst (λ (j : ℕ). Beside start program j (after_step marks m).channel) (sym counted) after;
+          loaded = ap (λ (d : ChannelValue). is_some d.program) (turned marks m Moved moves) ∙ b.loaded;
+        }
+
+    goes_before : m.channel.taken < u.steps → answer_at marks m ≢ Ended
+    goes_before less over =
+        let k = m.channel.taken in
+        let next = next_in program (traced start program k) in
+        goes_never_ends marks next (state_of m.channel m.image m.flags) (h.goes k less).0
+        (ap (λ (r : Result ChipInsn FaultKind). (exec_fetched marks r (state_of m.channel m.image m.flags)).0) (sym (ahead_beside start program k m.channel b.beside)) ∙ over)
+
+    leads_before : m.channel.taken < u.steps → (turn : ChanTurn) → answer_at marks m ≡ turn → Leads turn (after_step marks m).channel
+    leads_before less Moved e = moves_before less e
+    leads_before less Ended e = absurd (goes_before less e)
+    leads_before less (Waiting k) e = subst (λ (n : Machine). Leads (Waiting k) n.channel) (sym (is_still marks m (subst ChangesNothing (sym e) tt))) (b, less)
+    leads_before less (Fault k) e = subst (λ (n : Machine). Leads (Fault k) n.channel) (sym (is_still marks m (subst ChangesNothing (sym e) tt))) (b, λ at. absurd (omega (arith, less, at)))
+
+    pub step_leads : Leads (answer_at marks m) (after_step marks m).channel
+    step_leads = elim (cases_lt m.channel.taken u.steps) [
+      | inl less ↦ leads_before less (answer_at marks m) refl
+      | inr all ↦
+          let fails = fails_there (let few = b.few in omega (arith, all, few)) in
+          subst (λ (t : ChanTurn). Leads t (after_step marks m).channel) (sym fails)
+          (subst (λ (n : Machine). Leads (Fault kind) n.channel) (sym (is_still marks m (subst ChangesNothing (sym fails) tt))) (b, λ at. refl))
+    ]
+
+  -- ---- a call
+
+  abbrev pub LastLeads : Option ChanTurn → ChannelValue → Type 0
+  LastLeads None c = ⊥
+  LastLeads (Some turn) c = Leads turn c
+
+  module _ (marks : MarkList) (s : Machine) (low : length s.image ≤ end_of_addresses) (limit : most ≤ last_count) (b : Before s.channel) where
+    low_after : (j : ℕ) → length (after_steps marks s j).image ≤ end_of_addresses
+    low_after j = omega (arith, steps_size marks s j, low)
+
+    many_held : (j : ℕ) → ((k : ℕ) → k < suc j → goes_on_after marks s k ≡ true) → Before (after_steps marks s j).channel
+    many_held zero moves = b
+    many_held (suc j) moves =
+        let m = after_steps marks s j in
+        let moved = was_moved (ahead_of m.channel) (answer_at marks m) (went_before marks s (suc j) (moves (suc j) (omega arith))) in
+        subst (λ (turn : ChanTurn). Leads turn (after_step marks m).channel) moved
+        (step_leads marks m (low_after j) (many_held j (λ k l. moves k (omega arith))))
+
+    -- a call that may take a step takes one
+    pub call_leads : (v : Machine) (limit_of taken : ℕ) (last : Option ChanTurn) → 0 < limit_of → TakesSteps marks s limit_of taken last v → LastLeads last v.channel
+    call_leads v limit_of zero last some x = elim (steps_stop x) [
+      | inl all ↦ absurd (omega (arith, all, some))
+      | inr other ↦ elim other [
+        | inl over ↦ absurd (true≢false over)
+        | inr full ↦
+            let same : v.channel.taken ≡ s.channel.taken = ap (λ (m : Machine). m.channel.taken) x.ends_at in
+            absurd (omega (arith, full, same, limit, b.few, refused_early start program most u.steps u.cause kind h.stops is))
+      ]
+    ]
+    call_leads v limit_of (suc p) last some x =
+        let m = after_steps marks s p in
+        subst (λ (o : Option ChanTurn). LastLeads o v.channel) (sym x.answer)
+        (subst (λ (w : Machine). Leads (answer_at marks m) w.channel) (sym x.ends_at)
+        (step_leads marks m (low_after p) (many_held p (steps_move x))))
+
+    -- an event that it signals is that of a DMASEV before the refused instruction
+    pub call_signals : (v : Machine) (limit_of taken : ℕ) (last : Option ChanTurn) (e : ℕ) → TakesSteps marks s limit_of taken last v → last ≡ Some Moved → signal_after marks s taken ≡ Some e → (done : Amounts) × IsSignal start program u.steps e done
+    call_signals v limit_of zero last e x moved signal = absurd (cc)
+    call_signals v limit_of (suc p) last e x moved signal =
+        let m = after_steps marks s p in
+        let held = many_held p (steps_move x) in
+        let k = m.channel.taken in
+        let answer : Some (answer_at marks m) ≡ Some Moved = sym x.answer ∙ moved in
+        elim (cases_lt k u.steps) [
+          | inl less ↦ (
+            amounts_of (traced start program k),
+            record { step = k; within = less; signals = sym (ahead_beside start program k m.channel held.beside) ∙ sent (ahead_of m.channel) e signal; after = refl },
+          )
+          | inr all ↦
+              let fails = fails_there marks m (low_after p) held (let few = held.few in omega (arith, all, few)) in
+              absurd (cc)
+        ]
+      where
+        sent : (next : Result ChipInsn FaultKind) (i : ℕ) → signal_of next ≡ Some i → next ≡ Ok (Sev i)
+        sent next i signal = grind arith
+
+    -- a call at the refused instruction fails there and changes nothing
+    pub call_fails_there : (v : Machine) (limit_of taken : ℕ) (last : Option ChanTurn) → 0 < limit_of → TakesSteps marks s limit_of taken last v → s.channel.taken ≡ u.steps → (last ≡ Some (Fault kind)) × (v ≡ s)
+    call_fails_there v limit_of zero last some x at = absurd (subst (λ (o : Option ChanTurn). LastLeads o v.channel) x.answer (call_leads v limit_of zero last some x))
+    call_fails_there v limit_of (suc zero) last some x at =
+        let fails = fails_there marks s low b at in (
+          x.answer ∙ ap (λ (turn : ChanTurn). Some turn) fails,
+          x.ends_at ∙ is_still marks s (subst ChangesNothing (sym fails) tt),
+        )
+    call_fails_there v limit_of (suc (suc p)) last some x at =
+        let fails = fails_there marks s low b at in
+        let moved = was_moved (ahead_of s.channel) (answer_at marks s) (went_before marks s 1 (steps_move x 1 (omega arith))) in
+        absurd (cc)

@@ -1,0 +1,84 @@
+use Rattle.std.proofs.Common.{◌≡◌, ℕ, ◌+◌, arith, inr, refl, ap, sym, subst, ◌∙◌, Ok, Err, Some}
+use Rattle.dma_insn.specs.declared.chip.ChipInsn.TheVariants.{End}
+use Rattle.dma_mem.specs.Places.{places}
+use Rattle.dma_explain.specs.declared.explain.Cause.TheVariants.{Fails, NoEnd, NoMemory, TooLong}
+use Rattle.dma_explain.specs.Explains.{unrolled, written_in}
+use Rattle.dma_explain.specs.inner.Tracing.{Follows, trace_of}
+use Rattle.dma_explain.proofs.Explaining.{counts_bursts, finds, follows_new, has_none, never_long, refuses, stops_here}
+use Rattle.dma_explain.proofs.explain.explain.Goals as goal
+
+pub returns-in-Ok-finish-clause-ok : goal.returns-in-Ok-finish-clause-ok
+returns-in-Ok-finish-clause-ok c = finds c.args.start c.args.program.now c.loop-steps.steps (c.loop-steps.steps + 1) c.loop-steps.tracer c.in-Ok-finish.explained c.loop-steps.invariant.follows (ap Ok c.in-End.ensures ∙ c.in-Ok.ensures) (omega (arith, c.loop-steps-test.true, c.ranges.most.fits)) c.args.most c.loop-steps-test.true refl c.in-Ok-finish.ensures.ok
+
+pub returns-in-Ok-finish-clause-bursts : goal.returns-in-Ok-finish-clause-bursts
+returns-in-Ok-finish-clause-bursts c = counts_bursts c.args.start c.args.program.now c.loop-steps.steps (c.loop-steps.steps + 1) c.loop-steps.tracer c.in-Ok-finish.explained c.loop-steps.invariant.follows refl c.in-Ok-finish.ensures.ok
+
+pub run-requires : goal.run-requires
+run-requires c = record {
+  tracer = c.loop-steps.invariant.follows.tracer;
+  next = c.in-Ok.ensures;
+  other = λ e. c.in_default.not-End (c.insn.ensures ∙ e);
+  most = omega (arith, c.loop-steps-test.true);
+  stored = omega (arith, c.loop-steps.invariant.follows.stored, c.loop-steps-test.true, c.ranges.most.fits);
+  bursts = omega (arith, c.loop-steps.invariant.follows.counts, c.loop-steps-test.true, c.ranges.most.fits);
+  offset = c.loop-steps.invariant.follows.pc;
+  limit = omega (arith, c.if-program-gt-MAX_PROGRAM_BYTES.false);
+}
+
+pub loop-steps-init : goal.loop-steps-init
+loop-steps-init c = record {
+  follows = follows_new c.args.start c.args.program.now c.new-tracer.result c.new-tracer.ensures;
+  few = omega arith;
+}
+
+pub loop-steps-preserved : goal.loop-steps-preserved
+loop-steps-preserved c = record {
+  follows = c.in-Ok-run.ensures.leads c.args.start c.loop-steps.steps c.loop-steps.invariant.follows;
+  few = omega (arith, c.in-Ok-run.ensures.some, c.loop-steps-test.true);
+}
+
+pub returns-in-Err-clause-err : goal.returns-in-Err-clause-err
+returns-in-Err-clause-err c = λ _ _.
+    let start = c.args.start in
+    let program = c.args.program.now in
+    let now = c.loop-steps in
+    let cause = Fails c.in-Err.kind in
+    let stops = stops_here start program c.args.most now.steps now.tracer (Err c.in-Err.kind) cause now.invariant.follows c.in-Err.ensures c.loop-steps-test.true refl in
+    refuses start program c.args.most now.steps now.tracer cause 0 c.stored.result now.invariant.follows stops refl c.stored.ensures
+
+pub returns-in-Err-finish-clause-err : goal.returns-in-Err-finish-clause-err
+returns-in-Err-finish-clause-err c = λ memory _.
+    let start = c.args.start in
+    let program = c.args.program.now in
+    let now = c.loop-steps in
+    let stop = c.in-Err-finish.stop in
+    let stops = stops_here start program c.args.most now.steps now.tracer (Ok End) stop.cause now.invariant.follows (ap Ok c.in-End.ensures ∙ c.in-Ok.ensures) c.loop-steps-test.true (c.in-Err-finish.ensures.err memory) in
+    refuses start program c.args.most now.steps now.tracer stop.cause stop.addr c.stored.result now.invariant.follows stops c.in-Err-finish.ensures.addr c.stored.ensures
+
+pub returns-in-Err-run-clause-err : goal.returns-in-Err-run-clause-err
+returns-in-Err-run-clause-err c = λ memory _.
+    let start = c.args.start in
+    let program = c.args.program.now in
+    let now = c.loop-steps in
+    let x = now.tracer in
+    let cause = c.in-Err-run.cause in
+    let stop = c.in-Err-run.ensures.err memory in
+    let stops = stops_here start program c.args.most now.steps x (Ok c.in-Ok.next) cause now.invariant.follows c.in-Ok.ensures c.loop-steps-test.true stop in
+    let none = has_none c.in-Ok.next (trace_of x) (λ e. c.in_default.not-End (c.insn.ensures ∙ e)) cause (places (unrolled x.src.items)) (written_in (trace_of x)) stop in
+    refuses start program c.args.most now.steps x cause 0 c.stored.result now.invariant.follows stops none c.stored.ensures
+
+pub returns-clause-err : goal.returns-clause-err
+returns-clause-err c = λ _ _.
+    let now = c.loop-steps in
+    let all : now.steps ≡ c.args.most = omega (arith, now.invariant.few, c.loop-steps-test.false) in
+    let follows = subst (λ (n : ℕ). Follows c.args.start c.args.program.now n now.tracer) all now.invariant.follows in
+    refuses c.args.start c.args.program.now c.args.most c.args.most now.tracer NoEnd 0 c.stored-2.result follows (inr (refl, refl)) refl c.stored-2.ensures
+
+pub returns-in-Err-run-clause-long : goal.returns-in-Err-run-clause-long
+returns-in-Err-run-clause-long c = (
+  λ long.
+      let cause = c.in-Err-run.cause in
+      let stop = c.in-Err-run.ensures.err (λ memory. let bad : TooLong ≡ NoMemory = sym long ∙ memory in cc) in
+      absurd (never_long c.in-Ok.next (trace_of c.loop-steps.tracer) (λ e. c.in_default.not-End (c.insn.ensures ∙ e)) (stop ∙ ap Some long)),
+  λ big. absurd (omega (arith, big, c.if-program-gt-MAX_PROGRAM_BYTES.false)),
+)

@@ -1,0 +1,22 @@
+-- Regions that contain what a work uses.
+use Rattle.std.specs.Prelude.{◌≡◌, ℕ, false, List, IsTrue}
+use Rattle.std.specs.List.{list_any, Contains}
+use Rattle.dma_mem.specs.declared.regions.Region.{Region}
+use Rattle.dma_mem.specs.Marking.{MarkList}
+use Rattle.dma_mem.specs.Lent.{lies_in_any}
+use Rattle.dma_mem.specs.Regions.{has, in_order, pieces_of, read_only_of}
+use Rattle.dma_chan.specs.LentRegions.{with_gaps_of}
+use Rattle.dma_explain.specs.Explains.{Work, written}
+use Rattle.dma_explain.specs.Works.{MissesAll, Uses}
+
+-- Each address that a program's work reads or writes lies in a region, and none that it writes in a read-only one.
+pub record HaveAll (regions : List Region) (w : Work) : Type 0 where
+  pub touched : (a : ℕ) → Uses w a → IsTrue (list_any (has a) (pieces_of regions))
+  pub writable : (a : ℕ) → Contains (written w) a → lies_in_any (read_only_of regions) a ≡ false
+
+-- If regions in order contain all addresses that a work uses, and those that it writes aren't read-only, and the given
+-- marks miss the work, then it is also missed by the marks at which bursts over the regions fail.
+abbrev pub GapsMiss : Type 0
+GapsMiss =
+    (regions : List Region) (marks : MarkList) (w : Work) → IsTrue (in_order (pieces_of regions)) →
+    HaveAll regions w → MissesAll marks w → MissesAll (with_gaps_of regions marks) w
