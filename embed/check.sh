@@ -163,36 +163,33 @@ driver() {
         refused "$1" --seeds 1-2 --vcd "$out/driver.vcd"
 }
 
-# guide: succeeds if the code of EMBEDDING.md compiles as it is, and does what the document says; in tests/guide.c.in a
+# guide: succeeds if the code of the guide's documents compiles as it is, and does what they say; in tests/guide.c.in a
 # line `@block NUMBER HEADING` is that block of code below that heading
 guide() {
     awk '
-        FNR == 1 {file++}
-        file == 1 && /^#/ {heading = $0; sub(/^#+ /, "", heading); number = 0; inside = 0}
-        file == 1 && /^    / {
+        FNR == 1 {is_guide = FILENAME ~ /md$/}
+        is_guide && /^#/ {heading = $0; sub(/^#+ /, "", heading); number = 0; inside = 0}
+        is_guide && /^    / {
             if (!inside) number++
             inside = 1
             code[number " " heading] = code[number " " heading] blank $0 "\n"
         }
-        file == 1 {blank = /^$/ ? "\n" : ""; if (!/^$/ && !/^    /) inside = 0; next}
+        is_guide {blank = /^$/ ? "\n" : ""; if (!/^$/ && !/^    /) inside = 0; next}
         sub(/^@block /, "") {if (!($0 in code)) exit 1; printf "%s", code[$0]; next}
         {print}
-    ' ../docs/EMBEDDING.md tests/guide.c.in >"$out/guide.c" &&
-        $CC -std=c99 -Wall -Wextra -Werror -Iinclude -o "$out/guide" "$out/guide.c" "$LIB" && "$out/guide"
+    ' ../docs/DEVICES.md ../docs/CONTROLLERS.md ../docs/EXPLANATIONS.md tests/guide.c.in >"$out/guide.c" &&
+        $CC -std=c99 -Wall -Wextra -Werror -Iinclude -o "$out/guide" "$out/guide.c" "$LIB" &&
+        "$out/guide" >"$out/printed" && printf 'hello, lines 0x20\nwrites 0x80000100 + 64\n' | diff "$out/printed" -
 }
 
-# readme_lines: writes the README's lines of C as a program, which fails unless they copy the bytes that they write
-readme_lines() {
-    {
-        printf '#include "dma330.h"\n#include <string.h>\nint main(void)\n{\n    uint8_t out[5];\n'
-        awk '/^## / {here = $0 == "## Link it into an emulator"} here && /^    / && !/^    (cc|make) /' ../README.md
-        printf '    return dma330_read(&dma, 0x1F, out, 5, &conflict) != DMA330_OK || memcmp(out, "\\0abc", 5) != 0;\n}\n'
-    } >"$out/readme.c"
+# readme_program: writes the README's program in C
+readme_program() {
+    sed -n '/^    #include "dma330.h"/,/^    }$/s/^ \{0,4\}//p' ../README.md >"$out/readme.c"
 }
 
-# readme FLAG..: succeeds if the README's lines compile with these flags, and copy the bytes
+# readme FLAG..: succeeds if the README's program compiles with these flags, and raises the line of its interrupt
 readme() {
-    readme_lines
+    readme_program
     $CC -std=c99 -Wall -Wextra -Werror -o "$out/readme" "$out/readme.c" "$@" && "$out/readme"
 }
 
@@ -246,6 +243,7 @@ in_c() {
         "$LIB" && try "$set example_driver_polled.c" polled "$to/polled"
     make_it "$set threads.c" "$@" -pthread -o "$to/threads" examples/threads.c "$LIB" &&
         try "$set threads.c" "$to/threads"
+    make_it "$set pieces.c" "$@" -o "$to/pieces" examples/pieces.c "$LIB" && try "$set pieces.c" "$to/pieces"
     counted walk "$rows" $lines
     counted refuse "$rows" $lines $heap
     counted channels tests/channels.txt tests/words.c tests/rows.c $heap
@@ -312,7 +310,7 @@ if has "$CC"; then
     fi
     try "names of numbers" named
     try "README.md" readme -Iinclude "$LIB"
-    try "EMBEDDING.md" guide
+    try "DEVICES.md, CONTROLLERS.md, EXPLANATIONS.md" guide
     try "qemu device with stubs of QEMU 7.2" qemu_stubs 7
     try "qemu device with stubs of QEMU 10.0" qemu_stubs 10
     if [ -n "${QEMU_FOLDER:-}" ]; then

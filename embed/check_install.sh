@@ -18,19 +18,19 @@ flags() {
     fi
 }
 
-# installed: succeeds if the README's lines build and run with the installed files
+# installed: succeeds if the README's program builds and runs with the installed files
 installed() {
     install_in DESTDIR= PREFIX="$prefix" && readme $(flags "$prefix")
 }
 
-# shared: succeeds if they do with the shared library, which exports the names that the header declares, and no others
+# shared: succeeds if it does with the shared library, which exports the names that the header declares, and no others
 shared() {
     readme "-I$prefix/include" "-L$prefix/lib" -ldma330 "-Wl,-rpath,$prefix/lib" &&
-        nm -D --undefined-only "$out/readme" | grep -q ' dma330_step$' || return 1
+        nm -D --undefined-only "$out/readme" | grep -q ' dma330_device_step$' || return 1
     nm -D --defined-only "$prefix/lib/libdma330.so.1" | awk '{print $3}' | sort | diff - "$out/declared"
 }
 
-# with_cmake: succeeds if CMake finds both libraries, and the README's lines run with each
+# with_cmake: succeeds if CMake finds both libraries, and the README's program runs with each
 with_cmake() {
     mkdir -p "$out/cmake"
     cat >"$out/cmake/CMakeLists.txt" <<'END'
@@ -42,7 +42,7 @@ foreach(it dma330 shared)
   target_link_libraries(with_${it} dma330::${it})
 endforeach()
 END
-    readme_lines
+    readme_program
     cmake -S "$out/cmake" -B "$out/cmake/build" -DCMAKE_PREFIX_PATH="$prefix" && cmake --build "$out/cmake/build" &&
         "$out/cmake/build/with_dma330" && "$out/cmake/build/with_shared"
 }
@@ -67,7 +67,8 @@ uninstalled() {
 }
 
 # staged: succeeds if DESTDIR is put in front of the paths of the installed files, all users can read them whatever the
-# umask, no path of it or of the prefix is in a file, and the README's lines build and run with the files where they are
+# umask, no path of it or of the prefix is in a file, and the README's program builds and runs with the files where they
+# are
 staged() {
     at=$full/staged
     (umask 077 && install_in PREFIX=/opt/dma330 DESTDIR="$at") && [ -z "$(find "$at" ! -type l ! -perm -044)" ] &&

@@ -43,14 +43,15 @@ static void write_program(void)
 
 /* ---- the device ---- */
 
-/* Makes the manager, or the channel that `first` names, execute an instruction. */
+/* Makes the manager, or the channel that `first` names, execute an instruction, and waits until it has. So from a
+ * DMAGO on, CSR reads as stopped only after the program has ended. */
 static void debug(uint32_t first, uint32_t second)
 {
-    while (readl(DBGSTATUS) & 1)
-        ;
     writel(DBGINST0, first);
     writel(DBGINST1, second);
     writel(DBGCMD, 0);
+    while (readl(DBGSTATUS) & 1)
+        ;
 }
 
 static uint32_t status(void)

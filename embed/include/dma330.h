@@ -1,13 +1,20 @@
 /* A verified software DMA controller (ARM DMA-330, memory to memory) for programs in C, from C89 on, and in C++.
  *
- * Link it with libdma330.a. docs/EMBEDDING.md has all duties of a caller; in short:
+ * Link it with libdma330.a. The proofs assume these duties of the caller, and nothing checks them:
  * - Before its first call a dma330_controller is DMA330_CONTROLLER_INIT, a dma330_channel DMA330_CHANNEL_INIT and a
  *   dma330_device DMA330_DEVICE_INIT (zeros). Their members are the library's: the caller doesn't change them. An open
- *   one is not copied; it may be moved, and its old place is zeroed before it is used again.
- * - One call at a time uses it. Threads that share one take turns by a lock.
- * - No pointer is null, not even one to zero elements. No two pointers of a call overlap, except lists that are only read.
- *   While a call runs, nobody else writes what its pointers point to, or reads what it writes, except a guest's running
- *   processors, which may read and write the bytes of regions: see "Beside running processors" in docs/EMBEDDING.md.
+ *   one is not copied; it may be moved, and its old place is zeroed before it is used again. It holds memory from its
+ *   open to its close.
+ * - One call at a time uses it. Calls from several threads are ordered by a lock, a thread's start or join, or a
+ *   sequentially consistent atomic. No call comes from a signal handler, or from the child of a fork of a program with
+ *   threads.
+ * - No pointer is null, not even one to zero elements. Each is aligned, and has as many elements as its count says. No
+ *   two pointers of a call overlap, except lists that are only read; nor do the bytes of two regions: RAM that a guest
+ *   sees at two addresses is lent at one. The library keeps no pointer after a call.
+ * - While a call runs, nobody else writes what its pointers point to, or reads what it writes, except a guest's running
+ *   processors, which may read and write the bytes of regions: see "Beside running processors" in docs/DEVICES.md.
+ * - 32 KiB of stack are free; the most that was measured is 28.
+ * - malloc, realloc and free are one allocator. It aligns a block to each power of two up to 16 that divides its size.
  *
  * A call returns DMA330_OK, which is 0, or a negative code; dma330_status returns a state instead of DMA330_OK. A
  * call's comment lists its codes in the order in which they are tested; the first that applies is returned.
@@ -15,9 +22,8 @@
  * output, except `*place` where the code has a place, `*conflict` for DMA330_BUSY and DMA330_RUNNING, `*explanation` or
  * `*work` for DMA330_UNEXPLAINED and DMA330_BUFFER_TOO_SMALL, and a device for DMA330_BAD_SAVE.
  *
- * Further duties: 32 KiB of stack are free; no call comes from a signal handler or from the child of a fork of a program with
- * threads; malloc, realloc and free are one allocator. Addresses and lengths of segments have 32 bits, channels and events 8:
- * test a guest's number before you narrow it. A list of more than 64 segments may be cut to 65, which is refused too. */
+ * Addresses and lengths of segments have 32 bits, channels and events 8: test a guest's number before you narrow it. A
+ * list of more than 64 segments may be cut to 65, which is refused too. */
 #ifndef DMA330_H
 #define DMA330_H
 
@@ -367,7 +373,17 @@ enum dma330_ftrd {
     DMA330_FTRD_DBG_INSTR = 30        /* beside another bit */
 };
 
-/* What a call returns. */
+/* What a call returns. What to do about a refusal:
+ * - Fix the emulator: NOT_OPEN, ALREADY_OPEN, BAD_CHANNELS, SIZE_OUT_OF_RANGE, BAD_KIND, BUFFER_TOO_SMALL, NO_PROGRAM,
+ *   BAD_REGIONS, BAD_CONFIG. (BUFFER_TOO_SMALL and NO_PROGRAM of calls that explain a guest's program are no errors.)
+ * - Report it to the guest, or to whoever wrote the program or the text: EMPTY_LIST to SOURCE_MEETS_DESTINATION,
+ *   BAD_EVENT, NO_CHANNEL, OUT_OF_MEMORY_RANGE, BAD_RANGE, PROGRAM_TOO_LONG, BAD_MNEMONIC to BAD_FIELD, UNEXPLAINED.
+ * - Step the channel in `*conflict` (or resume or terminate it, or raise its event), handle the report, and try again:
+ *   BUSY, RUNNING.
+ * - Free something, and try again: NO_MEMORY.
+ * - Open a new controller: COOKIES_SPENT, STEPS_SPENT.
+ * - The snapshot is damaged, or of another version or device: BAD_SAVE, OTHER_DEVICE.
+ * - No errors: NO_RESULT, NOT_RUNNING. */
 enum dma330_code {
     DMA330_OK = 0,
     DMA330_NOT_OPEN = -1,             /* the controller, channel or device is zeroed or closed */
@@ -548,8 +564,10 @@ DMA330_INLINE const char *dma330_ftrd_name(uint32_t bit)
 
 /* ---- a controller and its memory ---- */
 
-/* Opens a controller with a memory of `size` zeros and with `channels` channels. Codes: ALREADY_OPEN, BAD_CHANNELS,
- * SIZE_OUT_OF_RANGE, NO_MEMORY. */
+/* Opens a controller with a memory of `size` zeros and with `channels` channels. It takes 2 KiB, 9,200 bytes for each
+ * channel, and 24 bytes for each 4 MiB of the memory. When a page of 4,096 bytes is first written, or a transfer to it
+ * starts, 16,384 bytes are allocated for it and its three neighbours; with the first page in 4 MiB another 6 KiB, and a
+ * byte or two for each page below it. Codes: ALREADY_OPEN, BAD_CHANNELS, SIZE_OUT_OF_RANGE, NO_MEMORY. */
 int32_t dma330_open(dma330_controller *controller, uint32_t size, uint8_t channels) DMA330_NO_NULLS;
 
 /* Frees what an open controller holds; it may be opened again. Does nothing if it isn't open. */
@@ -567,12 +585,13 @@ int32_t dma330_read(dma330_controller *controller, uint32_t addr, uint8_t *out, 
 
 /* ---- transfers ---- */
 
-/* Queues a copy of the source list's bytes to the places of the destination list on a channel, and writes its cookie, 1 for
- * the first of the channel. It waits for the event `wait` before it begins, and signals `signal` once all is stored. It
- * doesn't start before dma330_issue. A halted channel accepts it, and dma330_terminate aborts it with the rest. Each rule is
- * tested over both lists before the next. Codes: EMPTY_LIST, TOO_MANY_SEGMENTS, EMPTY_SEGMENT, SEGMENT_WRAPS, TOTALS_DIFFER,
- * TOO_LONG, DESTINATIONS_MEET, SOURCE_MEETS_DESTINATION, BAD_EVENT, NO_MEMORY, NO_CHANNEL, OUT_OF_MEMORY_RANGE,
- * COOKIES_SPENT, NO_MEMORY. */
+/* Queues a copy of the source list's bytes to the places of the destination list on a channel, and writes its cookie,
+ * 1 for the first of the channel. It waits for the event `wait` before it begins, and signals `signal` once all is
+ * stored; one that fails or is aborted doesn't signal. It doesn't start before dma330_issue, and not while a running
+ * transfer uses an address that it writes, or writes one that it uses. A halted channel accepts it, and
+ * dma330_terminate aborts it with the rest. Each rule is tested over both lists before the next. Codes: EMPTY_LIST,
+ * TOO_MANY_SEGMENTS, EMPTY_SEGMENT, SEGMENT_WRAPS, TOTALS_DIFFER, TOO_LONG, DESTINATIONS_MEET,
+ * SOURCE_MEETS_DESTINATION, BAD_EVENT, NO_MEMORY, NO_CHANNEL, OUT_OF_MEMORY_RANGE, COOKIES_SPENT, NO_MEMORY. */
 int32_t dma330_submit(dma330_controller *controller, uint8_t channel, const dma330_segment *src, size_t src_count,
                       const dma330_segment *dst, size_t dst_count, int32_t wait, int32_t signal,
                       uint32_t *cookie) DMA330_NO_NULLS;
@@ -630,7 +649,8 @@ int32_t dma330_steps(dma330_controller *controller, uint64_t *steps) DMA330_NO_N
  * raise, and for each wait that passes, each signal and each finish. */
 int32_t dma330_history_entries(dma330_controller *controller, uint64_t *count) DMA330_NO_NULLS;
 
-/* Writes the number of bytes of writes and reads that the history keeps, in time proportional to its entries. */
+/* Writes the number of bytes of writes and reads that the history keeps, in time proportional to its entries. Each
+ * entry takes 64 bytes, and more if it has over 22 bytes or lists of several segments. */
 int32_t dma330_history_bytes(dma330_controller *controller, uint64_t *count) DMA330_NO_NULLS;
 
 /* Writes the number of running transfers of all channels. */
@@ -650,8 +670,11 @@ int32_t dma330_unmark(dma330_controller *controller) DMA330_NO_NULLS;
  * removes the fill. Codes: BAD_EVENT, NO_MEMORY. */
 int32_t dma330_raise(dma330_controller *controller, uint8_t event) DMA330_NO_NULLS;
 
-/* Drops the history and the results of finished transfers, and frees their memory. It first needs memory for a copy of the
- * pages in use. Codes: RUNNING, NO_MEMORY. */
+/* Drops the history and the results of finished transfers, and frees their memory; nothing else changes. Transfers that
+ * haven't started stay. It first copies the chunks of pages in use: the controller then holds them twice, and three
+ * times during a later checkpoint. RUNNING also names a transfer that is paused or waits for an event: resume the
+ * channel, raise the event or terminate. If channels are always busy, don't step idle ones (dma330_running returns
+ * NOT_RUNNING) until the others finish. Codes: RUNNING, NO_MEMORY. */
 int32_t dma330_checkpoint(dma330_controller *controller, dma330_conflict *conflict) DMA330_NO_NULLS;
 
 /* ---- a channel over the caller's memory ----
@@ -661,7 +684,19 @@ int32_t dma330_checkpoint(dma330_controller *controller, dma330_conflict *confli
  * sees at two addresses is lent at one). Between calls memory and flags are the caller's to read and to write. Several
  * channels may step in turn over the same memory and flags, each call over the regions that it is lent. Each call but
  * open and close fails with NOT_OPEN if the channel isn't open; a call that fails changes nothing. An open channel has
- * room for the longest program, so load_program, load_from and restore allocate nothing. */
+ * room for the longest program, so load_program, load_from and restore allocate nothing.
+ *
+ * This is proved for a transfer that load_copy or load_fill loads, or load_from from memory that begins with its
+ * program:
+ * - Until its program ends, `report->written` has only destinations of the transfer, whatever others write.
+ * - Suppose that since the load each call on the channel was lent regions with the transfer's ranges, none of its
+ *   destinations read-only, and nobody else wrote there. Then the first `stored` bytes of the destinations, as
+ *   dma330_channel_registers counts them, are the sources' bytes at the load, and the rest of these ranges is
+ *   unchanged, also after a stop or a fault. After SIGNALLED or ENDED all bytes are copied. A call waits only for the
+ *   transfer's event, and fails only at a mark in these ranges.
+ * - Another channel may be loaded at any time, and stepped over regions of its own. It doesn't write there if no
+ *   `report->written` of it since the load has an address of these ranges, or if it runs the program of another
+ *   transfer whose destinations lie elsewhere. */
 
 /* Opens a channel without a program and without marks, with room for the longest program. Codes: ALREADY_OPEN, NO_MEMORY. */
 int32_t dma330_channel_open(dma330_channel *channel) DMA330_NO_NULLS;
@@ -713,10 +748,23 @@ int32_t dma330_channel_mark(dma330_channel *channel, uint32_t kind, dma330_segme
 int32_t dma330_channel_unmark(dma330_channel *channel) DMA330_NO_NULLS;
 
 /* Writes the whole channel, except its marks, as bytes, and their number, at most DMA330_MAX_SAVE. Codes:
- * BUFFER_TOO_SMALL. */
+ * BUFFER_TOO_SMALL. By offsets the bytes are as follows; numbers have their low byte first:
+ *
+ *     0               8 bytes: dma330, a 0, and the version of this layout, 1
+ *     8, 12, 16, 20   4 each: the offset of the next instruction, SAR, DAR, CCR
+ *     24, 25          1 each: LC0, LC1
+ *     26, 30          4 and 8: instructions executed, bytes stored since the load
+ *     38, 39          1 each: 1 if a program is loaded, 1 if it was compiled from a transfer, else 0
+ *     40              4: the cost of a compiled program, else 0
+ *     44, 46          2 each: the number of bytes in the buffer, and of the program
+ *     48              the buffer, oldest byte first, then the program
+ *     end             4: the Adler-32 checksum (RFC 1950) of all bytes before it */
 int32_t dma330_channel_save(dma330_channel *channel, uint8_t *out, size_t room, size_t *len) DMA330_NO_NULLS;
 
-/* Makes the channel the one that was saved. A save holds no marks; those of this channel stay. Codes: BAD_SAVE. */
+/* Makes the channel the one that was saved. A save holds no marks; those of this channel stay. Accepts bytes exactly if
+ * they have the layout above, with these values, with a CCR that DMAMOV accepts, an offset in the program or at its end
+ * (any number if none is loaded), at most 256 bytes stored for each instruction, and the right lengths and checksum. It
+ * doesn't test whether a program that is marked as compiled is one. Codes: BAD_SAVE. */
 int32_t dma330_channel_restore(dma330_channel *channel, const uint8_t *save, size_t len) DMA330_NO_NULLS;
 
 /* ---- a device over the caller's memory ----
@@ -756,11 +804,13 @@ int32_t dma330_device_write(dma330_device *device, uint32_t offset, uint32_t val
 int32_t dma330_device_step(dma330_device *device, uint8_t channel, uint32_t most, const dma330_region *regions,
                            size_t region_count, dma330_device_turn *turn) DMA330_NO_NULLS;
 
-/* Takes several turns of a channel, one for each row, where a loop copies the rows of a rectangle by pairs of DMALD and
- * DMAST, then DMAADDH SAR or not, then DMAADDH DAR. Else it takes one turn, which may end early where rows begin. The result
- * is that of `rows->count` calls of dma330_device_step with a `most` of `rows->steps`; `count` times `steps` is at most
- * `most`. Together they took `count` times `taken` steps. A dma330_device_turn has no such number: a host that needs it
- * makes this call in place of dma330_device_step. Codes: BAD_REGIONS. Since 1.6.0. */
+/* Takes several turns of a channel, one for each row, where a loop copies the rows of a rectangle by pairs of DMALD
+ * and DMAST with bursts of the same length, then DMAADDH SAR or not, then DMAADDH DAR, by multiples of the beats. All
+ * rows lie after their sources, or all before them. Else it takes one turn, which may end early where rows begin: if
+ * no row comes next, the call first looks for one in the next 300 instructions at most. The result is that of
+ * `rows->count` calls of dma330_device_step with a `most` of `rows->steps`; `count` times `steps` is at most `most`.
+ * Together they took `count` times `taken` steps. A dma330_device_turn has no such number: a host that needs it makes
+ * this call in place of dma330_device_step. Codes: BAD_REGIONS. Since 1.6.0. */
 int32_t dma330_device_step_rows(dma330_device *device, uint8_t channel, uint32_t most, const dma330_region *regions,
                                 size_t region_count, dma330_device_rows *rows) DMA330_NO_NULLS;
 
@@ -800,13 +850,32 @@ int32_t dma330_device_irq_abort(dma330_device *device, uint32_t *line) DMA330_NO
  * register, a reset or a restore: a turn changes nothing, and reports no byte and no line. */
 int32_t dma330_device_can_step(dma330_device *device, uint32_t *can_step) DMA330_NO_NULLS;
 
-/* Writes the whole device as bytes, and their number, at most DMA330_MAX_DEVICE_SAVE. The last 4 are a checksum of all
- * before them. Codes: BUFFER_TOO_SMALL. */
+/* Writes the whole device as bytes, and their number, at most DMA330_MAX_DEVICE_SAVE. Codes: BUFFER_TOO_SMALL. By
+ * offsets the bytes are as follows; numbers have their low byte first:
+ *
+ *     0            7 bytes: dma330 and a 1
+ *     7            1: the version of this layout, 2
+ *     8, 9, 10     1 each: channels, events, 1 if the manager is non-secure after a reset
+ *     11, 12       1 each: the codes of the bus in CRD (2 to 4) and of the revision in periph_id_2 (0 to 3)
+ *     13           2: the lines of the buffer, 1 to 1024
+ *     15           1: 1 if the manager is faulting, else 0
+ *     16           4: FTRD
+ *     20, 24, 28   4 each: the events that are set, the interrupts that are set, INTEN
+ *     32, 36       4 each: DBGINST0, DBGINST1
+ *     40           for each channel from 0 up, 4 each: CSR, FTR, the address at which its program begins, CPC, the
+ *                  length of its save; then its save, as dma330_channel_save writes it
+ *     end          4: the Adler-32 checksum (RFC 1950) of all bytes before it */
 int32_t dma330_device_save(dma330_device *device, uint8_t *out, size_t room, size_t *len) DMA330_NO_NULLS;
 
 /* Makes the device the one that was saved, by this version or an earlier one. Refuses bytes that are the save of no
- * device of this configuration, among them each save of this version in which one bit is flipped. Codes: OTHER_DEVICE;
- * BAD_SAVE, after which the device is in its state after a reset. */
+ * device of this configuration, among them each save of this version in which one byte is changed, but for the version
+ * to 1. Codes: OTHER_DEVICE, if the first 7 bytes are those above and the next 8 aren't version 1 or 2 with this
+ * configuration; BAD_SAVE, after which the device is in its state after a reset.
+ *
+ * In each save events, interrupts and INTEN have bits only of the device's events. A stopped channel has no program; one
+ * that executes or waits has one. One that waits is at CPC before a DMAWFE of an event of the device, and has executed
+ * fewer than 4294967295 instructions. No beat in CCR is wider than the bus. A save of version 1 has no checksum at its
+ * end, and at most 68200 bytes: a flipped bit outside its channels' saves may be restored. */
 int32_t dma330_device_restore(dma330_device *device, const uint8_t *save, size_t len) DMA330_NO_NULLS;
 
 /* ---- without a controller ----
@@ -839,16 +908,18 @@ int32_t dma330_version(char *out, size_t room, size_t *len) DMA330_NO_NULLS;
 int32_t dma330_run_program(const uint8_t *program, size_t len, uint8_t *memory, size_t size, uint32_t limit,
                            dma330_run_end *end) DMA330_NO_NULLS;
 
-/* Explains a program that begins with SAR, DAR, CCR, LC0 and LC1 at 0, as in a channel of this library: writes which
- * bytes it reads (`src`) and where it stores them (`dst`), each list in the order of the run, the events that it waits
- * for and signals, and the numbers of all. Byte number p that it reads is byte number p that it stores; no byte is stored
- * twice, or where one is read. `bus` is 0 for a channel of this library, or 32, 64 or 128 for one of a device. The call
- * runs the program once, without a memory, for at most `most` instructions: their order and addresses are the same in
- * each memory. So a channel that runs the program from these registers copies these bytes, if the regions have all these addresses, none that
- * it writes is read-only, no mark lies there, and nobody else writes there meanwhile. If UNEXPLAINED is returned, the
- * program isn't such a copy in at most `most` instructions: the explanation has the cause, the offset, and how many
+/* Explains a program that begins with SAR, DAR, CCR, LC0 and LC1 at 0, as in a channel of this library (a device's CCR
+ * after a reset, 0x00800200, has other protection bits, and copies alike): writes which bytes it reads (`src`) and
+ * where it stores them (`dst`), each list in the order of the run, the events that it waits for and signals, and the
+ * numbers of all. Byte number p that it reads is byte number p that it stores; no byte is stored twice, or where one is
+ * read. `bus` is 0 for a channel of this library, or 32, 64 or 128 for one of a device. The call runs the program once,
+ * without a memory, for at most `most` instructions: their order and addresses are the same in each memory. So a
+ * channel that runs the program from these registers copies these bytes, if the regions have all these addresses, none
+ * that it writes is read-only, no mark lies there, and nobody else writes there meanwhile. If UNEXPLAINED is returned,
+ * the program isn't such a copy in at most `most` instructions: the explanation has the cause, the offset, and how many
  * instructions come before it. For BUFFER_TOO_SMALL the explanation is that of DMA330_OK, so the numbers are the room
  * that is needed. Only DMA330_OK writes the lists, from their fronts.
+ * Each call writes the same items for a program; no two neighbours of a list could be one item.
  *
  * `most` bounds what a program of somebody else can cost. The time is proportional to the executed instructions, and at
  * the end the ranges that are stored are sorted. The call allocates up to 24 bytes for each executed DMAWFE and DMASEV,

@@ -13,6 +13,7 @@
 //   addresses is used at one: if it is ROM at one of them, at the other, else at the lower.
 // - `irq[n]`, `irq_abort` and `reset` may be left unbound. While `reset` is high, the device stays as after a reset.
 // - `on_written` is called with each range that a turn wrote: drop the code that was translated from it.
+// - `most` is 256 if it isn't given: copies then move some 2.5 GB/s.
 //
 // Time. A chip executes one instruction after another, of its channels in turn. So each step of a channel takes `step`,
 // and two channels that run take the sum of their steps. Here a channel's turn is up to `most` steps. When it begins,

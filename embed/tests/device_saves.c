@@ -29,7 +29,7 @@ static bool has(machine *from, const save *wanted)
     return found.len == wanted->len && memcmp(found.bytes, wanted->bytes, found.len) == 0;
 }
 
-/* The offsets in a save, and the length of its head (docs/FORMATS.md). */
+/* The offsets in a save, and the length of its head (dma330.h). */
 enum { VERSION = 7, CONFIG = 8, MANAGER_FAULTS = 15, EVENTS = 20, INTERRUPTS = 24, INTEN_AT = 28, HEAD = 40 };
 
 /* ---- devices of other configurations ---- */
@@ -373,7 +373,7 @@ static void goes_on_with_its_registers(void)
     dma330_device_reset(&m.device);
 }
 
-/* A save of this layout's version 1, byte by byte as docs/FORMATS.md says: INTEN and interrupt 0 are set, and the registers
+/* A save of this layout's version 1, byte by byte as dma330.h says: INTEN and interrupt 0 are set, and the registers
  * of its one channel are 0, as they were after a reset. Later versions have to restore it; the save of what is restored is
  * of version 2. */
 static void restores_this_layout(void)

@@ -246,7 +246,7 @@ static machine *machine_of(uint32_t bus)
     return m;
 }
 
-/* Returns a number of 4 bytes in the save of channel 0, at an offset that docs/FORMATS.md has. */
+/* Returns a number of 4 bytes in the save of channel 0, at an offset that dma330.h has. */
 static uint32_t saved(machine *m, size_t offset)
 {
     static uint8_t save[DMA330_MAX_DEVICE_SAVE];

@@ -1,6 +1,6 @@
 /* Tests dma330_explain, dma330_device_explain, dma330_plan and dma330_plan_fill: each cause but one, each code, the events, items
  * that are read several times, and plans for all four buses. What each test expects is worked out by hand from the manual
- * of the DMA-330 and docs/FORMATS.md. Link it with heap.h's flags. */
+ * of the DMA-330 and docs/PROGRAMS.md. Link it with heap.h's flags. */
 #include "guest.h"
 
 #include <stdio.h>

@@ -1,4 +1,4 @@
-/* Carries out rows by calls of the library: lines of scripts of `dmasim run` (docs/FORMATS.md), those that rows.txt adds,
+/* Carries out rows by calls of the library: lines of scripts of `dmasim run` (docs/SCRIPTS.md), those that rows.txt adds,
  * and inputs of `dmasim asm`, `dis` and `plan`. */
 #ifndef LINES_H
 #define LINES_H

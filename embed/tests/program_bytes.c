@@ -1,6 +1,6 @@
 /* Checks the macros of dma330_program.h: each instruction against the bytes that dma330_assemble writes for its text,
  * for all operands; control words against those in the programs of dma330_plan and dma330_plan_fill, whose form is in
- * docs/FORMATS.md; other words, and instructions that it doesn't assemble, against the manual, worked out by hand. */
+ * docs/PROGRAMS.md; other words, and instructions that it doesn't assemble, against the manual, worked out by hand. */
 #include "dma330.h"
 #include "dma330_program.h"
 

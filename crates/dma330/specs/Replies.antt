@@ -1,64 +1,48 @@
 -- What a request prints for its input (profile).
-use Rattle.std.specs.Prelude.{◌≡◌, ℕ, Bool, true, false, ◌==◌, if◌then◌else◌, List, [], ◌++◌, Option, Some, None, Result, Ok, Err, is_ok}
+use Rattle.std.specs.Prelude.{◌≡◌, ℕ, Bool, true, false, ◌==◌, if◌then◌else◌, List, [], ◌++◌, Option, Some, None, Ok, Err, is_ok}
 use Rattle.dma_chan.specs.declared.bus.Bus.{Bus}
 use Rattle.dma_mem.specs.declared.regions.Region.{Region}
-use Rattle.std.specs.Result.{result_unwrap_or}
-use Rattle.dma_io.specs.Answer.{Reply, under_name, with_note}
-use Rattle.dma_manual.specs.Assembled.{assembled, read_text}
-use Rattle.dma_manual.specs.Errors.{assembled_err, assembled_out}
+use Rattle.dma_io.specs.{Answer.Prints, Answer.under_name, Answer.with_note, Command.printed_text, Command.text_of, Printing.program_lines}
 use Rattle.dma_manual.specs.Listing.{is_whole, listed, rest_text, stop_text}
-use Rattle.dma_manual.specs.Notes.{end_warning, form_note, hint}
-use Rattle.dma_manual.specs.Pasted.{Program, pasted}
-use Rattle.dma_manual.specs.Refusal.{refusal}
-use Rattle.dma_manual.specs.declared.forms.Form.{Form}
-use Rattle.dma_manual.specs.declared.pasted.Spelling.{Spelling}
-use Rattle.dma_io.specs.Command.{printed_text}
+use Rattle.dma_manual.specs.{Assembled.program_of, Assembled.read_text, Errors.assembled_err, Notes.end_warning, Notes.form_note, Notes.hint, Pasted.Program}
+use Rattle.dma_manual.specs.{Pasted.pasted, Refusal.refusal, declared.forms.Form.Form, declared.pasted.Spelling.Spelling}
 use Rattle.dma_seeds.specs.Expect.{is_good, verdict, verdict_text, without_expects}
-use Rattle.dma_seeds.specs.Faults.{race_message, run_message}
-use Rattle.dma_seeds.specs.Race.{race_printed}
-use Rattle.dma_seeds.specs.Script.{script_text}
 use Rattle.dma_seeds.specs.Seeds.{seeds_printed, seeds_verdict, seeds_verdict_text}
-use Rattle.dma_seeds.specs.declared.seeds.SeedRange.{SeedRange}
-use Rattle.dma_why.specs.Laws.{CirclesStayAfter}
-use Rattle.dma_why.specs.Why.{why_printed}
-use Rattle.dma_trace.specs.declared.options.TraceOptions.{TraceOptions}
-use Rattle.dma_trace.specs.Explained.{Appends}
-use Rattle.dma_trace.specs.Found.{ShowsRam}
+use Rattle.dma_seeds.specs.{Faults.race_message, Faults.run_message, Race.race_printed, Script.script_text, declared.seeds.SeedRange.SeedRange}
+use Rattle.dma_why.specs.{Laws.CirclesStayAfter, Why.why_printed}
+use Rattle.dma_trace.specs.{declared.options.TraceOptions.TraceOptions, Explained.Appends, Found.ShowsRam}
 use Rattle.dma330.specs.declared.command_line.Request.{Request}
 use Rattle.dma330.specs.declared.command_line.Request.TheVariants.{Dis, Asm, Explain, Trace, Race, RaceSeeds, Why}
 
 -- `dis` lists the program, and says on standard error where it is none.
-abbrev pub Lists : ℕ → List ℕ → Reply → Type 0
+abbrev pub Lists : ℕ → List ℕ → Prints → Type 0
 Lists at program p =
     (p.out ≡ (listed at program).text ++ rest_text (listed at program).ending)
     × (p.err ≡ stop_text at (listed at program).ending)
     × (p.file ≡ []) × (p.succeeds ≡ is_whole (listed at program).ending)
 
--- the program that a text describes; no bytes for a text with a fault
-abbrev pub program_of : List ℕ → List ℕ
-program_of text = result_unwrap_or (assembled text) []
-
 -- `asm` prints the program's bytes in hexadecimal digits, or writes them to a file, with the first warning on standard
 -- error; or it says there what the text's first fault is.
-abbrev pub Assembles : Bool → List ℕ → Reply → Type 0
+abbrev pub Assembles : Bool → List ℕ → Prints → Type 0
 Assembles to_file text p =
-    (p.out ≡ (if to_file then [] else assembled_out (read_text text))) × (p.err ≡ assembled_err text (read_text text))
+    (p.out ≡ (if to_file then [] else text_of (program_lines (program_of text))))
+    × (p.err ≡ assembled_err text (read_text text))
     × (p.file ≡ (if to_file then program_of text else [])) × (p.succeeds ≡ is_ok (read_text text))
 
 -- `explain` prints what the program copies and sets to 0, or on standard error why nothing explains it, with warnings.
-abbrev pub Explains : Bus → ℕ → List ℕ → Reply → Type 0
+abbrev pub Explains : Bus → ℕ → List ℕ → Prints → Type 0
 Explains bus most program p = Appends bus program most p.succeeds [] [] p.out p.err × (p.file ≡ [])
 
 -- `trace` prints the program's trace over RAM, and on standard error what ends it early, and writes its waveform.
 -- If no RAM is given, it is zeros at the ranges that `explain` finds; if it finds none, standard error has why.
-abbrev pub Traces : TraceOptions → List Region → List ℕ → Reply → Type 0
+abbrev pub Traces : TraceOptions → List Region → List ℕ → Prints → Type 0
 Traces options ram program p =
     (after : List Region) × ShowsRam options program ram after p.succeeds [] [] [] p.out p.err p.file
 
 -- `race` prints what a race prints with its turns in the order of a seed, and on standard error the fault of the script
 -- or the first expect line that fails, and writes the same race as a script of `run`. The script is raced and written
 -- without its expect lines.
-abbrev pub Races : ℕ → List ℕ → Reply → Type 0
+abbrev pub Races : ℕ → List ℕ → Prints → Type 0
 Races seed script p =
     (p.out ≡ printed_text (race_printed (without_expects script) seed).groups)
     × (p.err ≡ race_message script ++ verdict_text (verdict script seed))
@@ -67,7 +51,7 @@ Races seed script p =
 -- `race --seeds` prints which outputs a race has with its turns in the orders of these seeds. On standard error it
 -- prints the fault of the script; or the first expect line that fails for the lowest seed with a failure, and the
 -- number of seeds with a failure.
-abbrev pub RacesSeeds : SeedRange → List ℕ → Reply → Type 0
+abbrev pub RacesSeeds : SeedRange → List ℕ → Prints → Type 0
 RacesSeeds seeds script p =
     (p.out ≡ seeds_printed (without_expects script) seeds)
     × (p.err ≡ race_message script ++ seeds_verdict_text (seeds_verdict script seeds) seeds) × (p.file ≡ [])
@@ -75,13 +59,13 @@ RacesSeeds seeds script p =
 
 -- `why` prints why each channel is where it is after a script, and on standard error the fault of the script. No steps
 -- after the script move a channel of a circle.
-abbrev pub Reasons : List ℕ → Reply → Type 0
+abbrev pub Reasons : List ℕ → Prints → Type 0
 Reasons script p =
     (p.out ≡ printed_text (why_printed script).groups) × (p.err ≡ run_message script) × (p.file ≡ [])
     × (p.succeeds ≡ ((why_printed script).status == 0)) × CirclesStayAfter script
 
 -- What a request prints for a program over RAM, without the name of the input.
-abbrev pub Replies : Request → List Region → List ℕ → Reply → Type 0
+abbrev pub Replies : Request → List Region → List ℕ → Prints → Type 0
 Replies (Dis at) ram input = Lists at input
 Replies (Asm to_file) ram input = Assembles to_file input
 Replies (Explain bus most) ram input = Explains bus most input
@@ -102,36 +86,36 @@ takes_program Why = false
 
 -- What a request prints for a program, with a warning if it begins with DMAEND, has more bytes and is taken without a
 -- fault.
-abbrev pub ProgramReplies : Request → List Region → List ℕ → Reply → Type 0
+abbrev pub ProgramReplies : Request → List Region → List ℕ → Prints → Type 0
 ProgramReplies request ram program p =
-    (q : Reply) × Replies request ram program q
+    (q : Prints) × Replies request ram program q
     × (p ≡ with_note q (end_warning (takes_program request) program q.succeeds))
 
 -- What a request prints for a program that is read from text, with a note on its form if it is a dump.
-abbrev pub FormReplies : Request → List Region → Option Form × List ℕ → Reply → Type 0
+abbrev pub FormReplies : Request → List Region → Option Form × List ℕ → Prints → Type 0
 FormReplies request ram program p =
-    (q : Reply) × ProgramReplies request ram program.1 q × (p ≡ with_note q (form_note program.0 q.err))
+    (q : Prints) × ProgramReplies request ram program.1 q × (p ≡ with_note q (form_note program.0 q.err))
 
 -- the same, or what it prints for the text's first fault
-abbrev pub ReadReplies : Request → List Region → List ℕ → Program → Reply → Type 0
+abbrev pub ReadReplies : Request → List Region → List ℕ → Program → Prints → Type 0
 ReadReplies request ram text (Ok program) p = FormReplies request ram program p
 ReadReplies request ram text (Err why) p = p ≡ refusal why text
 
 -- What a request prints for a program in text.
-abbrev pub TextReplies : Request → Spelling → List Region → List ℕ → Reply → Type 0
+abbrev pub TextReplies : Request → Spelling → List Region → List ℕ → Prints → Type 0
 TextReplies request spelling ram text = ReadReplies request ram text (pasted spelling text)
 
 -- What a request prints for an input that isn't read as text, without the name of the input.
-abbrev pub RawReplies : Request → List Region → List ℕ → Reply → Type 0
+abbrev pub RawReplies : Request → List Region → List ℕ → Prints → Type 0
 RawReplies request ram input p =
-    (q : Reply) × ProgramReplies request ram input q × (p ≡ with_note q (hint (takes_program request) input q.succeeds))
+    (q : Prints) × ProgramReplies request ram input q × (p ≡ with_note q (hint (takes_program request) input q.succeeds))
 
 -- What a request prints for an input, without the name of the input.
-abbrev pub InputReplies : Request → Option Spelling → List Region → List ℕ → Reply → Type 0
+abbrev pub InputReplies : Request → Option Spelling → List Region → List ℕ → Prints → Type 0
 InputReplies request (Some spelling) ram input = TextReplies request spelling ram input
 InputReplies request None ram input = RawReplies request ram input
 
 -- What a call prints: the message on standard error begins with the name of the input.
-abbrev pub Answers : Request → Option Spelling → List ℕ → List Region → List ℕ → Reply → Type 0
+abbrev pub Answers : Request → Option Spelling → List ℕ → List Region → List ℕ → Prints → Type 0
 Answers request spelling name ram input p =
-    (q : Reply) × InputReplies request spelling ram input q × (p ≡ under_name name q)
+    (q : Prints) × InputReplies request spelling ram input q × (p ≡ under_name name q)

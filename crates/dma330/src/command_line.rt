@@ -8,6 +8,7 @@ use dma_io::hexadecimal::Notation;
 use dma_manual::pasted::Spelling;
 use dma_mem::segment::Segment;
 use dma_seeds::seeds::SeedRange;
+use dma_trace::explain::USUAL_MOST;
 use dma_trace::options::TraceOptions;
 use std::alloc::{AllocError, AllocFailed, Global};
 
@@ -199,7 +200,7 @@ fn request_of<'a>(
         }),
         "explain" => Ok(Request::Explain {
             bus: bus_at(matches),
-            most: number_at(matches, "most", 10_000_000)?,
+            most: number_at(matches, "most", USUAL_MOST)?,
         }),
         "race" => race_of(matches),
         "why" => Ok(Request::Why),

@@ -1,5 +1,5 @@
 //! How far a long call has come, on standard error.
-use dma_text::progress::Progress;
+use dma_io::progress::Progress;
 use std::io::IsTerminal;
 use std::time::Instant;
 

@@ -4,14 +4,15 @@ ghost use Rattle.dma_mem.specs.Regions.{in_order, pieces_of};
 ghost use Rattle.dma_seeds.specs.Expect.{is_good, verdict_text};
 ghost use Rattle.dma_seeds.specs.Faults.{race_message};
 ghost use Rattle.dma_seeds.specs.Seeds.{seeds_verdict_text};
-ghost use Rattle.dma_io.specs.Answer.{reply_of};
-ghost use Rattle.dma330.specs.Replies.{Answers, Assembles, Explains, FormReplies, InputReplies, Lists, ProgramReplies, Races, RacesSeeds, RawReplies, Reasons, Replies, TextReplies, Traces, program_of, takes_program};
+ghost use Rattle.dma_io.specs.Answer.{prints_of};
+ghost use Rattle.dma330.specs.Replies.{Answers, Assembles, Explains, FormReplies, InputReplies, Lists, ProgramReplies, Races, RacesSeeds, RawReplies, Reasons, Replies, TextReplies, Traces, takes_program};
 
 use crate::command_line::Request;
 use dma_chan::bus::Bus;
 use dma_io::answer::Answer;
-use dma_manual::assembler::{assemble, assemble_text};
-use dma_manual::errors::AsmError;
+use dma_io::printing::ProgramLines;
+use dma_io::progress::Progress;
+use dma_manual::assembler::assemble_text;
 use dma_manual::listing::disassemble;
 use dma_manual::notes::{end_warning, hint, with_form};
 use dma_manual::pasted::{Pasted, Spelling, read_pasted};
@@ -22,7 +23,7 @@ use dma_seeds::faults::{push_race_message, push_run_message};
 use dma_seeds::race::race_by_seed;
 use dma_seeds::script::script_of_seed;
 use dma_seeds::seeds::{SeedRange, SeedsVerdict, race_by_seeds};
-use dma_text::progress::Progress;
+use dma_text::text::print;
 use dma_trace::explain::explain;
 use dma_trace::options::TraceOptions;
 use dma_trace::trace::trace;
@@ -31,43 +32,26 @@ use std::alloc::{AllocError, Global};
 
 /// Returns what `dis` prints for a program.
 fn listing(alloc: Global, program: &[u8], at: u32) -> Result<Answer, AllocError>
-    ensures { IfOk result (λ answer. Lists at program.now (reply_of answer)) }
+    ensures { IfOk result (λ answer. Lists at program.now (prints_of answer)) }
 {
     let mut out = Vec::new(alloc);
     let mut err = Vec::new(alloc);
     let succeeds = disassemble(alloc, program, at, &mut out, &mut err)?;
-    Ok(Answer::printed(alloc, out, err, succeeds))
-}
-
-/// Returns the bytes of the program that a text describes, or no bytes for a text with a fault.
-fn program_of(alloc: Global, text: &[u8]) -> Result<Vec<u8>, AllocError>
-    ensures { IfOk result (λ program. program.items ≡ program_of text.now) }
-{
-    match assemble(alloc, text) {
-        Ok(program) => Ok(program),
-        Err(AsmError::Wrong(_)) => Ok(Vec::new(alloc)),
-        Err(AsmError::NoMemory) => Err(AllocError),
-    }
+    Ok(Answer::new(out, err, Vec::new(alloc), succeeds))
 }
 
 /// Returns what `asm` prints for a text.
 fn assembly(alloc: Global, text: &[u8], to_file: bool) -> Result<Answer, AllocError>
-    ensures { IfOk result (λ answer. Assembles to_file text.now (reply_of answer)) }
+    ensures { IfOk result (λ answer. Assembles to_file text.now (prints_of answer)) }
 {
-    let mut out = Vec::new(alloc);
     let mut err = Vec::new(alloc);
-    let succeeds = assemble_text(alloc, text, &mut out, &mut err)?;
-    let mut file = Vec::new(alloc);
+    let (program, succeeds) = assemble_text(alloc, text, &mut err)?;
+    let mut out = Vec::new(alloc);
     if to_file {
-        out.clear();
-        file = program_of(alloc, text)?;
+        return Ok(Answer::new(out, err, program, succeeds));
     }
-    Ok(Answer {
-        out,
-        err,
-        file,
-        succeeds,
-    })
+    print(&mut out, &ProgramLines(&program))?;
+    Ok(Answer::new(out, err, Vec::new(alloc), succeeds))
 }
 
 /// Returns what `explain` prints for a program.
@@ -78,12 +62,12 @@ fn explanation<P: Progress>(
     most: u32,
     progress: &mut P,
 ) -> Result<Answer, AllocError>
-    ensures { IfOk result (λ answer. Explains bus most program.now (reply_of answer)) }
+    ensures { IfOk result (λ answer. Explains bus most program.now (prints_of answer)) }
 {
     let mut out = Vec::new(alloc);
     let mut err = Vec::new(alloc);
     let succeeds = explain(alloc, program, bus, most, &mut out, &mut err, progress)?;
-    Ok(Answer::printed(alloc, out, err, succeeds))
+    Ok(Answer::new(out, err, Vec::new(alloc), succeeds))
 }
 
 /// Returns what `trace` prints for a program over RAM, with the waveform for its file.
@@ -96,7 +80,7 @@ fn tracing<P: Progress>(
 ) -> Result<Answer, AllocError>
     requires { IsTrue (in_order (pieces_of ram.old)) }
     ensures { IfOk result (λ answer.
-        Traces options.now ram.old program.now (reply_of answer)) }
+        Traces options.now ram.old program.now (prints_of answer)) }
 {
     let mut out = Vec::new(alloc);
     let mut err = Vec::new(alloc);
@@ -104,12 +88,7 @@ fn tracing<P: Progress>(
     let succeeds = trace(
         alloc, program, ram, options, &mut out, &mut err, &mut file, progress,
     )?;
-    Ok(Answer {
-        out,
-        err,
-        file,
-        succeeds,
-    })
+    Ok(Answer::new(out, err, file, succeeds))
 }
 
 /// Returns the answer with the output of a race, the fault of its script or its verdict, and the text for its file.
@@ -120,7 +99,7 @@ fn judged(
     verdict: &Verdict,
     file: Vec<u8>,
 ) -> Result<Answer, AllocError>
-    ensures { IfOk result (λ answer. reply_of answer ≡ record {
+    ensures { IfOk result (λ answer. prints_of answer ≡ record {
       out = out.items;
       err = race_message script.now ++ verdict_text verdict.now;
       file = file.items;
@@ -131,17 +110,12 @@ fn judged(
     push_race_message(alloc, script, &mut err)?;
     verdict.print(&mut err)?;
     let succeeds = verdict.is_good();
-    Ok(Answer {
-        out,
-        err,
-        file,
-        succeeds,
-    })
+    Ok(Answer::new(out, err, file, succeeds))
 }
 
 /// Returns what `race` prints for a script, with the script of `run` for its file.
 fn racing(alloc: Global, script: &[u8], seed: u64) -> Result<Answer, AllocError>
-    ensures { IfOk result (λ answer. Races seed script.now (reply_of answer)) }
+    ensures { IfOk result (λ answer. Races seed script.now (prints_of answer)) }
 {
     let mut file = Vec::new(alloc);
     script_of_seed(alloc, script, seed, &mut file)?;
@@ -158,7 +132,7 @@ fn all_judged(
     out: Vec<u8>,
     verdict: &SeedsVerdict,
 ) -> Result<Answer, AllocError>
-    ensures { IfOk result (λ answer. reply_of answer ≡ record {
+    ensures { IfOk result (λ answer. prints_of answer ≡ record {
       out = out.items;
       err = race_message script.now ++ seeds_verdict_text verdict.now seeds;
       file = [];
@@ -169,7 +143,7 @@ fn all_judged(
     push_race_message(alloc, script, &mut err)?;
     verdict.print(seeds, &mut err)?;
     let succeeds = verdict.first.is_good();
-    Ok(Answer::printed(alloc, out, err, succeeds))
+    Ok(Answer::new(out, err, Vec::new(alloc), succeeds))
 }
 
 /// Returns what `race` prints for a script and a range of seeds.
@@ -179,7 +153,7 @@ fn racing_seeds<P: Progress>(
     seeds: SeedRange,
     progress: &mut P,
 ) -> Result<Answer, AllocError>
-    ensures { IfOk result (λ answer. RacesSeeds seeds script.now (reply_of answer)) }
+    ensures { IfOk result (λ answer. RacesSeeds seeds script.now (prints_of answer)) }
 {
     let mut out = Vec::new(alloc);
     let verdict = race_by_seeds(alloc, script, seeds, &mut out, progress)?;
@@ -188,13 +162,13 @@ fn racing_seeds<P: Progress>(
 
 /// Returns what `why` prints for a script.
 fn reasons(alloc: Global, script: &[u8]) -> Result<Answer, AllocError>
-    ensures { IfOk result (λ answer. Reasons script.now (reply_of answer)) }
+    ensures { IfOk result (λ answer. Reasons script.now (prints_of answer)) }
 {
     let mut out = Vec::new(alloc);
     let succeeds = why(alloc, script, &mut out)?;
     let mut err = Vec::new(alloc);
     push_run_message(alloc, script, &mut err)?;
-    Ok(Answer::printed(alloc, out, err, succeeds))
+    Ok(Answer::new(out, err, Vec::new(alloc), succeeds))
 }
 
 /// Returns what a request prints for a program.
@@ -207,7 +181,7 @@ fn reply<P: Progress>(
 ) -> Result<Answer, AllocError>
     requires { IsTrue (in_order (pieces_of ram.old)) }
     ensures { IfOk result (λ answer.
-        Replies request.now ram.old input.now (reply_of answer)) }
+        Replies request.now ram.old input.now (prints_of answer)) }
 {
     match request {
         Request::Dis { at } => listing(alloc, input, *at),
@@ -240,7 +214,7 @@ fn program_reply<P: Progress>(
 ) -> Result<Answer, AllocError>
     requires { IsTrue (in_order (pieces_of ram.old)) }
     ensures { IfOk result (λ answer.
-        ProgramReplies request.now ram.old program.now (reply_of answer)) }
+        ProgramReplies request.now ram.old program.now (prints_of answer)) }
 {
     let replied = reply(alloc, request, program, ram, progress)?;
     let note = end_warning(takes_program(request), program, replied.succeeds);
@@ -257,7 +231,7 @@ fn pasted_reply<P: Progress>(
 ) -> Result<Answer, AllocError>
     requires { IsTrue (in_order (pieces_of ram.old)) }
     ensures { IfOk result (λ answer. FormReplies request.now ram.old
-        (program.now.form, program.now.bytes.items) (reply_of answer)) }
+        (program.now.form, program.now.bytes.items) (prints_of answer)) }
 {
     let replied = program_reply(alloc, request, &program.bytes, ram, progress)?;
     with_form(replied, program.form)
@@ -274,7 +248,7 @@ fn text_reply<P: Progress>(
 ) -> Result<Answer, AllocError>
     requires { IsTrue (in_order (pieces_of ram.old)) }
     ensures { IfOk result (λ answer.
-        TextReplies request.now spelling ram.old text.now (reply_of answer)) }
+        TextReplies request.now spelling ram.old text.now (prints_of answer)) }
 {
     match read_pasted(alloc, spelling, text)? {
         Ok(program) => pasted_reply(alloc, request, &program, ram, progress),
@@ -292,7 +266,7 @@ fn raw_reply<P: Progress>(
 ) -> Result<Answer, AllocError>
     requires { IsTrue (in_order (pieces_of ram.old)) }
     ensures { IfOk result (λ answer.
-        RawReplies request.now ram.old input.now (reply_of answer)) }
+        RawReplies request.now ram.old input.now (prints_of answer)) }
 {
     let replied = program_reply(alloc, request, input, ram, progress)?;
     let note = hint(takes_program(request), input, replied.succeeds);
@@ -310,7 +284,7 @@ fn input_reply<P: Progress>(
 ) -> Result<Answer, AllocError>
     requires { IsTrue (in_order (pieces_of ram.old)) }
     ensures { IfOk result (λ answer.
-        InputReplies request.now spelling ram.old input.now (reply_of answer)) }
+        InputReplies request.now spelling ram.old input.now (prints_of answer)) }
 {
     match spelling {
         Some(spelling) => text_reply(alloc, request, spelling, input, ram, progress),
@@ -330,7 +304,7 @@ pub fn answer<P: Progress>(
 ) -> Result<Answer, AllocError>
     requires { IsTrue (in_order (pieces_of ram.old)) }
     ensures { IfOk result (λ answer.
-        Answers request.now spelling name.now ram.old input.now (reply_of answer)) }
+        Answers request.now spelling name.now ram.old input.now (prints_of answer)) }
 {
     let replied = input_reply(alloc, request, spelling, input, ram, progress)?;
     replied.under_name(alloc, name)

@@ -1,22 +1,15 @@
 -- On a chip's bus a burst leaves its address at a multiple of its beat's size.
 use Rattle.std.proofs.Common.{◌≡◌, ℕ, ◌+◌, ◌-◌, ◌*◌, ◌/◌, ◌%◌, ◌^◌, ◌≤◌, ◌<◌, Bool, true, false, refl, sym, ap, ◌∙◌, subst, arith}
 use Rattle.std.specs.Prelude.{◌==◌}
-use Rattle.std.proofs.lemmas.Nat.{div-add-mod', mod_below, mul-le}
-use Rattle.std.proofs.Math.Pow.{mod-mod-pow}
-use Rattle.std.proofs.Math.Nat.{mul-mod_left}
-use Rattle.dma_insn.specs.ControlWord.{field}
-use Rattle.dma_insn.specs.declared.chip.ChipInsn.TheVariants.{Ld, St}
-use Rattle.dma_chan.specs.declared.bus.Bus.{Bus}
-use Rattle.dma_chan.specs.declared.bus.Bus.TheVariants.{Chip}
-use Rattle.dma_chan.specs.declared.bus.BusWidth.{BusWidth}
-use Rattle.dma_chan.specs.Aligned.{AddressesAlign, LeavesOutPart}
-use Rattle.dma_chan.specs.Bursts.{advance, burst_at, skip_of}
-use Rattle.dma_chan.specs.Exec.{wrapped}
-use Rattle.dma_chan.proofs.CallWrites.{act_leads}
-use Rattle.dma_chan.proofs.ControlWords.{moves_some}
+use Rattle.std.proofs.{lemmas.Nat.div-add-mod', lemmas.Nat.mod_below, lemmas.Nat.mul-le, Math.Pow.mod-mod-pow, Math.Nat.mul-mod_left}
+use Rattle.dma_insn.specs.{ControlWord.field, declared.chip.ChipInsn.TheVariants.Ld, declared.chip.ChipInsn.TheVariants.St}
+use Rattle.dma_chan.specs.{declared.bus.Bus.Bus, declared.bus.Bus.TheVariants.Chip, declared.bus.BusWidth.BusWidth, Aligned.AddressesAlign}
+use Rattle.dma_chan.specs.{Aligned.LeavesOutPart, Bursts.advance, Bursts.burst_at, Bursts.skip_of, Exec.wrapped}
+use Rattle.dma_chan.proofs.{CallWrites.act_leads, ControlWords.moves_some}
 
 -- the first beat of a rising burst of a chip ends at a multiple of its size
-skip_is : (width : BusWidth) (k a w : ℕ) → (burst_at (Chip width) k a w).increments ≡ true → (burst_at (Chip width) k a w).skip ≡ a % (burst_at (Chip width) k a w).size
+skip_is : (width : BusWidth) (k a w : ℕ) → (burst_at (Chip width) k a w).increments ≡ true
+    → (burst_at (Chip width) k a w).skip ≡ a % (burst_at (Chip width) k a w).size
 unfolding burst_at
 skip_is width k a w up = by (field k 1 w == 1) up
   where
@@ -40,7 +33,8 @@ wraps_whole bus k a b w whole =
     let all : 32 ≡ 32 - f + f = omega arith in
     ap (λ (n : ℕ). b % 2 ^ n % 2 ^ f) all ∙ mod-mod-pow b (32 - f) f ∙ whole
 
-lands : (width : BusWidth) (k a w : ℕ) → (burst_at (Chip width) k a w).increments ≡ true → wrapped (a + advance (burst_at (Chip width) k a w)) % (burst_at (Chip width) k a w).size ≡ 0
+lands : (width : BusWidth) (k a w : ℕ) → (burst_at (Chip width) k a w).increments ≡ true
+    → wrapped (a + advance (burst_at (Chip width) k a w)) % (burst_at (Chip width) k a w).size ≡ 0
 lands width k a w up =
     let b = burst_at (Chip width) k a w in
     let some = moves_some (Chip width) k a w in
@@ -61,10 +55,12 @@ addresses_align marks s width on =
     record {
       source = λ moved.
           rw (act_leads marks Ld s moved)
-          (subst (λ (bus : Bus). (burst_at bus 0 r.sar r.ccr).increments ≡ true → wrapped (r.sar + advance (burst_at bus 0 r.sar r.ccr)) % (burst_at bus 0 r.sar r.ccr).size ≡ 0) (sym on) (lands width 0 r.sar r.ccr));
+          (subst (λ (bus : Bus). (burst_at bus 0 r.sar r.ccr).increments ≡ true
+          → wrapped (r.sar + advance (burst_at bus 0 r.sar r.ccr)) % (burst_at bus 0 r.sar r.ccr).size ≡ 0) (sym on) (lands width 0 r.sar r.ccr));
       destination = λ moved.
           rw (act_leads marks St s moved)
-          (subst (λ (bus : Bus). (burst_at bus 14 r.dar r.ccr).increments ≡ true → wrapped (r.dar + advance (burst_at bus 14 r.dar r.ccr)) % (burst_at bus 14 r.dar r.ccr).size ≡ 0) (sym on) (lands width 14 r.dar r.ccr));
+          (subst (λ (bus : Bus). (burst_at bus 14 r.dar r.ccr).increments ≡ true
+          → wrapped (r.dar + advance (burst_at bus 14 r.dar r.ccr)) % (burst_at bus 14 r.dar r.ccr).size ≡ 0) (sym on) (lands width 14 r.dar r.ccr));
       loaded = leaves_part r.bus 0 r.sar r.ccr;
       stored = leaves_part r.bus 14 r.dar r.ccr;
     }

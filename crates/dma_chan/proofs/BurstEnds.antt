@@ -2,14 +2,10 @@
 use Rattle.std.proofs.Common.{◌≡◌, ℕ, ◌+◌, ◌^◌, Option, Some, None, refl, ap, ◌∙◌}
 use Rattle.std.specs.Option.{option_map}
 use Rattle.std.proofs.lemmas.Option.{same_Some}
-use Rattle.dma_insn.specs.declared.control.BeatSize.{BeatSize}
-use Rattle.dma_insn.specs.declared.control.BeatSize.TheVariants.{One}
-use Rattle.dma_insn.specs.declared.control.BurstEnd.{BurstEnd}
 use Rattle.dma_insn.specs.ControlWord.{field, size_code, size_of, beat_bytes, end_with, end_at}
+use Rattle.dma_insn.specs.{declared.control.BeatSize.BeatSize, declared.control.BeatSize.TheVariants.One, declared.control.BurstEnd.BurstEnd}
 use Rattle.dma_insn.proofs.ControlLaws.{size_code_size_of}
-use Rattle.dma_chan.specs.declared.bursts.Burst.{Burst}
-use Rattle.dma_chan.specs.declared.bus.Bus.{Bus}
-use Rattle.dma_chan.specs.Bursts.{burst_at, skip_of}
+use Rattle.dma_chan.specs.{declared.bursts.Burst.Burst, declared.bus.Bus.Bus, Bursts.burst_at, Bursts.skip_of}
 
 -- the bytes of a beat are a power of two, by its code
 pub beat_bytes_power : (s : BeatSize) → beat_bytes s ≡ 2 ^ size_code s
@@ -25,7 +21,8 @@ burst_of bus addr e = record {
   skip = skip_of bus e.increments addr (beat_bytes e.size);
 }
 
-of_size : (bus : Bus) (k addr w : ℕ) (o : Option BeatSize) (e : BurstEnd) → size_of (field (k + 1) 3 w) ≡ o → option_map (end_with k w) o ≡ Some e → burst_of bus addr e ≡ burst_at bus k addr w
+of_size : (bus : Bus) (k addr w : ℕ) (o : Option BeatSize) (e : BurstEnd) → size_of (field (k + 1) 3 w) ≡ o → option_map (end_with k w) o ≡ Some e
+    → burst_of bus addr e ≡ burst_at bus k addr w
 unfolding burst_at
 of_size bus k addr w None e is h = absurd (cc)
 of_size bus k addr w (Some s) e is h =
@@ -34,6 +31,8 @@ of_size bus k addr w (Some s) e is h =
     rw (← same, size) refl
 
 -- the burst of the end whose lowest bit is bit k
-pub burst_of_end : (bus : Bus) (k addr w : ℕ) (e : BurstEnd) → end_at k w ≡ Some e → record { addr = addr; increments = e.increments; size = beat_bytes e.size; beats = e.beats; skip = skip_of bus e.increments addr (beat_bytes e.size) } ≡ burst_at bus k addr w
+pub burst_of_end : (bus : Bus) (k addr w : ℕ) (e : BurstEnd) → end_at k w ≡ Some e
+    → record { addr = addr; increments = e.increments; size = beat_bytes e.size; beats = e.beats; skip = skip_of bus e.increments addr (beat_bytes e.size) } ≡
+    burst_at bus k addr w
 unfolding end_at
 burst_of_end bus k addr w e h = of_size bus k addr w (size_of (field (k + 1) 3 w)) e refl h

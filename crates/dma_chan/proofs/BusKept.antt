@@ -2,14 +2,10 @@
 use Rattle.std.proofs.Common.{◌≡◌, ℕ, zero, suc, Result, refl, ◌∙◌}
 use Rattle.dma_insn.specs.declared.chip.ChipInsn.{ChipInsn}
 use Rattle.dma_mem.specs.Marking.{MarkList}
-use Rattle.dma_chan.specs.declared.turn.ChanTurn.{ChanTurn}
-use Rattle.dma_chan.specs.declared.turn.ChanTurn.TheVariants.{Moved}
-use Rattle.dma_chan.specs.declared.turn.FaultKind.{FaultKind}
 use Rattle.dma_chan.specs.Channel.{ChannelValue, after_turn, ahead_of, state_of, step_of, stored_by}
-use Rattle.dma_chan.specs.Exec.{State, exec_fetched}
-use Rattle.dma_chan.specs.Stepping.{Machine, after_steps}
-use Rattle.dma_chan.proofs.ActCases.{fetched_cases}
-use Rattle.dma_chan.proofs.MembersByNumber.{bus_moved}
+use Rattle.dma_chan.specs.{declared.turn.ChanTurn.ChanTurn, declared.turn.ChanTurn.TheVariants.Moved, declared.turn.FaultKind.FaultKind, Exec.State}
+use Rattle.dma_chan.specs.{Exec.exec_fetched, Stepping.Machine, Stepping.after_steps}
+use Rattle.dma_chan.proofs.{ActCases.fetched_cases, MembersByNumber.bus_moved}
 
 abbrev Keeps : State → ChanTurn × State → Type 0
 Keeps s x = x.1.registers.bus ≡ s.registers.bus
@@ -18,9 +14,21 @@ fetched_bus : (marks : MarkList) (next : Result ChipInsn FaultKind) (s : State) 
 fetched_bus marks next s =
     fetched_cases (Keeps s) marks next s (λ _. refl) (λ i _ _.
     let same = bus_moved i s.registers in
-    record { moves = same; keeps = same; loads = same; stores = λ _ _. same; zeros = λ _. same; sets = λ _ _. same; takes = λ _ _ _. same; waits = λ _ _ _ _. refl; ends = refl })
+    record {
+      moves = same;
+      keeps = same;
+      loads = same;
+      stores = λ _ _. same;
+      zeros = λ _. same;
+      sets = λ _ _. same;
+      takes = λ _ _ _. same;
+      waits =
+          λ _ _ _ _. refl;
+      ends = refl;
+    })
 
-turn_bus : (turn : ChanTurn) (s : State) (n : ℕ) (c : ChannelValue) → s.registers.bus ≡ c.registers.bus → (after_turn turn s n c).registers.bus ≡ c.registers.bus
+turn_bus : (turn : ChanTurn) (s : State) (n : ℕ) (c : ChannelValue) → s.registers.bus ≡ c.registers.bus
+    → (after_turn turn s n c).registers.bus ≡ c.registers.bus
 turn_bus Moved s n c same = same
 turn_bus turn s n c same = refl
 

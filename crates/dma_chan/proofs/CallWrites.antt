@@ -2,15 +2,10 @@
 use Rattle.std.proofs.Common.{◌≡◌, refl, ap, Ok}
 use Rattle.dma_insn.specs.declared.chip.ChipInsn.{ChipInsn}
 use Rattle.dma_mem.specs.Marking.{MarkList}
-use Rattle.dma_chan.specs.declared.exec.Registers.{Registers}
-use Rattle.dma_chan.specs.declared.turn.ChanTurn.{ChanTurn}
-use Rattle.dma_chan.specs.declared.turn.ChanTurn.TheVariants.{Moved}
-use Rattle.dma_chan.specs.Exec.{State, act, exec_fetched, moved}
-use Rattle.dma_chan.specs.Channel.{ahead_of, state_of, step_of, after_turn, stored_by}
-use Rattle.dma_chan.specs.Stepping.{Machine, answer_at, after_step, written_after}
-use Rattle.dma_chan.specs.CallWrites.{CallWritesNoOther}
-use Rattle.dma_chan.proofs.ActCases.{act_cases}
-use Rattle.dma_chan.proofs.SteppedOver.{kept_outside}
+use Rattle.dma_chan.specs.{declared.exec.Registers.Registers, declared.turn.ChanTurn.ChanTurn, declared.turn.ChanTurn.TheVariants.Moved, Exec.State, Exec.act}
+use Rattle.dma_chan.specs.{Exec.exec_fetched, Exec.moved, Channel.ahead_of, Channel.state_of, Channel.step_of, Channel.after_turn, Channel.stored_by}
+use Rattle.dma_chan.specs.{Stepping.Machine, Stepping.answer_at, Stepping.after_step, Stepping.written_after, CallWrites.CallWritesNoOther}
+use Rattle.dma_chan.proofs.{ActCases.act_cases, SteppedOver.kept_outside}
 
 -- ---- any program
 
@@ -39,9 +34,12 @@ act_leads marks i s =
 -- ---- one step
 
 -- the channel after it, by its answer
-pub turned : (marks : MarkList) (u : Machine) (turn : ChanTurn) → answer_at marks u ≡ turn → (after_step marks u).channel ≡ after_turn turn (step_of marks u.channel u.image u.flags).1 (stored_by (ahead_of u.channel) u.channel.registers) u.channel
-turned marks u turn e = ap (λ (v : ChanTurn). after_turn v (step_of marks u.channel u.image u.flags).1 (stored_by (ahead_of u.channel) u.channel.registers) u.channel) e
+pub turned : (marks : MarkList) (u : Machine) (turn : ChanTurn) → answer_at marks u ≡ turn
+    → (after_step marks u).channel ≡ after_turn turn (step_of marks u.channel u.image u.flags).1 (stored_by (ahead_of u.channel) u.channel.registers) u.channel
+turned marks u turn e = ap
+    (λ (v : ChanTurn). after_turn v (step_of marks u.channel u.image u.flags).1 (stored_by (ahead_of u.channel) u.channel.registers) u.channel) e
 
 -- what it does, by the next instruction
-pub does_next : (marks : MarkList) (i : ChipInsn) (u : Machine) → ahead_of u.channel ≡ Ok i → step_of marks u.channel u.image u.flags ≡ act marks i (state_of u.channel u.image u.flags)
+pub does_next : (marks : MarkList) (i : ChipInsn) (u : Machine) → ahead_of u.channel ≡ Ok i
+    → step_of marks u.channel u.image u.flags ≡ act marks i (state_of u.channel u.image u.flags)
 does_next marks i u ahead = ap (λ r. exec_fetched marks r (state_of u.channel u.image u.flags)) ahead

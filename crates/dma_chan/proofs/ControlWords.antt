@@ -1,25 +1,18 @@
 -- The control words of a compiled program.
-use Rattle.std.proofs.Common.{◌≡◌, ℕ, ◌+◌, ◌-◌, ◌*◌, ◌/◌, ◌%◌, ◌^◌, ◌≤◌, ◌<◌, Bool, true, false, cond, zero, suc, refl, subst, sym, ap, ◌∙◌, arith, Some, inl, inr}
-use Rattle.std.specs.Prelude.{◌==◌, nat_le, not, replicate}
-use Rattle.std.specs.List.{range_with_len}
+use Rattle.std.proofs.Common.{◌≡◌, ℕ, ◌+◌, ◌-◌, ◌*◌, ◌/◌, ◌%◌, ◌^◌, ◌≤◌, ◌<◌, Bool, true, false, cond, zero, suc, refl, subst, sym, ap, ◌∙◌, arith, Some, inl}
+use Rattle.std.proofs.Common.{inr}
+use Rattle.std.specs.{Prelude.◌==◌, Prelude.nat_le, Prelude.not, Prelude.replicate, List.range_with_len}
 use Rattle.std.proofs.lemmas.Nat.{mod_below, pow_below, pow_pos}
 use Rattle.std.proofs.lemmas.Bool.{and_parts, cases_lt, cond_both, eqb-true, le-leb, leb-true}
 use Rattle.std.proofs.Math.Nat.{add-mod-mod, mod-one, mul-mod_left, zero-mod}
 use Rattle.dma_insn.specs.declared.control.BeatSize.{BeatSize}
 use Rattle.dma_insn.specs.declared.control.BeatSize.TheVariants.{One, Two, Four, Eight, Sixteen}
 use Rattle.dma_insn.specs.ControlWord.{control_of, is_control, end_at, field, size_code, size_of, beat_bytes, bits_of, end_bits}
-use Rattle.dma_chan.specs.declared.bus.Bus.{Bus}
-use Rattle.dma_chan.specs.declared.bus.Bus.TheVariants.{Ideal, Chip}
-use Rattle.dma_chan.specs.Bus.{accepts, bus_code, widest_beat}
-use Rattle.dma_chan.specs.declared.pieces.Piece.{Piece}
 use Rattle.dma_chan.specs.Compiled.{beat_of, control_word, burst_end, fits}
-use Rattle.dma_chan.specs.declared.bursts.Burst.{Burst}
 use Rattle.dma_chan.specs.Bursts.{IsAligned, burst_at, burst_len, skip_of, span_of, touched, advance}
-use Rattle.dma_chan.specs.Traffic.{len_by}
-use Rattle.dma_chan.specs.inner.Spans.{MovesSome}
-use Rattle.dma_chan.proofs.BurstEnds.{beat_bytes_power}
-use Rattle.dma_chan.proofs.BurstRounds.{one_again}
-use Rattle.dma_chan.proofs.CutPlaces.{run_of, way}
+use Rattle.dma_chan.specs.{declared.bus.Bus.Bus, declared.bus.Bus.TheVariants.Ideal, declared.bus.Bus.TheVariants.Chip, Bus.accepts, Bus.bus_code}
+use Rattle.dma_chan.specs.{Bus.widest_beat, declared.pieces.Piece.Piece, declared.bursts.Burst.Burst, Traffic.len_by, inner.Spans.MovesSome}
+use Rattle.dma_chan.proofs.{BurstEnds.beat_bytes_power, BurstRounds.one_again, CutPlaces.run_of, CutPlaces.way}
 
 -- ---- bursts by their control word alone
 
@@ -31,8 +24,10 @@ pub touched_up : (b : Burst) → b.increments ≡ true → touched b ≡ range_w
 touched_up b e = rw e refl
 
 -- the addresses of a rising burst from an address under a word
-pub touched_from : (bus : Bus) (k a w n : ℕ) → (burst_at bus k a w).increments ≡ true → burst_len (burst_at bus k a w) ≡ n → touched (burst_at bus k a w) ≡ range_with_len a n
-touched_from bus k a w n up len = touched_up (burst_at bus k a w) up ∙ ap (λ (x : ℕ). range_with_len x (burst_len (burst_at bus k a w))) (addr_there bus k a w) ∙ ap (range_with_len a) len
+pub touched_from : (bus : Bus) (k a w n : ℕ) → (burst_at bus k a w).increments ≡ true → burst_len (burst_at bus k a w) ≡ n
+    → touched (burst_at bus k a w) ≡ range_with_len a n
+touched_from bus k a w n up len = touched_up (burst_at bus k a w) up ∙ ap (λ (x : ℕ). range_with_len x (burst_len (burst_at bus k a w))) (addr_there bus k a w)
+    ∙ ap (range_with_len a) len
 
 -- a burst that doesn't rise leaves nothing out, on any bus
 pub fixed_whole : (bus : Bus) (k a w : ℕ) → (burst_at bus k a w).increments ≡ false → (burst_at bus k a w).skip ≡ 0
@@ -101,7 +96,8 @@ pub touched_fixed : (b : Burst) (a n : ℕ) → b.increments ≡ false → b.siz
 touched_fixed b a n e size beats addr = rw (e, size, beats, addr) (sym (one_again n a))
 
 -- the addresses of such a burst, or of one that stays at its address in beats of one byte
-run_there : (fill : Bool) (b : Burst) (n : ℕ) → b.increments ≡ not fill → burst_len b ≡ n → (fill ≡ true → (b.size ≡ 1) × (b.beats ≡ n)) → (touched b ≡ run_of fill b.addr n) × (advance b ≡ way fill n) × (span_of b ≡ span fill n)
+run_there : (fill : Bool) (b : Burst) (n : ℕ) → b.increments ≡ not fill → burst_len b ≡ n → (fill ≡ true → (b.size ≡ 1) × (b.beats ≡ n))
+    → (touched b ≡ run_of fill b.addr n) × (advance b ≡ way fill n) × (span_of b ≡ span fill n)
 run_there false b n up len one = (touched_up b up ∙ ap (range_with_len b.addr) len, rw up len, rw up len)
 run_there true b n still len one = let w = one refl in (touched_fixed b b.addr n still w.0 w.1 refl, rw still refl, rw still w.0)
 
@@ -155,7 +151,8 @@ accepted_by w c a b valid (Chip width) h =
     rw (a, b, low) valid
 
 -- the fields of a word with source increment i, size code c and length code l
-word_moves : (fill : Bool) (w i c l b n : ℕ) → w ≡ i + 2 * c + 16 * l + 2 ^ 14 + 2 ^ 15 * c + 2 ^ 18 * l → i < 2 → (i == 1) ≡ not fill → (fill ≡ true → c ≡ 0) → c ≤ 4 → l ≤ 15 → 2 ^ c ≡ b → (l + 1) * b ≡ n → Moves fill b w n
+word_moves : (fill : Bool) (w i c l b n : ℕ) → w ≡ i + 2 * c + 16 * l + 2 ^ 14 + 2 ^ 15 * c + 2 ^ 18 * l → i < 2 → (i == 1) ≡ not fill → (fill ≡ true → c ≡ 0)
+    → c ≤ 4 → l ≤ 15 → 2 ^ c ≡ b → (l + 1) * b ≡ n → Moves fill b w n
 unfolding burst_at
 word_moves fill w i c l beat n e low rising one hc hl p h =
     let a : w / 16 % 16 ≡ l = omega arith in
@@ -165,10 +162,12 @@ word_moves fill w i c l beat n e low rising one hc hl p h =
     let g : w / 1 % 2 ≡ i = omega arith in
     let j : w / 16384 % 2 ≡ 1 = omega arith in
     let m : (l + 1) * beat - 0 ≡ n = omega (arith, h) in
-    let single : (x : ℕ) → fill ≡ true → ((burst_at Ideal 0 x w).size ≡ 1) × ((burst_at Ideal 0 x w).beats ≡ n) = λ x z. let k : n ≡ l + 1 = sym h ∙ ap (λ (x : ℕ). (l + 1) * x) (sym p ∙ ap (λ (x : ℕ). 2 ^ x) (one z)) ∙ omega arith in (rw (b, one z) refl, rw a (sym k)) in
+    let single : (x : ℕ) → fill ≡ true → ((burst_at Ideal 0 x w).size ≡ 1) × ((burst_at Ideal 0 x w).beats ≡ n) = λ x z. let k : n ≡ l + 1 = sym h
+    ∙ ap (λ (x : ℕ). (l + 1) * x) (sym p ∙ ap (λ (x : ℕ). 2 ^ x) (one z)) ∙ omega arith in (rw (b, one z) refl, rw a (sym k)) in
     let from = aligned_by 0 w beat (λ x. rw b p) in
     let to = aligned_by 14 w beat (λ x. rw f p) in
-    let source = λ (bus : Bus) (x : ℕ) (at : x % beat ≡ 0). subst (λ (y : Burst). (touched y ≡ run_of fill x n) × (advance y ≡ way fill n) × (span_of y ≡ span fill n)) (sym (same_burst bus Ideal 0 x w (from bus x at)))
+    let source = λ (bus : Bus) (x : ℕ) (at : x % beat ≡ 0). subst
+    (λ (y : Burst). (touched y ≡ run_of fill x n) × (advance y ≡ way fill n) × (span_of y ≡ span fill n)) (sym (same_burst bus Ideal 0 x w (from bus x at)))
     (run_there fill (burst_at Ideal 0 x w) n (rw g rising) (rw (a, b, p) m) (single x)) in
     record {
       reads = rw (a, b, p) m;
@@ -177,7 +176,8 @@ word_moves fill w i c l beat n e low rising one hc hl p h =
       source_way = λ bus x at. (source bus x at).1;
       source_span = λ bus x at. (source bus x at).2;
       source_fits = from;
-      destination_span = λ bus x at. ap span_of (same_burst bus Ideal 14 x w (to bus x at)) ∙ (run_there false (burst_at Ideal 14 x w) n (rw j refl) (rw (d, f, p) m) (λ z. absurd (cc))).2;
+      destination_span = λ bus x at. ap span_of (same_burst bus Ideal 14 x w (to bus x at))
+          ∙ (run_there false (burst_at Ideal 14 x w) n (rw j refl) (rw (d, f, p) m) (λ z. absurd (cc))).2;
       destination_up = λ bus x. rw j refl;
       destination_fits = to;
       whole = ap (λ (k : ℕ). k % beat) (sym h) ∙ mul-mod_left (l + 1) beat;
@@ -196,7 +196,9 @@ beat size =
     record {
       low = low;
       high = high;
-      moves = λ k l h. let n : k - 1 + 1 ≡ k = omega arith in word_moves false (control_word false size k) 1 (size_code size) (k - 1) (beat_bytes size) (k * beat_bytes size) (omega arith) (omega arith) refl (λ z. absurd (cc)) few (omega arith) (sym (beat_bytes_power size)) (rw n refl);
+      moves = λ k l h. let n : k - 1 + 1 ≡ k = omega arith in
+          word_moves false (control_word false size k) 1 (size_code size) (k - 1) (beat_bytes size) (k * beat_bytes size) (omega arith) (omega arith) refl
+          (λ z. absurd (cc)) few (omega arith) (sym (beat_bytes_power size)) (rw n refl);
       in_range = λ k h. omega (arith, few);
     }
 
@@ -205,7 +207,8 @@ unfolding bits_of end_bits
 filling_beat = record {
   low = omega arith;
   high = omega arith;
-  moves = λ k l h. word_moves true (control_word true One k) 0 0 (k - 1) 1 (k * 1) (omega arith) (omega arith) refl (λ z. refl) (omega arith) (omega arith) refl (omega arith);
+  moves = λ k l h. word_moves true (control_word true One k) 0 0 (k - 1) 1 (k * 1) (omega arith) (omega arith) refl (λ z. refl) (omega arith) (omega arith) refl
+      (omega arith);
   in_range = λ k h. omega arith;
 }
 
@@ -262,6 +265,7 @@ one_beat true = filling_beat
 one_beat false = beat One
 
 -- the word of two ends, by whether the source's address increments
-pub both_ends : (rises : Bool) (size : BeatSize) (k : ℕ) → bits_of (record { src = burst_end rises size k; dst = burst_end true size k }) ≡ control_word (not rises) size k
+pub both_ends : (rises : Bool) (size : BeatSize) (k : ℕ)
+    → bits_of (record { src = burst_end rises size k; dst = burst_end true size k }) ≡ control_word (not rises) size k
 both_ends false size k = refl
 both_ends true size k = refl

@@ -1,18 +1,13 @@
 -- Two lists of segments, cut into pieces. The pieces have the places of both lists, in order, and there are fewer
 -- pieces than segments.
-use Rattle.std.proofs.Common.{◌≡◌, ℕ, zero, suc, ◌+◌, ◌-◌, ◌^◌, ◌≤◌, ◌<◌, Bool, true, false, ltb, List, [], ◌∷◌, ◌++◌, length, refl, sym, ap, ◌∙◌, arith, append_assoc, append-nil, length-append, None}
-use Rattle.std.specs.List.{AllByRecursion, flat_map, range_with_len}
-use Rattle.std.proofs.lemmas.Bool.{cond_both, ltb-true, ltb-false}
-use Rattle.std.specs.Prelude.{replicate, slice_get}
-use Rattle.std.proofs.lemmas.List.{length-replicate, replicate-append-replicate}
-use Rattle.std.proofs.lemmas.Grind.{flat_map-append}
-use Rattle.std.proofs.lemmas.List.FromFn.{length-range_with_len}
-use Rattle.dma_mem.specs.declared.segment.Segment.{Segment}
-use Rattle.dma_mem.specs.Places.{places}
-use Rattle.dma_chan.specs.declared.pieces.Piece.{Piece}
-use Rattle.dma_chan.specs.Compiled.{cut_one, pieces}
-use Rattle.dma_chan.specs.inner.Compiling.{byte_count, IsRange}
-use Rattle.dma_chan.specs.inner.Cutting.{pieces_left}
+use Rattle.std.proofs.Common.{◌≡◌, ℕ, zero, suc, ◌+◌, ◌-◌, ◌^◌, ◌≤◌, ◌<◌, Bool, true, false, ltb, List, [], ◌∷◌, ◌++◌, length, refl, sym, ap, ◌∙◌, arith}
+use Rattle.std.proofs.Common.{append_assoc, append-nil, length-append, None}
+use Rattle.std.specs.{List.AllByRecursion, List.flat_map, List.range_with_len, Prelude.replicate, Prelude.slice_get}
+use Rattle.std.proofs.{lemmas.Bool.cond_both, lemmas.Bool.ltb-true, lemmas.Bool.ltb-false, lemmas.List.length-replicate, lemmas.List.replicate-append-replicate}
+use Rattle.std.proofs.{lemmas.Grind.flat_map-append, lemmas.List.FromFn.length-range_with_len}
+use Rattle.dma_mem.specs.{declared.segment.Segment.Segment, Places.places}
+use Rattle.dma_chan.specs.{declared.pieces.Piece.Piece, Compiled.cut_one, Compiled.pieces, inner.Compiling.byte_count, inner.Compiling.IsRange}
+use Rattle.dma_chan.specs.{inner.Cutting.pieces_left}
 
 pub range_add : (a m n : ℕ) → range_with_len a (m + n) ≡ range_with_len a m ++ range_with_len (a + m) n
 range_add a zero n = let e : zero + n ≡ n = omega arith in let f : a + 0 ≡ a = omega arith in rw (e, f) refl
@@ -81,10 +76,12 @@ cut_right a n [] some below fits enough all = absurd (omega arith)
 cut_right a n (d ∷ ds) some below fits enough all =
     cond_both (ltb n d.len) _ _ (Cut a n (d ∷ ds)) (λ t.
     let less : n < d.len = ltb-true n d.len t in
-    let split : range_with_len d.addr d.len ≡ range_with_len d.addr n ++ range_with_len (d.addr + n) (d.len - n) = let e : d.len ≡ n + (d.len - n) = omega arith in ap (range_with_len d.addr) e ∙ range_add d.addr n (d.len - n) in
+    let split : range_with_len d.addr d.len ≡ range_with_len d.addr n ++ range_with_len (d.addr + n) (d.len - n) = let e : d.len ≡ n + (d.len - n) =
+    omega arith in ap (range_with_len d.addr) e ∙ range_add d.addr n (d.len - n) in
     record {
       sources = append-nil (range_with_len a n);
-      destinations = ap (λ (xs : List ℕ). xs ++ (range_with_len (d.addr + n) (d.len - n) ++ places ds)) (append-nil (range_with_len d.addr n)) ∙ sym (append_assoc _ _ (places ds)) ∙ ap (λ (xs : List ℕ). xs ++ places ds) (sym split);
+      destinations = ap (λ (xs : List ℕ). xs ++ (range_with_len (d.addr + n) (d.len - n) ++ places ds)) (append-nil (range_with_len d.addr n))
+          ∙ sym (append_assoc _ _ (places ds)) ∙ ap (λ (xs : List ℕ). xs ++ places ds) (sym split);
       totals = omega arith;
       fit = (record { some = some; below = below; src = omega arith; reads = omega arith; dst = omega (arith, all.0.1) }, tt);
       rest = ((omega arith, omega (arith, all.0.1)), all.1);
@@ -95,7 +92,8 @@ cut_right a n (d ∷ ds) some below fits enough all =
     cond_both (ltb d.len n) _ _ (Cut a n (d ∷ ds)) (λ u.
     let less : d.len < n = ltb-true d.len n u in
     let r = cut_right (a + d.len) (n - d.len) ds (omega arith) (omega arith) (omega arith) (omega arith) all.1 in
-    let split : range_with_len a n ≡ range_with_len a d.len ++ range_with_len (a + d.len) (n - d.len) = let e : n ≡ d.len + (n - d.len) = omega arith in ap (range_with_len a) e ∙ range_add a d.len (n - d.len) in
+    let split : range_with_len a n ≡ range_with_len a d.len ++ range_with_len (a + d.len) (n - d.len) = let e : n ≡ d.len + (n - d.len) = omega arith in
+    ap (range_with_len a) e ∙ range_add a d.len (n - d.len) in
     record {
       sources = ap (λ (xs : List ℕ). range_with_len a d.len ++ xs) r.sources ∙ sym split;
       destinations = append_assoc (range_with_len d.addr d.len) _ _ ∙ ap (λ (xs : List ℕ). range_with_len d.addr d.len ++ xs) r.destinations;
@@ -129,14 +127,18 @@ nothing_left [] all e = refl
 nothing_left (d ∷ ds) all e = absurd (omega (arith, all.0.0))
 
 -- after the last source segment no destination is left
-none_left : (n : ℕ) (ss : List Segment) (rest : List Segment) (total : ℕ) → ss ≡ [] → n + byte_count ss ≡ total → n + byte_count rest ≡ total → byte_count rest ≡ 0
+none_left : (n : ℕ) (ss : List Segment) (rest : List Segment) (total : ℕ) → ss ≡ [] → n + byte_count ss ≡ total → n + byte_count rest ≡ total
+    → byte_count rest ≡ 0
 none_left n ss rest total none same totals = let e : byte_count ss ≡ 0 = ap byte_count none in omega arith
 
-fewer_than : (ss : List Segment) (a b : List Piece) (rest : List Segment) (n : ℕ) → length (a ++ b) ≡ length a + length b → length a + length rest ≤ n + 1 → (ss ≡ [] → length a + length rest ≤ n) → length b ≤ length ss + length rest → (0 < length ss → length b + 1 ≤ length ss + length rest) → length (a ++ b) + 1 ≤ suc (length ss) + n
+fewer_than : (ss : List Segment) (a b : List Piece) (rest : List Segment) (n : ℕ) → length (a ++ b) ≡ length a + length b → length a + length rest ≤ n + 1
+    → (ss ≡ [] → length a + length rest ≤ n) → length b ≤ length ss + length rest → (0 < length ss → length b + 1 ≤ length ss + length rest)
+    → length (a ++ b) + 1 ≤ suc (length ss) + n
 fewer_than [] a b rest n all few last fits fewer = omega (arith, last refl)
 fewer_than (s ∷ ss) a b rest n all few last fits fewer = omega (arith, fewer (omega arith))
 
-pub pieces_right : (ss ds : List Segment) → AllByRecursion IsRange ss → AllByRecursion IsRange ds → byte_count ss ≡ byte_count ds → byte_count ss ≤ 2 ^ 20 → Pieces ss ds (pieces ss ds)
+pub pieces_right : (ss ds : List Segment) → AllByRecursion IsRange ss → AllByRecursion IsRange ds → byte_count ss ≡ byte_count ds → byte_count ss ≤ 2 ^ 20
+    → Pieces ss ds (pieces ss ds)
 pieces_right [] ds all rest same below =
     let e : ds ≡ [] = nothing_left ds rest (sym same) in
     record { sources = refl; destinations = rw e refl; fit = tt; few = omega arith; fewer = λ z. absurd (omega arith) }
@@ -146,10 +148,14 @@ pieces_right (s ∷ ss) ds all rest same below =
     let a = (cut_one s.addr s.len ds).0 in
     let b = pieces ss (cut_one s.addr s.len ds).1 in
     let all_of : length (a ++ b) ≡ length a + length b = length-append a b in
-    let fewer : length (a ++ b) + 1 ≤ length (s ∷ ss) + length ds = fewer_than ss a b (cut_one s.addr s.len ds).1 (length ds) all_of cut.few (λ (z : ss ≡ []). cut.last (ap byte_count (nothing_left _ cut.rest (none_left s.len ss _ (byte_count ds) z same cut.totals)))) r.few r.fewer in
+    let fewer : length (a ++ b) + 1 ≤ length (s ∷ ss) + length ds =
+    fewer_than ss a b (cut_one s.addr s.len ds).1 (length ds) all_of cut.few
+    (λ (z : ss ≡ []). cut.last (ap byte_count (nothing_left _ cut.rest (none_left s.len ss _ (byte_count ds) z same cut.totals)))) r.few r.fewer in
     record {
-      sources = flat_map-append (λ (p : Piece). run_of p.fill p.src p.len) a b ∙ ap (λ (xs : List ℕ). xs ++ read_by b) cut.sources ∙ ap (λ (xs : List ℕ). range_with_len s.addr s.len ++ xs) r.sources;
-      destinations = flat_map-append (λ (p : Piece). range_with_len p.dst p.len) a b ∙ ap (λ (xs : List ℕ). written_by a ++ xs) r.destinations ∙ cut.destinations;
+      sources = flat_map-append (λ (p : Piece). run_of p.fill p.src p.len) a b ∙ ap (λ (xs : List ℕ). xs ++ read_by b) cut.sources
+          ∙ ap (λ (xs : List ℕ). range_with_len s.addr s.len ++ xs) r.sources;
+      destinations = flat_map-append (λ (p : Piece). range_with_len p.dst p.len) a b ∙ ap (λ (xs : List ℕ). written_by a ++ xs) r.destinations
+          ∙ cut.destinations;
       fit = all_append IsPiece a b cut.fit r.fit;
       few = omega arith;
       fewer = λ z. fewer;

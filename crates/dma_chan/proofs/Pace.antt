@@ -1,36 +1,23 @@
 -- How fast a transfer moves, by its instructions and by the steps of a channel.
-use Rattle.std.proofs.Common.{◌≡◌, ℕ, zero, suc, ◌+◌, ◌-◌, ◌≤◌, ◌<◌, Bool, true, false, List, [], ◌∷◌, length, take, drop, Option, Some, Ok, refl, sym, ap, ◌∙◌, subst, arith, add-one, inl, inr}
+use Rattle.std.proofs.Common.{◌≡◌, ℕ, zero, suc, ◌+◌, ◌-◌, ◌≤◌, ◌<◌, Bool, true, false, List, [], ◌∷◌, length, take, drop, Option, Some, Ok, refl, sym, ap, ◌∙◌}
+use Rattle.std.proofs.Common.{subst, arith, add-one, inl, inr}
 use Rattle.std.specs.Prelude.{IfSome, Result, slice_index_or}
 use Rattle.std.proofs.lemmas.Bool.{cases_lt}
 use Rattle.dma_insn.specs.declared.chip.ChipInsn.{ChipInsn}
 use Rattle.dma_insn.specs.declared.chip.ChipInsn.TheVariants.{Ld, St, End, Sev, Wfe}
-use Rattle.dma_mem.specs.declared.marks.MarkKind.{MarkKind}
-use Rattle.dma_mem.specs.Marking.{MarkList, meets_mark}
 use Rattle.dma_mem.specs.Places.{Descriptor, sources, destinations, lies_below}
-use Rattle.dma_mem.specs.Rules.{IsTransfer}
-use Rattle.dma_chan.specs.declared.bus.Bus.TheVariants.{Ideal}
-use Rattle.dma_chan.specs.declared.exec.Registers.{Registers}
-use Rattle.dma_chan.specs.declared.turn.ChanTurn.{ChanTurn}
-use Rattle.dma_chan.specs.declared.turn.ChanTurn.TheVariants.{Moved, Waiting, Ended, Fault}
-use Rattle.dma_chan.specs.declared.turn.FaultKind.{FaultKind}
-use Rattle.dma_chan.specs.declared.turn.FaultKind.TheVariants.{DataWriteErr, DataReadErr}
-use Rattle.dma_chan.specs.Bursts.{touched}
-use Rattle.dma_chan.specs.Channel.{ChannelValue}
-use Rattle.dma_chan.specs.Compiled.{cost}
-use Rattle.dma_chan.specs.Exec.{source_of, destination_of, exec_fetched, state}
-use Rattle.dma_chan.specs.Layer.{AnswerImplies, Shared, StepAgrees}
-use Rattle.dma_chan.specs.NextWrites.{written_by, written_next}
-use Rattle.dma_chan.specs.Pace.{GetsToEnd, MovesFor, OrderIs, StaysInStep, just_loaded}
-use Rattle.dma_chan.specs.Reads.{read_by, read_next}
-use Rattle.dma_chan.specs.Stepping.{Machine, after_step, after_steps, answer_at}
+use Rattle.dma_mem.specs.{declared.marks.MarkKind.MarkKind, Marking.MarkList, Marking.meets_mark, Rules.IsTransfer}
 use Rattle.dma_chan.specs.Traffic.{burst, burst_by, member, read_len, read_places, write_len, written_places}
-use Rattle.dma_chan.specs.inner.At.{IsAt}
-use Rattle.dma_chan.proofs.BurstsInTurn.{CarriesOne, ReadsNext, WritesNext}
-use Rattle.dma_chan.proofs.LayerLaws.{ahead_is, starts_at, step_is, turn_reports}
-use Rattle.dma_chan.proofs.MemberActs.{store_touches}
+use Rattle.dma_chan.specs.{declared.bus.Bus.TheVariants.Ideal, declared.exec.Registers.Registers, declared.turn.ChanTurn.ChanTurn}
+use Rattle.dma_chan.specs.{declared.turn.ChanTurn.TheVariants.Moved, declared.turn.ChanTurn.TheVariants.Waiting, declared.turn.ChanTurn.TheVariants.Ended}
+use Rattle.dma_chan.specs.{declared.turn.ChanTurn.TheVariants.Fault, declared.turn.FaultKind.FaultKind, declared.turn.FaultKind.TheVariants.DataWriteErr}
+use Rattle.dma_chan.specs.{declared.turn.FaultKind.TheVariants.DataReadErr, Bursts.touched, Channel.ChannelValue, Compiled.cost, Exec.source_of}
+use Rattle.dma_chan.specs.{Exec.destination_of, Exec.exec_fetched, Exec.state, Layer.AnswerImplies, Layer.Shared, Layer.StepAgrees, NextWrites.written_by}
+use Rattle.dma_chan.specs.{NextWrites.written_next, Pace.GetsToEnd, Pace.MovesFor, Pace.OrderIs, Pace.StaysInStep, Pace.just_loaded, Reads.read_by}
+use Rattle.dma_chan.specs.{Reads.read_next, Stepping.Machine, Stepping.after_step, Stepping.after_steps, Stepping.answer_at, inner.At.IsAt}
 use Rattle.dma_chan.proofs.MembersByNumber.{at, at_burst, at_registers, at_stored, carries_next}
-use Rattle.dma_chan.proofs.ShapeLaws.{past_end, shape_is}
-use Rattle.dma_chan.proofs.SteppedOver.{steps_size}
+use Rattle.dma_chan.proofs.{BurstsInTurn.CarriesOne, BurstsInTurn.ReadsNext, BurstsInTurn.WritesNext, LayerLaws.ahead_is, LayerLaws.starts_at}
+use Rattle.dma_chan.proofs.{LayerLaws.step_is, LayerLaws.turn_reports, MemberActs.store_touches, ShapeLaws.past_end, ShapeLaws.shape_is, SteppedOver.steps_size}
 
 -- ---- the order of the instructions
 
@@ -83,7 +70,8 @@ module _ (t : Descriptor) (n : ℕ) (image : List ℕ) (c : ChannelValue) (h : I
   reads_there : member t n ≡ Ld → read_next c ≡ read_places t n
   reads_there is =
       let r = (at t n).registers in
-      let load : ReadsNext (sources t) (at t n) = subst (λ (i : ChipInsn). CarriesOne Ideal (sources t) (destinations t) i (at t n)) is (carries_next t n h a.within) in
+      let load : ReadsNext (sources t) (at t n) =
+      subst (λ (i : ChipInsn). CarriesOne Ideal (sources t) (destinations t) i (at t n)) is (carries_next t n h a.within) in
       let size : read_len r.ccr ≡ burst t n = ap (λ (i : ChipInsn). burst_by i r.ccr) (sym is) ∙ at_burst t n in
       ap (λ (next : Result ChipInsn FaultKind). read_by next c.registers) (ahead_is t n image c h a ∙ ap Ok is)
       ∙ ap (λ (s : Registers). touched (source_of s)) registers_there
@@ -94,7 +82,8 @@ module _ (t : Descriptor) (n : ℕ) (image : List ℕ) (c : ChannelValue) (h : I
   writes_there : member t n ≡ St → written_next c ≡ written_places t n
   writes_there is =
       let r = (at t n).registers in
-      let store : WritesNext (destinations t) (at t n) = subst (λ (i : ChipInsn). CarriesOne Ideal (sources t) (destinations t) i (at t n)) is (carries_next t n h a.within) in
+      let store : WritesNext (destinations t) (at t n) =
+      subst (λ (i : ChipInsn). CarriesOne Ideal (sources t) (destinations t) i (at t n)) is (carries_next t n h a.within) in
       let size : write_len r.ccr ≡ burst t n = ap (λ (i : ChipInsn). burst_by i r.ccr) (sym is) ∙ at_burst t n in
       ap (λ (next : Result ChipInsn FaultKind). written_by next c.registers) (ahead_is t n image c h a ∙ ap Ok is)
       ∙ ap (λ (s : Registers). touched (destination_of s)) registers_there
@@ -113,7 +102,8 @@ module _ (t : Descriptor) (marks : MarkList) (image : List ℕ) (flags : List Bo
   agrees_at : (n : ℕ) → IsAt t n (there n).image (there n).channel → StepAgrees t n marks (shared (there n)) (there n).channel
   agrees_at n a = step_is t n marks (shared (there n)) (there n).channel h (ap (lies_below t) (steps_size marks (just_loaded t image flags) n) ∙ below) a
 
-  moved_on : (n : ℕ) → IsAt t n (there n).image (there n).channel → answer_at marks (there n) ≡ Moved → IsAt t (suc n) (there (suc n)).image (there (suc n)).channel
+  moved_on : (n : ℕ) → IsAt t n (there n).image (there n).channel → answer_at marks (there n) ≡ Moved
+      → IsAt t (suc n) (there (suc n)).image (there (suc n)).channel
   moved_on n a moves =
       let one = agrees_at n a in
       rw add-one at (subst (λ (i : List ℕ). IsAt t (n + 1) i (after_step marks (there n)).channel) (sym one.image) (one.goes_on (sym one.turn ∙ moves)))
@@ -129,7 +119,8 @@ module _ (t : Descriptor) (marks : MarkList) (image : List ℕ) (flags : List Bo
   last_ends n a last =
       let c = (there n).channel in
       let s = state c.registers c.buffer (there n).image (there n).flags in
-      ap (λ (next : Result ChipInsn FaultKind). (exec_fetched marks next s).0) (ahead_is t n (there n).image c h a ∙ ap Ok (late_ends t h n (omega (arith, last))))
+      ap (λ (next : Result ChipInsn FaultKind). (exec_fetched marks next s).0)
+      (ahead_is t n (there n).image c h a ∙ ap Ok (late_ends t h n (omega (arith, last))))
 
   ended_last : (n : ℕ) → IsAt t n (there n).image (there n).channel → answer_at marks (there n) ≡ Ended → n + 1 ≡ cost t
   ended_last n a is = (shape_is t h).end_only n a.within (reported n Ended a is)
@@ -154,7 +145,8 @@ unfolding meets_mark
 none_marked kind [] = refl
 none_marked kind (a ∷ places) = none_marked kind places
 
-module _ (t : Descriptor) (image : List ℕ) (flags : List Bool) (h : IsTransfer t) (below : lies_below t (length image) ≡ true) (set : IfSome t.wait (λ e. slice_index_or flags e false ≡ true)) where
+module _ (t : Descriptor) (image : List ℕ) (flags : List Bool) (h : IsTransfer t) (below : lies_below t (length image) ≡ true)
+    (set : IfSome t.wait (λ e. slice_index_or flags e false ≡ true)) where
   abbrev now : ℕ → Machine
   now n = after_steps [] (just_loaded t image flags) n
 
@@ -177,7 +169,8 @@ module _ (t : Descriptor) (image : List ℕ) (flags : List Bool) (h : IsTransfer
   all_move (suc n) l = λ k f.
       let before = all_move n (omega (arith, l)) in
       let a = comes_to t [] image flags h below n before in
-      let here : answer_at [] (now n) ≡ Moved = answers n (answer_at [] (now n)) (omega (arith, l)) (reported t [] image flags h below n (answer_at [] (now n)) a refl) in
+      let here : answer_at [] (now n) ≡ Moved =
+      answers n (answer_at [] (now n)) (omega (arith, l)) (reported t [] image flags h below n (answer_at [] (now n)) a refl) in
       elim (cases_lt k n) [
         | inl less ↦ before k less
         | inr same ↦ let at : n ≡ k = omega (arith, same, f) in subst (λ (j : ℕ). answer_at [] (now j) ≡ Moved) at here

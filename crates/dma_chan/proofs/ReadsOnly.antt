@@ -1,25 +1,17 @@
 -- A step depends on no byte but those that it reads.
 use Rattle.std.proofs.Common.{◌≡◌, ◌∷◌, ℕ, ◌+◌, Bool, true, false, ◌&&◌, cond, List, [], length, take, get_or, Result, Ok, Err, refl, sym, ap, ◌∙◌, arith}
-use Rattle.std.specs.Prelude.{nat_lt, slice_index_or}
-use Rattle.std.specs.List.{Contains}
+use Rattle.std.specs.{Prelude.nat_lt, Prelude.slice_index_or, List.Contains}
 use Rattle.std.proofs.lemmas.List.Elements.{Contains-append_right}
-use Rattle.dma_insn.specs.declared.chip.ChipInsn.{ChipInsn}
 use Rattle.dma_insn.specs.declared.chip.ChipInsn.TheVariants.{Mov, Ld, St, LpEnd, Sev, Wfe, StoreZeros, AddHalfword, LoopAgain}
-use Rattle.dma_insn.specs.declared.chip.Address.TheVariants.{Destination}
 use Rattle.dma_insn.specs.declared.insn.Reg.TheVariants.{Ccr, Dar}
-use Rattle.dma_mem.specs.Image.{put}
-use Rattle.dma_mem.specs.Marking.{MarkList}
-use Rattle.dma_mem.specs.declared.marks.MarkKind.TheVariants.{Reading, Writing}
+use Rattle.dma_insn.specs.{declared.chip.ChipInsn.ChipInsn, declared.chip.Address.TheVariants.Destination}
+use Rattle.dma_mem.specs.{Image.put, Marking.MarkList, declared.marks.MarkKind.TheVariants.Reading, declared.marks.MarkKind.TheVariants.Writing}
 use Rattle.dma_mem.proofs.PageImages.{put_none}
-use Rattle.dma_chan.specs.declared.exec.Registers.{Registers}
-use Rattle.dma_chan.specs.declared.turn.ChanTurn.{ChanTurn}
-use Rattle.dma_chan.specs.declared.turn.ChanTurn.TheVariants.{Moved}
-use Rattle.dma_chan.specs.declared.turn.FaultKind.{FaultKind}
 use Rattle.dma_chan.specs.Bursts.{burst_len, touched, writes_of, zeros_of, reaches}
-use Rattle.dma_chan.specs.Bus.{accepts}
 use Rattle.dma_chan.specs.Exec.{State, act, buffer_size, counter_of, destination_of, exec_fetched, read_at, source_of, state}
 use Rattle.dma_chan.specs.Channel.{ChannelValue, after_turn, ahead_of, step_of, stored_by}
-use Rattle.dma_chan.specs.Reads.{AgreeAt, ReadsNoOther, read_by}
+use Rattle.dma_chan.specs.{declared.exec.Registers.Registers, declared.turn.ChanTurn.ChanTurn, declared.turn.ChanTurn.TheVariants.Moved}
+use Rattle.dma_chan.specs.{declared.turn.FaultKind.FaultKind, Bus.accepts, Reads.AgreeAt, Reads.ReadsNoOther, Reads.read_by}
 
 -- images with the same bytes at some places give the same bytes there
 pub read_at_agrees : (x y places : List ℕ) → ((a : ℕ) → Contains places a → get_or x a 0 ≡ get_or y a 0) → read_at x places ≡ read_at y places
@@ -40,14 +32,17 @@ record Alike (x y : List ℕ) (p q : ChanTurn × State) : Type 0 where
   second : q.1.image ≡ put y writes
 
 -- nothing is written
-same : (turn : ChanTurn) (r : Registers) (buffer : List ℕ) (flags : List Bool) (x y : List ℕ) → Alike x y (turn, state r buffer x flags) (turn, state r buffer y flags)
-same turn r buffer flags x y = record { turn = refl; registers = refl; buffer = refl; flags = refl; writes = []; first = sym (put_none x); second = sym (put_none y) }
+same : (turn : ChanTurn) (r : Registers) (buffer : List ℕ) (flags : List Bool) (x y : List ℕ)
+    → Alike x y (turn, state r buffer x flags) (turn, state r buffer y flags)
+same turn r buffer flags x y =
+    record { turn = refl; registers = refl; buffer = refl; flags = refl; writes = []; first = sym (put_none x); second = sym (put_none y) }
 
 either : (b : Bool) (x y : List ℕ) (p q r s : ChanTurn × State) → Alike x y p r → Alike x y q s → Alike x y (cond b p q) (cond b r s)
 either true x y p q r s h k = h
 either false x y p q r s h k = k
 
-act_alike : (marks : MarkList) (i : ChipInsn) (r : Registers) (buffer x y : List ℕ) (flags : List Bool) → AgreeAt (read_by (Ok i) r) x y → Alike x y (act marks i (state r buffer x flags)) (act marks i (state r buffer y flags))
+act_alike : (marks : MarkList) (i : ChipInsn) (r : Registers) (buffer x y : List ℕ) (flags : List Bool) → AgreeAt (read_by (Ok i) r) x y
+    → Alike x y (act marks i (state r buffer x flags)) (act marks i (state r buffer y flags))
 act_alike marks (Mov Dar v) r buffer x y flags h = same _ _ _ flags x y
 act_alike marks (Mov Ccr v) r buffer x y flags h = either (accepts r.bus v) x y _ _ _ _ (same _ _ _ flags x y) (same _ _ buffer flags x y)
 act_alike marks (AddHalfword Destination half negative) r buffer x y flags h = same _ _ _ flags x y
@@ -71,16 +66,19 @@ act_alike marks StoreZeros r buffer x y flags h =
     (record { turn = refl; registers = refl; buffer = refl; flags = refl; writes = zeros_of b; first = refl; second = refl })
     (same _ _ buffer flags x y))
 act_alike marks (LoopAgain counter back) r buffer x y flags h = either (nat_lt r.pc back) x y _ _ _ _ (same _ _ buffer flags x y) (same _ _ buffer flags x y)
-act_alike marks (LpEnd c back) r buffer x y flags h = either (nat_lt 0 (counter_of c r) && nat_lt r.pc back) x y _ _ _ _ (same _ _ buffer flags x y) (same _ _ buffer flags x y)
+act_alike marks (LpEnd c back) r buffer x y flags h =
+    either (nat_lt 0 (counter_of c r) && nat_lt r.pc back) x y _ _ _ _ (same _ _ buffer flags x y) (same _ _ buffer flags x y)
 act_alike marks (Sev e) r buffer x y flags h = same _ _ buffer _ x y
 act_alike marks (Wfe e v) r buffer x y flags h = either (slice_index_or flags e false) x y _ _ _ _ (same _ _ buffer _ x y) (same _ _ buffer flags x y)
 act_alike marks i r buffer x y flags h = same _ _ buffer flags x y
 
-fetched_alike : (marks : MarkList) (next : Result ChipInsn FaultKind) (r : Registers) (buffer x y : List ℕ) (flags : List Bool) → AgreeAt (read_by next r) x y → Alike x y (exec_fetched marks next (state r buffer x flags)) (exec_fetched marks next (state r buffer y flags))
+fetched_alike : (marks : MarkList) (next : Result ChipInsn FaultKind) (r : Registers) (buffer x y : List ℕ) (flags : List Bool) → AgreeAt (read_by next r) x y
+    → Alike x y (exec_fetched marks next (state r buffer x flags)) (exec_fetched marks next (state r buffer y flags))
 fetched_alike marks (Ok i) r buffer x y flags h = act_alike marks i r buffer x y flags h
 fetched_alike marks (Err kind) r buffer x y flags h = same _ _ buffer flags x y
 
-turned_alike : (turn : ChanTurn) (s u : State) (n : ℕ) (c : ChannelValue) → s.registers ≡ u.registers → s.buffer ≡ u.buffer → after_turn turn s n c ≡ after_turn turn u n c
+turned_alike : (turn : ChanTurn) (s u : State) (n : ℕ) (c : ChannelValue) → s.registers ≡ u.registers → s.buffer ≡ u.buffer
+    → after_turn turn s n c ≡ after_turn turn u n c
 turned_alike Moved s u n c e f = rw (e, f) refl
 turned_alike turn s u n c e f = refl
 

@@ -1,28 +1,18 @@
 -- The limits, as numbers, and a program worked out: rows computed from the definitions, and the code's own constants.
 -- And what a law refuses.
 use Rattle.std.proofs.Common.{◌≡◌, ℕ, zero, suc, ◌<◌, ◌+◌, ◌*◌, ◌^◌, [], ◌∷◌, map, Some, None, Ok, Err, true, false, refl, arith, List, ◌++◌}
-use Rattle.dma_mem.specs.Places.{Descriptor, filling}
-use Rattle.dma_insn.specs.AssemblyText.{most_program_bytes}
+use Rattle.dma_mem.specs.{Places.Descriptor, Places.filling, Image.put}
 use Rattle.dma_insn.specs.ControlWord.{bits_of, control_of, end_at, end_bits, is_control}
-use Rattle.dma_insn.specs.declared.assembler.TheConstants.{MAX_PROGRAM_BYTES}
-use Rattle.dma_insn.specs.Chip.{decoded, decoded_core}
-use Rattle.dma_insn.specs.declared.chip.Address.TheVariants.{Source, Destination}
 use Rattle.dma_insn.specs.declared.chip.ChipInsn.TheVariants.{Ld, StoreZeros, AddHalfword, LoopAgain}
-use Rattle.dma_insn.specs.declared.codec.DecodeFault.TheVariants.{Unknown}
-use Rattle.dma_insn.specs.declared.insn.Counter.TheVariants.{Lc0, Lc1}
-use Rattle.dma_chan.specs.declared.bursts.TheConstants.{BUFFER_SIZE}
-use Rattle.dma_chan.specs.declared.bus.Bus.TheVariants.{Ideal, Chip}
-use Rattle.dma_chan.specs.declared.bus.BusWidth.TheVariants.{Bits32, Bits64, Bits128}
-use Rattle.dma_mem.specs.Image.{put}
-use Rattle.dma_chan.specs.Bursts.{burst_at, burst_len, reaches, touched}
-use Rattle.dma_chan.specs.Bus.{accepts}
-use Rattle.dma_chan.specs.declared.rowwise.Rows.{Rows}
-use Rattle.dma_chan.specs.Rowwise.{RunsRows, WritesRow, row_of}
-use Rattle.dma_chan.specs.Stepping.{Machine, after_steps}
-use Rattle.dma_chan.specs.Written.{adjoins, range_at}
-use Rattle.dma_chan.specs.Exec.{act, buffer_size, start, start_on, state, moved}
+use Rattle.dma_insn.specs.{AssemblyText.most_program_bytes, declared.assembler.TheConstants.MAX_PROGRAM_BYTES, Chip.decoded, Chip.decoded_core}
+use Rattle.dma_insn.specs.{declared.chip.Address.TheVariants.Source, declared.chip.Address.TheVariants.Destination}
+use Rattle.dma_insn.specs.{declared.codec.DecodeFault.TheVariants.Unknown, declared.insn.Counter.TheVariants.Lc0, declared.insn.Counter.TheVariants.Lc1}
 use Rattle.dma_chan.specs.Compiled.{beat_of, parts, members, cost, compiled, compiled_on, most_compiled}
-use Rattle.dma_chan.specs.Traffic.{read_len, write_len}
+use Rattle.dma_chan.specs.{declared.bursts.TheConstants.BUFFER_SIZE, declared.bus.Bus.TheVariants.Ideal, declared.bus.Bus.TheVariants.Chip}
+use Rattle.dma_chan.specs.{declared.bus.BusWidth.TheVariants.Bits32, declared.bus.BusWidth.TheVariants.Bits64, declared.bus.BusWidth.TheVariants.Bits128}
+use Rattle.dma_chan.specs.{Bursts.burst_at, Bursts.burst_len, Bursts.reaches, Bursts.touched, Bus.accepts, declared.rowwise.Rows.Rows, Rowwise.RunsRows}
+use Rattle.dma_chan.specs.{Rowwise.WritesRow, Rowwise.row_of, Stepping.Machine, Stepping.after_steps, Written.adjoins, Written.range_at, Exec.act}
+use Rattle.dma_chan.specs.{Exec.buffer_size, Exec.start, Exec.start_on, Exec.state, Exec.moved, Traffic.read_len, Traffic.write_len}
 
 -- ---- the code's constants
 
@@ -62,7 +52,8 @@ unfolding burst_at
 sar_after_it = refl
 
 -- it moves as many bytes on each chip's bus, and all its 16 at 8, on the ideal bus, and if the address doesn't rise
-lengths_at_6_and_8 : map burst_len (burst_at (Chip Bits64) 0 6 53 ∷ burst_at (Chip Bits32) 0 8 53 ∷ burst_at Ideal 0 6 53 ∷ burst_at (Chip Bits32) 0 6 52 ∷ []) ≡ 14 ∷ 16 ∷ 16 ∷ 16 ∷ []
+lengths_at_6_and_8 : map burst_len (burst_at (Chip Bits64) 0 6 53 ∷ burst_at (Chip Bits32) 0 8 53 ∷ burst_at Ideal 0 6 53 ∷ burst_at (Chip Bits32) 0 6 52 ∷ [])
+    ≡ 14 ∷ 16 ∷ 16 ∷ 16 ∷ []
 unfolding burst_at
 lengths_at_6_and_8 = refl
 
@@ -76,7 +67,8 @@ unfolding burst_at
 sar_after_the_last_address = refl
 
 -- ranges that are one together, but for all 2 ^ 32 addresses
-ranges_up_to_the_last_address : adjoins (range_at 1 4294967294) (range_at 4294967295 1) ∷ adjoins (range_at 0 4294967295) (range_at 4294967295 1) ∷ [] ≡ true ∷ false ∷ []
+ranges_up_to_the_last_address : adjoins (range_at 1 4294967294) (range_at 4294967295 1) ∷ adjoins (range_at 0 4294967295) (range_at 4294967295 1) ∷ [] ≡ true ∷
+    false ∷ []
 ranges_up_to_the_last_address = refl
 
 -- ---- control words that a bus accepts: source beats of four, eight and 16 bytes, destination beats of eight
@@ -119,7 +111,8 @@ abbrev twenty : Descriptor
 twenty = filling 16 (record { addr = 32; len = 20 } ∷ []) None None
 
 -- one burst of 16 beats of a byte, and one of four: their control words are 0x003C40F0 and 0x000C4030, with bit 0 clear
-twenty_compiled : (compiled twenty).bytes ≡ 188 ∷ 0 ∷ 16 ∷ 0 ∷ 0 ∷ 0 ∷ 188 ∷ 2 ∷ 32 ∷ 0 ∷ 0 ∷ 0 ∷ 188 ∷ 1 ∷ 240 ∷ 64 ∷ 60 ∷ 0 ∷ 34 ∷ 0 ∷ 4 ∷ 18 ∷ 8 ∷ 19 ∷ 60 ∷ 4 ∷ 188 ∷ 1 ∷ 48 ∷ 64 ∷ 12 ∷ 0 ∷ 4 ∷ 18 ∷ 8 ∷ 19 ∷ 0 ∷ []
+twenty_compiled : (compiled twenty).bytes ≡ 188 ∷ 0 ∷ 16 ∷ 0 ∷ 0 ∷ 0 ∷ 188 ∷ 2 ∷ 32 ∷ 0 ∷ 0 ∷ 0 ∷ 188 ∷ 1 ∷ 240 ∷ 64 ∷ 60 ∷ 0 ∷ 34 ∷ 0 ∷ 4 ∷ 18 ∷ 8 ∷ 19 ∷ 60 ∷
+    4 ∷ 188 ∷ 1 ∷ 48 ∷ 64 ∷ 12 ∷ 0 ∷ 4 ∷ 18 ∷ 8 ∷ 19 ∷ 0 ∷ []
 unfolding compiled parts beat_of bits_of end_bits
 twenty_compiled = refl
 
@@ -152,7 +145,8 @@ sixteen_on_128_bits = refl
 -- ---- a chip's instructions, by their codes in the manual
 
 codes_on_a_chip : map decoded ((0x0c ∷ []) ∷ (0x54 ∷ 0x34 ∷ 0x12 ∷ []) ∷ (0x5e ∷ 0xf0 ∷ 0xff ∷ []) ∷ (0x28 ∷ 5 ∷ []) ∷ (0x2c ∷ 5 ∷ []) ∷ [])
-    ≡ Ok (StoreZeros, 1) ∷ Ok (AddHalfword Source 0x1234 false, 3) ∷ Ok (AddHalfword Destination 0xfff0 true, 3) ∷ Ok (LoopAgain Lc0 5, 2) ∷ Ok (LoopAgain Lc1 5, 2) ∷ []
+    ≡ Ok (StoreZeros, 1) ∷ Ok (AddHalfword Source 0x1234 false, 3) ∷ Ok (AddHalfword Destination 0xfff0 true, 3) ∷ Ok (LoopAgain Lc0 5, 2) ∷ Ok
+    (LoopAgain Lc1 5, 2) ∷ []
 codes_on_a_chip = refl
 
 -- the model's grammar has none of them, and a chip's has no conditional form

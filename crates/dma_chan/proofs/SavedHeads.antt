@@ -4,9 +4,7 @@ use Rattle.std.proofs.lemmas.Nat.{from_le_bytes-to_le_bytes_2, from_le_bytes-to_
 use Rattle.std.specs.Prelude.{Option, Some, None, is_some, unwrap_or, IfSome}
 use Rattle.std.specs.Int.{w16, w32, w64, from_le_bytes}
 use Rattle.dma_insn.specs.ControlWord.{flag}
-use Rattle.dma_chan.specs.declared.save.head.Head.{Head}
-use Rattle.dma_chan.specs.Saved.{head_bytes, register_bytes}
-use Rattle.dma_chan.specs.inner.Saves.{HasHeadRanges}
+use Rattle.dma_chan.specs.{declared.save.head.Head.Head, Saved.head_bytes, Saved.register_bytes, inner.Saves.HasHeadRanges}
 
 -- The bytes have a head's fields at their offsets.
 pub record HasFieldsOf (h : Head) (bytes : List ℕ) : Type 0 where

@@ -1,14 +1,12 @@
 -- A save is the save of the channel that its parts make, and a channel's save has that channel's parts.
-use Rattle.std.proofs.Common.{◌≡◌, ◌≢◌, ℕ, zero, suc, ◌∷◌, ◌+◌, ◌^◌, ◌<◌, ◌≤◌, Bool, true, false, cond, List, [], ◌++◌, length, Option, Some, None, refl, sym, ◌∙◌, append_assoc, arith}
+use Rattle.std.proofs.Common.{◌≡◌, ◌≢◌, ℕ, ◌+◌, ◌^◌, ◌<◌, ◌≤◌, Bool, true, false, cond, List, ◌++◌, length, Option, Some, None, refl, sym, ◌∙◌, append_assoc}
+use Rattle.std.proofs.Common.{arith}
 use Rattle.std.proofs.lemmas.List.{take_at, drop_at, length-append, length-take, length-drop, nil_from_length}
-use Rattle.std.specs.Prelude.{is_some, IfSome}
-use Rattle.std.specs.Int.{w32, to_le_bytes}
-use Rattle.dma_chan.specs.declared.save.head.Head.{Head}
-use Rattle.dma_chan.specs.Programs.{ProgramValue}
-use Rattle.dma_chan.specs.declared.bus.Bus.{Bus}
+use Rattle.std.specs.{Prelude.is_some, Prelude.IfSome, Int.w32, Int.to_le_bytes}
 use Rattle.dma_chan.specs.Channel.{cost_of_program, ChannelValue, bytes_of_program, code_of, on_bus}
 use Rattle.dma_chan.specs.Saved.{AreBytes, IsLoadedAt, IsChannelValue, checksum, sealed, head_of, head_bytes, register_bytes, saved}
 use Rattle.dma_chan.specs.inner.Saves.{buffer_in, program_in, channel_in, HasHeadRanges, LoadsWhole, FitsIn}
+use Rattle.dma_chan.specs.{declared.save.head.Head.Head, Programs.ProgramValue, declared.bus.Bus.Bus}
 
 pub head_len : (h : Head) → length (head_bytes h) ≡ 48
 unfolding head_bytes register_bytes
@@ -64,7 +62,8 @@ code_fits : (pc : ℕ) (p : Option ProgramValue) → IfSome p (IsLoadedAt pc) �
 code_fits pc None l = omega arith
 code_fits pc (Some p) l = l.limit
 
-loads_whole : (p : Option ProgramValue) (h : Head) → IfSome p (IsLoadedAt h.registers.pc) → h.cost ≡ cost_of_program p → h.program_len ≡ length (bytes_of_program p)
+loads_whole : (p : Option ProgramValue) (h : Head) → IfSome p (IsLoadedAt h.registers.pc) → h.cost ≡ cost_of_program p
+    → h.program_len ≡ length (bytes_of_program p)
     → LoadsWhole (is_some p) h
 loads_whole None h l cost len = (cost, len)
 loads_whole (Some p) h l cost len = omega (arith, l.offset)
@@ -121,9 +120,12 @@ saved_parts c save v e =
     let whole : save ≡ head ++ rest_of c = e ∙ saved_rest c in
     let apart : save ≡ (head ++ c.buffer) ++ (code_of c ++ check) = whole ∙ sym (append_assoc head c.buffer (code_of c ++ check)) in
     let len : length (head ++ c.buffer) ≡ 48 + length c.buffer = omega (arith, head_len (head_of c), length-append head c.buffer) in
-    let buffer : buffer_in save (head_of c) ≡ c.buffer = rw (whole, drop_at head (rest_of c) 48 (head_len (head_of c))) (take_at c.buffer (code_of c ++ check) (length c.buffer) refl) in
-    let program : program_in save (head_of c) ≡ code_of c = rw (apart, drop_at (head ++ c.buffer) (code_of c ++ check) (48 + length c.buffer) len) (take_at (code_of c) check (length (code_of c)) refl) in
-    let total : length save ≡ 48 + length c.buffer + length (code_of c) + 4 = rw apart (omega (arith, len, length-append (head ++ c.buffer) (code_of c ++ check), length-append (code_of c) check)) in
+    let buffer : buffer_in save (head_of c) ≡ c.buffer =
+    rw (whole, drop_at head (rest_of c) 48 (head_len (head_of c))) (take_at c.buffer (code_of c ++ check) (length c.buffer) refl) in
+    let program : program_in save (head_of c) ≡ code_of c =
+    rw (apart, drop_at (head ++ c.buffer) (code_of c ++ check) (48 + length c.buffer) len) (take_at (code_of c) check (length (code_of c)) refl) in
+    let total : length save ≡ 48 + length c.buffer + length (code_of c) + 4 =
+    rw apart (omega (arith, len, length-append (head ++ c.buffer) (code_of c ++ check), length-append (code_of c) check)) in
     record {
       ranges = head_ranges c v;
       rest = whole;

@@ -1,23 +1,17 @@
 -- How many instructions running a tree executes, counted without writing them out, and a bound for a transfer's.
-use Rattle.std.proofs.Common.{◌≡◌, ℕ, zero, suc, ◌+◌, ◌*◌, ◌/◌, ◌%◌, ◌^◌, ◌≤◌, List, [], ◌∷◌, length, map, Bool, Option, Some, None, refl, ap, ◌∙◌, arith, length-append}
+use Rattle.std.proofs.Common.{◌≡◌, ℕ, zero, suc, ◌+◌, ◌*◌, ◌/◌, ◌%◌, ◌^◌, ◌≤◌, List, [], ◌∷◌, length, map, Bool, Option, Some, None, refl, ap, ◌∙◌, arith}
+use Rattle.std.proofs.Common.{length-append}
 use Rattle.std.proofs.Math.Nat.{div-mul-le_self}
-use Rattle.dma_insn.specs.declared.insn.Counter.TheVariants.{Lc0, Lc1}
-use Rattle.dma_insn.specs.declared.chip.ChipInsn.{ChipInsn}
-use Rattle.dma_insn.specs.declared.chip.ChipInsn.TheVariants.{LpEnd}
+use Rattle.dma_insn.specs.{declared.insn.Counter.TheVariants.Lc0, declared.insn.Counter.TheVariants.Lc1, declared.chip.ChipInsn.ChipInsn}
+use Rattle.dma_insn.specs.{declared.chip.ChipInsn.TheVariants.LpEnd, declared.control.BeatSize.BeatSize, ControlWord.beat_bytes}
 use Rattle.dma_mem.specs.Places.{Descriptor}
-use Rattle.dma_insn.specs.declared.control.BeatSize.{BeatSize}
-use Rattle.dma_insn.specs.declared.control.BeatSize.TheVariants as sizes
-use Rattle.dma_insn.specs.ControlWord.{beat_bytes}
-use Rattle.dma_chan.specs.declared.bus.Bus.{Bus}
-use Rattle.dma_chan.specs.declared.bus.Bus.TheVariants.{Ideal}
-use Rattle.dma_chan.specs.declared.pieces.Piece.{Piece}
-use Rattle.dma_chan.specs.Compiled.{pieces_of, members_on, cost, cost_on, tree_on, piece_tree, parts, where_some, under, bursts, body, beat_of, control_word, wait_tree, signal_tree}
+use Rattle.dma_chan.specs.Compiled.{pieces_of, members_on, cost, cost_on, tree_on, piece_tree, parts, where_some, under, bursts, body, beat_of, control_word}
+use Rattle.dma_chan.specs.Compiled.{wait_tree, signal_tree}
 use Rattle.dma_chan.specs.Tree.{Tree, One, Then, Nothing, Repeat, bytes_of, unrolled, times, turn_of, in_order}
-use Rattle.dma_chan.specs.inner.Compiling.{cost_of}
 use Rattle.dma_chan.specs.Layer.{CostIs, CostOnBus}
-use Rattle.dma_chan.proofs.CutPlaces.{read_by, run_of, length_run}
-use Rattle.dma_chan.proofs.PieceCode.{cut_well, pieces_few}
-use Rattle.dma_chan.proofs.ControlWords.{beat_right}
+use Rattle.dma_chan.specs.{declared.bus.Bus.Bus, declared.bus.Bus.TheVariants.Ideal, declared.pieces.Piece.Piece, inner.Compiling.cost_of}
+use Rattle.dma_chan.proofs.{CutPlaces.read_by, CutPlaces.run_of, CutPlaces.length_run, PieceCode.cut_well, PieceCode.pieces_few, ControlWords.beat_right}
+use Rattle.dma_insn.specs.declared.control.BeatSize.TheVariants as sizes
 
 -- the number by the tree alone
 abbrev pub counted : Tree → ℕ
@@ -96,7 +90,8 @@ pieces_counted bus [] = omega arith
 pieces_counted bus (p ∷ ps) =
     let one = piece_counted bus p in
     let more = pieces_counted bus ps in
-    let bytes : length (read_by (p ∷ ps)) ≡ p.len + length (read_by ps) = length-append (run_of p.fill p.src p.len) (read_by ps) ∙ omega (arith, length_run p.fill p.src p.len) in
+    let bytes : length (read_by (p ∷ ps)) ≡ p.len + length (read_by ps) = length-append (run_of p.fill p.src p.len) (read_by ps)
+    ∙ omega (arith, length_run p.fill p.src p.len) in
     omega (arith, one, more, bytes)
 
 event_counted : (o : Option ℕ) → (counted (wait_tree o) ≤ 1) × (counted (signal_tree o) ≤ 1)

@@ -2,12 +2,8 @@
 use Rattle.std.specs.Prelude.{◌≡◌, ◌+◌, ◌*◌, ◌%◌, ◌<◌, true}
 use Rattle.dma_insn.specs.declared.chip.ChipInsn.TheVariants.{Ld, St}
 use Rattle.dma_mem.specs.Marking.{MarkList}
-use Rattle.dma_chan.specs.declared.bursts.Burst.{Burst}
-use Rattle.dma_chan.specs.declared.bus.Bus.TheVariants.{Chip}
-use Rattle.dma_chan.specs.declared.bus.BusWidth.{BusWidth}
-use Rattle.dma_chan.specs.Bursts.{burst_len}
-use Rattle.dma_chan.specs.declared.turn.ChanTurn.TheVariants.{Moved}
-use Rattle.dma_chan.specs.Exec.{State, act, destination_of, source_of}
+use Rattle.dma_chan.specs.{declared.bursts.Burst.Burst, declared.bus.Bus.TheVariants.Chip, declared.bus.BusWidth.BusWidth, Bursts.burst_len}
+use Rattle.dma_chan.specs.{declared.turn.ChanTurn.TheVariants.Moved, Exec.State, Exec.act, Exec.destination_of, Exec.source_of}
 
 -- A burst leaves out less than a beat: it moves more bytes than all of its beats but one have.
 abbrev pub LeavesOutPart : Burst → Type 0

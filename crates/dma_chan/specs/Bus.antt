@@ -1,10 +1,8 @@
 -- What a channel's data bus accepts.
 use Rattle.std.specs.Prelude.{ℕ, ◌^◌, Bool, true, ◌&&◌, nat_le}
 use Rattle.dma_insn.specs.ControlWord.{field, is_control}
-use Rattle.dma_chan.specs.declared.bus.Bus.{Bus}
-use Rattle.dma_chan.specs.declared.bus.Bus.TheVariants.{Ideal, Chip}
-use Rattle.dma_chan.specs.declared.bus.BusWidth.{BusWidth}
 use Rattle.dma_chan.specs.declared.bus.BusWidth.TheVariants.{Bits32, Bits64, Bits128}
+use Rattle.dma_chan.specs.{declared.bus.Bus.Bus, declared.bus.Bus.TheVariants.Ideal, declared.bus.Bus.TheVariants.Chip, declared.bus.BusWidth.BusWidth}
 
 -- the code of a width in CRD: the bus has 2 ^ code bytes
 abbrev pub bus_code : BusWidth → ℕ

@@ -1,9 +1,7 @@
 -- The addresses that a call of several steps writes.
 use Rattle.std.specs.Prelude.{ℕ, Option}
 use Rattle.dma_mem.specs.Marking.{MarkList}
-use Rattle.dma_chan.specs.declared.turn.ChanTurn.{ChanTurn}
-use Rattle.dma_chan.specs.Stepping.{Machine, TakesSteps, written_after}
-use Rattle.dma_chan.specs.Written.{KeepsOutside}
+use Rattle.dma_chan.specs.{declared.turn.ChanTurn.ChanTurn, Stepping.Machine, Stepping.TakesSteps, Stepping.written_after, Written.KeepsOutside}
 
 -- A call keeps all bytes outside the range that it reports as written. This applies to every program, including one
 -- that was not compiled.

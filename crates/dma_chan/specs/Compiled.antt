@@ -1,23 +1,15 @@
 -- The compiled form of a transfer for a bus (profile; the instructions are the PL330 manual's).
-use Rattle.std.specs.Prelude.{ℕ, zero, suc, ◌+◌, ◌-◌, ◌*◌, ◌/◌, ◌%◌, Bool, true, false, not, ◌&&◌, ◌==◌, nat_le, nat_lt, if◌then◌else◌, List, [], ◌∷◌, ◌++◌, map, length, Option, Some}
-use Rattle.std.specs.List.{flat_map}
-use Rattle.std.specs.Option.{option_map_or}
-use Rattle.dma_insn.specs.declared.control.BeatSize.{BeatSize}
-use Rattle.dma_insn.specs.declared.control.BeatSize.TheVariants as sizes
-use Rattle.dma_insn.specs.declared.control.BurstEnd.{BurstEnd}
-use Rattle.dma_insn.specs.ControlWord.{beat_bytes, bits_of}
+use Rattle.std.specs.Prelude.{ℕ, zero, suc, ◌+◌, ◌-◌, ◌*◌, ◌/◌, ◌%◌, Bool, true, false, not, ◌&&◌, ◌==◌, nat_le, nat_lt, if◌then◌else◌, List, [], ◌∷◌, ◌++◌}
+use Rattle.std.specs.Prelude.{map, length, Option, Some}
+use Rattle.std.specs.{List.flat_map, Option.option_map_or}
 use Rattle.dma_insn.specs.declared.insn.Reg.TheVariants.{Sar, Ccr, Dar}
-use Rattle.dma_insn.specs.declared.insn.Counter.TheVariants.{Lc0, Lc1}
-use Rattle.dma_insn.specs.declared.chip.ChipInsn.{ChipInsn}
 use Rattle.dma_insn.specs.declared.chip.ChipInsn.TheVariants.{Mov, Ld, St, Rmb, Wmb, End, Sev, Wfe}
-use Rattle.dma_mem.specs.declared.segment.Segment.{Segment}
-use Rattle.dma_mem.specs.Places.{Descriptor}
-use Rattle.dma_chan.specs.declared.bus.Bus.{Bus}
-use Rattle.dma_chan.specs.declared.bus.Bus.TheVariants.{Ideal}
-use Rattle.dma_chan.specs.declared.pieces.Piece.{Piece}
-use Rattle.dma_chan.specs.Bus.{widest_beat}
+use Rattle.dma_insn.specs.{declared.control.BeatSize.BeatSize, declared.control.BurstEnd.BurstEnd, ControlWord.beat_bytes, ControlWord.bits_of}
+use Rattle.dma_insn.specs.{declared.insn.Counter.TheVariants.Lc0, declared.insn.Counter.TheVariants.Lc1, declared.chip.ChipInsn.ChipInsn}
+use Rattle.dma_mem.specs.{declared.segment.Segment.Segment, Places.Descriptor}
 use Rattle.dma_chan.specs.Tree.{Tree, One, Then, Nothing, Repeat, in_order, bytes_of, unrolled}
-use Rattle.dma_chan.specs.Programs.{ProgramValue}
+use Rattle.dma_chan.specs.{declared.bus.Bus.Bus, declared.bus.Bus.TheVariants.Ideal, declared.pieces.Piece.Piece, Bus.widest_beat, Programs.ProgramValue}
+use Rattle.dma_insn.specs.declared.control.BeatSize.TheVariants as sizes
 
 -- ---- pieces
 

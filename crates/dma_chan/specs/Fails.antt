@@ -1,13 +1,9 @@
 -- Why a program that is run alone isn't run to its end: it is too long, or an allocation fails.
 use Rattle.std.specs.Prelude.{◌≡◌, ℕ, ◌<◌, ◌≤◌, false, List, length}
 use Rattle.dma_insn.specs.AssemblyText.{most_program_bytes}
-use Rattle.dma_mem.specs.Marking.{MarkList}
-use Rattle.dma_mem.specs.Pages.{Paged}
-use Rattle.dma_chan.specs.declared.run.RunFault.{RunFault}
-use Rattle.dma_chan.specs.declared.run.RunFault.TheVariants.{ProgramTooLong, PageRefused, NoMemory}
-use Rattle.dma_chan.specs.Exec.{State}
-use Rattle.dma_chan.specs.Run.{state_after, opening, GoesOnFor}
-use Rattle.dma_chan.specs.Ready.{next_is_ready}
+use Rattle.dma_mem.specs.{Marking.MarkList, Pages.Paged}
+use Rattle.dma_chan.specs.{declared.run.RunFault.RunFault, declared.run.RunFault.TheVariants.ProgramTooLong, declared.run.RunFault.TheVariants.PageRefused}
+use Rattle.dma_chan.specs.{declared.run.RunFault.TheVariants.NoMemory, Exec.State, Run.state_after, Run.opening, Run.GoesOnFor, Ready.next_is_ready}
 
 -- The first `turns` instructions of a program, fewer than the limit, were executed from a state. The memory has the
 -- image after them, and the next instruction writes a page that isn't made.

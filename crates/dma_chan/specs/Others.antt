@@ -1,11 +1,8 @@
 -- Which addresses a transfer uses, and that an instruction writes no others than its own.
-use Rattle.std.specs.Prelude.{◌≡◌, ℕ, ◌⊎◌, Bool, false, List, length, slice_index}
-use Rattle.std.specs.List.{Contains}
+use Rattle.std.specs.{Prelude.◌≡◌, Prelude.ℕ, Prelude.◌⊎◌, Prelude.Bool, Prelude.false, Prelude.List, Prelude.length, Prelude.slice_index, List.Contains}
 use Rattle.dma_mem.specs.Places.{Descriptor, sources, destinations}
-use Rattle.dma_mem.specs.declared.marks.MarkKind.TheVariants.{Reading, Writing}
-use Rattle.dma_mem.specs.Marking.{MarkList, is_marked}
-use Rattle.dma_chan.specs.Channel.{ChannelValue, step_of}
-use Rattle.dma_chan.specs.NextWrites.{written_next}
+use Rattle.dma_mem.specs.{declared.marks.MarkKind.TheVariants.Reading, declared.marks.MarkKind.TheVariants.Writing, Marking.MarkList, Marking.is_marked}
+use Rattle.dma_chan.specs.{Channel.ChannelValue, Channel.step_of, NextWrites.written_next}
 
 -- whether a transfer reads or writes an address
 abbrev pub Touches : Descriptor → ℕ → Type 0

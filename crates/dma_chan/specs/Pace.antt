@@ -2,16 +2,10 @@
 -- moves (`burst`), and how many bytes the first n store (`stored_after`).
 use Rattle.std.specs.Prelude.{◌≡◌, ◌≢◌, ◌↔◌, ℕ, ◌+◌, ◌-◌, ◌≤◌, ◌<◌, Bool, true, false, List, [], length, Some, Ok, IfSome, slice_index_or}
 use Rattle.dma_insn.specs.declared.chip.ChipInsn.TheVariants.{Ld, St, End, Sev, Wfe}
-use Rattle.dma_mem.specs.Marking.{MarkList}
-use Rattle.dma_mem.specs.Places.{Descriptor, size_of, lies_below}
-use Rattle.dma_mem.specs.Rules.{IsTransfer}
-use Rattle.dma_chan.specs.declared.turn.ChanTurn.TheVariants.{Moved, Ended}
-use Rattle.dma_chan.specs.Channel.{ahead_of, loaded}
-use Rattle.dma_chan.specs.Compiled.{cost, compiled}
-use Rattle.dma_chan.specs.NextWrites.{written_next}
-use Rattle.dma_chan.specs.Reads.{read_next}
-use Rattle.dma_chan.specs.Stepping.{Machine, machine, answer_at, after_steps}
-use Rattle.dma_chan.specs.Traffic.{member, stored_after, burst, read_places, written_places}
+use Rattle.dma_mem.specs.{Marking.MarkList, Places.Descriptor, Places.size_of, Places.lies_below, Rules.IsTransfer}
+use Rattle.dma_chan.specs.{declared.turn.ChanTurn.TheVariants.Moved, declared.turn.ChanTurn.TheVariants.Ended, Channel.ahead_of, Channel.loaded, Compiled.cost}
+use Rattle.dma_chan.specs.{Compiled.compiled, NextWrites.written_next, Reads.read_next, Stepping.Machine, Stepping.machine, Stepping.answer_at}
+use Rattle.dma_chan.specs.{Stepping.after_steps, Traffic.member, Traffic.stored_after, Traffic.burst, Traffic.read_places, Traffic.written_places}
 
 -- ---- in plain terms
 

@@ -1,16 +1,10 @@
 -- The addresses that a channel's instructions read, and that nothing else in the memory has any effect on them.
 use Rattle.std.specs.Prelude.{◌≡◌, ℕ, ◌<◌, Bool, List, [], length, slice_index, Result, Ok}
 use Rattle.std.specs.List.{Contains}
-use Rattle.dma_insn.specs.declared.chip.ChipInsn.{ChipInsn}
-use Rattle.dma_insn.specs.declared.chip.ChipInsn.TheVariants.{Ld}
-use Rattle.dma_mem.specs.Image.{put}
-use Rattle.dma_mem.specs.Marking.{MarkList}
-use Rattle.dma_chan.specs.declared.exec.Registers.{Registers}
-use Rattle.dma_chan.specs.declared.turn.FaultKind.{FaultKind}
-use Rattle.dma_chan.specs.Bursts.{touched}
-use Rattle.dma_chan.specs.Channel.{ChannelValue, ahead_of, step_of, stepped}
-use Rattle.dma_chan.specs.Exec.{source_of}
-use Rattle.dma_chan.specs.Stepping.{Machine, after_steps}
+use Rattle.dma_insn.specs.{declared.chip.ChipInsn.ChipInsn, declared.chip.ChipInsn.TheVariants.Ld}
+use Rattle.dma_mem.specs.{Image.put, Marking.MarkList}
+use Rattle.dma_chan.specs.{declared.exec.Registers.Registers, declared.turn.FaultKind.FaultKind, Bursts.touched, Channel.ChannelValue, Channel.ahead_of}
+use Rattle.dma_chan.specs.{Channel.step_of, Channel.stepped, Exec.source_of, Stepping.Machine, Stepping.after_steps}
 
 -- the addresses that an instruction reads: those of its burst for a DMALD, and none for any other instruction or a
 -- fault of fetching

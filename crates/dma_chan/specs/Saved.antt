@@ -1,12 +1,9 @@
 -- The bytes of a saved channel. Numbers of several bytes are little-endian.
 use Rattle.std.specs.Prelude.{◌≡◌, ℕ, ◌+◌, ◌*◌, ◌%◌, ◌^◌, ◌<◌, ◌≤◌, IsTrue, is_some, unwrap_or, List, [], ◌∷◌, ◌++◌, length, slice_index, Option, IfSome}
-use Rattle.dma_insn.specs.AssemblyText.{most_program_bytes}
 use Rattle.std.specs.Int.{w16, w32, w64, to_le_bytes}
-use Rattle.dma_insn.specs.ControlWord.{flag, is_control}
-use Rattle.dma_chan.specs.declared.exec.Registers.{Registers}
-use Rattle.dma_chan.specs.declared.save.head.Head.{Head}
-use Rattle.dma_chan.specs.Programs.{ProgramValue}
+use Rattle.dma_insn.specs.{AssemblyText.most_program_bytes, ControlWord.flag, ControlWord.is_control}
 use Rattle.dma_chan.specs.Channel.{ChannelValue, code_of, cost_of_program}
+use Rattle.dma_chan.specs.{declared.exec.Registers.Registers, declared.save.head.Head.Head, Programs.ProgramValue}
 
 -- ---- what every channel satisfies
 

@@ -2,7 +2,6 @@
 -- transfer's program, and what contracts of private functions, or of those that only other crates' code calls, cite.
 pub mod Fields
 pub mod Codes
-pub mod Fifo
 pub mod Saves
 pub mod At
 pub mod Spans

@@ -1,18 +1,15 @@
 //! The bursts of a channel: loads from memory into its buffer, and stores from its buffer to memory.
 
-ghost use Rattle.std.specs.Prelude.{◌≡◌, ◌+◌, ◌*◌, ◌≤◌, ◌<◌, ◌++◌, IsTrue, IsNone, Bool, List, length, take, drop, replicate, false};
+ghost use Rattle.std.specs.Prelude.{◌≡◌, ◌+◌, ◌*◌, ◌≤◌, ◌<◌, ◌++◌, IsTrue, IsNone, length, replicate, false};
 ghost use Rattle.std.specs.List.{flat_map};
-ghost use Rattle.dma_insn.specs.declared.chip.ChipInsn.TheVariants.{Ld, St, StoreZeros};
+ghost use Rattle.dma_insn.specs.declared.chip.ChipInsn.TheVariants.{Ld};
 ghost use Rattle.dma_insn.specs.AssemblyText.{most_program_bytes};
 ghost use Rattle.dma_insn.specs.ControlWord.{beat_bytes};
-ghost use Rattle.dma_mem.specs.Image.{put};
 ghost use Rattle.dma_mem.specs.Lent.{Avoids, with_gaps};
-ghost use Rattle.dma_chan.specs.Bursts.{burst_len, touched, writes_of, zeros_of, advance, reaches, skip_of, span_of};
-ghost use Rattle.dma_chan.specs.inner.Fifo.{fifo};
+ghost use Rattle.dma_chan.specs.Bursts.{burst_len, touched, advance, reaches, skip_of, span_of};
 ghost use Rattle.dma_chan.specs.inner.Spans.{rounds_of, LieIn, MovesSome};
-ghost use Rattle.dma_chan.specs.Exec.{source_of, destination_of, act, buffer_size, read_at, state};
-ghost use Rattle.dma_chan.specs.Ready.{none_missing};
-ghost use Rattle.dma_chan.specs.inner.Acts.{FaultsWith};
+ghost use Rattle.dma_chan.specs.Exec.{source_of, destination_of, buffer_size, read_at};
+ghost use Rattle.dma_chan.specs.inner.Acts.{Executes, FaultsWith};
 
 mod stores;
 mod zeros;
@@ -184,8 +181,8 @@ fn may_touch<M: Ram>(kind: MarkKind, marks: &Marks, memory: &M, burst: Burst) ->
 #[tactic(auto, using(crate::proofs::BurstRounds::run_put))]
 fn put_run(buffer: &mut Fifo, byte: u8, count: u32)
     requires few { count ≤ 16 }
-    requires room { length buffer.old.items + count ≤ buffer.old.capacity }
-    ensures { buffer.new ≡ fifo (buffer.old.items ++ replicate count byte) buffer.old.capacity }
+    requires room { length buffer.old + count ≤ buffer_size }
+    ensures { buffer.new ≡ buffer.old ++ replicate count byte }
 {
     let run = [byte; MAX_BEATS];
     buffer.fill_from_slice(&run[..count as usize]);
@@ -196,9 +193,8 @@ fn put_run(buffer: &mut Fifo, byte: u8, count: u32)
 #[tactic(auto, using(crate::proofs::BurstRounds::one_run, crate::proofs::BurstRounds::round_put))]
 fn put_rounds(buffer: &mut Fifo, bytes: &[u8], rounds: u32)
     requires few { rounds ≤ 16 }
-    requires room { length buffer.old.items + rounds * length bytes.now ≤ buffer.old.capacity }
-    ensures { buffer.new ≡ fifo
-        (buffer.old.items ++ flat_map (λ xs. xs) (replicate rounds bytes.now)) buffer.old.capacity }
+    requires room { length buffer.old + rounds * length bytes.now ≤ buffer_size }
+    ensures { buffer.new ≡ buffer.old ++ flat_map (λ xs. xs) (replicate rounds bytes.now) }
 {
     if bytes.len() == 1 {
         put_run(buffer, bytes[0], rounds);
@@ -216,13 +212,11 @@ fn put_rounds(buffer: &mut Fifo, bytes: &[u8], rounds: u32)
 fn load_span<M: Ram>(burst: Burst, buffer: &mut Fifo, block: &mut [u8], memory: &M)
     requires some { MovesSome burst }
     requires limit { (burst.size ≤ 16) × (burst.beats ≤ 16) }
-    requires room { length buffer.old.items + burst_len burst ≤ buffer.old.capacity }
+    requires room { length buffer.old + burst_len burst ≤ buffer_size }
     requires within { burst.addr + span_of burst ≤ length (M.paged memory.now).image }
     requires clear { Avoids (M.loan memory.now).gaps burst.addr (span_of burst) }
     requires block { length block.old ≡ buffer_size }
-    ensures { buffer.new ≡ fifo
-        (buffer.old.items ++ read_at (M.paged memory.now).image (touched burst))
-        buffer.old.capacity }
+    ensures { buffer.new ≡ buffer.old ++ read_at (M.paged memory.now).image (touched burst) }
 {
     let len = burst.span().len as usize;
     let bytes = memory.bytes(burst.addr, &mut block[..len]);
@@ -242,15 +236,14 @@ pub(crate) fn load_fault<M: Ram>(
     memory: &M,
     marks: &Marks,
 ) -> Option<FaultKind>
-    requires capacity { executor.now.buffer.capacity ≡ buffer_size }
     requires burst { burst ≡ source_of executor.now.registers }
     requires addr { burst.addr ≡ executor.now.registers.sar }
     requires some { MovesSome burst }
     requires limit { (burst.size ≤ 16) × (burst.beats ≤ 16) }
     ensures fault { FaultsWith (with_gaps (M.loan memory.now) marks.now) Ld executor.now.registers
-        executor.now.buffer.items (M.paged memory.now).image result }
+        executor.now.buffer (M.paged memory.now).image result }
     ensures room { IsNone result
-        → length executor.now.buffer.items + burst_len (source_of executor.now.registers)
+        → length executor.now.buffer + burst_len (source_of executor.now.registers)
         ≤ buffer_size }
     ensures reaches { IsNone result → IsTrue (reaches MarkKind.Reading
         (with_gaps (M.loan memory.now) marks.now) (length (M.paged memory.now).image)
@@ -270,14 +263,11 @@ pub(crate) fn load_fault<M: Ram>(
 // Executes DMALD. It isn't inlined, so that the loop of a caller stays small.
 #[inline(never)]
 pub(crate) fn load_burst<M: Ram>(executor: &mut Executor, memory: &M, marks: &Marks) -> ChanTurn
-    requires capacity { executor.old.buffer.capacity ≡ buffer_size }
     requires block { length executor.old.block.items ≡ buffer_size }
     requires pc { executor.old.registers.pc < most_program_bytes }
-    ensures exact { (flags : List Bool) → let image = (M.paged memory.now).image in
-        act (with_gaps (M.loan memory.now) marks.now) Ld
-        (state executor.old.registers executor.old.buffer.items image flags)
-        ≡ (result, state executor.new.registers executor.new.buffer.items image flags) }
-    ensures capacity { executor.new.buffer.capacity ≡ buffer_size }
+    ensures exact { let image = (M.paged memory.now).image in
+        Executes (with_gaps (M.loan memory.now) marks.now) Ld executor.old image
+        result executor.new image }
     ensures block { length executor.new.block.items ≡ buffer_size }
     ensures pc { executor.new.registers.pc ≤ executor.old.registers.pc + 1 }
 {

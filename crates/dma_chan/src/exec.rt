@@ -1,13 +1,13 @@
 //! The registers of a channel, and the execution of one instruction.
 
-ghost use Rattle.std.specs.Prelude.{◌≡◌, ◌+◌, ◌-◌, ◌≤◌, ◌<◌, Bool, List, IsTrue, IsNone, length, Ok};
+ghost use Rattle.std.specs.Prelude.{◌≡◌, ◌+◌, ◌-◌, ◌≤◌, ◌<◌, IsTrue, IsNone, length, Ok};
 ghost use Rattle.dma_insn.specs.AssemblyText.{most_program_bytes};
 ghost use Rattle.dma_insn.specs.Chip.{spelling};
 ghost use Rattle.dma_insn.specs.declared.chip.ChipInsn.TheVariants.{Mov, Lp, LpEnd, Sev, Wfe, AddHalfword, LoopAgain};
 ghost use Rattle.dma_chan.specs.Bursts.{drops};
 ghost use Rattle.dma_chan.specs.Exec.{addend, buffer_size, counter_of, destination_of, act, kept, state};
 ghost use Rattle.dma_chan.specs.Channel.{stored_by};
-ghost use Rattle.dma_chan.specs.inner.Acts.{FaultsAt, IsOther, SetsFlags, SetsKeeping, SetsRegisters};
+ghost use Rattle.dma_chan.specs.inner.Acts.{Executes, FaultsAt, IsOther, SetsFlags, SetsKeeping, SetsRegisters};
 ghost use Rattle.dma_chan.specs.Ready.{is_ready};
 ghost use Rattle.dma_mem.specs.Lent.{with_gaps};
 
@@ -272,9 +272,8 @@ impl Executor {
     // Drops the bytes in the buffer if a channel does after a DMAMOV, DMAADDH or DMAADNH that began at these registers.
     #[inline(always)]
     fn keep(&mut self, old: &Registers)
-        ensures buffer { self.new.buffer.items
-            ≡ kept old.now self.old.registers self.old.buffer.items }
-        ensures capacity { self.new.buffer.capacity ≡ self.old.buffer.capacity }
+        ensures buffer { self.new.buffer
+            ≡ kept old.now self.old.registers self.old.buffer }
         ensures block { self.new.block ≡ self.old.block }
         ensures registers { self.new.registers ≡ self.old.registers }
     {
@@ -291,20 +290,18 @@ impl Executor {
         events: &mut Events,
         marks: &Marks,
     ) -> (ChanTurn, u32)
-        requires capacity { self.old.buffer.capacity ≡ buffer_size }
         requires block { length self.old.block.items ≡ buffer_size }
         requires pc { self.old.registers.pc + length (spelling next) ≤ most_program_bytes }
         requires ready { IsTrue (is_ready (Ok next) self.old.registers (M.paged memory.old)) }
         ensures exact { let before = (M.paged memory.old).image in
             let after = (M.paged memory.new).image in
             act (with_gaps (M.loan memory.old) marks.now) next
-            (state self.old.registers self.old.buffer.items before events.old)
-            ≡ (result.0, state self.new.registers self.new.buffer.items after events.new) }
+            (state self.old.registers self.old.buffer before events.old)
+            ≡ (result.0, state self.new.registers self.new.buffer after events.new) }
         ensures stored { result.0 ≡ ChanTurn.Moved
             → result.1 ≡ stored_by (Ok next) self.old.registers }
         ensures limit { result.1 ≤ buffer_size }
         ensures pages { (M.paged memory.new).made ≡ (M.paged memory.old).made }
-        ensures capacity { self.new.buffer.capacity ≡ buffer_size }
         ensures block { length self.new.block.items ≡ buffer_size }
         ensures pc { self.new.registers.pc ≤ self.old.registers.pc + length (spelling next) }
         ensures loan { M.loan memory.new ≡ M.loan memory.old }
@@ -328,20 +325,15 @@ impl Executor {
         marks: &Marks,
     ) -> (ChanTurn, u32)
         requires other { IsOther next }
-        requires capacity { self.old.buffer.capacity ≡ buffer_size }
         requires block { length self.old.block.items ≡ buffer_size }
         requires pc { self.old.registers.pc + length (spelling next) ≤ most_program_bytes }
         requires ready { IsTrue (is_ready (Ok next) self.old.registers (M.paged memory.old)) }
-        ensures exact { (flags : List Bool) → let before = (M.paged memory.old).image in
-            let after = (M.paged memory.new).image in
-            act (with_gaps (M.loan memory.old) marks.now) next
-            (state self.old.registers self.old.buffer.items before flags)
-            ≡ (result.0, state self.new.registers self.new.buffer.items after flags) }
+        ensures exact { Executes (with_gaps (M.loan memory.old) marks.now) next self.old
+            (M.paged memory.old).image result.0 self.new (M.paged memory.new).image }
         ensures stored { result.0 ≡ ChanTurn.Moved
             → result.1 ≡ stored_by (Ok next) self.old.registers }
         ensures limit { result.1 ≤ buffer_size }
         ensures pages { (M.paged memory.new).made ≡ (M.paged memory.old).made }
-        ensures capacity { self.new.buffer.capacity ≡ buffer_size }
         ensures block { length self.new.block.items ≡ buffer_size }
         ensures pc { self.new.registers.pc ≤ self.old.registers.pc + length (spelling next) }
         ensures loan { M.loan memory.new ≡ M.loan memory.old }

@@ -1,6 +1,6 @@
 //! Laws of transfers' programs, and of any. Each law is the postcondition of a function that does nothing.
 
-ghost use Rattle.dma_chan.specs.Layer.{StartsAt, AheadIs, LeftIs, StepIs, TurnReports, Survives, CostIs, CostOnBus};
+ghost use Rattle.dma_chan.specs.Layer.{StartsAt, AheadIs, LeftIs, StepIs, TurnReports, Survives, CostIs, CostOnBus, WordsAccepted};
 ghost use Rattle.dma_chan.specs.CallWrites.{CallWritesNoOther};
 ghost use Rattle.dma_chan.specs.Aligned.{AddressesAlign};
 ghost use Rattle.dma_chan.specs.Others.{WritesNoOther};
@@ -41,6 +41,12 @@ pub fn pace()
 pub fn costs_little()
     ensures ideal { CostIs }
     ensures on_bus { CostOnBus }
+{}
+
+/// The bus for which a transfer's program was compiled accepts each control word that the program sets.
+#[tactic(auto, using(crate::proofs::MembersByNumber::words_accepted))]
+pub fn sets_accepted_words()
+    ensures { WordsAccepted }
 {}
 
 /// On a chip's bus an executed load or store whose address rises leaves the address at a multiple of its beat's size.

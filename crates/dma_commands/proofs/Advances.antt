@@ -1,32 +1,18 @@
 -- Steps of one channel in a row.
 use Rattle.std.proofs.Common.{◌≡◌, ◌≢◌, ℕ, ◌+◌, ◌-◌, ◌<◌, arith, List, [], ◌∷◌, ◌++◌, map, refl, ap, sym, ◌∙◌, subst, zero, suc, inl, inr, append_assoc}
 use Rattle.std.specs.Prelude.{if◌then◌else◌, is_some, replicate, ◌⊎◌, OnErr, OnOk, Option, Some, None, Result, Ok}
-use Rattle.std.proofs.lemmas.Result.{on_ok_weaker}
-use Rattle.std.proofs.lemmas.List.{append-nil, map-append}
+use Rattle.std.proofs.{lemmas.Result.on_ok_weaker, lemmas.List.append-nil, lemmas.List.map-append}
 use Rattle.dma_io.specs.Command.{text_of}
-use Rattle.dma_engine.specs.declared.outcome.TransResult.TheVariants.{NoError}
-use Rattle.dma_engine.specs.declared.turn.Advanced.{Advanced}
-use Rattle.dma_mem.specs.declared.call.Call.{Call}
-use Rattle.dma_mem.specs.declared.call.Call.TheVariants.{Step}
-use Rattle.dma_engine.specs.declared.call.Reply.{Reply}
-use Rattle.dma_engine.specs.declared.call.Reply.TheVariants.{Turned, Refused}
-use Rattle.dma_engine.specs.declared.fault.EngineFault.{EngineFault}
-use Rattle.dma_engine.specs.declared.fault.EngineFault.TheVariants.{NoMemory}
-use Rattle.dma_engine.specs.declared.turn.Turn.{Turn}
-use Rattle.dma_engine.specs.declared.turn.Turn.TheVariants.{Moved, Finished}
 use Rattle.dma_engine.specs.Advance.{EndsWith, IsAdvance, after_steps, replies_before, start_replies, steps_before}
 use Rattle.dma_engine.specs.Answer.{CallAnswers, answer, answers, reply_of}
-use Rattle.dma_engine.specs.View.{View}
-use Rattle.dma_commands.specs.Printed.{reply_text, turn_text}
-use Rattle.dma_commands.specs.Run.{step_answer, step_lines}
-use Rattle.dma_commands.specs.inner.RunSteps.{RunsLine}
-use Rattle.dma_commands.proofs.RunLemmas.{printed_runs}
-use Rattle.dma_commands.proofs.StepLemmas.{transfer_lines}
-use Rattle.dma_engine.specs.Room.{IsIdle}
-use Rattle.dma_engine.proofs.IdleSteps.{idle_steps_stay}
-use Rattle.dma_engine.proofs.JoinedCalls.{answer_unless_no_memory}
-use Rattle.dma_engine.proofs.StepReplies.{steps_joined}
-use Rattle.dma_commands.specs.inner.Counting.{transfer_text}
+use Rattle.dma_engine.specs.{declared.outcome.TransResult.TheVariants.NoError, declared.turn.Advanced.Advanced, declared.call.Reply.Reply}
+use Rattle.dma_engine.specs.{declared.call.Reply.TheVariants.Turned, declared.call.Reply.TheVariants.Refused, declared.fault.EngineFault.EngineFault}
+use Rattle.dma_engine.specs.{declared.fault.EngineFault.TheVariants.NoMemory, declared.turn.Turn.Turn, declared.turn.Turn.TheVariants.Moved}
+use Rattle.dma_engine.specs.{declared.turn.Turn.TheVariants.Finished, View.View, Room.IsIdle}
+use Rattle.dma_mem.specs.{declared.call.Call.Call, declared.call.Call.TheVariants.Step}
+use Rattle.dma_commands.specs.{Printed.reply_text, Printed.turn_text, Run.step_answer, Run.step_lines, inner.RunSteps.RunsLine, inner.Counting.transfer_text}
+use Rattle.dma_commands.proofs.{RunLemmas.printed_runs, StepLemmas.transfer_lines}
+use Rattle.dma_engine.proofs.{IdleSteps.idle_steps_stay, JoinedCalls.answer_unless_no_memory, StepReplies.steps_joined}
 
 -- ---- an idle answer is repeated
 
@@ -37,7 +23,8 @@ again v call reply (suc n) is =
     ∙ ap (λ (rest : List Reply × View). (reply ∷ rest.0, rest.1)) (again v call reply n is)
 
 -- the last answer, repeated
-last_steps : (v w : View) (ch : ℕ) (reply : Reply) (many : ℕ) → (reply, w) ≡ answer v (Step ch) → (many ≡ 1) ⊎ (w ≡ v) → answers v (replicate many (Step ch)) ≡ (replicate many reply, w)
+last_steps : (v w : View) (ch : ℕ) (reply : Reply) (many : ℕ) → (reply, w) ≡ answer v (Step ch) → (many ≡ 1) ⊎ (w ≡ v)
+    → answers v (replicate many (Step ch)) ≡ (replicate many reply, w)
 last_steps v w ch reply many is (inl one) =
     ap (λ (n : ℕ). answers v (replicate n (Step ch))) one ∙ ap (λ (a : Reply × View). (a.0 ∷ [], a.1)) (sym is)
     ∙ ap (λ (n : ℕ). (replicate n reply, w)) (sym one)
@@ -47,7 +34,8 @@ last_steps v w ch reply many is (inr same) =
 -- ---- all steps
 
 -- without a last one
-pub all_steps : (v w : View) (ch most : ℕ) (a : Advanced) → IsAdvance v ch most a w → a.last ≡ None → (replies_before a, w) ≡ answers v (replicate (steps_before a) (Step ch))
+pub all_steps : (v w : View) (ch most : ℕ) (a : Advanced) → IsAdvance v ch most a w → a.last ≡ None
+    → (replies_before a, w) ≡ answers v (replicate (steps_before a) (Step ch))
 all_steps v w ch most a h none =
     let n = steps_before a in
     let all = answers v (replicate n (Step ch)) in
@@ -55,7 +43,9 @@ all_steps v w ch most a h none =
     ap (λ (l : List Reply). (l, w)) (sym h.before) ∙ ap (λ (x : View). (all.0, x)) last.1
 
 -- with the last one repeated
-pub steps_then : (v w : View) (ch most : ℕ) (a : Advanced) (many : ℕ) (last : Result Turn EngineFault) (reply : Reply) → IsAdvance v ch most a w → a.last ≡ Some last → (reply ≡ reply_of Turned last) × (reply ≢ Refused NoMemory) → (many ≡ 1) ⊎ IsIdle last → (replies_before a ++ replicate many reply, w) ≡ answers v (replicate (steps_before a + many) (Step ch))
+pub steps_then : (v w : View) (ch most : ℕ) (a : Advanced) (many : ℕ) (last : Result Turn EngineFault) (reply : Reply) → IsAdvance v ch most a w
+    → a.last ≡ Some last → (reply ≡ reply_of Turned last) × (reply ≢ Refused NoMemory) → (many ≡ 1) ⊎ IsIdle last
+    → (replies_before a ++ replicate many reply, w) ≡ answers v (replicate (steps_before a + many) (Step ch))
 steps_then v w ch most a many last reply h some is times =
     let n = steps_before a in
     let u = after_steps v ch n in
@@ -72,7 +62,8 @@ map_replicate f zero x = refl
 map_replicate f (suc n) x = ap (λ l. f x ∷ l) (map_replicate f n x)
 
 -- of those before the last
-before_texts : (a : Advanced) (rest : List (List ℕ)) → map reply_text (start_replies a.started) ++ (replicate a.moved (reply_text (Turned Moved)) ++ rest) ≡ map reply_text (replies_before a) ++ rest
+before_texts : (a : Advanced) (rest : List (List ℕ))
+    → map reply_text (start_replies a.started) ++ (replicate a.moved (reply_text (Turned Moved)) ++ rest) ≡ map reply_text (replies_before a) ++ rest
 before_texts a rest =
     let f = start_replies a.started in
     let m = replicate a.moved (Turned Moved) in
@@ -80,10 +71,14 @@ before_texts a rest =
     ∙ sym (append_assoc (map reply_text f) (map reply_text m) rest)
     ∙ ap (λ t. t ++ rest) (sym (map-append reply_text f m))
 
-pub all_texts : (a : Advanced) (w : View) (all : List Reply × View) (rest : List (List ℕ)) → (replies_before a, w) ≡ all → map reply_text (start_replies a.started) ++ (replicate a.moved (reply_text (Turned Moved)) ++ rest) ≡ map reply_text all.0 ++ rest
+pub all_texts : (a : Advanced) (w : View) (all : List Reply × View) (rest : List (List ℕ)) → (replies_before a, w) ≡ all
+    → map reply_text (start_replies a.started) ++ (replicate a.moved (reply_text (Turned Moved)) ++ rest) ≡ map reply_text all.0 ++ rest
 all_texts a w all rest is = before_texts a rest ∙ ap (λ (x : List Reply × View). map reply_text x.0 ++ rest) is
 
-pub both_texts : (a : Advanced) (n : ℕ) (last : Reply) (w : View) (all : List Reply × View) (rest : List (List ℕ)) → (replies_before a ++ replicate n last, w) ≡ all → map reply_text (start_replies a.started) ++ (replicate a.moved (reply_text (Turned Moved)) ++ (replicate n (reply_text last) ++ rest)) ≡ map reply_text all.0 ++ rest
+pub both_texts : (a : Advanced) (n : ℕ) (last : Reply) (w : View) (all : List Reply × View) (rest : List (List ℕ))
+    → (replies_before a ++ replicate n last, w) ≡ all
+    → map reply_text (start_replies a.started) ++ (replicate a.moved (reply_text (Turned Moved)) ++ (replicate n (reply_text last) ++ rest)) ≡ map reply_text
+    all.0 ++ rest
 both_texts a n last w all rest is =
     let f = replies_before a in
     let l = replicate n last in
@@ -94,7 +89,8 @@ both_texts a n last w all rest is =
 
 -- ---- a transfer that starts, moves and finishes in one call
 
-transfer_steps : (v w : View) (ch count : ℕ) (a : Advanced) (cookie finished : ℕ) → IsAdvance v ch count a w → a.started ≡ Some cookie → a.last ≡ Some (Ok (Finished finished NoError 0)) → 0 < a.moved → count - a.moved ≡ 2
+transfer_steps : (v w : View) (ch count : ℕ) (a : Advanced) (cookie finished : ℕ) → IsAdvance v ch count a w → a.started ≡ Some cookie
+    → a.last ≡ Some (Ok (Finished finished NoError 0)) → 0 < a.moved → count - a.moved ≡ 2
     → (text_of (step_answer v ch count).0 ≡ transfer_text ch cookie a.moved finished) × (w ≡ (step_answer v ch count).1)
 transfer_steps v w ch count a cookie finished h started last some sum =
     let finish = Finished finished NoError 0 in
@@ -108,8 +104,10 @@ transfer_steps v w ch count a cookie finished h started last some sum =
     (ap (λ t. text_of (step_lines ch t)) (sym texts) ∙ transfer_lines ch cookie a.moved finished some, ap (λ (x : List Reply × View). x.1) steps)
 
 -- A transfer that starts, moves and finishes in one call, and its lines.
-pub whole_runs : {A E : Type 0} (v w : View) (ch count : ℕ) (a : Advanced) (cookies : ℕ × ℕ) (result : Result A E) (out out' : List ℕ) → IsAdvance v ch count a w → (a.started ≡ Some cookies.0) × (a.last ≡ Some (Ok (Finished cookies.1 NoError 0))) → 0 < a.moved → count - a.moved ≡ 2
+pub whole_runs : {A E : Type 0} (v w : View) (ch count : ℕ) (a : Advanced) (cookies : ℕ × ℕ) (result : Result A E) (out out' : List ℕ)
+    → IsAdvance v ch count a w → (a.started ≡ Some cookies.0) × (a.last ≡ Some (Ok (Finished cookies.1 NoError 0))) → 0 < a.moved → count - a.moved ≡ 2
     → OnOk result (out' ≡ out ++ transfer_text ch cookies.0 a.moved cookies.1) → OnErr result (out' ≡ out) → RunsLine (step_answer v ch count) w result out out'
 whole_runs v w ch count a cookies result out out' h is some sum prints kept =
     let steps = transfer_steps v w ch count a cookies.0 cookies.1 h is.0 is.1 some sum in
-    printed_runs (step_answer v ch count) w result out out' (on_ok_weaker result (λ _. steps.1) prints) (on_ok_weaker result (λ p. p ∙ ap (λ (l : List ℕ). out ++ l) (sym steps.0)) prints) kept
+    printed_runs (step_answer v ch count) w result out out' (on_ok_weaker result (λ _. steps.1) prints)
+    (on_ok_weaker result (λ p. p ∙ ap (λ (l : List ℕ). out ++ l) (sym steps.0)) prints) kept

@@ -1,9 +1,7 @@
 -- What `asm` prints, by what the input assembles to.
 use Rattle.std.proofs.Common.{◌≡◌, ◌≢◌, ◌⊎◌, ℕ, List, Result, Ok, Err, refl, ap, inl, inr}
-use Rattle.dma_insn.specs.declared.assembler.AsmFault.{AsmFault}
-use Rattle.dma_insn.specs.declared.assembler.AsmFault.TheVariants.{NoMemory}
 use Rattle.dma_insn.specs.AssemblyText.{Assembles, IsFirstFault}
-use Rattle.dma_insn.specs.LineReading.{assembled}
+use Rattle.dma_insn.specs.{declared.assembler.AsmFault.AsmFault, declared.assembler.AsmFault.TheVariants.NoMemory, LineReading.assembled}
 use Rattle.dma_insn.proofs.ProgramLaws.{reading_reports}
 use Rattle.dma_commands.specs.Assembled.{AsmPrints, asm_printed_of}
 

@@ -1,34 +1,28 @@
 -- The steps of a copy end: after each step that goes on, one instruction less remains.
-use Rattle.std.proofs.Common.{◌≡◌, ◌≢◌, ◌⊎◌, ℕ, ◌+◌, ◌-◌, ◌<◌, ◌≤◌, Bool, true, false, if◌then◌else◌, List, [], ◌∷◌, ◌++◌, length, Option, Some, None, refl, ap, sym, subst, ◌∙◌, inl, inr, zero, suc, arith}
+use Rattle.std.proofs.Common.{◌≡◌, ◌≢◌, ◌⊎◌, ℕ, ◌+◌, ◌-◌, ◌<◌, ◌≤◌, Bool, true, false, if◌then◌else◌, List, [], ◌∷◌, ◌++◌, length, Option, Some, None, refl, ap}
+use Rattle.std.proofs.Common.{sym, subst, ◌∙◌, inl, inr, zero, suc, arith}
 use Rattle.std.specs.Prelude.{slice_get, slice_index_or, nat_le, nat_lt, not, ◌==◌, ◌||◌}
 use Rattle.std.proofs.lemmas.Bool.{cases_lt, cond_both, false≢true, leb-false, lt-leb, ltb-false}
 use Rattle.std.proofs.lemmas.List.{length-set, get_or-set_same, get_or_past}
 use Rattle.dma_insn.specs.declared.chip.ChipInsn.{ChipInsn}
 use Rattle.dma_insn.specs.declared.chip.ChipInsn.TheVariants.{Ld, St, End, Sev, Wfe}
-use Rattle.dma_mem.specs.Places.{Descriptor, lies_below}
-use Rattle.dma_mem.specs.Rules.{IsTransfer}
-use Rattle.dma_mem.specs.declared.marks.MarkKind.TheVariants.{Reading, Writing}
-use Rattle.dma_chan.specs.Compiled.{members, cost}
-use Rattle.dma_chan.specs.Layer.{HasShape}
-use Rattle.dma_mem.specs.Marking.{meets_mark}
-use Rattle.dma_chan.specs.Traffic.{member, read_places, written_places}
-use Rattle.dma_chan.proofs.TreeCosts.{cost_is}
-use Rattle.dma_chan.proofs.ShapeLaws.{shape_is}
-use Rattle.dma_mem.specs.declared.call.Call.TheVariants as calls
+use Rattle.dma_mem.specs.{Places.Descriptor, Places.lies_below, Rules.IsTransfer, declared.marks.MarkKind.TheVariants.Reading}
+use Rattle.dma_mem.specs.{declared.marks.MarkKind.TheVariants.Writing, Marking.meets_mark}
+use Rattle.dma_chan.specs.{Compiled.members, Compiled.cost, Layer.HasShape, Traffic.member, Traffic.read_places, Traffic.written_places}
+use Rattle.dma_chan.proofs.{TreeCosts.cost_is, ShapeLaws.shape_is}
 use Rattle.dma_engine.specs.declared.call.Reply.TheVariants.{Turned, Cookie, Count}
-use Rattle.dma_engine.specs.declared.entry.Entry.{Entry}
 use Rattle.dma_engine.specs.declared.entry.Entry.TheVariants.{Passed, Signalled, Submitted, Issued}
-use Rattle.dma_engine.specs.declared.entry.Signaller.TheVariants.{Channel}
 use Rattle.dma_engine.specs.declared.fault.EngineFault.TheVariants.{NoChannel, OutOfMemoryRange, CookiesSpent}
-use Rattle.dma_engine.specs.Object.{Object, ChannelState, after, channel, finished, used, empty_channel, issued_front, is_set, unfinished, last_cookie, with_channel, with_flag, with_transfer}
+use Rattle.dma_engine.specs.Object.{Object, ChannelState, after, channel, finished, used, empty_channel, issued_front, is_set, unfinished, last_cookie}
+use Rattle.dma_engine.specs.Object.{with_channel, with_flag, with_transfer}
 use Rattle.dma_engine.specs.View.{View, RunningTransfer, channels, idle, object_of, schedule_at, size}
 use Rattle.dma_engine.specs.Turn.{Stepped, front_turn, first_conflicting, insn_turn, last_step, next_moved, start_turn, turn, with_entry, with_taken}
 use Rattle.dma_engine.specs.Answer.{answer, cause, reply_of, unless}
-use Rattle.dma_engine.proofs.Boards.{with_channel_at}
-use Rattle.dma_engine.proofs.Histories.{object_after_append}
-use Rattle.dma_engine.specs.Advance.{goes_on}
+use Rattle.dma_engine.specs.{declared.entry.Entry.Entry, declared.entry.Signaller.TheVariants.Channel, Advance.goes_on}
+use Rattle.dma_engine.proofs.{Boards.with_channel_at, Histories.object_after_append}
 use Rattle.dma_commands.specs.Run.{most_copy_steps, CopiesEnd, is_in_use, stepped_to_end, steps_before_last}
 use Rattle.dma_commands.proofs.CopyLemmas.{before_last_on, before_last_stops, on_after}
+use Rattle.dma_mem.specs.declared.call.Call.TheVariants as calls
 
 -- ---- a view in which channel 0 runs a transfer
 
@@ -45,7 +39,8 @@ GoesOn t k s = goes_on (reply_of Turned s.0) ≡ true → (k + 1 < cost t) × At
 taken_at : (u : View) (k : Option ℕ) → 0 < length u.schedule → (schedule_at (with_taken u 0 k) 0).taken ≡ k
 taken_at u k there = ap (λ s. s.taken) (get_or-set_same u.schedule 0 (record (schedule_at u 0) { taken = k }) idle there)
 
-moved_on_law : (u : View) (t : Descriptor) (k : ℕ) → 0 < length u.schedule → issued_front (channel (object_of u) 0) ≡ Some t → k + 1 < cost t → GoesOn t k (next_moved u 0 k)
+moved_on_law : (u : View) (t : Descriptor) (k : ℕ) → 0 < length u.schedule → issued_front (channel (object_of u) 0) ≡ Some t → k + 1 < cost t
+    → GoesOn t k (next_moved u 0 k)
 moved_on_law u t k there front less = λ _. (
   less,
   record {
@@ -60,17 +55,21 @@ moved_on_law u t k there front less = λ _. (
 entry_is : (v : View) (e : Entry) → object_of (with_entry v e) ≡ after (object_of v) e
 entry_is v e = object_after_append v.base v.history (e ∷ [])
 
-same_front : (o : Object) (c : ChannelState) → issued_front c ≡ issued_front (channel o 0) → issued_front (channel (with_channel o 0 c) 0) ≡ issued_front (channel o 0)
+same_front : (o : Object) (c : ChannelState) → issued_front c ≡ issued_front (channel o 0)
+    → issued_front (channel (with_channel o 0 c) 0) ≡ issued_front (channel o 0)
 same_front o c same = elim (with_channel_at o 0 c) [
   | inl e ↦ ap issued_front e ∙ same
   | inr e ↦ ap issued_front e
 ]
 
 passed_front : (v : View) (event : ℕ) → issued_front (channel (object_of (with_entry v (Passed 0 event))) 0) ≡ issued_front (channel (object_of v) 0)
-passed_front v event = ap (λ o. issued_front (channel o 0)) (entry_is v (Passed 0 event)) ∙ same_front (with_flag (object_of v) event false) (record (channel (object_of v) 0) { passed = true }) refl
+passed_front v event = ap (λ o. issued_front (channel o 0)) (entry_is v (Passed 0 event))
+    ∙ same_front (with_flag (object_of v) event false) (record (channel (object_of v) 0) { passed = true }) refl
 
-signalled_front : (v : View) (event : ℕ) → issued_front (channel (object_of (with_entry v (Signalled (Channel 0) event))) 0) ≡ issued_front (channel (object_of v) 0)
-signalled_front v event = ap (λ o. issued_front (channel o 0)) (entry_is v (Signalled (Channel 0) event)) ∙ same_front (with_flag (object_of v) event true) (record (channel (object_of v) 0) { signalled = true }) refl
+signalled_front : (v : View) (event : ℕ)
+    → issued_front (channel (object_of (with_entry v (Signalled (Channel 0) event))) 0) ≡ issued_front (channel (object_of v) 0)
+signalled_front v event = ap (λ o. issued_front (channel o 0)) (entry_is v (Signalled (Channel 0) event))
+    ∙ same_front (with_flag (object_of v) event true) (record (channel (object_of v) 0) { signalled = true }) refl
 
 -- ---- one step
 
@@ -110,14 +109,16 @@ front_goes v t k rules at =
     (λ _. insn_goes v t k at (member t k) (member_less t k (shape_is t rules)))
 
 -- a property of each step that ends the copy, and of the front's step, is one of what a step does
-stepped_by : (P : Stepped → Type 0) (v : View) (x : Option Descriptor) (taken : Option ℕ) → ((s : Stepped) → goes_on (reply_of Turned s.0) ≡ false → P s) → issued_front (channel (object_of v) 0) ≡ x → (schedule_at v 0).taken ≡ taken → P (front_turn v 0 x taken) → P (turn v 0)
+stepped_by : (P : Stepped → Type 0) (v : View) (x : Option Descriptor) (taken : Option ℕ) → ((s : Stepped) → goes_on (reply_of Turned s.0) ≡ false → P s)
+    → issued_front (channel (object_of v) 0) ≡ x → (schedule_at v 0).taken ≡ taken → P (front_turn v 0 x taken) → P (turn v 0)
 stepped_by P v x taken quiet front is h =
     cond_both {A = Stepped} (nat_le (channels v) 0) _ _ P (λ _. quiet _ refl)
     (λ _. cond_both {A = Stepped} (channel (object_of v) 0).halted _ _ P (λ _. quiet _ refl)
     (λ _. cond_both {A = Stepped} (schedule_at v 0).paused _ _ P (λ _. quiet _ refl) (λ _. rw (front, is) h)))
 
 step_goes : (v : View) (t : Descriptor) (k : ℕ) → IsTransfer t → At v t k → GoesOn t k (turn v 0)
-step_goes v t k rules at = stepped_by (GoesOn t k) v (Some t) (Some k) (λ s off on. absurd (false≢true (sym off ∙ on))) at.front at.taken (front_goes v t k rules at)
+step_goes v t k rules at =
+    stepped_by (GoesOn t k) v (Some t) (Some k) (λ s off on. absurd (false≢true (sym off ∙ on))) at.front at.taken (front_goes v t k rules at)
 
 -- ---- all steps
 
@@ -154,7 +155,8 @@ none_ends n v none = ends_now n v (stepped_by (λ s. goes_on (reply_of Turned s.
 abbrev Starts : Descriptor → Stepped → Type 0
 Starts t s = goes_on (reply_of Turned s.0) ≡ true → At s.1 t 0
 
-start_goes : (v : View) (t : Descriptor) (x : Option RunningTransfer) → 0 < length v.schedule → issued_front (channel (object_of v) 0) ≡ Some t → Starts t (start_turn v 0 x)
+start_goes : (v : View) (t : Descriptor) (x : Option RunningTransfer) → 0 < length v.schedule → issued_front (channel (object_of v) 0) ≡ Some t
+    → Starts t (start_turn v 0 x)
 start_goes v t (Some r) there front = λ e. absurd cc
 start_goes v t None there front = λ _. record {
   there = omega (arith, there, length-set v.schedule 0 (record (schedule_at v 0) { taken = Some 0 }));
@@ -163,13 +165,17 @@ start_goes v t None there front = λ _. record {
 }
 
 -- a transfer ends that hasn't started, within one step more than its instructions
-idle_ends : (n : ℕ) (v : View) (t : Descriptor) → IsTransfer t → 0 < length v.schedule → issued_front (channel (object_of v) 0) ≡ Some t → (schedule_at v 0).taken ≡ None → cost t ≤ n → Ends n v
+idle_ends : (n : ℕ) (v : View) (t : Descriptor) → IsTransfer t → 0 < length v.schedule → issued_front (channel (object_of v) 0) ≡ Some t
+    → (schedule_at v 0).taken ≡ None → cost t ≤ n → Ends n v
 idle_ends zero v t rules there front taken left = absurd (omega (arith, (shape_is t rules).some, left))
 idle_ends (suc n) v t rules there front taken left =
-    let starts : Starts t (turn v 0) = stepped_by (Starts t) v (Some t) None (λ s off on. absurd (false≢true (sym off ∙ on))) front taken (start_goes v t (first_conflicting v t) there front) in
+    let starts : Starts t (turn v 0) =
+    stepped_by (Starts t) v (Some t) None (λ s off on. absurd (false≢true (sym off ∙ on))) front taken
+    (start_goes v t (first_conflicting v t) there front) in
     ends_next n v (λ on. runs_out n (turn v 0).1 t 0 rules (starts on) (omega (arith, left)))
 
-front_ends : (n : ℕ) (v : View) (t : Descriptor) → IsTransfer t → 0 < length v.schedule → issued_front (channel (object_of v) 0) ≡ Some t → cost t ≤ n → Ends n v
+front_ends : (n : ℕ) (v : View) (t : Descriptor) → IsTransfer t → 0 < length v.schedule → issued_front (channel (object_of v) 0) ≡ Some t → cost t ≤ n
+    → Ends n v
 front_ends n v t rules there front left =
     let by : (taken : Option ℕ) → (schedule_at v 0).taken ≡ taken → Ends n v = λ taken. elim taken as (λ taken. (schedule_at v 0).taken ≡ taken → Ends n v) [
       | None ↦ λ is. idle_ends n v t rules there front is left
@@ -190,7 +196,8 @@ abbrev all_issued : ChannelState → ChannelState
 all_issued c = record c { issued = used c }
 
 -- a transfer that was submitted and issued is the front, where none was unfinished before
-issued_is : (c : ChannelState) (t : Descriptor) → used c ≤ finished c → (issued_front (all_issued (with_transfer c t)) ≡ Some t) ⊎ (issued_front (all_issued (with_transfer c t)) ≡ None)
+issued_is : (c : ChannelState) (t : Descriptor) → used c ≤ finished c → (issued_front (all_issued (with_transfer c t)) ≡ Some t)
+    ⊎ (issued_front (all_issued (with_transfer c t)) ≡ None)
 issued_is c t none =
     let all = c.submitted ++ t ∷ [] in
     let n = length c.outcomes in
@@ -202,7 +209,8 @@ issued_is c t none =
     by (nat_lt (finished c) (c.forgotten + length all))
 
 -- what is known of a submission that was answered by a cookie
-accepted : (a b c : Bool) (v u w : View) (k cookie : ℕ) → unless (cause a NoChannel (cause b OutOfMemoryRange (cause c CookiesSpent None))) v (Cookie k, u) ≡ (Cookie cookie, w) → (a ≡ false) × (u ≡ w)
+accepted : (a b c : Bool) (v u w : View) (k cookie : ℕ)
+    → unless (cause a NoChannel (cause b OutOfMemoryRange (cause c CookiesSpent None))) v (Cookie k, u) ≡ (Cookie cookie, w) → (a ≡ false) × (u ≡ w)
 accepted true b c v u w k cookie is = let e = ap (λ x. x.0) is in absurd cc
 accepted false true c v u w k cookie is = let e = ap (λ x. x.0) is in absurd cc
 accepted false false true v u w k cookie is = let e = ap (λ x. x.0) is in absurd cc
@@ -232,7 +240,8 @@ many_after v t =
 channel_submitted : (v : View) (t : Descriptor) → 0 < channels v → channel (object_of (with_submitted v t)) 0 ≡ with_transfer (channel (object_of v) 0) t
 channel_submitted v t some =
     let o = object_of v in
-    ap (λ o. channel o 0) (entry_is v (Submitted 0 t (used (channel o 0) + 1))) ∙ get_or-set_same o.channels 0 (with_transfer (channel o 0) t) empty_channel some
+    ap (λ o. channel o 0) (entry_is v (Submitted 0 t (used (channel o 0) + 1)))
+    ∙ get_or-set_same o.channels 0 (with_transfer (channel o 0) t) empty_channel some
 
 channel_issued : (v : View) → 0 < channels v → channel (object_of (with_entry v (Issued 0))) 0 ≡ all_issued (channel (object_of v) 0)
 channel_issued v some =
@@ -249,12 +258,14 @@ within : (t : Descriptor) → IsTransfer t → cost t ≤ most_copy_steps
 within t rules = omega (arith, cost_is t rules)
 
 -- what was submitted and issued ends
-issued_ends : (n : ℕ) (v : View) (t : Descriptor) → IsTransfer t → 0 < length v.schedule → 0 < channels v → used (channel (object_of v) 0) ≤ finished (channel (object_of v) 0) → cost t ≤ n → Ends n (answer (with_submitted v t) (calls.Issue 0)).1
+issued_ends : (n : ℕ) (v : View) (t : Descriptor) → IsTransfer t → 0 < length v.schedule → 0 < channels v
+    → used (channel (object_of v) 0) ≤ finished (channel (object_of v) 0) → cost t ≤ n → Ends n (answer (with_submitted v t) (calls.Issue 0)).1
 issued_ends n v t rules there some none left =
     let x = with_submitted v t in
     let y = with_entry x (Issued 0) in
     let still : 0 < channels x = omega (arith, some, many_after v t) in
-    let front : issued_front (channel (object_of y) 0) ≡ issued_front (all_issued (with_transfer (channel (object_of v) 0) t)) = ap issued_front (channel_issued x still ∙ ap all_issued (channel_submitted v t some)) in
+    let front : issued_front (channel (object_of y) 0) ≡ issued_front (all_issued (with_transfer (channel (object_of v) 0) t)) =
+    ap issued_front (channel_issued x still ∙ ap all_issued (channel_submitted v t some)) in
     let ends : Ends n y = elim (issued_is (channel (object_of v) 0) t none) [
       | inl is ↦ front_ends n y t rules there (front ∙ is) left
       | inr is ↦ none_ends n y (front ∙ is)
@@ -275,7 +286,8 @@ pub copies_end : CopiesEnd
 copies_end v t cookie w sound rules free submit =
     let o = object_of v in
     let c = channel o 0 in
-    let took = accepted (nat_le (channels v) 0) (not (lies_below t (size v))) (nat_le last_cookie (used c)) v (with_submitted v t) w (used c + 1) cookie submit in
+    let took = accepted (nat_le (channels v) 0) (not (lies_below t (size v))) (nat_le last_cookie (used c)) v (with_submitted v t) w (used c + 1) cookie
+    submit in
     let some : 0 < channels v = leb-false (channels v) 0 took.0 in
     let there : 0 < length v.schedule = omega (arith, some, sound.fits.many) in
     let ends = issued_ends most_copy_steps v t rules there some (free_none v free) (within t rules) in

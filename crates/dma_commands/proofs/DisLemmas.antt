@@ -1,24 +1,16 @@
 -- The lines of a disassembled program.
-use Rattle.std.proofs.Common.{◌≡◌, ℕ, ◌+◌, ◌-◌, ◌<◌, ◌≤◌, ltb, List, [], ◌∷◌, ◌++◌, length, drop, map, Option, Some, None, Result, Ok, Err, suc, zero, refl, ap, sym, ◌∙◌, subst, arith, append_assoc}
-use Rattle.std.specs.Prelude.{IfSome, IfOk}
-use Rattle.std.specs.Char.{digit_value}
-use Rattle.std.proofs.lemmas.Bool.{cond_both, ltb-true}
-use Rattle.std.proofs.lemmas.List.{length-append, append-nil}
-use Rattle.std.proofs.Math.Seq.{drop-append_seam}
-use Rattle.dma_insn.specs.declared.insn.Insn.{Insn}
-use Rattle.dma_insn.specs.declared.codec.DecodeFault.{DecodeFault}
-use Rattle.dma_insn.specs.Spelling.{spelling}
-use Rattle.dma_insn.specs.Decoding.{decoded}
-use Rattle.dma_insn.specs.AssemblyText.{joined}
+use Rattle.std.proofs.Common.{◌≡◌, ℕ, ◌+◌, ◌-◌, ◌<◌, ◌≤◌, ltb, List, [], ◌∷◌, ◌++◌, length, drop, map, Option, Some, None, Result, Ok, Err, suc, zero, refl, ap}
+use Rattle.std.proofs.Common.{sym, ◌∙◌, subst, arith, append_assoc}
+use Rattle.std.specs.{Prelude.IfSome, Prelude.IfOk, Char.digit_value}
+use Rattle.std.proofs.{lemmas.Bool.cond_both, lemmas.Bool.ltb-true, lemmas.List.length-append, lemmas.List.append-nil, Math.Seq.drop-append_seam}
 use Rattle.dma_insn.specs.Disassembly.{AllInRange, Disassembles, StopsAt, insn_text, text_of}
-use Rattle.dma_insn.proofs.Laws.{IsBytes, decoded_spelling, spelling_some}
-use Rattle.dma_insn.proofs.Fronts.{disassembly_reports}
-use Rattle.dma_io.specs.Command as command
-use Rattle.dma_script.specs.Words.{hex_digit_of}
-use Rattle.dma_script.specs.Lines.{◌>>=◌}
-use Rattle.dma_script.specs.declared.fault.Fault.{Fault}
+use Rattle.dma_insn.specs.{declared.insn.Insn.Insn, declared.codec.DecodeFault.DecodeFault, Spelling.spelling, Decoding.decoded, AssemblyText.joined}
+use Rattle.dma_insn.proofs.{Laws.IsBytes, Laws.decoded_spelling, Laws.spelling_some, Fronts.disassembly_reports}
 use Rattle.dma_script.specs.Pairs.{hex_fault, is_gap, line_after, pair_of, pairs_from, pairs_of}
+use Rattle.dma_script.specs.{Words.hex_digit_of, declared.fault.Fault.Fault}
+use Rattle.dma_text.specs.Results.{◌>>=◌}
 use Rattle.dma_commands.specs.Disassembled.{DisPrints, lines_from, with_line, lines_printed, dis_printed_of, decode_fault_line}
+use Rattle.dma_io.specs.Command as command
 
 -- bytes that are skipped are only counted
 lines_from_skipped : (offset k : ℕ) (xs : List ℕ) → k ≤ length xs → lines_from offset k xs ≡ lines_from (offset + k) 0 (drop k xs)
@@ -29,7 +21,8 @@ lines_from_skipped offset (suc k) (x ∷ xs) h =
     lines_from_skipped (offset + 1) k xs (omega arith) ∙ ap (λ o. lines_from o 0 (drop k xs)) e
 
 -- an instruction at the front
-lines_from_first : (offset n : ℕ) (xs : List ℕ) (i : Insn) → decoded xs ≡ Ok (i, n) → 0 < n → n ≤ length xs → lines_from offset 0 xs ≡ with_line (insn_text i) (lines_from (offset + n) 0 (drop n xs))
+lines_from_first : (offset n : ℕ) (xs : List ℕ) (i : Insn) → decoded xs ≡ Ok (i, n) → 0 < n → n ≤ length xs
+    → lines_from offset 0 xs ≡ with_line (insn_text i) (lines_from (offset + n) 0 (drop n xs))
 lines_from_first offset zero xs i is some within = absurd (omega arith)
 lines_from_first offset (suc n) [] i is some within = absurd (omega arith)
 lines_from_first offset (suc n) (x ∷ xs) i is some within =
@@ -39,7 +32,9 @@ lines_from_first offset (suc n) (x ∷ xs) i is some within =
     ∙ ap (with_line (insn_text i)) (lines_from_skipped (offset + 1) n xs (omega arith) ∙ ap (λ o. lines_from o 0 (drop n xs)) e))
 
 -- the spelling of an instruction at the front
-lines_from_spelling : (offset : ℕ) (i : Insn) (rest : List ℕ) (all : List ℕ) → all ≡ spelling i ++ rest → decoded (spelling i ++ rest) ≡ Ok (i, length (spelling i)) → lines_from offset 0 all ≡ with_line (insn_text i) (lines_from (offset + length (spelling i)) 0 rest)
+lines_from_spelling : (offset : ℕ) (i : Insn) (rest : List ℕ) (all : List ℕ) → all ≡ spelling i ++ rest
+    → decoded (spelling i ++ rest) ≡ Ok (i, length (spelling i))
+    → lines_from offset 0 all ≡ with_line (insn_text i) (lines_from (offset + length (spelling i)) 0 rest)
 lines_from_spelling offset i rest all is read =
     let n = length (spelling i) in
     let long : n ≤ length (spelling i ++ rest) = omega (arith, length-append (spelling i) rest) in
@@ -54,7 +49,8 @@ lines_from_joined offset (i ∷ is) h =
     ∙ ap (with_line (insn_text i)) (lines_from_joined (offset + length (spelling i)) is h.1)
 
 -- joined spellings, followed by bytes that aren't an instruction
-pub lines_from_stops : (offset : ℕ) (is : List Insn) (rest : List ℕ) (fault : DecodeFault) → AllInRange is → 0 < length rest → decoded rest ≡ Err fault → lines_from offset 0 (joined is ++ rest) ≡ Err (offset + length (joined is), fault)
+pub lines_from_stops : (offset : ℕ) (is : List Insn) (rest : List ℕ) (fault : DecodeFault) → AllInRange is → 0 < length rest → decoded rest ≡ Err fault
+    → lines_from offset 0 (joined is ++ rest) ≡ Err (offset + length (joined is), fault)
 lines_from_stops offset [] [] fault h some refused = absurd (omega arith)
 lines_from_stops offset [] (x ∷ xs) fault h some refused =
     let e : offset ≡ offset + 0 = omega arith in
@@ -62,7 +58,8 @@ lines_from_stops offset [] (x ∷ xs) fault h some refused =
 lines_from_stops offset (i ∷ is) rest fault h some refused =
     let n = length (spelling i) in
     let e : offset + n + length (joined is) ≡ offset + length (joined (i ∷ is)) = omega (arith, length-append (spelling i) (joined is)) in
-    lines_from_spelling offset i (joined is ++ rest) (joined (i ∷ is) ++ rest) (append_assoc (spelling i) (joined is) rest) (decoded_spelling i (joined is ++ rest) h.0)
+    lines_from_spelling offset i (joined is ++ rest) (joined (i ∷ is) ++ rest) (append_assoc (spelling i) (joined is) rest)
+    (decoded_spelling i (joined is ++ rest) h.0)
     ∙ ap (with_line (insn_text i)) (lines_from_stops (offset + n) is rest fault h.1 some refused)
     ∙ ap (λ o. Err (o, fault)) e
 
@@ -79,22 +76,26 @@ shown_text : (bytes text : List ℕ) (d : Disassembles bytes text) → command.t
 shown_text bytes text d = sym (text_of_lines_law d.insns) ∙ sym d.text_is
 
 -- bytes that have a text print it
-printed_text_law : (bytes text : List ℕ) → Disassembles bytes text → (command.printed_text (lines_printed (lines_from 0 0 bytes)).groups ≡ text) × ((lines_printed (lines_from 0 0 bytes)).status ≡ 0)
+printed_text_law : (bytes text : List ℕ) → Disassembles bytes text → (command.printed_text (lines_printed (lines_from 0 0 bytes)).groups ≡ text)
+    × ((lines_printed (lines_from 0 0 bytes)).status ≡ 0)
 printed_text_law bytes text d =
     let read = lines_from_text bytes text d in
     let shown : command.text_of (map insn_text d.insns) ++ [] ≡ text = append-nil (command.text_of (map insn_text d.insns)) ∙ shown_text bytes text d in
     (rw read shown, rw read refl)
 
-pub text_answered : {E : Type 0} (bytes text old new : List ℕ) → Disassembles bytes text → new ≡ old ++ text → command.Answers {E = E} (lines_printed (lines_from 0 0 bytes)) (Ok 0) old new
+pub text_answered : {E : Type 0} (bytes text old new : List ℕ) → Disassembles bytes text → new ≡ old ++ text
+    → command.Answers {E = E} (lines_printed (lines_from 0 0 bytes)) (Ok 0) old new
 text_answered bytes text old new d is =
     let printed = printed_text_law bytes text d in
     record { text = is ∙ ap (λ t. old ++ t) (sym printed.0); status = sym printed.1; refused = tt }
 
 -- others print their fault
-pub printed_stops : (bytes : List ℕ) (offset : ℕ) (fault : DecodeFault) → StopsAt bytes offset fault → lines_printed (lines_from 0 0 bytes) ≡ command.refusal (decode_fault_line offset fault)
+pub printed_stops : (bytes : List ℕ) (offset : ℕ) (fault : DecodeFault) → StopsAt bytes offset fault
+    → lines_printed (lines_from 0 0 bytes) ≡ command.refusal (decode_fault_line offset fault)
 printed_stops bytes offset fault s =
     let e : 0 + length (joined s.insns) ≡ offset = omega (arith, s.offset_is) in
-    let read : lines_from 0 0 bytes ≡ Err (offset, fault) = ap (lines_from 0 0) s.bytes_are ∙ lines_from_stops 0 s.insns s.rest fault s.in_range s.some s.fault_is ∙ ap (λ o. Err (o, fault)) e in
+    let read : lines_from 0 0 bytes ≡ Err (offset, fault) = ap (lines_from 0 0) s.bytes_are
+    ∙ lines_from_stops 0 s.insns s.rest fault s.in_range s.some s.fault_is ∙ ap (λ o. Err (o, fault)) e in
     ap lines_printed read
 
 -- what pairs spell are bytes
@@ -114,7 +115,8 @@ bytes_more : (byte : ℕ) (more : List ℕ) → byte < 256 → IsBytes more → 
 bytes_more byte more small h zero = small
 bytes_more byte more small h (suc i) = h i
 
-pair_then : (pair : Result ℕ Fault) (rest : Result (List ℕ) Fault) → IfOk pair (λ byte. byte < 256) → IfOk rest IsBytes → IfOk (pair >>= λ byte. rest >>= λ more. Ok (byte ∷ more)) IsBytes
+pair_then : (pair : Result ℕ Fault) (rest : Result (List ℕ) Fault) → IfOk pair (λ byte. byte < 256) → IfOk rest IsBytes
+    → IfOk (pair >>= λ byte. rest >>= λ more. Ok (byte ∷ more)) IsBytes
 pair_then (Ok byte) (Ok more) small h = bytes_more byte more small h
 pair_then (Ok byte) (Err line) small h = tt
 pair_then (Err line) rest small h = tt

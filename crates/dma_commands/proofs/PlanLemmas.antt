@@ -2,18 +2,12 @@
 use Rattle.std.proofs.Common.{◌≡◌, ◌≢◌, ◌<◌, ◌++◌, ◌∙◌, ℕ, List, [], ◌∷◌, length, take, Option, Some, None, Result, Ok, Err, ap, refl, append-nil, arith, sym}
 use Rattle.std.specs.Prelude.{OnOk}
 use Rattle.std.proofs.Math.Nat.{zero-lt-suc}
-use Rattle.dma_mem.specs.declared.transfer.TransferFault.{TransferFault}
-use Rattle.dma_mem.specs.Refusals.{refusal_of}
+use Rattle.dma_mem.specs.{declared.transfer.TransferFault.TransferFault, Refusals.refusal_of}
 use Rattle.dma_io.specs.Command.{Answers, AppendsGroups, printed_text, refusal}
-use Rattle.dma_script.specs.Lines.{Gives}
-use Rattle.dma_script.specs.Plan.{plan_of}
-use Rattle.dma_script.specs.Printing.{error_line}
-use Rattle.dma_script.specs.declared.fault.Fault.{Fault as ScriptFault}
-use Rattle.dma_script.specs.declared.fault.ReadError.{ReadError}
 use Rattle.dma_script.specs.declared.fault.ReadError.TheVariants.{Fault, NoMemory}
-use Rattle.dma_script.specs.declared.transfer_line.PlanLine.{PlanLine}
-use Rattle.dma_commands.specs.Planned.{transfer_printed, plan_printed, plan_printed_of}
-use Rattle.dma_commands.specs.Transfers.{transfer_of}
+use Rattle.dma_script.specs.{Lines.Gives, Plan.plan_of, Printing.error_line, declared.fault.ReadError.ReadError, declared.transfer_line.PlanLine.PlanLine}
+use Rattle.dma_commands.specs.{Planned.transfer_printed, Planned.plan_printed, Planned.plan_printed_of, Transfers.transfer_of}
+use Rattle.dma_script.specs.declared.fault.Fault.{Fault as ScriptFault}
 
 -- one group is printed, for the program or the fault
 pub transfer_printed_some : (line : PlanLine) (unfit : Option TransferFault) → 0 < length (transfer_printed line unfit).groups
@@ -31,7 +25,9 @@ nothing group old new a =
     a.whole ∙ ap (λ n. old ++ printed_text (take n (group ∷ []))) none ∙ append-nil old
 
 -- an input that was not read
-pub plan_refused : {E : Type 0} (input : List ℕ) (error : ReadError ScriptFault) (result : Result ℕ E) (old new : List ℕ) → Gives (λ (line : PlanLine). line) (Err error) (plan_of input) → Answers (refusal (error_line error)) result old new → OnOk result (error ≢ NoMemory) → Answers (plan_printed input) result old new
+pub plan_refused : {E : Type 0} (input : List ℕ) (error : ReadError ScriptFault) (result : Result ℕ E) (old new : List ℕ)
+    → Gives (λ (line : PlanLine). line) (Err error) (plan_of input) → Answers (refusal (error_line error)) result old new → OnOk result (error ≢ NoMemory)
+    → Answers (plan_printed input) result old new
 plan_refused input (Fault fault) result old new is answers printed = rw is answers
 plan_refused input NoMemory (Ok status) old new is answers printed = absurd (printed refl)
 plan_refused input NoMemory (Err e) old new is answers printed = record {

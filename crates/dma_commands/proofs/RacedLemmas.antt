@@ -1,9 +1,8 @@
 -- A race as a run.
 use Rattle.std.proofs.Common.{[], ◌∷◌, refl, ap}
 use Rattle.dma_engine.specs.Turn.{turn}
+use Rattle.dma_commands.specs.{Raced.RacesAreRuns, Run.line_answer}
 use Rattle.dma_script.specs.declared.statements.Statement.TheVariants as statements
-use Rattle.dma_commands.specs.Raced.{RacesAreRuns}
-use Rattle.dma_commands.specs.Run.{line_answer}
 
 pub races_are_runs : RacesAreRuns
 races_are_runs v [] after = refl

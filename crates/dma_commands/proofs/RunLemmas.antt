@@ -1,72 +1,73 @@
 -- What the lines of a script print, and the view after them.
-use Rattle.std.proofs.Common.{◌≡◌, ◌≢◌, ℕ, ◌<◌, ◌+◌, true, false, codes, List, [], ◌∷◌, ◌++◌, length, Option, Some, None, refl, ap, sym, subst, ◌∙◌, take, drop, suc, arith, append_assoc}
-use Rattle.std.proofs.Math.Seq.{take-append-add}
-use Rattle.std.proofs.lemmas.List.{append-nil, length-append}
-use Rattle.std.proofs.lemmas.Result.{on_err_weaker, on_ok_weaker}
+use Rattle.std.proofs.Common.{◌≡◌, ◌≢◌, ℕ, ◌<◌, ◌+◌, true, false, codes, List, [], ◌∷◌, ◌++◌, length, Option, Some, None, refl, ap, sym, subst, ◌∙◌, take, drop}
+use Rattle.std.proofs.Common.{suc, arith, append_assoc}
+use Rattle.std.proofs.{Math.Seq.take-append-add, lemmas.List.append-nil, lemmas.List.length-append, lemmas.Result.on_err_weaker, lemmas.Result.on_ok_weaker}
 use Rattle.std.specs.Prelude.{Err, IsErr, Ok, OnErr, OnOk, Result}
-use Rattle.dma_mem.specs.Places.{Descriptor}
-use Rattle.dma_mem.specs.Refusals.{refusal_of}
-use Rattle.dma_mem.specs.declared.call.Call.{Call}
-use Rattle.dma_mem.specs.declared.call.Call.TheVariants.{Read, Submit as SubmitCall, Issue as IssueCall}
-use Rattle.dma_engine.specs.declared.call.Reply.{Reply}
+use Rattle.dma_mem.specs.{Places.Descriptor, Refusals.refusal_of, declared.call.Call.Call, declared.transfer.TransferFault.TransferFault}
 use Rattle.dma_engine.specs.declared.call.Reply.TheVariants.{Bytes, Cookie, Refused}
-use Rattle.dma_engine.specs.declared.entry.Entry.TheVariants.{ReadBack}
-use Rattle.dma_engine.specs.declared.fault.EngineFault.{EngineFault}
-use Rattle.dma_engine.specs.declared.fault.EngineFault.TheVariants.{NoMemory}
 use Rattle.dma_engine.specs.Answer.{CallAnswers, answer, read_fault, unless}
-use Rattle.dma_engine.specs.Turn.{with_entry}
-use Rattle.dma_engine.proofs.Queues.{slice_get_push_last}
-use Rattle.dma_mem.specs.declared.transfer.TransferFault.{TransferFault}
-use Rattle.dma_engine.specs.View.{View, object_of}
+use Rattle.dma_engine.specs.{declared.call.Reply.Reply, declared.entry.Entry.TheVariants.ReadBack, declared.fault.EngineFault.EngineFault}
+use Rattle.dma_engine.specs.{declared.fault.EngineFault.TheVariants.NoMemory, Turn.with_entry, View.View, View.object_of}
+use Rattle.dma_engine.proofs.{Queues.slice_get_push_last, JoinedCalls.answer_unless_no_memory}
 use Rattle.dma_io.specs.Command.{Answers, AppendsGroups, Printed, printed_text, text_of}
-use Rattle.dma_script.specs.Interpreted.{ActsInTurn, PrintsLines, StopsAtALine}
-use Rattle.dma_script.specs.declared.statements.Statement.{Statement}
+use Rattle.dma_script.specs.{Interpreted.ActsInTurn, Interpreted.PrintsLines, Interpreted.StopsAtALine, declared.statements.Statement.Statement}
 use Rattle.dma_text.specs.Digits.{hex_digits, spaced_bytes}
-use Rattle.dma_commands.specs.Left.{lines_left}
 use Rattle.dma_commands.specs.Printed.{call_line, fault_text, refused_line, reply_text, transfer_fault_name}
-use Rattle.dma_commands.specs.Run.{Answered, call_answer, copied, copied_after, is_in_use, line_answer, lines_answered, most_copy_steps, stepped_to_end, one_line, unless_invalid}
-use Rattle.dma_commands.specs.inner.RunSteps.{RunsLine, read_at, read_in}
+use Rattle.dma_commands.specs.Run.{Answered, call_answer, copied, copied_after, is_in_use, line_answer, lines_answered, most_copy_steps, stepped_to_end}
+use Rattle.dma_commands.specs.Run.{one_line, unless_invalid}
+use Rattle.dma_commands.specs.{Left.lines_left, inner.RunSteps.RunsLine, inner.RunSteps.read_at, inner.RunSteps.read_in}
 use Rattle.dma_script.proofs.InterpretedLemmas.{printed_text_append}
-use Rattle.dma_engine.proofs.JoinedCalls.{answer_unless_no_memory}
 use Rattle.dma_commands.proofs.Served.{refused_served}
+use Rattle.dma_mem.specs.declared.call.Call.TheVariants.{Read, Submit as SubmitCall, Issue as IssueCall}
 
 -- ---- a line that was printed
 
 -- an answered line was printed, or nothing was
-pub printed_runs : {A E : Type 0} (answered : Answered) (w : View) (result : Result A E) (out out' : List ℕ) → OnOk result (w ≡ answered.1) → OnOk result (out' ≡ out ++ text_of answered.0) → OnErr result (out' ≡ out) → RunsLine answered w result out out'
+pub printed_runs : {A E : Type 0} (answered : Answered) (w : View) (result : Result A E) (out out' : List ℕ) → OnOk result (w ≡ answered.1)
+    → OnOk result (out' ≡ out ++ text_of answered.0) → OnErr result (out' ≡ out) → RunsLine answered w result out out'
 printed_runs answered w (Ok a) out out' acts prints kept = record { ok = record { acts = acts; prints = prints }; err = tt }
 printed_runs answered w (Err e) out out' acts prints kept = record { ok = tt; err = kept }
 
 -- the line of a call and its reply
-pub call_runs : {A E : Type 0} (v w : View) (call : Call) (reply : Reply) (result : Result A E) (out out' : List ℕ) → CallAnswers v call reply w → OnOk result (reply ≢ Refused NoMemory) → OnOk result (out' ≡ out ++ text_of (call_line call reply ∷ [])) → OnErr result (out' ≡ out) → RunsLine (call_answer v call) w result out out'
+pub call_runs : {A E : Type 0} (v w : View) (call : Call) (reply : Reply) (result : Result A E) (out out' : List ℕ) → CallAnswers v call reply w
+    → OnOk result (reply ≢ Refused NoMemory) → OnOk result (out' ≡ out ++ text_of (call_line call reply ∷ [])) → OnErr result (out' ≡ out)
+    → RunsLine (call_answer v call) w result out out'
 call_runs {A = A} {E = E} v w call reply (Ok a) out out' is served prints kept =
-    subst (λ (x : Reply × View). RunsLine {A = A} {E = E} (one_line (call_line call x.0) x.1) w (Ok a) out out') (answer_unless_no_memory v w call reply served is) (printed_runs {A = A} {E = E} (one_line (call_line call reply) w) w (Ok a) out out' refl prints tt)
+    subst (λ (x : Reply × View). RunsLine {A = A} {E = E} (one_line (call_line call x.0) x.1) w (Ok a) out out')
+    (answer_unless_no_memory v w call reply served is) (printed_runs {A = A} {E = E} (one_line (call_line call reply) w) w (Ok a) out out' refl prints tt)
 call_runs v w call reply (Err e) out out' is served prints kept = record { ok = tt; err = kept }
 
 -- ---- a transfer's rules
 
 -- a transfer that breaks a rule
-pub unfit_runs : {A E : Type 0} (v : View) (fault : Option TransferFault) (e : TransferFault) (answered : Answered) (result : Result A E) (out out' : List ℕ) → fault ≡ Some e → OnOk result (out' ≡ out ++ text_of (refused_line (transfer_fault_name e) ∷ [])) → OnErr result (out' ≡ out) → RunsLine (unless_invalid fault v answered) v result out out'
+pub unfit_runs : {A E : Type 0} (v : View) (fault : Option TransferFault) (e : TransferFault) (answered : Answered) (result : Result A E) (out out' : List ℕ)
+    → fault ≡ Some e → OnOk result (out' ≡ out ++ text_of (refused_line (transfer_fault_name e) ∷ [])) → OnErr result (out' ≡ out)
+    → RunsLine (unless_invalid fault v answered) v result out out'
 unfit_runs v fault e answered result out out' is prints kept =
     rw is (printed_runs (one_line (refused_line (transfer_fault_name e)) v) v result out out' (on_ok_weaker result (λ _. refl) prints) prints kept)
 
 -- a transfer that breaks none
-pub fit_runs : {A E : Type 0} (answered : Descriptor → Answered) (v w : View) (t u : Descriptor) (result : Result A E) (out out' : List ℕ) → u ≡ t → refusal_of u ≡ None → RunsLine (answered u) w result out out' → RunsLine (unless_invalid (refusal_of t) v (answered t)) w result out out'
+pub fit_runs : {A E : Type 0} (answered : Descriptor → Answered) (v w : View) (t u : Descriptor) (result : Result A E) (out out' : List ℕ) → u ≡ t
+    → refusal_of u ≡ None → RunsLine (answered u) w result out out' → RunsLine (unless_invalid (refusal_of t) v (answered t)) w result out out'
 fit_runs answered v w t u result out out' is fit runs = rw (← is, fit) runs
 
 -- ---- reads
 
 -- the entry of an answered read in the history
-kept_read : (v w : View) (addr : ℕ) (b bytes : List ℕ) (fault : Option EngineFault) → (Bytes b, w) ≡ unless fault v (Bytes bytes, with_entry v (ReadBack addr bytes)) → read_at w.history (length v.history) ≡ b
+kept_read : (v w : View) (addr : ℕ) (b bytes : List ℕ) (fault : Option EngineFault)
+    → (Bytes b, w) ≡ unless fault v (Bytes bytes, with_entry v (ReadBack addr bytes)) → read_at w.history (length v.history) ≡ b
 kept_read v w addr b bytes (Some f) is = absurd (let bad : Bytes b ≡ Refused f = ap (λ (x : Reply × View). x.0) is in cc)
 kept_read v w addr b bytes None is =
     let reported_bytes : Bytes b ≡ Bytes bytes = ap (λ (x : Reply × View). x.0) is in
     let same : b ≡ bytes = cc in
     let after : w ≡ with_entry v (ReadBack addr bytes) = ap (λ (x : Reply × View). x.1) is in
-    ap (λ (u : View). read_at u.history (length v.history)) after ∙ ap read_in (slice_get_push_last v.history (ReadBack addr bytes) (length v.history) refl) ∙ sym same
+    ap (λ (u : View). read_at u.history (length v.history)) after ∙ ap read_in (slice_get_push_last v.history (ReadBack addr bytes) (length v.history) refl)
+    ∙ sym same
 
 -- a read, whose bytes are printed from the history
-pub read_runs : {A E : Type 0} (v w : View) (addr n : ℕ) (bytes : List ℕ) (result : Result A E) (out out' : List ℕ) → (Bytes bytes, w) ≡ answer v (Read addr n) → OnOk result (out' ≡ out ++ text_of ((codes "read 0x" ++ hex_digits addr ++ spaced_bytes (read_at w.history (length v.history))) ∷ [])) → OnErr result (out' ≡ out) → RunsLine (call_answer v (Read addr n)) w result out out'
+pub read_runs : {A E : Type 0} (v w : View) (addr n : ℕ) (bytes : List ℕ) (result : Result A E) (out out' : List ℕ) → (Bytes bytes, w) ≡ answer v (Read addr n)
+    → OnOk result (out' ≡ out ++ text_of ((codes "read 0x" ++ hex_digits addr ++ spaced_bytes (read_at w.history (length v.history))) ∷ []))
+    → OnErr result (out' ≡ out) → RunsLine (call_answer v (Read addr n)) w result out out'
 read_runs v w addr n bytes result out out' is prints kept =
     let same = kept_read v w addr bytes (take n (drop addr (object_of v).image)) (read_fault v addr n) is in
     call_runs v w (Read addr n) (Bytes bytes) result out out' is (on_ok_weaker result (λ _ e. cc) prints)
@@ -75,15 +76,20 @@ read_runs v w addr n bytes result out out' is prints kept =
 -- ---- copies
 
 -- the submit of a copy was refused
-pub refused_copy_runs : {A E : Type 0} (start : List ℕ) (v w : View) (t : Descriptor) (fault : EngineFault) (result : Result A E) (out out' : List ℕ) → is_in_use v ≡ false → CallAnswers v (SubmitCall 0 t) (Refused fault) w → OnOk result (fault ≢ NoMemory) → OnOk result (out' ≡ out ++ text_of (refused_line (fault_text fault) ∷ [])) → OnErr result (out' ≡ out) → RunsLine (copied start v t) w result out out'
+pub refused_copy_runs : {A E : Type 0} (start : List ℕ) (v w : View) (t : Descriptor) (fault : EngineFault) (result : Result A E) (out out' : List ℕ)
+    → is_in_use v ≡ false → CallAnswers v (SubmitCall 0 t) (Refused fault) w → OnOk result (fault ≢ NoMemory)
+    → OnOk result (out' ≡ out ++ text_of (refused_line (fault_text fault) ∷ [])) → OnErr result (out' ≡ out) → RunsLine (copied start v t) w result out out'
 refused_copy_runs {A = A} {E = E} start v w t fault (Ok a) out out' free is served prints kept =
     rw free
-    (subst (λ (x : Reply × View). RunsLine {A = A} {E = E} (copied_after start x) w (Ok a) out out') (answer_unless_no_memory v w (SubmitCall 0 t) (Refused fault) (refused_served fault served) is)
+    (subst (λ (x : Reply × View). RunsLine {A = A} {E = E} (copied_after start x) w (Ok a) out out')
+    (answer_unless_no_memory v w (SubmitCall 0 t) (Refused fault) (refused_served fault served) is)
     (printed_runs {A = A} {E = E} (one_line (refused_line (fault_text fault)) w) w (Ok a) out out' refl prints tt))
 refused_copy_runs start v w t fault (Err e) out out' free is served prints kept = record { ok = tt; err = kept }
 
 -- a copy was submitted, issued and stepped through
-pub copy_runs : {A E : Type 0} (start : List ℕ) (v u x w : View) (t : Descriptor) (cookie : ℕ) (issued last : Reply) (result : Result A E) (out out' : List ℕ) → is_in_use v ≡ false → (Cookie cookie, u) ≡ answer v (SubmitCall 0 t) → (issued, x) ≡ answer u (IssueCall 0) → (last, w) ≡ stepped_to_end most_copy_steps x → OnOk result (out' ≡ out ++ text_of ((start ++ reply_text last) ∷ [])) → OnErr result (out' ≡ out) → RunsLine (copied start v t) w result out out'
+pub copy_runs : {A E : Type 0} (start : List ℕ) (v u x w : View) (t : Descriptor) (cookie : ℕ) (issued last : Reply) (result : Result A E) (out out' : List ℕ)
+    → is_in_use v ≡ false → (Cookie cookie, u) ≡ answer v (SubmitCall 0 t) → (issued, x) ≡ answer u (IssueCall 0) → (last, w) ≡ stepped_to_end most_copy_steps x
+    → OnOk result (out' ≡ out ++ text_of ((start ++ reply_text last) ∷ [])) → OnErr result (out' ≡ out) → RunsLine (copied start v t) w result out out'
 copy_runs {A = A} {E = E} start v u x w t cookie issued last result out out' free submitted is steps prints kept =
     let through = steps ∙ ap (λ (a : Reply × View). stepped_to_end most_copy_steps a.1) is in
     rw free
@@ -102,7 +108,8 @@ abbrev pub AnswersSeen : {S : Type 0} → (S → View) → S → Statement → L
 AnswersSeen seen found line group left = line_answer (seen found) line ≡ (group, seen left)
 
 -- what lines print that are executed one after another, and the view after them
-pub answered_in_turn : {S : Type 0} (seen : S → View) (lines : List Statement) (found left : S) (groups : List (List (List ℕ))) → ActsInTurn (AnswersSeen seen) lines found groups left → (groups ≡ lines_answered (seen found) lines) × (seen left ≡ lines_left (seen found) lines)
+pub answered_in_turn : {S : Type 0} (seen : S → View) (lines : List Statement) (found left : S) (groups : List (List (List ℕ)))
+    → ActsInTurn (AnswersSeen seen) lines found groups left → (groups ≡ lines_answered (seen found) lines) × (seen left ≡ lines_left (seen found) lines)
 answered_in_turn seen [] found left [] done = (refl, ap seen done)
 answered_in_turn seen [] found left (g ∷ groups) done = absurd done
 answered_in_turn seen (line ∷ lines) found left [] done = absurd done
@@ -115,11 +122,13 @@ answered_first v [] behind = refl
 answered_first v (line ∷ before) behind = ap (λ l. (line_answer v line).0 ∷ l) (answered_first (line_answer v line).1 before behind)
 
 -- all lines were executed
-pub answered_all : {S : Type 0} (seen : S → View) (found left : S) (lines : List Statement) (old new : List ℕ) → PrintsLines (AnswersSeen seen) found lines left old new → new ≡ old ++ printed_text (lines_answered (seen found) lines)
+pub answered_all : {S : Type 0} (seen : S → View) (found left : S) (lines : List Statement) (old new : List ℕ)
+    → PrintsLines (AnswersSeen seen) found lines left old new → new ≡ old ++ printed_text (lines_answered (seen found) lines)
 answered_all seen found left lines old new done = done.text ∙ ap (λ g. old ++ printed_text g) (answered_in_turn seen lines found left done.groups done.acted).0
 
 -- a line was out of memory
-pub answered_some : {S : Type 0} (seen : S → View) (is_refused : S → Statement → S → Type 0) (found left : S) (lines : List Statement) (old new : List ℕ) → StopsAtALine (AnswersSeen seen) is_refused found lines left old new → AppendsGroups (lines_answered (seen found) lines) old new
+pub answered_some : {S : Type 0} (seen : S → View) (is_refused : S → Statement → S → Type 0) (found left : S) (lines : List Statement) (old new : List ℕ)
+    → StopsAtALine (AnswersSeen seen) is_refused found lines left old new → AppendsGroups (lines_answered (seen found) lines) old new
 answered_some seen is_refused found left lines old new stop =
     let v = seen found in
     let first : take (length stop.before) (lines_answered v lines) ≡ lines_answered v stop.before =
@@ -131,20 +140,25 @@ answered_some seen is_refused found left lines old new stop =
     }
 
 -- an answer that is out of memory
-pub answers_some : {E : Type 0} (printed : Printed) (result : Result ℕ E) (old new : List ℕ) → IsErr result → AppendsGroups printed.groups old new → Answers printed result old new
+pub answers_some : {E : Type 0} (printed : Printed) (result : Result ℕ E) (old new : List ℕ) → IsErr result → AppendsGroups printed.groups old new
+    → Answers printed result old new
 answers_some printed (Ok status) old new err first = absurd (let no : false ≡ true = err in cc)
 answers_some printed (Err e) old new err first = record { text = tt; status = tt; refused = first }
 
 -- an answer that is out of memory at once
-pub answers_none : {E : Type 0} (printed : Printed) (result : Result ℕ E) (old new : List ℕ) → IsErr result → 0 < length printed.groups → new ≡ old → Answers printed result old new
+pub answers_none : {E : Type 0} (printed : Printed) (result : Result ℕ E) (old new : List ℕ) → IsErr result → 0 < length printed.groups → new ≡ old
+    → Answers printed result old new
 answers_none printed result old new err some same =
     answers_some printed result old new err (record { count = 0; some_left = some; whole = same ∙ sym (append-nil old) })
 
 -- an answer after other groups
-pub answers_after : {E : Type 0} (front groups : List (List (List ℕ))) (status : ℕ) (result : Result ℕ E) (old mid new : List ℕ) → mid ≡ old ++ printed_text front → Answers (record { groups = groups; status = status }) result mid new → Answers (record { groups = front ++ groups; status = status }) result old new
+pub answers_after : {E : Type 0} (front groups : List (List (List ℕ))) (status : ℕ) (result : Result ℕ E) (old mid new : List ℕ)
+    → mid ≡ old ++ printed_text front → Answers (record { groups = groups; status = status }) result mid new
+    → Answers (record { groups = front ++ groups; status = status }) result old new
 answers_after front groups status result old mid new before a =
     let text : (more : List (List (List ℕ))) → mid ++ printed_text more ≡ old ++ printed_text (front ++ more) = λ more.
-    ap (λ o. o ++ printed_text more) before ∙ append_assoc old (printed_text front) (printed_text more) ∙ ap (λ t. old ++ t) (sym (printed_text_append front more)) in
+    ap (λ o. o ++ printed_text more) before ∙ append_assoc old (printed_text front) (printed_text more)
+    ∙ ap (λ t. old ++ t) (sym (printed_text_append front more)) in
     record {
       text = on_ok_weaker result (λ whole. whole ∙ text groups) a.text;
       status = a.status;
@@ -156,5 +170,6 @@ answers_after front groups status result old mid new before a =
     }
 
 -- what the memory line prints comes before what the others print
-pub answers_memory : {E : Type 0} (groups : List (List (List ℕ))) (status : ℕ) (result : Result ℕ E) (old new : List ℕ) → Answers (record { groups = groups; status = status }) result old new → Answers (record { groups = [] ∷ groups; status = status }) result old new
+pub answers_memory : {E : Type 0} (groups : List (List (List ℕ))) (status : ℕ) (result : Result ℕ E) (old new : List ℕ)
+    → Answers (record { groups = groups; status = status }) result old new → Answers (record { groups = [] ∷ groups; status = status }) result old new
 answers_memory groups status result old new a = answers_after ([] ∷ []) groups status result old old new (sym (append-nil old)) a

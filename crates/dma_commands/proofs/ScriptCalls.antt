@@ -1,28 +1,25 @@
 -- What a line prints is computed from the replies to its calls.
-use Rattle.std.proofs.Common.{◌≡◌, ℕ, zero, suc, Bool, true, false, if◌then◌else◌, List, [], ◌∷◌, ◌++◌, length, take, drop, codes, Option, Some, None, refl, ap, sym, ◌∙◌}
+use Rattle.std.proofs.Common.{◌≡◌, ℕ, zero, suc, Bool, true, false, if◌then◌else◌, List, [], ◌∷◌, ◌++◌, length, take, drop, codes, Option, Some, None, refl, ap}
+use Rattle.std.proofs.Common.{sym, ◌∙◌}
 use Rattle.std.specs.Prelude.{replicate}
 use Rattle.std.proofs.Math.Seq.{take-append_seam, drop-append_seam}
-use Rattle.dma_mem.specs.Places.{Descriptor}
-use Rattle.dma_mem.specs.Refusals.{refusal_of}
-use Rattle.dma_mem.specs.declared.transfer.TransferFault.{TransferFault}
-use Rattle.dma_mem.specs.declared.call.Call.{Call}
-use Rattle.dma_mem.specs.declared.call.Call.TheVariants as calls
-use Rattle.dma_engine.specs.declared.call.Reply.{Reply}
-use Rattle.dma_engine.specs.Advance.{after_steps}
-use Rattle.dma_engine.specs.View.{View}
-use Rattle.dma_engine.specs.Answer.{answer, answers}
+use Rattle.dma_mem.specs.{Places.Descriptor, Refusals.refusal_of, declared.transfer.TransferFault.TransferFault, declared.call.Call.Call}
+use Rattle.dma_engine.specs.{declared.call.Reply.Reply, Advance.after_steps, View.View, Answer.answer, Answer.answers}
 use Rattle.dma_script.specs.declared.statements.Statement.{Statement}
-use Rattle.dma_script.specs.declared.statements.Statement.TheVariants as statements
-use Rattle.dma_commands.specs.Printed.{refused_line, reply_text}
-use Rattle.dma_commands.specs.Run.{Answered, call_answer, issued_and_stepped, copied, copied_after, is_in_use, is_refused, line_answer, lines_answered, most_copy_steps, start_of, steps_before_last, one_line, unless_invalid}
-use Rattle.dma_commands.specs.Transfers.{transfer_of}
-use Rattle.dma_commands.specs.Laws.{call_lines, calls_after, calls_in, calls_of, issue_and_step_calls, groups_from, if_valid, last_of, lines_from, rule_or, transfer_calls, transfer_lines, view_after}
+use Rattle.dma_commands.specs.Run.{Answered, call_answer, issued_and_stepped, copied, copied_after, is_in_use, is_refused, line_answer, lines_answered}
+use Rattle.dma_commands.specs.Run.{most_copy_steps, start_of, steps_before_last, one_line, unless_invalid}
+use Rattle.dma_commands.specs.Laws.{call_lines, calls_after, calls_in, calls_of, issue_and_step_calls, groups_from, if_valid, last_of, lines_from, rule_or}
+use Rattle.dma_commands.specs.Laws.{transfer_calls, transfer_lines, view_after}
+use Rattle.dma_commands.specs.{Printed.refused_line, Printed.reply_text, Transfers.transfer_of}
 use Rattle.dma_engine.proofs.JoinedCalls.{answers_append_law}
+use Rattle.dma_mem.specs.declared.call.Call.TheVariants as calls
+use Rattle.dma_script.specs.declared.statements.Statement.TheVariants as statements
 
 -- ---- a copy's steps
 
 -- the last of several steps
-last_step : (n : ℕ) (v : View) (before : Reply) → answer (after_steps v 0 n) (calls.Step 0) ≡ (let q = answers v (replicate (suc n) (calls.Step 0)) in (last_of before q.0, q.1))
+last_step : (n : ℕ) (v : View) (before : Reply)
+    → answer (after_steps v 0 n) (calls.Step 0) ≡ (let q = answers v (replicate (suc n) (calls.Step 0)) in (last_of before q.0, q.1))
 last_step zero v before = refl
 last_step (suc n) v before =
     let first = answer v (calls.Step 0) in last_step n first.1 first.0
@@ -37,17 +34,22 @@ abbrev with_first : Reply → List Reply × View → List Reply × View
 with_first reply rest = (reply ∷ rest.0, rest.1)
 
 -- an issue and its steps
-carried_is : (start : List ℕ) (v : View) (submitted : Reply) → issued_and_stepped start v ≡ through_made start (with_first submitted (answers v (issue_and_step_calls v)))
+carried_is : (start : List ℕ) (v : View) (submitted : Reply)
+    → issued_and_stepped start v ≡ through_made start (with_first submitted (answers v (issue_and_step_calls v)))
 carried_is start v submitted =
     let issued = answer v (calls.Issue 0) in
     ap (λ (last : Reply × View). one_line (start ++ reply_text last.0) last.1)
     (last_step (steps_before_last most_copy_steps issued.1) issued.1 issued.0)
 
-after_is : (start : List ℕ) (s : Reply × View) (b : Bool) → (if b then one_line (reply_text s.0) s.1 else issued_and_stepped start s.1) ≡ through_made start (with_first s.0 (answers s.1 (if b then [] else issue_and_step_calls s.1)))
+after_is : (start : List ℕ) (s : Reply × View) (b : Bool)
+    → (if b then one_line (reply_text s.0) s.1 else issued_and_stepped start s.1) ≡ through_made start
+    (with_first s.0 (answers s.1 (if b then [] else issue_and_step_calls s.1)))
 after_is start s true = refl
 after_is start s false = carried_is start s.1 s.0
 
-copied_is : (start : List ℕ) (v : View) (t : Descriptor) (b : Bool) → (if b then one_line (refused_line (codes "ChannelInUse")) v else copied_after start (answer v (calls.Submit 0 t))) ≡ through_made start (answers v (if b then [] else calls.Submit 0 t ∷ calls_after (answer v (calls.Submit 0 t))))
+copied_is : (start : List ℕ) (v : View) (t : Descriptor) (b : Bool)
+    → (if b then one_line (refused_line (codes "ChannelInUse")) v else copied_after start (answer v (calls.Submit 0 t))) ≡ through_made start
+    (answers v (if b then [] else calls.Submit 0 t ∷ calls_after (answer v (calls.Submit 0 t))))
 copied_is start v t true = refl
 copied_is start v t false =
     let s = answer v (calls.Submit 0 t) in after_is start s (is_refused s.0)
@@ -56,11 +58,14 @@ copied_is start v t false =
 abbrev rule_made : Option TransferFault → (List Reply → List (List ℕ)) → List Reply × View → Answered
 rule_made fault lines a = (rule_or fault (lines a.0), a.1)
 
-through_is : (start : List ℕ) (v : View) (t : Descriptor) (fault : Option TransferFault) → unless_invalid fault v (copied start v t) ≡ rule_made fault (transfer_lines start) (answers v (if_valid fault (transfer_calls v t)))
+through_is : (start : List ℕ) (v : View) (t : Descriptor) (fault : Option TransferFault)
+    → unless_invalid fault v (copied start v t) ≡ rule_made fault (transfer_lines start) (answers v (if_valid fault (transfer_calls v t)))
 through_is start v t None = copied_is start v t (is_in_use v)
 through_is start v t (Some fault) = refl
 
-submit_is : (v : View) (ch : ℕ) (t : Descriptor) (fault : Option TransferFault) → unless_invalid fault v (call_answer v (calls.Submit ch t)) ≡ rule_made fault (call_lines (calls.Submit ch t ∷ [])) (answers v (if_valid fault (calls.Submit ch t ∷ [])))
+submit_is : (v : View) (ch : ℕ) (t : Descriptor) (fault : Option TransferFault)
+    → unless_invalid fault v (call_answer v (calls.Submit ch t)) ≡ rule_made fault (call_lines (calls.Submit ch t ∷ []))
+    (answers v (if_valid fault (calls.Submit ch t ∷ [])))
 submit_is v ch t None = refl
 submit_is v ch t (Some fault) = refl
 
@@ -86,7 +91,8 @@ length_answers v [] = refl
 length_answers v (call ∷ cs) = ap suc (length_answers (answer v call).1 cs)
 
 -- the replies to a line's own calls, and those to the calls of the lines behind it
-pub first_replies : (v : View) (line : Statement) (rest : List Statement) → take (length (calls_of v line)) (answers v (calls_in v (line ∷ rest))).0 ≡ (answers v (calls_of v line)).0
+pub first_replies : (v : View) (line : Statement) (rest : List Statement)
+    → take (length (calls_of v line)) (answers v (calls_in v (line ∷ rest))).0 ≡ (answers v (calls_of v line)).0
 first_replies v line rest =
     let own = calls_of v line in
     let a = answers v own in
@@ -94,7 +100,8 @@ first_replies v line rest =
     ap (λ (x : List Reply × View). take (length own) x.0) (answers_append_law v own (calls_in a.1 rest))
     ∙ ap (λ (k : ℕ). take k (a.0 ++ b.0)) (sym (length_answers v own)) ∙ take-append_seam a.0 b.0
 
-pub later_replies : (v : View) (line : Statement) (rest : List Statement) → drop (length (calls_of v line)) (answers v (calls_in v (line ∷ rest))).0 ≡ (answers (view_after v line) (calls_in (view_after v line) rest)).0
+pub later_replies : (v : View) (line : Statement) (rest : List Statement)
+    → drop (length (calls_of v line)) (answers v (calls_in v (line ∷ rest))).0 ≡ (answers (view_after v line) (calls_in (view_after v line) rest)).0
 later_replies v line rest =
     let own = calls_of v line in
     let a = answers v own in

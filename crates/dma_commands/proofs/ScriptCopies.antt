@@ -1,37 +1,23 @@
 -- No copy or fill of a script is cut off.
 use Rattle.std.proofs.Common.{◌≡◌, ℕ, ◌+◌, ◌<◌, zero, suc, true, false, List, [], ◌∷◌, Option, Some, None, refl, ap, sym, subst, arith}
-use Rattle.std.specs.Prelude.{replicate}
-use Rattle.std.specs.List.{All}
-use Rattle.std.proofs.lemmas.Bool.{cond_both}
-use Rattle.std.proofs.lemmas.List.Elements.{All-head, All-tail}
-use Rattle.dma_mem.specs.Places.{Descriptor}
-use Rattle.dma_mem.specs.Refusals.{refusal_of}
+use Rattle.std.specs.{Prelude.replicate, List.All}
+use Rattle.std.proofs.{lemmas.Bool.cond_both, lemmas.List.Elements.All-head, lemmas.List.Elements.All-tail}
 use Rattle.dma_mem.specs.Rules.{HasOneByte, IsTransfer}
-use Rattle.dma_mem.specs.declared.transfer.TransferFault.{TransferFault}
+use Rattle.dma_mem.specs.{Places.Descriptor, Refusals.refusal_of, declared.transfer.TransferFault.TransferFault, declared.call.Call.Call}
 use Rattle.dma_mem.proofs.TransferRules.{IsTransfer_from_no_refusal}
-use Rattle.dma_mem.specs.declared.call.Call.{Call}
-use Rattle.dma_mem.specs.declared.call.Call.TheVariants as calls
-use Rattle.dma_engine.specs.declared.call.Reply.{Reply}
-use Rattle.dma_engine.specs.declared.call.Reply.TheVariants.{Cookie}
-use Rattle.dma_engine.specs.declared.fault.EngineFault.{EngineFault}
-use Rattle.dma_engine.specs.Object.{channel, used}
-use Rattle.dma_engine.specs.Turn.{with_entry}
-use Rattle.dma_engine.specs.declared.entry.Entry.TheVariants.{Submitted}
-use Rattle.dma_engine.specs.View.{IsSound, View, object_of}
-use Rattle.dma_engine.specs.Advance.{after_steps, goes_on}
-use Rattle.dma_engine.specs.Answer.{answer, answers, submit_fault, unless}
+use Rattle.dma_engine.specs.{declared.call.Reply.Reply, declared.call.Reply.TheVariants.Cookie, declared.fault.EngineFault.EngineFault, Object.channel}
+use Rattle.dma_engine.specs.{Object.used, Turn.with_entry, declared.entry.Entry.TheVariants.Submitted, View.IsSound, View.View, View.object_of}
+use Rattle.dma_engine.specs.{Advance.after_steps, Advance.goes_on, Answer.answer, Answer.answers, Answer.submit_fault, Answer.unless}
 use Rattle.dma_engine.proofs.JoinedCalls.{answers_unless_no_memory}
 use Rattle.dma_script.specs.declared.statements.Statement.{Statement}
-use Rattle.dma_script.specs.declared.statements.Statement.TheVariants as statements
 use Rattle.dma_script.proofs.Within.{IsNoSubmit}
-use Rattle.dma_commands.specs.Run.{CopiesEnd, is_in_use, most_copy_steps, steps_before_last}
-use Rattle.dma_commands.specs.Transfers.{transfer_of}
-use Rattle.dma_commands.specs.Laws.{AreWhole, CopiesAreWhole, IsWhole, IsWholeCopy, StepsEnd, calls_after, calls_in, calls_of, if_valid, opening_of, script_calls, transfer_calls, view_after}
-use Rattle.dma_commands.proofs.CopyLemmas.{before_last_on}
-use Rattle.dma_commands.proofs.ScriptCalls.{first_replies, later_replies}
-use Rattle.dma_commands.proofs.ScriptSubmits.{line_byte}
-use Rattle.dma_commands.proofs.ScriptsSound.{line_sound, opening_sound}
-use Rattle.dma_commands.proofs.ScriptsWithin.{script_within}
+use Rattle.dma_commands.specs.Laws.{AreWhole, CopiesAreWhole, IsWhole, IsWholeCopy, StepsEnd, calls_after, calls_in, calls_of, if_valid, opening_of}
+use Rattle.dma_commands.specs.Laws.{script_calls, transfer_calls, view_after}
+use Rattle.dma_commands.specs.{Run.CopiesEnd, Run.is_in_use, Run.most_copy_steps, Run.steps_before_last, Transfers.transfer_of}
+use Rattle.dma_commands.proofs.{CopyLemmas.before_last_on, ScriptCalls.first_replies, ScriptCalls.later_replies, ScriptSubmits.line_byte}
+use Rattle.dma_commands.proofs.{ScriptsSound.line_sound, ScriptsSound.opening_sound, ScriptsWithin.script_within}
+use Rattle.dma_mem.specs.declared.call.Call.TheVariants as calls
+use Rattle.dma_script.specs.declared.statements.Statement.TheVariants as statements
 
 -- ---- steps
 
@@ -39,7 +25,8 @@ one_step_more : (reply : Reply) (rest : List Reply) → goes_on reply ≡ true �
 one_step_more reply [] on ends = absurd ends
 one_step_more reply (next ∷ rest) on ends = (on, ends)
 
-steps_end_law : (n : ℕ) (v : View) → ((k : ℕ) → k < n → goes_on (answer (after_steps v 0 k) (calls.Step 0)).0 ≡ true) → goes_on (answer (after_steps v 0 n) (calls.Step 0)).0 ≡ false → StepsEnd (answers v (replicate (suc n) (calls.Step 0))).0
+steps_end_law : (n : ℕ) (v : View) → ((k : ℕ) → k < n → goes_on (answer (after_steps v 0 k) (calls.Step 0)).0 ≡ true)
+    → goes_on (answer (after_steps v 0 n) (calls.Step 0)).0 ≡ false → StepsEnd (answers v (replicate (suc n) (calls.Step 0))).0
 steps_end_law zero v on off = off
 steps_end_law (suc n) v on off =
     let first = answer v (calls.Step 0) in
@@ -49,7 +36,10 @@ steps_end_law (suc n) v on off =
 -- ---- a copy
 
 -- the replies of a copy are whole, whether its submit is refused or not
-submitted_whole : CopiesEnd → (v : View) (t : Descriptor) (fault : Option EngineFault) → IsSound v → IsTransfer t → is_in_use v ≡ false → submit_fault v 0 t ≡ fault → (let s = unless fault v (Cookie (used (channel (object_of v) 0) + 1), with_entry v (Submitted 0 t (used (channel (object_of v) 0) + 1))) in IsWholeCopy (s.0 ∷ (answers s.1 (calls_after s)).0))
+submitted_whole : CopiesEnd → (v : View) (t : Descriptor) (fault : Option EngineFault) → IsSound v → IsTransfer t → is_in_use v ≡ false
+    → submit_fault v 0 t ≡ fault
+    → (let s = unless fault v (Cookie (used (channel (object_of v) 0) + 1), with_entry v (Submitted 0 t (used (channel (object_of v) 0) + 1))) in
+    IsWholeCopy (s.0 ∷ (answers s.1 (calls_after s)).0))
 submitted_whole ends v t (Some fault) sound rules free is = tt
 submitted_whole ends v t None sound rules free is =
     let cookie = used (channel (object_of v) 0) + 1 in
@@ -63,7 +53,8 @@ through_whole ends v t sound rules =
     cond_both {A = List Call} (is_in_use v) [] (calls.Submit 0 t ∷ calls_after (answer v (calls.Submit 0 t))) (λ cs. IsWholeCopy (answers v cs).0) (λ _. tt)
     (λ free. submitted_whole ends v t (submit_fault v 0 t) sound rules free refl)
 
-fit_whole : CopiesEnd → (v : View) (t : Descriptor) (fault : Option TransferFault) → IsSound v → HasOneByte t → refusal_of t ≡ fault → IsWholeCopy (answers v (if_valid fault (transfer_calls v t))).0
+fit_whole : CopiesEnd → (v : View) (t : Descriptor) (fault : Option TransferFault) → IsSound v → HasOneByte t → refusal_of t ≡ fault
+    → IsWholeCopy (answers v (if_valid fault (transfer_calls v t))).0
 fit_whole ends v t None sound one fits = through_whole ends v t sound (IsTransfer_from_no_refusal t one fits)
 fit_whole ends v t (Some fault) sound one is = tt
 

@@ -2,22 +2,16 @@
 use Rattle.std.proofs.Common.{◌≡◌, ◌≢◌, ℕ, zero, suc, false, List, [], ◌∷◌, length, Option, Some, None, refl, ap, sym, subst, ◌∙◌, arith}
 use Rattle.std.specs.Prelude.{is_none, Ok}
 use Rattle.std.proofs.lemmas.Bool.{false≢true, le-ltb}
-use Rattle.dma_mem.specs.declared.call.Call.{Call}
-use Rattle.dma_mem.specs.declared.call.Call.TheVariants.{Checkpoint}
-use Rattle.dma_engine.specs.declared.call.Reply.{Reply}
+use Rattle.dma_mem.specs.{declared.call.Call.Call, declared.call.Call.TheVariants.Checkpoint}
 use Rattle.dma_engine.specs.declared.call.Reply.TheVariants.{Done, Refused}
-use Rattle.dma_engine.specs.declared.fault.EngineFault.{EngineFault}
-use Rattle.dma_engine.specs.declared.fault.EngineFault.TheVariants.{NoMemory}
-use Rattle.dma_engine.specs.View.{View}
 use Rattle.dma_engine.specs.Answer.{AreAnswers, CallAnswers, answer, answers, checkpoint_fault, checkpointed, stores_base, takes_memory, unless}
+use Rattle.dma_engine.specs.{declared.call.Reply.Reply, declared.fault.EngineFault.EngineFault, declared.fault.EngineFault.TheVariants.NoMemory, View.View}
 use Rattle.dma_engine.proofs.JoinedCalls.{answer_is_one, answers_are_answers, answers_unless_no_memory}
-use Rattle.dma_script.specs.Statements.{run_script_of}
-use Rattle.dma_script.specs.declared.statements.RunScript.{RunScript}
+use Rattle.dma_script.specs.{Statements.run_script_of, declared.statements.RunScript.RunScript}
 use Rattle.dma_commands.specs.Run.{Answered, printed, printed_of}
 use Rattle.dma_commands.specs.Laws.{HaveMemory, LinesPrintAnswers, ScriptsPrintAnswers, ScriptsPrintReplies, calls_of, opening_of, printed_from, script_calls}
-use Rattle.dma_commands.proofs.ScriptCalls.{groups_are, line_is}
-use Rattle.dma_commands.proofs.ScriptSubmits.{calls_made_law}
-use Rattle.dma_commands.proofs.ScriptsWithin.{can_be_made, script_within}
+use Rattle.dma_commands.proofs.{ScriptCalls.groups_are, ScriptCalls.line_is, ScriptSubmits.calls_made_law, ScriptsWithin.can_be_made}
+use Rattle.dma_commands.proofs.{ScriptsWithin.script_within}
 
 -- ---- an answer with enough memory isn't out of memory
 
@@ -59,7 +53,8 @@ lines_print_answers v line =
     )
 
 -- what is printed, by the answers with enough memory
-printed_is : (input : List ℕ) (script : RunScript) → run_script_of input ≡ Ok script → printed input ≡ printed_from script (answers (opening_of script) (script_calls script)).0
+printed_is : (input : List ℕ) (script : RunScript) → run_script_of input ≡ Ok script
+    → printed input ≡ printed_from script (answers (opening_of script) (script_calls script)).0
 printed_is input script read =
     ap printed_of read
     ∙ ap (λ (g : List (List (List ℕ))). record { groups = [] ∷ g; status = 0 }) (groups_are (opening_of script) script.statements)

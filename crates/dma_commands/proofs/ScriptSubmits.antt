@@ -1,29 +1,19 @@
 -- The transfers that a script submits meet their rules.
 use Rattle.std.proofs.Common.{◌≡◌, ℕ, suc, List, [], ◌∷◌, Option, Some, None, refl}
-use Rattle.std.specs.Prelude.{replicate}
-use Rattle.std.specs.List.{All}
+use Rattle.std.specs.{Prelude.replicate, List.All}
 use Rattle.std.proofs.lemmas.Bool.{cond_both}
 use Rattle.std.proofs.lemmas.List.Elements.{All-append, All-cons, All-head, All-nil, All-replicate, All-tail}
-use Rattle.dma_mem.specs.Places.{Descriptor}
-use Rattle.dma_mem.specs.Refusals.{refusal_of}
-use Rattle.dma_mem.specs.Rules.{HasOneByte, IsTransfer}
-use Rattle.dma_mem.specs.declared.segment.Segment.{Segment}
-use Rattle.dma_mem.specs.declared.transfer.TransferFault.{TransferFault}
+use Rattle.dma_mem.specs.{Places.Descriptor, Refusals.refusal_of, Rules.HasOneByte, Rules.IsTransfer, declared.segment.Segment.Segment}
+use Rattle.dma_mem.specs.{declared.transfer.TransferFault.TransferFault, declared.call.Call.Call}
 use Rattle.dma_mem.proofs.TransferRules.{IsTransfer_from_no_refusal}
-use Rattle.dma_mem.specs.declared.call.Call.{Call}
-use Rattle.dma_mem.specs.declared.call.Call.TheVariants as calls
-use Rattle.dma_engine.specs.View.{View}
-use Rattle.dma_engine.specs.Answer.{answer}
-use Rattle.dma_engine.specs.Laws.{IsCall}
-use Rattle.dma_script.specs.declared.transfer_line.Origin.{Origin}
-use Rattle.dma_script.specs.declared.transfer_line.Origin.TheVariants as origins
-use Rattle.dma_script.specs.declared.transfer_line.TransferLine.{TransferLine}
-use Rattle.dma_script.specs.declared.statements.Statement.{Statement}
-use Rattle.dma_script.specs.declared.statements.Statement.TheVariants as statements
+use Rattle.dma_engine.specs.{View.View, Answer.answer, Laws.IsCall}
+use Rattle.dma_script.specs.{declared.transfer_line.Origin.Origin, declared.transfer_line.TransferLine.TransferLine, declared.statements.Statement.Statement}
 use Rattle.dma_script.proofs.Within.{IsNoSubmit}
-use Rattle.dma_commands.specs.Run.{is_in_use, is_refused, most_copy_steps, steps_before_last}
-use Rattle.dma_commands.specs.Transfers.{transfer_from, transfer_of}
 use Rattle.dma_commands.specs.Laws.{calls_after, calls_in, calls_of, issue_and_step_calls, if_valid, transfer_calls, view_after}
+use Rattle.dma_commands.specs.{Run.is_in_use, Run.is_refused, Run.most_copy_steps, Run.steps_before_last, Transfers.transfer_from, Transfers.transfer_of}
+use Rattle.dma_mem.specs.declared.call.Call.TheVariants as calls
+use Rattle.dma_script.specs.declared.transfer_line.Origin.TheVariants as origins
+use Rattle.dma_script.specs.declared.statements.Statement.TheVariants as statements
 
 -- ---- lists of which all can be made
 
@@ -43,7 +33,8 @@ pub line_byte : (line : TransferLine) → HasOneByte (transfer_of line)
 line_byte line = from_byte line.src line.dst line.wait line.signal
 
 -- the calls of a transfer that is made where it breaks no rule
-fit_made : (t : Descriptor) (fault : Option TransferFault) (cs : List Call) → HasOneByte t → refusal_of t ≡ fault → (IsTransfer t → All IsCall cs) → All IsCall (if_valid fault cs)
+fit_made : (t : Descriptor) (fault : Option TransferFault) (cs : List Call) → HasOneByte t → refusal_of t ≡ fault → (IsTransfer t → All IsCall cs)
+    → All IsCall (if_valid fault cs)
 fit_made t None cs one none made = made (IsTransfer_from_no_refusal t one none)
 fit_made t (Some fault) cs one some made = none_made_law
 
@@ -77,4 +68,5 @@ line_made_law v statements.Totals read = none_made_law
 pub calls_made_law : (v : View) (lines : List Statement) → All IsNoSubmit lines → All IsCall (calls_in v lines)
 calls_made_law v [] read = none_made_law
 calls_made_law v (line ∷ rest) read =
-    All-append IsCall (calls_of v line) (calls_in (view_after v line) rest) (line_made_law v line (All-head IsNoSubmit line rest read)) (calls_made_law (view_after v line) rest (All-tail IsNoSubmit line rest read))
+    All-append IsCall (calls_of v line) (calls_in (view_after v line) rest) (line_made_law v line (All-head IsNoSubmit line rest read))
+    (calls_made_law (view_after v line) rest (All-tail IsNoSubmit line rest read))

@@ -1,22 +1,13 @@
 -- The views on the way through a script are sound.
 use Rattle.std.proofs.Common.{◌≡◌, ℕ, List, [], ◌∷◌, ap, subst, sym}
-use Rattle.std.specs.Prelude.{Ok}
-use Rattle.std.specs.List.{All}
+use Rattle.std.specs.{Prelude.Ok, List.All}
 use Rattle.std.proofs.lemmas.List.Elements.{All-head, All-tail}
-use Rattle.dma_engine.specs.View.{IsSound, View}
-use Rattle.dma_engine.specs.Answer.{answers}
-use Rattle.dma_engine.proofs.JoinedCalls.{answers_are_answers}
-use Rattle.dma_engine.proofs.StaysSound.{calls_stay_sound, new_views_are_sound}
-use Rattle.dma_script.specs.Statements.{run_script_of}
-use Rattle.dma_script.specs.declared.statements.RunScript.{RunScript}
-use Rattle.dma_script.specs.declared.statements.Statement.{Statement}
+use Rattle.dma_engine.specs.{View.IsSound, View.View, Answer.answers}
+use Rattle.dma_engine.proofs.{JoinedCalls.answers_are_answers, StaysSound.calls_stay_sound, StaysSound.new_views_are_sound}
+use Rattle.dma_script.specs.{Statements.run_script_of, declared.statements.RunScript.RunScript, declared.statements.Statement.Statement}
 use Rattle.dma_script.proofs.Within.{IsNoSubmit}
-use Rattle.dma_commands.specs.Laws.{calls_of, opening_of, view_after}
-use Rattle.dma_commands.specs.Left.{ScriptsLeaveSound, lines_left}
-use Rattle.dma_commands.specs.Run.{Answered, line_answer}
-use Rattle.dma_commands.proofs.ScriptCalls.{line_is}
-use Rattle.dma_commands.proofs.ScriptSubmits.{line_made_law}
-use Rattle.dma_commands.proofs.ScriptsWithin.{can_be_made, script_within}
+use Rattle.dma_commands.specs.{Laws.calls_of, Laws.opening_of, Laws.view_after, Left.ScriptsLeaveSound, Left.lines_left, Run.Answered, Run.line_answer}
+use Rattle.dma_commands.proofs.{ScriptCalls.line_is, ScriptSubmits.line_made_law, ScriptsWithin.can_be_made, ScriptsWithin.script_within}
 
 pub opening_sound : (input : List ℕ) (script : RunScript) → run_script_of input ≡ Ok script → IsSound (opening_of script)
 opening_sound input script read =
@@ -30,7 +21,8 @@ line_sound v line read sound =
 lines_sound : (v : View) (lines : List Statement) → All IsNoSubmit lines → IsSound v → IsSound (lines_left v lines)
 lines_sound v [] read sound = sound
 lines_sound v (line ∷ rest) read sound =
-    let next : IsSound (line_answer v line).1 = subst IsSound (sym (ap (λ (x : Answered). x.1) (line_is v line))) (line_sound v line (All-head IsNoSubmit line rest read) sound) in
+    let next : IsSound (line_answer v line).1 =
+    subst IsSound (sym (ap (λ (x : Answered). x.1) (line_is v line))) (line_sound v line (All-head IsNoSubmit line rest read) sound) in
     lines_sound (line_answer v line).1 rest (All-tail IsNoSubmit line rest read) next
 
 pub scripts_leave_sound : ScriptsLeaveSound

@@ -1,13 +1,11 @@
 -- The engine of a parsed script's memory line can be made.
-use Rattle.std.proofs.Common.{◌≡◌, ℕ, Bool, true, false, ◌&&◌, ◌||◌, if◌then◌else◌, not, nat_lt, nat_le, ◌==◌, List, Some, None, Result, Ok, refl, ap, subst, ◌∙◌, arith}
+use Rattle.std.proofs.Common.{◌≡◌, ℕ, Bool, true, false, ◌&&◌, ◌||◌, if◌then◌else◌, not, nat_lt, nat_le, ◌==◌, List, Some, None, Result, Ok, refl, ap, subst}
+use Rattle.std.proofs.Common.{◌∙◌, arith}
 use Rattle.std.specs.Prelude.{IfOk}
 use Rattle.std.proofs.lemmas.Bool.{le-leb, le-ltb, ne_eqb}
 use Rattle.dma_mem.specs.Image.{is_size}
-use Rattle.dma_engine.specs.declared.fault.NewFault.{NewFault}
-use Rattle.dma_engine.specs.View.{new_fault}
-use Rattle.dma_script.specs.Statements.{IsWithin, run_script_of}
-use Rattle.dma_script.specs.declared.fault.Fault.{Fault}
-use Rattle.dma_script.specs.declared.statements.RunScript.{RunScript}
+use Rattle.dma_engine.specs.{declared.fault.NewFault.NewFault, View.new_fault}
+use Rattle.dma_script.specs.{Statements.IsWithin, Statements.run_script_of, declared.fault.Fault.Fault, declared.statements.RunScript.RunScript}
 use Rattle.dma_script.proofs.Within.{IsBefore, IsNoSubmit, run_script_within}
 
 pub script_within : (input : List ℕ) (script : RunScript) → run_script_of input ≡ Ok script → IsBefore IsNoSubmit script

@@ -1,9 +1,7 @@
 -- Refusals that aren't out of memory.
 use Rattle.std.proofs.Common.{◌≢◌, ap}
-use Rattle.dma_engine.specs.declared.call.Reply.{Reply}
-use Rattle.dma_engine.specs.declared.call.Reply.TheVariants.{Refused}
-use Rattle.dma_engine.specs.declared.fault.EngineFault.{EngineFault}
-use Rattle.dma_engine.specs.declared.fault.EngineFault.TheVariants.{NoMemory}
+use Rattle.dma_engine.specs.{declared.call.Reply.Reply, declared.call.Reply.TheVariants.Refused, declared.fault.EngineFault.EngineFault}
+use Rattle.dma_engine.specs.{declared.fault.EngineFault.TheVariants.NoMemory}
 
 abbrev fault_of_law : Reply → EngineFault
 fault_of_law (Refused fault) = fault

@@ -1,26 +1,21 @@
 -- Runs of equal answers, and the lines of the runs before the last.
 use Rattle.std.proofs.Common.{◌≡◌, ℕ, ◌+◌, ◌<◌, List, [], ◌∷◌, ◌++◌, map, Bool, true, false, refl, ap, sym, ◌∙◌, zero, suc, add-one, append_assoc, arith}
-use Rattle.std.specs.Prelude.{replicate}
-use Rattle.std.specs.Str.{bytes_eq}
-use Rattle.std.proofs.Math.Nat.{zero-lt-suc}
+use Rattle.std.specs.{Prelude.replicate, Str.bytes_eq}
 use Rattle.std.proofs.lemmas.List.{append-nil, map-append, replicate-append-replicate}
-use Rattle.std.proofs.lemmas.Slice.Eq.{bytes_eq-Decides}
+use Rattle.std.proofs.{Math.Nat.zero-lt-suc, lemmas.Slice.Eq.bytes_eq-Decides}
 use Rattle.dma_io.specs.Command.{text_of}
 use Rattle.dma_mem.specs.declared.call.Call.{Call}
-use Rattle.dma_engine.specs.declared.call.Reply.{Reply}
-use Rattle.dma_engine.specs.declared.outcome.TransResult.TheVariants.{NoError}
 use Rattle.dma_engine.specs.declared.turn.Turn.TheVariants.{Started, Moved, Finished}
-use Rattle.dma_engine.specs.View.{View}
-use Rattle.dma_engine.specs.Answer.{answers}
-use Rattle.dma_commands.specs.Printed.{reply_text, turn_text}
-use Rattle.dma_commands.specs.inner.Counting.{text_with, transfer_text}
+use Rattle.dma_engine.specs.{declared.call.Reply.Reply, declared.outcome.TransResult.TheVariants.NoError, View.View, Answer.answers}
 use Rattle.dma_commands.specs.Run.{joined, runs_of, step_line, step_lines}
+use Rattle.dma_commands.specs.{Printed.reply_text, Printed.turn_text, inner.Counting.text_with, inner.Counting.transfer_text}
 use Rattle.dma_engine.proofs.JoinedCalls.{answers_append_law}
 
 -- ---- runs
 
 -- the first run has the first text
-head_by : (x next : List ℕ) (count : ℕ) (rest : List (List ℕ × ℕ)) (b : Bool) → bytes_eq x next ≡ b → (k : ℕ) × (more : List (List ℕ × ℕ)) × (joined x ((next, count) ∷ rest) ≡ (x, k) ∷ more)
+head_by : (x next : List ℕ) (count : ℕ) (rest : List (List ℕ × ℕ)) (b : Bool) → bytes_eq x next ≡ b → (k : ℕ) × (more : List (List ℕ × ℕ))
+    × (joined x ((next, count) ∷ rest) ≡ (x, k) ∷ more)
 head_by x next count rest true e = (count + 1, rest, rw e refl)
 head_by x next count rest false e = (1, (next, count) ∷ rest, rw e refl)
 
@@ -53,14 +48,18 @@ replicate_shift n m x rest = ap (λ l. l ++ rest) (sym (replicate-append-replica
 
 -- ---- equal answers more
 
-pub take_equal : (ch : ℕ) (lines last : List ℕ) (count many : ℕ) (text : List ℕ) (rest : List (List ℕ)) → bytes_eq last text ≡ true → text_with ch lines last (count + many) rest ≡ text_with ch lines last count (replicate many text ++ rest)
+pub take_equal : (ch : ℕ) (lines last : List ℕ) (count many : ℕ) (text : List ℕ) (rest : List (List ℕ)) → bytes_eq last text ≡ true
+    → text_with ch lines last (count + many) rest ≡ text_with ch lines last count (replicate many text ++ rest)
 take_equal ch lines last count many text rest same =
-    ap (λ l. lines ++ text_of (step_lines ch l)) (replicate_shift count many last rest ∙ ap (λ t. replicate count last ++ (replicate many t ++ rest)) ((bytes_eq-Decides last text).0 same))
+    ap (λ l. lines ++ text_of (step_lines ch l))
+    (replicate_shift count many last rest ∙ ap (λ t. replicate count last ++ (replicate many t ++ rest)) ((bytes_eq-Decides last text).0 same))
 
 line_then : (line : List ℕ) (lines : List (List ℕ)) → text_of (line ∷ lines) ≡ text_of (line ∷ []) ++ text_of lines
 line_then line lines = ap (λ l. l ++ text_of lines) (sym (append-nil (line ++ 10 ∷ [])))
 
-one_other_law : (ch : ℕ) (lines lines' last : List ℕ) (count : ℕ) (text : List ℕ) (rest : List (List ℕ)) → bytes_eq last text ≡ false → (count ≡ 0 → lines' ≡ lines) → (0 < count → lines' ≡ lines ++ text_of (step_line ch (last, count) ∷ [])) → text_with ch lines' text 1 rest ≡ text_with ch lines last count (text ∷ rest)
+one_other_law : (ch : ℕ) (lines lines' last : List ℕ) (count : ℕ) (text : List ℕ) (rest : List (List ℕ)) → bytes_eq last text ≡ false
+    → (count ≡ 0 → lines' ≡ lines) → (0 < count → lines' ≡ lines ++ text_of (step_line ch (last, count) ∷ []))
+    → text_with ch lines' text 1 rest ≡ text_with ch lines last count (text ∷ rest)
 one_other_law ch lines lines' last zero text rest other none line =
     ap (λ l. l ++ text_of (step_lines ch (text ∷ rest))) (none refl)
 one_other_law ch lines lines' last (suc n) text rest other none line =
@@ -69,13 +68,16 @@ one_other_law ch lines lines' last (suc n) text rest other none line =
     ∙ ap (λ l. lines ++ l) (sym (line_then (step_line ch (last, suc n)) (step_lines ch (text ∷ rest))))
     ∙ ap (λ r. lines ++ text_of (map (step_line ch) r)) (sym (runs_more n last text rest other))
 
-pub take_other : (ch : ℕ) (lines lines' last : List ℕ) (count many : ℕ) (text : List ℕ) (rest : List (List ℕ)) → bytes_eq last text ≡ false → 0 < many → (count ≡ 0 → lines' ≡ lines) → (0 < count → lines' ≡ lines ++ text_of (step_line ch (last, count) ∷ [])) → text_with ch lines' text many rest ≡ text_with ch lines last count (replicate many text ++ rest)
+pub take_other : (ch : ℕ) (lines lines' last : List ℕ) (count many : ℕ) (text : List ℕ) (rest : List (List ℕ)) → bytes_eq last text ≡ false → 0 < many
+    → (count ≡ 0 → lines' ≡ lines) → (0 < count → lines' ≡ lines ++ text_of (step_line ch (last, count) ∷ []))
+    → text_with ch lines' text many rest ≡ text_with ch lines last count (replicate many text ++ rest)
 take_other ch lines lines' last count zero text rest other some none line = absurd (omega (arith, some))
 take_other ch lines lines' last count (suc n) text rest other some none line =
     one_other_law ch lines lines' last count text (replicate n text ++ rest) other none line
 
 -- the lines with the last one ended
-pub ended : (ch : ℕ) (lines lines' last : List ℕ) (count : ℕ) → (count ≡ 0 → lines' ≡ lines) → (0 < count → lines' ≡ lines ++ text_of (step_line ch (last, count) ∷ [])) → lines' ≡ text_with ch lines last count []
+pub ended : (ch : ℕ) (lines lines' last : List ℕ) (count : ℕ) → (count ≡ 0 → lines' ≡ lines)
+    → (0 < count → lines' ≡ lines ++ text_of (step_line ch (last, count) ∷ [])) → lines' ≡ text_with ch lines last count []
 ended ch lines lines' last zero none line = none refl ∙ sym (append-nil lines)
 ended ch lines lines' last (suc n) none line =
     line (zero-lt-suc n) ∙ ap (λ r. lines ++ text_of (map (step_line ch) r)) (sym (runs_alone n last))
@@ -83,35 +85,44 @@ ended ch lines lines' last (suc n) none line =
 -- ---- steps in rows
 
 -- after these steps, and then more
-pub steps_more : (v : View) (step : Call) (m n k : ℕ) → m + n ≡ k → answers v (replicate k step) ≡ (let a = answers v (replicate m step) in let b = answers a.1 (replicate n step) in (a.0 ++ b.0, b.1))
+pub steps_more : (v : View) (step : Call) (m n k : ℕ) → m + n ≡ k
+    → answers v (replicate k step) ≡ (let a = answers v (replicate m step) in let b = answers a.1 (replicate n step) in (a.0 ++ b.0, b.1))
 steps_more v step m n k sum =
     ap (λ (c : ℕ). answers v (replicate c step)) (sym sum)
     ∙ ap (answers v) (sym (replicate-append-replicate m n step))
     ∙ answers_append_law v (replicate m step) (replicate n step)
 
 -- the view after more steps, and all answers
-pub more_view : (v w : View) (step : Call) (calls : List Call) (m n k : ℕ) → m + n ≡ k → w ≡ (answers v (replicate m step)).1 → calls ≡ replicate n step → (answers w calls).1 ≡ (answers v (replicate k step)).1
+pub more_view : (v w : View) (step : Call) (calls : List Call) (m n k : ℕ) → m + n ≡ k → w ≡ (answers v (replicate m step)).1 → calls ≡ replicate n step
+    → (answers w calls).1 ≡ (answers v (replicate k step)).1
 more_view v w step calls m n k sum is same =
     ap (λ (u : View). (answers u calls).1) is ∙ ap (λ (l : List Call). (answers (answers v (replicate m step)).1 l).1) same
     ∙ ap (λ (a : List Reply × View). a.1) (sym (steps_more v step m n k sum))
 
-pub more_texts : (v w : View) (step : Call) (calls : List Call) (m n k : ℕ) (rest : List (List ℕ)) → m + n ≡ k → w ≡ (answers v (replicate m step)).1 → calls ≡ replicate n step → map reply_text (answers v (replicate m step)).0 ++ (map reply_text (answers w calls).0 ++ rest) ≡ map reply_text (answers v (replicate k step)).0 ++ rest
+pub more_texts : (v w : View) (step : Call) (calls : List Call) (m n k : ℕ) (rest : List (List ℕ)) → m + n ≡ k → w ≡ (answers v (replicate m step)).1
+    → calls ≡ replicate n step
+    → map reply_text (answers v (replicate m step)).0 ++ (map reply_text (answers w calls).0 ++ rest) ≡ map reply_text (answers v (replicate k step)).0 ++ rest
 more_texts v w step calls m n k rest sum is same =
     let a = answers v (replicate m step) in
-    let later : (answers w calls).0 ≡ (answers a.1 (replicate n step)).0 = ap (λ (u : View). (answers u calls).0) is ∙ ap (λ (l : List Call). (answers a.1 l).0) same in
+    let later : (answers w calls).0 ≡ (answers a.1 (replicate n step)).0 = ap (λ (u : View). (answers u calls).0) is
+    ∙ ap (λ (l : List Call). (answers a.1 l).0) same in
     ap (λ (l : List Reply). map reply_text a.0 ++ (map reply_text l ++ rest)) later
     ∙ sym (append_assoc (map reply_text a.0) (map reply_text (answers a.1 (replicate n step)).0) rest)
-    ∙ ap (λ l. l ++ rest) (sym (map-append reply_text a.0 (answers a.1 (replicate n step)).0) ∙ ap (λ (b : List Reply × View). map reply_text b.0) (sym (steps_more v step m n k sum)))
+    ∙ ap (λ l. l ++ rest) (sym (map-append reply_text a.0 (answers a.1 (replicate n step)).0)
+    ∙ ap (λ (b : List Reply × View). map reply_text b.0) (sym (steps_more v step m n k sum)))
 
 -- ---- a transfer that starts, moves and finishes
 
 -- three runs
-three_lines : (ch : ℕ) (a b c : List ℕ) (n : ℕ) → bytes_eq a b ≡ false → bytes_eq b c ≡ false → 0 < n → text_of (step_lines ch (a ∷ (replicate n b ++ c ∷ []))) ≡ text_of (step_line ch (a, 1) ∷ step_line ch (b, n) ∷ step_line ch (c, 1) ∷ [])
+three_lines : (ch : ℕ) (a b c : List ℕ) (n : ℕ) → bytes_eq a b ≡ false → bytes_eq b c ≡ false → 0 < n
+    → text_of (step_lines ch (a ∷ (replicate n b ++ c ∷ []))) ≡ text_of (step_line ch (a, 1) ∷ step_line ch (b, n) ∷ step_line ch (c, 1) ∷ [])
 three_lines ch a b c zero ab bc some = absurd (omega (arith, some))
 three_lines ch a b c (suc n) ab bc some =
     ap (λ r. text_of (map (step_line ch) r)) (runs_more zero a b (replicate n b ++ c ∷ []) ab ∙ ap (λ r. (a, 1) ∷ r) (runs_more n b c [] bc))
 
 -- the lines of the answers
-pub transfer_lines : (ch cookie moved finished : ℕ) → 0 < moved → text_of (step_lines ch (turn_text (Started cookie) ∷ (replicate moved (turn_text Moved) ++ turn_text (Finished finished NoError 0) ∷ []))) ≡ transfer_text ch cookie moved finished
+pub transfer_lines : (ch cookie moved finished : ℕ) → 0 < moved
+    → text_of (step_lines ch (turn_text (Started cookie) ∷ (replicate moved (turn_text Moved) ++ turn_text (Finished finished NoError 0) ∷ []))) ≡ transfer_text
+    ch cookie moved finished
 transfer_lines ch cookie moved finished some =
     three_lines ch (turn_text (Started cookie)) (turn_text Moved) (turn_text (Finished finished NoError 0)) moved refl refl some

@@ -1,13 +1,10 @@
 -- What `dmasim asm` prints for an input.
 use Rattle.std.specs.Prelude.{◌≡◌, ◌≢◌, ◌⊎◌, ℕ, ◌++◌, ◌∷◌, [], List, Result, Ok, Err, codes, decimal}
-use Rattle.dma_insn.specs.declared.assembler.AsmCause.{AsmCause}
 use Rattle.dma_insn.specs.declared.assembler.AsmCause.TheVariants.{Mnemonic, Operand, Range}
-use Rattle.dma_insn.specs.declared.assembler.AsmFault.{AsmFault}
 use Rattle.dma_insn.specs.declared.assembler.AsmFault.TheVariants.{Line, ProgramTooLong, NoMemory}
 use Rattle.dma_insn.specs.AssemblyText.{Assembles, IsFirstFault}
-use Rattle.dma_insn.specs.LineReading.{assembled}
-use Rattle.dma_io.specs.Command.{Printed, refusal}
-use Rattle.dma_io.specs.Printing.{program_lines}
+use Rattle.dma_insn.specs.{declared.assembler.AsmCause.AsmCause, declared.assembler.AsmFault.AsmFault, LineReading.assembled}
+use Rattle.dma_io.specs.{Command.Printed, Command.refusal, Printing.program_lines}
 
 -- the name of a cause
 abbrev pub cause_name : AsmCause → List ℕ

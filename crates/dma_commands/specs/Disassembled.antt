@@ -1,14 +1,11 @@
 -- What `dmasim dis` prints for an input.
 use Rattle.std.specs.Prelude.{◌≡◌, ◌⊎◌, ℕ, ◌+◌, ◌-◌, ◌++◌, ◌∷◌, [], List, Result, Ok, Err, suc, zero, codes, decimal}
-use Rattle.dma_insn.specs.declared.codec.DecodeFault.{DecodeFault}
 use Rattle.dma_insn.specs.declared.codec.DecodeFault.TheVariants.{Cut, Unknown, BadField}
-use Rattle.dma_insn.specs.Decoding.{Decoded, decoded}
 use Rattle.dma_insn.specs.Disassembly.{insn_text, Disassembles, StopsAt}
+use Rattle.dma_insn.specs.{declared.codec.DecodeFault.DecodeFault, Decoding.Decoded, Decoding.decoded}
 use Rattle.dma_io.specs.Command.{Printed, refusal, text_of}
 use Rattle.dma_text.specs.Digits.{hex_pair}
-use Rattle.dma_script.specs.Pairs.{pairs_of}
-use Rattle.dma_script.specs.Printing.{fault_line}
-use Rattle.dma_script.specs.declared.fault.Fault.{Fault}
+use Rattle.dma_script.specs.{Pairs.pairs_of, Printing.fault_line, declared.fault.Fault.Fault}
 
 -- the lines with this line before them; a fault stays as it is
 abbrev pub with_line : List ℕ → Result (List (List ℕ)) (ℕ × DecodeFault) → Result (List (List ℕ)) (ℕ × DecodeFault)

@@ -1,26 +1,17 @@
 -- Which engine calls a script makes, and how its output is computed from their replies.
-use Rattle.std.specs.Prelude.{◌≡◌, ◌≢◌, ℕ, suc, ◌++◌, ◌∷◌, [], true, false, if◌then◌else◌, Option, Some, None, Ok, List, length, map, take, drop, replicate, codes}
+use Rattle.std.specs.Prelude.{◌≡◌, ◌≢◌, ℕ, suc, ◌++◌, ◌∷◌, [], true, false, if◌then◌else◌, Option, Some, None, Ok, List, length, map, take, drop, replicate}
+use Rattle.std.specs.Prelude.{codes}
 use Rattle.std.specs.List.{All}
-use Rattle.dma_mem.specs.Places.{Descriptor}
-use Rattle.dma_mem.specs.Refusals.{refusal_of}
-use Rattle.dma_mem.specs.declared.transfer.TransferFault.{TransferFault}
-use Rattle.dma_mem.specs.declared.call.Call.{Call}
-use Rattle.dma_mem.specs.declared.call.Call.TheVariants as calls
-use Rattle.dma_engine.specs.declared.call.Reply.{Reply}
-use Rattle.dma_engine.specs.declared.call.Reply.TheVariants.{Cookie, Refused}
-use Rattle.dma_engine.specs.declared.fault.EngineFault.TheVariants.{NoMemory}
-use Rattle.dma_engine.specs.Advance.{goes_on}
-use Rattle.dma_engine.specs.View.{View, new_fault, new_view}
-use Rattle.dma_engine.specs.Answer.{AreAnswers, answer, answers}
-use Rattle.dma_engine.specs.Laws.{IsCall}
+use Rattle.dma_mem.specs.{Places.Descriptor, Refusals.refusal_of, declared.transfer.TransferFault.TransferFault, declared.call.Call.Call}
+use Rattle.dma_engine.specs.{declared.call.Reply.Reply, declared.call.Reply.TheVariants.Cookie, declared.call.Reply.TheVariants.Refused}
+use Rattle.dma_engine.specs.{declared.fault.EngineFault.TheVariants.NoMemory, Advance.goes_on, View.View, View.new_fault, View.new_view, Answer.AreAnswers}
+use Rattle.dma_engine.specs.{Answer.answer, Answer.answers, Laws.IsCall}
 use Rattle.dma_io.specs.Command.{Printed}
-use Rattle.dma_script.specs.Statements.{run_script_of}
-use Rattle.dma_script.specs.declared.statements.RunScript.{RunScript}
-use Rattle.dma_script.specs.declared.statements.Statement.{Statement}
-use Rattle.dma_script.specs.declared.statements.Statement.TheVariants as statements
-use Rattle.dma_commands.specs.Printed.{call_line, refused_line, reply_text, transfer_fault_name}
+use Rattle.dma_script.specs.{Statements.run_script_of, declared.statements.RunScript.RunScript, declared.statements.Statement.Statement}
 use Rattle.dma_commands.specs.Run.{is_in_use, is_refused, line_answer, most_copy_steps, printed, start_of, step_lines, steps_before_last, totals_of}
-use Rattle.dma_commands.specs.Transfers.{transfer_of}
+use Rattle.dma_commands.specs.{Printed.call_line, Printed.refused_line, Printed.reply_text, Printed.transfer_fault_name, Transfers.transfer_of}
+use Rattle.dma_mem.specs.declared.call.Call.TheVariants as calls
+use Rattle.dma_script.specs.declared.statements.Statement.TheVariants as statements
 
 -- ---- the calls of a line
 

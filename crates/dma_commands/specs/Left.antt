@@ -1,9 +1,7 @@
 -- The view that a script leaves.
 use Rattle.std.specs.Prelude.{ℕ, List, [], ◌∷◌, Ok, ◌≡◌}
 use Rattle.dma_engine.specs.View.{IsSound, View, new_view}
-use Rattle.dma_script.specs.Statements.{run_script_of}
-use Rattle.dma_script.specs.declared.statements.RunScript.{RunScript}
-use Rattle.dma_script.specs.declared.statements.Statement.{Statement}
+use Rattle.dma_script.specs.{Statements.run_script_of, declared.statements.RunScript.RunScript, declared.statements.Statement.Statement}
 use Rattle.dma_commands.specs.Run.{line_answer}
 
 -- the view after lines of a script

@@ -1,17 +1,10 @@
 -- What `dmasim plan` prints for an input.
 use Rattle.std.specs.Prelude.{ℕ, ◌∷◌, [], ◌++◌, List, length, Option, Some, None, Result, Ok, Err, codes, decimal}
-use Rattle.dma_mem.specs.declared.transfer.TransferFault.{TransferFault}
-use Rattle.dma_mem.specs.Refusals.{refusal_of}
-use Rattle.dma_chan.specs.Programs.{ProgramValue}
-use Rattle.dma_chan.specs.Compiled.{compiled}
-use Rattle.dma_io.specs.Command.{Printed, refusal}
-use Rattle.dma_io.specs.Printing.{program_lines}
-use Rattle.dma_script.specs.Printing.{fault_line}
-use Rattle.dma_script.specs.Plan.{plan_of}
-use Rattle.dma_script.specs.declared.fault.Fault.{Fault}
-use Rattle.dma_script.specs.declared.transfer_line.PlanLine.{PlanLine}
-use Rattle.dma_commands.specs.Printed.{transfer_fault_name}
-use Rattle.dma_commands.specs.Transfers.{transfer_of}
+use Rattle.dma_mem.specs.{declared.transfer.TransferFault.TransferFault, Refusals.refusal_of}
+use Rattle.dma_chan.specs.{Programs.ProgramValue, Compiled.compiled}
+use Rattle.dma_io.specs.{Command.Printed, Command.refusal, Printing.program_lines}
+use Rattle.dma_script.specs.{Printing.fault_line, Plan.plan_of, declared.fault.Fault.Fault, declared.transfer_line.PlanLine.PlanLine}
+use Rattle.dma_commands.specs.{Printed.transfer_fault_name, Transfers.transfer_of}
 
 -- `line N: NAME`
 abbrev pub invalid_line : ℕ → TransferFault → List ℕ

@@ -1,22 +1,16 @@
 -- The printed text of refusals, calls and replies, without line feeds (profile).
-use Rattle.std.specs.Prelude.{ℕ, ◌++◌, List, [], Option, codes, decimal}
-use Rattle.std.specs.Option.{option_map_or}
-use Rattle.dma_mem.specs.declared.transfer.TransferFault.{TransferFault}
-use Rattle.dma_mem.specs.declared.transfer.TransferFault.TheVariants as transfers
-use Rattle.dma_mem.specs.declared.call.Call.{Call}
-use Rattle.dma_mem.specs.declared.call.Call.TheVariants as calls
-use Rattle.dma_engine.specs.declared.call.Reply.{Reply}
-use Rattle.dma_engine.specs.declared.call.Reply.TheVariants as replies
-use Rattle.dma_engine.specs.declared.fault.EngineFault.{EngineFault}
-use Rattle.dma_engine.specs.declared.fault.EngineFault.TheVariants as faults
-use Rattle.dma_engine.specs.declared.outcome.Outcome.{Outcome}
-use Rattle.dma_engine.specs.declared.outcome.TransResult.{TransResult}
+use Rattle.std.specs.{Prelude.ℕ, Prelude.◌++◌, Prelude.List, Prelude.[], Prelude.Option, Prelude.codes, Prelude.decimal, Option.option_map_or}
+use Rattle.dma_mem.specs.{declared.transfer.TransferFault.TransferFault, declared.call.Call.Call}
 use Rattle.dma_engine.specs.declared.outcome.TransResult.TheVariants.{NoError, ReadFailed, WriteFailed, Aborted}
-use Rattle.dma_engine.specs.declared.turn.Status.{Status}
 use Rattle.dma_engine.specs.declared.turn.Status.TheVariants.{Unknown, InProgress, Complete}
-use Rattle.dma_engine.specs.declared.turn.Turn.{Turn}
 use Rattle.dma_engine.specs.declared.turn.Turn.TheVariants.{Nothing, Held, Started, Moved, Waiting, Paused, Halted, Finished}
+use Rattle.dma_engine.specs.{declared.call.Reply.Reply, declared.fault.EngineFault.EngineFault, declared.outcome.Outcome.Outcome}
+use Rattle.dma_engine.specs.{declared.outcome.TransResult.TransResult, declared.turn.Status.Status, declared.turn.Turn.Turn}
 use Rattle.dma_text.specs.Digits.{hex_digits, spaced_bytes}
+use Rattle.dma_mem.specs.declared.transfer.TransferFault.TheVariants as transfers
+use Rattle.dma_mem.specs.declared.call.Call.TheVariants as calls
+use Rattle.dma_engine.specs.declared.call.Reply.TheVariants as replies
+use Rattle.dma_engine.specs.declared.fault.EngineFault.TheVariants as faults
 
 -- the name of a broken transfer rule, or `NoMemory`
 abbrev pub transfer_fault_name : TransferFault → List ℕ

@@ -3,25 +3,15 @@
 -- but with one line for `go`; a `status` before `go` may have no answer, or the reader no place.
 use Rattle.std.specs.Prelude.{◌≡◌, ℕ, ◌⊎◌, List, [], ◌∷◌, ◌++◌, map, Result, Ok, Err, codes, decimal}
 use Rattle.std.specs.List.{sum_by}
-use Rattle.dma_mem.specs.declared.call.Call.TheVariants as calls
-use Rattle.dma_engine.specs.declared.call.Reply.TheVariants.{Turned}
-use Rattle.dma_engine.specs.declared.fault.EngineFault.{EngineFault}
-use Rattle.dma_engine.specs.declared.turn.Turn.{Turn}
-use Rattle.dma_engine.specs.Answer.{reply_of}
 use Rattle.dma_engine.specs.Interleaved.{Interleaves, JobTurn, rotation, turns_taken}
-use Rattle.dma_engine.specs.Turn.{finishes_in, steps_in}
-use Rattle.dma_engine.specs.View.{View, new_view}
+use Rattle.dma_engine.specs.{declared.call.Reply.TheVariants.Turned, declared.fault.EngineFault.EngineFault, declared.turn.Turn.Turn, Answer.reply_of}
+use Rattle.dma_engine.specs.{Turn.finishes_in, Turn.steps_in, View.View, View.new_view}
 use Rattle.dma_io.specs.Command.{Printed, refusal}
-use Rattle.dma_script.specs.Interpreted.{ActsInTurn}
-use Rattle.dma_script.specs.Printing.{fault_line}
-use Rattle.dma_script.specs.Race.{race_script_of}
-use Rattle.dma_script.specs.declared.fault.Fault.{Fault}
-use Rattle.dma_script.specs.declared.race.JobLine.{JobLine}
-use Rattle.dma_script.specs.declared.race.RaceScript.{RaceScript}
-use Rattle.dma_script.specs.declared.statements.Statement.{Statement}
+use Rattle.dma_script.specs.{Interpreted.ActsInTurn, Printing.fault_line, Race.race_script_of, declared.fault.Fault.Fault, declared.race.JobLine.JobLine}
+use Rattle.dma_script.specs.{declared.race.RaceScript.RaceScript, declared.statements.Statement.Statement}
+use Rattle.dma_commands.specs.{Printed.refused_line, Printed.reply_text, Run.line_answer, Run.lines_answered, Run.step_line}
+use Rattle.dma_mem.specs.declared.call.Call.TheVariants as calls
 use Rattle.dma_script.specs.declared.statements.Statement.TheVariants as statements
-use Rattle.dma_commands.specs.Printed.{refused_line, reply_text}
-use Rattle.dma_commands.specs.Run.{line_answer, lines_answered, step_line}
 
 -- A `status` line prints `status none`, and nothing changes.
 abbrev pub IsUnanswered : View → Statement → List (List ℕ) → View → Type 0

@@ -1,32 +1,19 @@
 -- What `dmasim run` prints for an input.
-use Rattle.std.specs.Prelude.{◌≡◌, ℕ, ◌+◌, ◌++◌, ◌∷◌, [], if◌then◌else◌, ◌||◌, Bool, true, false, nat_lt, Option, Result, Ok, Err, List, length, map, replicate, codes, decimal}
-use Rattle.std.specs.Option.{option_map_or}
-use Rattle.std.specs.Str.{bytes_eq}
-use Rattle.dma_mem.specs.declared.transfer.TransferFault.{TransferFault}
-use Rattle.dma_mem.specs.Places.{Descriptor}
-use Rattle.dma_mem.specs.Rules.{IsTransfer}
-use Rattle.dma_mem.specs.Refusals.{refusal_of}
-use Rattle.dma_mem.specs.Steps.{taken_in}
-use Rattle.dma_mem.specs.declared.call.Call.{Call}
-use Rattle.dma_mem.specs.declared.call.Call.TheVariants as calls
-use Rattle.dma_engine.specs.declared.call.Reply.{Reply}
-use Rattle.dma_engine.specs.declared.call.Reply.TheVariants.{Cookie, Refused}
-use Rattle.dma_engine.specs.Advance.{after_steps, goes_on}
-use Rattle.dma_engine.specs.Object.{channel, unfinished}
+use Rattle.std.specs.Prelude.{◌≡◌, ℕ, ◌+◌, ◌++◌, ◌∷◌, [], if◌then◌else◌, ◌||◌, Bool, true, false, nat_lt, Option, Result, Ok, Err, List, length, map, replicate}
+use Rattle.std.specs.Prelude.{codes, decimal}
+use Rattle.std.specs.{Option.option_map_or, Str.bytes_eq}
+use Rattle.dma_mem.specs.{declared.transfer.TransferFault.TransferFault, Places.Descriptor, Rules.IsTransfer, Refusals.refusal_of, Steps.taken_in}
+use Rattle.dma_mem.specs.{declared.call.Call.Call}
 use Rattle.dma_engine.specs.View.{View, IsSound, new_view, object_of, schedule_at, running}
-use Rattle.dma_engine.specs.Answer.{answer, answers}
+use Rattle.dma_engine.specs.{declared.call.Reply.Reply, declared.call.Reply.TheVariants.Cookie, declared.call.Reply.TheVariants.Refused, Advance.after_steps}
+use Rattle.dma_engine.specs.{Advance.goes_on, Object.channel, Object.unfinished, Answer.answer, Answer.answers}
 use Rattle.dma_io.specs.Command.{Printed, refusal}
-use Rattle.dma_script.specs.Statements.{run_script_of}
-use Rattle.dma_script.specs.Printing.{fault_line}
-use Rattle.dma_script.specs.declared.fault.Fault.{Fault}
-use Rattle.dma_script.specs.declared.transfer_line.Origin.{Origin}
+use Rattle.dma_script.specs.{Statements.run_script_of, Printing.fault_line, declared.fault.Fault.Fault, declared.transfer_line.Origin.Origin}
+use Rattle.dma_script.specs.{declared.transfer_line.TransferLine.TransferLine, declared.statements.RunScript.RunScript, declared.statements.Statement.Statement}
+use Rattle.dma_commands.specs.{Printed.transfer_fault_name, Printed.refused_line, Printed.reply_text, Printed.call_line, Transfers.transfer_of}
+use Rattle.dma_mem.specs.declared.call.Call.TheVariants as calls
 use Rattle.dma_script.specs.declared.transfer_line.Origin.TheVariants as origins
-use Rattle.dma_script.specs.declared.transfer_line.TransferLine.{TransferLine}
-use Rattle.dma_script.specs.declared.statements.RunScript.{RunScript}
-use Rattle.dma_script.specs.declared.statements.Statement.{Statement}
 use Rattle.dma_script.specs.declared.statements.Statement.TheVariants as statements
-use Rattle.dma_commands.specs.Printed.{transfer_fault_name, refused_line, reply_text, call_line}
-use Rattle.dma_commands.specs.Transfers.{transfer_of}
 
 -- the lines that a line of the script prints, and the view after it
 abbrev pub Answered : Type 0

@@ -1,10 +1,8 @@
 -- The transfer that a script line describes.
 use Rattle.std.specs.Prelude.{ℕ, List, Option}
-use Rattle.dma_mem.specs.declared.segment.Segment.{Segment}
-use Rattle.dma_mem.specs.Places.{Descriptor, copying, filling}
-use Rattle.dma_script.specs.declared.transfer_line.Origin.{Origin}
+use Rattle.dma_mem.specs.{declared.segment.Segment.Segment, Places.Descriptor, Places.copying, Places.filling}
+use Rattle.dma_script.specs.{declared.transfer_line.Origin.Origin, declared.transfer_line.TransferLine.TransferLine}
 use Rattle.dma_script.specs.declared.transfer_line.Origin.TheVariants as origins
-use Rattle.dma_script.specs.declared.transfer_line.TransferLine.{TransferLine}
 
 -- a copy from a list of segments, or a fill with the byte at one address
 abbrev pub transfer_from : Origin → List Segment → Option ℕ → Option ℕ → Descriptor

@@ -1,35 +1,29 @@
 -- A copy on a board.
-use Rattle.std.proofs.Common.{◌≡◌, ◌∙◌, ℕ, zero, suc, ◌+◌, ◌-◌, ◌<◌, Bool, true, false, ◌&&◌, List, length, Option, None, ap, refl, sym, subst, arith, inl, inr, true≢false}
+use Rattle.std.proofs.Common.{◌≡◌, ◌∙◌, ℕ, zero, suc, ◌+◌, ◌-◌, ◌<◌, Bool, true, false, ◌&&◌, List, length, Option, None, ap, refl, sym, subst, arith, inl, inr}
+use Rattle.std.proofs.Common.{true≢false}
 use Rattle.std.specs.Prelude.{◌==◌, if◌then◌else◌, slice_get, slice_index}
 use Rattle.std.proofs.lemmas.Bool.{and_parts, cases_Bool, eqb-false, eqb-true}
 use Rattle.std.proofs.lemmas.List.{get_or-set_other, length-set}
-use Rattle.dma_mem.specs.Regions.{Piece, image_of, pieces_of}
-use Rattle.dma_mem.specs.declared.regions.Region.{Region}
-use Rattle.dma_explain.specs.Explains.{Work}
-use Rattle.dma_explain.specs.Works.{IsWorked, Uses, work_below}
+use Rattle.dma_mem.specs.{Regions.Piece, Regions.image_of, Regions.pieces_of, declared.regions.Region.Region}
+use Rattle.dma_explain.specs.{Explains.Work, Works.IsWorked, Works.Uses, Works.work_below}
 use Rattle.dma_chan.specs.Written.{LiesIn, range_at}
 use Rattle.dma_explain.proofs.CallStays.{load_executes}
 use Rattle.dma_device.specs.Accesses.{Access, Answer, Does, Resets, Restores, Stores, Turned, Turns, Writes}
-use Rattle.dma_device.specs.Board.{ABoardCopies, BoardRunsCopy, BoardSpares, BoardStaysIn, CopiesOn, Happens, BoardEvents, RunsOn, SparesBytes, SparesThread, WritesApart, is_turn, is_turn_at, later, most_of, turns_of}
+use Rattle.dma_device.specs.Board.{ABoardCopies, BoardRunsCopy, BoardSpares, BoardStaysIn, CopiesOn, Happens, BoardEvents, RunsOn, SparesBytes, SparesThread}
+use Rattle.dma_device.specs.Board.{WritesApart, is_turn, is_turn_at, later, most_of, turns_of}
 use Rattle.dma_device.specs.Device.{DeviceValue, program_at, written}
 use Rattle.dma_device.specs.Dmago.{Go, RunsCopy, dmago_word, image_in, start_of, started_by}
-use Rattle.dma_device.specs.Faults.{TheChannel}
-use Rattle.dma_device.specs.Offsets as offset
-use Rattle.dma_device.specs.Turns.{TakesTurn, lines_differ}
-use Rattle.dma_device.specs.declared.device.turns.Turn.{Turn}
-use Rattle.dma_device.specs.declared.thread.Thread.{Thread}
-use Rattle.dma_device.proofs.Copies.{dmago_copies}
-use Rattle.dma_device.proofs.Explaining as explaining
+use Rattle.dma_device.specs.{Faults.TheChannel, Turns.TakesTurn, Turns.lines_differ, declared.device.turns.Turn.Turn, declared.thread.Thread.Thread}
 use Rattle.dma_device.proofs.Frame.{turn_leaves_others, write_leaves_threads}
-use Rattle.dma_device.proofs.History.{kept_along}
-use Rattle.dma_device.proofs.InMemory.{program_is_read}
-use Rattle.dma_device.proofs.Starts.{dmago_starts}
-use Rattle.dma_device.proofs.Writes.{turn_writes_each}
+use Rattle.dma_device.proofs.{Copies.dmago_copies, History.kept_along, InMemory.program_is_read, Starts.dmago_starts, Writes.turn_writes_each}
+use Rattle.dma_device.specs.Offsets as offset
+use Rattle.dma_device.proofs.Explaining as explaining
 
 -- ---- an access
 
 -- a turn of no steps does nothing
-rests : (e : DeviceValue) (regions : List Region) (n : ℕ) → TakesTurn e regions n 0 e regions (record { written = range_at 0 0; lines_changed = lines_differ e e; taken = 0 })
+rests : (e : DeviceValue) (regions : List Region) (n : ℕ)
+    → TakesTurn e regions n 0 e regions (record { written = range_at 0 0; lines_changed = lines_differ e e; taken = 0 })
 rests e regions n = record { is = refl; kept = record { places = refl; read_only = refl; names = refl } }
 
 turn_access : (n : ℕ) (a : Access) → is_turn n a ≡ true → a ≡ Turns n (most_of a)
@@ -47,7 +41,8 @@ own_parts h b n k on =
     (eqb-true (h.device k) b both.0, turn_access n (h.access k) both.1)
 
 -- an access that spares thread n leaves it as it is
-thread_same : (n : ℕ) (a : Access) (d e : DeviceValue) (regions left : List Region) (answer : Answer) → Does a d regions answer e left → is_turn n a ≡ false → SparesThread n a d → slice_get e.threads n ≡ slice_get d.threads n
+thread_same : (n : ℕ) (a : Access) (d e : DeviceValue) (regions left : List Region) (answer : Answer) → Does a d regions answer e left → is_turn n a ≡ false
+    → SparesThread n a d → slice_get e.threads n ≡ slice_get d.threads n
 thread_same n (Writes at value) d e regions left answer does off spares =
     ap (λ (v : DeviceValue). slice_get v.threads n) does.1 ∙ (write_leaves_threads (pieces_of regions) at value d).others (TheChannel n) spares
 thread_same n (Turns m most) d e regions left answer does off spares =
@@ -58,7 +53,8 @@ thread_same n (Restores saved) d e regions left answer does off spares =
 thread_same n a d e regions left answer does off spares = ap (λ (v : DeviceValue). slice_get v.threads n) does.1
 
 -- an access that spares a work leaves each byte that the work uses
-byte_same : (w : Work) (a : Access) (d e : DeviceValue) (regions left : List Region) (answer : Answer) (x : ℕ) → Does a d regions answer e left → SparesBytes w a answer → Uses w x → slice_index (image_in left) x ≡ slice_index (image_in regions) x
+byte_same : (w : Work) (a : Access) (d e : DeviceValue) (regions left : List Region) (answer : Answer) (x : ℕ) → Does a d regions answer e left
+    → SparesBytes w a answer → Uses w x → slice_index (image_in left) x ≡ slice_index (image_in regions) x
 byte_same w (Stores addr byte) d e regions left answer x does spares uses =
     ap (λ (bytes : List ℕ). slice_index bytes x) does.4
     ∙ get_or-set_other (image_in regions) addr x byte 0 (λ same. spares (subst (Uses w) same uses))
@@ -67,7 +63,8 @@ byte_same w (Turns m most) d e regions left answer x does spares uses =
 byte_same w a d e regions left answer x does spares uses = ap (λ (ps : List Piece). slice_index (image_of ps) x) does.2.pieces
 
 -- each access keeps the memory's size
-size_same : (a : Access) (d e : DeviceValue) (regions left : List Region) (answer : Answer) → Does a d regions answer e left → length (image_in left) ≡ length (image_in regions)
+size_same : (a : Access) (d e : DeviceValue) (regions left : List Region) (answer : Answer) → Does a d regions answer e left
+    → length (image_in left) ≡ length (image_in regions)
 size_same (Stores addr byte) d e regions left answer does = ap length does.4 ∙ length-set (image_in regions) addr byte
 size_same (Turns m most) d e regions left answer does = (turn_writes_each d regions m most e left does.0 does.1.1).no_other.size
 size_same a d e regions left answer does = ap (λ (ps : List Piece). length (image_of ps)) does.2.pieces
@@ -117,11 +114,13 @@ module _ (go : Go) (w : Work) (n b : ℕ) (h : BoardEvents) (c : RunsOn go w n b
       (does.0, does.1.1)
 
   -- any other event leaves the thread as it is
-  thread_kept : (k : ℕ) → 0 < k → k < h.count → is_own k ≡ false → slice_get (h.before (k + 1) b).threads go.channel ≡ slice_get (h.before k b).threads go.channel
+  thread_kept : (k : ℕ) → 0 < k → k < h.count → is_own k ≡ false
+      → slice_get (h.before (k + 1) b).threads go.channel ≡ slice_get (h.before k b).threads go.channel
   thread_kept k past less off = elim (cases_Bool (h.device k == b)) [
     | inl own ↦
         let there = eqb-true (h.device k) b own in
-        thread_same go.channel (h.access k) (h.before k b) (h.before (k + 1) b) (h.lent k) (h.left k) (h.answer k) (does_at k less there) (not_both (h.device k == b) (is_turn go.channel (h.access k)) own off) (c.thread k past less there)
+        thread_same go.channel (h.access k) (h.before k b) (h.before (k + 1) b) (h.lent k) (h.left k) (h.answer k) (does_at k less there)
+        (not_both (h.device k == b) (is_turn go.channel (h.access k)) own off) (c.thread k past less there)
     | inr other ↦
         ap (λ (v : DeviceValue). slice_get v.threads go.channel) (c.happens.others k b less (λ same. eqb-false (h.device k) b other (sym same)))
   ]
@@ -155,7 +154,14 @@ module _ (go : Go) (w : Work) (n b : ℕ) (h : BoardEvents) (c : RunsOn go w n b
   copy_begins : HasCopy 1
   copy_begins =
       let is = ap (λ (v : DeviceValue). slice_get v.threads go.channel) starts ∙ dmago_starts go c.may_go in
-      subst InCopy (sym is) (inr (start_of go, go.program, n, c.explains, load_executes (start_of go) go.program n _ (record { bytes = program_at go.ram go.addr; cost = None }, program_is_read go.ram go.addr go.program c.in_ram, refl)))
+      subst InCopy (sym is) (inr (
+        start_of go,
+        go.program,
+        n,
+        c.explains,
+        load_executes (start_of go) go.program n _
+            (record { bytes = program_at go.ram go.addr; cost = None }, program_is_read go.ram go.addr go.program c.in_ram, refl),
+      ))
 
   copy_kept : (k : ℕ) → 0 < k → k < h.count → HasCopy k → HasCopy (k + 1)
   copy_kept k past less g = elim (cases_Bool (is_own k)) [
@@ -181,10 +187,12 @@ board_stays_in go w n b h (suc k) most turn c less own is reply =
     (subst (TakesTurn d (h.lent (suc k)) go.channel most e (h.left (suc k))) same does.1.1)
 
 -- a turn spares a work
-spares_turn : (w : Work) (a : Access) (answer : Answer) (n most : ℕ) → a ≡ Turns n most → ((turn : Turn) (x : ℕ) → answer ≡ Turned turn → Uses w x → ¬ LiesIn turn.written x) → SparesBytes w a answer
+spares_turn : (w : Work) (a : Access) (answer : Answer) (n most : ℕ) → a ≡ Turns n most
+    → ((turn : Turn) (x : ℕ) → answer ≡ Turned turn → Uses w x → ¬ LiesIn turn.written x) → SparesBytes w a answer
 spares_turn w a answer n most is spares = subst (λ (t : Access). SparesBytes w t answer) (sym is) spares
 
-pub spares_here : (go : Go) (v w : Work) (n b : ℕ) (h : BoardEvents) → RunsOn go v n b h → WritesApart v w → (k : ℕ) → k < h.count → is_turn_at h b go.channel k ≡ true → SparesBytes w (h.access k) (h.answer k)
+pub spares_here : (go : Go) (v w : Work) (n b : ℕ) (h : BoardEvents) → RunsOn go v n b h → WritesApart v w → (k : ℕ) → k < h.count
+    → is_turn_at h b go.channel k ≡ true → SparesBytes w (h.access k) (h.answer k)
 spares_here go v w n b h c apart k less on =
     let both = own_parts h b go.channel k on in
     spares_turn w (h.access k) (h.answer k) go.channel (most_of (h.access k)) both.1
@@ -217,7 +225,9 @@ module _ (go : Go) (w : Work) (n b : ℕ) (h : BoardEvents) (c : CopiesOn go w n
 
   -- turn number k, if this is whether event k is the channel's
   abbrev Taken : ℕ → Bool → Type 0
-  Taken k own = (turn : Turn) × TakesTurn (if own then h.before k b else h.before (k + 1) b) (if own then h.lent k else h.left k) go.channel (if own then most_of (h.access k) else 0) (h.before (k + 1) b) (h.left k) turn
+  Taken k own = (turn : Turn)
+      × TakesTurn (if own then h.before k b else h.before (k + 1) b) (if own then h.lent k else h.left k) go.channel (if own then most_of (h.access k) else 0)
+      (h.before (k + 1) b) (h.left k) turn
 
   taken : (k : ℕ) → k < h.count → Taken k (is_turn_now k)
   taken k less = elim (cases_Bool (is_turn_now k)) [

@@ -1,28 +1,18 @@
 -- A call does nothing, or it takes steps; a turn has two calls.
 use Rattle.std.proofs.Common.{◌≡◌, ◌∙◌, ◌⊎◌, ℕ, ◌+◌, ◌^◌, ◌<◌, Bool, true, false, List, [], Option, Some, None, ap, refl, sym, subst, inl, inr, true≢false}
-use Rattle.std.specs.Prelude.{if◌then◌else◌, nat_lt, slice_get}
-use Rattle.std.specs.Option.{option_map_or}
+use Rattle.std.specs.{Prelude.if◌then◌else◌, Prelude.nat_lt, Prelude.slice_get, Option.option_map_or}
 use Rattle.std.proofs.lemmas.Bool.{and_parts}
-use Rattle.dma_mem.specs.Flags.{flags_of}
-use Rattle.dma_mem.specs.Marking.{MarkList}
 use Rattle.dma_mem.specs.Regions.{image_of, pieces_of}
-use Rattle.dma_mem.specs.declared.regions.Region.{Region}
-use Rattle.dma_mem.specs.declared.segment.Segment.{Segment}
-use Rattle.dma_chan.specs.Channel.{ChannelValue}
-use Rattle.dma_chan.specs.LentRegions.{AreKept, with_gaps_of}
+use Rattle.dma_mem.specs.{Flags.flags_of, Marking.MarkList, declared.regions.Region.Region, declared.segment.Segment.Segment}
 use Rattle.dma_chan.specs.Stepping.{Machine, TakesSteps, machine, signal_after, written_after}
 use Rattle.dma_chan.specs.Written.{adjoins, joined, range_at, store_ahead}
-use Rattle.dma_chan.specs.declared.lent.Taken.{Taken}
-use Rattle.dma_chan.specs.declared.turn.ChanTurn.{ChanTurn}
+use Rattle.dma_chan.specs.{Channel.ChannelValue, LentRegions.AreKept, LentRegions.with_gaps_of, declared.lent.Taken.Taken, declared.turn.ChanTurn.ChanTurn}
 use Rattle.dma_device.specs.CallSteps.{StepsThread, first_in, last_in, machine_after, marks_in, second_in, signal_in}
-use Rattle.dma_device.specs.Device.{DeviceValue, with_thread}
-use Rattle.dma_device.specs.Thread.{answered, runs}
-use Rattle.dma_device.specs.Turns.{Outcome, Setup, TakesTurn, begins, called, called_if, follows, idle, is_beside, lines_differ, machine_in, outcome_of, raises, runs_at, setup_of, stepped, steps_in, visible_events, with_flags}
-use Rattle.dma_device.specs.declared.device.turns.Called.{Called}
-use Rattle.dma_device.specs.declared.device.turns.Turn.{Turn}
-use Rattle.dma_device.specs.declared.thread.Thread.{Thread}
-use Rattle.dma_device.proofs.FlagNumber.{number_is}
-use Rattle.dma_device.proofs.InOrder.{marks_kept}
+use Rattle.dma_device.specs.Turns.{Outcome, Setup, TakesTurn, begins, called, called_if, follows, idle, is_beside, lines_differ, machine_in, outcome_of, raises}
+use Rattle.dma_device.specs.Turns.{runs_at, setup_of, stepped, steps_in, visible_events, with_flags}
+use Rattle.dma_device.specs.{Device.DeviceValue, Device.with_thread, Thread.answered, Thread.runs, declared.device.turns.Called.Called}
+use Rattle.dma_device.specs.{declared.device.turns.Turn.Turn, declared.thread.Thread.Thread}
+use Rattle.dma_device.proofs.{FlagNumber.number_is, InOrder.marks_kept}
 
 -- ---- a call
 
@@ -45,7 +35,8 @@ pub record Rests (made : Bool) (marks : MarkList) (n most : ℕ) (s : Setup) : T
   pub off : ¬ StepsThread made n s
   pub is : called_if made marks n most s ≡ idle s
 
-by_thread : (marks : MarkList) (n most : ℕ) (s : Setup) (o : Option Thread) → slice_get s.device.threads n ≡ o → Rests true marks n most s ⊎ StepsThread true n s
+by_thread : (marks : MarkList) (n most : ℕ) (s : Setup) (o : Option Thread) → slice_get s.device.threads n ≡ o → Rests true marks n most s
+    ⊎ StepsThread true n s
 by_thread marks n most s None found = inl (record {
   off = λ x. (let bad = sym found ∙ x.found in cc);
   is = ap (λ (o : Option Thread). called marks n most o s) found;
@@ -56,7 +47,8 @@ pub call_is : (made : Bool) (marks : MarkList) (n most : ℕ) (s : Setup) → Re
 call_is true marks n most s = by_thread marks n most s (slice_get s.device.threads n) refl
 call_is false marks n most s = inl (record { off = λ x. true≢false (sym x.on); is = refl })
 
-pub call_acts : {made : Bool} {n : ℕ} {s : Setup} (marks : MarkList) (most : ℕ) (x : StepsThread made n s) → called_if made marks n most s ≡ stepped marks n most x.thread s
+pub call_acts : {made : Bool} {n : ℕ} {s : Setup} (marks : MarkList) (most : ℕ) (x : StepsThread made n s)
+    → called_if made marks n most s ≡ stepped marks n most x.thread s
 call_acts {n = n} {s = s} marks most x =
     ap (λ (b : Bool). if b then called marks n most (slice_get s.device.threads n) s else idle s) x.on
     ∙ ap (λ (o : Option Thread). called marks n most o s) x.found
@@ -68,7 +60,8 @@ acts_alike P n made s x y p =
     subst P same p
 
 -- what its steps keep, a call keeps
-pub call_keeps : (P : DeviceValue → Type 0) (made : Bool) (marks : MarkList) (n most : ℕ) (s : Setup) → P s.device → ((x : StepsThread made n s) → P (stepped marks n most x.thread s).left.device) → P (called_if made marks n most s).left.device
+pub call_keeps : (P : DeviceValue → Type 0) (made : Bool) (marks : MarkList) (n most : ℕ) (s : Setup) → P s.device
+    → ((x : StepsThread made n s) → P (stepped marks n most x.thread s).left.device) → P (called_if made marks n most s).left.device
 call_keeps P made marks n most s h steps = elim (call_is made marks n most s) [
   | inl rests ↦ subst (λ (o : Outcome). P o.left.device) (sym rests.is) h
   | inr acts ↦ subst (λ (o : Outcome). P o.left.device) (sym (call_acts marks most acts)) (steps acts)
@@ -82,16 +75,32 @@ pub if_inten : (made : Bool) (marks : MarkList) (n most : ℕ) (s : Setup) → (
 if_inten made marks n most s = call_keeps (λ (d : DeviceValue). d.inten ≡ s.device.inten) made marks n most s refl (λ _. refl)
 
 -- what a call of a thread takes
-pub takes : (marks : MarkList) (most : ℕ) (t : Thread) (s : Setup) → TakesSteps marks (machine_in s t) most (steps_in marks most t s) (last_in marks most t s) (machine_left marks most t s)
+pub takes : (marks : MarkList) (most : ℕ) (t : Thread) (s : Setup)
+    → TakesSteps marks (machine_in s t) most (steps_in marks most t s) (last_in marks most t s) (machine_left marks most t s)
 takes marks most t s = record { count = refl; answer = refl; ends_at = refl }
 
 -- a call has the outcome that its steps have
-pub stepped_is : (marks : MarkList) (n most : ℕ) (t : Thread) (s : Setup) (channel : ChannelValue) (image : List ℕ) (flags taken : ℕ) (last : Option ChanTurn) (sent : Option ℕ) (range : Segment) → flags < 2 ^ 32 → TakesSteps marks (machine_in s t) most taken last (machine channel image (flags_of flags)) → sent ≡ signal_after marks (machine_in s t) taken → range ≡ written_after marks (machine_in s t) taken → let after = answered s.device.config.events (record t { channel = channel }) last sent in stepped marks n most t s ≡ record { left = record { device = with_thread n after (with_flags flags s.device); image = image }; called = record { written = range; signal = sent; taken = taken } }
+pub stepped_is : (marks : MarkList) (n most : ℕ) (t : Thread) (s : Setup) (channel : ChannelValue) (image : List ℕ) (flags taken : ℕ) (last : Option ChanTurn)
+    (sent : Option ℕ) (range : Segment) → flags < 2 ^ 32 → TakesSteps marks (machine_in s t) most taken last (machine channel image (flags_of flags))
+    → sent ≡ signal_after marks (machine_in s t) taken → range ≡ written_after marks (machine_in s t) taken → let after =
+    answered s.device.config.events (record t { channel = channel }) last sent in
+    stepped marks n most t s ≡ record {
+      left = record { device = with_thread n after (with_flags flags s.device); image = image };
+      called =
+          record { written = range; signal = sent; taken = taken };
+    }
 stepped_is marks n most t s channel image flags taken last sent range few x signal written =
     simp (sym x.count, sym x.ends_at, sym x.answer, sym signal, sym written, number_is flags few)
 
 -- and so it has over regions
-pub called_is : (d e : DeviceValue) (regions left : List Region) (n most : ℕ) (t : Thread) (none : MarkList) (events after : List Bool) (channel : ChannelValue) (flags : ℕ) (taken : Taken) → slice_get d.threads n ≡ Some t → none ≡ [] → events ≡ flags_of (visible_events d) → flags_of flags ≡ after → flags < 2 ^ 32 → let from = machine t.channel (image_of (pieces_of regions)) events in TakesSteps (with_gaps_of regions none) from most taken.count taken.last (machine channel (image_of (pieces_of left)) after) → taken.signal ≡ signal_after (with_gaps_of regions none) from taken.count → taken.written ≡ written_after (with_gaps_of regions none) from taken.count → e ≡ with_thread n (answered d.config.events (record t { channel = channel }) taken.last taken.signal) (with_flags flags d) → called (with_gaps_of regions []) n most (slice_get d.threads n) (setup_of d regions) ≡ outcome_of e left (record { written = taken.written; signal = taken.signal; taken = taken.count })
+pub called_is : (d e : DeviceValue) (regions left : List Region) (n most : ℕ) (t : Thread) (none : MarkList) (events after : List Bool) (channel : ChannelValue)
+    (flags : ℕ) (taken : Taken) → slice_get d.threads n ≡ Some t → none ≡ [] → events ≡ flags_of (visible_events d) → flags_of flags ≡ after → flags < 2 ^ 32
+    → let from = machine t.channel (image_of (pieces_of regions)) events in
+    TakesSteps (with_gaps_of regions none) from most taken.count taken.last (machine channel (image_of (pieces_of left)) after)
+    → taken.signal ≡ signal_after (with_gaps_of regions none) from taken.count → taken.written ≡ written_after (with_gaps_of regions none) from taken.count
+    → e ≡ with_thread n (answered d.config.events (record t { channel = channel }) taken.last taken.signal) (with_flags flags d)
+    → called (with_gaps_of regions []) n most (slice_get d.threads n) (setup_of d regions) ≡ outcome_of e left
+    (record { written = taken.written; signal = taken.signal; taken = taken.count })
 called_is d e regions left n most t none events after channel flags taken found unmarked seen bits few steps signal written device =
     let marks = with_gaps_of regions [] in
     let s = setup_of d regions in
@@ -122,7 +131,11 @@ follows_runs d n first on =
     beside_runs first.written (slice_get d.threads n) (and_parts (raises d first.signal) (is_beside first.written (slice_get d.threads n)) on).1
 
 -- a turn has the outcome of its two calls
-pub turn_is : (d m e : DeviceValue) (regions lent left : List Region) (n most : ℕ) (first second : Called) (range : Segment) (changed : Bool) (taken : ℕ) → called_if (begins d n most) (with_gaps_of regions []) n most (setup_of d regions) ≡ outcome_of m lent first → AreKept lent regions → called_if (follows m n first) (with_gaps_of lent []) n 1 (setup_of m lent) ≡ outcome_of e left second → AreKept left lent → range ≡ joined first.written second.written → changed ≡ lines_differ d e → taken ≡ first.taken + second.taken → TakesTurn d regions n most e left (record { written = range; lines_changed = changed; taken = taken })
+pub turn_is : (d m e : DeviceValue) (regions lent left : List Region) (n most : ℕ) (first second : Called) (range : Segment) (changed : Bool) (taken : ℕ)
+    → called_if (begins d n most) (with_gaps_of regions []) n most (setup_of d regions) ≡ outcome_of m lent first → AreKept lent regions
+    → called_if (follows m n first) (with_gaps_of lent []) n 1 (setup_of m lent) ≡ outcome_of e left second → AreKept left lent
+    → range ≡ joined first.written second.written → changed ≡ lines_differ d e → taken ≡ first.taken + second.taken
+    → TakesTurn d regions n most e left (record { written = range; lines_changed = changed; taken = taken })
 turn_is d m e regions lent left n most first second range changed taken one kept two rest written lines steps =
     let later = rw (marks_kept regions lent kept.places kept.read_only) at two in
     record {
@@ -150,7 +163,9 @@ module _ {d e : DeviceValue} {regions left : List Region} {n most : ℕ} {turn :
   turn_taken = ap (λ (p : Setup × Turn). p.1.taken) x.is
 
   -- what each of its calls keeps, the turn keeps
-  pub turn_keeps : (P : DeviceValue → Type 0) → ((made : Bool) (marks : MarkList) (most : ℕ) (s : Setup) → P s.device → P (called_if made marks n most s).left.device) → P d → P e
+  pub turn_keeps : (P : DeviceValue → Type 0)
+      → ((made : Bool) (marks : MarkList) (most : ℕ) (s : Setup) → P s.device → P (called_if made marks n most s).left.device) → P d → P e
   turn_keeps P keeps h =
       let first = first_in d regions n most in
-      subst P turn_device (keeps (follows first.left.device n first.called) (marks_in regions) 1 first.left (keeps (begins d n most) (marks_in regions) most (setup_of d regions) h))
+      subst P turn_device (keeps (follows first.left.device n first.called) (marks_in regions) 1 first.left
+      (keeps (begins d n most) (marks_in regions) most (setup_of d regions) h))

@@ -1,15 +1,14 @@
 -- What the debug instruction, a DMAGO and a write of a register leave, case by case.
 use Rattle.std.proofs.Common.{◌≡◌, ◌≢◌, ℕ, ◌+◌, ◌/◌, Bool, true, false, ◌&&◌, List, Option, Some, None, refl, bit_and, w32, arith}
-use Rattle.std.specs.Prelude.{◌==◌, if◌then◌else◌, not, slice_get}
-use Rattle.std.specs.Int.{bit_not}
+use Rattle.std.specs.{Prelude.◌==◌, Prelude.if◌then◌else◌, Prelude.not, Prelude.slice_get, Int.bit_not}
 use Rattle.std.proofs.lemmas.Bool.{cond_both, eqb-false, eqb-true}
 use Rattle.dma_insn.specs.ControlWord.{field}
 use Rattle.dma_mem.specs.Regions.{Piece}
-use Rattle.dma_device.specs.Offsets as offset
-use Rattle.dma_device.specs.declared.device.Manager.{Manager}
-use Rattle.dma_device.specs.declared.thread.Thread.{Thread}
-use Rattle.dma_device.specs.Device.{DeviceValue, all_events, by_manager, by_thread, debugged, go, is_event, manager_failed, program_at, signalled, with_thread, written}
+use Rattle.dma_device.specs.Device.{DeviceValue, all_events, by_manager, by_thread, debugged, go, is_event, manager_failed, program_at, signalled, with_thread}
+use Rattle.dma_device.specs.Device.{written}
 use Rattle.dma_device.specs.Thread.{dbg_instr, dmago_err, failed, is_faulting, is_stopped, killed, operand_invalid, started, undef_instr}
+use Rattle.dma_device.specs.{declared.device.Manager.Manager, declared.thread.Thread.Thread}
+use Rattle.dma_device.specs.Offsets as offset
 
 module _ (P : DeviceValue → Type 0) where
   pub branch : (b : Bool) (x y : DeviceValue) → (b ≡ true → P x) → (b ≡ false → P y) → P (if b then x else y)
@@ -20,7 +19,8 @@ module _ (P : DeviceValue → Type 0) where
     pub kill : (opcode == 0x01) ≡ true → P (with_thread n (killed t) d)
     pub faulting : (opcode == 0x01) ≡ false → is_faulting t ≡ true → P d
     pub sev : (opcode == 0x01) ≡ false → is_faulting t ≡ false → (opcode == 0x34) ≡ true → is_event d byte ≡ true → P (signalled (byte / 8) d)
-    pub no_event : (opcode == 0x01) ≡ false → is_faulting t ≡ false → (opcode == 0x34) ≡ true → is_event d byte ≡ false → P (with_thread n (failed (operand_invalid + dbg_instr) t) d)
+    pub no_event : (opcode == 0x01) ≡ false → is_faulting t ≡ false → (opcode == 0x34) ≡ true → is_event d byte ≡ false
+        → P (with_thread n (failed (operand_invalid + dbg_instr) t) d)
     pub undefined : (opcode == 0x01) ≡ false → is_faulting t ≡ false → (opcode == 0x34) ≡ false → P (with_thread n (failed (undef_instr + dbg_instr) t) d)
 
   pub thread_cases : (n : ℕ) (t : Thread) (opcode byte : ℕ) (d : DeviceValue) → ThreadCases n t opcode byte d → P (by_thread n (Some t) opcode byte d)
@@ -29,7 +29,8 @@ module _ (P : DeviceValue → Type 0) where
   -- after a DMAGO of a thread that is there
   pub record GoCases (ram : List Piece) (nonsecure : Bool) (n : ℕ) (t : Thread) (d : DeviceValue) : Type 0 where
     pub refused : (d.config.nonsecure && not nonsecure) ≡ true → P (manager_failed dmago_err d)
-    pub starts : (d.config.nonsecure && not nonsecure) ≡ false → is_stopped t ≡ true → P (with_thread n (started nonsecure d.dbginst1 (program_at ram d.dbginst1) t) d)
+    pub starts : (d.config.nonsecure && not nonsecure) ≡ false → is_stopped t ≡ true
+        → P (with_thread n (started nonsecure d.dbginst1 (program_at ram d.dbginst1) t) d)
     pub busy : (d.config.nonsecure && not nonsecure) ≡ false → is_stopped t ≡ false → P d
 
   pub go_cases : (ram : List Piece) (nonsecure : Bool) (n : ℕ) (t : Thread) (d : DeviceValue) → GoCases ram nonsecure n t d → P (go ram nonsecure n (Some t) d)
@@ -40,10 +41,14 @@ module _ (P : DeviceValue → Type 0) where
     pub kill : (opcode == 0x01) ≡ true → P (record d { manager = record (d.manager) { is_faulting = false } })
     pub faulting : (opcode == 0x01) ≡ false → d.manager.is_faulting ≡ true → P d
     pub sev : (opcode == 0x01) ≡ false → d.manager.is_faulting ≡ false → (opcode == 0x34) ≡ true → is_event d byte ≡ true → P (signalled (byte / 8) d)
-    pub no_event : (opcode == 0x01) ≡ false → d.manager.is_faulting ≡ false → (opcode == 0x34) ≡ true → is_event d byte ≡ false → P (manager_failed operand_invalid d)
-    pub secure : (opcode == 0x01) ≡ false → d.manager.is_faulting ≡ false → (opcode == 0x34) ≡ false → (opcode == 0xA0) ≡ true → P (go ram false byte (slice_get d.threads byte) d)
-    pub nonsecure : (opcode == 0x01) ≡ false → d.manager.is_faulting ≡ false → (opcode == 0x34) ≡ false → (opcode == 0xA0) ≡ false → (opcode == 0xA2) ≡ true → P (go ram true byte (slice_get d.threads byte) d)
-    pub undefined : (opcode == 0x01) ≡ false → d.manager.is_faulting ≡ false → (opcode == 0x34) ≡ false → (opcode == 0xA0) ≡ false → (opcode == 0xA2) ≡ false → P (manager_failed undef_instr d)
+    pub no_event : (opcode == 0x01) ≡ false → d.manager.is_faulting ≡ false → (opcode == 0x34) ≡ true → is_event d byte ≡ false
+        → P (manager_failed operand_invalid d)
+    pub secure : (opcode == 0x01) ≡ false → d.manager.is_faulting ≡ false → (opcode == 0x34) ≡ false → (opcode == 0xA0) ≡ true
+        → P (go ram false byte (slice_get d.threads byte) d)
+    pub nonsecure : (opcode == 0x01) ≡ false → d.manager.is_faulting ≡ false → (opcode == 0x34) ≡ false → (opcode == 0xA0) ≡ false → (opcode == 0xA2) ≡ true
+        → P (go ram true byte (slice_get d.threads byte) d)
+    pub undefined : (opcode == 0x01) ≡ false → d.manager.is_faulting ≡ false → (opcode == 0x34) ≡ false → (opcode == 0xA0) ≡ false → (opcode == 0xA2) ≡ false
+        → P (manager_failed undef_instr d)
 
   pub manager_cases : (ram : List Piece) (opcode byte : ℕ) (d : DeviceValue) → ManagerCases ram opcode byte d → P (by_manager ram opcode byte d)
   manager_cases ram opcode byte d x = grind arith
@@ -54,8 +59,10 @@ module _ (P : DeviceValue → Type 0) where
     pub manager : field 0 1 d.dbginst0 ≢ 1 → (m : Manager) → P (record d { manager = m })
     pub sev : (byte : ℕ) → is_event d byte ≡ true → P (signalled (byte / 8) d)
     pub kills : (t : Thread) → let n = field 8 3 d.dbginst0 in field 0 1 d.dbginst0 ≡ 1 → slice_get d.threads n ≡ Some t → P (with_thread n (killed t) d)
-    pub fails : (why : ℕ) (t : Thread) → let n = field 8 3 d.dbginst0 in field 0 1 d.dbginst0 ≡ 1 → slice_get d.threads n ≡ Some t → P (with_thread n (failed why t) d)
-    pub starts : (n : ℕ) (t : Thread) (nonsecure : Bool) → is_stopped t ≡ true → slice_get d.threads n ≡ Some t → P (with_thread n (started nonsecure d.dbginst1 (program_at ram d.dbginst1) t) d)
+    pub fails : (why : ℕ) (t : Thread) → let n = field 8 3 d.dbginst0 in field 0 1 d.dbginst0 ≡ 1 → slice_get d.threads n ≡ Some t
+        → P (with_thread n (failed why t) d)
+    pub starts : (n : ℕ) (t : Thread) (nonsecure : Bool) → is_stopped t ≡ true → slice_get d.threads n ≡ Some t
+        → P (with_thread n (started nonsecure d.dbginst1 (program_at ram d.dbginst1) t) d)
 
   pub debug_cases : (ram : List Piece) (d : DeviceValue) → DebugCases ram d → P (debugged ram d)
   debug_cases ram d x =
@@ -68,7 +75,8 @@ module _ (P : DeviceValue → Type 0) where
       byte : ℕ
       byte = field 24 8 d.dbginst0
 
-      threads : field 0 1 d.dbginst0 ≡ 1 → (o : Option Thread) → slice_get d.threads (field 8 3 d.dbginst0) ≡ o → P (by_thread (field 8 3 d.dbginst0) o opcode byte d)
+      threads : field 0 1 d.dbginst0 ≡ 1 → (o : Option Thread) → slice_get d.threads (field 8 3 d.dbginst0) ≡ o
+          → P (by_thread (field 8 3 d.dbginst0) o opcode byte d)
       threads on None is = x.same
       threads on (Some t) is = thread_cases (field 8 3 d.dbginst0) t opcode byte d (record {
         kill = λ _. x.kills t on is;
@@ -81,7 +89,8 @@ module _ (P : DeviceValue → Type 0) where
       goes : field 0 1 d.dbginst0 ≢ 1 → (nonsecure : Bool) (o : Option Thread) → slice_get d.threads byte ≡ o → P (go ram nonsecure byte o d)
       goes off nonsecure None is = x.manager off _
       goes off nonsecure (Some t) is =
-          go_cases ram nonsecure byte t d (record { refused = λ _. x.manager off _; starts = λ _ stopped. x.starts byte t nonsecure stopped is; busy = λ _ _. x.same })
+          go_cases ram nonsecure byte t d
+          (record { refused = λ _. x.manager off _; starts = λ _ stopped. x.starts byte t nonsecure stopped is; busy = λ _ _. x.same })
 
       managed : field 0 1 d.dbginst0 ≢ 1 → P (by_manager ram opcode byte d)
       managed off = manager_cases ram opcode byte d (record {

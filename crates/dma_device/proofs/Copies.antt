@@ -1,45 +1,29 @@
 -- What a program that a DMAGO starts copies.
-use Rattle.std.proofs.Common.{◌≡◌, ◌≢◌, ◌∙◌, ◌⊎◌, ℕ, suc, ◌<◌, ◌≤◌, true, false, List, [], length, Some, ap, refl, sym, subst, arith, inl, inr, true≢false, zero, Option}
+use Rattle.std.proofs.Common.{◌≡◌, ◌≢◌, ◌∙◌, ◌⊎◌, ℕ, suc, ◌<◌, ◌≤◌, true, false, List, [], length, Some, ap, refl, sym, subst, arith, inl, inr, true≢false}
+use Rattle.std.proofs.Common.{zero, Option}
 use Rattle.std.specs.Prelude.{nat_lt}
-use Rattle.std.proofs.lemmas.List.Elements.{Contains-append_left, Contains-append_right}
-use Rattle.std.proofs.lemmas.Bool.{and_parts, cases_eq}
-use borrow.Author.Tests.{ltb-true}
-use Rattle.dma_mem.specs.Marking.{MarkList}
-use Rattle.dma_mem.specs.Places.{destinations, size_of}
-use Rattle.dma_mem.specs.declared.regions.Region.{Region}
+use Rattle.std.proofs.{lemmas.List.Elements.Contains-append_left, lemmas.List.Elements.Contains-append_right, lemmas.Bool.and_parts, lemmas.Bool.cases_eq}
+use Rattle.dma_mem.specs.{Marking.MarkList, Places.destinations, Places.size_of, declared.regions.Region.Region}
 use Rattle.dma_mem.proofs.OverTransfers.{Contains_take}
 use Rattle.dma_explain.specs.Explains.{IsAtLeast, IsSignal, IsWait, Work, all_of, amounts_of, cleared, traced, Explains}
-use Rattle.dma_explain.specs.Works.{IsWorked, MissesAll}
-use Rattle.dma_explain.specs.declared.explain.Amounts.{Amounts}
-use Rattle.dma_chan.specs.Channel.{ChannelValue, ahead_of}
-use Rattle.dma_explain.proofs.CallsAmongOthers.{call_answers, call_fails, call_waits, done_at, signalled, Runs, many, moved_on}
-use Rattle.dma_explain.proofs.SinceLoads.{IsPart, part_first, runs_so, worked_part}
-use Rattle.dma_explain.proofs.RegionsHave.{gaps_miss}
-use Rattle.dma_device.specs.CallSteps.{first_in, marks_in}
-use Rattle.dma_device.specs.Copies.{AreDone, DmagoCopies, DmagoInterrupts, DmagoNeverFails, HasRisen, IsFit}
-use Rattle.dma_device.specs.Device.{DeviceValue, irqs}
-use Rattle.dma_device.specs.Dmago.{Go, RunsCopy, GivenTurns, csr_status, image_in, start_of}
-use Rattle.dma_device.specs.Interrupts.{HasLine, IsHigh}
-use Rattle.dma_device.specs.Thread.{is_faulting}
-use Rattle.dma_device.specs.Turns.{TakesTurn, begins, runs_at, setup_of}
-use Rattle.dma_device.specs.declared.config.Config.{Config}
-use Rattle.dma_device.specs.declared.device.turns.Called.{Called}
-use Rattle.dma_device.specs.declared.device.turns.Turn.{Turn}
-use Rattle.dma_device.specs.declared.thread.Thread.{Thread}
-use Rattle.dma_chan.specs.declared.exec.Registers.{Registers}
-use Rattle.dma_chan.specs.Exec.{ChangesNothing}
+use Rattle.dma_explain.specs.{Works.IsWorked, Works.MissesAll, declared.explain.Amounts.Amounts}
 use Rattle.dma_chan.specs.Stepping.{Machine, TakesSteps, machine, after_step, after_steps, answer_at, goes_on_after}
-use Rattle.dma_chan.specs.declared.turn.ChanTurn.{ChanTurn}
-use Rattle.dma_chan.specs.declared.turn.ChanTurn.TheVariants.{Moved, Ended}
-use Rattle.dma_explain.proofs.AmongOthers.{Among, Fits}
-use Rattle.dma_explain.proofs.SinceLoads.{done_grows}
-use Rattle.dma_chan.proofs.StepsTaken.{steps_move}
-use Rattle.dma_chan.proofs.SteppedOver.{is_still, was_moved, went_before}
-use Rattle.dma_device.proofs.Answered.{answer_fine}
-use Rattle.dma_device.proofs.Calls.{if_config, nothing}
-use Rattle.dma_device.proofs.Driven.{After, Before, Call, Copying, Going, Has, Steps, after_steps_of, after_turn, along, at_answer, channel_after, copying, count_in, from, last_answer, new, one_of, result_of, sent_by, sets, steps_of, to, two_of}
+use Rattle.dma_chan.specs.{Channel.ChannelValue, Channel.ahead_of, declared.exec.Registers.Registers, Exec.ChangesNothing, declared.turn.ChanTurn.ChanTurn}
+use Rattle.dma_chan.specs.{declared.turn.ChanTurn.TheVariants.Moved, declared.turn.ChanTurn.TheVariants.Ended}
+use Rattle.dma_explain.proofs.CallsAmongOthers.{call_answers, call_fails, call_waits, done_at, signalled, Runs, many, moved_on}
+use Rattle.dma_explain.proofs.SinceLoads.{IsPart, part_first, runs_so, worked_part, done_grows}
+use Rattle.dma_explain.proofs.{RegionsHave.gaps_miss, AmongOthers.Among, AmongOthers.Fits}
+use Rattle.dma_device.specs.Copies.{AreDone, DmagoCopies, DmagoInterrupts, DmagoNeverFails, HasRisen, IsFit}
+use Rattle.dma_device.specs.Dmago.{Go, RunsCopy, GivenTurns, csr_status, image_in, start_of}
+use Rattle.dma_device.specs.Turns.{TakesTurn, begins, runs_at, setup_of}
+use Rattle.dma_device.specs.{CallSteps.first_in, CallSteps.marks_in, Device.DeviceValue, Device.irqs, Interrupts.HasLine, Interrupts.IsHigh, Thread.is_faulting}
+use Rattle.dma_device.specs.{declared.config.Config.Config, declared.device.turns.Called.Called, declared.device.turns.Turn.Turn, declared.thread.Thread.Thread}
+use Rattle.dma_chan.proofs.{StepsTaken.steps_move, SteppedOver.is_still, SteppedOver.was_moved, SteppedOver.went_before}
+use Rattle.dma_device.proofs.Driven.{After, Before, Call, Copying, Going, Has, Steps, after_steps_of, after_turn, along, at_answer, channel_after, copying}
+use Rattle.dma_device.proofs.Driven.{count_in, from, last_answer, new, one_of, result_of, sent_by, sets, steps_of, to, two_of}
 use Rattle.dma_device.proofs.Starts.{reads_fine, reads_stopped, stopped_fine}
-use Rattle.dma_device.proofs.Interrupts.{turn_raises}
+use Rattle.dma_device.proofs.{Answered.answer_fine, Calls.if_config, Calls.nothing, Interrupts.turn_raises}
+use borrow.Author.Tests.{ltb-true}
 
 -- ---- a program does no less as it goes on
 
@@ -52,11 +36,14 @@ later start program least k m l w =
     let g = done_grows start program k m l in
     record { copied = omega (arith, w.copied, g.copied); cleared = omega (arith, w.cleared, g.cleared) }
 
-module _ (start : Registers) (program : List ℕ) (work : Work) (count : ℕ) (marks : MarkList) (first : List ℕ) (h : Explains start program work count) (low : Fits work (length first)) where
-  moved_later : (n : ℕ) (u : Machine) → Among start program work count first n u.image u.channel → answer_at marks u ≡ Moved → u.channel.taken ≤ (after_step marks u).channel.taken
+module _ (start : Registers) (program : List ℕ) (work : Work) (count : ℕ) (marks : MarkList) (first : List ℕ) (h : Explains start program work count)
+    (low : Fits work (length first)) where
+  moved_later : (n : ℕ) (u : Machine) → Among start program work count first n u.image u.channel → answer_at marks u ≡ Moved
+      → u.channel.taken ≤ (after_step marks u).channel.taken
   moved_later n u w moved = let next = moved_on start program work count marks first h low n u w moved in omega (arith, w.taken, next.taken)
 
-  pub many_later : (j : ℕ) (s : Machine) → Runs start program work count first s → ((k : ℕ) → k < suc j → goes_on_after marks s k ≡ true) → s.channel.taken ≤ (after_steps marks s j).channel.taken
+  pub many_later : (j : ℕ) (s : Machine) → Runs start program work count first s → ((k : ℕ) → k < suc j → goes_on_after marks s k ≡ true)
+      → s.channel.taken ≤ (after_steps marks s j).channel.taken
   many_later zero s r moves = omega arith
   many_later (suc j) s r moves =
       let u = after_steps marks s j in
@@ -67,11 +54,13 @@ module _ (start : Registers) (program : List ℕ) (work : Work) (count : ℕ) (m
   still_same : (u : Machine) → ChangesNothing (answer_at marks u) → u.channel.taken ≤ (after_step marks u).channel.taken
   still_same u nothing = let same = ap (λ (m : Machine). m.channel.taken) (is_still marks u nothing) in omega arith
 
-  one_later : (n : ℕ) (u : Machine) (turn : ChanTurn) → turn ≢ Ended → Among start program work count first n u.image u.channel → answer_at marks u ≡ turn → u.channel.taken ≤ (after_step marks u).channel.taken
+  one_later : (n : ℕ) (u : Machine) (turn : ChanTurn) → turn ≢ Ended → Among start program work count first n u.image u.channel → answer_at marks u ≡ turn
+      → u.channel.taken ≤ (after_step marks u).channel.taken
   one_later n u turn h1 h2 h3 = grind (arith, moved_later, still_same)
 
   -- a call that doesn't end the program leads from before its instructions to behind them
-  pub call_later : (s v : Machine) (most taken : ℕ) (last : Option ChanTurn) → last ≢ Some Ended → Runs start program work count first s → TakesSteps marks s most taken last v → s.channel.taken ≤ v.channel.taken
+  pub call_later : (s v : Machine) (most taken : ℕ) (last : Option ChanTurn) → last ≢ Some Ended → Runs start program work count first s
+      → TakesSteps marks s most taken last v → s.channel.taken ≤ v.channel.taken
   call_later s v most zero last goes r steps = let same = ap (λ (m : Machine). m.channel.taken) steps.ends_at in omega arith
   call_later s v most (suc p) last goes r steps =
       let u = after_steps marks s p in
@@ -97,25 +86,33 @@ module _ (c : Copying) (n i : ℕ) (least : Amounts) (sev : (done : Amounts) →
     rests = λ off none th found g known why. elim why [ inl f ↦ known f | inr is ↦ absurd (none_sent (result_of n k).called i none is) ];
     ends = λ th g known sent ended. tt;
     goes = λ made th found g known sent goes why.
-        let on = call_later c.start c.program c.work c.count k.marks c.first c.explains c.fits (from k th) (to k th) k.most (count_in k th) (last_answer k th) goes g.runs (steps_of k th) in
+        let on = call_later c.start c.program c.work c.count k.marks c.first c.explains c.fits (from k th) (to k th) k.most (count_in k th) (last_answer k th)
+        goes g.runs (steps_of k th) in
         let enough : DoneAt c.start c.program least (to k th).channel.taken = elim why [
           | inl f ↦ later c.start c.program least th.channel.taken (to k th).channel.taken on (known f)
-          | inr is ↦ sev (done_at c.start c.program (to k th)) (signalled c.start c.program c.work c.count k.marks c.first c.explains c.fits (from k th) (to k th) k.most (count_in k th) (last_answer k th) i g.runs (steps_of k th) (sym sent ∙ is))
+          | inr is ↦ sev (done_at c.start c.program (to k th))
+              (signalled c.start c.program c.work c.count k.marks c.first c.explains c.fits (from k th) (to k th) k.most (count_in k th) (last_answer k th) i
+              g.runs (steps_of k th) (sym sent ∙ is))
         ] in
         subst (λ (v : ChannelValue). DoneAt c.start c.program least v.taken) (sym (channel_after k th)) enough;
   }
 
-  turn_stores : (F : Type 0) (d : DeviceValue) (regions : List Region) (most : ℕ) (e : DeviceValue) (left : List Region) (turn : Turn) → TakesTurn d regions n most e left turn → Has c n (Unit {0}) (Stores F) (setup_of d regions) → Has c n (Unit {0}) (Stores ((F ⊎ (sent_by n (one_of d regions n most) ≡ Some i)) ⊎ (sent_by n (two_of d regions n most) ≡ Some i))) (setup_of e left)
+  turn_stores : (F : Type 0) (d : DeviceValue) (regions : List Region) (most : ℕ) (e : DeviceValue) (left : List Region) (turn : Turn)
+      → TakesTurn d regions n most e left turn → Has c n (Unit {0}) (Stores F) (setup_of d regions)
+      → Has c n (Unit {0}) (Stores ((F ⊎ (sent_by n (one_of d regions n most) ≡ Some i)) ⊎ (sent_by n (two_of d regions n most) ≡ Some i))) (setup_of e left)
   turn_stores F d regions most e left turn x g =
       let one = one_of d regions n most in
       let two = two_of d regions n most in
       let first = F ⊎ (sent_by n one ≡ Some i) in
-      after_turn c n d regions most e left turn x (Unit {0}) (Stores F) (Unit {0}) (Stores first) (Unit {0}) (Stores (first ⊎ (sent_by n two ≡ Some i))) (steps_stores F one) (steps_stores first two) g
+      after_turn c n d regions most e left turn x (Unit {0}) (Stores F) (Unit {0}) (Stores first) (Unit {0}) (Stores (first ⊎ (sent_by n two ≡ Some i)))
+      (steps_stores F one) (steps_stores first two) g
 
 -- ---- what is copied
 
 -- a memory in which at least so much is done
-pub are_done : (c : Copying) (image : List ℕ) (least done : Amounts) → IsPart c.work c.first done image → ((p : ℕ) → p < least.copied → p < size_of c.work.copy → p < done.copied) → ((p : ℕ) → p < least.cleared → p < length (cleared c.work) → p < done.cleared) → AreDone c.work least c.first image
+pub are_done : (c : Copying) (image : List ℕ) (least done : Amounts) → IsPart c.work c.first done image
+    → ((p : ℕ) → p < least.copied → p < size_of c.work.copy → p < done.copied) → ((p : ℕ) → p < least.cleared → p < length (cleared c.work) → p < done.cleared)
+    → AreDone c.work least c.first image
 are_done c image least done part copied zeros =
     let w = part_first c.work c.first done image c.explains.work c.fits part in
     let ds = destinations c.work.copy in
@@ -142,7 +139,8 @@ module _ (c : Copying) (n : ℕ) where
     pub knows : Knows d
 
   -- and so it is after a call
-  pub fit_kept : (d : DeviceValue) (regions : List Region) (most : ℕ) → Fit d (marks_in regions) → Fit (first_in d regions n most).left.device (marks_in regions)
+  pub fit_kept : (d : DeviceValue) (regions : List Region) (most : ℕ) → Fit d (marks_in regions)
+      → Fit (first_in d regions n most).left.device (marks_in regions)
   fit_kept d regions most fit =
       let config = if_config (begins d n most) (marks_in regions) n most (setup_of d regions) in
       record {
@@ -164,7 +162,8 @@ module _ (c : Copying) (n : ℕ) where
       (call_answers c.start c.program c.work c.count k.marks c.first c.explains c.fits s v k.most count last some g.runs steps)
       (λ kind. call_fails c.start c.program c.work c.count k.marks c.first c.explains c.fits s v k.most count last kind fit.misses g.runs steps)
       (λ e is. fit.knows.waits e (call_waits c.start c.program c.work c.count k.marks c.first c.explains c.fits s v k.most count e last g.runs steps is))
-      (λ e is. fit.knows.signals e (done_at c.start c.program v) (signalled c.start c.program c.work c.count k.marks c.first c.explains c.fits s v k.most count last e g.runs steps is))
+      (λ e is. fit.knows.signals e (done_at c.start c.program v)
+      (signalled c.start c.program c.work c.count k.marks c.first c.explains c.fits s v k.most count last e g.runs steps is))
 
   abbrev Fine : Thread → Type 0
   Fine th = is_faulting th ≡ false
@@ -177,7 +176,9 @@ module _ (c : Copying) (n : ℕ) where
     goes = λ made th found g fine sent goes. call_fine k th (some made) fit g;
   }
 
-  pub turn_fine : (d : DeviceValue) (regions : List Region) (most : ℕ) (e : DeviceValue) (left : List Region) (turn : Turn) → TakesTurn d regions n most e left turn → Fit d (marks_in regions) → Has c n (Unit {0}) Fine (setup_of d regions) → Has c n (Unit {0}) Fine (setup_of e left)
+  pub turn_fine : (d : DeviceValue) (regions : List Region) (most : ℕ) (e : DeviceValue) (left : List Region) (turn : Turn)
+      → TakesTurn d regions n most e left turn → Fit d (marks_in regions) → Has c n (Unit {0}) Fine (setup_of d regions)
+      → Has c n (Unit {0}) Fine (setup_of e left)
   turn_fine d regions most e left turn x fit g =
       after_turn c n d regions most e left turn x (Unit {0}) Fine (Unit {0}) Fine (Unit {0}) Fine
       (steps_fine (one_of d regions n most) (λ made. ltb-true 0 most (and_parts (nat_lt 0 most) (runs_at d n) made).0) fit)
@@ -201,7 +202,9 @@ module _ (go : Go) (work : Work) (count : ℕ) (run : GivenTurns) (h : RunsCopy 
     IsStored j th = Rose i j → DoneAt (start_of go) go.program least th.channel.taken
 
     -- a line that a turn raises is that of the event that one of its calls signals
-    raised_by : (j : ℕ) (turn : Turn) → TakesTurn (run.before j) (run.lent j) go.channel (run.most j) (run.after j) (run.left j) turn → Rose i (suc j) → (Rose i j ⊎ (sent_by go.channel (one_of (run.before j) (run.lent j) go.channel (run.most j)) ≡ Some i)) ⊎ (sent_by go.channel (two_of (run.before j) (run.lent j) go.channel (run.most j)) ≡ Some i)
+    raised_by : (j : ℕ) (turn : Turn) → TakesTurn (run.before j) (run.lent j) go.channel (run.most j) (run.after j) (run.left j) turn → Rose i (suc j)
+        → (Rose i j ⊎ (sent_by go.channel (one_of (run.before j) (run.lent j) go.channel (run.most j)) ≡ Some i))
+        ⊎ (sent_by go.channel (two_of (run.before j) (run.lent j) go.channel (run.most j)) ≡ Some i)
     raised_by j turn x rose =
         let raises = rose.raises in
         elim (cases_eq raises.turn j) [
@@ -217,7 +220,8 @@ module _ (go : Go) (work : Work) (count : ℕ) (run : GivenTurns) (h : RunsCopy 
               ]
         ]
 
-    stored_turn : (j : ℕ) → j < run.count → Before go work count run h some (Unit {0}) (IsStored j) j → After go work count run h some (Unit {0}) (IsStored (suc j)) j
+    stored_turn : (j : ℕ) → j < run.count → Before go work count run h some (Unit {0}) (IsStored j) j
+        → After go work count run h some (Unit {0}) (IsStored (suc j)) j
     stored_turn j less g =
         let x = h.takes j less in
         let w = turn_stores c go.channel i least sev (Rose i j) (run.before j) (run.lent j) (run.most j) (run.after j) (run.left j) x.0 x.1 g in
@@ -240,11 +244,13 @@ module _ (go : Go) (work : Work) (count : ℕ) (run : GivenTurns) (h : RunsCopy 
     first_copied k less risen =
         let g = stored_along k less in
         elim g.stands [
-          | inl over ↦ are_done c (image_in (run.left k)) least (all_of work) (worked_part work c.first (image_in (run.left k)) over.0.done) (λ p few within. within) (λ p few within. within)
+          | inl over ↦ are_done c (image_in (run.left k)) least (all_of work) (worked_part work c.first (image_in (run.left k)) over.0.done)
+              (λ p few within. within) (λ p few within. within)
           | inr going ↦
               let so = runs_so c.start c.program work count c.first c.explains (machine g.thread.channel (image_in (run.left k)) []) going.0.runs in
               let enough = going.1 (record { turn = k; early = omega arith; raises = risen }) in
-              are_done c (image_in (run.left k)) least (done_at c.start c.program (machine g.thread.channel (image_in (run.left k)) [])) so.part (λ p few within. omega (arith, few, enough.copied)) (λ p few within. omega (arith, few, enough.cleared))
+              are_done c (image_in (run.left k)) least (done_at c.start c.program (machine g.thread.channel (image_in (run.left k)) [])) so.part
+              (λ p few within. omega (arith, few, enough.copied)) (λ p few within. omega (arith, few, enough.cleared))
         ]
 
   -- once the thread is stopped it has ended
@@ -266,7 +272,9 @@ module _ (go : Go) (work : Work) (count : ℕ) (run : GivenTurns) (h : RunsCopy 
 
   never_fails : ((k : ℕ) → k < run.count → IsFit go work count (run.before k) (run.lent k)) → (k : ℕ) → k < run.count → csr_status (run.after k) go.channel ≢ 15
   never_fails fit k less =
-      let g = along go work count run h some (λ j. Unit {0}) (λ j th. is_faulting th ≡ false) refl (λ j l b. turn_fine c go.channel (run.before j) (run.lent j) (run.most j) (run.after j) (run.left j) (h.takes j l).0 (h.takes j l).1 (fits_all j (fit j l)) b) k less in
+      let g = along go work count run h some (λ j. Unit {0}) (λ j th. is_faulting th ≡ false) refl
+      (λ j l b. turn_fine c go.channel (run.before j) (run.lent j) (run.most j) (run.after j) (run.left j) (h.takes j l).0 (h.takes j l).1
+      (fits_all j (fit j l)) b) k less in
       reads_fine (run.after k) go.channel g.thread h.may_go.few g.is (elim g.stands [
         | inl over ↦ stopped_fine g.thread.status over.0.stopped
         | inr going ↦ going.1

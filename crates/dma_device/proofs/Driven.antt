@@ -1,31 +1,19 @@
 -- What a channel that a DMAGO started is after a turn: it executes a program that copies, or has ended it.
-use Rattle.std.proofs.Common.{◌≡◌, ◌≢◌, ◌∙◌, ◌⊎◌, ℕ, zero, suc, ◌+◌, ◌%◌, ◌^◌, ◌<◌, Bool, true, false, ◌&&◌, List, [], length, get_or, Option, Some, None, ap, refl, sym, subst, arith, inl, inr, true≢false}
+use Rattle.std.proofs.Common.{◌≡◌, ◌≢◌, ◌∙◌, ◌⊎◌, ℕ, zero, suc, ◌+◌, ◌%◌, ◌^◌, ◌<◌, Bool, true, false, ◌&&◌, List, [], length, get_or, Option, Some, None, ap}
+use Rattle.std.proofs.Common.{refl, sym, subst, arith, inl, inr, true≢false}
 use Rattle.std.specs.Prelude.{is_some, not, slice_get}
-use Rattle.dma_mem.specs.Marking.{MarkList}
-use Rattle.dma_mem.specs.Places.{size_of}
-use Rattle.dma_mem.specs.declared.regions.Region.{Region}
-use Rattle.dma_chan.specs.declared.exec.Registers.{Registers}
-use Rattle.dma_chan.specs.Channel.{ChannelValue}
-use Rattle.dma_explain.specs.Explains.{Explains, Work, cleared}
-use Rattle.dma_explain.specs.Works.{IsWorked}
-use Rattle.dma_chan.specs.Programs.{ProgramValue}
-use Rattle.dma_chan.specs.Stepping.{Machine, TakesSteps, machine}
-use Rattle.dma_chan.specs.declared.turn.ChanTurn.{ChanTurn}
-use Rattle.dma_chan.specs.declared.turn.ChanTurn.TheVariants.{Ended}
+use Rattle.dma_mem.specs.{Marking.MarkList, Places.size_of, declared.regions.Region.Region}
+use Rattle.dma_chan.specs.{declared.exec.Registers.Registers, Channel.ChannelValue, Programs.ProgramValue, Stepping.Machine, Stepping.TakesSteps}
+use Rattle.dma_chan.specs.{Stepping.machine, declared.turn.ChanTurn.ChanTurn, declared.turn.ChanTurn.TheVariants.Ended}
+use Rattle.dma_explain.specs.{Explains.Explains, Explains.Work, Explains.cleared, Works.IsWorked}
 use Rattle.dma_explain.proofs.AmongOthers.{Fits, uses_below}
 use Rattle.dma_explain.proofs.CallsAmongOthers.{Leads, Runs, at_first, call, survived}
-use Rattle.dma_device.specs.CallSteps.{StepsThread, first_in, last_in, marks_in, signal_in}
-use Rattle.dma_device.specs.Device.{DeviceValue, program_at}
-use Rattle.dma_device.specs.Dmago.{Go, RunsCopy, GivenTurns, image_in, start_of}
-use Rattle.dma_device.specs.Thread.{answer, is_faulting, is_stopped, reset_thread, started}
 use Rattle.dma_device.specs.Turns.{Outcome, Setup, TakesTurn, begins, called_if, follows, machine_in, runs_at, setup_of, steps_in}
-use Rattle.dma_device.specs.declared.device.turns.Turn.{Turn}
-use Rattle.dma_device.specs.declared.thread.Thread.{Thread}
-use Rattle.dma_device.proofs.Answered.{answer_busy, answer_channel, is_ended}
+use Rattle.dma_device.specs.{CallSteps.StepsThread, CallSteps.first_in, CallSteps.last_in, CallSteps.marks_in, CallSteps.signal_in, Device.DeviceValue}
+use Rattle.dma_device.specs.{Device.program_at, Dmago.Go, Dmago.RunsCopy, Dmago.GivenTurns, Dmago.image_in, Dmago.start_of, Thread.answer, Thread.is_faulting}
+use Rattle.dma_device.specs.{Thread.is_stopped, Thread.reset_thread, Thread.started, declared.device.turns.Turn.Turn, declared.thread.Thread.Thread}
 use Rattle.dma_device.proofs.Calls.{begins_runs, call_acts, call_is, follows_runs, machine_left, nothing, runs_found, takes, thread_left, turn_left}
-use Rattle.dma_device.proofs.InMemory.{program_is_read}
-use Rattle.dma_device.proofs.Starts.{dmago_starts}
-use Rattle.dma_device.proofs.Found.{set_found}
+use Rattle.dma_device.proofs.{Answered.answer_busy, Answered.answer_channel, Answered.is_ended, InMemory.program_is_read, Starts.dmago_starts, Found.set_found}
 
 -- a program, the work that explains it, and the memory at first
 pub record Copying : Type 0 where
@@ -126,18 +114,23 @@ module _ (c : Copying) where
     -- made (`rests_over`, `rests`), or it steps the thread, whose program ends or goes on (`ends`, `goes`).
     pub record Steps (O : Type 0) (E : Thread → Type 0) (P : Type 0) (F : Thread → Type 0) (k : Call) : Type 0 where
       pub rests_over : (result_of n k).called ≡ nothing → O → P
-      pub rests : ¬ StepsThread k.made n k.before → (result_of n k).called ≡ nothing → (th : Thread) → slice_get k.before.device.threads n ≡ Some th → Going k.before.image th → E th → F th
+      pub rests : ¬ StepsThread k.made n k.before → (result_of n k).called ≡ nothing → (th : Thread) → slice_get k.before.device.threads n ≡ Some th
+          → Going k.before.image th → E th → F th
       pub ends : (th : Thread) → Going k.before.image th → E th → sent_by n k ≡ sets k th → last_answer k th ≡ Some Ended → P
-      pub goes : k.made ≡ true → (th : Thread) → slice_get k.before.device.threads n ≡ Some th → Going k.before.image th → E th → sent_by n k ≡ sets k th → last_answer k th ≢ Some Ended → F (after_steps_of k th)
+      pub goes : k.made ≡ true → (th : Thread) → slice_get k.before.device.threads n ≡ Some th → Going k.before.image th → E th → sent_by n k ≡ sets k th
+          → last_answer k th ≢ Some Ended → F (after_steps_of k th)
 
     no_program : (d : DeviceValue) (th : Thread) → slice_get d.threads n ≡ Some th → th.channel.program ≡ None → runs_at d n ≡ false
     no_program d th is gone = runs_found d n th is ∙ ap (λ (p : Option ProgramValue). is_some p && not (is_faulting th)) gone
 
-    stands_after : (O : Type 0) (E : Thread → Type 0) (P : Type 0) (F : Thread → Type 0) (k : Call) (th : Thread) → k.made ≡ true → slice_get k.before.device.threads n ≡ Some th → Going k.before.image th → E th → sent_by n k ≡ sets k th → Steps O E P F k → Stands P F (to k th).image (after_steps_of k th)
+    stands_after : (O : Type 0) (E : Thread → Type 0) (P : Type 0) (F : Thread → Type 0) (k : Call) (th : Thread) → k.made ≡ true
+        → slice_get k.before.device.threads n ≡ Some th → Going k.before.image th → E th → sent_by n k ≡ sets k th → Steps O E P F k
+        → Stands P F (to k th).image (after_steps_of k th)
     stands_after O E P F k th made found g e sent steps =
         let is = channel_after k th in
         let events = k.before.device.config.events in
-        let leads = call c.start c.program c.work c.count k.marks c.first c.explains c.fits (from k th) (to k th) k.most (count_in k th) (last_answer k th) g.runs (steps_of k th) in
+        let leads = call c.start c.program c.work c.count k.marks c.first c.explains c.fits (from k th) (to k th) k.most (count_in k th) (last_answer k th)
+        g.runs (steps_of k th) in
         elim (is_ended (last_answer k th)) [
           | inl ended ↦
               let done = subst (λ (o : Option ChanTurn). Leads c.start c.program c.work c.count c.first o (to k th)) ended leads in
@@ -160,7 +153,8 @@ module _ (c : Copying) where
               )
         ]
 
-    after_call : (O : Type 0) (E : Thread → Type 0) (P : Type 0) (F : Thread → Type 0) (k : Call) → (k.made ≡ true → runs_at k.before.device n ≡ true) → Steps O E P F k → Has O E k.before → Has P F (result_of n k).left
+    after_call : (O : Type 0) (E : Thread → Type 0) (P : Type 0) (F : Thread → Type 0) (k : Call) → (k.made ≡ true → runs_at k.before.device n ≡ true)
+        → Steps O E P F k → Has O E k.before → Has P F (result_of n k).left
     after_call O E P F k on steps g = elim (call_is k.made k.marks n k.most k.before) [
       | inl rests ↦
           let none = ap (λ (o : Outcome). o.called) rests.is in
@@ -188,14 +182,16 @@ module _ (c : Copying) where
           })
     ]
 
-    module _ (d : DeviceValue) (regions : List Region) (most : ℕ) (e : DeviceValue) (left : List Region) (turn : Turn) (x : TakesTurn d regions n most e left turn) where
+    module _ (d : DeviceValue) (regions : List Region) (most : ℕ) (e : DeviceValue) (left : List Region) (turn : Turn)
+        (x : TakesTurn d regions n most e left turn) where
       abbrev one : Call
       one = one_of d regions n most
 
       abbrev two : Call
       two = two_of d regions n most
 
-      pub after_turn : (O : Type 0) (E : Thread → Type 0) (P : Type 0) (F : Thread → Type 0) (R : Type 0) (G : Thread → Type 0) → Steps O E P F one → Steps P F R G two → Has O E (setup_of d regions) → Has R G (setup_of e left)
+      pub after_turn : (O : Type 0) (E : Thread → Type 0) (P : Type 0) (F : Thread → Type 0) (R : Type 0) (G : Thread → Type 0) → Steps O E P F one
+          → Steps P F R G two → Has O E (setup_of d regions) → Has R G (setup_of e left)
       after_turn O E P F R G steps_one steps_two g =
           let first = first_in d regions n most in
           let m = first.left.device in
@@ -233,7 +229,8 @@ module _ (go : Go) (work : Work) (count : ℕ) (run : GivenTurns) (h : RunsCopy 
     is = h.begins ∙ dmago_starts go h.may_go;
     stands = inr (
       record {
-        runs = at_first (start_of go) go.program work count (image_in (run.lent 0)) (machine new.channel (image_in (run.lent 0)) []) copying.fits (record { bytes = program_at go.ram go.addr; cost = None }, program_is_read go.ram go.addr go.program h.in_ram, refl) refl;
+        runs = at_first (start_of go) go.program work count (image_in (run.lent 0)) (machine new.channel (image_in (run.lent 0)) []) copying.fits
+            (record { bytes = program_at go.ram go.addr; cost = None }, program_is_read go.ram go.addr go.program h.in_ram, refl) refl;
         busy = refl;
       },
       known,
@@ -265,7 +262,8 @@ module _ (go : Go) (work : Work) (count : ℕ) (run : GivenTurns) (h : RunsCopy 
           | inr going ↦
               inr (
                 record {
-                  runs = survived (start_of go) go.program work count copying.first (machine g.thread.channel image []) (machine g.thread.channel other []) going.0.runs refl (λ a i. h.unchanged j a next i) (λ a i. uses_below work (length other) a (h.below (j + 1) next) i);
+                  runs = survived (start_of go) go.program work count copying.first (machine g.thread.channel image []) (machine g.thread.channel other [])
+                      going.0.runs refl (λ a i. h.unchanged j a next i) (λ a i. uses_below work (length other) a (h.below (j + 1) next) i);
                   busy = going.0.busy;
                 },
                 going.1,
@@ -274,7 +272,8 @@ module _ (go : Go) (work : Work) (count : ℕ) (run : GivenTurns) (h : RunsCopy 
       }
 
   -- what each turn keeps is known before each turn
-  pub before_each : (O : ℕ → Type 0) (E : ℕ → Thread → Type 0) → E 0 new → ((j : ℕ) → j < run.count → Before (O j) (E j) j → After (O (suc j)) (E (suc j)) j) → (j : ℕ) → j < run.count → Before (O j) (E j) j
+  pub before_each : (O : ℕ → Type 0) (E : ℕ → Thread → Type 0) → E 0 new → ((j : ℕ) → j < run.count → Before (O j) (E j) j → After (O (suc j)) (E (suc j)) j)
+      → (j : ℕ) → j < run.count → Before (O j) (E j) j
   before_each O E known turn zero less = at_start (O 0) (E 0) known
   before_each O E known turn (suc j) less =
       let e : j + 1 ≡ suc j = omega arith in
@@ -282,5 +281,6 @@ module _ (go : Go) (work : Work) (count : ℕ) (run : GivenTurns) (h : RunsCopy 
       subst (Before (O (suc j)) (E (suc j))) e (stays (O (suc j)) (E (suc j)) j (omega (arith, less)) after)
 
   -- and after each turn
-  pub along : (O : ℕ → Type 0) (E : ℕ → Thread → Type 0) → E 0 new → ((j : ℕ) → j < run.count → Before (O j) (E j) j → After (O (suc j)) (E (suc j)) j) → (j : ℕ) → j < run.count → After (O (suc j)) (E (suc j)) j
+  pub along : (O : ℕ → Type 0) (E : ℕ → Thread → Type 0) → E 0 new → ((j : ℕ) → j < run.count → Before (O j) (E j) j → After (O (suc j)) (E (suc j)) j)
+      → (j : ℕ) → j < run.count → After (O (suc j)) (E (suc j)) j
   along O E known turn j less = turn j less (before_each O E known turn j less)

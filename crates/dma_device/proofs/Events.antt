@@ -1,43 +1,34 @@
 -- What sets and takes events.
-use Rattle.std.proofs.Common.{◌≡◌, ◌∙◌, ◌⊎◌, ℕ, zero, suc, ◌+◌, ◌-◌, ◌%◌, ◌^◌, ◌<◌, Bool, true, false, List, get_or, Option, Some, None, ap, sym, subst, arith, inl, inr, true≢false}
-use Rattle.std.specs.Prelude.{◌↔◌, max, min, slice_get}
-use Rattle.std.specs.Int.{bit_at}
+use Rattle.std.proofs.Common.{◌≡◌, ◌∙◌, ◌⊎◌, ℕ, zero, suc, ◌+◌, ◌-◌, ◌%◌, ◌^◌, ◌<◌, Bool, true, false, List, get_or, Option, Some, None, ap, sym, subst, arith}
+use Rattle.std.proofs.Common.{inl, inr, true≢false}
+use Rattle.std.specs.{Prelude.◌↔◌, Prelude.max, Prelude.min, Prelude.slice_get, Int.bit_at}
 use Rattle.std.proofs.lemmas.Bool.{cases_Bool, cases_eq, eq-eqb, ne_eqb}
 use Rattle.std.proofs.lemmas.Nat.Bits.{bit_at-lt, bit_at_and, bit_at_not, bit_at_ones, bit_at_or, bit_at-zero}
 use Rattle.dma_insn.specs.ControlWord.{flag}
-use Rattle.dma_mem.specs.Flags.{flags_of}
-use Rattle.dma_mem.specs.Marking.{MarkList}
-use Rattle.dma_mem.specs.Regions.{pieces_of}
-use Rattle.dma_mem.specs.declared.regions.Region.{Region}
+use Rattle.dma_mem.specs.{Flags.flags_of, Marking.MarkList, Regions.pieces_of, declared.regions.Region.Region}
 use Rattle.dma_mem.proofs.FlagBits.{get_or_flags_of}
-use Rattle.dma_chan.specs.declared.turn.ChanTurn.{ChanTurn}
-use Rattle.dma_chan.specs.declared.turn.ChanTurn.TheVariants.{Waiting}
-use Rattle.dma_chan.specs.Exec.{ChangesNothing}
 use Rattle.dma_chan.specs.Stepping.{Machine, TakesSteps, goes_on_after, after_step, after_steps, answer_at}
-use Rattle.dma_chan.proofs.StepsTaken.{steps_move}
-use Rattle.dma_chan.proofs.SteppedOver.{is_still}
-use Rattle.dma_device.specs.declared.device.turns.Turn.{Turn}
-use Rattle.dma_device.specs.declared.thread.Status.TheVariants.{WaitingForEvent}
-use Rattle.dma_device.specs.declared.thread.Thread.{Thread}
+use Rattle.dma_chan.specs.{declared.turn.ChanTurn.ChanTurn, declared.turn.ChanTurn.TheVariants.Waiting, Exec.ChangesNothing}
+use Rattle.dma_chan.proofs.{StepsTaken.steps_move, SteppedOver.is_still}
 use Rattle.dma_device.specs.Accesses.{Access, Answer, Does, Resets, Restores, Turns, Writes}
 use Rattle.dma_device.specs.CallSteps.{StepsThread, first_in, last_in, marks_in, second_in, signal_in}
 use Rattle.dma_device.specs.Device.{DeviceValue, with_thread, written}
 use Rattle.dma_device.specs.Events.{CallTakes, Ends, EventsAreExact, IsSet, Sets, TakenWasSet, TurnTakes, WaitsForUnset}
 use Rattle.dma_device.specs.Interrupts.{HasLine, IsHigh, TurnSignals}
-use Rattle.dma_device.specs.Thread.{answer}
 use Rattle.dma_device.specs.Turns.{Outcome, Setup, TakesTurn, begins, called_if, follows, machine_in, number_of, setup_of, steps_in, visible_events, with_flags}
+use Rattle.dma_device.specs.{declared.device.turns.Turn.Turn, declared.thread.Status.TheVariants.WaitingForEvent, declared.thread.Thread.Thread, Thread.answer}
 use Rattle.dma_device.proofs.Calls.{acts_alike, call_acts, call_is, if_config, if_inten, machine_left, takes, thread_left, turn_device}
 use Rattle.dma_device.proofs.FlagSteps.{Is, IsClear, Passes, clear_since, passed, waits_at}
-use Rattle.dma_device.proofs.Interrupts.{Exact, all_have, restored_bit, exact_if_same, flag_bit, hidden, seen_bit, NonePass, below, flag_left, flag_sets, flags_left}
-use Rattle.dma_device.proofs.WriteRaises.{dbgcmd_raises, has_kept, others_keep}
+use Rattle.dma_device.proofs.Interrupts.{Exact, all_have, restored_bit, exact_if_same, flag_bit, hidden, seen_bit, NonePass, below, flag_left, flag_sets}
+use Rattle.dma_device.proofs.Interrupts.{flags_left}
+use Rattle.dma_device.proofs.{WriteRaises.dbgcmd_raises, WriteRaises.has_kept, WriteRaises.others_keep, Found.set_found, Iff.iff_or}
 use Rattle.dma_device.proofs.History as history
-use Rattle.dma_device.proofs.Found.{set_found}
-use Rattle.dma_device.proofs.Iff.{iff_or}
 
 -- ---- a call
 
 -- bit k of the events after a call
-event_after : (flags k : ℕ) (d : DeviceValue) → k < 32 → k < d.config.events → d.inten < 2 ^ 32 → bit_at (with_flags flags d).events k ≡ max (min (bit_at d.events k) (bit_at d.inten k)) (min (min (bit_at flags k) 1) (1 - bit_at d.inten k))
+event_after : (flags k : ℕ) (d : DeviceValue) → k < 32 → k < d.config.events → d.inten < 2 ^ 32
+    → bit_at (with_flags flags d).events k ≡ max (min (bit_at d.events k) (bit_at d.inten k)) (min (min (bit_at flags k) 1) (1 - bit_at d.inten k))
 event_after flags k d below event range = simp (bit_at_or, bit_at_and, bit_at_not, bit_at_ones)
 
 pub flag_of_bit : (flags k : ℕ) → k < 32 → bit_at flags k ≡ 1 → Is k (flags_of flags)
@@ -103,11 +94,13 @@ module _ (marks : MarkList) (most : ℕ) (t : Thread) (s : Setup) (k : ℕ) (has
 
 -- ---- a wait
 
-answer_waits : (events : ℕ) (th : Thread) (last : Option ChanTurn) (signal : Option ℕ) (k : ℕ) → (answer events th last signal).status ≡ WaitingForEvent k → last ≡ Some (Waiting k)
+answer_waits : (events : ℕ) (th : Thread) (last : Option ChanTurn) (signal : Option ℕ) (k : ℕ) → (answer events th last signal).status ≡ WaitingForEvent k
+    → last ≡ Some (Waiting k)
 answer_waits events th last signal k is = grind arith
 
 -- a call whose last step waits leaves the flag clear
-last_unset : (marks : MarkList) (s v : Machine) (most taken : ℕ) (last : Option ChanTurn) (k : ℕ) → TakesSteps marks s most taken last v → last ≡ Some (Waiting k) → IsClear k v.flags
+last_unset : (marks : MarkList) (s v : Machine) (most taken : ℕ) (last : Option ChanTurn) (k : ℕ) → TakesSteps marks s most taken last v
+    → last ≡ Some (Waiting k) → IsClear k v.flags
 last_unset marks s v most zero last k x is = let bad : Some (Waiting k) ≡ None = sym is ∙ x.answer in absurd (cc)
 last_unset marks s v most (suc j) last k x is =
     let u = after_steps marks s j in
@@ -116,12 +109,14 @@ last_unset marks s v most (suc j) last k x is =
     let still : after_step marks u ≡ u = is_still marks u (subst ChangesNothing (sym waits) tt) in
     ap (λ (m : Machine). get_or m.flags k false) (x.ends_at ∙ still) ∙ (waits_at marks u k waits).1.1
 
-call_unset : (marks : MarkList) (most : ℕ) (t : Thread) (s : Setup) (k : ℕ) → HasLine s.device k → (thread_left marks most t s).status ≡ WaitingForEvent k → bit_at (with_flags (number_of (machine_left marks most t s).flags) s.device).events k ≡ 1 → IsHigh s.device.inten k
+call_unset : (marks : MarkList) (most : ℕ) (t : Thread) (s : Setup) (k : ℕ) → HasLine s.device k → (thread_left marks most t s).status ≡ WaitingForEvent k
+    → bit_at (with_flags (number_of (machine_left marks most t s).flags) s.device).events k ≡ 1 → IsHigh s.device.inten k
 call_unset marks most t s k has is high =
     let d = s.device in
     let to = machine_left marks most t s in
     let end = last_in marks most t s in
-    let last = answer_waits d.config.events (record t { channel = to.channel; pc = (t.base + to.channel.registers.pc) % 2 ^ 32 }) end (signal_in marks most t s) k is in
+    let last = answer_waits d.config.events (record t { channel = to.channel; pc = (t.base + to.channel.registers.pc) % 2 ^ 32 }) end (signal_in marks most t s)
+    k is in
     let clear = last_unset marks (machine_in s t) to most (steps_in marks most t s) end k (takes marks most t s) last in
     let low : bit_at (number_of to.flags) k ≡ 0 = flag_left marks most t s k has ∙ ap flag clear in
     elim (cases_eq (bit_at d.inten k) 1) [
@@ -129,10 +124,12 @@ call_unset marks most t s k has is high =
       | inr off ↦ absurd (omega (arith, high, low, bit_after marks most t s k has, off, bit_at-lt d.inten k))
     ]
 
-found_status : (d e : DeviceValue) (n k : ℕ) (old new t : Thread) → slice_get d.threads n ≡ Some old → e.threads ≡ (with_thread n new d).threads → slice_get e.threads n ≡ Some t → t.status ≡ WaitingForEvent k → new.status ≡ WaitingForEvent k
+found_status : (d e : DeviceValue) (n k : ℕ) (old new t : Thread) → slice_get d.threads n ≡ Some old → e.threads ≡ (with_thread n new d).threads
+    → slice_get e.threads n ≡ Some t → t.status ≡ WaitingForEvent k → new.status ≡ WaitingForEvent k
 found_status d e n k old new t found is there waits = grind (arith, set_found)
 
-if_unset : (made : Bool) (marks : MarkList) (n most : ℕ) (s : Setup) (k : ℕ) (t : Thread) → HasLine s.device k → StepsThread made n s → let e = (called_if made marks n most s).left.device in slice_get e.threads n ≡ Some t → t.status ≡ WaitingForEvent k → IsSet e k → IsHigh s.device.inten k
+if_unset : (made : Bool) (marks : MarkList) (n most : ℕ) (s : Setup) (k : ℕ) (t : Thread) → HasLine s.device k → StepsThread made n s → let e =
+    (called_if made marks n most s).left.device in slice_get e.threads n ≡ Some t → t.status ≡ WaitingForEvent k → IsSet e k → IsHigh s.device.inten k
 if_unset made marks n most s k t has x found waits high =
     let d = s.device in
     let is = call_acts marks most x in
@@ -169,7 +166,8 @@ waits_for_unset d e regions left n most k turn t x has starts found waits high =
 
 -- after a call event k is set exactly if the call set it, or if it was set and the call doesn't take it
 abbrev SetsBy : MarkList → ℕ → ℕ → Bool → ℕ → Setup → Outcome → Type 0
-SetsBy marks n k made most s o = IsSet o.left.device k ↔ (((¬ IsHigh s.device.inten k) × (o.called.signal ≡ Some k)) ⊎ (IsSet s.device k × ¬ CallTakes marks n k made most s))
+SetsBy marks n k made most s o =
+    IsSet o.left.device k ↔ (((¬ IsHigh s.device.inten k) × (o.called.signal ≡ Some k)) ⊎ (IsSet s.device k × ¬ CallTakes marks n k made most s))
 
 abbrev CallSets : MarkList → ℕ → ℕ → Bool → ℕ → Setup → Type 0
 CallSets marks n k made most s = SetsBy marks n k made most s (called_if made marks n most s)
@@ -182,12 +180,17 @@ call_sets marks n k made most s has = elim (call_is made marks n most s) [
   | inr acts ↦
       subst (SetsBy marks n k made most s) (sym (call_acts marks most acts))
       (iff_or _ _ (IsSet s.device k × NonePass marks most acts.thread s k has) _
-      (λ kept. (kept.0, λ w. acts_alike (λ (t : Thread). NonePass marks most t s k has) n made s acts w.executes kept.1 w.step w.early (w.invalid, w.dmawfe, w.passes)))
+      (λ kept. (
+        kept.0,
+        λ w. acts_alike (λ (t : Thread). NonePass marks most t s k has) n made s acts w.executes kept.1 w.step w.early
+            (w.invalid, w.dmawfe, w.passes),
+      ))
       (λ kept. (kept.0, λ j less w. kept.1 (record { executes = acts; step = j; early = less; invalid = w.0; dmawfe = w.1; passes = w.2 })))
       (sets_exact marks most acts.thread s k has))
 ]
 
-call_takes_set : (marks : MarkList) (n k : ℕ) (made : Bool) (most : ℕ) (s : Setup) → HasLine s.device k → CallTakes marks n k made most s → IsSet s.device k × (¬ IsHigh s.device.inten k)
+call_takes_set : (marks : MarkList) (n k : ℕ) (made : Bool) (most : ℕ) (s : Setup) → HasLine s.device k → CallTakes marks n k made most s → IsSet s.device k
+    × (¬ IsHigh s.device.inten k)
 call_takes_set marks n k made most s has w =
     takes_set marks most w.executes.thread s k has w.step w.early (w.invalid, w.dmawfe, w.passes)
 
@@ -235,33 +238,48 @@ module _ (d : DeviceValue) (regions : List Region) (n most k : ℕ) (has : HasLi
   turn_sets = grind (arith, one, two, none_follows, off_middle, off_before)
 
   turn_takes_set : TurnTakes d regions n most k → IsSet d k × (¬ IsHigh d.inten k)
-  turn_takes_set w = grind (arith, one, none_follows, off_before, call_takes_set in_regions n k (begins d n most) most (setup_of d regions) has, call_takes_set in_regions n k going 1 first.left has_middle)
+  turn_takes_set w = grind (
+    arith,
+    one,
+    none_follows,
+    off_before,
+    call_takes_set in_regions n k (begins d n most) most (setup_of d regions) has,
+    call_takes_set
+        in_regions n k going 1 first.left has_middle,
+  )
 
 -- ---- one access
 
-write_exact : (k at value : ℕ) (d : DeviceValue) (regions : List Region) → HasLine d k → let e = written (pieces_of regions) at value d in Exact k d.events e.events (Sets k (Writes at value) d regions) (Ends k (Writes at value) d regions)
+write_exact : (k at value : ℕ) (d : DeviceValue) (regions : List Region) → HasLine d k → let e = written (pieces_of regions) at value d in
+    Exact k d.events e.events (Sets k (Writes at value) d regions) (Ends k (Writes at value) d regions)
 write_exact k at value d regions has = grind (arith, dbgcmd_raises false d (pieces_of regions) value k, others_keep false d (pieces_of regions) at value)
 
-turn_exact : (k n most : ℕ) (d e : DeviceValue) (regions left : List Region) (turn : Turn) → HasLine d k → TakesTurn d regions n most e left turn → Exact k d.events e.events (Sets k (Turns n most) d regions) (Ends k (Turns n most) d regions)
+turn_exact : (k n most : ℕ) (d e : DeviceValue) (regions left : List Region) (turn : Turn) → HasLine d k → TakesTurn d regions n most e left turn
+    → Exact k d.events e.events (Sets k (Turns n most) d regions) (Ends k (Turns n most) d regions)
 turn_exact k n most d e regions left turn has x =
-    subst (λ (v : DeviceValue). Exact k d.events v.events (Sets k (Turns n most) d regions) (Ends k (Turns n most) d regions)) (turn_device x) (turn_sets d regions n most k has)
+    subst (λ (v : DeviceValue). Exact k d.events v.events (Sets k (Turns n most) d regions) (Ends k (Turns n most) d regions)) (turn_device x)
+    (turn_sets d regions n most k has)
 
-access_exact : (k : ℕ) (a : Access) (d e : DeviceValue) (regions left : List Region) (answer : Answer) → HasLine d k → Does a d regions answer e left → Exact k d.events e.events (Sets k a d regions) (Ends k a d regions)
+access_exact : (k : ℕ) (a : Access) (d e : DeviceValue) (regions left : List Region) (answer : Answer) → HasLine d k → Does a d regions answer e left
+    → Exact k d.events e.events (Sets k a d regions) (Ends k a d regions)
 access_exact k (Writes at value) d e regions left answer has x =
-    subst (λ (v : DeviceValue). Exact k d.events v.events (Sets k (Writes at value) d regions) (Ends k (Writes at value) d regions)) (sym x.1) (write_exact k at value d regions has)
+    subst (λ (v : DeviceValue). Exact k d.events v.events (Sets k (Writes at value) d regions) (Ends k (Writes at value) d regions)) (sym x.1)
+    (write_exact k at value d regions has)
 access_exact k (Turns n most) d e regions left answer has x = turn_exact k n most d e regions left x.0 has x.1.1
 access_exact k Resets d e regions left answer has x =
     let low : ¬ IsSet e k = (λ high. let zero_bit = ap (λ (v : DeviceValue). bit_at v.events k) x.1 ∙ bit_at-zero k in omega (arith, zero_bit, high)) in
     ((λ high. absurd (low high)), (λ why. elim why [ inl up ↦ absurd (up.1) | inr stays ↦ absurd (stays.1 tt) ]))
 access_exact k (Restores saved) d e regions left answer has x = restored_bit k saved.events d.events e.events (ap (λ (v : DeviceValue). v.events) x.1)
-access_exact k a d e regions left answer has x = exact_if_same k d.events e.events (Sets k a d regions) ⊥ (ap (λ (v : DeviceValue). v.events) x.1) (λ up. up.1) (λ down. down)
+access_exact k a d e regions left answer has x =
+    exact_if_same k d.events e.events (Sets k a d regions) ⊥ (ap (λ (v : DeviceValue). v.events) x.1) (λ up. up.1) (λ down. down)
 
 -- ---- accesses in a row
 
 pub events_are_exact : EventsAreExact
 events_are_exact access answer before lent left count k n happen has within =
     history.held (λ j. IsSet (before j) k) (λ j. Sets k (access j) (before j) (lent j)) (λ j. Ends k (access j) (before j) (lent j)) count
-    (λ j less. access_exact k (access j) (before j) (before (j + 1)) (lent j) (left j) (answer j) (all_have access answer before lent left count k happen has j (omega arith)) (happen j less)) n within
+    (λ j less. access_exact k (access j) (before j) (before (j + 1)) (lent j) (left j) (answer j)
+    (all_have access answer before lent left count k happen has j (omega arith)) (happen j less)) n within
 
 pub taken_was_set : TakenWasSet
 taken_was_set (Turns n most) d e regions left answer k x has w = turn_takes_set d regions n most k has w

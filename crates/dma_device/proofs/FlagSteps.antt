@@ -1,23 +1,18 @@
 -- What steps make of the flags: only a DMASEV and a DMAWFE change one; and a step that waits.
-use Rattle.std.proofs.Common.{◌≡◌, ◌≢◌, ◌∙◌, ◌⊎◌, ℕ, zero, suc, ◌<◌, ◌≤◌, Bool, true, false, List, ◌∷◌, length, get_or, set, Option, Some, None, Result, Ok, Err, ap, refl, sym, subst, arith, inl, inr, true≢false}
+use Rattle.std.proofs.Common.{◌≡◌, ◌≢◌, ◌∙◌, ◌⊎◌, ℕ, zero, suc, ◌<◌, ◌≤◌, Bool, true, false, List, ◌∷◌, length, get_or, set, Option, Some, None, Result, Ok}
+use Rattle.std.proofs.Common.{Err, ap, refl, sym, subst, arith, inl, inr, true≢false}
 use Rattle.std.specs.Prelude.{◌↔◌}
-use Rattle.std.proofs.lemmas.Bool.{cases_Bool, cases_eq}
-use Rattle.std.proofs.lemmas.List.{get_or-set_other, get_or-set_same, length-set}
-use Rattle.dma_insn.specs.declared.chip.ChipInsn.{ChipInsn}
-use Rattle.dma_insn.specs.declared.chip.ChipInsn.TheVariants.{Sev, Wfe}
+use Rattle.std.proofs.{lemmas.Bool.cases_Bool, lemmas.Bool.cases_eq, lemmas.List.get_or-set_other, lemmas.List.get_or-set_same, lemmas.List.length-set}
+use Rattle.dma_insn.specs.{declared.chip.ChipInsn.ChipInsn, declared.chip.ChipInsn.TheVariants.Sev, declared.chip.ChipInsn.TheVariants.Wfe}
 use Rattle.dma_mem.specs.Marking.{MarkList}
-use Rattle.dma_chan.specs.Channel.{ahead_of, state_of}
-use Rattle.dma_chan.specs.Exec.{State, act, exec_fetched}
 use Rattle.dma_chan.specs.Stepping.{Machine, TakesSteps, after_steps, answer_at, goes_on, goes_on_after, signal_after, signal_of}
-use Rattle.dma_chan.specs.declared.turn.ChanTurn.{ChanTurn}
-use Rattle.dma_chan.specs.declared.turn.ChanTurn.TheVariants.{Moved, Waiting}
-use Rattle.dma_chan.specs.declared.turn.FaultKind.{FaultKind}
-use Rattle.dma_chan.proofs.ActCases.{act_cases, fetched_cases}
-use Rattle.dma_chan.proofs.StepsTaken.{steps_move}
-use Rattle.dma_chan.proofs.SteppedOver.{went_before}
+use Rattle.dma_chan.specs.{Channel.ahead_of, Channel.state_of, Exec.State, Exec.act, Exec.exec_fetched, declared.turn.ChanTurn.ChanTurn}
+use Rattle.dma_chan.specs.{declared.turn.ChanTurn.TheVariants.Moved, declared.turn.ChanTurn.TheVariants.Waiting, declared.turn.FaultKind.FaultKind}
+use Rattle.dma_chan.proofs.{ActCases.act_cases, ActCases.fetched_cases, StepsTaken.steps_move, SteppedOver.went_before}
 
 -- what holds of flags, and still holds once a DMASEV set one or a DMAWFE cleared one
-act_flags : (P : List Bool → Type 0) (marks : MarkList) (i : ChipInsn) (s : State) → P s.flags → ((e : ℕ) → i ≡ Sev e → P (set s.flags e true)) → ((e : ℕ) (v : Bool) → i ≡ Wfe e v → P (set s.flags e false)) → P (act marks i s).1.flags
+act_flags : (P : List Bool → Type 0) (marks : MarkList) (i : ChipInsn) (s : State) → P s.flags → ((e : ℕ) → i ≡ Sev e → P (set s.flags e true))
+    → ((e : ℕ) (v : Bool) → i ≡ Wfe e v → P (set s.flags e false)) → P (act marks i s).1.flags
 act_flags P marks i s h sets clears = grind (arith, act_cases)
 
 -- steps keep the number of flags
@@ -43,7 +38,8 @@ cleared xs e k h = h
 act_clear : (marks : MarkList) (i : ChipInsn) (s : State) (k : ℕ) → IsClear k s.flags → signal_of (Ok i) ≢ Some k → IsClear k (act marks i s).1.flags
 act_clear marks i s k h other = grind (arith, act_flags, cleared, get_or-set_other)
 
-step_clear : (marks : MarkList) (next : Result ChipInsn FaultKind) (s : State) (k : ℕ) → IsClear k s.flags → signal_of next ≢ Some k → IsClear k (exec_fetched marks next s).1.flags
+step_clear : (marks : MarkList) (next : Result ChipInsn FaultKind) (s : State) (k : ℕ) → IsClear k s.flags → signal_of next ≢ Some k
+    → IsClear k (exec_fetched marks next s).1.flags
 step_clear marks (Ok i) s k h other = act_clear marks i s k h other
 step_clear marks (Err kind) s k h other = h
 
@@ -52,7 +48,8 @@ insn_sets : (marks : MarkList) (i : ChipInsn) (s : State) (k : ℕ) → signal_o
 insn_sets marks (Sev e) s k is = let same : e ≡ k = cc in ap (λ (j : ℕ). set s.flags j true) same
 insn_sets marks i s k is = absurd (cc)
 
-step_sets : (marks : MarkList) (next : Result ChipInsn FaultKind) (s : State) (k : ℕ) → signal_of next ≡ Some k → (exec_fetched marks next s).1.flags ≡ set s.flags k true
+step_sets : (marks : MarkList) (next : Result ChipInsn FaultKind) (s : State) (k : ℕ) → signal_of next ≡ Some k
+    → (exec_fetched marks next s).1.flags ≡ set s.flags k true
 step_sets marks (Ok i) s k is = insn_sets marks i s k is
 step_sets marks (Err kind) s k is = absurd (cc)
 
@@ -76,19 +73,23 @@ set_false (x ∷ xs) (suc k) = set_false xs k
 set_false xs k = refl
 
 -- a set flag stays set, unless a DMAWFE takes it
-act_keeps : (marks : MarkList) (i : ChipInsn) (s : State) (k : ℕ) → Is k s.flags → ((v : Bool) → i ≡ Wfe k v → (act marks i s).0 ≢ Moved) → Is k (act marks i s).1.flags
+act_keeps : (marks : MarkList) (i : ChipInsn) (s : State) (k : ℕ) → Is k s.flags → ((v : Bool) → i ≡ Wfe k v → (act marks i s).0 ≢ Moved)
+    → Is k (act marks i s).1.flags
 act_keeps marks i s k h none = grind (arith, act_flags, get_or-set_other, set_true)
 
-step_keeps : (marks : MarkList) (next : Result ChipInsn FaultKind) (s : State) (k : ℕ) → Is k s.flags → ((v : Bool) → next ≡ Ok (Wfe k v) → (exec_fetched marks next s).0 ≢ Moved) → Is k (exec_fetched marks next s).1.flags
+step_keeps : (marks : MarkList) (next : Result ChipInsn FaultKind) (s : State) (k : ℕ) → Is k s.flags
+    → ((v : Bool) → next ≡ Ok (Wfe k v) → (exec_fetched marks next s).0 ≢ Moved) → Is k (exec_fetched marks next s).1.flags
 step_keeps marks (Ok i) s k h none = act_keeps marks i s k h (λ v is. none v (ap (λ (j : ChipInsn). Ok j) is))
 step_keeps marks (Err kind) s k h none = h
 
 -- a DMAWFE that passes found its flag set, and clears it
-wfe_takes : (marks : MarkList) (s : State) (k : ℕ) (v b : Bool) → get_or s.flags k false ≡ b → (act marks (Wfe k v) s).0 ≡ Moved → Is k s.flags × IsClear k (act marks (Wfe k v) s).1.flags
+wfe_takes : (marks : MarkList) (s : State) (k : ℕ) (v b : Bool) → get_or s.flags k false ≡ b → (act marks (Wfe k v) s).0 ≡ Moved → Is k s.flags
+    × IsClear k (act marks (Wfe k v) s).1.flags
 wfe_takes marks s k v true is moved = (is, rw is (set_false s.flags k))
 wfe_takes marks s k v false is moved = absurd (let waits : Waiting k ≡ Moved = rw is at moved in cc)
 
-step_takes : (marks : MarkList) (next : Result ChipInsn FaultKind) (s : State) (k : ℕ) (v : Bool) → next ≡ Ok (Wfe k v) → (exec_fetched marks next s).0 ≡ Moved → Is k s.flags × IsClear k (exec_fetched marks next s).1.flags
+step_takes : (marks : MarkList) (next : Result ChipInsn FaultKind) (s : State) (k : ℕ) (v : Bool) → next ≡ Ok (Wfe k v) → (exec_fetched marks next s).0 ≡ Moved
+    → Is k s.flags × IsClear k (exec_fetched marks next s).1.flags
 step_takes marks next s k v is moved =
     subst (λ (x : Result ChipInsn FaultKind). Is k s.flags × IsClear k (exec_fetched marks x s).1.flags) (sym is)
     (wfe_takes marks s k v (get_or s.flags k false) refl (ap (λ (x : Result ChipInsn FaultKind). (exec_fetched marks x s).0) (sym is) ∙ moved))
@@ -118,7 +119,8 @@ module _ (marks : MarkList) (s : Machine) (k : ℕ) where
     | inr early ↦
         let before = clear_since i j (omega arith) (λ m l. goes m (omega arith)) h in
         let next = ahead_of (at j).channel in
-        step_clear marks next (state_in (at j)) k before (quiet (answer_at marks (at j)) (signal_of next) k (went_before marks s (suc j) (goes (suc j) (omega arith))))
+        step_clear marks next (state_in (at j)) k before
+        (quiet (answer_at marks (at j)) (signal_of next) k (went_before marks s (suc j) (goes (suc j) (omega arith))))
   ]
 
   set_since : (j : ℕ) → GoesTo j → Is k s.flags → ((i : ℕ) → i < j → ¬ Passes i) → Is k (at j).flags
@@ -131,7 +133,8 @@ module _ (marks : MarkList) (s : Machine) (k : ℕ) where
   passed j w = step_takes marks (ahead_of (at j).channel) (state_in (at j)) k w.0 w.1 w.2
 
   -- a flag is set after a call exactly if the last step signals its event, or if it was set and no step took it
-  pub flag_exact : (v : Machine) (most taken : ℕ) (last : Option ChanTurn) → TakesSteps marks s most taken last v → length v.flags ≡ 32 → k < 32 → Is k v.flags ↔ ((signal_after marks s taken ≡ Some k) ⊎ (Is k s.flags × ((j : ℕ) → j < taken → ¬ Passes j)))
+  pub flag_exact : (v : Machine) (most taken : ℕ) (last : Option ChanTurn) → TakesSteps marks s most taken last v → length v.flags ≡ 32 → k < 32
+      → Is k v.flags ↔ ((signal_after marks s taken ≡ Some k) ⊎ (Is k s.flags × ((j : ℕ) → j < taken → ¬ Passes j)))
   flag_exact v most zero last x len below = (
     (λ high. inr (subst (λ (m : Machine). Is k m.flags) x.ends_at high, λ j less. absurd (omega arith))),
     (λ why. elim why [
@@ -143,7 +146,8 @@ module _ (marks : MarkList) (s : Machine) (k : ℕ) where
       let u = at p in
       let next = ahead_of u.channel in
       let flags : v.flags ≡ (exec_fetched marks next (state_in u)).1.flags = ap (λ (m : Machine). m.flags) x.ends_at in
-      let clears : signal_of next ≢ Some k → Clear p → IsClear k v.flags = (λ other clear. subst (IsClear k) (sym flags) (step_clear marks next (state_in u) k clear other)) in (
+      let clears : signal_of next ≢ Some k → Clear p → IsClear k v.flags =
+      (λ other clear. subst (IsClear k) (sym flags) (step_clear marks next (state_in u) k clear other)) in (
         (λ high. elim (is_signal (signal_of next) k) [
           | inl here ↦ inl here
           | inr other ↦
@@ -180,5 +184,6 @@ Waits next flags x = (e : ℕ) → x.0 ≡ Waiting e → (v : Bool) × ((next �
 step_waits : (marks : MarkList) (next : Result ChipInsn FaultKind) (s : State) → Waits next s.flags (exec_fetched marks next s)
 step_waits marks next s = grind (arith, fetched_cases)
 
-pub waits_at : (marks : MarkList) (u : Machine) (e : ℕ) → answer_at marks u ≡ Waiting e → (v : Bool) × ((ahead_of u.channel ≡ Ok (Wfe e v)) × (get_or u.flags e false ≡ false))
+pub waits_at : (marks : MarkList) (u : Machine) (e : ℕ) → answer_at marks u ≡ Waiting e → (v : Bool)
+    × ((ahead_of u.channel ≡ Ok (Wfe e v)) × (get_or u.flags e false ≡ false))
 waits_at marks u = step_waits marks (ahead_of u.channel) (state_of u.channel u.image u.flags)

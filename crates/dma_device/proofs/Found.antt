@@ -1,16 +1,11 @@
 -- The thread that `get` finds, if any, also once a thread is replaced.
-use Rattle.std.proofs.Common.{◌≡◌, ℕ, ◌<◌, List, length, Some, None, true, false, ltb, get_or, refl, sym, ◌≢◌, ◌∙◌, zero, suc, Bool, ◌||◌, [], ◌∷◌, ap, arith, subst, true≢false}
-use Rattle.std.proofs.lemmas.List.Elements.{All-get_or}
-use Rattle.std.proofs.lemmas.List.{get_or-set_same, length-set, set-get_or}
-use Rattle.std.specs.List.{All, list_any}
-use Rattle.std.specs.Prelude.{slice_get, slice_set}
-use Rattle.std.proofs.lemmas.Bool.{ltb-false, ltb-true, or_parts}
+use Rattle.std.proofs.Common.{◌≡◌, ℕ, ◌<◌, List, length, Some, None, true, false, ltb, get_or, refl, sym, ◌≢◌, ◌∙◌, zero, suc, Bool, ◌||◌, [], ◌∷◌, ap, arith}
+use Rattle.std.proofs.Common.{subst, true≢false}
 use Rattle.std.proofs.lemmas.Option.{slice_get_past, slice_get_read, get_or_from_slice_get, slice_get-get_or, slice_get_within}
-use Rattle.std.specs.Option.{option_map_or}
-use Rattle.dma_device.specs.Device.{DeviceValue}
-use Rattle.dma_device.specs.Thread.{runs}
-use Rattle.dma_device.specs.Turns.{runs_at}
-use Rattle.dma_device.specs.declared.thread.Thread.{Thread}
+use Rattle.std.proofs.{lemmas.List.Elements.All-get_or, lemmas.List.get_or-set_same, lemmas.List.length-set, lemmas.List.set-get_or, lemmas.Bool.ltb-false}
+use Rattle.std.proofs.{lemmas.Bool.ltb-true, lemmas.Bool.or_parts}
+use Rattle.std.specs.{List.All, List.list_any, Prelude.slice_get, Prelude.slice_set, Option.option_map_or}
+use Rattle.dma_device.specs.{Device.DeviceValue, Thread.runs, Turns.runs_at, declared.thread.Thread.Thread}
 
 pub found_at : (ts l : List Thread) (n : ℕ) (t : Thread) → l ≡ ts → true ≡ ltb n (length l) → t ≡ get_or l n t → (n < length ts) × (slice_get ts n ≡ Some t)
 found_at ts l n t same within is = grind (arith, ltb-true, slice_get_read)
@@ -47,7 +42,8 @@ any_at p (u ∷ us) zero t none found = let same : u ≡ t = cc in subst (λ (v 
 any_at p (u ∷ us) (suc n) t none found = any_at p us n t (or_parts (p u) (list_any p us) none).1 found
 
 -- a thread that is replaced by one alike changes no answer
-pub any_set : (p : Thread → Bool) (ts : List Thread) (n : ℕ) (t u : Thread) → slice_get ts n ≡ Some t → p u ≡ p t → list_any p (slice_set ts n u) ≡ list_any p ts
+pub any_set : (p : Thread → Bool) (ts : List Thread) (n : ℕ) (t u : Thread) → slice_get ts n ≡ Some t → p u ≡ p t
+    → list_any p (slice_set ts n u) ≡ list_any p ts
 any_set p [] n t u found alike = refl
 any_set p (v ∷ vs) zero t u found alike =
     let same : v ≡ t = cc in

@@ -1,21 +1,16 @@
 -- What turns and writes leave as it is.
 use Rattle.std.proofs.Common.{◌≡◌, ◌≢◌, ◌∙◌, ◌⊎◌, ℕ, ◌%◌, ◌/◌, Bool, true, false, List, Option, Some, None, ap, inl, inr, length, refl, sym, subst}
 use Rattle.std.specs.Prelude.{◌==◌, slice_get}
-use Rattle.std.proofs.lemmas.Bool.{cases_eq, eqb-false, eqb-true}
-use Rattle.std.proofs.lemmas.List.{length-set}
+use Rattle.std.proofs.{lemmas.Bool.cases_eq, lemmas.Bool.eqb-false, lemmas.Bool.eqb-true, lemmas.List.length-set}
 use Rattle.dma_insn.specs.ControlWord.{field}
-use Rattle.dma_mem.specs.Marking.{MarkList}
-use Rattle.dma_mem.specs.Regions.{Piece}
-use Rattle.dma_device.specs.Offsets as offset
-use Rattle.dma_device.specs.declared.device.Manager.{Manager}
-use Rattle.dma_device.specs.declared.thread.Thread.{Thread}
+use Rattle.dma_mem.specs.{Marking.MarkList, Regions.Piece}
 use Rattle.dma_device.specs.Device.{DeviceValue, by_manager, by_thread, debugged, go, is_interrupt, signalled, with_thread, written}
-use Rattle.dma_device.specs.Faults.{Addresses, TheChannel, TheManager, Who}
 use Rattle.dma_device.specs.Frame.{IsDmago, IsSame, KeepsThreads, LeavesOthers, MayChange, Names, TurnLeavesOthers, WriteLeavesThreads}
-use Rattle.dma_device.specs.Turns.{Setup, called_if, number_of, with_flags}
-use Rattle.dma_device.proofs.Calls.{call_keeps, machine_left, thread_left, turn_keeps}
-use Rattle.dma_device.proofs.Cases.{branch, go_cases, manager_cases, thread_cases}
-use Rattle.dma_device.proofs.Found.{set_other}
+use Rattle.dma_device.specs.{declared.device.Manager.Manager, declared.thread.Thread.Thread, Faults.Addresses, Faults.TheChannel, Faults.TheManager, Faults.Who}
+use Rattle.dma_device.specs.{Turns.Setup, Turns.called_if, Turns.number_of, Turns.with_flags}
+use Rattle.dma_device.proofs.{Calls.call_keeps, Calls.machine_left, Calls.thread_left, Calls.turn_keeps, Cases.branch, Cases.go_cases, Cases.manager_cases}
+use Rattle.dma_device.proofs.{Cases.thread_cases, Found.set_other}
+use Rattle.dma_device.specs.Offsets as offset
 
 -- ---- a turn
 
@@ -35,7 +30,8 @@ flagged : (n flags : ℕ) (d e : DeviceValue) → LeavesOthers n d e → LeavesO
 flagged n flags d e h =
     record { threads = h.threads; count = h.count; manager = h.manager; config = h.config; inten = h.inten; dbginst0 = h.dbginst0; dbginst1 = h.dbginst1 }
 
-call_leaves : (d : DeviceValue) (made : Bool) (marks : MarkList) (n most : ℕ) (s : Setup) → LeavesOthers n d s.device → LeavesOthers n d (called_if made marks n most s).left.device
+call_leaves : (d : DeviceValue) (made : Bool) (marks : MarkList) (n most : ℕ) (s : Setup) → LeavesOthers n d s.device
+    → LeavesOthers n d (called_if made marks n most s).left.device
 call_leaves d made marks n most s h = call_keeps (LeavesOthers n d) made marks n most s h (λ x.
     let flags = number_of (machine_left marks most x.thread s).flags in
     replaced n (thread_left marks most x.thread s) d (with_flags flags s.device) (flagged n flags d s.device h))
@@ -139,7 +135,8 @@ is_that : (who one : Who) (d e : DeviceValue) → (who ≢ one → IsSame who d 
 is_that who one d e others differs = elim (decide_who who one) [ inl same ↦ same | inr apart ↦ absurd (differs (others apart)) ]
 
 -- a write may change one thread, and leaves the others
-changes_one : (one : Who) (at value : ℕ) (d e : DeviceValue) → MayChange one at value d → ((who : Who) → who ≢ one → IsSame who d e) → length e.threads ≡ length d.threads → e.config ≡ d.config → KeepsThreads at value d e
+changes_one : (one : Who) (at value : ℕ) (d e : DeviceValue) → MayChange one at value d → ((who : Who) → who ≢ one → IsSame who d e)
+    → length e.threads ≡ length d.threads → e.config ≡ d.config → KeepsThreads at value d e
 changes_one one at value d e may others count config = record {
   registers = λ elsewhere. absurd (elsewhere may.debug);
   others = λ who never. others who (λ same. never (subst (λ (w : Who). MayChange w at value d) (sym same) may));

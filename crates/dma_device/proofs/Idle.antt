@@ -1,29 +1,18 @@
 -- Devices stay sound, and a turn of a sound device whose threads can't step does nothing.
 use Rattle.std.proofs.Common.{◌≡◌, ◌∙◌, ℕ, ◌+◌, ◌%◌, ◌/◌, ◌<◌, ◌≤◌, Bool, true, List, ap, refl, sym, subst, arith, bit_and, w32}
-use Rattle.std.specs.Prelude.{◌==◌, nat_lt}
-use Rattle.std.specs.Int.{bit_not}
-use borrow.Author.Tests.{ltb-true}
-use Rattle.std.proofs.Math.Pow.{pow-lt}
-use Rattle.std.proofs.lemmas.Bool.{and_parts}
-use Rattle.std.proofs.lemmas.List.Elements.{All-replicate}
-use Rattle.std.proofs.lemmas.Nat.{or_lt, pow_pos}
+use Rattle.std.specs.{Prelude.◌==◌, Prelude.nat_lt, Int.bit_not}
+use Rattle.std.proofs.{Math.Pow.pow-lt, lemmas.Bool.and_parts, lemmas.List.Elements.All-replicate, lemmas.Nat.or_lt, lemmas.Nat.pow_pos}
 use Rattle.dma_insn.specs.ControlWord.{field}
-use Rattle.dma_mem.specs.Marking.{MarkList}
-use Rattle.dma_mem.specs.Regions.{Piece, pieces_of}
-use Rattle.dma_mem.specs.declared.regions.Region.{Region}
-use Rattle.dma_device.specs.declared.config.Config.{Config}
+use Rattle.dma_mem.specs.{Marking.MarkList, Regions.Piece, Regions.pieces_of, declared.regions.Region.Region}
 use Rattle.dma_device.specs.Accesses.{Access, Answer, Does, Resets, Restores, Turned, Turns, Writes}
-use Rattle.dma_device.specs.CallSteps.{last_in, signal_in}
 use Rattle.dma_device.specs.Device.{DeviceValue, all_events, debugged, is_event, program_at, reset_device, signalled, written}
-use Rattle.dma_device.specs.Idle.{IsSoundDevice, NothingHappens, StaySound}
-use Rattle.dma_device.specs.Snapshot.{IsDeviceValue}
-use Rattle.dma_device.specs.Thread.{IsSound, failed, killed, reset_thread, started}
 use Rattle.dma_device.specs.Turns.{Setup, called_if, machine_in, number_of, steps_in, with_flags}
+use Rattle.dma_device.specs.{declared.config.Config.Config, CallSteps.last_in, CallSteps.signal_in, Idle.IsSoundDevice, Idle.NothingHappens, Idle.StaySound}
+use Rattle.dma_device.specs.{Snapshot.IsDeviceValue, Thread.IsSound, Thread.failed, Thread.killed, Thread.reset_thread, Thread.started}
 use Rattle.dma_device.proofs.Calls.{call_keeps, machine_left, takes, thread_left, turn_keeps}
-use Rattle.dma_device.proofs.Cases.{branch, debug_cases, write_cases}
-use Rattle.dma_device.proofs.History.{kept_along}
 use Rattle.dma_device.proofs.Sound.{and_fewer, and_known, answered_sound, few_events, same_threads, thread_sound}
-use Rattle.dma_device.proofs.Waits.{turn_rests}
+use Rattle.dma_device.proofs.{Cases.branch, Cases.debug_cases, Cases.write_cases, History.kept_along, Waits.turn_rests}
+use borrow.Author.Tests.{ltb-true}
 
 -- ---- parts
 
@@ -52,7 +41,8 @@ written_sound ram at value d h =
     let lowered : DeviceValue = record d { interrupts = bit_and d.interrupts (bit_not w32 (bit_and value d.inten)) } in
     write_cases IsSoundDevice ram at value d (record {
       inten = same_threads d enabled h refl refl h.known.events h.known.interrupts (and_known value n);
-      intclr = λ is. same_threads d lowered h refl refl h.known.events (and_fewer d.interrupts (bit_not w32 (bit_and value d.inten)) n h.known.interrupts) h.known.inten;
+      intclr = λ is. same_threads d lowered h refl refl h.known.events (and_fewer d.interrupts (bit_not w32 (bit_and value d.inten)) n h.known.interrupts)
+          h.known.inten;
       dbgcmd = λ is. debugged_sound ram d h;
       dbginst0 = same_threads d (record d { dbginst0 = value }) h refl refl h.known.events h.known.interrupts h.known.inten;
       dbginst1 = same_threads d (record d { dbginst1 = value }) h refl refl h.known.events h.known.interrupts h.known.inten;
@@ -71,7 +61,8 @@ call_sound made marks n most s h = call_keeps IsSoundDevice made marks n most s 
     let to = machine_left marks most t s in
     let flags = number_of to.flags in
     thread_sound (with_flags flags d) n (thread_left marks most t s) (flags_sound d flags h)
-    (answered_sound marks (machine_in s t) to most (steps_in marks most t s) d.config.events (last_in marks most t s) (record t { channel = to.channel }) (signal_in marks most t s) (takes marks most t s) refl))
+    (answered_sound marks (machine_in s t) to most (steps_in marks most t s) d.config.events (last_in marks most t s) (record t { channel = to.channel })
+    (signal_in marks most t s) (takes marks most t s) refl))
 
 -- ---- accesses
 
@@ -85,7 +76,8 @@ reset_sound g few = record {
   threads = All-replicate (IsSound g.events) g.channels (reset_thread g.bus) refl;
 }
 
-access_sound : (a : Access) (d e : DeviceValue) (regions left : List Region) (answer : Answer) → Does a d regions answer e left → IsSoundDevice d → IsSoundDevice e
+access_sound : (a : Access) (d e : DeviceValue) (regions left : List Region) (answer : Answer) → Does a d regions answer e left → IsSoundDevice d
+    → IsSoundDevice e
 access_sound (Writes at value) d e regions left answer x h = subst IsSoundDevice (sym x.1) (written_sound (pieces_of regions) at value d h)
 access_sound (Turns n most) d e regions left answer x h = turn_keeps x.1.1 IsSoundDevice (λ made marks m s. call_sound made marks n m s) h
 access_sound Resets d e regions left answer x h = subst IsSoundDevice (sym x.1) (reset_sound d.config h.few)
@@ -101,7 +93,8 @@ stay_sound = record {
 
 pub nothing_happens : NothingHappens
 nothing_happens access answer before lent left count k n most happen sound less turns idle =
-    let here = kept_along (λ j. IsSoundDevice (before j)) count sound (λ j l h. access_sound (access j) (before j) (before (j + 1)) (lent j) (left j) (answer j) (happen j l) h) k (omega arith) in
+    let here = kept_along (λ j. IsSoundDevice (before j)) count sound
+    (λ j l h. access_sound (access j) (before j) (before (j + 1)) (lent j) (left j) (answer j) (happen j l) h) k (omega arith) in
     let x = subst (λ (a : Access). Does a (before k) (lent k) (answer k) (before (k + 1)) (left k)) turns (happen k less) in
     let rests = turn_rests (before k) (lent k) n most (before (k + 1)) (left k) x.0 here idle x.1.1 in
     (rests.device, rests.alike, x.1.0 ∙ ap Turned rests.report)

@@ -13,13 +13,16 @@ use Rattle.dma_device.specs.Dmago.{HasProgram, ImageHasBytes}
 -- ---- a piece's bytes in the image
 
 -- the image from the first piece on, behind the gap before it
-after_gap : (at : ℕ) (p : Piece) (ps : List Piece) (k : ℕ) → rises_from at (p ∷ ps) ≡ true → p.addr ≤ k → get_or (bytes_above at (p ∷ ps)) (k - at) 0 ≡ get_or (p.bytes ++ bytes_above (end_of p) ps) (k - p.addr) 0
+after_gap : (at : ℕ) (p : Piece) (ps : List Piece) (k : ℕ) → rises_from at (p ∷ ps) ≡ true → p.addr ≤ k
+    → get_or (bytes_above at (p ∷ ps)) (k - at) 0 ≡ get_or (p.bytes ++ bytes_above (end_of p) ps) (k - p.addr) 0
 after_gap at p ps k rises from = grind (arith, first, get_or-append_right, length-replicate)
 
-in_first : (at : ℕ) (p : Piece) (ps : List Piece) (k : ℕ) → rises_from at (p ∷ ps) ≡ true → p.addr ≤ k → k < end_of p → get_or (bytes_above at (p ∷ ps)) (k - at) 0 ≡ get_or p.bytes (k - p.addr) 0
+in_first : (at : ℕ) (p : Piece) (ps : List Piece) (k : ℕ) → rises_from at (p ∷ ps) ≡ true → p.addr ≤ k → k < end_of p
+    → get_or (bytes_above at (p ∷ ps)) (k - at) 0 ≡ get_or p.bytes (k - p.addr) 0
 in_first at p ps k rises from to = after_gap at p ps k rises from ∙ get_or_append_left p.bytes (bytes_above (end_of p) ps) 0 (k - p.addr) (omega arith)
 
-pub in_later : (at : ℕ) (p : Piece) (ps : List Piece) (k : ℕ) → rises_from at (p ∷ ps) ≡ true → end_of p ≤ k → get_or (bytes_above at (p ∷ ps)) (k - at) 0 ≡ get_or (bytes_above (end_of p) ps) (k - end_of p) 0
+pub in_later : (at : ℕ) (p : Piece) (ps : List Piece) (k : ℕ) → rises_from at (p ∷ ps) ≡ true → end_of p ≤ k
+    → get_or (bytes_above at (p ∷ ps)) (k - at) 0 ≡ get_or (bytes_above (end_of p) ps) (k - end_of p) 0
 in_later at p ps k rises past = grind (arith, after_gap, get_or-append_right)
 
 -- pieces that rise from an address begin there or later
@@ -33,7 +36,8 @@ low_at at (q ∷ rs) (suc i) r rises is =
     let f = first at (piece_of q) (pieces_of rs) rises in
     omega (arith, f.after, low_at (end_of (piece_of q)) rs i r f.rest is)
 
-bytes_at : (at : ℕ) (rs : List Region) (i k : ℕ) (r : Region) → rises_from at (pieces_of rs) ≡ true → slice_get rs i ≡ Some r → k < length r.bytes.now → get_or (bytes_above at (pieces_of rs)) (r.addr + k - at) 0 ≡ get_or r.bytes.now k 0
+bytes_at : (at : ℕ) (rs : List Region) (i k : ℕ) (r : Region) → rises_from at (pieces_of rs) ≡ true → slice_get rs i ≡ Some r → k < length r.bytes.now
+    → get_or (bytes_above at (pieces_of rs)) (r.addr + k - at) 0 ≡ get_or r.bytes.now k 0
 bytes_at at [] i k r rises is less = absurd (cc)
 bytes_at at (q ∷ rs) zero k r rises is less =
     let same : q ≡ r = cc in
@@ -100,8 +104,18 @@ long_run at (p ∷ ps) a n rises lie =
             let m = end_of p - a in
             let later = long_run (end_of p) ps (end_of p) (n - m) f.rest (λ k less.
             let there : a + (m + k) ≡ end_of p + k = omega (arith, w.1) in
-            later_has p ps (end_of p + k) (has_not (end_of p + k) p (inr (omega arith))) (subst (λ (j : ℕ). list_any (has j) (p ∷ ps) ≡ true) there (lie (m + k) (omega (arith, less))))) in
-            omega (arith, later, w.0, w.1, ap length (run_here p ps a here), length-append (drop (a - p.addr) p.bytes) (run_from ps (end_of p)), length-drop (a - p.addr) p.bytes)
+            later_has p ps (end_of p + k) (has_not (end_of p + k) p (inr (omega arith)))
+            (subst (λ (j : ℕ). list_any (has j) (p ∷ ps) ≡ true) there (lie (m + k) (omega (arith, less))))) in
+            omega (
+              arith,
+              later,
+              w.0,
+              w.1,
+              ap length (run_here p ps a here),
+              length-append (drop (a - p.addr) p.bytes) (run_from ps (end_of p)),
+              length-drop
+                  (a - p.addr) p.bytes,
+            )
         | inr other ↦
             let same : a + 0 ≡ a = omega arith in
             let past = low_has (end_of p) ps a f.rest (later_has p ps a other (subst (λ (j : ℕ). list_any (has j) (p ∷ ps) ≡ true) same (lie 0 some))) in
@@ -111,7 +125,8 @@ long_run at (p ∷ ps) a n rises lie =
     ]
 
 -- it has the image's bytes
-run_shown : (at : ℕ) (ps : List Piece) (a k : ℕ) → rises_from at ps ≡ true → k < length (run_from ps a) → get_or (run_from ps a) k 0 ≡ get_or (bytes_above at ps) (a + k - at) 0
+run_shown : (at : ℕ) (ps : List Piece) (a k : ℕ) → rises_from at ps ≡ true → k < length (run_from ps a)
+    → get_or (run_from ps a) k 0 ≡ get_or (bytes_above at ps) (a + k - at) 0
 run_shown at [] a k rises less = absurd (omega (arith, less))
 run_shown at (p ∷ ps) a k rises less =
     let f = first at p ps rises in

@@ -1,10 +1,8 @@
 -- Whether regions are in order depends on their places alone, and so do the marks at the gaps between them.
 use Rattle.std.proofs.Common.{◌≡◌, ◌∙◌, ℕ, ◌+◌, Bool, true, ◌&&◌, List, [], ◌∷◌, map, ap, refl, sym, ◌++◌, ◌-◌}
 use Rattle.std.specs.Prelude.{nat_le}
-use Rattle.dma_mem.specs.Lent.{marks_at, stores_at}
 use Rattle.dma_mem.specs.Regions.{gaps_above, in_order, largest_end, pieces_of, read_only_of, rises_from}
-use Rattle.dma_mem.specs.declared.regions.Region.{Region}
-use Rattle.dma_mem.specs.declared.segment.Segment.{Segment}
+use Rattle.dma_mem.specs.{Lent.marks_at, Lent.stores_at, declared.regions.Region.Region, declared.segment.Segment.Segment}
 use Rattle.dma_chan.specs.LentRegions.{segment_of, with_gaps_of}
 
 -- whether segments rise from `at` on
@@ -32,7 +30,8 @@ between_is at [] = refl
 between_is at (r ∷ rs) =
     ap (λ (ss : List Segment). record { addr = at; len = r.addr - at } ∷ ss) (between_is ((segment_of r).addr + (segment_of r).len) rs)
 
-pub marks_kept : (rs left : List Region) → map segment_of left ≡ map segment_of rs → read_only_of left ≡ read_only_of rs → with_gaps_of left [] ≡ with_gaps_of rs []
+pub marks_kept : (rs left : List Region) → map segment_of left ≡ map segment_of rs → read_only_of left ≡ read_only_of rs
+    → with_gaps_of left [] ≡ with_gaps_of rs []
 marks_kept rs left same access =
     ap (λ (ss : List Segment). marks_at ss ++ (stores_at (read_only_of left) ++ [])) (between_is 0 left ∙ ap (between 0) same ∙ sym (between_is 0 rs))
     ∙ ap (λ (ss : List Segment). marks_at (gaps_above 0 (pieces_of rs)) ++ (stores_at ss ++ [])) access

@@ -1,35 +1,30 @@
 -- Interrupts: what a turn makes of the lines irq[31:0], and along accesses in a row.
-use Rattle.std.proofs.Common.{◌≡◌, ◌∙◌, ◌⊎◌, ℕ, true, ◌+◌, ◌<◌, ◌≤◌, List, ap, refl, sym, subst, arith, inl, inr, ◌-◌, ◌^◌, Bool, false, length, get_or, Option, Some, None, true≢false, w32}
+use Rattle.std.proofs.Common.{◌≡◌, ◌∙◌, ◌⊎◌, ℕ, true, ◌+◌, ◌<◌, ◌≤◌, List, ap, refl, sym, subst, arith, inl, inr, ◌-◌, ◌^◌, Bool, false, length, get_or, Option}
+use Rattle.std.proofs.Common.{Some, None, true≢false, w32}
 use Rattle.dma_chan.specs.Stepping.{Machine}
-use Rattle.std.specs.Prelude.{◌↔◌, min, max}
+use Rattle.std.specs.{Prelude.◌↔◌, Prelude.min, Prelude.max, Int.bit_at, Int.bit_not}
 use Rattle.std.proofs.lemmas.Bool.{cases_eq, ne_eqb}
 use Rattle.std.proofs.lemmas.Nat.Bits.{bit_at-zero, bit_at-lt, bit_at_and, bit_at_not, bit_at_ones, bit_at_or}
-use Rattle.std.specs.Int.{bit_at, bit_not}
-use Rattle.dma_mem.specs.Regions.{pieces_of}
-use Rattle.dma_mem.specs.declared.regions.Region.{Region}
+use Rattle.dma_mem.specs.{Regions.pieces_of, declared.regions.Region.Region, Flags.flags_of, Marking.MarkList}
 use Rattle.dma_device.specs.Accesses.{Access, Answer, Does, Happen, Resets, Restores, Turns, Writes}
-use Rattle.dma_device.specs.Device.{DeviceValue, irqs, written}
-use Rattle.dma_device.specs.Turns.{TakesTurn, Outcome, Setup, begins, called_if, follows, machine_in, number_of, setup_of, stepped, steps_in, visible_events, with_flags}
-use Rattle.dma_device.specs.declared.config.Config.{Config}
-use Rattle.dma_device.specs.declared.device.turns.Turn.{Turn}
+use Rattle.dma_device.specs.Turns.{TakesTurn, Outcome, Setup, begins, called_if, follows, machine_in, number_of, setup_of, stepped, steps_in, visible_events}
+use Rattle.dma_device.specs.Turns.{with_flags}
 use Rattle.dma_device.specs.Interrupts.{Clears, HasLine, InterruptsAreExact, IsHigh, Raises, TurnSignals}
+use Rattle.dma_device.specs.{Device.DeviceValue, Device.irqs, Device.written, declared.config.Config.Config, declared.device.turns.Turn.Turn}
+use Rattle.dma_device.specs.{declared.thread.Thread.Thread, CallSteps.first_in, CallSteps.last_in, CallSteps.marks_in, CallSteps.second_in, CallSteps.signal_in}
 use Rattle.dma_insn.specs.ControlWord.{flag}
-use Rattle.dma_mem.specs.Flags.{flags_of}
-use Rattle.dma_mem.specs.Marking.{MarkList}
 use Rattle.dma_mem.proofs.FlagBits.{get_or_flags_of, length_flags_of}
-use Rattle.dma_device.specs.declared.thread.Thread.{Thread}
-use Rattle.dma_device.specs.CallSteps.{first_in, last_in, marks_in, second_in, signal_in}
-use Rattle.dma_device.proofs.Sound.{few_events, fits_word}
 use Rattle.dma_device.proofs.WriteRaises.{dbgcmd_raises, has_kept, intclr_lowers, others_keep, write_has}
-use Rattle.dma_device.proofs.History as history
 use Rattle.dma_device.proofs.Calls.{call_acts, call_is, if_config, if_inten, machine_left, takes, turn_device, turn_keeps}
-use Rattle.dma_device.proofs.FlagNumber.{flag_is, number_bit}
 use Rattle.dma_device.proofs.FlagSteps.{IsClear, flag_exact, steps_flags, Is, Passes}
+use Rattle.dma_device.proofs.{Sound.few_events, Sound.fits_word, FlagNumber.flag_is, FlagNumber.number_bit}
+use Rattle.dma_device.proofs.History as history
 
 -- ---- a call
 
 -- the line, by the bits of the interrupts, of the flags and of INTEN
-line_after : (flags k : ℕ) (d : DeviceValue) → k < d.config.events → bit_at (irqs (with_flags flags d)) k ≡ max (bit_at d.interrupts k) (min (min (bit_at flags k) 1) (bit_at d.inten k))
+line_after : (flags k : ℕ) (d : DeviceValue) → k < d.config.events
+    → bit_at (irqs (with_flags flags d)) k ≡ max (bit_at d.interrupts k) (min (min (bit_at flags k) 1) (bit_at d.inten k))
 line_after flags k d event = simp (bit_at_or, bit_at_and, bit_at_ones)
 
 -- after a call that set the flag of `signal`, if any, line k is high exactly if it was high before or the call raised
@@ -38,7 +33,9 @@ abbrev CallRaises : DeviceValue → DeviceValue → Option ℕ → ℕ → Type 
 CallRaises d e signal k = IsHigh (irqs e) k ↔ (IsHigh (irqs d) k ⊎ (IsHigh d.inten k × (signal ≡ Some k)))
 
 pub flag_bit : (flags k : ℕ) → k < 32 → get_or (flags_of flags) k false ≡ true → bit_at flags k ≡ 1
-flag_bit flags k below h = elim (cases_eq (bit_at flags k) 1) [ inl one ↦ one | inr other ↦ absurd (true≢false (sym h ∙ get_or_flags_of flags k below ∙ ne_eqb (bit_at flags k) 1 other)) ]
+flag_bit flags k below h =
+    elim (cases_eq (bit_at flags k) 1)
+    [ inl one ↦ one | inr other ↦ absurd (true≢false (sym h ∙ get_or_flags_of flags k below ∙ ne_eqb (bit_at flags k) 1 other)) ]
 
 -- the bit of an event that channels see
 pub seen_bit : (d : DeviceValue) (k : ℕ) → k < 32 → d.inten < 2 ^ 32 → bit_at (visible_events d) k ≡ min (bit_at d.events k) (1 - bit_at d.inten k)
@@ -76,30 +73,44 @@ module _ (marks : MarkList) (most : ℕ) (t : Thread) (s : Setup) (k : ℕ) (has
       let is = flag_is (get_or to.flags k false) in
       ((λ high. w.0 (is.0 (sym flag_left ∙ high))), (λ why. flag_left ∙ is.1 (w.1 why)))
 
-call_raises : (marks : MarkList) (n most : ℕ) (t : Thread) (s : Setup) (k : ℕ) → HasLine s.device k → let o = stepped marks n most t s in CallRaises s.device o.left.device o.called.signal k
-call_raises marks n most t s k has = grind (arith, flag_sets marks most t s k has, hidden s.device k (below marks most t s k has) has.inten, line_after (flags_left marks most t s k has) k s.device has.event, bit_at-lt)
+call_raises : (marks : MarkList) (n most : ℕ) (t : Thread) (s : Setup) (k : ℕ) → HasLine s.device k → let o = stepped marks n most t s in
+    CallRaises s.device o.left.device o.called.signal k
+call_raises marks n most t s k has =
+    grind (
+      arith,
+      flag_sets marks most t s k has,
+      hidden s.device k (below marks most t s k has) has.inten,
+      line_after (flags_left marks most t s k has) k
+          s.device has.event,
+      bit_at-lt,
+    )
 
 -- nothing was signalled, and the lines are the same
 pub same_raises : (d e : DeviceValue) (signal : Option ℕ) (k : ℕ) → irqs e ≡ irqs d → signal ≡ None → CallRaises d e signal k
 same_raises d e signal k lines none = grind arith
 
-if_raises : (made : Bool) (marks : MarkList) (n most : ℕ) (s : Setup) (k : ℕ) → HasLine s.device k → let o = called_if made marks n most s in CallRaises s.device o.left.device o.called.signal k
+if_raises : (made : Bool) (marks : MarkList) (n most : ℕ) (s : Setup) (k : ℕ) → HasLine s.device k → let o = called_if made marks n most s in
+    CallRaises s.device o.left.device o.called.signal k
 if_raises made marks n most s k has =
     let o = called_if made marks n most s in
     elim (call_is made marks n most s) [
-      | inl rests ↦ same_raises s.device o.left.device o.called.signal k (ap (λ (w : Outcome). irqs w.left.device) rests.is) (ap (λ (w : Outcome). w.called.signal) rests.is)
+      | inl rests ↦ same_raises s.device o.left.device o.called.signal k (ap (λ (w : Outcome). irqs w.left.device) rests.is)
+          (ap (λ (w : Outcome). w.called.signal) rests.is)
       | inr does ↦
-          subst (λ (w : Outcome). CallRaises s.device w.left.device w.called.signal k) (sym (call_acts marks most does)) (call_raises marks n most does.thread s k has)
+          subst (λ (w : Outcome). CallRaises s.device w.left.device w.called.signal k) (sym (call_acts marks most does))
+          (call_raises marks n most does.thread s k has)
     ]
 
 -- ---- a turn
 
-both : (d m e : DeviceValue) (first second : Option ℕ) (k : ℕ) → m.inten ≡ d.inten → CallRaises d m first k → CallRaises m e second k → IsHigh (irqs e) k ↔ (IsHigh (irqs d) k ⊎ (IsHigh d.inten k × ((first ≡ Some k) ⊎ (second ≡ Some k))))
+both : (d m e : DeviceValue) (first second : Option ℕ) (k : ℕ) → m.inten ≡ d.inten → CallRaises d m first k → CallRaises m e second k
+    → IsHigh (irqs e) k ↔ (IsHigh (irqs d) k ⊎ (IsHigh d.inten k × ((first ≡ Some k) ⊎ (second ≡ Some k))))
 both d m e first second k same one two = grind arith
 
 -- After a turn line k is high exactly if it was high before, or the turn executed a DMASEV of it while INTEN made it an
 -- interrupt.
-pub turn_raises : (d e : DeviceValue) (regions left : List Region) (n most k : ℕ) (turn : Turn) → TakesTurn d regions n most e left turn → HasLine d k → IsHigh (irqs e) k ↔ (IsHigh (irqs d) k ⊎ (IsHigh d.inten k × TurnSignals d regions n most k))
+pub turn_raises : (d e : DeviceValue) (regions left : List Region) (n most k : ℕ) (turn : Turn) → TakesTurn d regions n most e left turn → HasLine d k
+    → IsHigh (irqs e) k ↔ (IsHigh (irqs d) k ⊎ (IsHigh d.inten k × TurnSignals d regions n most k))
 turn_raises d e regions left n most k turn x has =
     let marks = marks_in regions in
     let s = setup_of d regions in
@@ -129,19 +140,31 @@ pub exact_if_same : (k old new : ℕ) (Up Down : Type 0) → new ≡ old → ¬ 
 exact_if_same k old new Up Down same =
     history.exact_if_same (IsHigh old k) (IsHigh new k) Up Down (subst (λ (m : ℕ). IsHigh m k) (sym same)) (subst (λ (m : ℕ). IsHigh m k) same)
 
-write_exact : (k at value : ℕ) (d : DeviceValue) (regions : List Region) → HasLine d k → let e = written (pieces_of regions) at value d in Exact k (irqs d) (irqs e) (Raises k (Writes at value) d regions) (Clears k (Writes at value) d)
-write_exact k at value d regions has = grind (arith, intclr_lowers d (pieces_of regions) value k has, dbgcmd_raises true d (pieces_of regions) value k, others_keep true d (pieces_of regions) at value)
+write_exact : (k at value : ℕ) (d : DeviceValue) (regions : List Region) → HasLine d k → let e = written (pieces_of regions) at value d in
+    Exact k (irqs d) (irqs e) (Raises k (Writes at value) d regions) (Clears k (Writes at value) d)
+write_exact k at value d regions has =
+    grind (
+      arith,
+      intclr_lowers d (pieces_of regions) value k has,
+      dbgcmd_raises true d (pieces_of regions) value k,
+      others_keep true d (pieces_of regions) at
+          value,
+    )
 
-turn_exact : (k n most : ℕ) (d e : DeviceValue) (regions left : List Region) (turn : Turn) → HasLine d k → TakesTurn d regions n most e left turn → Exact k (irqs d) (irqs e) (Raises k (Turns n most) d regions) (Clears k (Turns n most) d)
-turn_exact k n most d e regions left turn has x = history.exact_if_raised _ _ _ _ ⊥ (λ up. up) (λ up. up) (λ down. down) (turn_raises d e regions left n most k turn x has)
+turn_exact : (k n most : ℕ) (d e : DeviceValue) (regions left : List Region) (turn : Turn) → HasLine d k → TakesTurn d regions n most e left turn
+    → Exact k (irqs d) (irqs e) (Raises k (Turns n most) d regions) (Clears k (Turns n most) d)
+turn_exact k n most d e regions left turn has x =
+    history.exact_if_raised _ _ _ _ ⊥ (λ up. up) (λ up. up) (λ down. down) (turn_raises d e regions left n most k turn x has)
 
 -- after a restore a bit is that of the restored device
 pub restored_bit : (k bits before after : ℕ) → after ≡ bits → IsHigh after k ↔ (IsHigh bits k ⊎ (IsHigh before k × ¬ ¬ IsHigh bits k))
 restored_bit k bits before after is = grind arith
 
-access_exact : (k : ℕ) (a : Access) (d e : DeviceValue) (regions left : List Region) (answer : Answer) → HasLine d k → Does a d regions answer e left → Exact k (irqs d) (irqs e) (Raises k a d regions) (Clears k a d)
+access_exact : (k : ℕ) (a : Access) (d e : DeviceValue) (regions left : List Region) (answer : Answer) → HasLine d k → Does a d regions answer e left
+    → Exact k (irqs d) (irqs e) (Raises k a d regions) (Clears k a d)
 access_exact k (Writes at value) d e regions left answer has x =
-    subst (λ (v : DeviceValue). Exact k (irqs d) (irqs v) (Raises k (Writes at value) d regions) (Clears k (Writes at value) d)) (sym x.1) (write_exact k at value d regions has)
+    subst (λ (v : DeviceValue). Exact k (irqs d) (irqs v) (Raises k (Writes at value) d regions) (Clears k (Writes at value) d)) (sym x.1)
+    (write_exact k at value d regions has)
 access_exact k (Turns n most) d e regions left answer has x = turn_exact k n most d e regions left x.0 has x.1.1
 access_exact k Resets d e regions left answer has x =
     let low : ¬ IsHigh (irqs e) k = (λ high. let zero_bit = ap (λ (v : DeviceValue). bit_at (irqs v) k) x.1 ∙ bit_at-zero k in omega (arith, zero_bit, high)) in
@@ -151,8 +174,10 @@ access_exact k a d e regions left answer has x = exact_if_same k (irqs d) (irqs 
 
 -- ---- an access leaves a device its lines
 
-pub access_has : (k : ℕ) (a : Access) (d e : DeviceValue) (regions left : List Region) (answer : Answer) → HasLine d k → Does a d regions answer e left → HasLine e k
-access_has k (Writes at value) d e regions left answer has x = subst (λ (v : DeviceValue). HasLine v k) (sym x.1) (write_has k (pieces_of regions) at value d has)
+pub access_has : (k : ℕ) (a : Access) (d e : DeviceValue) (regions left : List Region) (answer : Answer) → HasLine d k → Does a d regions answer e left
+    → HasLine e k
+access_has k (Writes at value) d e regions left answer has x =
+    subst (λ (v : DeviceValue). HasLine v k) (sym x.1) (write_has k (pieces_of regions) at value d has)
 access_has k (Turns n most) d e regions left answer has x =
     has_kept k d e (turn_config d e regions left n most x.0 x.1.1) (turn_inten d e regions left n most x.0 x.1.1) has
 access_has k Resets d e regions left answer has x =
@@ -169,11 +194,14 @@ access_has k a d e regions left answer has x = subst (λ (v : DeviceValue). HasL
 
 -- ---- accesses in a row
 
-pub all_have : (access : ℕ → Access) (answer : ℕ → Answer) (before : ℕ → DeviceValue) (lent left : ℕ → List Region) (count k : ℕ) → Happen access answer before lent left count → HasLine (before 0) k → (n : ℕ) → n ≤ count → HasLine (before n) k
+pub all_have : (access : ℕ → Access) (answer : ℕ → Answer) (before : ℕ → DeviceValue) (lent left : ℕ → List Region) (count k : ℕ)
+    → Happen access answer before lent left count → HasLine (before 0) k → (n : ℕ) → n ≤ count → HasLine (before n) k
 all_have access answer before lent left count k happen has =
-    history.kept_along (λ n. HasLine (before n) k) count has (λ n less h. access_has k (access n) (before n) (before (n + 1)) (lent n) (left n) (answer n) h (happen n less))
+    history.kept_along (λ n. HasLine (before n) k) count has
+    (λ n less h. access_has k (access n) (before n) (before (n + 1)) (lent n) (left n) (answer n) h (happen n less))
 
 pub interrupts_are_exact : InterruptsAreExact
 interrupts_are_exact access answer before lent left count k n happen has within =
     history.held (λ j. IsHigh (irqs (before j)) k) (λ j. Raises k (access j) (before j) (lent j)) (λ j. Clears k (access j) (before j)) count
-    (λ j less. access_exact k (access j) (before j) (before (j + 1)) (lent j) (left j) (answer j) (all_have access answer before lent left count k happen has j (omega arith)) (happen j less)) n within
+    (λ j less. access_exact k (access j) (before j) (before (j + 1)) (lent j) (left j) (answer j)
+    (all_have access answer before lent left count k happen has j (omega arith)) (happen j less)) n within

@@ -1,37 +1,23 @@
 -- A driver's DMAGO of a program that copies one byte, and two turns of its channel: what the laws of a DMAGO suppose
 -- holds of them.
-use Rattle.std.proofs.Common.{◌≡◌, ℕ, zero, suc, ◌+◌, ◌<◌, true, false, List, [], ◌∷◌, get_or, ◌∙◌, Bool, Result, ap, subst, true≢false, None, Ok, refl, sym, arith, inl, inr}
-use Rattle.std.specs.Prelude.{IsTrue, slice_index, slice_index_or, slice_get}
-use Rattle.std.specs.List.{Contains, list_any}
+use Rattle.std.proofs.Common.{◌≡◌, ℕ, zero, suc, ◌+◌, ◌<◌, true, false, List, [], ◌∷◌, get_or, ◌∙◌, Bool, Result, ap, subst, true≢false, None, Ok, refl, sym}
+use Rattle.std.proofs.Common.{arith, inl, inr}
+use Rattle.std.specs.{Prelude.IsTrue, Prelude.slice_index, Prelude.slice_index_or, Prelude.slice_get, List.Contains, List.list_any}
 use Rattle.std.proofs.lemmas.Bool.{le-leb, lt-ltb}
 use Rattle.dma_insn.specs.ControlWord.{control_of, end_at, is_control}
-use Rattle.dma_insn.specs.declared.chip.ChipInsn.{ChipInsn}
-use Rattle.dma_insn.specs.declared.chip.ChipInsn.TheVariants.{Sev, Wfe}
-use Rattle.dma_mem.specs.Flags.{flags_of}
-use Rattle.dma_mem.specs.Image.{put}
-use Rattle.dma_mem.specs.Lent.{lies_in_any}
-use Rattle.dma_mem.specs.Places.{copying}
+use Rattle.dma_insn.specs.{declared.chip.ChipInsn.ChipInsn, declared.chip.ChipInsn.TheVariants.Sev, declared.chip.ChipInsn.TheVariants.Wfe}
 use Rattle.dma_mem.specs.Regions.{has, pieces_of, read_only_of}
-use Rattle.dma_mem.specs.declared.regions.Region.{Region}
-use Rattle.dma_chan.specs.declared.bus.BusWidth.TheVariants.{Bits32}
-use Rattle.dma_chan.specs.declared.exec.Registers.{Registers}
-use Rattle.dma_chan.specs.declared.turn.FaultKind.{FaultKind}
-use Rattle.dma_chan.specs.Bursts.{burst_at, reaches}
+use Rattle.dma_mem.specs.{Flags.flags_of, Image.put, Lent.lies_in_any, Places.copying, declared.regions.Region.Region}
+use Rattle.dma_chan.specs.{declared.bus.BusWidth.TheVariants.Bits32, declared.exec.Registers.Registers, declared.turn.FaultKind.FaultKind, Bursts.burst_at}
+use Rattle.dma_chan.specs.{Bursts.reaches, LentRegions.with_gaps_of}
 use Rattle.dma_explain.specs.Explains.{Explains, GoesOn, IsWork, Work, next_in, only, traced}
-use Rattle.dma_chan.specs.LentRegions.{with_gaps_of}
 use Rattle.dma_explain.specs.RegionsHave.{HaveAll}
 use Rattle.dma_explain.proofs.CallStays.{load_executes}
-use Rattle.dma_device.specs.declared.config.Config.{Config}
-use Rattle.dma_device.specs.declared.config.Revision.TheVariants.{R1p2}
-use Rattle.dma_device.specs.declared.device.turns.Turn.{Turn}
-use Rattle.dma_device.specs.Config.{is_valid}
-use Rattle.dma_device.specs.Copies.{IsFit}
-use Rattle.dma_device.specs.Device.{reset_device}
 use Rattle.dma_device.specs.Dmago.{GivenTurns, Go, HasProgram, MayGo, RunsCopy, csr_status, image_in, start_of, started_by}
-use Rattle.dma_device.specs.Explaining.{IsUnderway}
-use Rattle.dma_device.specs.Progress.{vain}
-use Rattle.dma_device.proofs.InMemory.{image_has_bytes}
 use Rattle.dma_device.specs.Turns.{Setup, TakesTurn, setup_of, turned}
+use Rattle.dma_device.specs.{declared.config.Config.Config, declared.config.Revision.TheVariants.R1p2, declared.device.turns.Turn.Turn, Config.is_valid}
+use Rattle.dma_device.specs.{Copies.IsFit, Device.reset_device, Explaining.IsUnderway, Progress.vain}
+use Rattle.dma_device.proofs.InMemory.{image_has_bytes}
 
 -- one channel and two events
 abbrev pub small : Config

@@ -1,60 +1,43 @@
 -- A program that copies, and that a DMAGO starts, finishes.
-use Rattle.std.proofs.Common.{◌≡◌, ◌≢◌, ◌∙◌, ◌⊎◌, ℕ, zero, suc, ◌+◌, ◌-◌, ◌*◌, ◌%◌, ◌^◌, ◌<◌, ◌≤◌, Bool, true, false, ◌&&◌, List, length, get_or, Option, Some, None, Ok, ap, refl, sym, subst, arith, inl, inr, true≢false}
-use Rattle.std.specs.Prelude.{IfSome, IsSomeAnd, is_some, nat_lt, slice_get}
-use Rattle.std.specs.Int.{bit_at}
-use Rattle.std.proofs.lemmas.Bool.{and_parts, cases_eq, lt-ltb}
-use borrow.Author.Tests.{ltb-true}
-use Rattle.std.proofs.lemmas.Nat.Bits.{bit_at-lt}
-use Rattle.dma_insn.specs.ControlWord.{flag}
-use Rattle.dma_insn.specs.declared.chip.ChipInsn.{ChipInsn}
-use Rattle.dma_insn.specs.declared.chip.ChipInsn.TheVariants.{End, Wfe}
-use Rattle.dma_mem.specs.Flags.{flags_of}
-use Rattle.dma_mem.specs.Marking.{MarkList}
-use Rattle.dma_mem.specs.Places.{Descriptor}
-use Rattle.dma_mem.specs.declared.regions.Region.{Region}
-use Rattle.dma_chan.specs.declared.exec.Registers.{Registers}
+use Rattle.std.proofs.Common.{◌≡◌, ◌≢◌, ◌∙◌, ◌⊎◌, ℕ, zero, suc, ◌+◌, ◌-◌, ◌*◌, ◌%◌, ◌^◌, ◌<◌, ◌≤◌, Bool, true, false, ◌&&◌, List, length, get_or, Option, Some}
+use Rattle.std.proofs.Common.{None, Ok, ap, refl, sym, subst, arith, inl, inr, true≢false}
+use Rattle.std.specs.{Prelude.IfSome, Prelude.IsSomeAnd, Prelude.is_some, Prelude.nat_lt, Prelude.slice_get, Int.bit_at}
+use Rattle.std.proofs.{lemmas.Bool.and_parts, lemmas.Bool.cases_eq, lemmas.Bool.lt-ltb, lemmas.Nat.Bits.bit_at-lt}
+use Rattle.dma_insn.specs.{ControlWord.flag, declared.chip.ChipInsn.ChipInsn, declared.chip.ChipInsn.TheVariants.End, declared.chip.ChipInsn.TheVariants.Wfe}
+use Rattle.dma_mem.specs.{Flags.flags_of, Marking.MarkList, Places.Descriptor, declared.regions.Region.Region}
 use Rattle.dma_chan.specs.Channel.{ChannelValue, ahead_of, step_of, stored_by}
-use Rattle.dma_chan.specs.Exec.{ChangesNothing}
-use Rattle.dma_explain.specs.Explains.{Explains, HasEvents as HasTheEvents, IsIn, IsWait, StartsWith, Work, next_in, traced}
-use Rattle.dma_explain.specs.Works.{MissesAll}
-use Rattle.dma_chan.specs.Programs.{ProgramValue}
 use Rattle.dma_chan.specs.Stepping.{Machine, TakesSteps, after_step, after_steps, answer_at, goes_on_after}
-use Rattle.dma_chan.specs.declared.turn.ChanTurn.{ChanTurn}
 use Rattle.dma_chan.specs.declared.turn.ChanTurn.TheVariants.{Moved, Waiting, Ended, Fault}
-use Rattle.dma_explain.proofs.AmongOthers.{Fits, is_in}
+use Rattle.dma_chan.specs.{declared.exec.Registers.Registers, Exec.ChangesNothing, Programs.ProgramValue, declared.turn.ChanTurn.ChanTurn}
+use Rattle.dma_explain.specs.Works.{MissesAll}
 use Rattle.dma_explain.proofs.CallsAmongOthers.{Runs, call_answers, call_fails, many, next_ahead}
-use Rattle.dma_explain.proofs.CompiledExplained.{compiled_events}
-use Rattle.dma_chan.proofs.RunAlone.{moved_count}
-use Rattle.dma_chan.proofs.StepsTaken.{steps_move}
-use Rattle.dma_chan.proofs.SteppedOver.{is_still, was_moved, went_before}
-use Rattle.dma_device.specs.CallSteps.{StepsThread, marks_in}
-use Rattle.dma_device.specs.Device.{DeviceValue, csr, of_thread}
-use Rattle.dma_device.specs.Copies.{IsFit}
+use Rattle.dma_explain.proofs.{AmongOthers.Fits, AmongOthers.is_in, CompiledExplained.compiled_events}
+use Rattle.dma_chan.proofs.{RunAlone.moved_count, StepsTaken.steps_move, SteppedOver.is_still, SteppedOver.was_moved, SteppedOver.went_before}
 use Rattle.dma_device.specs.Dmago.{Go, RunsCopy, GivenTurns, csr_status, start_of}
-use Rattle.dma_device.specs.Events.{IsVisible}
 use Rattle.dma_device.specs.Progress.{CompiledGoesOn, CompiledHasEvents, CompiledSignals, DmagoFinishes, ReadyTurns, IsCompiled, MayPass, compiled_count}
-use Rattle.dma_device.specs.Thread.{is_faulting, is_stopped, is_stopped_status, status_bits}
-use Rattle.dma_device.specs.Turns.{TakesTurn, runs_at, setup_of, visible_events}
-use Rattle.dma_device.specs.declared.device.turns.Turn.{Turn}
-use Rattle.dma_device.specs.declared.thread.Status.{Status}
-use Rattle.dma_device.specs.declared.thread.Status.TheVariants.{Stopped}
-use Rattle.dma_device.specs.declared.thread.Thread.{Thread}
+use Rattle.dma_device.specs.{CallSteps.StepsThread, CallSteps.marks_in, Device.DeviceValue, Device.csr, Device.of_thread, Copies.IsFit, Events.IsVisible}
+use Rattle.dma_device.specs.{Thread.is_faulting, Thread.is_stopped, Thread.is_stopped_status, Thread.status_bits, Turns.TakesTurn, Turns.runs_at}
+use Rattle.dma_device.specs.{Turns.setup_of, Turns.visible_events, declared.device.turns.Turn.Turn, declared.thread.Status.Status}
+use Rattle.dma_device.specs.{declared.thread.Status.TheVariants.Stopped, declared.thread.Thread.Thread}
 use Rattle.dma_device.proofs.Copies.{Fit, call_fine, fit_kept, fits_all}
-use Rattle.dma_device.proofs.Driven.{After, Before, Call, Copying, Going, Has, Steps, after_turn, along, channel_after, copying, count_in, from, last_answer, one_of, steps_of, to, two_of}
-use Rattle.dma_device.proofs.Events.{flag_of_bit}
-use Rattle.dma_device.proofs.FlagSteps.{waits_at}
-use Rattle.dma_device.proofs.Starts.{read_csr}
-use Rattle.dma_device.proofs.Interrupts.{seen_bit}
+use Rattle.dma_device.proofs.Driven.{After, Before, Call, Copying, Going, Has, Steps, after_turn, along, channel_after, copying, count_in, from, last_answer}
+use Rattle.dma_device.proofs.Driven.{one_of, steps_of, to, two_of}
+use Rattle.dma_device.proofs.{Events.flag_of_bit, FlagSteps.waits_at, Starts.read_csr, Interrupts.seen_bit}
+use borrow.Author.Tests.{ltb-true}
+use Rattle.dma_explain.specs.Explains.{Explains, HasEvents as HasTheEvents, IsIn, IsWait, StartsWith, Work, next_in, traced}
 
 -- ---- a call of a channel with a program that copies
 
 -- what a program executes before its DMAEND
-pub before_end : (start : Registers) (program : List ℕ) (work : Work) (n : ℕ) → Explains start program work n → (k : ℕ) (i : ChipInsn) → k ≤ n → i ≢ End → next_in program (traced start program k) ≡ Ok i → k < n
+pub before_end : (start : Registers) (program : List ℕ) (work : Work) (n : ℕ) → Explains start program work n → (k : ℕ) (i : ChipInsn) → k ≤ n → i ≢ End
+    → next_in program (traced start program k) ≡ Ok i → k < n
 before_end start program work n h k i within other next = grind arith
 
-module _ (start : Registers) (program : List ℕ) (work : Work) (count : ℕ) (marks : MarkList) (first : List ℕ) (h : Explains start program work count) (low : Fits work (length first)) where
+module _ (start : Registers) (program : List ℕ) (work : Work) (count : ℕ) (marks : MarkList) (first : List ℕ) (h : Explains start program work count)
+    (low : Fits work (length first)) where
   pub step_count : (u : Machine) → answer_at marks u ≡ Moved → (after_step marks u).channel.taken ≡ u.channel.taken + 1
-  step_count u moved = moved_count (answer_at marks u) (step_of marks u.channel u.image u.flags).1 (stored_by (ahead_of u.channel) u.channel.registers) u.channel moved
+  step_count u moved = moved_count (answer_at marks u) (step_of marks u.channel u.image u.flags).1 (stored_by (ahead_of u.channel) u.channel.registers)
+      u.channel moved
 
   pub went_moved : (s : Machine) (j : ℕ) → goes_on_after marks s (suc j) ≡ true → answer_at marks (after_steps marks s j) ≡ Moved
   went_moved s j goes = was_moved (ahead_of (after_steps marks s j).channel) (answer_at marks (after_steps marks s j)) (went_before marks s (suc j) goes)
@@ -67,11 +50,16 @@ module _ (start : Registers) (program : List ℕ) (work : Work) (count : ℕ) (m
 
   -- a call that may take a step ends the program or counts one, if its first instruction doesn't wait, and no mark is
   -- met
-  progress : (s v : Machine) (most taken : ℕ) (last : Option ChanTurn) (least more : ℕ) → 0 < most → MissesAll marks work → (r : Runs start program work count first s) → least ≤ s.channel.taken → (more ≤ least) ⊎ ((more ≤ least + 1) × ((e : ℕ) → (w : IsWait start program count e) → w.step ≡ r.0 → get_or s.flags e false ≡ true)) → TakesSteps marks s most taken last v → (last ≡ Some Ended) ⊎ (more ≤ v.channel.taken)
-  progress s v most zero last least more some misses r few awake x = absurd (call_answers start program work count marks first h low s v most zero last some r x x.answer)
+  progress : (s v : Machine) (most taken : ℕ) (last : Option ChanTurn) (least more : ℕ) → 0 < most → MissesAll marks work
+      → (r : Runs start program work count first s) → least ≤ s.channel.taken → (more ≤ least)
+      ⊎ ((more ≤ least + 1) × ((e : ℕ) → (w : IsWait start program count e) → w.step ≡ r.0 → get_or s.flags e false ≡ true))
+      → TakesSteps marks s most taken last v → (last ≡ Some Ended) ⊎ (more ≤ v.channel.taken)
+  progress s v most zero last least more some misses r few awake x =
+      absurd (call_answers start program work count marks first h low s v most zero last some r x x.answer)
   progress s v most (suc p) last least more some misses r few awake x = by p (answer_at marks (after_steps marks s p)) refl x
     where
-      still : (p : ℕ) (a : ChanTurn) → answer_at marks (after_steps marks s p) ≡ a → ChangesNothing a → TakesSteps marks s most (suc p) last v → v.channel.taken ≡ s.channel.taken + p
+      still : (p : ℕ) (a : ChanTurn) → answer_at marks (after_steps marks s p) ≡ a → ChangesNothing a → TakesSteps marks s most (suc p) last v
+          → v.channel.taken ≡ s.channel.taken + p
       still p a is nothing x =
           let same = ap (λ (m : Machine). m.channel.taken) (x.ends_at ∙ is_still marks (after_steps marks s p) (subst ChangesNothing (sym is) nothing)) in
           same ∙ many_count s p (steps_move x)
@@ -80,15 +68,18 @@ module _ (start : Registers) (program : List ℕ) (work : Work) (count : ℕ) (m
       awakes e awake is =
           let w = waits_at marks s e is in
           let next = sym (next_ahead start program work count marks first h low r.0 s (next_in program (traced start program r.0)) r.1 refl) ∙ w.1.0 in
-          let wait : IsWait start program count e = record { step = r.0; within = before_end start program work count h r.0 (Wfe e w.0) r.1.within (λ bad. cc) next; invalid = w.0; waits = next } in
+          let wait : IsWait start program count e =
+          record { step = r.0; within = before_end start program work count h r.0 (Wfe e w.0) r.1.within (λ bad. cc) next; invalid = w.0; waits = next } in
           true≢false (sym (awake e wait refl) ∙ w.1.1)
 
-      waits : (p e : ℕ) → answer_at marks (after_steps marks s p) ≡ Waiting e → TakesSteps marks s most (suc p) last v → (more ≤ least) ⊎ ((more ≤ least + 1) × ((e : ℕ) → (w : IsWait start program count e) → w.step ≡ r.0 → get_or s.flags e false ≡ true)) → more ≤ v.channel.taken
+      waits : (p e : ℕ) → answer_at marks (after_steps marks s p) ≡ Waiting e → TakesSteps marks s most (suc p) last v → (more ≤ least)
+          ⊎ ((more ≤ least + 1) × ((e : ℕ) → (w : IsWait start program count e) → w.step ≡ r.0 → get_or s.flags e false ≡ true)) → more ≤ v.channel.taken
       waits p e is x (inl fewer) = let same = still p (Waiting e) is tt x in omega (arith, same, fewer, few)
       waits zero e is x (inr w) = absurd (awakes e w.1 is)
       waits (suc p) e is x (inr w) = let same = still (suc p) (Waiting e) is tt x in omega (arith, same, few, w.0)
 
-      bound : (more ≤ least) ⊎ ((more ≤ least + 1) × ((e : ℕ) → (w : IsWait start program count e) → w.step ≡ r.0 → get_or s.flags e false ≡ true)) → more ≤ least + 1
+      bound : (more ≤ least) ⊎ ((more ≤ least + 1) × ((e : ℕ) → (w : IsWait start program count e) → w.step ≡ r.0 → get_or s.flags e false ≡ true))
+          → more ≤ least + 1
       bound (inl fewer) = omega (arith, fewer)
       bound (inr w) = w.0
 
@@ -97,11 +88,13 @@ module _ (start : Registers) (program : List ℕ) (work : Work) (count : ℕ) (m
           let end = ap (λ (m : Machine). m.channel.taken) x.ends_at in
           omega (arith, many_count s p (steps_move x), step_count (after_steps marks s p) moved, end, few, bound awake)
 
-      by : (p : ℕ) (turn : ChanTurn) → answer_at marks (after_steps marks s p) ≡ turn → TakesSteps marks s most (suc p) last v → (last ≡ Some Ended) ⊎ (more ≤ v.channel.taken)
+      by : (p : ℕ) (turn : ChanTurn) → answer_at marks (after_steps marks s p) ≡ turn → TakesSteps marks s most (suc p) last v → (last ≡ Some Ended)
+          ⊎ (more ≤ v.channel.taken)
       by p Moved e x = inr (counted p x e)
       by p Ended e x = inl (x.answer ∙ ap (λ (a : ChanTurn). Some a) e)
       by p (Waiting k) e x = inr (waits p k e x awake)
-      by p (Fault kind) e x = absurd (call_fails start program work count marks first h low s v most (suc p) last kind misses r x (x.answer ∙ ap (λ (a : ChanTurn). Some a) e))
+      by p (Fault kind) e x = absurd
+          (call_fails start program work count marks first h low s v most (suc p) last kind misses r x (x.answer ∙ ap (λ (a : ChanTurn). Some a) e))
 
 -- ---- that it finishes
 
@@ -117,17 +110,22 @@ module _ (c : Copying) (n : ℕ) where
 
   -- the event for which it waits is visible
   abbrev pub Awake : DeviceValue → ℕ → Type 0
-  Awake d least = (th : Thread) (e : ℕ) (wait : IsWait c.start c.program c.count e) → slice_get d.threads n ≡ Some th → IsIn c.start c.program c.count wait.step th.channel → least ≤ wait.step → get_or (flags_of (visible_events d)) e false ≡ true
+  Awake d least = (th : Thread) (e : ℕ) (wait : IsWait c.start c.program c.count e) → slice_get d.threads n ≡ Some th
+      → IsIn c.start c.program c.count wait.step th.channel → least ≤ wait.step → get_or (flags_of (visible_events d)) e false ≡ true
 
   -- a call needs no progress, or it doesn't wait at first
   abbrev CanStep : DeviceValue → ℕ → ℕ → Type 0
   CanStep d least more = (more ≤ least) ⊎ ((more ≤ least + 1) × Awake d least)
 
   -- a thread that goes on and isn't faulting runs
-  pub going_runs : (d : DeviceValue) (image : List ℕ) (th : Thread) → slice_get d.threads n ≡ Some th → Going c image th → is_faulting th ≡ false → runs_at d n ≡ true
+  pub going_runs : (d : DeviceValue) (image : List ℕ) (th : Thread) → slice_get d.threads n ≡ Some th → Going c image th → is_faulting th ≡ false
+      → runs_at d n ≡ true
   going_runs d image th is g fine = grind (arith, loaded)
 
-  steps_reached : (least more : ℕ) (k : Call) → ((th : Thread) → slice_get k.before.device.threads n ≡ Some th → ¬ StepsThread k.made n k.before → runs_at k.before.device n ≡ true → more ≤ least) → (k.made ≡ true → 0 < k.most) → Fit c n k.before.device k.marks → CanStep k.before.device least more → Steps c n (Unit {0}) (Reached least) (Unit {0}) (Reached more) k
+  steps_reached : (least more : ℕ) (k : Call)
+      → ((th : Thread) → slice_get k.before.device.threads n ≡ Some th → ¬ StepsThread k.made n k.before → runs_at k.before.device n ≡ true → more ≤ least)
+      → (k.made ≡ true → 0 < k.most) → Fit c n k.before.device k.marks → CanStep k.before.device least more
+      → Steps c n (Unit {0}) (Reached least) (Unit {0}) (Reached more) k
   steps_reached least more k off some fit can = record {
     rests_over = λ none o. o;
     rests = λ not_made none th found g known.
@@ -138,16 +136,24 @@ module _ (c : Copying) (n : ℕ) where
     goes = λ made th found g known sent goes.
         let count_is : th.channel.taken ≡ g.runs.0 = g.runs.1.taken in
         let long = known.enough in
-        let sees : (more ≤ least) ⊎ ((more ≤ least + 1) × ((e : ℕ) → (w : IsWait c.start c.program c.count e) → w.step ≡ g.runs.0 → get_or (from k th).flags e false ≡ true)) = elim can [
+        let sees : (more ≤ least)
+        ⊎ ((more ≤ least + 1) × ((e : ℕ) → (w : IsWait c.start c.program c.count e) → w.step ≡ g.runs.0 → get_or (from k th).flags e false ≡ true)) =
+        elim can [
           | inl fewer ↦ inl fewer
-          | inr w ↦ inr (w.0, λ e wait is. w.1 th e wait found (subst (λ (j : ℕ). IsIn c.start c.program c.count j th.channel) (sym is) (is_in c.start c.program c.work c.count c.first g.runs.0 k.before.image th.channel g.runs.1)) (omega (arith, count_is, long, is)))
+          | inr w ↦ inr (
+            w.0,
+            λ e wait is. w.1 th e wait found
+                (subst (λ (j : ℕ). IsIn c.start c.program c.count j th.channel) (sym is)
+                (is_in c.start c.program c.work c.count c.first g.runs.0 k.before.image th.channel g.runs.1)) (omega (arith, count_is, long, is)),
+          )
         ] in
         record {
           fine = call_fine c n k th (some made) fit g;
-          enough = elim (progress c.start c.program c.work c.count k.marks c.first c.explains c.fits (from k th) (to k th) k.most (count_in k th) (last_answer k th) least more (some made) fit.misses g.runs long sees (steps_of k th)) [
-            | inl ended ↦ absurd (goes ended)
-            | inr many ↦ omega (arith, ap (λ (v : ChannelValue). v.taken) (channel_after k th), many)
-          ];
+          enough = elim (progress c.start c.program c.work c.count k.marks c.first c.explains c.fits (from k th) (to k th) k.most (count_in k th)
+              (last_answer k th) least more (some made) fit.misses g.runs long sees (steps_of k th)) [
+                | inl ended ↦ absurd (goes ended)
+                | inr many ↦ omega (arith, ap (λ (v : ChannelValue). v.taken) (channel_after k th), many)
+              ];
         };
   }
 
@@ -155,11 +161,14 @@ module _ (c : Copying) (n : ℕ) where
   abbrev pub IsTurn : DeviceValue → ℕ → ℕ → ℕ → Type 0
   IsTurn d most least more = (more ≤ least) ⊎ ((0 < most) × ((more ≤ least + 1) × Awake d least))
 
-  pub turn_reached : (d : DeviceValue) (regions : List Region) (most : ℕ) (e : DeviceValue) (left : List Region) (turn : Turn) → TakesTurn d regions n most e left turn → (least more : ℕ) → IsTurn d most least more → Fit c n d (marks_in regions) → Has c n (Unit {0}) (Reached least) (setup_of d regions) → Has c n (Unit {0}) (Reached more) (setup_of e left)
+  pub turn_reached : (d : DeviceValue) (regions : List Region) (most : ℕ) (e : DeviceValue) (left : List Region) (turn : Turn)
+      → TakesTurn d regions n most e left turn → (least more : ℕ) → IsTurn d most least more → Fit c n d (marks_in regions)
+      → Has c n (Unit {0}) (Reached least) (setup_of d regions) → Has c n (Unit {0}) (Reached more) (setup_of e left)
   turn_reached d regions most e left turn x least more can fit g =
       let one = one_of d regions n most in
       let two = two_of d regions n most in
-      let off : (th : Thread) → slice_get d.threads n ≡ Some th → ¬ StepsThread one.made n one.before → runs_at d n ≡ true → more ≤ least = (λ th found none up. elim can [
+      let off : (th : Thread) → slice_get d.threads n ≡ Some th → ¬ StepsThread one.made n one.before → runs_at d n ≡ true → more ≤ least =
+      (λ th found none up. elim can [
         | inl fewer ↦ fewer
         | inr ready ↦
             let yes : one.made ≡ true = ap (λ (b : Bool). b && runs_at d n) (lt-ltb 0 most ready.0) ∙ up in
@@ -247,14 +256,18 @@ module _ (go : Go) (work : Work) (count : ℕ) (run : GivenTurns) (h : RunsCopy 
       | inr going ↦
           let known = going.1 in
           let taken = g.thread.channel.taken in
-          let reached : Before go work count run h some (Unit {0}) (Reached c go.channel taken) j = record { thread = g.thread; is = g.is; stands = inr (going.0, record { fine = known.fine; enough = omega arith }) } in
+          let reached : Before go work count run h some (Unit {0}) (Reached c go.channel taken) j =
+          record { thread = g.thread; is = g.is; stands = inr (going.0, record { fine = known.fine; enough = omega arith }) } in
           let on = ready.ready taken (within_count going.0) in
           let early = known.ahead in
           elim (cases_eq (ready.turn taken) j) [
             | inl same ↦ record {
               least = taken;
               more = taken + 1;
-              can = inr (subst (λ (k : ℕ). 0 < run.most k) same on.some, (omega arith, subst (λ (k : ℕ). Awake c go.channel (run.before k) taken) same (awake (ready.turn taken) taken on.passes)));
+              can = inr (
+                subst (λ (k : ℕ). 0 < run.most k) same on.some,
+                (omega arith, subst (λ (k : ℕ). Awake c go.channel (run.before k) taken) same (awake (ready.turn taken) taken on.passes)),
+              );
               reached = reached;
               ahead = λ few. (let next = ready.rising taken (omega (arith, few)) in omega (arith, same, next));
             }
@@ -266,7 +279,8 @@ module _ (go : Go) (work : Work) (count : ℕ) (run : GivenTurns) (h : RunsCopy 
     counted j less g =
         let w = counts j g in
         let x = h.takes j less in
-        let after = turn_reached c go.channel (run.before j) (run.lent j) (run.most j) (run.after j) (run.left j) x.0 x.1 w.least w.more w.can (fits_all go work count run h some j (fit j less)) w.reached in
+        let after = turn_reached c go.channel (run.before j) (run.lent j) (run.most j) (run.after j) (run.left j) x.0 x.1 w.least w.more w.can
+        (fits_all go work count run h some j (fit j less)) w.reached in
         record {
           thread = after.thread;
           is = after.is;

@@ -1,23 +1,17 @@
 -- Turns that are ready: each of a run's turns, and those of a program that waits.
 use Rattle.std.proofs.Common.{◌≡◌, ℕ, zero, suc, ◌+◌, ◌<◌, ◌≤◌, true, false, List, [], ◌∷◌, get_or, refl, subst, arith, Bool, Result, Ok}
-use Rattle.dma_insn.specs.declared.chip.ChipInsn.{ChipInsn}
-use Rattle.dma_insn.specs.declared.chip.ChipInsn.TheVariants.{Wfe}
-use Rattle.dma_mem.specs.Flags.{flags_of}
-use Rattle.dma_mem.specs.Regions.{Piece}
+use Rattle.dma_insn.specs.{declared.chip.ChipInsn.ChipInsn, declared.chip.ChipInsn.TheVariants.Wfe}
+use Rattle.dma_mem.specs.{Flags.flags_of, Regions.Piece}
 use Rattle.dma_explain.specs.Explains.{IsWait, Work, next_in, traced}
 use Rattle.dma_chan.specs.declared.turn.FaultKind.{FaultKind}
-use Rattle.dma_device.specs.Accesses.{Access, Reads, Turns, Value, Writes}
-use Rattle.dma_device.specs.Copies.{IsFit}
-use Rattle.dma_device.specs.Device.{DeviceValue, reset_device}
-use Rattle.dma_device.specs.Dmago.{GivenTurns, Go, RunsCopy, csr_status, start_of}
-use Rattle.dma_device.specs.Events.{IsVisible}
-use Rattle.dma_device.specs.Progress.{IsReady, MayPass, ReadyTurns, vain, waits_in_vain}
-use Rattle.dma_device.specs.Run.{LentDevice, next, run}
-use Rattle.dma_device.proofs.Progress.{dmago_finishes}
-use Rattle.dma_device.proofs.Rows.{largest}
+use Rattle.dma_device.specs.{Accesses.Access, Accesses.Reads, Accesses.Turns, Accesses.Value, Accesses.Writes, Copies.IsFit, Device.DeviceValue}
+use Rattle.dma_device.specs.{Device.reset_device, Dmago.GivenTurns, Dmago.Go, Dmago.RunsCopy, Dmago.csr_status, Dmago.start_of, Events.IsVisible}
+use Rattle.dma_device.specs.{Progress.IsReady, Progress.MayPass, Progress.ReadyTurns, Progress.vain, Progress.waits_in_vain, Run.LentDevice, Run.next, Run.run}
+use Rattle.dma_device.proofs.{Progress.dmago_finishes, Rows.largest}
 
 -- If each turn is ready, then the program ends after as many turns as it executes instructions with its DMAEND.
-finishes_in_each : (go : Go) (w : Work) (n : ℕ) (run : GivenTurns) → RunsCopy go w n run → ((k : ℕ) → k < run.count → IsFit go w n (run.before k) (run.lent k)) → ((k : ℕ) → k < run.count → IsReady go n run k k) → (k : ℕ) → k < run.count → n ≤ k → csr_status (run.after k) go.channel ≡ 0
+finishes_in_each : (go : Go) (w : Work) (n : ℕ) (run : GivenTurns) → RunsCopy go w n run → ((k : ℕ) → k < run.count → IsFit go w n (run.before k) (run.lent k))
+    → ((k : ℕ) → k < run.count → IsReady go n run k k) → (k : ℕ) → k < run.count → n ≤ k → csr_status (run.after k) go.channel ≡ 0
 finishes_in_each go w n run h fit all k less long =
     let ready : ReadyTurns go n run = record { turn = λ j. j; rising = λ j l. omega arith; ready = λ j l. all j (omega (arith, l, long, less)) } in
     dmago_finishes go w n run h fit ready k long less

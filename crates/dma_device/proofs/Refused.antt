@@ -1,47 +1,31 @@
 -- A program that a DMAGO starts and that the device refuses for a fault never ends, and fails so.
-use Rattle.std.proofs.Common.{◌≡◌, ◌≢◌, ◌∙◌, ◌⊎◌, ℕ, zero, suc, ◌+◌, ◌-◌, ◌%◌, ◌^◌, ◌<◌, ◌≤◌, Bool, true, false, ◌&&◌, List, length, get_or, Option, Some, None, ap, refl, sym, subst, arith, inl, inr, true≢false}
-use Rattle.std.specs.Prelude.{IsSomeAnd, nat_eq, nat_lt, slice_get}
-use Rattle.std.specs.Option.{option_map}
+use Rattle.std.proofs.Common.{◌≡◌, ◌≢◌, ◌∙◌, ◌⊎◌, ℕ, zero, suc, ◌+◌, ◌-◌, ◌%◌, ◌^◌, ◌<◌, ◌≤◌, Bool, true, false, ◌&&◌, List, length, get_or, Option, Some, None}
+use Rattle.std.proofs.Common.{ap, refl, sym, subst, arith, inl, inr, true≢false}
+use Rattle.std.specs.{Prelude.IsSomeAnd, Prelude.nat_eq, Prelude.nat_lt, Prelude.slice_get, Option.option_map}
 use Rattle.std.proofs.lemmas.Bool.{and_parts, false_from_ne_true, lt-ltb, true_from_ne_false}
-use borrow.Author.Tests.{ltb-true}
 use Rattle.dma_insn.specs.ControlWord.{flag}
-use Rattle.dma_mem.specs.Places.{end_of_addresses}
-use Rattle.dma_mem.specs.Regions.{pieces_of}
-use Rattle.dma_mem.specs.declared.regions.Region.{Region}
+use Rattle.dma_mem.specs.{Places.end_of_addresses, Regions.pieces_of, declared.regions.Region.Region}
 use Rattle.dma_mem.proofs.Pieces.{image_of_most}
-use Rattle.dma_chan.specs.Channel.{ChannelValue, ahead_of}
-use Rattle.dma_chan.specs.Exec.{begun, fault_bit}
-use Rattle.dma_explain.specs.Explains.{GoesOn, HasAddress, Refuses, Trace, after_fetch, next_in, stop_of, traced, written_in}
-use Rattle.dma_explain.specs.Refusals.{fault_of_cause}
-use Rattle.dma_chan.specs.Stepping.{Machine, TakesSteps, answer_at}
-use Rattle.dma_explain.specs.declared.explain.Cause.TheVariants.{NoEnd, NoMemory, TooLong}
-use Rattle.dma_explain.specs.declared.explain.Unexplained.{Unexplained}
-use Rattle.dma_chan.specs.declared.exec.Registers.{Registers}
-use Rattle.dma_chan.specs.declared.turn.ChanTurn.{ChanTurn}
 use Rattle.dma_chan.specs.declared.turn.ChanTurn.TheVariants.{Moved, Waiting, Ended, Fault}
-use Rattle.dma_chan.specs.declared.turn.FaultKind.{FaultKind}
-use Rattle.dma_explain.proofs.Refusals.{Before as HasBefore, LastLeads, call_fails_there, call_leads, call_signals}
-use Rattle.dma_chan.proofs.StepsTaken.{steps_move}
-use Rattle.dma_chan.proofs.SteppedOver.{steps_size, was_moved, went_before}
-use Rattle.dma_device.specs.CallSteps.{StepsThread, first_in}
-use Rattle.dma_device.specs.Copies.{DeviceHasEvents}
-use Rattle.dma_device.specs.Device.{DeviceValue, of_thread, program_at}
-use Rattle.dma_device.specs.Dmago.{Go, GivenTurns, image_in, start_of}
-use Rattle.dma_device.specs.Progress.{is_vain, vain, waits_in_vain}
+use Rattle.dma_chan.specs.{Channel.ChannelValue, Channel.ahead_of, Exec.begun, Exec.fault_bit, Stepping.Machine, Stepping.TakesSteps, Stepping.answer_at}
+use Rattle.dma_chan.specs.{declared.exec.Registers.Registers, declared.turn.ChanTurn.ChanTurn, declared.turn.FaultKind.FaultKind}
+use Rattle.dma_explain.specs.Explains.{GoesOn, HasAddress, Refuses, Trace, after_fetch, next_in, stop_of, traced, written_in}
+use Rattle.dma_explain.specs.declared.explain.Cause.TheVariants.{NoEnd, NoMemory, TooLong}
+use Rattle.dma_explain.specs.{Refusals.fault_of_cause, declared.explain.Unexplained.Unexplained}
+use Rattle.dma_chan.proofs.{StepsTaken.steps_move, SteppedOver.steps_size, SteppedOver.was_moved, SteppedOver.went_before}
 use Rattle.dma_device.specs.Refused.{FailsAt, NeverPasses, RefusedFails, RunsRefused, executed}
 use Rattle.dma_device.specs.Thread.{answer, is_faulting, is_stopped, reset_thread, runs, started}
 use Rattle.dma_device.specs.Turns.{Outcome, Setup, TakesTurn, runs_at, setup_of, visible_events}
-use Rattle.dma_device.specs.declared.config.Config.{Config}
-use Rattle.dma_device.specs.declared.device.turns.Turn.{Turn}
-use Rattle.dma_device.specs.declared.thread.Thread.{Thread}
+use Rattle.dma_device.specs.{CallSteps.StepsThread, CallSteps.first_in, Copies.DeviceHasEvents, Device.DeviceValue, Device.of_thread, Device.program_at}
+use Rattle.dma_device.specs.{Dmago.Go, Dmago.GivenTurns, Dmago.image_in, Dmago.start_of, Progress.is_vain, Progress.vain, Progress.waits_in_vain}
+use Rattle.dma_device.specs.{declared.config.Config.Config, declared.device.turns.Turn.Turn, declared.thread.Thread.Thread}
 use Rattle.dma_device.proofs.Calls.{begins_runs, call_acts, call_is, follows_runs, if_config, runs_found, turn_left}
 use Rattle.dma_device.proofs.Driven.{Call, after_steps_of, at_answer, channel_after, count_in, from, last_answer, one_of, result_of, sets, steps_of, to, two_of}
-use Rattle.dma_device.proofs.Events.{flag_of_bit}
-use Rattle.dma_device.proofs.FlagSteps.{waits_at}
-use Rattle.dma_device.proofs.Found.{set_found}
 use Rattle.dma_device.proofs.Starts.{dmago_starts, read_cpc, read_ftr, reads_faulting, reads_fine, reads_stopped}
-use Rattle.dma_device.proofs.TurnChanges.{all_rise, call_keeps_count}
 use Rattle.dma_device.proofs.Vain.{busy, flag_set, neither, seen_below}
+use Rattle.dma_device.proofs.{Events.flag_of_bit, FlagSteps.waits_at, Found.set_found, TurnChanges.all_rise, TurnChanges.call_keeps_count}
+use borrow.Author.Tests.{ltb-true}
+use Rattle.dma_explain.proofs.Refusals.{Before as HasBefore, LastLeads, call_fails_there, call_leads, call_signals}
 
 -- a DMAGO sets pc to 0, with which each program begins
 traced_begun : (start : Registers) (program : List ℕ) (k : ℕ) → traced (begun start) program k ≡ traced start program k
@@ -54,7 +38,8 @@ from_begun start program most u h =
     record {
       goes = λ k less. subst (λ (x : Trace). GoesOn (next_in program x) x) (same k) (h.goes k less);
       pc = h.pc ∙ ap (λ (x : Trace). x.registers.pc) (same u.steps);
-      stops = subst (λ (x : Trace). ((u.steps < most) × (stop_of (next_in program x) x ≡ Some u.cause)) ⊎ ((u.steps ≡ most) × (u.cause ≡ NoEnd))) (same u.steps) h.stops;
+      stops = subst (λ (x : Trace). ((u.steps < most) × (stop_of (next_in program x) x ≡ Some u.cause)) ⊎ ((u.steps ≡ most) × (u.cause ≡ NoEnd))) (same u.steps)
+          h.stops;
       addr = subst (λ (x : Trace). HasAddress u.cause x.loads (written_in x) u.addr) (same u.steps) h.addr;
       stored = h.stored ∙ ap (λ (x : Trace). length (written_in x)) (same u.steps);
     }
@@ -67,7 +52,9 @@ module _ (go : Go) (most : ℕ) (u : Unexplained) (kind : FaultKind) (run : Give
 
   refuses : Refuses (start_of go) go.program most u
   refuses =
-      let found = subst (λ (o : Option Thread). IsSomeAnd (option_map (λ t. t.channel) o) (λ c. IsSomeAnd c.program (λ p. (u.cause ≢ TooLong) × (u.cause ≢ NoMemory → Refuses c.registers p.bytes most u)))) (dmago_starts go h.may_go) h.refused in
+      let found = subst (λ (o : Option Thread). IsSomeAnd (option_map (λ t. t.channel) o)
+      (λ c. IsSomeAnd c.program (λ p. (u.cause ≢ TooLong) × (u.cause ≢ NoMemory → Refuses c.registers p.bytes most u)))) (dmago_starts go h.may_go)
+      h.refused in
       subst (λ (bytes : List ℕ). Refuses (start_of go) bytes most u) h.loads
       (from_begun (start_of go) (program_at go.ram go.addr) most u (found.1 (λ none. let bad = sym (ap fault_of_cause none) ∙ h.fault in cc)))
 
@@ -90,7 +77,8 @@ module _ (go : Go) (most : ℕ) (u : Unexplained) (kind : FaultKind) (run : Give
     failed : Knows → t.channel.taken ≡ u.steps → is_faulting t ≡ true → Failed t
 
   -- CPC at the refused instruction
-  at_refused : (t : Thread) → Holds t.channel → t.channel.taken ≡ u.steps → t.base ≡ go.addr → (t.base + t.channel.registers.pc) % 2 ^ 32 ≡ (go.addr + u.pc) % 2 ^ 32
+  at_refused : (t : Thread) → Holds t.channel → t.channel.taken ≡ u.steps → t.base ≡ go.addr
+      → (t.base + t.channel.registers.pc) % 2 ^ 32 ≡ (go.addr + u.pc) % 2 ^ 32
   at_refused t holds at base =
       let same = subst (λ (k : ℕ). t.channel.registers ≡ (traced (start_of go) go.program k).registers) at holds.beside.registers in
       let pc : t.channel.registers.pc ≡ u.pc = ap (λ (r : Registers). r.pc) same ∙ sym refuses.pc in
@@ -106,7 +94,9 @@ module _ (go : Go) (most : ℕ) (u : Unexplained) (kind : FaultKind) (run : Give
   }
 
   -- t is at the answer of a call
-  answer_stuck : (events : ℕ) (t : Thread) (last : Option ChanTurn) (signal : Option ℕ) → LastLeads (start_of go) go.program most u kind refuses h.fault last t.channel → t.base ≡ go.addr → t.pc ≡ (t.base + t.channel.registers.pc) % 2 ^ 32 → (Knows → (e : ℕ) → last ≡ Some Moved → signal ≡ Some e → e < events) → Stuck (answer events t last signal)
+  answer_stuck : (events : ℕ) (t : Thread) (last : Option ChanTurn) (signal : Option ℕ)
+      → LastLeads (start_of go) go.program most u kind refuses h.fault last t.channel → t.base ≡ go.addr → t.pc ≡ (t.base + t.channel.registers.pc) % 2 ^ 32
+      → (Knows → (e : ℕ) → last ≡ Some Moved → signal ≡ Some e → e < events) → Stuck (answer events t last signal)
   answer_stuck events t (Some Moved) None leads base pc known = quiet (answer events t (Some Moved) None) leads base refl (λ _ _. refl)
   answer_stuck events t (Some Moved) (Some e) leads base pc known = by (nat_lt e events) refl
     where
@@ -155,25 +145,33 @@ module _ (go : Go) (most : ℕ) (u : Unexplained) (kind : FaultKind) (run : Give
 
   module _ (k : Call) (t : Thread) (some : 0 < k.most) (low : length k.before.image ≤ end_of_addresses) (g : Stuck t) where
     leads : LastLeads (start_of go) go.program most u kind refuses h.fault (last_answer k t) (to k t).channel
-    leads = call_leads (start_of go) go.program most u kind refuses h.fault k.marks (from k t) low h.limit g.holds (to k t) k.most (count_in k t) (last_answer k t) some (steps_of k t)
+    leads = call_leads (start_of go) go.program most u kind refuses h.fault k.marks (from k t) low h.limit g.holds (to k t) k.most (count_in k t)
+        (last_answer k t) some (steps_of k t)
 
     call_stuck : (Knows → DeviceHasEvents k.before.device go u.steps) → Stuck (after_steps_of k t)
     call_stuck knows = answer_stuck k.before.device.config.events (at_answer k t) (last_answer k t) (sets k t) leads g.base refl (λ all e moved signal.
-        let sev = call_signals (start_of go) go.program most u kind refuses h.fault k.marks (from k t) low h.limit g.holds (to k t) k.most (count_in k t) (last_answer k t) e (steps_of k t) moved signal in
+        let sev = call_signals (start_of go) go.program most u kind refuses h.fault k.marks (from k t) low h.limit g.holds (to k t) k.most (count_in k t)
+        (last_answer k t) e (steps_of k t) moved signal in
         (knows all).signals e sev.0 sev.1)
 
-    by_first : (v : Machine) (taken : ℕ) (last : Option ChanTurn) (turn : ChanTurn) → answer_at k.marks (from k t) ≡ turn → TakesSteps k.marks (from k t) k.most taken last v → LastLeads (start_of go) go.program most u kind refuses h.fault last v.channel → ((e : ℕ) → turn ≢ Waiting e) → ((f : FaultKind) → last ≢ Some (Fault f)) → t.channel.taken < v.channel.taken
-    by_first v zero last turn is x leads awake fine = absurd (subst (λ (o : Option ChanTurn). LastLeads (start_of go) go.program most u kind refuses h.fault o v.channel) x.answer leads)
+    by_first : (v : Machine) (taken : ℕ) (last : Option ChanTurn) (turn : ChanTurn) → answer_at k.marks (from k t) ≡ turn
+        → TakesSteps k.marks (from k t) k.most taken last v → LastLeads (start_of go) go.program most u kind refuses h.fault last v.channel
+        → ((e : ℕ) → turn ≢ Waiting e) → ((f : FaultKind) → last ≢ Some (Fault f)) → t.channel.taken < v.channel.taken
+    by_first v zero last turn is x leads awake fine =
+        absurd (subst (λ (o : Option ChanTurn). LastLeads (start_of go) go.program most u kind refuses h.fault o v.channel) x.answer leads)
     by_first v (suc p) last Moved is x leads awake fine = omega (arith, all_rise k.marks (from k t) p is, ap (λ (m : Machine). m.channel.taken) x.ends_at)
     by_first v (suc p) last (Waiting e) is x leads awake fine = absurd (awake e refl)
     by_first v (suc zero) last (Fault f) is x leads awake fine = absurd (fine f (x.answer ∙ ap (λ (a : ChanTurn). Some a) is))
-    by_first v (suc zero) last Ended is x leads awake fine = absurd (subst (λ (o : Option ChanTurn). LastLeads (start_of go) go.program most u kind refuses h.fault o v.channel) (x.answer ∙ ap (λ (a : ChanTurn). Some a) is) leads)
+    by_first v (suc zero) last Ended is x leads awake fine =
+        absurd (subst (λ (o : Option ChanTurn). LastLeads (start_of go) go.program most u kind refuses h.fault o v.channel)
+        (x.answer ∙ ap (λ (a : ChanTurn). Some a) is) leads)
     by_first v (suc (suc p)) last turn is x leads awake fine =
         let moved = was_moved (ahead_of t.channel) (answer_at k.marks (from k t)) (went_before k.marks (from k t) 1 (steps_move x 1 (omega arith))) in
         omega (arith, all_rise k.marks (from k t) (suc p) moved, ap (λ (m : Machine). m.channel.taken) x.ends_at)
 
     -- it counts an instruction if it doesn't wait in vain or fail
-    call_counts : slice_get k.before.device.threads go.channel ≡ Some t → runs t ≡ true → waits_in_vain k.before.device go.channel ≡ false → is_faulting (after_steps_of k t) ≡ false → t.channel.taken < (after_steps_of k t).channel.taken
+    call_counts : slice_get k.before.device.threads go.channel ≡ Some t → runs t ≡ true → waits_in_vain k.before.device go.channel ≡ false
+        → is_faulting (after_steps_of k t) ≡ false → t.channel.taken < (after_steps_of k t).channel.taken
     call_counts found on calm fine =
         let d = k.before.device in
         let rises = by_first (to k t) (count_in k t) (last_answer k t) (answer_at k.marks (from k t)) refl (steps_of k t) leads
@@ -184,7 +182,9 @@ module _ (go : Go) (most : ℕ) (u : Unexplained) (kind : FaultKind) (run : Give
         (λ f fails. true≢false (ap (λ (o : Option ChanTurn). is_faulting (answer d.config.events (at_answer k t) o (sets k t))) (sym fails) ∙ fine)) in
         omega (arith, rises, ap (λ (c : ChannelValue). c.taken) (channel_after k t))
 
-  after_call : (k : Call) (least more : ℕ) → (k.made ≡ true → runs_at k.before.device go.channel ≡ true) → (k.made ≡ true → 0 < k.most) → (Knows → DeviceHasEvents k.before.device go u.steps) → Counts k.made k.before.device least more → Has least k.before → Has more (result_of go.channel k).left
+  after_call : (k : Call) (least more : ℕ) → (k.made ≡ true → runs_at k.before.device go.channel ≡ true) → (k.made ≡ true → 0 < k.most)
+      → (Knows → DeviceHasEvents k.before.device go u.steps) → Counts k.made k.before.device least more → Has least k.before
+      → Has more (result_of go.channel k).left
   after_call k least more on some knows counts (low, g) =
       let d = k.before.device in
       let t = g.thread in
@@ -215,14 +215,16 @@ module _ (go : Go) (most : ℕ) (u : Unexplained) (kind : FaultKind) (run : Give
 
   -- ---- a turn
 
-  module _ (d : DeviceValue) (regions : List Region) (limit_of : ℕ) (e : DeviceValue) (left : List Region) (turn : Turn) (x : TakesTurn d regions go.channel limit_of e left turn) (low : length (image_in regions) ≤ end_of_addresses) (least : ℕ) (g : HasThread least d) where
+  module _ (d : DeviceValue) (regions : List Region) (limit_of : ℕ) (e : DeviceValue) (left : List Region) (turn : Turn)
+      (x : TakesTurn d regions go.channel limit_of e left turn) (low : length (image_in regions) ≤ end_of_addresses) (least : ℕ) (g : HasThread least d) where
     abbrev one : Call
     one = one_of d regions go.channel limit_of
 
     abbrev two : Call
     two = two_of d regions go.channel limit_of
 
-    after_turn : (more : ℕ) → (Knows → DeviceHasEvents d go u.steps) → (more ≤ least) ⊎ ((more ≤ least + 1) × (0 < limit_of) × (waits_in_vain d go.channel ≡ false)) → HasThread more e
+    after_turn : (more : ℕ) → (Knows → DeviceHasEvents d go u.steps) → (more ≤ least)
+        ⊎ ((more ≤ least + 1) × (0 < limit_of) × (waits_in_vain d go.channel ≡ false)) → HasThread more e
     after_turn more knows counts =
         let first = first_in d regions go.channel limit_of in
         let config = if_config one.made one.marks go.channel limit_of one.before in
@@ -236,7 +238,8 @@ module _ (go : Go) (most : ℕ) (u : Unexplained) (kind : FaultKind) (run : Give
         ] in
         (subst (Has more) (turn_left x)
         (after_call two more more (follows_runs first.left.device go.channel first.called) (λ made. omega arith) still (inl (omega arith))
-        (after_call one least more (begins_runs d go.channel limit_of) (λ made. ltb-true 0 limit_of (and_parts (nat_lt 0 limit_of) (runs_at d go.channel) made).0) knows counts_one (low, g)))).1
+        (after_call one least more (begins_runs d go.channel limit_of)
+        (λ made. ltb-true 0 limit_of (and_parts (nat_lt 0 limit_of) (runs_at d go.channel) made).0) knows counts_one (low, g)))).1
 
     -- one at the refused instruction
     record FailsThere (s : Setup) : Type 0 where
@@ -248,15 +251,19 @@ module _ (go : Go) (most : ℕ) (u : Unexplained) (kind : FaultKind) (run : Give
     first_fails : g.thread.channel.taken ≡ u.steps → is_faulting g.thread ≡ false → 0 < limit_of → FailsThere two.before
     first_fails at fine some =
         let t = g.thread in
-        let acts : StepsThread one.made go.channel one.before = record { on = ap (λ (b : Bool). b && runs_at d go.channel) (lt-ltb 0 limit_of some) ∙ fine_runs least d g fine; thread = t; found = g.is } in
-        let fails = call_fails_there (start_of go) go.program most u kind refuses h.fault one.marks (from one t) low h.limit g.stuck.holds (to one t) limit_of (count_in one t) (last_answer one t) some (steps_of one t) at in
+        let acts : StepsThread one.made go.channel one.before =
+        record { on = ap (λ (b : Bool). b && runs_at d go.channel) (lt-ltb 0 limit_of some) ∙ fine_runs least d g fine; thread = t; found = g.is } in
+        let fails = call_fails_there (start_of go) go.program most u kind refuses h.fault one.marks (from one t) low h.limit g.stuck.holds (to one t) limit_of
+        (count_in one t) (last_answer one t) some (steps_of one t) at in
         let same : (at_answer one t).channel ≡ t.channel = ap (λ (m : Machine). m.channel) fails.1 in
-        let pc = subst (λ (c : ChannelValue). (t.base + c.registers.pc) % 2 ^ 32 ≡ (go.addr + u.pc) % 2 ^ 32) (sym same) (at_refused t g.stuck.holds at g.stuck.base) in
+        let pc = subst (λ (c : ChannelValue). (t.base + c.registers.pc) % 2 ^ 32 ≡ (go.addr + u.pc) % 2 ^ 32) (sym same)
+        (at_refused t g.stuck.holds at g.stuck.base) in
         subst (λ (o : Outcome). FailsThere o.left) (sym (call_acts one.marks limit_of acts))
         (record {
           thread = after_steps_of one t;
           is = set_found d.threads go.channel t (after_steps_of one t) g.is;
-          failed = subst (λ (o : Option ChanTurn). Failed (answer d.config.events (at_answer one t) o (sets one t))) (sym fails.0) (record { faulting = refl; fault = refl; pc = pc });
+          failed = subst (λ (o : Option ChanTurn). Failed (answer d.config.events (at_answer one t) o (sets one t))) (sym fails.0)
+              (record { faulting = refl; fault = refl; pc = pc });
           same = ap (λ (m : Machine). m.image) fails.1;
         })
 
@@ -281,7 +288,8 @@ module _ (go : Go) (most : ℕ) (u : Unexplained) (kind : FaultKind) (run : Give
   ready_more : (k : ℕ) → (ready (suc k) ≤ ready k) ⊎ ((ready (suc k) ≤ ready k + 1) × (0 < run.most k) × (waits_in_vain (run.before k) go.channel ≡ false))
   ready_more k = by (is_vain run k go.channel) refl
     where
-      by : (b : Bool) → is_vain run k go.channel ≡ b → (ready (suc k) ≤ ready k) ⊎ ((ready (suc k) ≤ ready k + 1) × (0 < run.most k) × (waits_in_vain (run.before k) go.channel ≡ false))
+      by : (b : Bool) → is_vain run k go.channel ≡ b → (ready (suc k) ≤ ready k)
+          ⊎ ((ready (suc k) ≤ ready k + 1) × (0 < run.most k) × (waits_in_vain (run.before k) go.channel ≡ false))
       by true is = inl (omega (arith, ap flag is))
       by false is =
           let calm = neither (nat_eq (run.most k) 0) (waits_in_vain (run.before k) go.channel) is in
@@ -300,14 +308,16 @@ module _ (go : Go) (most : ℕ) (u : Unexplained) (kind : FaultKind) (run : Give
   after_each : (k : ℕ) → k < run.count → HasThread (ready k) (run.before k) → HasThread (ready (suc k)) (run.after k)
   after_each k less g =
       let x = h.takes k less in
-      after_turn (run.before k) (run.lent k) (run.most k) (run.after k) (run.left k) x.0 x.1 (low_at k less) (ready k) g (ready (suc k)) (λ all. all k less) (ready_more k)
+      after_turn (run.before k) (run.lent k) (run.most k) (run.after k) (run.left k) x.0 x.1 (low_at k less) (ready k) g (ready (suc k)) (λ all. all k less)
+      (ready_more k)
 
   before_each : (k : ℕ) → k < run.count → HasThread (ready k) (run.before k)
   before_each zero less = record { thread = new; is = h.begins ∙ dmago_starts go h.may_go; stuck = new_stuck; counted = λ _. omega arith }
   before_each (suc k) less =
       let e : k + 1 ≡ suc k = omega arith in
       let w = after_each k (omega (arith, less)) (before_each k (omega (arith, less))) in
-      subst (λ (j : ℕ). HasThread (ready (suc k)) (run.before j)) e (record { thread = w.thread; is = h.goes_on k (omega (arith, less)) ∙ w.is; stuck = w.stuck; counted = w.counted })
+      subst (λ (j : ℕ). HasThread (ready (suc k)) (run.before j)) e
+      (record { thread = w.thread; is = h.goes_on k (omega (arith, less)) ∙ w.is; stuck = w.stuck; counted = w.counted })
 
   -- ---- what a driver reads of it
 
@@ -335,10 +345,13 @@ module _ (go : Go) (most : ℕ) (u : Unexplained) (kind : FaultKind) (run : Give
         fails = λ at fine some.
             let calm = false_from_ne_true _ (λ faulting. fine (reads_faulting (run.before k) go.channel g.thread few g.is faulting)) in
             let x = h.takes k less in
-            let v = turn_fails (run.before k) (run.lent k) (run.most k) (run.after k) (run.left k) x.0 x.1 (low_at k less) (ready k) g (sym (executed_is (run.before k) g.thread g.is) ∙ at) calm some in
+            let v = turn_fails (run.before k) (run.lent k) (run.most k) (run.after k) (run.left k) x.0 x.1 (low_at k less) (ready k) g
+            (sym (executed_is (run.before k) g.thread g.is) ∙ at) calm some in
             (fails_at (run.after k) v.thread v.is v.failed, v.same);
         failed = λ knows at faulting.
-            fails_at (run.after k) w.thread w.is (w.stuck.failed (λ j l. knows j (omega (arith, l, last))) (sym counted ∙ at) (true_from_ne_false _ (λ calm. reads_fine (run.after k) go.channel w.thread few w.is calm faulting)));
+            fails_at (run.after k) w.thread w.is
+            (w.stuck.failed (λ j l. knows j (omega (arith, l, last))) (sym counted ∙ at)
+            (true_from_ne_false _ (λ calm. reads_fine (run.after k) go.channel w.thread few w.is calm faulting)));
         fails_in_time = λ fine.
             let calm = false_from_ne_true _ (λ faulting. fine (reads_faulting (run.after k) go.channel w.thread few w.is faulting)) in
             let enough = w.counted calm in

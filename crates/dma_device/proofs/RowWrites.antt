@@ -1,22 +1,12 @@
 -- What several turns write.
 use Rattle.std.proofs.Common.{◌≡◌, ◌∙◌, ℕ, zero, suc, ◌+◌, ◌<◌, ◌≤◌, Bool, true, ◌&&◌, ◌||◌, List, [], ◌∷◌, length, map, add-one, ap, refl, sym, subst, arith}
-use Rattle.std.specs.Prelude.{nat_le, nat_lt, slice_index}
-use Rattle.std.specs.List.{list_any}
-use Rattle.dma_mem.specs.Lent.{lies_in_any}
+use Rattle.std.specs.{Prelude.nat_le, Prelude.nat_lt, Prelude.slice_index, List.list_any}
 use Rattle.dma_mem.specs.Regions.{Piece, has, image_of, in_order, pieces_of, read_only_of}
-use Rattle.dma_mem.specs.declared.regions.Region.{Region}
-use Rattle.dma_mem.specs.declared.segment.Segment.{Segment}
-use Rattle.dma_chan.specs.LentRegions.{segment_of}
-use Rattle.dma_chan.specs.Rowwise.{row_of}
-use Rattle.dma_chan.specs.Written.{LiesIn}
-use Rattle.dma_device.specs.Device.{DeviceValue}
+use Rattle.dma_mem.specs.{Lent.lies_in_any, declared.regions.Region.Region, declared.segment.Segment.Segment}
+use Rattle.dma_chan.specs.{LentRegions.segment_of, Rowwise.row_of, Written.LiesIn}
 use Rattle.dma_device.specs.RowTurns.{RowsWriteEach, TakesRowTurns, WritesRows, report_in}
-use Rattle.dma_device.specs.Turns.{TakesTurn}
-use Rattle.dma_device.specs.Writes.{WritesRange}
-use Rattle.dma_device.specs.declared.device.rows.RowTurns.{RowTurns}
-use Rattle.dma_device.specs.declared.device.turns.Turn.{Turn}
-use Rattle.dma_device.proofs.InOrder.{in_order_kept}
-use Rattle.dma_device.proofs.Writes.{turn_writes_each, turn_writes_in_regions}
+use Rattle.dma_device.specs.{Device.DeviceValue, Turns.TakesTurn, Writes.WritesRange, declared.device.rows.RowTurns.RowTurns, declared.device.turns.Turn.Turn}
+use Rattle.dma_device.proofs.{InOrder.in_order_kept, Writes.turn_writes_each, Writes.turn_writes_in_regions}
 
 -- ---- regions at the same places have the same addresses
 
@@ -27,7 +17,8 @@ has_is : (a : ℕ) (rs : List Region) → list_any (has a) (pieces_of rs) ≡ li
 has_is a [] = refl
 has_is a (r ∷ rs) = ap (λ (b : Bool). holds a (segment_of r) || b) (has_is a rs)
 
-has_kept : (a : ℕ) (left regions : List Region) → map segment_of left ≡ map segment_of regions → list_any (has a) (pieces_of left) ≡ list_any (has a) (pieces_of regions)
+has_kept : (a : ℕ) (left regions : List Region) → map segment_of left ≡ map segment_of regions
+    → list_any (has a) (pieces_of left) ≡ list_any (has a) (pieces_of regions)
 has_kept a left regions same = has_is a left ∙ ap (λ (ss : List Segment). list_any (holds a) ss) same ∙ sym (has_is a regions)
 
 -- ---- turns one after another
@@ -49,7 +40,8 @@ module _ (d : DeviceValue) (regions : List Region) (n : ℕ) (e : DeviceValue) (
     pub order : in_order (pieces_of regions) ≡ true → in_order (pieces_of (x.lent k)) ≡ true
     pub read_only : read_only_of (x.lent k) ≡ read_only_of regions
     pub size : length (image_of (pieces_of (x.lent k))) ≡ length (image_of (pieces_of regions))
-    pub bytes : (a : ℕ) → ((j : ℕ) → j < k → ¬ LiesIn (row_of t.rows j) a) → slice_index (image_of (pieces_of (x.lent k))) a ≡ slice_index (image_of (pieces_of regions)) a
+    pub bytes : (a : ℕ) → ((j : ℕ) → j < k → ¬ LiesIn (row_of t.rows j) a)
+        → slice_index (image_of (pieces_of (x.lent k))) a ≡ slice_index (image_of (pieces_of regions)) a
 
   state_at : (k : ℕ) → k ≤ t.rows.count → State k
   state_at zero few = record {
@@ -78,7 +70,8 @@ module _ (d : DeviceValue) (regions : List Region) (n : ℕ) (e : DeviceValue) (
         each = λ k a less i. (writes_at k less).each a i;
         within = λ k a rises less i.
             let now = state_at k (omega (arith, less)) in
-            let lies = turn_writes_in_regions (x.before k) (x.lent k) n t.rows.steps (x.before (k + 1)) (x.lent (k + 1)) (report_in t k) a (now.order rises) (turn_at k less) i in
+            let lies = turn_writes_in_regions (x.before k) (x.lent k) n t.rows.steps (x.before (k + 1)) (x.lent (k + 1)) (report_in t k) a (now.order rises)
+            (turn_at k less) i in
             (sym (now.found a) ∙ lies.0, ap (λ (ss : List Segment). lies_in_any ss a) (sym now.read_only) ∙ lies.1);
         size = ap (λ (ps : List Piece). length (image_of ps)) (sym x.last.pieces) ∙ all.size;
         no_other = λ a off. ap (λ (ps : List Piece). slice_index (image_of ps) a) (sym x.last.pieces) ∙ all.bytes a off;

@@ -1,26 +1,16 @@
 -- Rows computed from the definitions: values after a reset, a DMAGO of a program with its turns, and INTCLR.
 use Rattle.std.proofs.Common.{◌≡◌, ℕ, ◌+◌, ◌<◌, zero, suc, arith, sym, true≢false, true, false, List, [], ◌∷◌, map, get_or, Some, None, refl}
-use Rattle.std.specs.Prelude.{IsTrue, slice_index}
-use Rattle.std.specs.List.{list_any}
+use Rattle.std.specs.{Prelude.IsTrue, Prelude.slice_index, List.list_any}
 use Rattle.dma_insn.specs.ControlWord.{control_of, end_at, is_control}
-use Rattle.dma_mem.specs.Flags.{flags_of}
-use Rattle.dma_mem.specs.Regions.{Piece, has, image_of}
-use Rattle.dma_chan.specs.declared.bus.Bus.TheVariants.{Chip}
+use Rattle.dma_mem.specs.{Flags.flags_of, Regions.Piece, Regions.has, Regions.image_of}
 use Rattle.dma_chan.specs.declared.bus.BusWidth.TheVariants.{Bits32, Bits64, Bits128}
-use Rattle.dma_chan.specs.Channel.{loaded_with}
-use Rattle.dma_chan.specs.Exec.{reset_on}
 use Rattle.dma_chan.specs.Stepping.{Machine, after_steps, last_of, machine, signal_after}
-use Rattle.dma_chan.specs.declared.turn.ChanTurn.TheVariants.{Ended}
-use Rattle.dma_device.specs.declared.config.Config.{Config}
-use Rattle.dma_device.specs.declared.config.Revision.TheVariants.{R0p0, R1p2}
-use Rattle.dma_device.specs.Config.{is_valid}
+use Rattle.dma_chan.specs.{declared.bus.Bus.TheVariants.Chip, Channel.loaded_with, Exec.reset_on, declared.turn.ChanTurn.TheVariants.Ended, Written.range_at}
 use Rattle.dma_device.specs.Device.{DeviceValue, irq_abort, irqs, read_at, reset_device, with_thread, written}
-use Rattle.dma_device.specs.Dmago.{HasProgram}
-use Rattle.dma_device.specs.Thread.{reset_thread}
 use Rattle.dma_device.specs.Turns.{raises, runs_at, visible_events, with_flags}
 use Rattle.dma_device.specs.Accesses.{Access, Reads, Turned, Turns, Value, Writes}
-use Rattle.dma_device.specs.Run.{LentDevice, next, run}
-use Rattle.dma_chan.specs.Written.{range_at}
+use Rattle.dma_device.specs.{declared.config.Config.Config, declared.config.Revision.TheVariants.R0p0, declared.config.Revision.TheVariants.R1p2}
+use Rattle.dma_device.specs.{Config.is_valid, Dmago.HasProgram, Thread.reset_thread, Run.LentDevice, Run.next, Run.run}
 
 -- eight channels, 32 events, and 16 lines of 16 bytes for each channel
 abbrev pub largest : Config

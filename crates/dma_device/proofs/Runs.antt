@@ -3,14 +3,11 @@ use Rattle.std.proofs.Common.{◌≡◌, ◌∙◌, ℕ, zero, suc, ◌+◌, ◌
 use Rattle.std.specs.Prelude.{replicate}
 use Rattle.std.proofs.lemmas.List.{drop_at, length-replicate, take_at}
 use Rattle.dma_mem.specs.Regions.{bytes_above, end_of, image_of, piece_of, pieces_of, read_only_of}
-use Rattle.dma_mem.specs.declared.regions.Region.{Region}
-use Rattle.dma_mem.specs.declared.segment.Segment.{Segment}
+use Rattle.dma_mem.specs.{declared.regions.Region.Region, declared.segment.Segment.Segment}
 use Rattle.dma_chan.specs.LentRegions.{segment_of}
-use Rattle.dma_device.specs.declared.device.turns.Turn.{Turn}
 use Rattle.dma_device.specs.Accesses.{Access, Answer, AreAlike, Does, Happen, Turned}
-use Rattle.dma_device.specs.Device.{DeviceValue}
 use Rattle.dma_device.specs.Run.{LentDevice, RunsStepByStep, StaysLent, lent_device, next, put_from, ram_of, run, turned_on, with_image}
-use Rattle.dma_device.specs.Turns.{Setup, TakesTurn}
+use Rattle.dma_device.specs.{declared.device.turns.Turn.Turn, Device.DeviceValue, Turns.Setup, Turns.TakesTurn}
 
 -- ---- the pieces of a memory
 
@@ -26,16 +23,27 @@ put_is at (r ∷ rs) (q ∷ qs) places =
     let len : length r.bytes.now ≡ length q.bytes.now = sym (ap (λ (s : Segment). s.len) place) in
     let rest = bytes_above (end_of (piece_of q)) (pieces_of qs) in
     let gap = drop_at (replicate (q.addr - at) 0) (q.bytes.now ++ rest) (q.addr - at) (length-replicate (q.addr - at) 0) in
-    simp (addr, len, gap, take_at q.bytes.now rest (length q.bytes.now) refl, drop_at q.bytes.now rest (length q.bytes.now) refl, put_is (end_of (piece_of q)) rs qs places_after)
+    simp (
+      addr,
+      len,
+      gap,
+      take_at q.bytes.now rest (length q.bytes.now) refl,
+      drop_at q.bytes.now rest (length q.bytes.now) refl,
+      put_is (end_of (piece_of q))
+          rs qs places_after,
+    )
 
-ram_is : (regions left : List Region) → map segment_of left ≡ map segment_of regions → read_only_of left ≡ read_only_of regions → with_image (image_of (pieces_of left)) (ram_of regions) ≡ ram_of left
+ram_is : (regions left : List Region) → map segment_of left ≡ map segment_of regions → read_only_of left ≡ read_only_of regions
+    → with_image (image_of (pieces_of left)) (ram_of regions) ≡ ram_of left
 ram_is regions left places access = simp (put_is 0 regions left places, access)
 
 -- ---- an access
 
-turned_is : (d : DeviceValue) (regions : List Region) (n most : ℕ) (e : DeviceValue) (left : List Region) (turn : Turn) → TakesTurn d regions n most e left turn → turned_on n most (lent_device d regions) ≡ (lent_device e left, Turned turn)
+turned_is : (d : DeviceValue) (regions : List Region) (n most : ℕ) (e : DeviceValue) (left : List Region) (turn : Turn) → TakesTurn d regions n most e left turn
+    → turned_on n most (lent_device d regions) ≡ (lent_device e left, Turned turn)
 turned_is d regions n most e left turn x =
-    ap (λ (p : Setup × Turn). let r : LentDevice × Answer = (record { device = p.0.device; ram = with_image p.0.image (ram_of regions) }, Turned p.1) in r) x.is ∙ simp (ram_is regions left x.kept.places x.kept.read_only)
+    ap (λ (p : Setup × Turn). let r : LentDevice × Answer = (record { device = p.0.device; ram = with_image p.0.image (ram_of regions) }, Turned p.1) in r) x.is
+    ∙ simp (ram_is regions left x.kept.places x.kept.read_only)
 
 abbrev pair : LentDevice → Answer → LentDevice × Answer
 pair b a = (b, a)
@@ -44,12 +52,15 @@ pair b a = (b, a)
 alike_is : (d e : DeviceValue) (regions left : List Region) → e ≡ d → AreAlike left regions → lent_device d regions ≡ lent_device e left
 alike_is d e regions left device same = simp (device, same.pieces, same.read_only)
 
-does_is : (a : Access) (d : DeviceValue) (regions : List Region) (answer : Answer) (e : DeviceValue) (left : List Region) → Does a d regions answer e left → next a (lent_device d regions) ≡ pair (lent_device e left) answer
+does_is : (a : Access) (d : DeviceValue) (regions : List Region) (answer : Answer) (e : DeviceValue) (left : List Region) → Does a d regions answer e left
+    → next a (lent_device d regions) ≡ pair (lent_device e left) answer
 does_is a d regions answer e left h1 = grind (arith, alike_is, ram_is, turned_is)
 
 -- ---- accesses in a row
 
-board_at : (access : ℕ → Access) (answer : ℕ → Answer) (before : ℕ → DeviceValue) (lent left : ℕ → List Region) (count : ℕ) → Happen access answer before lent left count → StaysLent lent left count → (k : ℕ) → k ≤ count → lent_device (before k) (lent k) ≡ run access (lent_device (before 0) (lent 0)) k
+board_at : (access : ℕ → Access) (answer : ℕ → Answer) (before : ℕ → DeviceValue) (lent left : ℕ → List Region) (count : ℕ)
+    → Happen access answer before lent left count → StaysLent lent left count → (k : ℕ) → k ≤ count
+    → lent_device (before k) (lent k) ≡ run access (lent_device (before 0) (lent 0)) k
 board_at access answer before lent left count x stays zero within = refl
 board_at access answer before lent left count x stays (suc k) within =
     let e : k + 1 ≡ suc k = omega arith in

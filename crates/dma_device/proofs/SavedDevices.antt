@@ -1,26 +1,19 @@
 -- What is read from the bytes of a save is what was written there, and the parts of the save of a device.
-use Rattle.std.proofs.Common.{◌≡◌, ◌∙◌, ℕ, ◌+◌, ◌-◌, ◌<◌, ◌≤◌, ◌++◌, true, false, List, length, take, drop, get_or, ap, refl, sym, arith, append_assoc, suc, ◌*◌, ◌%◌, ◌/◌, ◌^◌, Bool, eqb, append-nil, add-one, subst}
+use Rattle.std.proofs.Common.{◌≡◌, ◌∙◌, ℕ, ◌+◌, ◌-◌, ◌<◌, ◌≤◌, ◌++◌, true, false, List, length, take, drop, get_or, ap, refl, sym, arith, append_assoc, suc}
+use Rattle.std.proofs.Common.{◌*◌, ◌%◌, ◌/◌, ◌^◌, Bool, eqb, append-nil, add-one, subst}
 use Rattle.std.proofs.lemmas.List.{drop_at, length-append, drop-drop, drop_all, length-drop, length-take, take-append-drop, take_all, take_at}
-use Rattle.std.specs.Int.{w32, to_le_bytes, from_le_bytes}
-use Rattle.std.specs.List.{All, flat_map}
+use Rattle.std.proofs.{Math.Seq.drop-cons, Math.Seq.take-suc, lemmas.List.Concat.flat_map-append, lemmas.Nat.from_le_bytes-to_le_bytes_4}
+use Rattle.std.specs.{Int.w32, Int.to_le_bytes, Int.from_le_bytes, List.All, List.flat_map}
 use Rattle.dma_chan.specs.Saved.{checksum, sealed, saved}
-use Rattle.dma_device.specs.declared.config.Config.{Config}
-use Rattle.dma_device.specs.declared.save.head.Head.{Head}
-use Rattle.dma_device.specs.declared.thread.Thread.{Thread}
-use Rattle.dma_device.specs.Device.{DeviceValue, csr}
-use Rattle.dma_device.specs.Snapshot.{HasKnownEvents, IsDeviceValue, IsThreadValue, head_bytes, head_in, head_of, identity, old_save, parts_in, saved_device, saved_thread, thread_bytes}
-use Rattle.dma_device.specs.Thread.{IsOn, has_status, status_bits}
-use Rattle.dma_device.specs.Config.{is_valid}
-use Rattle.dma_device.specs.inner.Saves.{HasHeadRanges}
-use Rattle.std.proofs.Math.Seq.{drop-cons, take-suc}
-use Rattle.std.proofs.lemmas.List.Concat.{flat_map-append}
-use Rattle.std.proofs.lemmas.Nat.{from_le_bytes-to_le_bytes_4}
-use borrow.Author.Tests.{ltb-true}
-use borrow.Rule.Slice.PartMut.{put_mid}
+use Rattle.dma_device.specs.Snapshot.{HasKnownEvents, IsDeviceValue, IsThreadValue, head_bytes, head_in, head_of, identity, old_save, parts_in, saved_device}
+use Rattle.dma_device.specs.Snapshot.{saved_thread, thread_bytes}
+use Rattle.dma_device.specs.{declared.config.Config.Config, declared.save.head.Head.Head, declared.thread.Thread.Thread, Device.DeviceValue, Device.csr}
+use Rattle.dma_device.specs.{Thread.IsOn, Thread.has_status, Thread.status_bits, Config.is_valid, inner.Saves.HasHeadRanges, declared.thread.Status.Status}
 use Rattle.dma_insn.specs.ControlWord.{flag}
 use Rattle.dma_chan.proofs.SavedParts.{saved_parts}
-use Rattle.dma_device.specs.declared.thread.Status.{Status}
 use Rattle.dma_device.proofs.Sound.{few_events, fits_word}
+use borrow.Author.Tests.{ltb-true}
+use borrow.Rule.Slice.PartMut.{put_mid}
 
 -- ---- a head
 
@@ -68,7 +61,8 @@ thread_length t = omega (arith, length-append (thread_bytes t (length (saved t.c
 status_few : (events : ℕ) (t : Thread) (s : Status) → events ≤ 32 → has_status events t s ≡ true → status_bits s < 2 ^ 9
 status_few events t s h1 h2 = grind (arith, ltb-true)
 
-csr_parts : (bits : ℕ) (b : Bool) → bits < 2 ^ 9 → ((bits + flag b * 2 ^ 21) % 512 ≡ bits) × (((bits + flag b * 2 ^ 21) / 2 ^ 21 % 2 ≡ flag b) × (bits + flag b * 2 ^ 21 < 2 ^ 32))
+csr_parts : (bits : ℕ) (b : Bool) → bits < 2 ^ 9 → ((bits + flag b * 2 ^ 21) % 512 ≡ bits)
+    × (((bits + flag b * 2 ^ 21) / 2 ^ 21 % 2 ≡ flag b) × (bits + flag b * 2 ^ 21 < 2 ^ 32))
 csr_parts bits true few = (omega arith, (omega arith, omega arith))
 csr_parts bits false few = (omega arith, (omega arith, omega arith))
 
@@ -81,7 +75,8 @@ pub record HasThread (t : Thread) (bytes : List ℕ) : Type 0 where
   pub pc : from_le_bytes w32 (drop 12 bytes) ≡ t.pc
   pub len : from_le_bytes w32 (drop 16 bytes) ≡ length (saved t.channel)
 
-thread_written : (events : ℕ) (t : Thread) (rest : List ℕ) → events ≤ 32 → IsThreadValue events t → length (saved t.channel) < 2 ^ 32 → HasThread t (thread_bytes t (length (saved t.channel)) ++ rest)
+thread_written : (events : ℕ) (t : Thread) (rest : List ℕ) → events ≤ 32 → IsThreadValue events t → length (saved t.channel) < 2 ^ 32
+    → HasThread t (thread_bytes t (length (saved t.channel)) ++ rest)
 unfolding thread_bytes
 thread_written events t rest few v short =
     let parts = csr_parts (status_bits t.status) t.nonsecure (status_few events t t.status few v.sound) in
@@ -130,7 +125,8 @@ bit_back false = refl
 -- ---- threads in a row
 
 -- one more of the lists that are joined
-pub one_more : {X Y : Type 0} → (f : X → List Y) (xs : List X) (n : ℕ) (x : X) → n < length xs → x ≡ get_or xs n x → flat_map f (take (n + 1) xs) ≡ flat_map f (take n xs) ++ f x
+pub one_more : {X Y : Type 0} → (f : X → List Y) (xs : List X) (n : ℕ) (x : X) → n < length xs → x ≡ get_or xs n x
+    → flat_map f (take (n + 1) xs) ≡ flat_map f (take n xs) ++ f x
 one_more {X} {Y} f xs n x less is = simp (add-one, take-suc xs n x less, flat_map-append, append-nil, sym is)
 
 -- all that is behind the first a items of a list
@@ -146,14 +142,16 @@ pub front_length : {X : Type 0} → (a : ℕ) (xs ys : List X) → a ≤ length 
 front_length {X} a xs ys fits = grind (arith, length-take, put_tail, take_at)
 
 -- One more part is written behind those that are written.
-pub written_more : (at len : ℕ) (parts part out old new : List ℕ) → at ≤ length out → at ≡ length parts → out ≡ parts ++ drop at old → new ≡ part ++ drop len (take (length out - at) (drop at out)) → put_mid at (length out - at) out new ≡ (parts ++ part) ++ drop (at + len) old
+pub written_more : (at len : ℕ) (parts part out old new : List ℕ) → at ≤ length out → at ≡ length parts → out ≡ parts ++ drop at old
+    → new ≡ part ++ drop len (take (length out - at) (drop at out)) → put_mid at (length out - at) out new ≡ (parts ++ part) ++ drop (at + len) old
 written_more at len parts part out old new fits is before after =
     let front : take at out ≡ parts = ap (take at) before ∙ take_at parts (drop at old) at (sym is) in
     let back : drop at out ≡ drop at old = ap (drop at) before ∙ drop_at parts (drop at old) at (sym is) in
     put_tail at out new fits ∙ simp (front, after, tail_is at out ∙ back, drop-drop, append_assoc)
 
 -- the list at place n of those that are joined is behind those before it
-pub part_at : {X Y : Type 0} → (f : X → List Y) (xs : List X) (n at : ℕ) (all : List Y) (x : X) → n < length xs → all ≡ flat_map f xs → at ≡ length (flat_map f (take n xs)) → drop at all ≡ f (get_or xs n x) ++ flat_map f (drop (suc n) xs)
+pub part_at : {X Y : Type 0} → (f : X → List Y) (xs : List X) (n at : ℕ) (all : List Y) (x : X) → n < length xs → all ≡ flat_map f xs
+    → at ≡ length (flat_map f (take n xs)) → drop at all ≡ f (get_or xs n x) ++ flat_map f (drop (suc n) xs)
 part_at {X} {Y} f xs n at all x less is here =
     let split : flat_map f xs ≡ flat_map f (take n xs) ++ flat_map f (drop n xs) =
     ap (flat_map f) (sym (take-append-drop n xs)) ∙ flat_map-append f (take n xs) (drop n xs) in
@@ -177,7 +175,8 @@ pub known_in : (version : ℕ) (d : DeviceValue) → IsDeviceValue d → HasKnow
 known_in version d v = record { events = v.known.events; interrupts = v.known.interrupts; inten = v.known.inten }
 
 -- What every device satisfies, in parts.
-pub device_value_is : (d : DeviceValue) → is_valid d.config ≡ true → HasKnownEvents (head_of d) → HasHeadRanges (head_of d) → length d.threads ≡ d.config.channels → All (IsThreadValue d.config.events) d.threads → All (IsOn d.config.bus) d.threads → IsDeviceValue d
+pub device_value_is : (d : DeviceValue) → is_valid d.config ≡ true → HasKnownEvents (head_of d) → HasHeadRanges (head_of d)
+    → length d.threads ≡ d.config.channels → All (IsThreadValue d.config.events) d.threads → All (IsOn d.config.bus) d.threads → IsDeviceValue d
 device_value_is d valid known r count values on = grind arith
 
 -- the device of a configuration, a head and threads
@@ -194,7 +193,8 @@ from_head g h ts = record {
 }
 
 -- The saves of the threads follow the head.
-pub threads_behind : (version : ℕ) (d : DeviceValue) (save : List ℕ) → save ≡ parts_in version d → take (length save - 40) (drop 40 save) ≡ flat_map saved_thread d.threads
+pub threads_behind : (version : ℕ) (d : DeviceValue) (save : List ℕ) → save ≡ parts_in version d
+    → take (length save - 40) (drop 40 save) ≡ flat_map saved_thread d.threads
 unfolding parts_in
 threads_behind version d save e =
     tail_is 40 save ∙ ap (drop 40) e ∙ drop_at (head_bytes (head_in version d)) (flat_map saved_thread d.threads) 40 (head_length (head_in version d))

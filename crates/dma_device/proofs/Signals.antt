@@ -1,36 +1,24 @@
 -- At the interrupts of a program with several DMASEVs of one event, what it stores before each of them is done in turn.
-use Rattle.std.proofs.Common.{◌≡◌, ◌∙◌, ◌⊎◌, ℕ, zero, suc, ◌+◌, ◌<◌, ◌≤◌, Bool, List, [], length, Option, Some, Result, Ok, ap, refl, sym, subst, arith, inl, inr, cond}
+use Rattle.std.proofs.Common.{◌≡◌, ◌∙◌, ◌⊎◌, ℕ, zero, suc, ◌+◌, ◌<◌, ◌≤◌, Bool, List, [], length, Option, Some, Result, Ok, ap, refl, sym, subst, arith, inl}
+use Rattle.std.proofs.Common.{inr, cond}
 use Rattle.std.specs.List.{count_by}
-use Rattle.std.proofs.lemmas.Bool.{cases_eq, cases_lt, eq-eqb}
-use Rattle.std.proofs.lemmas.List.Sums.{sum_by-append}
-use Rattle.dma_insn.specs.declared.chip.ChipInsn.{ChipInsn}
-use Rattle.dma_insn.specs.declared.chip.ChipInsn.TheVariants.{Sev}
-use Rattle.dma_mem.specs.Marking.{MarkList}
-use Rattle.dma_mem.specs.declared.regions.Region.{Region}
-use Rattle.dma_chan.specs.Channel.{ChannelValue, ahead_of}
-use Rattle.dma_chan.specs.Exec.{State}
-use Rattle.dma_explain.specs.Explains.{Explains, IsAtLeast, Work, all_of, amounts_of, events_in, happening_of, next_in, traced}
+use Rattle.std.proofs.{lemmas.Bool.cases_eq, lemmas.Bool.cases_lt, lemmas.Bool.eq-eqb, lemmas.List.Sums.sum_by-append}
+use Rattle.dma_insn.specs.{declared.chip.ChipInsn.ChipInsn, declared.chip.ChipInsn.TheVariants.Sev}
+use Rattle.dma_mem.specs.{Marking.MarkList, declared.regions.Region.Region}
 use Rattle.dma_chan.specs.Stepping.{Machine, TakesSteps, after_step, after_steps, answer_at, machine, signal_after, signal_of}
-use Rattle.dma_chan.specs.declared.exec.Registers.{Registers}
-use Rattle.dma_explain.specs.declared.explain.Amounts.{Amounts}
-use Rattle.dma_explain.specs.declared.explain.Happening.{Happening}
-use Rattle.dma_chan.specs.declared.turn.ChanTurn.{ChanTurn}
-use Rattle.dma_chan.specs.declared.turn.ChanTurn.TheVariants.{Moved}
-use Rattle.dma_chan.specs.declared.turn.FaultKind.{FaultKind}
-use Rattle.dma_explain.proofs.AmongOthers.{Fits}
-use Rattle.dma_chan.proofs.CallWrites.{does_next}
+use Rattle.dma_chan.specs.{Channel.ChannelValue, Channel.ahead_of, Exec.State, declared.exec.Registers.Registers, declared.turn.ChanTurn.ChanTurn}
+use Rattle.dma_chan.specs.{declared.turn.ChanTurn.TheVariants.Moved, declared.turn.FaultKind.FaultKind}
+use Rattle.dma_explain.specs.Explains.{Explains, IsAtLeast, Work, all_of, amounts_of, events_in, happening_of, next_in, traced}
+use Rattle.dma_explain.specs.{declared.explain.Amounts.Amounts, declared.explain.Happening.Happening}
 use Rattle.dma_explain.proofs.CallsAmongOthers.{Runs, done_at, is_signal, many, moved_on, next_ahead}
-use Rattle.dma_explain.proofs.SinceLoads.{done_grows, runs_so, worked_part}
-use Rattle.dma_chan.proofs.StepsTaken.{steps_move}
+use Rattle.dma_explain.proofs.{AmongOthers.Fits, SinceLoads.done_grows, SinceLoads.runs_so, SinceLoads.worked_part}
+use Rattle.dma_chan.proofs.{CallWrites.does_next, StepsTaken.steps_move}
 use Rattle.dma_device.specs.Copies.{AreDone, DmagoInterruptsEach, IsSignalNumber, Rises, RisesInEach, is_signal_of, signals_in}
-use Rattle.dma_device.specs.Device.{DeviceValue}
 use Rattle.dma_device.specs.Dmago.{Go, RunsCopy, GivenTurns, image_in, start_of}
-use Rattle.dma_device.specs.Turns.{TakesTurn, setup_of}
-use Rattle.dma_device.specs.declared.device.turns.Turn.{Turn}
-use Rattle.dma_device.specs.declared.thread.Thread.{Thread}
-use Rattle.dma_device.proofs.Copies.{are_done, call_later, many_later, none_sent}
-use Rattle.dma_device.proofs.Driven.{After, Before, Call, Copying, Has, Steps, after_turn, along, channel_after, copying, count_in, from, last_answer, new, one_of, result_of, sent_by, steps_of, to, two_of}
-use Rattle.dma_device.proofs.Interrupts.{turn_raises}
+use Rattle.dma_device.specs.{Device.DeviceValue, Turns.TakesTurn, Turns.setup_of, declared.device.turns.Turn.Turn, declared.thread.Thread.Thread}
+use Rattle.dma_device.proofs.Driven.{After, Before, Call, Copying, Has, Steps, after_turn, along, channel_after, copying, count_in, from, last_answer, new}
+use Rattle.dma_device.proofs.Driven.{one_of, result_of, sent_by, steps_of, to, two_of}
+use Rattle.dma_device.proofs.{Copies.are_done, Copies.call_later, Copies.many_later, Copies.none_sent, Interrupts.turn_raises}
 
 -- ---- the DMASEVs of an event among a program's first instructions
 
@@ -55,14 +43,18 @@ module _ (start : Registers) (program : List ℕ) (e : ℕ) where
   sev_counts : (k : ℕ) → next_in program (traced start program k) ≡ Ok (Sev e) → Count (suc k) ≡ Count k + 1
   sev_counts k is =
       let x = traced start program k in
-      let one : count_by (λ h. is_signal_of e h.sync) (here k) ≡ 1 = ap (λ (r : Result ChipInsn FaultKind). count_by (λ h. is_signal_of e h.sync) (happening_of r (amounts_of x))) is ∙ ap (λ (b : Bool). 0 + cond b 1 0) (eq-eqb e e refl) in
+      let one : count_by (λ h. is_signal_of e h.sync) (here k) ≡ 1 =
+      ap (λ (r : Result ChipInsn FaultKind). count_by (λ h. is_signal_of e h.sync) (happening_of r (amounts_of x))) is
+      ∙ ap (λ (b : Bool). 0 + cond b 1 0) (eq-eqb e e refl) in
       omega (arith, next_count k, one)
 
 -- ---- a call that signals
 
-module _ (start : Registers) (program : List ℕ) (work : Work) (count : ℕ) (marks : MarkList) (first : List ℕ) (h : Explains start program work count) (low : Fits work (length first)) where
+module _ (start : Registers) (program : List ℕ) (work : Work) (count : ℕ) (marks : MarkList) (first : List ℕ) (h : Explains start program work count)
+    (low : Fits work (length first)) where
   -- the step at a DMASEV of the event
-  step_counts : (u : Machine) (e : ℕ) → Runs start program work count first u → signal_of (ahead_of u.channel) ≡ Some e → signals_in start program e (after_step marks u).channel.taken ≡ signals_in start program e u.channel.taken + 1
+  step_counts : (u : Machine) (e : ℕ) → Runs start program work count first u → signal_of (ahead_of u.channel) ≡ Some e
+      → signals_in start program e (after_step marks u).channel.taken ≡ signals_in start program e u.channel.taken + 1
   step_counts u e r signal =
       let k = r.0 in
       let ahead = is_signal (ahead_of u.channel) e signal in
@@ -72,12 +64,14 @@ module _ (start : Registers) (program : List ℕ) (work : Work) (count : ℕ) (m
       ap (signals_in start program e) later.taken ∙ sev_counts start program e k next ∙ ap (λ (m : ℕ). signals_in start program e m + 1) (sym r.1.taken)
 
   -- a call whose last step is a DMASEV of the event passes at least this one
-  call_counts : (s v : Machine) (most taken : ℕ) (last : Option ChanTurn) (e : ℕ) → Runs start program work count first s → TakesSteps marks s most taken last v → signal_after marks s taken ≡ Some e → signals_in start program e s.channel.taken < signals_in start program e v.channel.taken
+  call_counts : (s v : Machine) (most taken : ℕ) (last : Option ChanTurn) (e : ℕ) → Runs start program work count first s → TakesSteps marks s most taken last v
+      → signal_after marks s taken ≡ Some e → signals_in start program e s.channel.taken < signals_in start program e v.channel.taken
   call_counts s v most zero last e r steps signal = absurd (cc)
   call_counts s v most (suc p) last e r steps signal =
       let u = after_steps marks s p in
       let there = many start program work count marks first h low p s r (steps_move steps) in
-      let grows = counts_grow start program e s.channel.taken u.channel.taken (many_later start program work count marks first h low p s r (steps_move steps)) in
+      let grows = counts_grow start program e s.channel.taken u.channel.taken
+      (many_later start program work count marks first h low p s r (steps_move steps)) in
       let same = ap (λ (m : Machine). signals_in start program e m.channel.taken) steps.ends_at in
       omega (arith, grows, same, step_counts u e there signal)
 
@@ -99,23 +93,36 @@ module _ (c : Copying) (n i : ℕ) where
     ends = λ th g known sent ended. tt;
     goes = λ made th found g known sent goes b why.
         let same = ap (λ (v : ChannelValue). signals_in c.start c.program i v.taken) (channel_after k th) in
-        let on = call_later c.start c.program c.work c.count k.marks c.first c.explains c.fits (from k th) (to k th) k.most (count_in k th) (last_answer k th) goes g.runs (steps_of k th) in
+        let on = call_later c.start c.program c.work c.count k.marks c.first c.explains c.fits (from k th) (to k th) k.most (count_in k th) (last_answer k th)
+        goes g.runs (steps_of k th) in
         elim why [
           | inl f ↦ omega (arith, same, known b f, counts_grow c.start c.program i th.channel.taken (to k th).channel.taken on)
-          | inr w ↦ omega (arith, same, w.3, known w.0 w.2, call_counts c.start c.program c.work c.count k.marks c.first c.explains c.fits (from k th) (to k th) k.most (count_in k th) (last_answer k th) i g.runs (steps_of k th) (sym sent ∙ w.1))
+          | inr w ↦ omega (
+            arith,
+            same,
+            w.3,
+            known w.0 w.2,
+            call_counts c.start c.program c.work c.count k.marks c.first c.explains c.fits (from k th) (to k th)
+                k.most (count_in k th) (last_answer k th) i g.runs (steps_of k th) (sym sent ∙ w.1),
+          )
         ];
   }
 
-  turn_counts : (F : ℕ → Type 0) (d : DeviceValue) (regions : List Region) (most : ℕ) (e : DeviceValue) (left : List Region) (turn : Turn) → TakesTurn d regions n most e left turn → Has c n (Unit {0}) (Counts F) (setup_of d regions) → Has c n (Unit {0}) (Counts (More (More F (sent_by n (one_of d regions n most) ≡ Some i)) (sent_by n (two_of d regions n most) ≡ Some i))) (setup_of e left)
+  turn_counts : (F : ℕ → Type 0) (d : DeviceValue) (regions : List Region) (most : ℕ) (e : DeviceValue) (left : List Region) (turn : Turn)
+      → TakesTurn d regions n most e left turn → Has c n (Unit {0}) (Counts F) (setup_of d regions)
+      → Has c n (Unit {0}) (Counts (More (More F (sent_by n (one_of d regions n most) ≡ Some i)) (sent_by n (two_of d regions n most) ≡ Some i)))
+      (setup_of e left)
   turn_counts F d regions most e left turn x g =
       let one = one_of d regions n most in
       let two = two_of d regions n most in
       let first = More F (sent_by n one ≡ Some i) in
-      after_turn c n d regions most e left turn x (Unit {0}) (Counts F) (Unit {0}) (Counts first) (Unit {0}) (Counts (More first (sent_by n two ≡ Some i))) (steps_counts F one) (steps_counts first two) g
+      after_turn c n d regions most e left turn x (Unit {0}) (Counts F) (Unit {0}) (Counts first) (Unit {0}) (Counts (More first (sent_by n two ≡ Some i)))
+      (steps_counts F one) (steps_counts first two) g
 
 -- ---- along the turns
 
-module _ (go : Go) (work : Work) (count : ℕ) (run : GivenTurns) (h : RunsCopy go work count run) (some : 0 < run.count) (i j : ℕ) (turn : ℕ → ℕ) (each : RisesInEach run i j turn) where
+module _ (go : Go) (work : Work) (count : ℕ) (run : GivenTurns) (h : RunsCopy go work count run) (some : 0 < run.count) (i j : ℕ) (turn : ℕ → ℕ)
+    (each : RisesInEach run i j turn) where
   abbrev c : Copying
   c = copying go work count run h some
 
@@ -190,17 +197,20 @@ module _ (go : Go) (work : Work) (count : ℕ) (run : GivenTurns) (h : RunsCopy 
           | inl within ↦ omega (arith, within)
           | inr short ↦ absurd (omega (arith, sev.number, more, counts_grow (start_of go) go.program i taken step short))
         ] in
-        subst (λ (a : Amounts). IsAtLeast a (amounts_of (traced (start_of go) go.program taken))) sev.signal.after (done_grows (start_of go) go.program step taken behind)
+        subst (λ (a : Amounts). IsAtLeast a (amounts_of (traced (start_of go) go.program taken))) sev.signal.after
+        (done_grows (start_of go) go.program step taken behind)
 
     each_copied : (k : ℕ) → turn j ≤ k → k < run.count → AreDone work done (image_in (run.lent 0)) (image_in (run.left k))
     each_copied k late less =
         let g = counted_along k less in
         elim g.stands [
-          | inl over ↦ are_done c (image_in (run.left k)) done (all_of work) (worked_part work c.first (image_in (run.left k)) over.0.done) (λ p few within. within) (λ p few within. within)
+          | inl over ↦ are_done c (image_in (run.left k)) done (all_of work) (worked_part work c.first (image_in (run.left k)) over.0.done)
+              (λ p few within. within) (λ p few within. within)
           | inr going ↦
               let so = runs_so c.start c.program work count c.first c.explains (machine g.thread.channel (image_in (run.left k)) []) going.0.runs in
               let enough = passed g.thread.channel.taken (omega (arith, going.1 (suc j) (omega arith, omega (arith, late)))) in
-              are_done c (image_in (run.left k)) done (done_at c.start c.program (machine g.thread.channel (image_in (run.left k)) [])) so.part (λ p few within. omega (arith, few, enough.copied)) (λ p few within. omega (arith, few, enough.cleared))
+              are_done c (image_in (run.left k)) done (done_at c.start c.program (machine g.thread.channel (image_in (run.left k)) [])) so.part
+              (λ p few within. omega (arith, few, enough.copied)) (λ p few within. omega (arith, few, enough.cleared))
         ]
 
 pub dmago_interrupts_each : DmagoInterruptsEach

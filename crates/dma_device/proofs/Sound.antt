@@ -1,47 +1,28 @@
 -- What each thread satisfies after a call too: its status goes with its program, and the beats of its control word are
 -- no wider than its bus. And events stay among those of the device.
-use Rattle.std.proofs.Common.{◌≡◌, ◌∙◌, ℕ, zero, suc, ◌+◌, ◌-◌, ◌*◌, ◌%◌, ◌^◌, ◌<◌, ◌≤◌, Bool, true, false, List, Option, Some, None, ap, get_or, inl, inr, length, refl, replicate, sym, subst, arith, bit_and, Result}
-use Rattle.std.specs.Prelude.{is_some, nat_le, nat_lt, slice_set, if◌then◌else◌}
-use Rattle.std.proofs.Math.Nat.{mod-le}
-use Rattle.std.proofs.Math.Pow.{pow-lt, pow_mono}
+use Rattle.std.proofs.Common.{◌≡◌, ◌∙◌, ℕ, zero, suc, ◌+◌, ◌-◌, ◌*◌, ◌%◌, ◌^◌, ◌<◌, ◌≤◌, Bool, true, false, List, Option, Some, None, ap, get_or, inl, inr}
+use Rattle.std.proofs.Common.{length, refl, replicate, sym, subst, arith, bit_and, Result}
+use Rattle.std.specs.{Prelude.is_some, Prelude.nat_le, Prelude.nat_lt, Prelude.slice_set, Prelude.if◌then◌else◌, List.All, Vec.with_item, Vec.with_items}
 use Rattle.std.proofs.lemmas.Bool.{and_parts, cases_eq, cond_both, eq-eqb, leb-true, lt-ltb}
 use Rattle.std.proofs.lemmas.List.{drop_all, get_or-set_other, get_or-set_same, length-set, with_items_is}
-use Rattle.std.proofs.lemmas.List.Elements.{All-replicate, All-set}
-use Rattle.std.specs.List.{All}
-use Rattle.std.specs.Vec.{with_item, with_items}
 use Rattle.std.proofs.lemmas.Nat.{and_le_l, and_le_r, pow_pos}
+use Rattle.std.proofs.{Math.Nat.mod-le, Math.Pow.pow-lt, Math.Pow.pow_mono, lemmas.List.Elements.All-replicate, lemmas.List.Elements.All-set}
 use Rattle.dma_mem.specs.Marking.{MarkList}
 use Rattle.dma_chan.specs.Channel.{ChannelValue, after_turn, ahead_of, last_count, state_of, step_of, stored_by}
-use Rattle.dma_chan.specs.Exec.{State, exec_fetched, moved as moved_registers, ChangesNothing}
-use Rattle.dma_chan.specs.declared.bus.BusWidth.{BusWidth}
-use Rattle.dma_chan.specs.Programs.{ProgramValue}
 use Rattle.dma_chan.specs.Stepping.{Machine, TakesSteps, after_step, after_steps, answer_at, goes_on_after}
-use Rattle.dma_chan.specs.declared.turn.ChanTurn.{ChanTurn}
 use Rattle.dma_chan.specs.declared.turn.ChanTurn.TheVariants.{Moved, Waiting, Fault}
-use Rattle.dma_chan.specs.declared.turn.FaultKind.TheVariants.{InstrFetchErr}
-use Rattle.dma_chan.proofs.StepsTaken.{steps_counted, steps_move}
-use Rattle.dma_chan.proofs.SteppedOver.{was_moved, went_before, is_still}
-use Rattle.dma_device.specs.Config.{is_valid}
-use Rattle.dma_device.specs.declared.config.Config.{Config}
-use Rattle.dma_device.specs.declared.device.Device.TheInside.{Inside}
-use Rattle.dma_device.specs.declared.device.Manager.{Manager}
-use Rattle.dma_device.specs.Device.{DeviceValue, with_thread}
-use Rattle.dma_device.specs.Idle.{IsSoundDevice}
-use Rattle.dma_device.specs.inner.Fields.{AreOn, IsDevice, device_value}
+use Rattle.dma_chan.specs.{declared.bus.BusWidth.BusWidth, Programs.ProgramValue, declared.turn.ChanTurn.ChanTurn}
+use Rattle.dma_chan.specs.{declared.turn.FaultKind.TheVariants.InstrFetchErr, declared.bus.Bus.Bus, declared.bus.Bus.TheVariants.Chip}
+use Rattle.dma_chan.specs.{declared.bus.BusWidth.TheVariants.Bits32, declared.exec.Registers.Registers, declared.turn.FaultKind.FaultKind, Bus.fits}
+use Rattle.dma_chan.proofs.{StepsTaken.steps_counted, StepsTaken.steps_move, SteppedOver.was_moved, SteppedOver.went_before, SteppedOver.is_still}
+use Rattle.dma_chan.proofs.{ActCases.IsAccepted, ActCases.fetched_cases, BusKept.steps_bus, MembersByNumber.ccr_looped}
 use Rattle.dma_device.specs.Thread.{IsOn, IsSound, answer, answered, failed, is_before_wait, moved, operand_invalid, reset_thread, waits_for}
-use Rattle.dma_device.specs.declared.thread.Status.TheVariants.{WaitingForEvent}
-use Rattle.dma_device.specs.declared.thread.Thread.{Thread}
+use Rattle.dma_device.specs.{Config.is_valid, declared.config.Config.Config, declared.device.Device.TheInside.Inside, declared.device.Manager.Manager}
+use Rattle.dma_device.specs.{Device.DeviceValue, Device.with_thread, Idle.IsSoundDevice, inner.Fields.AreOn, inner.Fields.IsDevice, inner.Fields.device_value}
+use Rattle.dma_device.specs.{declared.thread.Status.TheVariants.WaitingForEvent, declared.thread.Thread.Thread}
 use Rattle.dma_insn.specs.declared.chip.ChipInsn.{ChipInsn}
-use Rattle.dma_chan.specs.declared.bus.Bus.{Bus}
-use Rattle.dma_chan.specs.declared.bus.Bus.TheVariants.{Chip}
-use Rattle.dma_chan.specs.declared.bus.BusWidth.TheVariants.{Bits32}
-use Rattle.dma_chan.specs.declared.exec.Registers.{Registers}
-use Rattle.dma_chan.specs.declared.turn.FaultKind.{FaultKind}
-use Rattle.dma_chan.specs.Bus.{fits}
-use Rattle.dma_chan.proofs.ActCases.{IsAccepted, fetched_cases}
-use Rattle.dma_chan.proofs.BusKept.{steps_bus}
-use Rattle.dma_chan.proofs.MembersByNumber.{ccr_looped}
 use Rattle.dma_device.proofs.FlagSteps.{waits_at}
+use Rattle.dma_chan.specs.Exec.{State, exec_fetched, moved as moved_registers, ChangesNothing}
 
 -- ---- at the start
 
@@ -65,11 +46,13 @@ moved_fits i r h1 h2 = grind (arith, ccr_looped)
 fetched_fits : (marks : MarkList) (next : Result ChipInsn FaultKind) (s : State) → Keeps s (exec_fetched marks next s)
 fetched_fits marks next s = grind (arith, fetched_cases, moved_fits)
 
-turn_fits : (bus : Bus) (turn : ChanTurn) (s : State) (n : ℕ) (c : ChannelValue) → fits bus s.registers.ccr ≡ true → fits bus c.registers.ccr ≡ true → fits bus (after_turn turn s n c).registers.ccr ≡ true
+turn_fits : (bus : Bus) (turn : ChanTurn) (s : State) (n : ℕ) (c : ChannelValue) → fits bus s.registers.ccr ≡ true → fits bus c.registers.ccr ≡ true
+    → fits bus (after_turn turn s n c).registers.ccr ≡ true
 turn_fits bus Moved s n c new old = new
 turn_fits bus turn s n c new old = old
 
-pub steps_fit : (bus : Bus) (marks : MarkList) (s : Machine) (n : ℕ) → s.channel.registers.bus ≡ bus → fits bus s.channel.registers.ccr ≡ true → fits bus (after_steps marks s n).channel.registers.ccr ≡ true
+pub steps_fit : (bus : Bus) (marks : MarkList) (s : Machine) (n : ℕ) → s.channel.registers.bus ≡ bus → fits bus s.channel.registers.ccr ≡ true
+    → fits bus (after_steps marks s n).channel.registers.ccr ≡ true
 steps_fit bus marks s zero on h = h
 steps_fit bus marks s (suc n) on h =
     let u = after_steps marks s n in
@@ -86,12 +69,14 @@ steps_fit bus marks s (suc n) on h =
 moved_sound : (events : ℕ) (t : Thread) (signal : Option ℕ) → is_some t.channel.program ≡ true → IsSound events (moved events t signal)
 moved_sound events t signal h1 = grind (arith, cond_both)
 
-waits_sound : (events e : ℕ) (t : Thread) (b : Bool) → nat_lt e events ≡ b → is_some t.channel.program ≡ true → is_before_wait e t ≡ true → IsSound events (if b then record t { status = WaitingForEvent e } else failed operand_invalid t)
+waits_sound : (events e : ℕ) (t : Thread) (b : Bool) → nat_lt e events ≡ b → is_some t.channel.program ≡ true → is_before_wait e t ≡ true
+    → IsSound events (if b then record t { status = WaitingForEvent e } else failed operand_invalid t)
 waits_sound events e t true less loaded before = rw (loaded, less) before
 waits_sound events e t false less loaded before = refl
 
 -- after a step of a channel that has a program
-by_turn : (events : ℕ) (t : Thread) (turn : ChanTurn) (signal : Option ℕ) (s : State) (n : ℕ) (c : ChannelValue) → is_some c.program ≡ true → t.channel ≡ after_turn turn s n c → ((e : ℕ) → turn ≡ Waiting e → is_before_wait e t ≡ true) → IsSound events (answer events t (Some turn) signal)
+by_turn : (events : ℕ) (t : Thread) (turn : ChanTurn) (signal : Option ℕ) (s : State) (n : ℕ) (c : ChannelValue) → is_some c.program ≡ true
+    → t.channel ≡ after_turn turn s n c → ((e : ℕ) → turn ≡ Waiting e → is_before_wait e t ≡ true) → IsSound events (answer events t (Some turn) signal)
 by_turn events t turn signal s n c h1 h2 e = grind (arith, moved_sound, waits_sound)
 
 moved_keeps : (turn : ChanTurn) (s : State) (n : ℕ) (c : ChannelValue) → turn ≡ Moved → (after_turn turn s n c).program ≡ c.program
@@ -102,7 +87,8 @@ pub program_after : (marks : MarkList) (u : Machine) → answer_at marks u ≡ M
 program_after marks u moved = moved_keeps (answer_at marks u) _ _ u.channel moved
 
 -- So the steps that others follow keep it.
-pub program_kept : (marks : MarkList) (s : Machine) (j : ℕ) → ((k : ℕ) → k < suc j → goes_on_after marks s k ≡ true) → (after_steps marks s j).channel.program ≡ s.channel.program
+pub program_kept : (marks : MarkList) (s : Machine) (j : ℕ) → ((k : ℕ) → k < suc j → goes_on_after marks s k ≡ true)
+    → (after_steps marks s j).channel.program ≡ s.channel.program
 program_kept marks s zero moves = refl
 program_kept marks s (suc j) moves =
     let u = after_steps marks s j in
@@ -114,7 +100,8 @@ unloaded_fails : (marks : MarkList) (s : Machine) → s.channel.program ≡ None
 unloaded_fails marks s none = grind (arith, drop_all)
 
 -- a thread whose call's last step waits is before the DMAWFE
-waits_before : (marks : MarkList) (u : Machine) (t : Thread) (e : ℕ) → answer_at marks u ≡ Waiting e → t.channel ≡ (after_step marks u).channel → u.channel.taken < last_count → t.pc ≡ (t.base + t.channel.registers.pc) % 2 ^ 32 → is_before_wait e t ≡ true
+waits_before : (marks : MarkList) (u : Machine) (t : Thread) (e : ℕ) → answer_at marks u ≡ Waiting e → t.channel ≡ (after_step marks u).channel
+    → u.channel.taken < last_count → t.pc ≡ (t.base + t.channel.registers.pc) % 2 ^ 32 → is_before_wait e t ≡ true
 waits_before marks u t e waits is counts pc =
     let w = waits_at marks u e waits in
     let still : after_step marks u ≡ u = is_still marks u (subst ChangesNothing (sym waits) tt) in
@@ -124,7 +111,8 @@ waits_before marks u t e waits is counts pc =
     rw (next, few) (eq-eqb t.pc ((t.base + t.channel.registers.pc) % 2 ^ 32) pc)
 
 -- A thread is sound after a call of its channel, by whether that has a program.
-by_program : (marks : MarkList) (s v : Machine) (most taken events : ℕ) (last : Option ChanTurn) (t : Thread) (signal : Option ℕ) (o : Option ProgramValue) → s.channel.program ≡ o → TakesSteps marks s most taken last v → t.channel ≡ v.channel → IsSound events (answered events t last signal)
+by_program : (marks : MarkList) (s v : Machine) (most taken events : ℕ) (last : Option ChanTurn) (t : Thread) (signal : Option ℕ) (o : Option ProgramValue)
+    → s.channel.program ≡ o → TakesSteps marks s most taken last v → t.channel ≡ v.channel → IsSound events (answered events t last signal)
 by_program marks s v most zero events last t signal o program x is =
     subst (λ (l : Option ChanTurn). IsSound events (answered events t l signal)) (sym x.answer) refl
 by_program marks s v most (suc j) events last t signal (Some p) program x is =
@@ -135,13 +123,15 @@ by_program marks s v most (suc j) events last t signal (Some p) program x is =
     (by_turn events (record t { pc = (t.base + t.channel.registers.pc) % 2 ^ 32 }) (answer_at marks u) signal _ _ u.channel here ends
     (λ e waits. waits_before marks u (record t { pc = (t.base + t.channel.registers.pc) % 2 ^ 32 }) e waits ends (steps_counted x j (omega arith)) refl))
 by_program marks s v most (suc zero) events last t signal None program x is =
-    subst (λ (l : Option ChanTurn). IsSound events (answered events t l signal)) (sym (x.answer ∙ ap (λ (a : ChanTurn). Some a) (unloaded_fails marks s program))) refl
+    subst (λ (l : Option ChanTurn). IsSound events (answered events t l signal))
+    (sym (x.answer ∙ ap (λ (a : ChanTurn). Some a) (unloaded_fails marks s program))) refl
 by_program marks s v most (suc (suc j)) events last t signal None program x is =
     let fails = unloaded_fails marks s program in
     absurd (cc (was_moved (ahead_of s.channel) (answer_at marks s) (went_before marks s 1 (steps_move x 1 (omega arith))), fails))
 
 -- A thread is sound after a call of its channel.
-pub answered_sound : (marks : MarkList) (s v : Machine) (most taken events : ℕ) (last : Option ChanTurn) (t : Thread) (signal : Option ℕ) → TakesSteps marks s most taken last v → t.channel ≡ v.channel → IsSound events (answered events t last signal)
+pub answered_sound : (marks : MarkList) (s v : Machine) (most taken events : ℕ) (last : Option ChanTurn) (t : Thread) (signal : Option ℕ)
+    → TakesSteps marks s most taken last v → t.channel ≡ v.channel → IsSound events (answered events t last signal)
 answered_sound marks s v most taken events last t signal x is = by_program marks s v most taken events last t signal s.channel.program refl x is
 
 -- ---- events
@@ -179,7 +169,8 @@ thread_sound d n t h sound = record {
 }
 
 -- other events, manager and debug registers
-pub same_threads : (d e : DeviceValue) → IsSoundDevice d → e.config ≡ d.config → e.threads ≡ d.threads → e.events < 2 ^ d.config.events → e.interrupts < 2 ^ d.config.events → e.inten < 2 ^ d.config.events → IsSoundDevice e
+pub same_threads : (d e : DeviceValue) → IsSoundDevice d → e.config ≡ d.config → e.threads ≡ d.threads → e.events < 2 ^ d.config.events
+    → e.interrupts < 2 ^ d.config.events → e.inten < 2 ^ d.config.events → IsSoundDevice e
 same_threads d e h config threads events interrupts inten = grind arith
 
 -- ---- a device's fields
@@ -200,7 +191,8 @@ unfolding AreOn
 reset_on bus n = All-replicate (IsOn bus) n (reset_thread bus) (reset_is_on bus)
 
 -- a thread is replaced by one on its bus
-on_kept : (bus : BusWidth) (ts : List Thread) (n : ℕ) (old new : Thread) → AreOn bus ts → old ≡ get_or ts n old → (IsOn bus old → IsOn bus new) → AreOn bus (slice_set ts n new)
+on_kept : (bus : BusWidth) (ts : List Thread) (n : ℕ) (old new : Thread) → AreOn bus ts → old ≡ get_or ts n old → (IsOn bus old → IsOn bus new)
+    → AreOn bus (slice_set ts n new)
 unfolding AreOn
 on_kept bus ts n old new h is kept = λ k d less. elim (cases_eq k n) [
   | inl here ↦
@@ -213,7 +205,8 @@ on_kept bus ts n old new h is kept = λ k d less. elim (cases_eq k n) [
 ]
 
 -- a thread is replaced by one on its bus
-pub with_new : (d : Inside) (n : ℕ) (old new : Thread) → IsDevice d → old ≡ get_or d.threads.items n old → (IsOn d.config.bus old → IsOn d.config.bus new) → IsSound d.config.events new → IsDevice (record d { threads = with_item d.threads n new })
+pub with_new : (d : Inside) (n : ℕ) (old new : Thread) → IsDevice d → old ≡ get_or d.threads.items n old → (IsOn d.config.bus old → IsOn d.config.bus new)
+    → IsSound d.config.events new → IsDevice (record d { threads = with_item d.threads n new })
 with_new d n old new h is kept sound = record {
   config = h.config;
   count = length-set d.threads.items n new ∙ h.count;
@@ -223,9 +216,22 @@ with_new d n old new h is kept sound = record {
 }
 
 -- all threads, the manager and the registers are replaced
-pub with_parts : (d : Inside) (ts : List Thread) (manager : Manager) (events interrupts inten dbginst0 dbginst1 : ℕ) → IsDevice d → length ts ≡ d.threads.len → length ts ≡ length d.threads.items → All (IsSound d.config.events) ts → AreOn d.config.bus ts → events < 2 ^ d.config.events → interrupts < 2 ^ d.config.events → inten < 2 ^ d.config.events → IsDevice (record d { threads = with_items d.threads ts; manager = manager; events = events; interrupts = interrupts; inten = inten; dbginst0 = dbginst0; dbginst1 = dbginst1 })
+pub with_parts : (d : Inside) (ts : List Thread) (manager : Manager) (events interrupts inten dbginst0 dbginst1 : ℕ) → IsDevice d → length ts ≡ d.threads.len
+    → length ts ≡ length d.threads.items → All (IsSound d.config.events) ts → AreOn d.config.bus ts → events < 2 ^ d.config.events
+    → interrupts < 2 ^ d.config.events → inten < 2 ^ d.config.events
+    → IsDevice (record d {
+      threads = with_items d.threads ts;
+      manager = manager;
+      events = events;
+      interrupts = interrupts;
+      inten = inten;
+      dbginst0 =
+          dbginst0;
+      dbginst1 = dbginst1;
+    })
 with_parts d ts manager events interrupts inten dbginst0 dbginst1 h len count sound on a b c = grind (arith, with_items_is)
 
 -- the events change
-pub with_events : (d : Inside) (events interrupts inten : ℕ) → IsDevice d → events < 2 ^ d.config.events → interrupts < 2 ^ d.config.events → inten < 2 ^ d.config.events → IsDevice (record d { events = events; interrupts = interrupts; inten = inten })
+pub with_events : (d : Inside) (events interrupts inten : ℕ) → IsDevice d → events < 2 ^ d.config.events → interrupts < 2 ^ d.config.events
+    → inten < 2 ^ d.config.events → IsDevice (record d { events = events; interrupts = interrupts; inten = inten })
 with_events d events interrupts inten h a b c = grind (arith, same_threads)

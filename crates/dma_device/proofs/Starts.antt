@@ -4,15 +4,12 @@ use Rattle.std.specs.Prelude.{slice_get}
 use Rattle.std.proofs.lemmas.Option.{slice_get-get_or}
 use Rattle.dma_insn.specs.ControlWord.{field, flag}
 use Rattle.dma_mem.specs.Regions.{Piece}
+use Rattle.dma_device.specs.Thread.{is_faulting, is_faulting_status, is_stopped, is_stopped_status, reset_thread, started, status_bits}
+use Rattle.dma_device.specs.{Dmago.Go, Dmago.MayGo, Dmago.csr_status, Dmago.started_by, declared.thread.Status.Status}
+use Rattle.dma_device.specs.{declared.thread.Status.TheVariants.Stopped, declared.thread.Status.TheVariants.Faulting, declared.thread.Thread.Thread}
+use Rattle.dma_device.proofs.{FlagNumber.flag_few, Found.set_found}
 use Rattle.dma_device.specs.Offsets as offset
 use Rattle.dma_device.specs.Device.{DeviceValue, by_manager, csr, go as executes_go, of_thread, read_at, program_at, with_thread}
-use Rattle.dma_device.specs.Dmago.{Go, MayGo, csr_status, started_by}
-use Rattle.dma_device.specs.Thread.{is_faulting, is_faulting_status, is_stopped, is_stopped_status, reset_thread, started, status_bits}
-use Rattle.dma_device.specs.declared.thread.Status.{Status}
-use Rattle.dma_device.specs.declared.thread.Status.TheVariants.{Stopped, Faulting}
-use Rattle.dma_device.specs.declared.thread.Thread.{Thread}
-use Rattle.dma_device.proofs.FlagNumber.{flag_few}
-use Rattle.dma_device.proofs.Found.{set_found}
 
 -- ---- CSR, FTR and CPC
 
@@ -71,12 +68,15 @@ flag_clear true h = absurd (omega arith)
 flag_clear false h = refl
 
 -- what the manager does
-by_opcode : (ram : List Piece) (nonsecure : Bool) (n : ℕ) (e : DeviceValue) → e.manager.is_faulting ≡ false → by_manager ram (0xA0 + 2 * flag nonsecure) n e ≡ executes_go ram nonsecure n (slice_get e.threads n) e
+by_opcode : (ram : List Piece) (nonsecure : Bool) (n : ℕ) (e : DeviceValue) → e.manager.is_faulting ≡ false
+    → by_manager ram (0xA0 + 2 * flag nonsecure) n e ≡ executes_go ram nonsecure n (slice_get e.threads n) e
 by_opcode ram true n e calm = rw calm refl
 by_opcode ram false n e calm = rw calm refl
 
 -- the thread after a driver's writes of a DMAGO
-pub dmago_starts : (go : Go) → MayGo go → slice_get (started_by go).threads go.channel ≡ Some (started go.nonsecure go.addr (program_at go.ram go.addr) (get_or go.device.threads go.channel (reset_thread go.device.config.bus)))
+pub dmago_starts : (go : Go) → MayGo go
+    → slice_get (started_by go).threads go.channel ≡ Some
+    (started go.nonsecure go.addr (program_at go.ram go.addr) (get_or go.device.threads go.channel (reset_thread go.device.config.bus)))
 dmago_starts go may =
     let d = go.device in
     let n = go.channel in
@@ -92,5 +92,6 @@ dmago_starts go may =
     let opcode : field 16 8 w ≡ 0xA0 + 2 * flag nonsecure = omega arith in
     let byte : field 24 8 w ≡ n = omega (arith, may.few) in
     let by : field 0 1 w ≡ 0 = omega arith in
-    let all : started_by go ≡ with_thread n new e = simp (opcode, byte, by) (by_opcode ram nonsecure n e (flag_clear d.manager.is_faulting may.manager) ∙ simp (is, may.allowed, stopped)) in
+    let all : started_by go ≡ with_thread n new e =
+    simp (opcode, byte, by) (by_opcode ram nonsecure n e (flag_clear d.manager.is_faulting may.manager) ∙ simp (is, may.allowed, stopped)) in
     ap (λ (v : DeviceValue). slice_get v.threads n) all ∙ set_found d.threads n th new is

@@ -1,25 +1,19 @@
 -- Steps of channels that are alike but for the bytes in their buffers, over images of one length.
-use Rattle.std.proofs.Common.{◌≡◌, ◌∙◌, ℕ, zero, suc, ◌+◌, ◌-◌, Bool, true, false, ◌&&◌, cond, List, [], ap, length, refl, replicate, subst, sym, take, Some, None, Result, Ok, Err}
+use Rattle.std.proofs.Common.{◌≡◌, ◌∙◌, ℕ, zero, suc, ◌+◌, ◌-◌, Bool, true, false, ◌&&◌, cond, List, [], ap, length, refl, replicate, subst, sym, take, Some}
+use Rattle.std.proofs.Common.{None, Result, Ok, Err}
 use Rattle.std.specs.Prelude.{◌==◌, if◌then◌else◌, nat_lt, slice_index_or, slice_set}
 use Rattle.std.proofs.lemmas.List.{length-append, length-drop, length-map, length-replicate}
-use Rattle.dma_insn.specs.declared.chip.Address.TheVariants.{Destination}
-use Rattle.dma_insn.specs.declared.chip.ChipInsn.{ChipInsn}
 use Rattle.dma_insn.specs.declared.chip.ChipInsn.TheVariants.{Mov, Ld, St, LpEnd, Wfe, StoreZeros, AddHalfword, LoopAgain}
 use Rattle.dma_insn.specs.declared.insn.Reg.TheVariants.{Ccr, Dar}
-use Rattle.dma_mem.specs.Marking.{MarkList}
-use Rattle.dma_mem.specs.Steps.{taken_in}
-use Rattle.dma_mem.specs.declared.marks.MarkKind.TheVariants.{Reading, Writing}
+use Rattle.dma_insn.specs.{declared.chip.Address.TheVariants.Destination, declared.chip.ChipInsn.ChipInsn}
+use Rattle.dma_mem.specs.{Marking.MarkList, Steps.taken_in, declared.marks.MarkKind.TheVariants.Reading, declared.marks.MarkKind.TheVariants.Writing}
 use Rattle.dma_mem.proofs.ImagePut.{length_put}
-use Rattle.dma_chan.specs.declared.exec.Registers.{Registers}
-use Rattle.dma_chan.specs.declared.turn.ChanTurn.{ChanTurn}
-use Rattle.dma_chan.specs.declared.turn.ChanTurn.TheVariants.{Moved, Ended}
-use Rattle.dma_chan.specs.declared.turn.FaultKind.{FaultKind}
 use Rattle.dma_chan.specs.Bursts.{burst_len, drops, reaches, touched, writes_of, zeros_of}
-use Rattle.dma_chan.specs.Bus.{accepts}
 use Rattle.dma_chan.specs.Channel.{ChannelValue, after_turn, ahead_of, last_count, step_of, stored_by}
 use Rattle.dma_chan.specs.Exec.{State, act, buffer_size, counter_of, destination_of, exec_fetched, kept, moved, source_of, state}
 use Rattle.dma_chan.specs.Stepping.{Machine, after_step, after_steps, answer_at, last_of, more_after, signal_after, signal_of, went_on, written_after}
-use Rattle.dma_chan.specs.Written.{store_ahead}
+use Rattle.dma_chan.specs.{declared.exec.Registers.Registers, declared.turn.ChanTurn.ChanTurn, declared.turn.ChanTurn.TheVariants.Moved}
+use Rattle.dma_chan.specs.{declared.turn.ChanTurn.TheVariants.Ended, declared.turn.FaultKind.FaultKind, Bus.accepts, Written.store_ahead}
 use Rattle.dma_device.specs.Frame.{blank_channel}
 
 -- ---- an instruction
@@ -88,13 +82,15 @@ module _ (b c x y : List ℕ) (flags : List Bool) (buffer : length b ≡ length 
   act_same marks (Wfe e v) r = either (slice_index_or flags e false) _ _ _ _ (stays _ _ (slice_set flags e false)) (stays _ r flags)
   act_same marks i r = stays _ _ _
 
-  fetched_same : (marks : MarkList) (next : Result ChipInsn FaultKind) (r : Registers) → Same (exec_fetched marks next (state r b x flags)) (exec_fetched marks next (state r c y flags))
+  fetched_same : (marks : MarkList) (next : Result ChipInsn FaultKind) (r : Registers)
+      → Same (exec_fetched marks next (state r b x flags)) (exec_fetched marks next (state r c y flags))
   fetched_same marks (Ok i) r = act_same marks i r
   fetched_same marks (Err kind) r = stays _ r flags
 
 -- ---- a step
 
-after_alike : (turn : ChanTurn) (p q : State) (n : ℕ) (c d : ChannelValue) → p.registers ≡ q.registers → length p.buffer ≡ length q.buffer → blank_channel c ≡ blank_channel d → blank_channel (after_turn turn p n c) ≡ blank_channel (after_turn turn q n d)
+after_alike : (turn : ChanTurn) (p q : State) (n : ℕ) (c d : ChannelValue) → p.registers ≡ q.registers → length p.buffer ≡ length q.buffer
+    → blank_channel c ≡ blank_channel d → blank_channel (after_turn turn p n c) ≡ blank_channel (after_turn turn q n d)
 after_alike Moved p q n c d registers buffer same =
     ap (λ (x : ChannelValue). record x { registers = p.registers; buffer = replicate (length p.buffer) 0; taken = x.taken + 1; stored = x.stored + n }) same
     ∙ rw (registers, buffer) refl

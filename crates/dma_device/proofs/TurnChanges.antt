@@ -1,33 +1,23 @@
 -- A turn of a thread that can step changes the device.
-use Rattle.std.proofs.Common.{◌≡◌, ◌≢◌, ◌∙◌, ◌⊎◌, ℕ, zero, suc, ◌+◌, ◌%◌, ◌^◌, ◌<◌, ◌≤◌, Bool, true, false, ◌&&◌, List, get_or, Option, Some, None, Result, Ok, ap, refl, sym, subst, arith, inl, inr, true≢false}
-use Rattle.std.specs.Prelude.{nat_eq, nat_lt, slice_get}
-use Rattle.std.specs.Int.{bit_at}
+use Rattle.std.proofs.Common.{◌≡◌, ◌≢◌, ◌∙◌, ◌⊎◌, ℕ, zero, suc, ◌+◌, ◌%◌, ◌^◌, ◌<◌, ◌≤◌, Bool, true, false, ◌&&◌, List, get_or, Option, Some, None, Result, Ok}
+use Rattle.std.proofs.Common.{ap, refl, sym, subst, arith, inl, inr, true≢false}
+use Rattle.std.specs.{Prelude.nat_eq, Prelude.nat_lt, Prelude.slice_get, Int.bit_at}
 use Rattle.std.proofs.lemmas.Bool.{and_parts, lt-ltb}
-use borrow.Author.Tests.{ltb-true}
-use Rattle.dma_insn.specs.declared.chip.ChipInsn.{ChipInsn}
-use Rattle.dma_insn.specs.declared.chip.ChipInsn.TheVariants.{Sev}
-use Rattle.dma_mem.specs.Flags.{flags_of}
-use Rattle.dma_mem.specs.Marking.{MarkList}
+use Rattle.dma_insn.specs.{declared.chip.ChipInsn.ChipInsn, declared.chip.ChipInsn.TheVariants.Sev}
+use Rattle.dma_mem.specs.{Flags.flags_of, Marking.MarkList}
 use Rattle.dma_mem.proofs.FlagBits.{get_or_flags_of}
 use Rattle.dma_chan.specs.Channel.{ChannelValue, after_turn, ahead_of, state_of, step_of, stored_by}
-use Rattle.dma_chan.specs.Exec.{State, exec_fetched}
 use Rattle.dma_chan.specs.Stepping.{Machine, TakesSteps, after_step, after_steps, answer_at, signal_after, signal_of}
-use Rattle.dma_chan.specs.declared.turn.ChanTurn.{ChanTurn}
 use Rattle.dma_chan.specs.declared.turn.ChanTurn.TheVariants.{Moved, Waiting, Ended, Fault}
-use Rattle.dma_chan.specs.declared.turn.FaultKind.{FaultKind}
-use Rattle.dma_chan.proofs.StepsTaken.{steps_move}
-use Rattle.dma_chan.proofs.SteppedOver.{was_moved, went_before}
-use Rattle.dma_device.specs.declared.thread.Status.TheVariants.{Faulting, WaitingForEvent}
-use Rattle.dma_device.specs.declared.thread.Thread.{Thread}
-use Rattle.dma_device.specs.CallSteps.{StepsThread, first_in, last_in, marks_in, signal_in}
-use Rattle.dma_device.specs.Device.{DeviceValue}
-use Rattle.dma_device.specs.Idle.{TurnChanges}
-use Rattle.dma_device.specs.Thread.{answer, can_step, is_signalled, runs, waited}
+use Rattle.dma_chan.specs.{Exec.State, Exec.exec_fetched, declared.turn.ChanTurn.ChanTurn, declared.turn.FaultKind.FaultKind}
+use Rattle.dma_chan.proofs.{StepsTaken.steps_move, SteppedOver.was_moved, SteppedOver.went_before}
 use Rattle.dma_device.specs.Turns.{Outcome, Setup, begins, called_if, follows, machine_in, raises, runs_at, setup_of, steps_in, visible_events}
-use Rattle.dma_device.proofs.Answered.{answer_channel}
+use Rattle.dma_device.specs.{declared.thread.Status.TheVariants.Faulting, declared.thread.Status.TheVariants.WaitingForEvent, declared.thread.Thread.Thread}
+use Rattle.dma_device.specs.{CallSteps.StepsThread, CallSteps.first_in, CallSteps.last_in, CallSteps.marks_in, CallSteps.signal_in, Device.DeviceValue}
+use Rattle.dma_device.specs.{Idle.TurnChanges, Thread.answer, Thread.can_step, Thread.is_signalled, Thread.runs, Thread.waited}
 use Rattle.dma_device.proofs.Calls.{call_acts, call_is, machine_left, runs_found, takes, thread_left, turn_device}
-use Rattle.dma_device.proofs.FlagSteps.{waits_at}
-use Rattle.dma_device.proofs.Found.{set_found}
+use Rattle.dma_device.proofs.{Answered.answer_channel, FlagSteps.waits_at, Found.set_found}
+use borrow.Author.Tests.{ltb-true}
 
 -- ---- the count of instructions
 
@@ -47,7 +37,8 @@ turn_rises : (turn : ChanTurn) (s : State) (n : ℕ) (c : ChannelValue) → (tur
 turn_rises turn s n c is = grind arith
 
 step_rises : (marks : MarkList) (s : Machine) → (answer_at marks s ≡ Moved) ⊎ (answer_at marks s ≡ Ended) → s.channel.taken < (after_step marks s).channel.taken
-step_rises marks s is = turn_rises (answer_at marks s) (step_of marks s.channel s.image s.flags).1 (stored_by (ahead_of s.channel) s.channel.registers) s.channel is
+step_rises marks s is = turn_rises (answer_at marks s) (step_of marks s.channel s.image s.flags).1 (stored_by (ahead_of s.channel) s.channel.registers)
+    s.channel is
 
 pub all_rise : (marks : MarkList) (s : Machine) (j : ℕ) → answer_at marks s ≡ Moved → s.channel.taken < (after_steps marks s (suc j)).channel.taken
 all_rise marks s zero moved = step_rises marks s (inl moved)
@@ -64,7 +55,8 @@ silent marks next s other = refl
 fine_status : (t : Thread) → runs t ≡ true → t.status ≢ Faulting
 fine_status t on is = grind arith
 
-waited_is : (events : ℕ) (t : Thread) (e : ℕ) (b : Bool) → nat_lt e events ≡ b → ((waited events t e).status ≡ Faulting) ⊎ (((waited events t e).status ≡ WaitingForEvent e) × (e < events))
+waited_is : (events : ℕ) (t : Thread) (e : ℕ) (b : Bool) → nat_lt e events ≡ b → ((waited events t e).status ≡ Faulting)
+    ⊎ (((waited events t e).status ≡ WaitingForEvent e) × (e < events))
 waited_is events t e true less = inr (rw less refl, ltb-true e events less)
 waited_is events t e false less = inl (rw less refl)
 
@@ -76,7 +68,9 @@ abbrev taken : ChannelValue → ℕ
 taken c = c.taken
 
 -- the one step of a call
-by_turn : (events seen : ℕ) (t at : Thread) (s : Machine) (marks : MarkList) (turn : ChanTurn) → events ≤ 32 → can_step seen t ≡ true → s.channel ≡ t.channel → s.flags ≡ flags_of seen → at.channel ≡ (after_step marks s).channel → answer_at marks s ≡ turn → Differs t (answer events at (Some turn) (signal_of (ahead_of s.channel))) (signal_of (ahead_of s.channel))
+by_turn : (events seen : ℕ) (t at : Thread) (s : Machine) (marks : MarkList) (turn : ChanTurn) → events ≤ 32 → can_step seen t ≡ true → s.channel ≡ t.channel
+    → s.flags ≡ flags_of seen → at.channel ≡ (after_step marks s).channel → answer_at marks s ≡ turn
+    → Differs t (answer events at (Some turn) (signal_of (ahead_of s.channel))) (signal_of (ahead_of s.channel))
 by_turn events seen t at s marks Moved few can same flags is answers =
     inl (omega (arith, step_rises marks s (inl answers), ap taken same, ap taken (answer_channel events at (Some Moved) (signal_of (ahead_of s.channel)) ∙ is)))
 by_turn events seen t at s marks Ended few can same flags is answers = inl (omega (arith, step_rises marks s (inr answers), ap taken same, ap taken is))
@@ -98,7 +92,9 @@ by_turn events seen t at s marks (Waiting e) few can same flags is answers =
       )
     ]
 
-by_steps : (events seen : ℕ) (t at : Thread) (s v : Machine) (marks : MarkList) (most taken : ℕ) (last : Option ChanTurn) (signal : Option ℕ) → events ≤ 32 → can_step seen t ≡ true → s.channel ≡ t.channel → s.flags ≡ flags_of seen → at.channel ≡ v.channel → signal ≡ signal_after marks s taken → TakesSteps marks s most taken last v → Differs t (answer events at last signal) signal
+by_steps : (events seen : ℕ) (t at : Thread) (s v : Machine) (marks : MarkList) (most taken : ℕ) (last : Option ChanTurn) (signal : Option ℕ) → events ≤ 32
+    → can_step seen t ≡ true → s.channel ≡ t.channel → s.flags ≡ flags_of seen → at.channel ≡ v.channel → signal ≡ signal_after marks s taken
+    → TakesSteps marks s most taken last v → Differs t (answer events at last signal) signal
 by_steps events seen t at s v marks most zero last signal few can same flags is sets x =
     subst (λ (l : Option ChanTurn). Differs t (answer events at l signal) signal) (sym x.answer)
     (inr ((λ e. fine_status t ((and_parts (runs t) (is_signalled seen t.status) can).0) (sym e)), sets))
@@ -111,13 +107,17 @@ by_steps events seen t at s v marks most (suc (suc j)) last signal few can same 
     let new = ap (λ (c : ChannelValue). c.taken) (answer_channel events at last signal ∙ is ∙ ap (λ (m : Machine). m.channel) x.ends_at) in
     inl (omega (arith, up, ap (λ (c : ChannelValue). c.taken) same, new))
 
-call_found : (marks : MarkList) (n most : ℕ) (s : Setup) (made : Bool) (x : StepsThread made n s) → slice_get (called_if made marks n most s).left.device.threads n ≡ Some (thread_left marks most x.thread s)
+call_found : (marks : MarkList) (n most : ℕ) (s : Setup) (made : Bool) (x : StepsThread made n s)
+    → slice_get (called_if made marks n most s).left.device.threads n ≡ Some (thread_left marks most x.thread s)
 call_found marks n most s made x = grind (arith, call_acts, set_found)
 
-call_differs : (marks : MarkList) (most : ℕ) (t : Thread) (s : Setup) → s.device.config.events ≤ 32 → can_step (visible_events s.device) t ≡ true → Differs t (thread_left marks most t s) (signal_in marks most t s)
+call_differs : (marks : MarkList) (most : ℕ) (t : Thread) (s : Setup) → s.device.config.events ≤ 32 → can_step (visible_events s.device) t ≡ true
+    → Differs t (thread_left marks most t s) (signal_in marks most t s)
 call_differs marks most t s few can =
     let to = machine_left marks most t s in
-    by_steps s.device.config.events (visible_events s.device) t (record t { channel = to.channel; pc = (t.base + to.channel.registers.pc) % 2 ^ 32 }) (machine_in s t) to marks most (steps_in marks most t s) (last_in marks most t s) (signal_in marks most t s) few can refl refl refl refl (takes marks most t s)
+    by_steps s.device.config.events (visible_events s.device) t (record t { channel = to.channel; pc = (t.base + to.channel.registers.pc) % 2 ^ 32 })
+    (machine_in s t) to marks most (steps_in marks most t s) (last_in marks most t s) (signal_in marks most t s) few can refl refl refl refl
+    (takes marks most t s)
 
 pub call_keeps_count : (marks : MarkList) (most : ℕ) (t : Thread) (s : Setup) → t.channel.taken ≤ (thread_left marks most t s).channel.taken
 call_keeps_count marks most t s = grind (arith, answer_channel, never_falls)
@@ -141,7 +141,9 @@ turn_changes d e regions left n most turn t x h found can some same =
     let differs = call_differs marks most t s h.few can in
     elim (call_is (follows m n first.called) marks n 1 first.left) [
       | inl rests ↦
-          let back = same_in d e n t u same found (ap (λ (w : DeviceValue). slice_get w.threads n) (sym (turn_device x)) ∙ ap (λ (o : Outcome). slice_get o.left.device.threads n) rests.is ∙ there) in
+          let back = same_in d e n t u same found
+          (ap (λ (w : DeviceValue). slice_get w.threads n) (sym (turn_device x)) ∙ ap (λ (o : Outcome). slice_get o.left.device.threads n) rests.is
+          ∙ there) in
           elim differs [
             | inl up ↦ let old = ap (λ (w : Thread). w.channel.taken) back in absurd (omega (arith, up, old))
             | inr other ↦ other.0 (ap (λ (w : Thread). w.status) back)
@@ -152,7 +154,8 @@ turn_changes d e regions left n most turn t x h found can some same =
                 let w = two.thread in
                 let mid : w ≡ u = cc (two.found, there) in
                 let z = thread_left marks 1 w first.left in
-                let back = same_in d e n t z same found (ap (λ (v : DeviceValue). slice_get v.threads n) (sym (turn_device x)) ∙ call_found marks n 1 first.left (follows m n first.called) two) in
+                let back = same_in d e n t z same found
+                (ap (λ (v : DeviceValue). slice_get v.threads n) (sym (turn_device x)) ∙ call_found marks n 1 first.left (follows m n first.called) two) in
                 let new = ap (λ (k : Thread). k.channel.taken) mid in
                 absurd (omega (arith, up, call_keeps_count marks 1 w first.left, ap (λ (k : Thread). k.channel.taken) back, new))
             | inr other ↦

@@ -1,38 +1,30 @@
 -- Calls, turns and registers of devices that are alike but for the bytes in buffers and in memory.
-use Rattle.std.proofs.Common.{◌≡◌, ◌∙◌, ℕ, ◌+◌, ◌-◌, ◌*◌, ◌/◌, ◌%◌, ◌^◌, Bool, true, false, ◌&&◌, ◌||◌, List, [], ◌∷◌, Option, Some, None, ap, length, map, refl, subst, sym}
-use Rattle.std.specs.Prelude.{◌==◌, if◌then◌else◌, nat_lt, slice_get}
-use Rattle.std.specs.List.{list_any}
-use Rattle.std.specs.Option.{option_map, option_map_or}
-use Rattle.std.proofs.lemmas.List.{length-append, length-replicate, map-set}
-use Rattle.std.proofs.lemmas.Option.{slice_get-map}
+use Rattle.std.proofs.Common.{◌≡◌, ◌∙◌, ℕ, ◌+◌, ◌-◌, ◌*◌, ◌/◌, ◌%◌, ◌^◌, Bool, true, false, ◌&&◌, ◌||◌, List, [], ◌∷◌, Option, Some, None, ap, length, map}
+use Rattle.std.proofs.Common.{refl, subst, sym}
+use Rattle.std.specs.{Prelude.◌==◌, Prelude.if◌then◌else◌, Prelude.nat_lt, Prelude.slice_get, List.list_any, Option.option_map, Option.option_map_or}
+use Rattle.std.proofs.{lemmas.List.length-append, lemmas.List.length-replicate, lemmas.List.map-set, lemmas.Option.slice_get-map}
 use Rattle.dma_insn.specs.ControlWord.{flag}
-use Rattle.dma_mem.specs.Flags.{flags_of}
-use Rattle.dma_mem.specs.Marking.{MarkList}
 use Rattle.dma_mem.specs.Regions.{bytes_above, pieces_of}
-use Rattle.dma_mem.specs.declared.regions.Region.{Region}
-use Rattle.dma_mem.specs.declared.segment.Segment.{Segment}
-use Rattle.dma_chan.specs.Channel.{ChannelValue}
-use Rattle.dma_chan.specs.LentRegions.{segment_of}
+use Rattle.dma_mem.specs.{Flags.flags_of, Marking.MarkList, declared.regions.Region.Region, declared.segment.Segment.Segment}
 use Rattle.dma_chan.specs.Stepping.{after_steps, last_of, signal_after, written_after}
-use Rattle.dma_chan.specs.Written.{adjoins, joined, store_ahead}
-use Rattle.dma_chan.specs.declared.turn.ChanTurn.{ChanTurn}
-use Rattle.dma_chan.specs.declared.turn.ChanTurn.TheVariants.{Moved, Waiting}
-use Rattle.dma_device.specs.Offsets as offset
-use Rattle.dma_device.specs.declared.device.turns.Called.{Called}
-use Rattle.dma_device.specs.declared.device.turns.Turn.{Turn}
-use Rattle.dma_device.specs.declared.thread.Thread.{Thread}
-use Rattle.dma_device.specs.CallSteps.{marks_in}
-use Rattle.dma_device.specs.Device.{DeviceValue, address_register, channel_register, csr, device_register, faulting_bits, irq_abort, irqs, of_thread, read_at, with_thread}
+use Rattle.dma_chan.specs.{Channel.ChannelValue, LentRegions.segment_of, Written.adjoins, Written.joined, Written.store_ahead, declared.turn.ChanTurn.ChanTurn}
+use Rattle.dma_chan.specs.{declared.turn.ChanTurn.TheVariants.Moved, declared.turn.ChanTurn.TheVariants.Waiting}
+use Rattle.dma_device.specs.Device.{DeviceValue, address_register, channel_register, csr, device_register, faulting_bits, irq_abort, irqs, of_thread, read_at}
+use Rattle.dma_device.specs.Device.{with_thread}
 use Rattle.dma_device.specs.Frame.{AreLike, BytesDontMatter, IsLike, LikeReadsLike, RegionBytesDontMatter, blank, blank_channel, blanked}
 use Rattle.dma_device.specs.Thread.{answer, answered, is_faulting, runs}
-use Rattle.dma_device.specs.Turns.{Outcome, Setup, begins, called, called_if, follows, is_beside, lines_differ, machine_in, number_of, raises, setup_of, stepped, steps_in, turned, visible_events, with_flags}
+use Rattle.dma_device.specs.Turns.{Outcome, Setup, begins, called, called_if, follows, is_beside, lines_differ, machine_in, number_of, raises, setup_of}
+use Rattle.dma_device.specs.Turns.{stepped, steps_in, turned, visible_events, with_flags}
+use Rattle.dma_device.specs.{declared.device.turns.Called.Called, declared.device.turns.Turn.Turn, declared.thread.Thread.Thread, CallSteps.marks_in}
 use Rattle.dma_device.proofs.InOrder.{marks_kept}
 use Rattle.dma_device.proofs.StepsAlike.{MachinesAlike, count_alike, last_alike, signal_alike, steps_alike, written_alike}
+use Rattle.dma_device.specs.Offsets as offset
 
 -- ---- threads
 
 -- what is said of a thread with zeros in its buffer is said of the thread
-of_alike : {X : Type 0} (f : Thread → X) (z : X) (o p : Option Thread) → ((t : Thread) → f (blank t) ≡ f t) → option_map blank o ≡ option_map blank p → option_map_or f o z ≡ option_map_or f p z
+of_alike : {X : Type 0} (f : Thread → X) (z : X) (o p : Option Thread) → ((t : Thread) → f (blank t) ≡ f t) → option_map blank o ≡ option_map blank p
+    → option_map_or f o z ≡ option_map_or f p z
 of_alike f z None None blind same = refl
 of_alike f z (Some t) (Some v) blind same = let is : blank t ≡ blank v = cc in sym (blind t) ∙ ap f is ∙ blind v
 of_alike f z o p blind same = absurd (cc)
@@ -51,12 +43,15 @@ blank_if true t v = refl
 blank_if false t v = refl
 
 -- an answer keeps the buffer
-blank_answer : (events : ℕ) (t : Thread) (last : Option ChanTurn) (signal : Option ℕ) → blank (answer events t last signal) ≡ answer events (blank t) last signal
+blank_answer : (events : ℕ) (t : Thread) (last : Option ChanTurn) (signal : Option ℕ)
+    → blank (answer events t last signal) ≡ answer events (blank t) last signal
 blank_answer events t (Some Moved) (Some e) = blank_if (nat_lt e events) _ _
 blank_answer events t (Some (Waiting e)) signal = blank_if (nat_lt e events) _ _
 blank_answer events t last signal = refl
 
-answered_alike : (events : ℕ) (t v : Thread) (c d : ChannelValue) (last : Option ChanTurn) (signal : Option ℕ) → blank t ≡ blank v → blank_channel c ≡ blank_channel d → blank (answered events (record t { channel = c }) last signal) ≡ blank (answered events (record v { channel = d }) last signal)
+answered_alike : (events : ℕ) (t v : Thread) (c d : ChannelValue) (last : Option ChanTurn) (signal : Option ℕ) → blank t ≡ blank v
+    → blank_channel c ≡ blank_channel d
+    → blank (answered events (record t { channel = c }) last signal) ≡ blank (answered events (record v { channel = d }) last signal)
 answered_alike events t v c d last signal threads channels =
     blank_answer events (record t { channel = c; pc = (t.base + c.registers.pc) % 2 ^ 32 }) last signal
     ∙ ap (λ (u : Thread). answered events (record u { channel = blank_channel c }) last signal) threads
@@ -107,13 +102,18 @@ module _ (marks : MarkList) (n most : ℕ) (s u : Setup) (h : AreLike s u) where
       let second = ap (λ (o : Option ℕ). blank (answered s.device.config.events moved (last_of marks b k) o)) signal in
       let third = ap (λ (d : DeviceValue). blank (answered d.config.events moved (last_of marks b k) (signal_after marks b k))) h.devices.same in
       let fourth = answered_alike u.device.config.events t v to.channel end.channel (last_of marks b k) (signal_after marks b k) same ends.channel in
-      let flagged = ap (λ (fs : List Bool). with_flags (number_of fs) (blanked s.device)) ends.flags ∙ ap (λ (d : DeviceValue). with_flags (number_of end.flags) d) h.devices.same in
+      let flagged = ap (λ (fs : List Bool). with_flags (number_of fs) (blanked s.device)) ends.flags
+      ∙ ap (λ (d : DeviceValue). with_flags (number_of end.flags) d) h.devices.same in
       record {
         left = record {
-          devices = record { same = put_alike n _ _ (with_flags (number_of to.flags) s.device) (with_flags (number_of end.flags) u.device) (first ∙ second ∙ third ∙ fourth) flagged };
+          devices = record {
+            same =
+                put_alike n _ _ (with_flags (number_of to.flags) s.device) (with_flags (number_of end.flags) u.device) (first ∙ second ∙ third ∙ fourth) flagged;
+          };
           size = ends.size;
         };
-        called = ap (λ (r : Segment). called_of k r (signal_after marks a k)) (written_alike marks a b are k) ∙ ap (called_of k (written_after marks b k)) signal;
+        called = ap (λ (r : Segment). called_of k r (signal_after marks a k)) (written_alike marks a b are k)
+            ∙ ap (called_of k (written_after marks b k)) signal;
       }
 
   stepped_alike : (t v : Thread) → blank t ≡ blank v → Alike (stepped marks n most t s) (stepped marks n most v u)
@@ -127,7 +127,8 @@ module _ (marks : MarkList) (n most : ℕ) (s u : Setup) (h : AreLike s u) where
   called_alike o p same = absurd (cc)
 
   made_alike : (made : Bool) → Alike (called_if made marks n most s) (called_if made marks n most u)
-  made_alike true = called_alike (slice_get s.device.threads n) (slice_get u.device.threads n) (found_alike s.device.threads u.device.threads n (ap (λ (d : DeviceValue). d.threads) h.devices.same))
+  made_alike true = called_alike (slice_get s.device.threads n) (slice_get u.device.threads n)
+      (found_alike s.device.threads u.device.threads n (ap (λ (d : DeviceValue). d.threads) h.devices.same))
   made_alike false = record { left = h; called = refl }
 
   call_alike : (made also : Bool) → made ≡ also → Alike (called_if made marks n most s) (called_if also marks n most u)
@@ -178,14 +179,17 @@ like_reads_like d e h = record { registers = registers_same h; irqs = irqs_same 
 -- ---- a turn
 
 begins_same : (n most : ℕ) (d e : DeviceValue) → IsLike d e → begins d n most ≡ begins e n most
-begins_same n most d e h = ap (λ (b : Bool). nat_lt 0 most && b) (of_alike runs false (slice_get d.threads n) (slice_get e.threads n) (λ t. refl) (found_alike d.threads e.threads n (threads_same h)))
+begins_same n most d e h =
+    ap (λ (b : Bool). nat_lt 0 most && b)
+    (of_alike runs false (slice_get d.threads n) (slice_get e.threads n) (λ t. refl) (found_alike d.threads e.threads n (threads_same h)))
 
 follows_same : (n : ℕ) (d e : DeviceValue) (first : Called) → IsLike d e → follows d n first ≡ follows e n first
 follows_same n d e first h =
     let range = first.written in
     ap (λ (f : DeviceValue). raises f first.signal && is_beside range (slice_get d.threads n)) h.same
     ∙ ap (λ (b : Bool). raises e first.signal && b)
-    (of_alike (λ t. runs t && adjoins range (store_ahead t.channel)) false (slice_get d.threads n) (slice_get e.threads n) (λ t. refl) (found_alike d.threads e.threads n (threads_same h)))
+    (of_alike (λ t. runs t && adjoins range (store_ahead t.channel)) false (slice_get d.threads n) (slice_get e.threads n) (λ t. refl)
+    (found_alike d.threads e.threads n (threads_same h)))
 
 lines_same : (d e v w : DeviceValue) → IsLike d e → IsLike v w → lines_differ d v ≡ lines_differ e w
 lines_same d e v w h k = rw (irqs_same h, irqs_same k, abort_same h, abort_same k) refl
@@ -227,7 +231,8 @@ region_bytes_dont_matter d e v w regions lent left rest n most turn other x y h 
     let u = setup_of e lent in
     let size : length s.image ≡ length u.image = long_is 0 regions ∙ ap (long 0) (sym places) ∙ sym (long_is 0 lent) in
     let are = bytes_dont_matter (marks_in regions) n most s u (record { devices = h; size = size }) in
-    let is : turned (marks_in regions) n most u ≡ (setup_of w rest, other) = ap (λ (marks : MarkList). turned marks n most u) (sym (marks_kept regions lent places read_only)) ∙ y.is in
+    let is : turned (marks_in regions) n most u ≡ (setup_of w rest, other) =
+    ap (λ (marks : MarkList). turned marks n most u) (sym (marks_kept regions lent places read_only)) ∙ y.is in
     let devices = subst (λ (p : Setup × Turn). AreLike (turned (marks_in regions) n most s).0 p.0) is are.0 in
     let left_like = subst (λ (p : Setup × Turn). AreLike p.0 (setup_of w rest)) x.is devices in
     (left_like.devices, sym (ap (λ (p : Setup × Turn). p.1) is) ∙ sym are.1 ∙ ap (λ (p : Setup × Turn). p.1) x.is)

@@ -1,28 +1,18 @@
 -- Two devices over one memory, on each of which a driver starts a program that copies one byte, and two turns of each:
 -- what the laws of a board suppose holds of them.
 use Rattle.std.proofs.Common.{◌≡◌, ◌∙◌, ◌≢◌, ℕ, zero, suc, ◌+◌, ◌<◌, true, false, List, [], ◌∷◌, get_or, ap, true≢false, refl, sym, arith, inl, inr}
-use Rattle.std.specs.Prelude.{IsTrue, ◌++◌, length, replicate, slice_index}
-use Rattle.std.specs.List.{list_any}
+use Rattle.std.specs.{Prelude.IsTrue, Prelude.◌++◌, Prelude.length, Prelude.replicate, Prelude.slice_index, List.list_any}
 use Rattle.std.proofs.lemmas.Bool.{le-leb, lt-ltb}
 use Rattle.dma_insn.specs.ControlWord.{control_of, end_at, is_control}
-use Rattle.dma_mem.specs.Flags.{flags_of}
-use Rattle.dma_mem.specs.Image.{put}
-use Rattle.dma_mem.specs.Regions.{has, pieces_of}
-use Rattle.dma_mem.specs.declared.regions.Region.{Region}
-use Rattle.dma_chan.specs.Bursts.{burst_at, reaches}
-use Rattle.dma_explain.specs.Explains.{Explains, GoesOn, next_in, traced}
-use Rattle.dma_chan.specs.LentRegions.{with_gaps_of}
-use Rattle.dma_explain.specs.Works.{IsWorked, work_below}
-use Rattle.dma_device.specs.Accesses.{Does, Done, Turned, Turns, Writes}
+use Rattle.dma_mem.specs.{Flags.flags_of, Image.put, Regions.has, Regions.pieces_of, declared.regions.Region.Region}
+use Rattle.dma_chan.specs.{Bursts.burst_at, Bursts.reaches, LentRegions.with_gaps_of}
+use Rattle.dma_explain.specs.{Explains.Explains, Explains.GoesOn, Explains.next_in, Explains.traced, Works.IsWorked, Works.work_below}
 use Rattle.dma_device.specs.Board.{CopiesOn, Happens, BoardEvents, RunsOn, SparesBytes, SparesThread, WritesApart, is_turn_at, later}
-use Rattle.dma_device.specs.Device.{DeviceValue, reset_device}
-use Rattle.dma_device.specs.Dmago.{Go, csr_status, image_in, started_by}
-use Rattle.dma_device.specs.Offsets as offset
-use Rattle.dma_device.specs.Turns.{Setup, setup_of, turned}
-use Rattle.dma_device.specs.declared.device.turns.Turn.{Turn}
-use Rattle.dma_device.proofs.Boards.{a_board_copies, board_spares, happens_later, spares_here}
-use Rattle.dma_device.proofs.InMemory.{image_has_bytes}
+use Rattle.dma_device.specs.{Accesses.Does, Accesses.Done, Accesses.Turned, Accesses.Turns, Accesses.Writes, Device.DeviceValue, Device.reset_device, Dmago.Go}
+use Rattle.dma_device.specs.{Dmago.csr_status, Dmago.image_in, Dmago.started_by, Turns.Setup, Turns.setup_of, Turns.turned, declared.device.turns.Turn.Turn}
 use Rattle.dma_device.proofs.OneByte.{copied_to, explains, is_work, no_place, one_place, program, region, small, start, work}
+use Rattle.dma_device.proofs.{Boards.a_board_copies, Boards.board_spares, Boards.happens_later, Boards.spares_here, InMemory.image_has_bytes}
+use Rattle.dma_device.specs.Offsets as offset
 
 -- ---- a second program
 
@@ -146,7 +136,13 @@ runs_one : RunsOn one work 5 0 board
 runs_one = record {
   happens = happens;
   begins = record { some = omega arith; number = refl; access = refl; device = refl; ram = refl; dbginst0 = refl; dbginst1 = refl };
-  in_ram = record { order = refl; short = omega arith; lies = lies_one; bytes = λ k less. image_has_bytes (memory 0 0) 0 k (region 0 0x10 program) refl refl less };
+  in_ram = record {
+    order = refl;
+    short = omega arith;
+    lies = lies_one;
+    bytes =
+        λ k less. image_has_bytes (memory 0 0) 0 k (region 0 0x10 program) refl refl less;
+  };
   may_go = record { there = omega arith; few = omega arith; stopped = refl; manager = refl; allowed = refl };
   explains = explains;
   thread = thread;
@@ -163,7 +159,13 @@ runs_two : RunsOn two (copied_to 0x32) 5 1 (later 1 board)
 runs_two = record {
   happens = happens_later board 1 happens;
   begins = record { some = omega arith; number = refl; access = refl; device = refl; ram = refl; dbginst0 = refl; dbginst1 = refl };
-  in_ram = record { order = refl; short = omega arith; lies = lies_two; bytes = λ k less. image_has_bytes (memory 0 0) 2 k (region 2 0x40 other) refl refl less };
+  in_ram = record {
+    order = refl;
+    short = omega arith;
+    lies = lies_two;
+    bytes =
+        λ k less. image_has_bytes (memory 0 0) 2 k (region 2 0x40 other) refl refl less;
+  };
   may_go = record { there = omega arith; few = omega arith; stopped = refl; manager = refl; allowed = refl };
   explains = explains_other;
   thread = thread;
@@ -203,7 +205,8 @@ copies_one : CopiesOn one work 5 0 board
 copies_one = record { runs = runs_one; bytes = bytes; stays = λ k a less uses. refl; below = λ k less. ap (work_below work) (same_size k) }
   where
     spares : (k : ℕ) → 1 < k → k < 6 → is_turn_at board 1 0 k ≡ true → SparesBytes work (board.access k) (board.answer k)
-    spares k past less on = board_spares two (copied_to 0x32) work 5 1 1 board runs_two (apart 0x32 0x31 (omega arith) (λ e. absurd (omega (arith, e)))) k (omega (arith, past)) less on
+    spares k past less on = board_spares two (copied_to 0x32) work 5 1 1 board runs_two (apart 0x32 0x31 (omega arith) (λ e. absurd (omega (arith, e)))) k
+        (omega (arith, past)) less on
 
     bytes : (k : ℕ) → k < 6 → is_turn_at board 0 0 k ≡ false → SparesBytes work (board.access k) (board.answer k)
     bytes zero less off = tt
@@ -215,7 +218,13 @@ copies_one = record { runs = runs_one; bytes = bytes; stays = λ k a less uses. 
     bytes (suc (suc (suc (suc (suc (suc k)))))) less off = absurd (omega arith)
 
 copies_two : CopiesOn two (copied_to 0x32) 5 1 (later 1 board)
-copies_two = record { runs = runs_two; bytes = bytes; stays = λ k a less uses. stays k a; below = λ k less. ap (work_below (copied_to 0x32)) (same_size (1 + k)) }
+copies_two = record {
+  runs = runs_two;
+  bytes = bytes;
+  stays = λ k a less uses. stays k a;
+  below =
+      λ k less. ap (work_below (copied_to 0x32)) (same_size (1 + k));
+}
   where
     spares : (k : ℕ) → k < 6 → is_turn_at board 0 0 k ≡ true → SparesBytes (copied_to 0x32) (board.access k) (board.answer k)
     spares k less on = spares_here one work (copied_to 0x32) 5 0 board runs_one (apart 0x31 0x32 (omega arith) (λ e. absurd (omega (arith, e)))) k less on

@@ -1,13 +1,11 @@
 -- How far a program that a DMAGO starts has got after a turn.
-use Rattle.std.proofs.Common.{◌≡◌, ◌∙◌, ℕ, ◌<◌, List, [], Some, ap, refl, subst, arith, inl, inr}
+use Rattle.std.proofs.Common.{◌≡◌, ℕ, ◌<◌, List, [], Some, refl, subst, arith, inl, inr}
 use Rattle.std.specs.Prelude.{slice_get}
 use Rattle.dma_explain.specs.Explains.{Work, all_of}
 use Rattle.dma_chan.specs.Stepping.{machine}
-use Rattle.dma_explain.proofs.CallsAmongOthers.{done_at}
-use Rattle.dma_explain.proofs.SinceLoads.{all_done, part_first, runs_so, worked_part}
+use Rattle.dma_explain.proofs.{CallsAmongOthers.done_at, SinceLoads.all_done, SinceLoads.part_first, SinceLoads.runs_so, SinceLoads.worked_part}
 use Rattle.dma_device.specs.Dmago.{Go, GivenTurns, RunsCopy, image_in}
-use Rattle.dma_device.specs.Underway.{DmagoUnderway, HasDone, KilledKeepsCounts}
-use Rattle.dma_device.specs.declared.thread.Thread.{Thread}
+use Rattle.dma_device.specs.{Underway.DmagoUnderway, Underway.HasDone, Underway.KilledKeepsCounts, declared.thread.Thread.Thread}
 use Rattle.dma_device.proofs.Driven.{After, Before, Call, Copying, Going, Over, Steps, after_turn, along, copying, one_of, two_of}
 
 -- no more is known of a call than that its program goes on or has ended
@@ -44,14 +42,17 @@ module _ (go : Go) (work : Work) (count : ℕ) (run : GivenTurns) (h : RunsCopy 
         bytes = part_first work c.first (done_at c.start c.program u) image h.explains.work c.fits so.part;
       }
 
-  turn_plain : (j : ℕ) → j < run.count → Before go work count run h some (Unit {0}) (λ th. Unit {0}) j → After go work count run h some (Unit {0}) (λ th. Unit {0}) j
+  turn_plain : (j : ℕ) → j < run.count → Before go work count run h some (Unit {0}) (λ th. Unit {0}) j
+      → After go work count run h some (Unit {0}) (λ th. Unit {0}) j
   turn_plain j less g =
       let x = h.takes j less in
       let one = one_of (run.before j) (run.lent j) go.channel (run.most j) in
       let two = two_of (run.before j) (run.lent j) go.channel (run.most j) in
-      after_turn c go.channel (run.before j) (run.lent j) (run.most j) (run.after j) (run.left j) x.0 x.1 (Unit {0}) (λ th. Unit {0}) (Unit {0}) (λ th. Unit {0}) (Unit {0}) (λ th. Unit {0}) (steps_plain c go.channel one) (steps_plain c go.channel two) g
+      after_turn c go.channel (run.before j) (run.lent j) (run.most j) (run.after j) (run.left j) x.0 x.1 (Unit {0}) (λ th. Unit {0}) (Unit {0})
+      (λ th. Unit {0}) (Unit {0}) (λ th. Unit {0}) (steps_plain c go.channel one) (steps_plain c go.channel two) g
 
-  done_after : (k : ℕ) (th : Thread) → k < run.count → slice_get (run.after k).threads go.channel ≡ Some th → HasDone go work count c.first (image_in (run.left k)) th.channel
+  done_after : (k : ℕ) (th : Thread) → k < run.count → slice_get (run.after k).threads go.channel ≡ Some th
+      → HasDone go work count c.first (image_in (run.left k)) th.channel
   done_after k th less is =
       let g = along go work count run h some (λ j. Unit {0}) (λ j th. Unit {0}) tt turn_plain k less in
       let same : g.thread ≡ th = let here = g.is in cc in

@@ -1,35 +1,18 @@
 -- A channel whose turns don't all wait in vain finishes.
-use Rattle.std.proofs.Common.{◌≡◌, ◌≢◌, ◌∙◌, ℕ, suc, ◌+◌, ◌^◌, ◌<◌, ◌≤◌, Bool, true, false, ◌&&◌, ◌||◌, [], Option, Some, Result, Ok, ap, refl, sym, subst, arith, inl, inr, true≢false, w32}
-use Rattle.std.specs.Prelude.{is_some, nat_eq, not, slice_get}
-use Rattle.std.specs.Int.{bit_at, bit_not}
-use Rattle.std.specs.Option.{option_map_or}
-use Rattle.std.proofs.lemmas.Bool.{and_parts, cases_lt, eq-eqb, eqb-true}
-use Rattle.std.proofs.lemmas.Nat.{and_le_r}
-use Rattle.std.proofs.lemmas.Nat.Bits.{bit_at_above}
-use Rattle.dma_insn.specs.ControlWord.{flag}
-use Rattle.dma_insn.specs.declared.chip.ChipInsn.{ChipInsn}
-use Rattle.dma_insn.specs.declared.chip.ChipInsn.TheVariants.{Wfe}
-use Rattle.dma_chan.specs.Channel.{ahead_of}
+use Rattle.std.proofs.Common.{◌≡◌, ◌≢◌, ◌∙◌, ℕ, suc, ◌+◌, ◌^◌, ◌<◌, ◌≤◌, Bool, true, false, ◌&&◌, ◌||◌, [], Option, Some, Result, Ok, ap, refl, sym, subst}
+use Rattle.std.proofs.Common.{arith, inl, inr, true≢false, w32}
+use Rattle.std.specs.{Prelude.is_some, Prelude.nat_eq, Prelude.not, Prelude.slice_get, Int.bit_at, Int.bit_not, Option.option_map_or}
+use Rattle.std.proofs.{lemmas.Bool.and_parts, lemmas.Bool.cases_lt, lemmas.Bool.eq-eqb, lemmas.Bool.eqb-true, lemmas.Nat.and_le_r, lemmas.Nat.Bits.bit_at_above}
+use Rattle.dma_insn.specs.{ControlWord.flag, declared.chip.ChipInsn.ChipInsn, declared.chip.ChipInsn.TheVariants.Wfe}
+use Rattle.dma_chan.specs.{Channel.ahead_of, declared.turn.FaultKind.FaultKind, Programs.ProgramValue, Stepping.machine}
 use Rattle.dma_explain.specs.Explains.{IsWait, Work, next_in, traced}
-use Rattle.dma_chan.specs.declared.turn.FaultKind.{FaultKind}
-use Rattle.dma_chan.specs.Programs.{ProgramValue}
-use Rattle.dma_chan.specs.Stepping.{machine}
-use Rattle.dma_explain.proofs.AmongOthers.{is_in}
-use Rattle.dma_explain.proofs.CallStays.{ahead_at}
-use Rattle.dma_explain.proofs.CallsAmongOthers.{next_ahead}
-use Rattle.dma_device.specs.Copies.{IsFit}
-use Rattle.dma_device.specs.Device.{DeviceValue}
-use Rattle.dma_device.specs.Dmago.{Go, RunsCopy, GivenTurns, csr_status, image_in}
-use Rattle.dma_device.specs.Idle.{IsAtWait}
+use Rattle.dma_explain.proofs.{AmongOthers.is_in, CallStays.ahead_at, CallsAmongOthers.next_ahead}
 use Rattle.dma_device.specs.Progress.{TheLoopFinishes, VainTurnsWait, is_clear_wait, is_vain, vain, waits_in_vain}
-use Rattle.dma_device.specs.Thread.{is_faulting, runs}
-use Rattle.dma_device.specs.Turns.{runs_at, visible_events}
-use Rattle.dma_device.specs.declared.thread.Thread.{Thread}
-use Rattle.dma_device.proofs.Calls.{runs_found}
-use Rattle.dma_device.proofs.Copies.{fits_all, turn_fine}
+use Rattle.dma_device.specs.{Copies.IsFit, Device.DeviceValue, Dmago.Go, Dmago.RunsCopy, Dmago.GivenTurns, Dmago.csr_status, Dmago.image_in, Idle.IsAtWait}
+use Rattle.dma_device.specs.{Thread.is_faulting, Thread.runs, Turns.runs_at, Turns.visible_events, declared.thread.Thread.Thread}
 use Rattle.dma_device.proofs.Driven.{After, Before, Copying, Going, along, before_each, copying}
-use Rattle.dma_device.proofs.Events.{flag_of_bit}
 use Rattle.dma_device.proofs.Progress.{Awake, IsTurn, Reached, before_end, csr_stopped, going_runs, turn_reached, visible_bit, within_count}
+use Rattle.dma_device.proofs.{Calls.runs_found, Copies.fits_all, Copies.turn_fine, Events.flag_of_bit}
 
 -- ---- a turn that doesn't wait in vain
 
@@ -43,7 +26,8 @@ seen_below d e on = elim (cases_lt e 32) [
 ]
 
 -- the flag is set of an event for which a running thread doesn't wait in vain
-pub flag_set : (d : DeviceValue) (n e : ℕ) (v : Bool) (th : Thread) → slice_get d.threads n ≡ Some th → runs th ≡ true → ahead_of th.channel ≡ Ok (Wfe e v) → waits_in_vain d n ≡ false → bit_at (visible_events d) e ≡ 1
+pub flag_set : (d : DeviceValue) (n e : ℕ) (v : Bool) (th : Thread) → slice_get d.threads n ≡ Some th → runs th ≡ true → ahead_of th.channel ≡ Ok (Wfe e v)
+    → waits_in_vain d n ≡ false → bit_at (visible_events d) e ≡ 1
 flag_set d n e v th found on next calm = grind (arith, eqb-true)
 
 awake : (c : Copying) (n : ℕ) (d : DeviceValue) (least : ℕ) → runs_at d n ≡ true → waits_in_vain d n ≡ false → Awake c n d least
@@ -55,22 +39,33 @@ awake c n d least on calm th e wait found in_program long =
 -- ---- a turn that does
 
 -- an instruction that is a DMAWFE of an event whose flag is clear
-clear_wait : (flags : ℕ) (next : Result ChipInsn FaultKind) → is_clear_wait flags next ≡ true → (e : ℕ) × (v : Bool) × (next ≡ Ok (Wfe e v)) × (bit_at flags e ≢ 1)
+clear_wait : (flags : ℕ) (next : Result ChipInsn FaultKind) → is_clear_wait flags next ≡ true → (e : ℕ) × (v : Bool) × (next ≡ Ok (Wfe e v))
+    × (bit_at flags e ≢ 1)
 clear_wait flags (Ok (Wfe e v)) is = (e, v, refl, (λ on. true≢false (sym is ∙ ap not (eq-eqb (bit_at flags e) 1 on))))
 clear_wait flags next is = absurd (true≢false (sym is))
 
-module _ (go : Go) (work : Work) (count : ℕ) (run : GivenTurns) (h : RunsCopy go work count run) (some : 0 < run.count) (fit : (k : ℕ) → k < run.count → IsFit go work count (run.before k) (run.lent k)) where
+module _ (go : Go) (work : Work) (count : ℕ) (run : GivenTurns) (h : RunsCopy go work count run) (some : 0 < run.count)
+    (fit : (k : ℕ) → k < run.count → IsFit go work count (run.before k) (run.lent k)) where
   abbrev here : Copying
   here = copying go work count run h some
 
   -- a thread that goes on and waits in vain
-  at_wait : (k : ℕ) → k < run.count → (t : Thread) → slice_get (run.before k).threads go.channel ≡ Some t → Going here (image_in (run.lent k)) t → runs t ≡ true → is_clear_wait (visible_events (run.before k)) (ahead_of t.channel) ≡ true → (event : ℕ) × IsAtWait (run.before k) go.channel t event
+  at_wait : (k : ℕ) → k < run.count → (t : Thread) → slice_get (run.before k).threads go.channel ≡ Some t → Going here (image_in (run.lent k)) t → runs t ≡ true
+      → is_clear_wait (visible_events (run.before k)) (ahead_of t.channel) ≡ true → (event : ℕ) × IsAtWait (run.before k) go.channel t event
   at_wait k less t found going on clear =
       let w = clear_wait (visible_events (run.before k)) (ahead_of t.channel) clear in
       let r = going.runs in
       let at = is_in here.start here.program here.work here.count here.first r.0 (image_in (run.lent k)) t.channel r.1 in
-      let next = sym (next_ahead here.start here.program here.work here.count [] here.first here.explains here.fits r.0 (machine t.channel (image_in (run.lent k)) []) (next_in here.program (traced here.start here.program r.0)) r.1 refl) ∙ w.2 in
-      let wait : IsWait here.start here.program here.count w.0 = record { step = r.0; within = before_end here.start here.program here.work here.count here.explains r.0 (Wfe w.0 w.1) at.within (λ bad. cc) next; invalid = w.1; waits = next } in
+      let next = sym (next_ahead here.start here.program here.work here.count [] here.first here.explains here.fits r.0
+      (machine t.channel (image_in (run.lent k)) []) (next_in here.program (traced here.start here.program r.0)) r.1 refl) ∙ w.2 in
+      let wait : IsWait here.start here.program here.count w.0 =
+      record {
+        step = r.0;
+        within =
+            before_end here.start here.program here.work here.count here.explains r.0 (Wfe w.0 w.1) at.within (λ bad. cc) next;
+        invalid = w.1;
+        waits = next;
+      } in
       let taken_is : t.channel.taken ≡ r.0 = r.1.taken in (
         w.0,
         record {
@@ -86,10 +81,14 @@ module _ (go : Go) (work : Work) (count : ℕ) (run : GivenTurns) (h : RunsCopy 
 
   vain_wait : (k : ℕ) → k < run.count → waits_in_vain (run.before k) go.channel ≡ true → (t : Thread) × (event : ℕ) × IsAtWait (run.before k) go.channel t event
   vain_wait k less vain =
-      let g = before_each go work count run h some (λ j. Unit {0}) (λ j th. is_faulting th ≡ false) refl (λ j l b. turn_fine here go.channel (run.before j) (run.lent j) (run.most j) (run.after j) (run.left j) (h.takes j l).0 (h.takes j l).1 (fits_all go work count run h some j (fit j l)) b) k less in
+      let g = before_each go work count run h some (λ j. Unit {0}) (λ j th. is_faulting th ≡ false) refl
+      (λ j l b. turn_fine here go.channel (run.before j) (run.lent j) (run.most j) (run.after j) (run.left j) (h.takes j l).0 (h.takes j l).1
+      (fits_all go work count run h some j (fit j l)) b) k less in
       let d = run.before k in
       let t = g.thread in
-      let is : (runs t && is_clear_wait (visible_events d) (ahead_of t.channel)) ≡ true = sym (ap (λ (o : Option Thread). option_map_or (λ (u : Thread). runs u && is_clear_wait (visible_events d) (ahead_of u.channel)) o false) g.is) ∙ vain in
+      let is : (runs t && is_clear_wait (visible_events d) (ahead_of t.channel)) ≡ true =
+      sym (ap (λ (o : Option Thread). option_map_or (λ (u : Thread). runs u && is_clear_wait (visible_events d) (ahead_of u.channel)) o false) g.is)
+      ∙ vain in
       let both = and_parts (runs t) (is_clear_wait (visible_events d) (ahead_of t.channel)) is in
       elim g.stands [
         | inl over ↦ absurd (true≢false (sym both.0 ∙ ap (λ (p : Option ProgramValue). is_some p && not (is_faulting t)) over.0.gone))
@@ -111,7 +110,8 @@ busy most is = elim (cases_lt 0 most) [
 
 -- ---- along the turns
 
-module _ (go : Go) (work : Work) (count : ℕ) (run : GivenTurns) (h : RunsCopy go work count run) (some : 0 < run.count) (fit : (k : ℕ) → k < run.count → IsFit go work count (run.before k) (run.lent k)) where
+module _ (go : Go) (work : Work) (count : ℕ) (run : GivenTurns) (h : RunsCopy go work count run) (some : 0 < run.count)
+    (fit : (k : ℕ) → k < run.count → IsFit go work count (run.before k) (run.lent k)) where
   abbrev c : Copying
   c = copying go work count run h some
 
@@ -130,18 +130,33 @@ module _ (go : Go) (work : Work) (count : ℕ) (run : GivenTurns) (h : RunsCopy 
 
   counts : (j : ℕ) → j < run.count → Before go work count run h some (Unit {0}) (Ahead j) j → Counts j
   counts j less g = elim g.stands [
-    | inl over ↦ record { least = suc j; more = suc j; can = inl (omega arith); reached = record { thread = g.thread; is = g.is; stands = inl over }; ahead = omega arith }
+    | inl over ↦ record {
+      least = suc j;
+      more = suc j;
+      can = inl (omega arith);
+      reached = record { thread = g.thread; is = g.is; stands = inl over };
+      ahead =
+          omega arith;
+    }
     | inr going ↦ by (is_vain run j go.channel) refl going.0 going.1
   ]
     where
-      here : Going c (image_in (run.lent j)) g.thread → Ahead j g.thread → Before go work count run h some (Unit {0}) (Reached c go.channel g.thread.channel.taken) j
+      here : Going c (image_in (run.lent j)) g.thread → Ahead j g.thread
+          → Before go work count run h some (Unit {0}) (Reached c go.channel g.thread.channel.taken) j
       here going known = record { thread = g.thread; is = g.is; stands = inr (going, record { fine = known.fine; enough = omega arith }) }
 
       by : (b : Bool) → is_vain run j go.channel ≡ b → Going c (image_in (run.lent j)) g.thread → Ahead j g.thread → Counts j
       by true is going known =
           let early = known.ahead in
           let one = ap flag is in
-          record { least = g.thread.channel.taken; more = g.thread.channel.taken; can = inl (omega arith); reached = here going known; ahead = omega (arith, early, one) }
+          record {
+            least = g.thread.channel.taken;
+            more = g.thread.channel.taken;
+            can = inl (omega arith);
+            reached = here going known;
+            ahead =
+                omega (arith, early, one);
+          }
       by false is going known =
           let early = known.ahead in
           let one = ap flag is in
@@ -159,7 +174,8 @@ module _ (go : Go) (work : Work) (count : ℕ) (run : GivenTurns) (h : RunsCopy 
   counted j less g =
       let w = counts j less g in
       let x = h.takes j less in
-      let after = turn_reached c go.channel (run.before j) (run.lent j) (run.most j) (run.after j) (run.left j) x.0 x.1 w.least w.more w.can (fits_all go work count run h some j (fit j less)) w.reached in
+      let after = turn_reached c go.channel (run.before j) (run.lent j) (run.most j) (run.after j) (run.left j) x.0 x.1 w.least w.more w.can
+      (fits_all go work count run h some j (fit j less)) w.reached in
       record {
         thread = after.thread;
         is = after.is;

@@ -1,51 +1,32 @@
 -- A call of a thread that waits by its status, for an event that it doesn't see, does nothing. One of a thread that
 -- begins to wait changes its status and CPC.
-use Rattle.std.proofs.Common.{is_some, ◌≡◌, ◌∙◌, ℕ, zero, suc, ◌+◌, ◌%◌, ◌^◌, ◌<◌, ◌≤◌, Bool, true, false, ◌&&◌, List, get_or, map, Option, Some, None, Result, Ok, ap, refl, sym, subst, arith, inl, inr, true≢false, bit_and, bit_or, w32}
-use Rattle.std.specs.Prelude.{nat_eq, nat_lt, not, slice_get}
-use Rattle.std.specs.Int.{bit_at, bit_not}
-use Rattle.std.specs.List.{list_any}
-use Rattle.std.specs.Option.{option_map_or}
-use borrow.Author.Tests.{ltb-true}
-use Rattle.std.proofs.Math.Pow.{pow_mono}
+use Rattle.std.proofs.Common.{is_some, ◌≡◌, ◌∙◌, ℕ, zero, suc, ◌+◌, ◌%◌, ◌^◌, ◌<◌, ◌≤◌, Bool, true, false, ◌&&◌, List, get_or, map, Option, Some, None, Result}
+use Rattle.std.proofs.Common.{Ok, ap, refl, sym, subst, arith, inl, inr, true≢false, bit_and, bit_or, w32}
+use Rattle.std.specs.{Prelude.nat_eq, Prelude.nat_lt, Prelude.not, Prelude.slice_get, Int.bit_at, Int.bit_not, List.list_any, Option.option_map_or}
 use Rattle.std.proofs.lemmas.Bool.{cases_lt, eq-eqb, eqb-true, lt-ltb, and_parts, ne_eqb, not-true}
-use Rattle.std.proofs.lemmas.Nat.{and_le_l, or_lt}
 use Rattle.std.proofs.lemmas.Nat.Bits.{bit_at-lt, bit_at_above, bit_at_and, bit_at_not, bit_at_ones, bit_at_or, same_from_bits_below}
-use Rattle.dma_insn.specs.ControlWord.{flag}
-use Rattle.dma_insn.specs.declared.chip.ChipInsn.{ChipInsn}
-use Rattle.dma_insn.specs.declared.chip.ChipInsn.TheVariants.{Wfe}
-use Rattle.dma_mem.specs.Marking.{MarkList}
+use Rattle.std.proofs.{Math.Pow.pow_mono, lemmas.Nat.and_le_l, lemmas.Nat.or_lt}
+use Rattle.dma_insn.specs.{ControlWord.flag, declared.chip.ChipInsn.ChipInsn, declared.chip.ChipInsn.TheVariants.Wfe}
 use Rattle.dma_mem.specs.Regions.{image_of, pieces_of, read_only_of}
-use Rattle.dma_mem.specs.declared.regions.Region.{Region}
-use Rattle.dma_mem.specs.declared.segment.Segment.{Segment}
+use Rattle.dma_mem.specs.{Marking.MarkList, declared.regions.Region.Region, declared.segment.Segment.Segment}
 use Rattle.dma_mem.proofs.FlagBits.{get_or_flags_of}
-use Rattle.dma_chan.specs.Channel.{ahead_of, last_count}
-use Rattle.dma_chan.specs.Exec.{ChangesNothing}
-use Rattle.dma_chan.specs.LentRegions.{segment_of}
 use Rattle.dma_chan.specs.Stepping.{Machine, TakesSteps, answer_at, signal_after, signal_of, written_after}
 use Rattle.dma_chan.specs.Written.{also_written, joined, range_at, store_ahead}
-use Rattle.dma_chan.specs.declared.turn.ChanTurn.{ChanTurn}
-use Rattle.dma_chan.specs.declared.turn.ChanTurn.TheVariants.{Waiting}
-use Rattle.dma_chan.specs.declared.turn.FaultKind.{FaultKind}
-use Rattle.dma_chan.proofs.StepsTaken.{steps_move, steps_stop}
-use Rattle.dma_chan.proofs.SteppedOver.{is_still, was_moved, went_before}
-use Rattle.dma_device.specs.declared.device.turns.Called.{Called}
-use Rattle.dma_device.specs.declared.device.turns.Turn.{Turn}
-use Rattle.dma_device.specs.declared.thread.Status.{Status}
-use Rattle.dma_device.specs.declared.thread.Status.TheVariants.{WaitingForEvent}
-use Rattle.dma_device.specs.declared.thread.Thread.{Thread}
-use Rattle.dma_device.specs.Accesses.{AreAlike}
+use Rattle.dma_chan.specs.{Channel.ahead_of, Channel.last_count, Exec.ChangesNothing, LentRegions.segment_of, declared.turn.ChanTurn.ChanTurn}
+use Rattle.dma_chan.specs.{declared.turn.ChanTurn.TheVariants.Waiting, declared.turn.FaultKind.FaultKind}
+use Rattle.dma_chan.proofs.{StepsTaken.steps_move, StepsTaken.steps_stop, SteppedOver.is_still, SteppedOver.was_moved, SteppedOver.went_before}
 use Rattle.dma_device.specs.CallSteps.{StepsThread, first_in, last_in, marks_in, second_in}
 use Rattle.dma_device.specs.Device.{DeviceValue, all_events, irq_abort, irqs, with_thread}
-use Rattle.dma_device.specs.Events.{IsVisible}
-use Rattle.dma_device.specs.Interrupts.{HasLine}
-use Rattle.dma_device.specs.Idle.{IsSoundDevice, WaitsInVain, no_turn, waiting}
-use Rattle.dma_device.specs.Run.{put_from}
 use Rattle.dma_device.specs.Thread.{IsSound, answered, can_step, has_status, is_faulting, is_signalled, runs, waits_for}
-use Rattle.dma_device.specs.Turns.{Outcome, Setup, TakesTurn, begins, called_if, follows, idle, lines_differ, machine_in, runs_at, setup_of, stepped, steps_in, visible_events, with_flags}
-use Rattle.dma_device.proofs.Calls.{call_acts, call_is, machine_left, runs_found, stepped_is, takes, turn_device, turn_image, turn_lines, turn_taken, turn_written}
-use Rattle.dma_device.proofs.Runs.{put_is}
-use Rattle.dma_device.proofs.Found.{all_at, any_at, any_set, put_back}
-use Rattle.dma_device.proofs.Interrupts.{seen_bit}
+use Rattle.dma_device.specs.Turns.{Outcome, Setup, TakesTurn, begins, called_if, follows, idle, lines_differ, machine_in, runs_at, setup_of, stepped, steps_in}
+use Rattle.dma_device.specs.Turns.{visible_events, with_flags}
+use Rattle.dma_device.specs.{declared.device.turns.Called.Called, declared.device.turns.Turn.Turn, declared.thread.Status.Status}
+use Rattle.dma_device.specs.{declared.thread.Status.TheVariants.WaitingForEvent, declared.thread.Thread.Thread, Accesses.AreAlike, Events.IsVisible}
+use Rattle.dma_device.specs.{Interrupts.HasLine, Idle.IsSoundDevice, Idle.WaitsInVain, Idle.no_turn, Idle.waiting, Run.put_from}
+use Rattle.dma_device.proofs.Calls.{call_acts, call_is, machine_left, runs_found, stepped_is, takes, turn_device, turn_image, turn_lines, turn_taken}
+use Rattle.dma_device.proofs.Calls.{turn_written}
+use Rattle.dma_device.proofs.{Runs.put_is, Found.all_at, Found.any_at, Found.any_set, Found.put_back, Interrupts.seen_bit}
+use borrow.Author.Tests.{ltb-true}
 
 -- ---- a thread that waits
 
@@ -89,7 +70,8 @@ idle_waits events flags t sound on idle =
 
 -- ---- its steps
 
-wait_answers : (marks : MarkList) (s : Machine) (e : ℕ) (v : Bool) → ahead_of s.channel ≡ Ok (Wfe e v) → get_or s.flags e false ≡ false → answer_at marks s ≡ Waiting e
+wait_answers : (marks : MarkList) (s : Machine) (e : ℕ) (v : Bool) → ahead_of s.channel ≡ Ok (Wfe e v) → get_or s.flags e false ≡ false
+    → answer_at marks s ≡ Waiting e
 wait_answers marks s e v next clear = grind arith
 
 -- a call of a machine that waits is one step, and changes nothing
@@ -100,7 +82,8 @@ record Still (marks : MarkList) (s w : Machine) (e taken : ℕ) (last : Option C
   signal : signal_after marks s taken ≡ None
   written : written_after marks s taken ≡ range_at 0 0
 
-still_call : (marks : MarkList) (s w : Machine) (most taken e : ℕ) (v : Bool) (last : Option ChanTurn) → 0 < most → TakesSteps marks s most taken last w → ahead_of s.channel ≡ Ok (Wfe e v) → s.channel.taken < last_count → answer_at marks s ≡ Waiting e → Still marks s w e taken last
+still_call : (marks : MarkList) (s w : Machine) (most taken e : ℕ) (v : Bool) (last : Option ChanTurn) → 0 < most → TakesSteps marks s most taken last w
+    → ahead_of s.channel ≡ Ok (Wfe e v) → s.channel.taken < last_count → answer_at marks s ≡ Waiting e → Still marks s w e taken last
 still_call marks s w most zero e v last some x next few waits =
     elim (steps_stop x) [
       | inl all ↦ absurd (omega arith)
@@ -136,13 +119,15 @@ events_back d h =
     let i_few : i < 2 ^ 32 = omega (arith, h.known.inten) in
     let k_few : known < 2 ^ 32 = omega (arith, and_le_l (visible_events d) (all_events d), and_le_l e off, h.known.events) in
     let events : bit_or (bit_and e i) (bit_and known off) ≡ e = same_from_bits_below 32 (bit_or (bit_and e i) (bit_and known off)) e
-    (or_lt 32 (bit_and e i) (bit_and known off) (omega (arith, and_le_l e i, h.known.events)) (omega (arith, and_le_l known off))) (omega (arith, h.known.events)) (λ j less.
+    (or_lt 32 (bit_and e i) (bit_and known off) (omega (arith, and_le_l e i, h.known.events)) (omega (arith, and_le_l known off)))
+    (omega (arith, h.known.events)) (λ j less.
     simp (bit_at_or, bit_at_and, bit_at_not) (elim (cases_lt j n) [
       | inl below ↦ omega (arith, bit_at_ones n j below, bit_at-lt e j, bit_at-lt i j)
       | inr above ↦ omega (arith, bit_at_above e n j h.known.events above)
     ])) in
     let raised : bit_or d.interrupts (bit_and known i) ≡ d.interrupts = same_from_bits_below 32 (bit_or d.interrupts (bit_and known i)) d.interrupts
-    (or_lt 32 d.interrupts (bit_and known i) (omega (arith, h.known.interrupts)) (omega (arith, and_le_l known i))) (omega (arith, h.known.interrupts)) (λ j less.
+    (or_lt 32 d.interrupts (bit_and known i) (omega (arith, h.known.interrupts)) (omega (arith, and_le_l known i))) (omega (arith, h.known.interrupts))
+    (λ j less.
     simp (bit_at_or, bit_at_and, bit_at_not) (omega (arith, bit_at-lt i j))) in
     rw (events, raised) refl
 
@@ -154,7 +139,8 @@ waits_now events t e known = rw (lt-ltb e events known) refl
 same_thread : (events flags : ℕ) (t : Thread) (w : Waits events flags t) → waiting w.at.event t ≡ t
 same_thread events flags t w = rw (sym w.here, sym w.status) refl
 
-pub alike_is : (regions left : List Region) → map segment_of left ≡ map segment_of regions → read_only_of left ≡ read_only_of regions → image_of (pieces_of left) ≡ image_of (pieces_of regions) → AreAlike left regions
+pub alike_is : (regions left : List Region) → map segment_of left ≡ map segment_of regions → read_only_of left ≡ read_only_of regions
+    → image_of (pieces_of left) ≡ image_of (pieces_of regions) → AreAlike left regions
 alike_is regions left places access image = record {
   pieces = sym (put_is 0 regions left places) ∙ ap (λ (i : List ℕ). put_from 0 i (pieces_of regions)) image ∙ put_is 0 regions regions refl;
   read_only = access;
@@ -168,34 +154,41 @@ quiet taken = record { written = range_at 0 0; signal = None; taken = taken }
 abbrev wait_of : ℕ → ℕ → Thread → Setup → Outcome
 wait_of n e t s = record { left = record { device = with_thread n (waiting e t) s.device; image = s.image }; called = quiet 1 }
 
-only_waits : (marks : MarkList) (n most : ℕ) (t : Thread) (s : Setup) → IsSoundDevice s.device → 0 < most → (w : AtWait s.device.config.events (visible_events s.device) t) → stepped marks n most t s ≡ wait_of n w.event t s
+only_waits : (marks : MarkList) (n most : ℕ) (t : Thread) (s : Setup) → IsSoundDevice s.device → 0 < most
+    → (w : AtWait s.device.config.events (visible_events s.device) t) → stepped marks n most t s ≡ wait_of n w.event t s
 only_waits marks n most t s h some w =
     let d = s.device in
     let from = machine_in s t in
     let count = steps_in marks most t s in
     let below : w.event < 32 = omega (arith, h.few, w.known) in
     let clear : get_or from.flags w.event false ≡ false = get_or_flags_of (visible_events d) w.event below ∙ w.clear in
-    let still = still_call marks from (machine_left marks most t s) most count w.event w.invalid (last_in marks most t s) some (takes marks most t s) w.next w.few (wait_answers marks from w.event w.invalid w.next clear) in
+    let still = still_call marks from (machine_left marks most t s) most count w.event w.invalid (last_in marks most t s) some (takes marks most t s) w.next
+    w.few (wait_answers marks from w.event w.invalid w.next clear) in
     let seen = visible_events d in
     let all : 2 ^ d.config.events ≤ 2 ^ 32 = pow_mono {i = d.config.events} {j = 32} h.few in
     let few : seen < 2 ^ 32 = omega (arith, and_le_l d.events (bit_not w32 d.inten), h.known.events) in
-    let waits : TakesSteps marks from most count (Some (Waiting w.event)) from = record { count = refl; answer = sym still.answer; ends_at = sym still.machine } in
+    let waits : TakesSteps marks from most count (Some (Waiting w.event)) from =
+    record { count = refl; answer = sym still.answer; ends_at = sym still.machine } in
     stepped_is marks n most t s t.channel s.image seen count (Some (Waiting w.event)) None (range_at 0 0) few waits (sym still.signal) (sym still.written)
-    ∙ ap (λ (u : Thread). record { left = record { device = with_thread n u (with_flags seen d); image = s.image }; called = quiet count }) (waits_now d.config.events t w.event w.known)
-    ∙ ap (λ (f : DeviceValue). record { left = record { device = with_thread n (waiting w.event t) f; image = s.image }; called = quiet count }) (events_back d h)
+    ∙ ap (λ (u : Thread). record { left = record { device = with_thread n u (with_flags seen d); image = s.image }; called = quiet count })
+    (waits_now d.config.events t w.event w.known)
+    ∙ ap (λ (f : DeviceValue). record { left = record { device = with_thread n (waiting w.event t) f; image = s.image }; called = quiet count })
+    (events_back d h)
     ∙ ap (λ (k : ℕ). record { left = record { device = with_thread n (waiting w.event t) d; image = s.image }; called = quiet k }) still.one
 
 -- what a call leaves that changes nothing and takes this number of steps
 abbrev rested : ℕ → Setup → Outcome
 rested taken s = record { left = s; called = quiet taken }
 
-waits_still : (marks : MarkList) (n most : ℕ) (t : Thread) (s : Setup) → IsSoundDevice s.device → slice_get s.device.threads n ≡ Some t → 0 < most → Waits s.device.config.events (visible_events s.device) t → stepped marks n most t s ≡ rested 1 s
+waits_still : (marks : MarkList) (n most : ℕ) (t : Thread) (s : Setup) → IsSoundDevice s.device → slice_get s.device.threads n ≡ Some t → 0 < most
+    → Waits s.device.config.events (visible_events s.device) t → stepped marks n most t s ≡ rested 1 s
 waits_still marks n most t s h found some w =
     let d = s.device in
     only_waits marks n most t s h some w.at ∙ simp (same_thread d.config.events (visible_events d) t w, put_back d.threads n t found)
 
 -- the thread of a call waits
-waits_here : (d : DeviceValue) (n : ℕ) (t : Thread) → IsSoundDevice d → list_any (can_step (visible_events d)) d.threads ≡ false → slice_get d.threads n ≡ Some t → runs_at d n ≡ true → Waits d.config.events (visible_events d) t
+waits_here : (d : DeviceValue) (n : ℕ) (t : Thread) → IsSoundDevice d → list_any (can_step (visible_events d)) d.threads ≡ false
+    → slice_get d.threads n ≡ Some t → runs_at d n ≡ true → Waits d.config.events (visible_events d) t
 waits_here d n t h idle found on =
     idle_waits d.config.events (visible_events d) t (all_at (IsSound d.config.events) d.threads n t h.threads found) (sym (runs_found d n t found) ∙ on)
     (any_at (can_step (visible_events d)) d.threads n t idle found)
@@ -204,7 +197,9 @@ by_runs : (o : Option Thread) → option_map_or runs o false ≡ true → (t : T
 by_runs None on = absurd (true≢false (sym on))
 by_runs (Some t) on = (t, refl)
 
-call_rests : (made : Bool) (marks : MarkList) (n most : ℕ) (s : Setup) → IsSoundDevice s.device → list_any (can_step (visible_events s.device)) s.device.threads ≡ false → (made ≡ true → (0 < most) × (runs_at s.device n ≡ true)) → called_if made marks n most s ≡ rested (flag made) s
+call_rests : (made : Bool) (marks : MarkList) (n most : ℕ) (s : Setup) → IsSoundDevice s.device
+    → list_any (can_step (visible_events s.device)) s.device.threads ≡ false → (made ≡ true → (0 < most) × (runs_at s.device n ≡ true))
+    → called_if made marks n most s ≡ rested (flag made) s
 call_rests false marks n most s h none on = refl
 call_rests true marks n most s h none on = elim (call_is true marks n most s) [
   | inl rests ↦
@@ -232,7 +227,8 @@ pub record Rests (d : DeviceValue) (regions : List Region) (taken : ℕ) (e : De
   pub alike : AreAlike left regions
   pub report : turn ≡ no_turn taken
 
-pub turn_rests : (d : DeviceValue) (regions : List Region) (n most : ℕ) (e : DeviceValue) (left : List Region) (turn : Turn) → IsSoundDevice d → list_any (can_step (visible_events d)) d.threads ≡ false → TakesTurn d regions n most e left turn → Rests d regions (flag (begins d n most)) e left turn
+pub turn_rests : (d : DeviceValue) (regions : List Region) (n most : ℕ) (e : DeviceValue) (left : List Region) (turn : Turn) → IsSoundDevice d
+    → list_any (can_step (visible_events d)) d.threads ≡ false → TakesTurn d regions n most e left turn → Rests d regions (flag (begins d n most)) e left turn
 turn_rests d regions n most e left turn h none x =
     let marks = marks_in regions in
     let s = setup_of d regions in
@@ -255,7 +251,8 @@ turn_rests d regions n most e left turn h none x =
 -- ---- a turn at a DMAWFE that waits
 
 -- channels don't see its event
-unseen_clear : (d : DeviceValue) (event : ℕ) → IsSoundDevice d → event < d.config.events → ¬ IsVisible d event → nat_eq (bit_at (visible_events d) event) 1 ≡ false
+unseen_clear : (d : DeviceValue) (event : ℕ) → IsSoundDevice d → event < d.config.events → ¬ IsVisible d event
+    → nat_eq (bit_at (visible_events d) event) 1 ≡ false
 unseen_clear d event h known unseen = ne_eqb (bit_at (visible_events d) event) 1 (λ high.
     let all : 2 ^ d.config.events ≤ 2 ^ 32 = pow_mono {i = d.config.events} {j = 32} h.few in
     let line : HasLine d event = record { events = h.few; event = known; inten = omega (arith, h.known.inten, all) } in
@@ -274,7 +271,8 @@ waits_in_vain d e regions left n most event turn t x h w some =
     let marks = marks_in regions in
     let s = setup_of d regions in
     let first = first_in d regions n most in
-    let at : AtWait d.config.events (visible_events d) t = record { event = event; invalid = w.invalid; clear = unseen_clear d event h w.known w.unseen; known = w.known; next = w.next; few = w.few } in
+    let at : AtWait d.config.events (visible_events d) t =
+    record { event = event; invalid = w.invalid; clear = unseen_clear d event h w.known w.unseen; known = w.known; next = w.next; few = w.few } in
     let starts : begins d n most ≡ true = ap (λ (b : Bool). b && runs_at d n) (lt-ltb 0 most some) ∙ runs_found d n t w.found ∙ w.running in
     let one : StepsThread (begins d n most) n s = record { on = starts; thread = t; found = w.found } in
     let is : first ≡ wait_of n event t s = call_acts marks most one ∙ only_waits marks n most t s h some at in

@@ -1,20 +1,18 @@
 -- What a write of a register makes of the lines irq[31:0], and of the events that are set.
-use Rattle.std.proofs.Common.{◌≡◌, ◌≢◌, ◌∙◌, ◌⊎◌, ℕ, ◌-◌, ◌%◌, ◌^◌, ◌<◌, ◌≤◌, Bool, true, false, List, Option, ap, refl, sym, arith, true≢false, bit_and, bit_or, w32, ◌*◌, ◌/◌}
-use Rattle.std.proofs.lemmas.Bool.Decides.{nat_tests}
-use Rattle.std.specs.Prelude.{◌↔◌, if◌then◌else◌, ◌==◌, min, slice_get, not}
-use Rattle.std.specs.Int.{bit_at, bit_not}
-use Rattle.std.proofs.Math.Pow.{pow_mono}
-use Rattle.std.proofs.lemmas.Nat.{and_le_r}
+use Rattle.std.proofs.Common.{◌≡◌, ◌≢◌, ◌∙◌, ◌⊎◌, ℕ, ◌-◌, ◌%◌, ◌^◌, ◌<◌, ◌≤◌, Bool, true, false, List, Option, ap, refl, sym, arith, true≢false, bit_and}
+use Rattle.std.proofs.Common.{bit_or, w32, ◌*◌, ◌/◌}
 use Rattle.std.proofs.lemmas.Bool.{eq-eqb, eqb-false, eqb-true, lt-ltb}
 use Rattle.std.proofs.lemmas.Nat.Bits.{bit_at-lt, bit_at_and, bit_at_not, bit_at_or, bit_at-pow_other, bit_at-pow_same}
+use Rattle.std.proofs.{lemmas.Bool.Decides.nat_tests, Math.Pow.pow_mono, lemmas.Nat.and_le_r}
+use Rattle.std.specs.{Prelude.◌↔◌, Prelude.if◌then◌else◌, Prelude.◌==◌, Prelude.min, Prelude.slice_get, Prelude.not, Int.bit_at, Int.bit_not}
 use Rattle.dma_insn.specs.ControlWord.{field}
 use Rattle.dma_mem.specs.Regions.{Piece}
-use Rattle.dma_device.specs.Offsets as offset
 use Rattle.dma_device.specs.declared.thread.Thread.{Thread}
 use Rattle.dma_device.specs.Device.{DeviceValue, all_events, by_manager, by_thread, go, irqs, is_event, is_interrupt, signalled, written}
 use Rattle.dma_device.specs.Interrupts.{DebugSignals, HasLine, IsHigh, can_debug, is_fine}
 use Rattle.dma_device.proofs.Cases.{branch, debug_cases, go_cases, manager_cases, thread_cases, write_cases}
 use Rattle.dma_device.proofs.Iff.{iff_or, same_or}
+use Rattle.dma_device.specs.Offsets as offset
 
 -- ---- INTCLR
 
@@ -22,7 +20,8 @@ by_intclr : (r i v line : ℕ) → r < 2 → i < 2 → v < 2 → line ≡ min r 
 by_intclr r i v line rb ib vb is = grind arith
 
 -- after a write to INTCLR line k is high exactly if it was high before, and the write doesn't clear it
-pub intclr_lowers : (d : DeviceValue) (ram : List Piece) (value k : ℕ) → HasLine d k → IsHigh (irqs (written ram offset.intclr value d)) k ↔ (IsHigh (irqs d) k × ¬ (IsHigh value k × IsHigh d.inten k))
+pub intclr_lowers : (d : DeviceValue) (ram : List Piece) (value k : ℕ) → HasLine d k
+    → IsHigh (irqs (written ram offset.intclr value d)) k ↔ (IsHigh (irqs d) k × ¬ (IsHigh value k × IsHigh d.inten k))
 intclr_lowers d ram value k has =
     let below : k < 32 = omega (arith, has.events, has.event) in
     let cleared = bit_and value d.inten in
@@ -74,7 +73,8 @@ pick_other true a b c other = absurd (other refl)
 pick_other false a b c other = refl
 
 -- a write to any register but DBGCMD and, for interrupts, INTCLR leaves the word as it is
-pub others_keep : (kind : Bool) (d : DeviceValue) (ram : List Piece) (at value : ℕ) → at ≢ offset.dbgcmd → (at ≡ offset.intclr → kind ≢ true) → word_of kind (written ram at value d) ≡ word_of kind d
+pub others_keep : (kind : Bool) (d : DeviceValue) (ram : List Piece) (at value : ℕ) → at ≢ offset.dbgcmd → (at ≡ offset.intclr → kind ≢ true)
+    → word_of kind (written ram at value d) ≡ word_of kind d
 others_keep kind d ram at value not_dbgcmd not_intclr = grind (arith, eqb-true, pick_other, write_cases)
 
 -- ---- the debug instruction
@@ -106,7 +106,8 @@ module _ (kind : Bool) where
   event_yes : (d : DeviceValue) (byte k : ℕ) → byte ≡ 8 * k → k < d.config.events → is_event d byte ≡ true
   event_yes d byte k is event = grind (arith, eq-eqb, lt-ltb)
 
-  sev_rises : (d : DeviceValue) (opcode byte k : ℕ) (fine : Bool) → opcode ≡ 0x34 → fine ≡ true → is_event d byte ≡ true → Rises kind d (signalled (byte / 8) d) k (ByDmasev d opcode byte k fine)
+  sev_rises : (d : DeviceValue) (opcode byte k : ℕ) (fine : Bool) → opcode ≡ 0x34 → fine ≡ true → is_event d byte ≡ true
+      → Rises kind d (signalled (byte / 8) d) k (ByDmasev d opcode byte k fine)
   sev_rises d opcode byte k fine is executes event = grind (arith, nat_tests, signal_rises kind d (byte / 8) k)
 
   no_event : (d : DeviceValue) (opcode byte k : ℕ) (fine : Bool) → is_event d byte ≡ false → ¬ ByDmasev d opcode byte k fine
@@ -123,23 +124,29 @@ module _ (kind : Bool) where
   cannot : (d : DeviceValue) (opcode byte k : ℕ) (faulting : Bool) → faulting ≡ true → ¬ ByDmasev d opcode byte k (not faulting)
   cannot d opcode byte k faulting is x = true≢false (sym x.executes ∙ ap not is)
 
-  thread_rises : (n : ℕ) (o : Option Thread) (opcode byte k : ℕ) (d : DeviceValue) → Rises kind d (by_thread n o opcode byte d) k (ByDmasev d opcode byte k (is_fine o))
+  thread_rises : (n : ℕ) (o : Option Thread) (opcode byte k : ℕ) (d : DeviceValue)
+      → Rises kind d (by_thread n o opcode byte d) k (ByDmasev d opcode byte k (is_fine o))
   thread_rises n o opcode byte k d = grind (arith, cannot, eqb-true, no_event, no_kill, not_sev, same_or, sev_rises, thread_cases)
 
-  go_rises : (ram : List Piece) (nonsecure : Bool) (n : ℕ) (o : Option Thread) (d : DeviceValue) (k : ℕ) (P : Type 0) → ¬ P → Rises kind d (go ram nonsecure n o d) k P
+  go_rises : (ram : List Piece) (nonsecure : Bool) (n : ℕ) (o : Option Thread) (d : DeviceValue) (k : ℕ) (P : Type 0) → ¬ P
+      → Rises kind d (go ram nonsecure n o d) k P
   go_rises ram nonsecure n o d k P h1 = grind (arith, go_cases, same_or)
 
-  manager_rises : (ram : List Piece) (opcode byte k : ℕ) (d : DeviceValue) → Rises kind d (by_manager ram opcode byte d) k (ByDmasev d opcode byte k (not d.manager.is_faulting))
+  manager_rises : (ram : List Piece) (opcode byte k : ℕ) (d : DeviceValue)
+      → Rises kind d (by_manager ram opcode byte d) k (ByDmasev d opcode byte k (not d.manager.is_faulting))
   manager_rises ram opcode byte k d = grind (arith, cannot, eqb-true, go_rises, manager_cases, no_event, no_kill, not_sev, same_or, sev_rises)
 
   -- by a channel thread or the manager
-  by_either : (b : Bool) (d threads manager : DeviceValue) (opcode byte k : ℕ) (one other : Bool) → Rises kind d threads k (ByDmasev d opcode byte k one) → Rises kind d manager k (ByDmasev d opcode byte k other) → Rises kind d (if b then threads else manager) k (ByDmasev d opcode byte k (if b then one else other))
+  by_either : (b : Bool) (d threads manager : DeviceValue) (opcode byte k : ℕ) (one other : Bool) → Rises kind d threads k (ByDmasev d opcode byte k one)
+      → Rises kind d manager k (ByDmasev d opcode byte k other)
+      → Rises kind d (if b then threads else manager) k (ByDmasev d opcode byte k (if b then one else other))
   by_either true d threads manager opcode byte k one other x y = x
   by_either false d threads manager opcode byte k one other x y = y
 
   -- after a write to DBGCMD bit k of the word is 1 exactly if it was 1 before, or the write executed a DMASEV of event k
   -- that sets it
-  pub dbgcmd_raises : (d : DeviceValue) (ram : List Piece) (value k : ℕ) → Rises kind d (written ram offset.dbgcmd value d) k (Sets kind d k × DebugSignals d value k)
+  pub dbgcmd_raises : (d : DeviceValue) (ram : List Piece) (value k : ℕ)
+      → Rises kind d (written ram offset.dbgcmd value d) k (Sets kind d k × DebugSignals d value k)
   dbgcmd_raises d ram value k =
       let w = d.dbginst0 in
       let opcode = field 16 8 w in
@@ -151,5 +158,6 @@ module _ (kind : Bool) where
       iff_or _ _ (ByDmasev d opcode byte k (can_debug d)) _
       (λ x. (x.on, record { command = eqb-true (value % 4) 0 is; dmasev = (x.opcode_is, x.byte_is); event = x.event; executes = x.executes }))
       (λ x. record { on = x.0; opcode_is = x.1.dmasev.0; byte_is = x.1.dmasev.1; event = x.1.event; executes = x.1.executes })
-      (by_either (field 0 1 w == 1) d _ _ opcode byte k (is_fine o) (not d.manager.is_faulting) (thread_rises n o opcode byte k d) (manager_rises ram opcode byte k d)))
+      (by_either (field 0 1 w == 1) d _ _ opcode byte k (is_fine o) (not d.manager.is_faulting) (thread_rises n o opcode byte k d)
+      (manager_rises ram opcode byte k d)))
       (λ is. same_or _ _ (λ x. eqb-false (value % 4) 0 is x.1.command))

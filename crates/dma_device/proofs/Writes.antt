@@ -1,43 +1,30 @@
 -- What a turn writes: it lies in the regions, and in none that is read-only.
-use Rattle.std.proofs.Common.{◌≡◌, ◌∙◌, ℕ, zero, suc, ◌≤◌, Bool, true, List, Option, Some, ap, refl, sym, subst, arith, inl, inr, ◌+◌, ◌-◌, ◌<◌, false, ◌&&◌, ◌||◌, [], ◌∷◌, ◌++◌, length, get_or, Result, Ok, true≢false}
-use Rattle.std.specs.Prelude.{◌==◌, nat_lt, not}
+use Rattle.std.proofs.Common.{◌≡◌, ◌∙◌, ℕ, zero, suc, ◌≤◌, Bool, true, List, Option, Some, ap, refl, sym, subst, arith, inl, inr, ◌+◌, ◌-◌, ◌<◌, false, ◌&&◌}
+use Rattle.std.proofs.Common.{◌||◌, [], ◌∷◌, ◌++◌, length, get_or, Result, Ok, true≢false}
+use Rattle.std.specs.{Prelude.◌==◌, Prelude.nat_lt, Prelude.not, List.Contains, List.list_all, List.list_any}
 use Rattle.std.proofs.Math.Bool.{or-true}
 use Rattle.std.proofs.lemmas.Bool.{and_parts, cases_lt, le-leb, lt-ltb, not-true, or_parts}
-use Rattle.dma_mem.specs.Marking.{MarkList, is_marked, lies_in}
-use Rattle.dma_mem.specs.declared.segment.Segment.{Segment}
-use Rattle.dma_chan.specs.Stepping.{Machine, answer_at, written_after, Wrote, after_steps}
-use Rattle.dma_chan.specs.Written.{KeepsOutside, LiesIn, adjoins, also_written, joined, range_at, store_ahead}
-use Rattle.dma_chan.specs.declared.turn.ChanTurn.{ChanTurn}
-use Rattle.dma_chan.specs.declared.turn.ChanTurn.TheVariants.{Moved}
-use Rattle.dma_chan.proofs.CallWrites.{call_writes_no_other}
-use Rattle.dma_chan.proofs.StepsTaken.{steps_few, steps_move}
-use Rattle.dma_chan.proofs.SteppedOver.{writes_each, steps_size}
-use Rattle.dma_chan.proofs.WrittenRanges.{in_joined, joined_first, joined_none, of_either}
-use Rattle.dma_device.specs.declared.thread.Thread.{Thread}
-use Rattle.dma_device.specs.Turns.{Outcome, Setup, begins, called_if, follows, is_beside, machine_in, setup_of, steps_in}
-use Rattle.dma_device.specs.CallSteps.{first_in, marks_in, second_in}
-use Rattle.dma_device.specs.Writes.{CallWrote, TurnWritesEach, TurnWritesInRegions}
-use Rattle.std.specs.List.{Contains, list_all, list_any}
-use borrow.Author.Tests.{ltb-true}
-use Rattle.dma_insn.specs.declared.chip.ChipInsn.{ChipInsn}
-use Rattle.dma_insn.specs.declared.chip.ChipInsn.TheVariants.{St, StoreZeros}
-use Rattle.dma_mem.specs.Lent.{lies_in_any, stores_at}
 use Rattle.dma_mem.specs.Regions.{Piece, bytes_above, end_of, gaps_above, gaps_of, has, image_of, in_order, pieces_of, read_only_of, rises_from}
-use Rattle.dma_mem.specs.declared.marks.MarkKind.TheVariants.{Writing}
-use Rattle.dma_mem.specs.declared.regions.Region.{Region}
-use Rattle.dma_mem.proofs.GapMarks.{is_marked_at, stores_in}
-use Rattle.dma_mem.proofs.Pieces.{first}
-use Rattle.dma_chan.specs.declared.turn.FaultKind.{FaultKind}
-use Rattle.dma_chan.specs.Bursts.{reaches, touched}
-use Rattle.dma_chan.specs.Channel.{ahead_of, state_of}
-use Rattle.dma_chan.specs.Exec.{State, act, destination_of, exec_fetched}
-use Rattle.dma_chan.specs.NextWrites.{written_by}
-use Rattle.dma_chan.proofs.PlacesKept.{long_above}
+use Rattle.dma_mem.specs.{Marking.MarkList, Marking.is_marked, Marking.lies_in, declared.segment.Segment.Segment, Lent.lies_in_any, Lent.stores_at}
+use Rattle.dma_mem.specs.{declared.marks.MarkKind.TheVariants.Writing, declared.regions.Region.Region}
+use Rattle.dma_chan.specs.Written.{KeepsOutside, LiesIn, adjoins, also_written, joined, range_at, store_ahead}
+use Rattle.dma_chan.specs.{Stepping.Machine, Stepping.answer_at, Stepping.written_after, Stepping.Wrote, Stepping.after_steps, declared.turn.ChanTurn.ChanTurn}
+use Rattle.dma_chan.specs.{declared.turn.ChanTurn.TheVariants.Moved, declared.turn.FaultKind.FaultKind, Bursts.reaches, Bursts.touched, Channel.ahead_of}
+use Rattle.dma_chan.specs.{Channel.state_of, Exec.State, Exec.act, Exec.destination_of, Exec.exec_fetched, NextWrites.written_by}
+use Rattle.dma_chan.proofs.{CallWrites.call_writes_no_other, StepsTaken.steps_few, StepsTaken.steps_move, SteppedOver.writes_each, SteppedOver.steps_size}
+use Rattle.dma_chan.proofs.{WrittenRanges.in_joined, WrittenRanges.joined_first, WrittenRanges.joined_none, WrittenRanges.of_either, PlacesKept.long_above}
+use Rattle.dma_device.specs.Turns.{Outcome, Setup, begins, called_if, follows, is_beside, machine_in, setup_of, steps_in}
+use Rattle.dma_device.specs.{declared.thread.Thread.Thread, CallSteps.first_in, CallSteps.marks_in, CallSteps.second_in, Writes.CallWrote}
+use Rattle.dma_device.specs.{Writes.TurnWritesEach, Writes.TurnWritesInRegions}
+use Rattle.dma_insn.specs.{declared.chip.ChipInsn.ChipInsn, declared.chip.ChipInsn.TheVariants.St, declared.chip.ChipInsn.TheVariants.StoreZeros}
+use Rattle.dma_mem.proofs.{GapMarks.is_marked_at, GapMarks.stores_in, Pieces.first}
 use Rattle.dma_device.proofs.Calls.{call_acts, call_is, takes, turn_image, turn_written}
+use borrow.Author.Tests.{ltb-true}
 
 -- ---- a call
 
-pub call_keeps : (made : Bool) (marks : MarkList) (n most : ℕ) (s : Setup) → let o = called_if made marks n most s in KeepsOutside o.called.written s.image o.left.image
+pub call_keeps : (made : Bool) (marks : MarkList) (n most : ℕ) (s : Setup) → let o = called_if made marks n most s in
+    KeepsOutside o.called.written s.image o.left.image
 call_keeps made marks n most s = elim (call_is made marks n most s) [
   | inl rests ↦
       subst (λ (o : Outcome). KeepsOutside o.called.written s.image o.left.image) (sym rests.is) (record { size = refl; bytes = λ a off. refl })
@@ -46,10 +33,15 @@ call_keeps made marks n most s = elim (call_is made marks n most s) [
       (call_writes_no_other marks (machine_in s acts.thread) most _ _ _ (takes marks most acts.thread s))
 ]
 
-call_writes : (made : Bool) (marks : MarkList) (n most : ℕ) (s : Setup) (a : ℕ) → LiesIn (called_if made marks n most s).called.written a → CallWrote marks n a made most s
+call_writes : (made : Bool) (marks : MarkList) (n most : ℕ) (s : Setup) (a : ℕ) → LiesIn (called_if made marks n most s).called.written a
+    → CallWrote marks n a made most s
 call_writes made marks n most s a i = elim (call_is made marks n most s) [
   | inl rests ↦ let none = subst (λ (o : Outcome). LiesIn o.called.written a) rests.is i in absurd (omega (arith, none))
-  | inr acts ↦ (acts, writes_each marks (machine_in s acts.thread) (steps_in marks most acts.thread s) a (steps_move (takes marks most acts.thread s)) (subst (λ (o : Outcome). LiesIn o.called.written a) (call_acts marks most acts) i))
+  | inr acts ↦ (
+    acts,
+    writes_each marks (machine_in s acts.thread) (steps_in marks most acts.thread s) a (steps_move (takes marks most acts.thread s))
+        (subst (λ (o : Outcome). LiesIn o.called.written a) (call_acts marks most acts) i),
+  )
 ]
 
 -- ---- the range of one more step
@@ -64,7 +56,8 @@ by_answer : (w r : Segment) (turn : ChanTurn) → adjoins w r ≡ true → adjoi
 by_answer w r Moved close = by_length w r close
 by_answer w r turn close = adjoins_none w (range_at 0 0) refl
 
-by_count : (w : Segment) (marks : MarkList) (s : Machine) (k : ℕ) → k ≤ 1 → adjoins w (store_ahead s.channel) ≡ true → adjoins w (written_after marks s k) ≡ true
+by_count : (w : Segment) (marks : MarkList) (s : Machine) (k : ℕ) → k ≤ 1 → adjoins w (store_ahead s.channel) ≡ true
+    → adjoins w (written_after marks s k) ≡ true
 by_count w marks s zero few close = adjoins_none w (range_at 0 0) refl
 by_count w marks s (suc zero) few close = by_answer w (store_ahead s.channel) (answer_at marks s) close
 by_count w marks s (suc (suc k)) few close = absurd (omega arith)
@@ -72,7 +65,8 @@ by_count w marks s (suc (suc k)) few close = absurd (omega arith)
 beside_of : (w : Segment) (o : Option Thread) (t : Thread) → o ≡ Some t → is_beside w o ≡ true → adjoins w (store_ahead t.channel) ≡ true
 beside_of w o t h1 h2 = grind arith
 
-pub second_beside : (marks : MarkList) (n : ℕ) (first : Outcome) → adjoins first.called.written (called_if (follows first.left.device n first.called) marks n 1 first.left).called.written ≡ true
+pub second_beside : (marks : MarkList) (n : ℕ) (first : Outcome)
+    → adjoins first.called.written (called_if (follows first.left.device n first.called) marks n 1 first.left).called.written ≡ true
 second_beside marks n first = grind (arith, adjoins_none, beside_of, by_count, call_acts, call_is, steps_few, takes)
 
 -- ---- a turn
@@ -88,7 +82,8 @@ turn_writes_each d regions n most e left turn x =
     let two = subst (λ (i : List ℕ). KeepsOutside second.called.written first.left.image i) (turn_image x) (call_keeps goes marks n 1 first.left) in
     record {
       each = λ a i.
-          elim (of_either first.called.written second.called.written a (second_beside marks n first) (subst (λ (w : Segment). LiesIn w a) (sym (turn_written x)) i)) [
+          elim (of_either first.called.written second.called.written a (second_beside marks n first)
+          (subst (λ (w : Segment). LiesIn w a) (sym (turn_written x)) i)) [
             | inl old ↦ inl (call_writes (begins d n most) marks n most s a old)
             | inr new ↦ inr (call_writes goes marks n 1 first.left a new)
           ];
@@ -119,13 +114,16 @@ reached : (marks : MarkList) (size : ℕ) (xs : List ℕ) (a : ℕ) → reaches 
 unfolding reaches
 reached marks size xs a all i = all_at (fits marks size) xs i.0 a all i.1 i.2
 
-store_reaches : (marks : MarkList) (s : State) → (act marks St s).0 ≡ Moved → reaches Writing marks (length s.image) (touched (destination_of s.registers)) ≡ true
+store_reaches : (marks : MarkList) (s : State) → (act marks St s).0 ≡ Moved
+    → reaches Writing marks (length s.image) (touched (destination_of s.registers)) ≡ true
 store_reaches marks s moved = grind arith
 
-zeros_reach : (marks : MarkList) (s : State) → (act marks StoreZeros s).0 ≡ Moved → reaches Writing marks (length s.image) (touched (destination_of s.registers)) ≡ true
+zeros_reach : (marks : MarkList) (s : State) → (act marks StoreZeros s).0 ≡ Moved
+    → reaches Writing marks (length s.image) (touched (destination_of s.registers)) ≡ true
 zeros_reach marks s moved = grind arith
 
-step_reaches : (marks : MarkList) (next : Result ChipInsn FaultKind) (s : State) (a : ℕ) → (exec_fetched marks next s).0 ≡ Moved → Contains (written_by next s.registers) a → fits marks (length s.image) a ≡ true
+step_reaches : (marks : MarkList) (next : Result ChipInsn FaultKind) (s : State) (a : ℕ) → (exec_fetched marks next s).0 ≡ Moved
+    → Contains (written_by next s.registers) a → fits marks (length s.image) a ≡ true
 step_reaches marks (Ok St) s a moved i = reached marks (length s.image) (touched (destination_of s.registers)) a (store_reaches marks s moved) i
 step_reaches marks (Ok StoreZeros) s a moved i = reached marks (length s.image) (touched (destination_of s.registers)) a (zeros_reach marks s moved) i
 step_reaches marks next s a moved i = absurd (omega (arith, i.1))
@@ -138,7 +136,8 @@ wrote_fits marks s n a w =
 -- ---- the regions
 
 -- below the end of the pieces, what lies in no gap lies in a piece
-in_piece : (at : ℕ) (ps : List Piece) (a : ℕ) → rises_from at ps ≡ true → at ≤ a → a < at + length (bytes_above at ps) → lies_in_any (gaps_above at ps) a ≡ false → list_any (has a) ps ≡ true
+in_piece : (at : ℕ) (ps : List Piece) (a : ℕ) → rises_from at ps ≡ true → at ≤ a → a < at + length (bytes_above at ps)
+    → lies_in_any (gaps_above at ps) a ≡ false → list_any (has a) ps ≡ true
 in_piece at [] a order from below gaps = absurd (omega arith)
 in_piece at (p ∷ ps) a order from below gaps =
     let f = first at p ps order in
@@ -153,7 +152,8 @@ in_piece at (p ∷ ps) a order from below gaps =
             let here : has a p ≡ true = rw (le-leb p.addr a begun, lt-ltb a (end_of p) within) refl in
             ap (λ (b : Bool). b || list_any (has a) ps) here
         | inr past ↦
-            ap (λ (b : Bool). has a p || b) (in_piece (end_of p) ps a f.rest past (omega (arith, below, long_above at p ps, f.after, begun)) parts.1) ∙ or-true (has a p)
+            ap (λ (b : Bool). has a p || b) (in_piece (end_of p) ps a f.rest past (omega (arith, below, long_above at p ps, f.after, begun)) parts.1)
+            ∙ or-true (has a p)
       ]
     ]
 
@@ -162,17 +162,20 @@ abbrev pub IsWritable : List Region → ℕ → Type 0
 IsWritable regions a = (list_any (has a) (pieces_of regions) ≡ true) × (lies_in_any (read_only_of regions) a ≡ false)
 
 -- an address that steps over regions wrote
-pub wrote_within : (regions : List Region) (s : Machine) (k a : ℕ) → in_order (pieces_of regions) ≡ true → length s.image ≡ length (image_of (pieces_of regions)) → Wrote (marks_in regions) s k a → IsWritable regions a
+pub wrote_within : (regions : List Region) (s : Machine) (k a : ℕ) → in_order (pieces_of regions) ≡ true
+    → length s.image ≡ length (image_of (pieces_of regions)) → Wrote (marks_in regions) s k a → IsWritable regions a
 wrote_within regions s k a order size w =
     let marks = marks_in regions in
     let parts = and_parts (nat_lt a (length s.image)) (not (is_marked Writing marks a)) (wrote_fits marks s k a w) in
     let free : is_marked Writing marks a ≡ false = not-true (is_marked Writing marks a) parts.1 in
     let others = stores_at (read_only_of regions) ++ [] in
-    let both = or_parts (lies_in_any (gaps_of (pieces_of regions)) a) (is_marked Writing others a) (sym (is_marked_at Writing (gaps_of (pieces_of regions)) others a) ∙ free) in
+    let both = or_parts (lies_in_any (gaps_of (pieces_of regions)) a) (is_marked Writing others a)
+    (sym (is_marked_at Writing (gaps_of (pieces_of regions)) others a) ∙ free) in
     let writable = or_parts (lies_in_any (read_only_of regions) a) (is_marked Writing [] a) (sym (stores_in (read_only_of regions) [] a) ∙ both.1) in
     (in_piece 0 (pieces_of regions) a order (omega arith) (omega (arith, size, ltb-true a (length s.image) parts.0)) both.0, writable.0)
 
-call_within : (regions : List Region) (n a : ℕ) (made : Bool) (most : ℕ) (s : Setup) → in_order (pieces_of regions) ≡ true → length s.image ≡ length (image_of (pieces_of regions)) → CallWrote (marks_in regions) n a made most s → IsWritable regions a
+call_within : (regions : List Region) (n a : ℕ) (made : Bool) (most : ℕ) (s : Setup) → in_order (pieces_of regions) ≡ true
+    → length s.image ≡ length (image_of (pieces_of regions)) → CallWrote (marks_in regions) n a made most s → IsWritable regions a
 call_within regions n a made most s order size w =
     wrote_within regions (machine_in s w.0.thread) (steps_in (marks_in regions) most w.0.thread s) a order size w.1
 
@@ -182,5 +185,6 @@ turn_writes_in_regions d regions n most e left turn a order x i =
     let first = first_in d regions n most in
     elim ((turn_writes_each d regions n most e left turn x).each a i) [
       | inl w ↦ call_within regions n a (begins d n most) most s order refl w
-      | inr w ↦ call_within regions n a (follows first.left.device n first.called) 1 first.left order (call_keeps (begins d n most) (marks_in regions) n most s).size w
+      | inr w ↦ call_within regions n a (follows first.left.device n first.called) 1 first.left order
+          (call_keeps (begins d n most) (marks_in regions) n most s).size w
     ]

@@ -1,13 +1,10 @@
 -- Accesses in a row: what a guest's driver and its processor do to a device and to RAM, and the turns that a host gives
 -- to channels, in any order. The host also resets and restores the device.
 use Rattle.std.specs.Prelude.{◌≡◌, ◌⊎◌, ◌↔◌, ℕ, ◌+◌, ◌<◌, ◌≤◌, List, map, slice_set}
-use Rattle.dma_mem.specs.Regions.{image_of, pieces_of, read_only_of}
-use Rattle.dma_mem.specs.declared.regions.Region.{Region}
+use Rattle.dma_mem.specs.{Regions.image_of, Regions.pieces_of, Regions.read_only_of, declared.regions.Region.Region}
 use Rattle.dma_chan.specs.LentRegions.{segment_of}
-use Rattle.dma_device.specs.declared.device.turns.Turn.{Turn}
 use Rattle.dma_device.specs.Device.{DeviceValue, read_at, reset_device, written}
-use Rattle.dma_device.specs.Snapshot.{IsDeviceValue}
-use Rattle.dma_device.specs.Turns.{TakesTurn}
+use Rattle.dma_device.specs.{declared.device.turns.Turn.Turn, Snapshot.IsDeviceValue, Turns.TakesTurn}
 
 -- A read or a write of the register at an offset, a turn of channel n of at most `most` steps, a byte that the processor
 -- writes to an address of RAM, a reset of the device, or a restore that makes it this saved device.

@@ -1,19 +1,13 @@
 -- A board has several devices over one memory, on one of which a driver starts a program that copies.
 use Rattle.std.specs.Prelude.{◌≡◌, ◌≢◌, ℕ, ◌+◌, ◌-◌, ◌<◌, ◌≤◌, Bool, true, false, ◌&&◌, ◌==◌, List, length, slice_get, slice_index, if◌then◌else◌}
 use Rattle.std.specs.List.{Contains}
-use Rattle.dma_mem.specs.Regions.{pieces_of}
-use Rattle.dma_mem.specs.declared.regions.Region.{Region}
-use Rattle.dma_explain.specs.Explains.{Explains, Work, written}
-use Rattle.dma_explain.specs.Works.{IsWorked, Uses, work_below}
+use Rattle.dma_mem.specs.{Regions.pieces_of, declared.regions.Region.Region}
+use Rattle.dma_explain.specs.{Explains.Explains, Explains.Work, Explains.written, Works.IsWorked, Works.Uses, Works.work_below}
 use Rattle.dma_chan.specs.Written.{LiesIn}
 use Rattle.dma_device.specs.Accesses.{Access, Answer, Does, Resets, Restores, Stores, Turned, Turns, Writes}
-use Rattle.dma_device.specs.Device.{DeviceValue}
 use Rattle.dma_device.specs.Dmago.{Go, GivenTurns, HasProgram, MayGo, RunsCopy, csr_status, dmago_word, image_in, start_of}
-use Rattle.dma_device.specs.Explaining.{StaysIn}
-use Rattle.dma_device.specs.Faults.{TheChannel}
-use Rattle.dma_device.specs.Frame.{MayChange}
+use Rattle.dma_device.specs.{Device.DeviceValue, Explaining.StaysIn, Faults.TheChannel, Frame.MayChange, declared.device.turns.Turn.Turn}
 use Rattle.dma_device.specs.Offsets as offset
-use Rattle.dma_device.specs.declared.device.turns.Turn.{Turn}
 
 -- ---- a board
 

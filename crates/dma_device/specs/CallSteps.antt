@@ -1,13 +1,10 @@
 -- The calls of a turn, and their steps.
 use Rattle.std.specs.Prelude.{◌≡◌, ◌⊎◌, ℕ, Bool, true, List, [], Option, Some, slice_get}
-use Rattle.dma_mem.specs.Marking.{MarkList}
-use Rattle.dma_mem.specs.declared.regions.Region.{Region}
-use Rattle.dma_chan.specs.LentRegions.{with_gaps_of}
+use Rattle.dma_mem.specs.{Marking.MarkList, declared.regions.Region.Region}
 use Rattle.dma_chan.specs.Stepping.{Machine, after_steps, last_of, signal_after}
-use Rattle.dma_chan.specs.declared.turn.ChanTurn.{ChanTurn}
-use Rattle.dma_device.specs.declared.thread.Thread.{Thread}
-use Rattle.dma_device.specs.Device.{DeviceValue}
+use Rattle.dma_chan.specs.{LentRegions.with_gaps_of, declared.turn.ChanTurn.ChanTurn}
 use Rattle.dma_device.specs.Turns.{Outcome, Setup, begins, called_if, follows, machine_in, setup_of, steps_in}
+use Rattle.dma_device.specs.{declared.thread.Thread.Thread, Device.DeviceValue}
 
 -- A call (`called_if`) of channel `n` that is made takes steps of its thread.
 pub record StepsThread (made : Bool) (n : ℕ) (s : Setup) : Type 0 where

@@ -1,9 +1,8 @@
 -- The choices of a chip's designer.
 use Rattle.std.specs.Prelude.{ℕ, Bool, ◌&&◌, nat_le}
 use Rattle.dma_mem.specs.Limits.{most_channels}
-use Rattle.dma_device.specs.declared.config.Config.{Config}
-use Rattle.dma_device.specs.declared.config.Revision.{Revision}
 use Rattle.dma_device.specs.declared.config.Revision.TheVariants.{R0p0, R1p0, R1p1, R1p2}
+use Rattle.dma_device.specs.{declared.config.Config.Config, declared.config.Revision.Revision}
 
 -- the code of a revision in periph_id_2
 abbrev pub revision_code : Revision → ℕ

@@ -1,19 +1,13 @@
 -- What a program that a DMAGO starts copies and sets to 0, if a work explains it.
 use Rattle.std.specs.Prelude.{◌≡◌, ◌≢◌, ℕ, ◌+◌, ◌<◌, ◌≤◌, Bool, false, nat_eq, List, length, slice_index, IsTrue}
 use Rattle.std.specs.List.{Contains, count_by}
-use Rattle.dma_mem.specs.Places.{destinations, size_of, sources}
-use Rattle.dma_mem.specs.Regions.{in_order, pieces_of}
-use Rattle.dma_mem.specs.declared.regions.Region.{Region}
+use Rattle.dma_mem.specs.{Places.destinations, Places.size_of, Places.sources, Regions.in_order, Regions.pieces_of, declared.regions.Region.Region}
 use Rattle.dma_explain.specs.Explains.{IsAtLeast, IsSignal, IsWait, Work, cleared, events_in}
-use Rattle.dma_chan.specs.declared.exec.Registers.{Registers}
-use Rattle.dma_explain.specs.declared.explain.Amounts.{Amounts}
-use Rattle.dma_explain.specs.declared.explain.Sync.{Sync}
 use Rattle.dma_explain.specs.declared.explain.Sync.TheVariants.{Signals, Waits}
-use Rattle.dma_explain.specs.RegionsHave.{HaveAll}
-use Rattle.dma_explain.specs.Works.{IsWorked}
-use Rattle.dma_device.specs.Device.{DeviceValue, irqs}
+use Rattle.dma_explain.specs.{declared.explain.Amounts.Amounts, declared.explain.Sync.Sync, RegionsHave.HaveAll, Works.IsWorked}
+use Rattle.dma_chan.specs.declared.exec.Registers.{Registers}
 use Rattle.dma_device.specs.Dmago.{Go, RunsCopy, GivenTurns, csr_status, image_in, start_of}
-use Rattle.dma_device.specs.Interrupts.{HasLine, IsHigh}
+use Rattle.dma_device.specs.{Device.DeviceValue, Device.irqs, Interrupts.HasLine, Interrupts.IsHigh}
 
 -- Once the channel's CSR reads as stopped after a turn, the work is done from the memory at the first turn.
 abbrev pub DmagoCopies : Type 0

@@ -1,20 +1,15 @@
 -- The registers of a DMA-330 as a guest's driver sees them (DMA-330 manual, register summary), and what a write does.
-use Rattle.std.specs.Prelude.{ℕ, ◌+◌, ◌-◌, ◌*◌, ◌/◌, ◌%◌, ◌^◌, Bool, true, false, not, ◌&&◌, ◌||◌, ◌==◌, nat_le, nat_lt, List, [], ◌∷◌, take, replicate, Option, Some, None, slice_get, slice_set, bit_and, bit_or, if◌then◌else◌}
-use Rattle.std.specs.Int.{w32, bit_at, bit_not}
-use Rattle.std.specs.List.{list_any}
-use Rattle.std.specs.Option.{option_map_or}
+use Rattle.std.specs.Prelude.{ℕ, ◌+◌, ◌-◌, ◌*◌, ◌/◌, ◌%◌, ◌^◌, Bool, true, false, not, ◌&&◌, ◌||◌, ◌==◌, nat_le, nat_lt, List, [], ◌∷◌, take, replicate, Option}
+use Rattle.std.specs.Prelude.{Some, None, slice_get, slice_set, bit_and, bit_or, if◌then◌else◌}
+use Rattle.std.specs.{Int.w32, Int.bit_at, Int.bit_not, List.list_any, Option.option_map_or}
 use Rattle.dma_mem.specs.Regions.{Piece, run_from}
-use Rattle.dma_insn.specs.AssemblyText.{most_program_bytes}
-use Rattle.dma_insn.specs.ControlWord.{field, flag}
-use Rattle.dma_chan.specs.declared.exec.Registers.{Registers}
-use Rattle.dma_chan.specs.Bus.{bus_code}
-use Rattle.dma_device.specs.Config.{revision_code}
+use Rattle.dma_insn.specs.{AssemblyText.most_program_bytes, ControlWord.field, ControlWord.flag}
+use Rattle.dma_chan.specs.{declared.exec.Registers.Registers, Bus.bus_code}
+use Rattle.dma_device.specs.Thread.{is_faulting, is_stopped, status_bits, reset_thread, failed, killed, started, undef_instr, operand_invalid, dmago_err}
+use Rattle.dma_device.specs.Thread.{dbg_instr}
+use Rattle.dma_device.specs.{Config.revision_code, declared.config.Config.Config, declared.config.Revision.Revision, declared.device.Manager.Manager}
+use Rattle.dma_device.specs.{declared.thread.Thread.Thread}
 use Rattle.dma_device.specs.Offsets as offset
-use Rattle.dma_device.specs.declared.config.Config.{Config}
-use Rattle.dma_device.specs.declared.config.Revision.{Revision}
-use Rattle.dma_device.specs.declared.device.Manager.{Manager}
-use Rattle.dma_device.specs.declared.thread.Thread.{Thread}
-use Rattle.dma_device.specs.Thread.{is_faulting, is_stopped, status_bits, reset_thread, failed, killed, started, undef_instr, operand_invalid, dmago_err, dbg_instr}
 
 -- A device: its configuration; the events and the interrupts that are set; INTEN, which says for each event whether a
 -- DMASEV raises it as an interrupt; the debug registers; the manager; and the channel threads.

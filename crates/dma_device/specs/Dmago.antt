@@ -1,20 +1,14 @@
 -- A driver starts a channel by a DMAGO, and a host gives the channel turns.
-use Rattle.std.specs.Prelude.{◌≡◌, ℕ, ◌+◌, ◌*◌, ◌%◌, ◌^◌, ◌<◌, ◌≤◌, Bool, true, false, not, ◌&&◌, List, length, Some, slice_get, slice_index, slice_index_or, IsTrue}
+use Rattle.std.specs.Prelude.{◌≡◌, ℕ, ◌+◌, ◌*◌, ◌%◌, ◌^◌, ◌<◌, ◌≤◌, Bool, true, false, not, ◌&&◌, List, length, Some, slice_get, slice_index, slice_index_or}
+use Rattle.std.specs.Prelude.{IsTrue}
 use Rattle.std.specs.List.{list_any}
-use Rattle.dma_insn.specs.AssemblyText.{most_program_bytes}
-use Rattle.dma_insn.specs.ControlWord.{flag}
-use Rattle.dma_mem.specs.Limits.{most_channels}
+use Rattle.dma_insn.specs.{AssemblyText.most_program_bytes, ControlWord.flag}
 use Rattle.dma_mem.specs.Regions.{Piece, has, image_of, in_order, pieces_of}
-use Rattle.dma_mem.specs.declared.regions.Region.{Region}
-use Rattle.dma_chan.specs.declared.bus.Bus.{Bus}
-use Rattle.dma_chan.specs.declared.exec.Registers.{Registers}
-use Rattle.dma_explain.specs.Explains.{Explains, Work}
-use Rattle.dma_explain.specs.Works.{Uses, work_below}
-use Rattle.dma_device.specs.Device.{DeviceValue, read_at, written}
+use Rattle.dma_mem.specs.{Limits.most_channels, declared.regions.Region.Region}
+use Rattle.dma_chan.specs.{declared.bus.Bus.Bus, declared.exec.Registers.Registers}
+use Rattle.dma_explain.specs.{Explains.Explains, Explains.Work, Works.Uses, Works.work_below}
+use Rattle.dma_device.specs.{Device.DeviceValue, Device.read_at, Device.written, Thread.reset_thread, Turns.TakesTurn, declared.device.turns.Turn.Turn}
 use Rattle.dma_device.specs.Offsets as offset
-use Rattle.dma_device.specs.Thread.{reset_thread}
-use Rattle.dma_device.specs.Turns.{TakesTurn}
-use Rattle.dma_device.specs.declared.device.turns.Turn.{Turn}
 
 -- ---- a driver
 

@@ -1,19 +1,12 @@
 -- Events are neither lost nor invented: what sets them, and what takes them.
 use Rattle.std.specs.Prelude.{◌≡◌, ℕ, ◌<◌, ◌≤◌, Bool, true, List, Some, Ok, slice_get}
 use Rattle.dma_insn.specs.declared.chip.ChipInsn.TheVariants.{Wfe}
-use Rattle.dma_mem.specs.Marking.{MarkList}
-use Rattle.dma_mem.specs.declared.regions.Region.{Region}
-use Rattle.dma_chan.specs.Channel.{ahead_of}
-use Rattle.dma_chan.specs.Stepping.{answer_at}
-use Rattle.dma_chan.specs.declared.turn.ChanTurn.TheVariants.{Moved}
-use Rattle.dma_device.specs.declared.device.turns.Turn.{Turn}
-use Rattle.dma_device.specs.declared.thread.Status.TheVariants.{WaitingForEvent}
-use Rattle.dma_device.specs.declared.thread.Thread.{Thread}
+use Rattle.dma_mem.specs.{Marking.MarkList, declared.regions.Region.Region}
+use Rattle.dma_chan.specs.{Channel.ahead_of, Stepping.answer_at, declared.turn.ChanTurn.TheVariants.Moved}
 use Rattle.dma_device.specs.Accesses.{Access, Answer, Does, Happen, IsExact, Resets, Restores, Turns}
-use Rattle.dma_device.specs.CallSteps.{StepsThread, InTurn, machine_after, marks_in}
-use Rattle.dma_device.specs.Device.{DeviceValue}
-use Rattle.dma_device.specs.Interrupts.{HasLine, IsHigh, Signals}
-use Rattle.dma_device.specs.Turns.{Setup, TakesTurn, begins, steps_in}
+use Rattle.dma_device.specs.{declared.device.turns.Turn.Turn, declared.thread.Status.TheVariants.WaitingForEvent, declared.thread.Thread.Thread}
+use Rattle.dma_device.specs.{CallSteps.StepsThread, CallSteps.InTurn, CallSteps.machine_after, CallSteps.marks_in, Device.DeviceValue, Interrupts.HasLine}
+use Rattle.dma_device.specs.{Interrupts.IsHigh, Interrupts.Signals, Turns.Setup, Turns.TakesTurn, Turns.begins, Turns.steps_in}
 
 -- event k is set
 abbrev pub IsSet : DeviceValue → ℕ → Type 0

@@ -1,26 +1,15 @@
 -- What the program of a channel copies and sets to 0, as the device explains it, and that its turns stay in this work.
 use Rattle.std.specs.Prelude.{◌≡◌, ◌≢◌, ◌⊎◌, ℕ, ◌+◌, ◌-◌, ◌<◌, ◌≤◌, Bool, List, length, Option, Some, None, slice_get, IfSome, IsSomeAnd}
-use Rattle.std.specs.List.{Contains}
-use Rattle.std.specs.Option.{option_and_then, option_map}
-use Rattle.dma_mem.specs.Marking.{MarkList}
-use Rattle.dma_mem.specs.Places.{sources}
-use Rattle.dma_mem.specs.declared.regions.Region.{Region}
-use Rattle.dma_chan.specs.declared.exec.Registers.{Registers}
-use Rattle.dma_explain.specs.declared.explain.Cause.TheVariants.{NoMemory, TooLong}
-use Rattle.dma_explain.specs.declared.explain.Explained.{Explained}
-use Rattle.dma_explain.specs.Changes.{Holds}
-use Rattle.dma_chan.specs.Channel.{ChannelValue, code_of}
-use Rattle.dma_explain.specs.Explains.{Executes, Finds, Refuses, Work, work_of, written}
-use Rattle.dma_chan.specs.Programs.{ProgramValue}
-use Rattle.dma_chan.specs.Reads.{Reads}
-use Rattle.dma_chan.specs.Written.{LiesIn}
+use Rattle.std.specs.{List.Contains, Option.option_and_then, Option.option_map}
+use Rattle.dma_mem.specs.{Marking.MarkList, Places.sources, declared.regions.Region.Region}
+use Rattle.dma_chan.specs.{declared.exec.Registers.Registers, Channel.ChannelValue, Channel.code_of, Programs.ProgramValue, Reads.Reads, Written.LiesIn}
+use Rattle.dma_explain.specs.{declared.explain.Cause.TheVariants.NoMemory, declared.explain.Cause.TheVariants.TooLong, declared.explain.Explained.Explained}
+use Rattle.dma_explain.specs.{Changes.Holds, Explains.Executes, Explains.Finds, Explains.Refuses, Explains.Work, Explains.work_of, Explains.written}
 use Rattle.dma_device.specs.Accesses.{Access, Answer, Does, Happen, Restores, Turned, Turns}
 use Rattle.dma_device.specs.CallSteps.{StepsThread, InTurn, marks_in}
-use Rattle.dma_device.specs.Device.{DeviceValue}
 use Rattle.dma_device.specs.Turns.{Setup, TakesTurn, machine_in, steps_in}
-use Rattle.dma_device.specs.declared.device.explain.ExplainFault.{ExplainFault}
 use Rattle.dma_device.specs.declared.device.explain.ExplainFault.TheVariants.{NoChannel, NoProgram, Unexplained}
-use Rattle.dma_device.specs.declared.device.turns.Turn.{Turn}
+use Rattle.dma_device.specs.{Device.DeviceValue, declared.device.explain.ExplainFault.ExplainFault, declared.device.turns.Turn.Turn}
 
 -- channel n, if the device has it
 abbrev pub channel_of : DeviceValue → ℕ → Option ChannelValue

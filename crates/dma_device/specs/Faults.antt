@@ -1,19 +1,14 @@
 -- What makes threads faulting, and with them the line irq_abort high.
 use Rattle.std.specs.Prelude.{◌≡◌, ◌≢◌, ◌⊎◌, ◌↔◌, ℕ, ◌%◌, ◌≤◌, Bool, true, false, not, ◌&&◌, ◌==◌, List, Option, Some, None, slice_get, if◌then◌else◌}
 use Rattle.dma_insn.specs.ControlWord.{field}
-use Rattle.dma_mem.specs.Marking.{MarkList}
-use Rattle.dma_mem.specs.declared.regions.Region.{Region}
+use Rattle.dma_mem.specs.{Marking.MarkList, declared.regions.Region.Region}
 use Rattle.dma_chan.specs.declared.turn.ChanTurn.{ChanTurn}
 use Rattle.dma_chan.specs.declared.turn.ChanTurn.TheVariants.{Moved, Waiting, Ended, Fault}
-use Rattle.dma_device.specs.declared.config.Config.{Config}
-use Rattle.dma_device.specs.declared.thread.Thread.{Thread}
 use Rattle.dma_device.specs.Accesses.{Access, Answer, Does, Happen, IsExact, Resets, Restores, Turns, Writes}
-use Rattle.dma_device.specs.CallSteps.{StepsThread, InTurn, last_in, marks_in, signal_in}
-use Rattle.dma_device.specs.Device.{DeviceValue, irq_abort, is_event, read_at, reset_device}
-use Rattle.dma_device.specs.Interrupts.{IsHigh, is_fine}
+use Rattle.dma_device.specs.{declared.config.Config.Config, declared.thread.Thread.Thread, CallSteps.StepsThread, CallSteps.InTurn, CallSteps.last_in}
+use Rattle.dma_device.specs.{CallSteps.marks_in, CallSteps.signal_in, Device.DeviceValue, Device.irq_abort, Device.is_event, Device.read_at}
+use Rattle.dma_device.specs.{Device.reset_device, Interrupts.IsHigh, Interrupts.is_fine, Thread.is_faulting, Turns.Setup}
 use Rattle.dma_device.specs.Offsets as offset
-use Rattle.dma_device.specs.Thread.{is_faulting}
-use Rattle.dma_device.specs.Turns.{Setup}
 
 -- a thread: the manager, or that of channel n
 pub data Who : Type 0 where

@@ -2,17 +2,11 @@
 -- registers.
 use Rattle.std.specs.Prelude.{◌≡◌, ◌≢◌, ◌⊎◌, ℕ, ◌%◌, List, length, map, replicate, slice_get}
 use Rattle.dma_insn.specs.ControlWord.{field}
-use Rattle.dma_mem.specs.Marking.{MarkList}
-use Rattle.dma_mem.specs.Regions.{Piece, read_only_of}
-use Rattle.dma_mem.specs.declared.regions.Region.{Region}
-use Rattle.dma_chan.specs.Channel.{ChannelValue}
-use Rattle.dma_chan.specs.LentRegions.{segment_of}
-use Rattle.dma_device.specs.declared.device.turns.Turn.{Turn}
-use Rattle.dma_device.specs.declared.thread.Thread.{Thread}
-use Rattle.dma_device.specs.Device.{DeviceValue, irq_abort, irqs, read_at, written}
-use Rattle.dma_device.specs.Faults.{Addresses, TheChannel, TheManager, Who}
+use Rattle.dma_mem.specs.{Marking.MarkList, Regions.Piece, Regions.read_only_of, declared.regions.Region.Region}
+use Rattle.dma_chan.specs.{Channel.ChannelValue, LentRegions.segment_of}
+use Rattle.dma_device.specs.{declared.device.turns.Turn.Turn, declared.thread.Thread.Thread, Device.DeviceValue, Device.irq_abort, Device.irqs, Device.read_at}
+use Rattle.dma_device.specs.{Device.written, Faults.Addresses, Faults.TheChannel, Faults.TheManager, Faults.Who, Turns.Setup, Turns.TakesTurn, Turns.turned}
 use Rattle.dma_device.specs.Offsets as offset
-use Rattle.dma_device.specs.Turns.{Setup, TakesTurn, turned}
 
 -- ---- a turn
 

@@ -2,21 +2,13 @@
 use Rattle.std.specs.Prelude.{◌≡◌, ◌≢◌, ℕ, ◌+◌, ◌%◌, ◌^◌, ◌<◌, ◌≤◌, Bool, true, false, List, Some, Ok, slice_get}
 use Rattle.std.specs.List.{All, list_any}
 use Rattle.dma_mem.specs.declared.regions.Region.{Region}
-use Rattle.dma_insn.specs.ControlWord.{flag}
-use Rattle.dma_insn.specs.declared.chip.ChipInsn.TheVariants.{Wfe}
-use Rattle.dma_chan.specs.Channel.{ahead_of, last_count}
-use Rattle.dma_chan.specs.Written.{range_at}
-use Rattle.dma_device.specs.declared.config.Config.{Config}
-use Rattle.dma_device.specs.declared.device.turns.Turn.{Turn}
+use Rattle.dma_insn.specs.{ControlWord.flag, declared.chip.ChipInsn.TheVariants.Wfe}
+use Rattle.dma_chan.specs.{Channel.ahead_of, Channel.last_count, Written.range_at}
 use Rattle.dma_device.specs.Accesses.{Access, Answer, AreAlike, Does, Happen, Turned, Turns}
-use Rattle.dma_device.specs.Config.{is_valid}
-use Rattle.dma_device.specs.Device.{DeviceValue, reset_device, with_thread}
-use Rattle.dma_device.specs.Events.{IsVisible}
-use Rattle.dma_device.specs.Snapshot.{HasKnownEvents, IsDeviceValue, head_of}
-use Rattle.dma_device.specs.Thread.{IsSound, can_step, runs}
-use Rattle.dma_device.specs.Turns.{TakesTurn, begins, visible_events}
-use Rattle.dma_device.specs.declared.thread.Status.TheVariants.{WaitingForEvent}
-use Rattle.dma_device.specs.declared.thread.Thread.{Thread}
+use Rattle.dma_device.specs.{declared.config.Config.Config, declared.device.turns.Turn.Turn, Config.is_valid, Device.DeviceValue, Device.reset_device}
+use Rattle.dma_device.specs.{Device.with_thread, Events.IsVisible, Snapshot.HasKnownEvents, Snapshot.IsDeviceValue, Snapshot.head_of, Thread.IsSound}
+use Rattle.dma_device.specs.{Thread.can_step, Thread.runs, Turns.TakesTurn, Turns.begins, Turns.visible_events}
+use Rattle.dma_device.specs.{declared.thread.Status.TheVariants.WaitingForEvent, declared.thread.Thread.Thread}
 
 -- A device has at most 32 events, those that are set are among them, and each thread has a status that goes with its
 -- program.

@@ -4,11 +4,8 @@ use Rattle.std.specs.Int.{bit_at}
 use Rattle.dma_insn.specs.ControlWord.{field}
 use Rattle.dma_mem.specs.declared.regions.Region.{Region}
 use Rattle.dma_device.specs.Accesses.{Access, Answer, Happen, IsExact, Resets, Restores, Turns, Writes}
-use Rattle.dma_device.specs.Device.{DeviceValue, irqs}
+use Rattle.dma_device.specs.{Device.DeviceValue, Device.irqs, Thread.is_faulting, declared.thread.Thread.Thread, CallSteps.first_in, CallSteps.second_in}
 use Rattle.dma_device.specs.Offsets as offset
-use Rattle.dma_device.specs.Thread.{is_faulting}
-use Rattle.dma_device.specs.declared.thread.Thread.{Thread}
-use Rattle.dma_device.specs.CallSteps.{first_in, second_in}
 
 -- bit k of a number is 1
 abbrev pub IsHigh : ℕ → ℕ → Type 0

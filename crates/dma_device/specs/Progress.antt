@@ -1,26 +1,14 @@
 -- A program that copies, and that a DMAGO starts, finishes.
 use Rattle.std.specs.Prelude.{◌≡◌, ◌≢◌, ℕ, zero, suc, ◌+◌, ◌-◌, ◌<◌, ◌≤◌, ◌==◌, ◌&&◌, ◌||◌, not, Bool, true, false, Some, Result, Ok, IfSome, slice_get}
-use Rattle.std.specs.Int.{bit_at}
-use Rattle.std.specs.Option.{option_map_or}
-use Rattle.dma_insn.specs.ControlWord.{flag}
-use Rattle.dma_insn.specs.declared.chip.ChipInsn.{ChipInsn}
-use Rattle.dma_insn.specs.declared.chip.ChipInsn.TheVariants.{Wfe}
-use Rattle.dma_mem.specs.Places.{Descriptor}
-use Rattle.dma_mem.specs.Rules.{IsTransfer}
-use Rattle.dma_chan.specs.Channel.{ahead_of}
-use Rattle.dma_chan.specs.Compiled.{compiled_on, cost_on}
+use Rattle.std.specs.{Int.bit_at, Option.option_map_or}
+use Rattle.dma_insn.specs.{ControlWord.flag, declared.chip.ChipInsn.ChipInsn, declared.chip.ChipInsn.TheVariants.Wfe}
+use Rattle.dma_mem.specs.{Places.Descriptor, Rules.IsTransfer}
+use Rattle.dma_chan.specs.{Channel.ahead_of, Compiled.compiled_on, Compiled.cost_on, declared.turn.FaultKind.FaultKind}
 use Rattle.dma_explain.specs.Explains.{IsIn, IsSignal, IsWait, Work, all_of, only}
 use Rattle.dma_explain.specs.declared.explain.Amounts.{Amounts}
-use Rattle.dma_chan.specs.declared.turn.FaultKind.{FaultKind}
-use Rattle.dma_device.specs.Copies.{DeviceHasEvents, IsFit}
-use Rattle.dma_device.specs.Device.{DeviceValue, irqs}
 use Rattle.dma_device.specs.Dmago.{Go, RunsCopy, GivenTurns, bus_of, csr_status, start_of}
-use Rattle.dma_device.specs.Events.{IsVisible}
-use Rattle.dma_device.specs.Idle.{IsAtWait}
-use Rattle.dma_device.specs.Interrupts.{HasLine, IsHigh}
-use Rattle.dma_device.specs.Thread.{runs}
-use Rattle.dma_device.specs.Turns.{visible_events}
-use Rattle.dma_device.specs.declared.thread.Thread.{Thread}
+use Rattle.dma_device.specs.{Copies.DeviceHasEvents, Copies.IsFit, Device.DeviceValue, Device.irqs, Events.IsVisible, Idle.IsAtWait, Interrupts.HasLine}
+use Rattle.dma_device.specs.{Interrupts.IsHigh, Thread.runs, Turns.visible_events, declared.thread.Thread.Thread}
 
 -- If the channel's next instruction is a DMAWFE, and it has executed at least `least` instructions before, then it
 -- doesn't wait: the event is set, and INTEN makes it an event.

@@ -2,20 +2,13 @@
 -- it names.
 use Rattle.std.specs.Prelude.{◌≡◌, ◌≢◌, ℕ, ◌+◌, ◌*◌, ◌%◌, ◌^◌, ◌<◌, ◌≤◌, Some, IsTrue, slice_get}
 use Rattle.dma_mem.specs.Regions.{in_order, pieces_of}
-use Rattle.dma_chan.specs.Channel.{last_count}
-use Rattle.dma_chan.specs.Exec.{fault_bit}
-use Rattle.dma_explain.specs.Refusals.{fault_of_cause}
-use Rattle.dma_explain.specs.declared.explain.Unexplained.{Unexplained}
-use Rattle.dma_chan.specs.declared.turn.FaultKind.{FaultKind}
-use Rattle.dma_device.specs.Copies.{DeviceHasEvents}
+use Rattle.dma_chan.specs.{Channel.last_count, Exec.fault_bit, declared.turn.FaultKind.FaultKind}
+use Rattle.dma_explain.specs.{Refusals.fault_of_cause, declared.explain.Unexplained.Unexplained}
 use Rattle.dma_device.specs.Device.{DeviceValue, of_thread, program_at, read_at}
 use Rattle.dma_device.specs.Dmago.{Go, GivenTurns, MayGo, csr_status, image_in, started_by}
-use Rattle.dma_device.specs.Explaining.{FailsFor}
+use Rattle.dma_device.specs.{Copies.DeviceHasEvents, Explaining.FailsFor, Progress.vain, Turns.TakesTurn, declared.device.turns.Turn.Turn}
 use Rattle.dma_device.specs.Offsets as offset
-use Rattle.dma_device.specs.Progress.{vain}
-use Rattle.dma_device.specs.Turns.{TakesTurn}
 use Rattle.dma_device.specs.declared.device.explain.ExplainFault.TheVariants.{Unexplained as Refused}
-use Rattle.dma_device.specs.declared.device.turns.Turn.{Turn}
 
 -- A driver starts a program by a DMAGO, and `Device::explain` then refuses it for a fault, with a limit below 2^32.
 -- Then a host gives the channel turns, each over regions that are in order. Before each turn anything may happen to the

@@ -1,13 +1,9 @@
 -- A device with the memory that a host lends it, and what accesses make of them, step by step.
 use Rattle.std.specs.Prelude.{◌≡◌, ℕ, zero, suc, ◌+◌, ◌-◌, ◌<◌, ◌≤◌, List, [], ◌∷◌, ◌++◌, length, take, drop, slice_set}
-use Rattle.dma_mem.specs.Lent.{marks_at, stores_at}
-use Rattle.dma_mem.specs.Marking.{MarkList}
 use Rattle.dma_mem.specs.Regions.{Piece, end_of, gaps_of, image_of, pieces_of, read_only_of}
-use Rattle.dma_mem.specs.declared.regions.Region.{Region}
-use Rattle.dma_mem.specs.declared.segment.Segment.{Segment}
+use Rattle.dma_mem.specs.{Lent.marks_at, Lent.stores_at, Marking.MarkList, declared.regions.Region.Region, declared.segment.Segment.Segment}
 use Rattle.dma_device.specs.Accesses.{Access, Answer, AreAlike, Done, Happen, Reads, Resets, Restores, Stores, Turned, Turns, Value, Writes}
-use Rattle.dma_device.specs.Device.{DeviceValue, read_at, reset_device, written}
-use Rattle.dma_device.specs.Turns.{turned}
+use Rattle.dma_device.specs.{Device.DeviceValue, Device.read_at, Device.reset_device, Device.written, Turns.turned}
 
 -- Lent memory: its pieces, and the segments of those that are read-only.
 pub record Ram : Type 0 where

@@ -1,16 +1,10 @@
 -- The bytes of a saved device. Numbers of several bytes are little-endian.
 use Rattle.std.specs.Prelude.{◌≡◌, ◌≢◌, ◌⊎◌, ℕ, ◌^◌, ◌<◌, ◌≤◌, true, List, [], ◌∷◌, ◌++◌, length, take, drop, slice_index, slice_set}
-use Rattle.std.specs.Int.{w16, w32, to_le_bytes}
-use Rattle.std.specs.List.{All, flat_map}
+use Rattle.std.specs.{Int.w16, Int.w32, Int.to_le_bytes, List.All, List.flat_map}
 use Rattle.dma_insn.specs.ControlWord.{flag}
-use Rattle.dma_chan.specs.Saved.{AreBytes, IsChannelValue, saved, sealed}
-use Rattle.dma_device.specs.declared.config.Config.{Config}
-use Rattle.dma_device.specs.declared.save.head.Head.{Head}
-use Rattle.dma_device.specs.declared.thread.Thread.{Thread}
-use Rattle.dma_chan.specs.Bus.{bus_code}
-use Rattle.dma_device.specs.Config.{is_valid, revision_code}
-use Rattle.dma_device.specs.Device.{DeviceValue, csr}
-use Rattle.dma_device.specs.Thread.{IsOn, IsSound}
+use Rattle.dma_chan.specs.{Saved.AreBytes, Saved.IsChannelValue, Saved.saved, Saved.sealed, Bus.bus_code}
+use Rattle.dma_device.specs.{declared.config.Config.Config, declared.save.head.Head.Head, declared.thread.Thread.Thread, Config.is_valid, Config.revision_code}
+use Rattle.dma_device.specs.{Device.DeviceValue, Device.csr, Thread.IsOn, Thread.IsSound}
 
 -- ---- what every device satisfies
 

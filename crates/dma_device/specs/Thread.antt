@@ -1,19 +1,14 @@
 -- A channel thread: its status and its fault, and what a call of its channel makes of them.
-use Rattle.std.specs.Prelude.{◌≡◌, ℕ, ◌+◌, ◌-◌, ◌*◌, ◌%◌, ◌^◌, Bool, true, false, not, ◌&&◌, ◌==◌, nat_lt, List, Option, Some, None, Result, Ok, is_some, if◌then◌else◌}
+use Rattle.std.specs.Prelude.{◌≡◌, ℕ, ◌+◌, ◌-◌, ◌*◌, ◌%◌, ◌^◌, Bool, true, false, not, ◌&&◌, ◌==◌, nat_lt, List, Option, Some, None, Result, Ok, is_some}
+use Rattle.std.specs.Prelude.{if◌then◌else◌}
 use Rattle.std.specs.Int.{bit_at}
-use Rattle.dma_insn.specs.declared.chip.ChipInsn.{ChipInsn}
-use Rattle.dma_insn.specs.declared.chip.ChipInsn.TheVariants.{Wfe}
-use Rattle.dma_chan.specs.declared.bus.BusWidth.{BusWidth}
-use Rattle.dma_chan.specs.declared.bus.Bus.TheVariants.{Chip}
-use Rattle.dma_chan.specs.Bus.{fits}
+use Rattle.dma_insn.specs.{declared.chip.ChipInsn.ChipInsn, declared.chip.ChipInsn.TheVariants.Wfe}
 use Rattle.dma_chan.specs.Channel.{ahead_of, last_count, loaded_with, unloaded_on}
-use Rattle.dma_chan.specs.Exec.{fault_bit}
-use Rattle.dma_chan.specs.declared.turn.ChanTurn.{ChanTurn}
 use Rattle.dma_chan.specs.declared.turn.ChanTurn.TheVariants.{Moved, Waiting, Ended, Fault}
-use Rattle.dma_chan.specs.declared.turn.FaultKind.{FaultKind}
-use Rattle.dma_device.specs.declared.thread.Status.{Status}
+use Rattle.dma_chan.specs.{declared.bus.BusWidth.BusWidth, declared.bus.Bus.TheVariants.Chip, Bus.fits, Exec.fault_bit, declared.turn.ChanTurn.ChanTurn}
+use Rattle.dma_chan.specs.{declared.turn.FaultKind.FaultKind}
 use Rattle.dma_device.specs.declared.thread.Status.TheVariants.{Stopped, Executing, WaitingForEvent, Faulting}
-use Rattle.dma_device.specs.declared.thread.Thread.{Thread}
+use Rattle.dma_device.specs.{declared.thread.Status.Status, declared.thread.Thread.Thread}
 
 -- ---- faults (DMA-330 manual, fault type registers)
 

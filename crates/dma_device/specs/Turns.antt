@@ -1,22 +1,13 @@
 -- What a turn of a channel does.
 use Rattle.std.specs.Prelude.{◌≡◌, ℕ, ◌+◌, ◌*◌, Bool, false, not, ◌&&◌, ◌==◌, nat_lt, List, [], ◌∷◌, Option, None, slice_get, bit_and, bit_or, if◌then◌else◌}
-use Rattle.std.specs.Int.{w32, bit_not}
-use Rattle.std.specs.Option.{option_map_or}
+use Rattle.std.specs.{Int.w32, Int.bit_not, Option.option_map_or}
 use Rattle.dma_insn.specs.ControlWord.{flag}
-use Rattle.dma_mem.specs.Flags.{flags_of}
-use Rattle.dma_mem.specs.Marking.{MarkList}
 use Rattle.dma_mem.specs.Regions.{image_of, pieces_of}
-use Rattle.dma_mem.specs.Steps.{taken_in}
-use Rattle.dma_mem.specs.declared.regions.Region.{Region}
-use Rattle.dma_mem.specs.declared.segment.Segment.{Segment}
-use Rattle.dma_chan.specs.LentRegions.{AreKept, with_gaps_of}
+use Rattle.dma_mem.specs.{Flags.flags_of, Marking.MarkList, Steps.taken_in, declared.regions.Region.Region, declared.segment.Segment.Segment}
 use Rattle.dma_chan.specs.Stepping.{Machine, after_steps, last_of, machine, more_after, signal_after, written_after}
-use Rattle.dma_chan.specs.Written.{adjoins, joined, range_at, store_ahead}
-use Rattle.dma_device.specs.declared.thread.Thread.{Thread}
-use Rattle.dma_device.specs.declared.device.turns.Called.{Called}
-use Rattle.dma_device.specs.declared.device.turns.Turn.{Turn}
+use Rattle.dma_chan.specs.{LentRegions.AreKept, LentRegions.with_gaps_of, Written.adjoins, Written.joined, Written.range_at, Written.store_ahead}
 use Rattle.dma_device.specs.Device.{DeviceValue, all_events, irq_abort, irqs, is_interrupt, with_thread}
-use Rattle.dma_device.specs.Thread.{answered, runs}
+use Rattle.dma_device.specs.{declared.thread.Thread.Thread, declared.device.turns.Called.Called, declared.device.turns.Turn.Turn, Thread.answered, Thread.runs}
 
 -- The flags that a channel sees: the events that are set. While INTEN makes an event an interrupt, channels don't see
 -- it (profile). A DMAWFE that passes clears its event, so one DMASEV wakes one waiting channel, the first that is

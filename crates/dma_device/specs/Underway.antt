@@ -2,12 +2,8 @@
 -- migration.
 use Rattle.std.specs.Prelude.{◌≡◌, ℕ, ◌+◌, ◌<◌, List, Some, slice_get}
 use Rattle.dma_chan.specs.Channel.{ChannelValue}
-use Rattle.dma_explain.specs.Changes.{HasFirst, bytes_in}
-use Rattle.dma_explain.specs.Explains.{IsReached, Work}
-use Rattle.dma_explain.specs.declared.explain.Amounts.{Amounts}
-use Rattle.dma_device.specs.Dmago.{Go, GivenTurns, RunsCopy, image_in, start_of}
-use Rattle.dma_device.specs.Thread.{killed}
-use Rattle.dma_device.specs.declared.thread.Thread.{Thread}
+use Rattle.dma_explain.specs.{Changes.HasFirst, Changes.bytes_in, Explains.IsReached, Explains.Work, declared.explain.Amounts.Amounts}
+use Rattle.dma_device.specs.{Dmago.Go, Dmago.GivenTurns, Dmago.RunsCopy, Dmago.image_in, Dmago.start_of, Thread.killed, declared.thread.Thread.Thread}
 
 -- ---- what is done
 

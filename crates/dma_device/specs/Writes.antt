@@ -1,17 +1,10 @@
 -- What a turn of a channel writes.
-use Rattle.std.specs.Prelude.{◌≡◌, ℕ, Bool, false, List, IsTrue, map}
-use Rattle.std.specs.List.{list_any}
-use Rattle.dma_mem.specs.Lent.{lies_in_any}
-use Rattle.dma_mem.specs.Marking.{MarkList}
+use Rattle.std.specs.{Prelude.◌≡◌, Prelude.ℕ, Prelude.Bool, Prelude.false, Prelude.List, Prelude.IsTrue, Prelude.map, List.list_any}
 use Rattle.dma_mem.specs.Regions.{has, image_of, in_order, names_of, pieces_of, read_only_of}
-use Rattle.dma_mem.specs.declared.regions.Region.{Region}
-use Rattle.dma_chan.specs.LentRegions.{segment_of}
-use Rattle.dma_chan.specs.Stepping.{Wrote}
-use Rattle.dma_chan.specs.Written.{KeepsOutside, LiesIn}
-use Rattle.dma_device.specs.declared.device.turns.Turn.{Turn}
-use Rattle.dma_device.specs.CallSteps.{StepsThread, InTurn, marks_in}
-use Rattle.dma_device.specs.Device.{DeviceValue}
+use Rattle.dma_mem.specs.{Lent.lies_in_any, Marking.MarkList, declared.regions.Region.Region}
+use Rattle.dma_chan.specs.{LentRegions.segment_of, Stepping.Wrote, Written.KeepsOutside, Written.LiesIn}
 use Rattle.dma_device.specs.Turns.{Setup, TakesTurn, machine_in, steps_in}
+use Rattle.dma_device.specs.{declared.device.turns.Turn.Turn, CallSteps.StepsThread, CallSteps.InTurn, CallSteps.marks_in, Device.DeviceValue}
 
 -- one of the steps of a call of channel `n` wrote an address
 abbrev pub CallWrote : MarkList → ℕ → ℕ → Bool → ℕ → Setup → Type 0

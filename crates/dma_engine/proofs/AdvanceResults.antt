@@ -1,25 +1,16 @@
 -- Consecutive steps of a channel, taken apart: the result of each, and what they add.
-use Rattle.std.proofs.Common.{◌≡◌, ℕ, zero, suc, ◌+◌, ◌*◌, ◌<◌, ◌≤◌, List, [], ◌∷◌, ◌++◌, Option, Some, None, length, map, sum_by, refl, ap, sym, ◌∙◌, subst, arith, append-nil, append_assoc}
-use Rattle.std.specs.Prelude.{if◌then◌else◌, is_some, replicate, Result, Ok}
-use Rattle.std.specs.Option.{option_map_or}
-use Rattle.std.proofs.lemmas.List.{length-append, length-replicate}
-use Rattle.std.proofs.lemmas.List.Folds.{sum_by-replicate}
-use Rattle.std.proofs.lemmas.List.Sums.{sum_by-cons, sum_by_push}
+use Rattle.std.proofs.Common.{◌≡◌, ℕ, zero, suc, ◌+◌, ◌*◌, ◌<◌, ◌≤◌, List, [], ◌∷◌, ◌++◌, Option, Some, None, length, map, sum_by, refl, ap, sym, ◌∙◌, subst}
+use Rattle.std.proofs.Common.{arith, append-nil, append_assoc}
+use Rattle.std.specs.{Prelude.if◌then◌else◌, Prelude.is_some, Prelude.replicate, Prelude.Result, Prelude.Ok, Option.option_map_or}
+use Rattle.std.proofs.{lemmas.List.length-append, lemmas.List.length-replicate, lemmas.List.Folds.sum_by-replicate, lemmas.List.Sums.sum_by-cons}
+use Rattle.std.proofs.{lemmas.List.Sums.sum_by_push}
 use Rattle.dma_mem.specs.declared.call.Call.TheVariants.{Step}
-use Rattle.dma_engine.specs.declared.call.Reply.TheVariants.{Turned}
-use Rattle.dma_engine.specs.declared.fault.EngineFault.{EngineFault}
-use Rattle.dma_engine.specs.declared.turn.Advanced.{Advanced}
-use Rattle.dma_engine.specs.declared.turn.Turn.{Turn}
-use Rattle.dma_engine.specs.declared.turn.Turn.TheVariants.{Started, Moved}
 use Rattle.dma_engine.specs.Advance.{EndsWith, IsAdvance, after_steps, finishes_counted, steps_before, steps_counted, steps_taken, ticks_counted}
 use Rattle.dma_engine.specs.Answer.{CallAnswers, StepAnswers, answer, answers, reply_of}
-use Rattle.dma_engine.specs.Laws.{Adds, ticks_in}
-use Rattle.dma_engine.specs.Object.{finished_all}
-use Rattle.dma_engine.specs.Ticks.{Tick, ticks_of}
-use Rattle.dma_engine.specs.Turn.{finishes_in, steps_in}
-use Rattle.dma_engine.specs.View.{View, object_of}
-use Rattle.dma_engine.proofs.AnswerCounts.{steps_add}
-use Rattle.dma_engine.proofs.JoinedCalls.{answer_is_one}
+use Rattle.dma_engine.specs.{declared.call.Reply.TheVariants.Turned, declared.fault.EngineFault.EngineFault, declared.turn.Advanced.Advanced}
+use Rattle.dma_engine.specs.{declared.turn.Turn.Turn, declared.turn.Turn.TheVariants.Started, declared.turn.Turn.TheVariants.Moved, Laws.Adds, Laws.ticks_in}
+use Rattle.dma_engine.specs.{Object.finished_all, Ticks.Tick, Ticks.ticks_of, Turn.finishes_in, Turn.steps_in, View.View, View.object_of}
+use Rattle.dma_engine.proofs.{AnswerCounts.steps_add, JoinedCalls.answer_is_one}
 
 abbrev Results : Type 0
 Results = List (Result Turn EngineFault)
@@ -54,7 +45,8 @@ map_replicate f zero x = refl
 map_replicate f (suc n) x = ap (λ l. f x ∷ l) (map_replicate f n x)
 
 -- steps with these replies
-replied_steps : (rs : List (Result Turn EngineFault)) (v : View) (ch : ℕ) → (answers v (replicate (length rs) (Step ch))).0 ≡ map (reply_of Turned) rs → AreSteps v ch rs (after_steps v ch (length rs))
+replied_steps : (rs : List (Result Turn EngineFault)) (v : View) (ch : ℕ) → (answers v (replicate (length rs) (Step ch))).0 ≡ map (reply_of Turned) rs
+    → AreSteps v ch rs (after_steps v ch (length rs))
 replied_steps [] v ch is = refl
 replied_steps (r ∷ rs) v ch is =
     let next = (answer v (Step ch)).1 in
@@ -62,7 +54,8 @@ replied_steps (r ∷ rs) v ch is =
     let rest : (answers next (replicate (length rs) (Step ch))).0 ≡ map (reply_of Turned) rs = cc is in
     (next, subst (λ x. CallAnswers v (Step ch) x next) first (answer_is_one v (Step ch)), replied_steps rs next ch rest)
 
-one_step_more : (rs : List (Result Turn EngineFault)) (v u w : View) (ch : ℕ) (r : Result Turn EngineFault) → AreSteps v ch rs u → StepAnswers u ch r w → AreSteps v ch (rs ++ r ∷ []) w
+one_step_more : (rs : List (Result Turn EngineFault)) (v u w : View) (ch : ℕ) (r : Result Turn EngineFault) → AreSteps v ch rs u → StepAnswers u ch r w
+    → AreSteps v ch (rs ++ r ∷ []) w
 one_step_more [] v u w ch r same h = (w, subst (λ x. StepAnswers x ch r w) same h, refl)
 one_step_more (x ∷ rs) v u w ch r (next, first, rest) h = (next, first, one_step_more rs next u w ch r rest h)
 
@@ -70,11 +63,13 @@ before_length : (o : Option ℕ) (m : ℕ) → length (results_before o m) ≡ (
 before_length None m = length-replicate {A = Result Turn EngineFault} m (Ok Moved) ∙ omega arith
 before_length (Some cookie) m = omega (arith, length-replicate {A = Result Turn EngineFault} m (Ok Moved))
 
-before_replies : (o : Option ℕ) (m : ℕ) → map (reply_of Turned) (results_before o m) ≡ option_map_or (λ cookie. Turned (Started cookie) ∷ []) o [] ++ replicate m (Turned Moved)
+before_replies : (o : Option ℕ) (m : ℕ)
+    → map (reply_of Turned) (results_before o m) ≡ option_map_or (λ cookie. Turned (Started cookie) ∷ []) o [] ++ replicate m (Turned Moved)
 before_replies None m = map_replicate (reply_of Turned) m (Ok Moved)
 before_replies (Some cookie) m = ap (λ l. Turned (Started cookie) ∷ l) (map_replicate (reply_of Turned) m (Ok Moved))
 
-last_step : (o : Option (Result Turn EngineFault)) (rs : List (Result Turn EngineFault)) (v u w : View) (ch n most : ℕ) → AreSteps v ch rs u → EndsWith u ch n most o w → AreSteps v ch (rs ++ last_results o) w
+last_step : (o : Option (Result Turn EngineFault)) (rs : List (Result Turn EngineFault)) (v u w : View) (ch n most : ℕ) → AreSteps v ch rs u
+    → EndsWith u ch n most o w → AreSteps v ch (rs ++ last_results o) w
 last_step None rs v u w ch n most h e = subst (λ l. AreSteps v ch l w) (sym (append-nil rs)) (subst (AreSteps v ch rs) (sym e.1) h)
 last_step (Some r) rs v u w ch n most h e = one_step_more rs v u w ch r h e.2
 
@@ -91,16 +86,19 @@ advance_steps v w ch most a h =
 
 pub results_length : (a : Advanced) → length (results_of a) ≡ steps_taken a
 results_length a = length-append (results_before a.started a.moved) _ ∙ by a.last where
-  by : (o : Option (Result Turn EngineFault)) → length (results_before a.started a.moved) + length (last_results o) ≡ steps_before a + (if is_some o then 1 else 0)
+  by : (o : Option (Result Turn EngineFault))
+      → length (results_before a.started a.moved) + length (last_results o) ≡ steps_before a + (if is_some o then 1 else 0)
   by None = omega (arith, before_length a.started a.moved)
   by (Some r) = omega (arith, before_length a.started a.moved)
 
 -- a count of results that is one for a move and none for a start
-sums : (f : Result Turn EngineFault → ℕ) (m : ℕ) (o : Option ℕ) → ((cookie : ℕ) → f (Ok (Started cookie)) ≡ 0) → sum_by f (results_before o m) ≡ m * f (Ok Moved)
+sums : (f : Result Turn EngineFault → ℕ) (m : ℕ) (o : Option ℕ) → ((cookie : ℕ) → f (Ok (Started cookie)) ≡ 0)
+    → sum_by f (results_before o m) ≡ m * f (Ok Moved)
 sums f m None none = sum_by-replicate f m (Ok Moved)
 sums f m (Some cookie) none = omega (arith, sum_by-cons f (Ok (Started cookie)) (replicate m (Ok Moved)), none cookie, sum_by-replicate f m (Ok Moved))
 
-with_last : (f : Result Turn EngineFault → ℕ) (rs : List (Result Turn EngineFault)) (o : Option (Result Turn EngineFault)) → sum_by f (rs ++ last_results o) ≡ sum_by f rs + option_map_or f o 0
+with_last : (f : Result Turn EngineFault → ℕ) (rs : List (Result Turn EngineFault)) (o : Option (Result Turn EngineFault))
+    → sum_by f (rs ++ last_results o) ≡ sum_by f rs + option_map_or f o 0
 with_last f rs None = ap (sum_by f) (append-nil rs) ∙ omega arith
 with_last f rs (Some r) = sum_by_push f rs r
 
@@ -116,7 +114,8 @@ ticks_in_all : ℕ → List (Result Turn EngineFault) → List Tick
 ticks_in_all ch [] = []
 ticks_in_all ch (r ∷ rs) = ticks_in ch r ++ ticks_in_all ch rs
 
-steps_add_all : (rs : List (Result Turn EngineFault)) (v w : View) (ch : ℕ) → AreSteps v ch rs w → Adds v w (ticks_in_all ch rs) (sum_by steps_in rs) (sum_by finishes_in rs)
+steps_add_all : (rs : List (Result Turn EngineFault)) (v w : View) (ch : ℕ) → AreSteps v ch rs w
+    → Adds v w (ticks_in_all ch rs) (sum_by steps_in rs) (sum_by finishes_in rs)
 unfolding ticks_in_all
 steps_add_all [] v w ch same = record {
   ticks = ap (λ (x : View). ticks_of x.history) same ∙ sym (append-nil (ticks_of v.history));
@@ -162,6 +161,7 @@ advance_adds v w ch most a h =
 -- at most `most` steps, and at least one if that is above 0
 pub advance_count : (v w : View) (ch most : ℕ) (a : Advanced) → IsAdvance v ch most a w → (steps_taken a ≤ most) × (0 < most → 0 < steps_taken a)
 advance_count v w ch most a h = by a.last h.last where
-  by : (o : Option (Result Turn EngineFault)) → EndsWith (after_steps v ch (steps_before a)) ch (steps_before a) most o w → (steps_before a + (if is_some o then 1 else 0) ≤ most) × (0 < most → 0 < steps_before a + (if is_some o then 1 else 0))
+  by : (o : Option (Result Turn EngineFault)) → EndsWith (after_steps v ch (steps_before a)) ch (steps_before a) most o w
+      → (steps_before a + (if is_some o then 1 else 0) ≤ most) × (0 < most → 0 < steps_before a + (if is_some o then 1 else 0))
   by None e = (omega (arith, e.0), λ some. omega (arith, e.0, some))
   by (Some r) e = (omega (arith, e.0), λ some. omega arith)

@@ -1,30 +1,24 @@
 -- What each answer adds to the ticks, to the step count and to the number of finished cookies.
-use Rattle.std.proofs.Common.{◌≡◌, ℕ, ◌+◌, ◌<◌, List, [], ◌∷◌, ◌++◌, length, map, Option, Some, None, true, false, refl, ap, sym, ◌∙◌, subst, arith, append-nil, inl, inr}
+use Rattle.std.proofs.Common.{◌≡◌, ℕ, ◌+◌, ◌<◌, List, [], ◌∷◌, ◌++◌, length, map, Option, Some, None, true, false, refl, ap, sym, ◌∙◌, subst, arith, append-nil}
+use Rattle.std.proofs.Common.{inl, inr}
 use Rattle.std.specs.Prelude.{slice_set, Result, Ok, sum}
 use Rattle.std.proofs.lemmas.List.{map-set, set-get_or, length_push}
-use Rattle.std.proofs.lemmas.List.Sums.{sum_by-set, sum-map}
-use Rattle.std.proofs.Math.ListN.{get_or-map}
-use Rattle.dma_mem.specs.Places.{Descriptor}
+use Rattle.std.proofs.{lemmas.List.Sums.sum_by-set, lemmas.List.Sums.sum-map, Math.ListN.get_or-map}
+use Rattle.dma_mem.specs.{Places.Descriptor, declared.call.Call.Call}
 use Rattle.dma_chan.specs.Traffic.{stored_after}
-use Rattle.dma_mem.specs.declared.call.Call.{Call}
-use Rattle.dma_mem.specs.declared.call.Call.TheVariants.{Write, Read, Issue, Pause, Resume, Status, Result as ResultOf, Mark, Unmark, Raise}
-use Rattle.dma_engine.specs.declared.call.Reply.{Reply}
-use Rattle.dma_engine.specs.declared.call.Reply.TheVariants.{Done}
-use Rattle.dma_engine.specs.declared.entry.Entry.{Entry}
-use Rattle.dma_engine.specs.declared.entry.Entry.TheVariants.{Wrote, ReadBack, Submitted as SubmittedEntry, Issued, Passed, Signalled, Finished as FinishedEntry, Terminated, Marked, Unmarked}
-use Rattle.dma_engine.specs.declared.entry.Signaller.TheVariants.{Channel, Host}
-use Rattle.dma_engine.specs.declared.fault.EngineFault.{EngineFault}
-use Rattle.dma_engine.specs.declared.outcome.TransResult.{TransResult}
-use Rattle.dma_engine.specs.declared.turn.Turn.{Turn}
-use Rattle.dma_engine.specs.declared.turn.Turn.TheVariants.{Moved, Finished as FinishedTurn}
-use Rattle.dma_engine.specs.Object.{Object, ChannelState, after, channel, empty_channel, with_channel, with_flag, with_front_laid, with_outcome, finished, finished_all, front_of, outcome_of}
-use Rattle.dma_engine.specs.Ticks.{Submitted, Finished, ticks_of}
-use Rattle.dma_engine.specs.View.{View, object_of, channels}
+use Rattle.dma_engine.specs.Object.{Object, ChannelState, after, channel, empty_channel, with_channel, with_flag, with_front_laid, with_outcome, finished}
+use Rattle.dma_engine.specs.Object.{finished_all, front_of, outcome_of}
 use Rattle.dma_engine.specs.Turn.{Stepped, turn, ends, steps_in, finishes_in, next_moved, finishes, with_entry}
 use Rattle.dma_engine.specs.Answer.{CallAnswers, answer, unless, write_fault, read_fault, channel_fault, mark_fault, raise_fault, with_pause}
 use Rattle.dma_engine.specs.Laws.{Adds, SameCounts, IsQuiet, QuietCallsKeepCounts, StepsAdd, EndsByTurn, ticks_in}
-use Rattle.dma_engine.proofs.Histories.{object_after_append}
-use Rattle.dma_engine.proofs.Turns.{answer_is, step_is_law, turn_cases}
+use Rattle.dma_engine.specs.{declared.call.Reply.Reply, declared.call.Reply.TheVariants.Done, declared.entry.Entry.Entry}
+use Rattle.dma_engine.specs.{declared.entry.Signaller.TheVariants.Channel, declared.entry.Signaller.TheVariants.Host, declared.fault.EngineFault.EngineFault}
+use Rattle.dma_engine.specs.{declared.outcome.TransResult.TransResult, declared.turn.Turn.Turn, Ticks.Submitted, Ticks.Finished, Ticks.ticks_of, View.View}
+use Rattle.dma_engine.specs.{View.object_of, View.channels}
+use Rattle.dma_engine.proofs.{Histories.object_after_append, Turns.answer_is, Turns.step_is_law, Turns.turn_cases}
+use Rattle.dma_mem.specs.declared.call.Call.TheVariants.{Write, Read, Issue, Pause, Resume, Status, Result as ResultOf, Mark, Unmark, Raise}
+use Rattle.dma_engine.specs.declared.entry.Entry.TheVariants.{Wrote, ReadBack, Submitted as SubmittedEntry, Issued, Passed, Signalled, Finished as FinishedEntry, Terminated, Marked, Unmarked}
+use Rattle.dma_engine.specs.declared.turn.Turn.TheVariants.{Moved, Finished as FinishedTurn}
 
 -- ---- lists of ticks
 
@@ -37,13 +31,15 @@ ticks_append (e ∷ xs) ys = ticks_append xs ys
 
 -- ---- the number of finished cookies
 
-pub finished_with : (o : Object) (ch : ℕ) (c : ChannelState) → ch < length o.channels → finished_all (with_channel o ch c) + finished (channel o ch) ≡ finished_all o + finished c
+pub finished_with : (o : Object) (ch : ℕ) (c : ChannelState) → ch < length o.channels
+    → finished_all (with_channel o ch c) + finished (channel o ch) ≡ finished_all o + finished c
 finished_with o ch c less = sum_by-set finished o.channels ch c empty_channel less
 
 pub finished_same : (o : Object) (ch : ℕ) (c : ChannelState) → finished c ≡ finished (channel o ch) → finished_all (with_channel o ch c) ≡ finished_all o
 finished_same o ch c e =
     sym (sum-map finished (slice_set o.channels ch c))
-    ∙ ap sum (map-set finished o.channels ch c ∙ ap (slice_set (map finished o.channels) ch) (e ∙ sym (get_or-map finished o.channels ch empty_channel)) ∙ set-get_or (map finished o.channels) ch 0)
+    ∙ ap sum (map-set finished o.channels ch c ∙ ap (slice_set (map finished o.channels) ch) (e ∙ sym (get_or-map finished o.channels ch empty_channel))
+    ∙ set-get_or (map finished o.channels) ch 0)
     ∙ sum-map finished o.channels
 
 -- ---- what an answer keeps

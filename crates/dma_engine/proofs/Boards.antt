@@ -1,22 +1,17 @@
 -- The counts of cookies: what bounds them, and that the ticks of a history add up to them.
 use Rattle.std.proofs.Common.{◌≡◌, ℕ, ◌+◌, ◌≤◌, List, [], ◌∷◌, ◌++◌, length, drop, true, false, refl, ap, sym, ◌∙◌, arith, inl, inr, ◌⊎◌, suc}
 use Rattle.std.specs.Prelude.{slice_set}
-use Rattle.std.proofs.lemmas.Bool.{cases_eq, cases_lt}
-use Rattle.std.proofs.lemmas.List.{map-set, length-set, length-map, length-drop, length-append, length_push, get_or-set_same, get_or-set_other, get_or_past, set-get_or}
-use Rattle.std.proofs.Math.ListN.{get_or-map}
+use Rattle.std.proofs.lemmas.List.{map-set, length-set, length-map, length-drop, length-append, length_push, get_or-set_same, get_or-set_other, get_or_past}
+use Rattle.std.proofs.lemmas.List.{set-get_or}
+use Rattle.std.proofs.{lemmas.Bool.cases_eq, lemmas.Bool.cases_lt, Math.ListN.get_or-map}
 use Rattle.dma_mem.specs.Places.{Descriptor}
-use Rattle.dma_engine.specs.declared.entry.Entry.{Entry}
 use Rattle.dma_engine.specs.declared.entry.Entry.TheVariants.{Submitted, Issued, Passed, Signalled, Finished, Terminated}
-use Rattle.dma_engine.specs.declared.entry.Signaller.TheVariants.{Channel}
-use Rattle.dma_engine.specs.declared.outcome.TransResult.{TransResult}
-use Rattle.dma_engine.specs.declared.outcome.TransResult.TheVariants.{Aborted}
-use Rattle.dma_engine.specs.Object.{Object, ChannelState, Allows, after, channel, empty_channel, with_channel, used, finished, last_cookie, aborted, IsBase, FrontIs, outcome_of, front_of, with_flag, with_front_laid}
-use Rattle.dma_engine.specs.History.{object_after, IsLegal}
+use Rattle.dma_engine.specs.Object.{Object, ChannelState, Allows, after, channel, empty_channel, with_channel, used, finished, last_cookie, aborted, IsBase}
+use Rattle.dma_engine.specs.Object.{FrontIs, outcome_of, front_of, with_flag, with_front_laid}
 use Rattle.dma_engine.specs.Ticks.{Board, Counts, board_after, board_of, counts, counts_of, no_counts, ticks_of, added_up, status_of}
-use Rattle.dma_engine.specs.declared.queue.Queue.{Queue}
-use Rattle.dma_engine.specs.Answer.{status_by, status_in}
-use Rattle.dma_engine.specs.View.{View, object_of}
-use Rattle.dma_engine.specs.inner.Holds.{Holds, Parts, view_of}
+use Rattle.dma_engine.specs.{declared.entry.Entry.Entry, declared.entry.Signaller.TheVariants.Channel, declared.outcome.TransResult.TransResult}
+use Rattle.dma_engine.specs.{declared.outcome.TransResult.TheVariants.Aborted, History.object_after, History.IsLegal, declared.queue.Queue.Queue}
+use Rattle.dma_engine.specs.{Answer.status_by, Answer.status_in, View.View, View.object_of, inner.Holds.Holds, inner.Holds.Parts, inner.Holds.view_of}
 use Rattle.dma_engine.proofs.Queues.{HoldsAt, front_where}
 
 -- ---- what bounds the counts
@@ -35,11 +30,13 @@ AreCounted o = (ch : ℕ) → IsCounted (channel o ch)
 pub with_channel_at : (o : Object) (ch : ℕ) (c : ChannelState) → (channel (with_channel o ch c) ch ≡ c) ⊎ (channel (with_channel o ch c) ch ≡ channel o ch)
 with_channel_at o ch c = elim (cases_lt ch (length o.channels)) [
   | inl less ↦ inl (get_or-set_same o.channels ch c empty_channel less)
-  | inr past ↦ inr (get_or_past (slice_set o.channels ch c) ch empty_channel (omega (arith, length-set o.channels ch c)) ∙ sym (get_or_past o.channels ch empty_channel past))
+  | inr past ↦ inr (get_or_past (slice_set o.channels ch c) ch empty_channel (omega (arith, length-set o.channels ch c))
+      ∙ sym (get_or_past o.channels ch empty_channel past))
 ]
 
 -- what holds of each channel, after one was set
-pub each_with : (P : ChannelState → Type 0) (o : Object) (ch : ℕ) (c : ChannelState) → ((d : ℕ) → P (channel o d)) → P c → (d : ℕ) → P (channel (with_channel o ch c) d)
+pub each_with : (P : ChannelState → Type 0) (o : Object) (ch : ℕ) (c : ChannelState) → ((d : ℕ) → P (channel o d)) → P c → (d : ℕ)
+    → P (channel (with_channel o ch c) d)
 each_with P o ch c h n d = elim (cases_eq d ch) [
   | inl e ↦ elim (with_channel_at o ch c) [ inl f ↦ rw (e, f) n | inr f ↦ rw (e, f) (h ch) ]
   | inr e ↦ rw (get_or-set_other o.channels ch d c empty_channel e) (h d)
@@ -53,9 +50,16 @@ length_aborted done (t ∷ ts) = ap suc (length-map ts _)
 pub finished_one : (c : ChannelState) (P : Descriptor → Type 0) → FrontIs c P → finished c + 1 ≤ used c
 finished_one c P h = let f = front_where c P h.1 in omega (arith, f.within)
 
-pub finished_all_law : (c : ChannelState) (done : ℕ) → finished c ≤ used c → c.forgotten + length (c.outcomes ++ aborted done (drop (length c.outcomes) c.submitted)) ≡ used c
+pub finished_all_law : (c : ChannelState) (done : ℕ) → finished c ≤ used c
+    → c.forgotten + length (c.outcomes ++ aborted done (drop (length c.outcomes) c.submitted)) ≡ used c
 finished_all_law c done h =
-    omega (arith, length-append c.outcomes (aborted done (drop (length c.outcomes) c.submitted)), length_aborted done (drop (length c.outcomes) c.submitted), length-drop (length c.outcomes) c.submitted, h)
+    omega (
+      arith,
+      length-append c.outcomes (aborted done (drop (length c.outcomes) c.submitted)),
+      length_aborted done (drop (length c.outcomes) c.submitted),
+      length-drop (length c.outcomes) c.submitted,
+      h,
+    )
 
 pub issued_one : (c : ChannelState) (P : Descriptor → Type 0) → FrontIs c P → finished c + 1 ≤ c.issued
 issued_one c P h = let f = front_where c P h.1 in omega (arith, f.below)
@@ -65,7 +69,8 @@ fronts : (o : Object) (ch : ℕ) (result : TransResult) (done : ℕ) → Allows 
 fronts o ch Aborted done h = absurd h
 fronts o ch result done h = finished_one (channel o ch) _ h
 
-issued_fronts : (o : Object) (ch : ℕ) (result : TransResult) (done : ℕ) → Allows o (Finished ch result done) → finished (channel o ch) + 1 ≤ (channel o ch).issued
+issued_fronts : (o : Object) (ch : ℕ) (result : TransResult) (done : ℕ) → Allows o (Finished ch result done)
+    → finished (channel o ch) + 1 ≤ (channel o ch).issued
 issued_fronts o ch Aborted done h = absurd h
 issued_fronts o ch result done h = issued_one (channel o ch) _ h
 
@@ -74,7 +79,8 @@ counted_after o (Submitted ch t cookie) h a =
     let c = channel o ch in
     let n = length_push c.submitted t in
     let old = h ch in
-    each_with IsCounted o ch _ h (record { finish = omega (arith, old.finish, n); order = old.order; issue = omega (arith, old.issue, n); give = omega (arith, a.3, a.4, n) })
+    each_with IsCounted o ch _ h
+    (record { finish = omega (arith, old.finish, n); order = old.order; issue = omega (arith, old.issue, n); give = omega (arith, a.3, a.4, n) })
 counted_after o (Issued ch) h a =
     let old = h ch in
     each_with IsCounted o ch _ h (record { finish = old.finish; order = old.finish; issue = omega arith; give = old.give })
@@ -88,11 +94,25 @@ counted_after o (Finished ch result done) h a =
     let c = channel o ch in
     let old = h ch in
     let n = length_push c.outcomes (outcome_of result (front_of c) done) in
-    each_with IsCounted (with_front_laid o ch done) ch _ h (record { finish = omega (arith, fronts o ch result done a, n); order = omega (arith, issued_fronts o ch result done a, n); issue = old.issue; give = old.give })
+    each_with IsCounted (with_front_laid o ch done) ch _ h
+    (record {
+      finish = omega (arith, fronts o ch result done a, n);
+      order = omega (arith, issued_fronts o ch result done a, n);
+      issue = old.issue;
+      give =
+          old.give;
+    })
 counted_after o (Terminated ch done count) h a =
     let c = channel o ch in
     let old = h ch in
-    each_with IsCounted (with_front_laid o ch done) ch _ h (record { finish = omega (arith, finished_all_law c done old.finish); order = omega (arith, finished_all_law c done old.finish); issue = omega arith; give = old.give })
+    each_with IsCounted (with_front_laid o ch done) ch _ h
+    (record {
+      finish = omega (arith, finished_all_law c done old.finish);
+      order = omega (arith, finished_all_law c done old.finish);
+      issue =
+          omega arith;
+      give = old.give;
+    })
 counted_after o e h a = h
 
 pub counted_object : (o : Object) (es : List Entry) → AreCounted o → IsLegal o es → AreCounted (object_after o es)
@@ -135,20 +155,23 @@ board_after_law o (Finished ch result done) h a =
     let c = channel o ch in
     let old = h ch in
     let outcome = outcome_of result (front_of c) done in
-    let n : added_up (finished c) 1 ≡ c.forgotten + length (c.outcomes ++ outcome ∷ []) = omega (arith, length_push c.outcomes outcome, fronts o ch result done a, old.give) in
+    let n : added_up (finished c) 1 ≡ c.forgotten + length (c.outcomes ++ outcome ∷ []) =
+    omega (arith, length_push c.outcomes outcome, fronts o ch result done a, old.give) in
     ap (λ x. slice_set (board_of o) ch (record x { finished = added_up x.finished 1 })) (counts_at o ch)
     ∙ ap (λ k. slice_set (board_of o) ch (record { used = used c; finished = k })) n
     ∙ sym (board_with o ch _)
 board_after_law o (Terminated ch done count) h a =
     let c = channel o ch in
     let old = h ch in
-    let n : added_up (finished c) count ≡ c.forgotten + length (c.outcomes ++ aborted done (drop (length c.outcomes) c.submitted)) = omega (arith, finished_all_law c done old.finish, a.1, old.finish, old.give) in
+    let n : added_up (finished c) count ≡ c.forgotten + length (c.outcomes ++ aborted done (drop (length c.outcomes) c.submitted)) =
+    omega (arith, finished_all_law c done old.finish, a.1, old.finish, old.give) in
     ap (λ x. slice_set (board_of o) ch (record x { finished = added_up x.finished count })) (counts_at o ch)
     ∙ ap (λ k. slice_set (board_of o) ch (record { used = used c; finished = k })) n
     ∙ sym (board_with o ch _)
 board_after_law o e h a = refl
 
-ticks_cons : (board : Board) (e : Entry) (es : List Entry) → board_after board (ticks_of (e ∷ es)) ≡ board_after (board_after board (ticks_of (e ∷ []))) (ticks_of es)
+ticks_cons : (board : Board) (e : Entry) (es : List Entry)
+    → board_after board (ticks_of (e ∷ es)) ≡ board_after (board_after board (ticks_of (e ∷ []))) (ticks_of es)
 ticks_cons board (Submitted ch t cookie) es = refl
 ticks_cons board e es = refl
 
@@ -167,7 +190,8 @@ queue_small {p} {ch} at =
     (omega (arith, at.tied.given, c.give), omega (arith, at.tied.given, at.tied.forgotten, ap length at.tied.outcomes, c.finish))
 
 -- how far a cookie is, by the board that the ticks of the history add up to
-pub status_by_board : (v : View) (ch cookie : ℕ) → AreCounted v.base → IsLegal v.base v.history → status_in v ch cookie ≡ status_of (board_after (board_of v.base) (ticks_of v.history)) ch cookie
+pub status_by_board : (v : View) (ch cookie : ℕ) → AreCounted v.base → IsLegal v.base v.history
+    → status_in v ch cookie ≡ status_of (board_after (board_of v.base) (ticks_of v.history)) ch cookie
 status_by_board v ch cookie counted legal =
     let is = board_is v.base v.history counted legal in
     ap (λ (x : Counts). status_by x.used x.finished cookie) (sym (counts_at (object_of v) ch))

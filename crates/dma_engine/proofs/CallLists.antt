@@ -1,26 +1,23 @@
 -- Calls one after another.
-use Rattle.std.proofs.Common.{inl, inr, ◌≡◌, ℕ, ◌+◌, ◌-◌, List, [], ◌∷◌, ◌++◌, length, take, drop, Option, Some, None, true, false, refl, ap, sym, ◌∙◌, subst, append-nil, append_assoc}
+use Rattle.std.proofs.Common.{inl, inr, ◌≡◌, ℕ, ◌+◌, ◌-◌, List, [], ◌∷◌, ◌++◌, length, take, drop, Option, Some, None, true, false, refl, ap, sym, ◌∙◌, subst}
+use Rattle.std.proofs.Common.{append-nil, append_assoc}
 use Rattle.std.proofs.lemmas.Bool.{or_parts, true≢false}
 use Rattle.dma_chan.specs.Traffic.{stored_after}
 use Rattle.dma_mem.specs.declared.call.Call.{Call}
 use Rattle.dma_mem.specs.declared.call.Call.TheVariants.{Write, Read, Submit, Issue, Pause, Resume, Terminate, Step, Mark, Unmark, Raise, Checkpoint}
-use Rattle.dma_engine.specs.declared.call.Reply.{Reply}
 use Rattle.dma_engine.specs.declared.call.Reply.TheVariants.{Done, Bytes, Cookie, Count}
-use Rattle.dma_engine.specs.declared.entry.Entry.{Entry}
 use Rattle.dma_engine.specs.declared.entry.Entry.TheVariants.{Wrote, ReadBack, Submitted, Issued, Passed, Signalled, Finished, Terminated, Marked, Unmarked}
-use Rattle.dma_engine.specs.declared.entry.Signaller.TheVariants.{Channel, Host}
-use Rattle.dma_engine.specs.declared.fault.EngineFault.{EngineFault}
-use Rattle.dma_engine.specs.Object.{channel, used, unfinished}
-use Rattle.dma_engine.specs.View.{View, object_of}
-use Rattle.dma_engine.specs.Turn.{turn, with_entry}
-use Rattle.dma_engine.specs.Laws.{IsQuiet}
-use Rattle.dma_engine.specs.Answer.{CallAnswers, AreAnswers, Extends, answer, unless, write_fault, read_fault, submit_fault, channel_fault, mark_fault, raise_fault, with_pause, terminated, done_on, checkpoint_fault, checkpointed, is_checkpoint, has_checkpoint}
-use Rattle.dma_engine.proofs.AnswerCounts.{answered}
-use Rattle.dma_engine.proofs.Turns.{answer_is, turn_cases}
+use Rattle.dma_engine.specs.Answer.{CallAnswers, AreAnswers, Extends, answer, unless, write_fault, read_fault, submit_fault, channel_fault, mark_fault}
+use Rattle.dma_engine.specs.Answer.{raise_fault, with_pause, terminated, done_on, checkpoint_fault, checkpointed, is_checkpoint, has_checkpoint}
+use Rattle.dma_engine.specs.{declared.call.Reply.Reply, declared.entry.Entry.Entry, declared.entry.Signaller.TheVariants.Channel}
+use Rattle.dma_engine.specs.{declared.entry.Signaller.TheVariants.Host, declared.fault.EngineFault.EngineFault, Object.channel, Object.used, Object.unfinished}
+use Rattle.dma_engine.specs.{View.View, View.object_of, Turn.turn, Turn.with_entry, Laws.IsQuiet}
+use Rattle.dma_engine.proofs.{AnswerCounts.answered, Turns.answer_is, Turns.turn_cases}
 
 -- ---- the chain of answers
 
-pub AreAnswers_push : (v w x : View) (calls : List Call) (replies : List Reply) (call : Call) (reply : Reply) → AreAnswers v calls replies w → CallAnswers w call reply x → AreAnswers v (calls ++ call ∷ []) (replies ++ reply ∷ []) x
+pub AreAnswers_push : (v w x : View) (calls : List Call) (replies : List Reply) (call : Call) (reply : Reply) → AreAnswers v calls replies w
+    → CallAnswers w call reply x → AreAnswers v (calls ++ call ∷ []) (replies ++ reply ∷ []) x
 AreAnswers_push v w x [] [] call reply h a = (x, subst (λ (u : View). CallAnswers u call reply x) h a, refl)
 AreAnswers_push v w x [] (r ∷ rs) call reply h a = absurd h
 AreAnswers_push v w x (c ∷ cs) [] call reply h a = absurd h

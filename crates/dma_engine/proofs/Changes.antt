@@ -1,29 +1,20 @@
 -- What an engine keeps when an entry is added, or one channel changes.
-use Rattle.std.proofs.Common.{◌≡◌, ◌≢◌, ℕ, ◌<◌, ◌/◌, false, List, [], ◌∷◌, ◌++◌, length, Option, Some, None, Bool, true, refl, ap, sym, ◌∙◌, subst, arith, inl, inr}
+use Rattle.std.proofs.Common.{◌≡◌, ◌≢◌, ℕ, ◌<◌, ◌/◌, false, List, [], ◌∷◌, ◌++◌, length, Option, Some, None, Bool, true, refl, ap, sym, ◌∙◌, subst, arith, inl}
+use Rattle.std.proofs.Common.{inr}
 use Rattle.std.specs.Prelude.{slice_get, slice_index, slice_index_or, slice_set, is_some, IfSome, IsSomeAnd}
-use Rattle.std.specs.List.{Contains}
+use Rattle.std.specs.{List.Contains, Option.option_map}
 use Rattle.std.proofs.lemmas.Bool.{cases_eq}
 use Rattle.std.proofs.lemmas.List.{map-set, set-get_or, length-set, get_or-set_same, get_or-set_other}
-use Rattle.std.specs.Option.{option_map}
-use Rattle.dma_mem.specs.Places.{Descriptor, is_free_of, sources, destinations}
-use Rattle.dma_mem.specs.Meeting.{IsFree}
-use Rattle.dma_mem.proofs.SharedPlaces.{share_none, is_free_of_true}
-use Rattle.dma_mem.proofs.OverTransfers.{IsFree_sym}
-use Rattle.dma_chan.specs.Channel.{ChannelValue}
-use Rattle.dma_chan.specs.inner.At.{IsAt}
-use Rattle.dma_mem.specs.Marking.{MarkList}
-use Rattle.dma_chan.specs.Programs.{ProgramValue}
+use Rattle.dma_mem.specs.{Places.Descriptor, Places.is_free_of, Places.sources, Places.destinations, Meeting.IsFree, Marking.MarkList}
+use Rattle.dma_mem.proofs.{SharedPlaces.share_none, SharedPlaces.is_free_of_true, OverTransfers.IsFree_sym}
+use Rattle.dma_chan.specs.{Channel.ChannelValue, inner.At.IsAt, Programs.ProgramValue}
 use Rattle.dma_chan.proofs.LayerLaws.{survives}
-use Rattle.dma_engine.specs.declared.entry.Entry.{Entry}
-use Rattle.dma_engine.specs.declared.queue.Queue.{Queue}
 use Rattle.dma_engine.specs.Object.{Object, ChannelState, channel, empty_channel, after, front}
-use Rattle.dma_engine.specs.History.{object_after}
-use Rattle.dma_engine.specs.Turn.{with_entry}
-use Rattle.dma_engine.specs.View.{View, ChannelSchedule, RunningTransfer, Fits, Agrees, AreFree, IsSound, running_in, runs, idle, object_of, memory_of, memory_shown}
-use Rattle.dma_engine.specs.inner.Ranges.{AreOfRunning}
+use Rattle.dma_engine.specs.View.{View, ChannelSchedule, RunningTransfer, Fits, Agrees, AreFree, IsSound, running_in, runs, idle, object_of, memory_of}
+use Rattle.dma_engine.specs.View.{memory_shown}
 use Rattle.dma_engine.specs.inner.Holds.{HasSubmitted, Holds, IsPrepared, IsQueue, IsRun, Parts, view_of, schedule_of, taken_of}
-use Rattle.dma_engine.proofs.Histories.{object_after_append}
-use Rattle.dma_engine.proofs.Queues.{HoldsAt, slice_get_push}
+use Rattle.dma_engine.specs.{declared.entry.Entry.Entry, declared.queue.Queue.Queue, History.object_after, Turn.with_entry, inner.Ranges.AreOfRunning}
+use Rattle.dma_engine.proofs.{Histories.object_after_append, Queues.HoldsAt, Queues.slice_get_push}
 
 -- ---- transfers that are free of each other
 
@@ -44,15 +35,20 @@ AreFree_sym (Some r) (Some s) h =
 -- ---- what a machine runs, and a queue, when something else changes
 
 -- A machine runs the front of another state, over another memory, if it does so for each front that it may run now.
-pub run_moved : (memory other : List ℕ) (m : ChannelValue) (c d : ChannelState) → ((t : Descriptor) → is_some m.program ≡ true → front c ≡ Some t → IsAt t m.taken memory m → IsSomeAnd (front d) (λ u. IsAt u m.taken other m)) → IsRun memory m c → IsRun other m d
+pub run_moved : (memory other : List ℕ) (m : ChannelValue) (c d : ChannelState)
+    → ((t : Descriptor) → is_some m.program ≡ true → front c ≡ Some t → IsAt t m.taken memory m → IsSomeAnd (front d) (λ u. IsAt u m.taken other m))
+    → IsRun memory m c → IsRun other m d
 run_moved memory other m c d moved h = by m.program (front c) refl refl h where
-  by : (o : Option ProgramValue) (f : Option Descriptor) → m.program ≡ o → front c ≡ f → IfSome o (λ _. IsSomeAnd f (λ t. IsAt t m.taken memory m)) → IfSome o (λ _. IsSomeAnd (front d) (λ u. IsAt u m.taken other m))
+  by : (o : Option ProgramValue) (f : Option Descriptor) → m.program ≡ o → front c ≡ f → IfSome o (λ _. IsSomeAnd f (λ t. IsAt t m.taken memory m))
+      → IfSome o (λ _. IsSomeAnd (front d) (λ u. IsAt u m.taken other m))
   by None f loaded is g = tt
   by (Some p) None loaded is g = absurd g
   by (Some p) (Some t) loaded is g = moved t (ap is_some loaded) is g
 
 -- It runs on over another memory if this one has the same bytes at the sources of the front.
-pub run_kept : (memory other : List ℕ) (m : ChannelValue) (c : ChannelState) → ((t : Descriptor) → is_some m.program ≡ true → front c ≡ Some t → (a : ℕ) → Contains (sources t) a → slice_index other a ≡ slice_index memory a) → IsRun memory m c → IsRun other m c
+pub run_kept : (memory other : List ℕ) (m : ChannelValue) (c : ChannelState)
+    → ((t : Descriptor) → is_some m.program ≡ true → front c ≡ Some t → (a : ℕ) → Contains (sources t) a → slice_index other a ≡ slice_index memory a)
+    → IsRun memory m c → IsRun other m c
 run_kept memory other m c same = run_moved memory other m c c (λ t loaded is at. rw is (survives t m.taken memory other m at (same t loaded is)))
 
 -- A machine without a program runs nothing.
@@ -63,11 +59,15 @@ run_none memory m c none = by m.program none where
   by (Some p) e = absurd cc
 
 -- A queue still matches its channel when entries are added to the history: for its cookies, and for all of it.
-pub submitted_kept : {ch : ℕ} {kept : List Descriptor} {history : List Entry} {lost number : ℕ} {indices : List ℕ} {before : ℕ} {submitted : List Descriptor} (longer : List Entry) → ((k : ℕ) (e : Entry) → slice_get history k ≡ Some e → slice_get longer k ≡ Some e) → HasSubmitted ch kept history lost number indices before submitted → HasSubmitted ch kept longer lost number indices before submitted
+pub submitted_kept : {ch : ℕ} {kept : List Descriptor} {history : List Entry} {lost number : ℕ} {indices : List ℕ} {before : ℕ} {submitted : List Descriptor}
+    (longer : List Entry) → ((k : ℕ) (e : Entry) → slice_get history k ≡ Some e → slice_get longer k ≡ Some e)
+    → HasSubmitted ch kept history lost number indices before submitted → HasSubmitted ch kept longer lost number indices before submitted
 submitted_kept longer grows h =
     record { forgotten = h.forgotten; given = h.given; many = h.many; first = h.first; indexed = λ k less. let s = h.indexed k less in (s.0, grows _ _ s.1) }
 
-pub queue_kept : {ch : ℕ} {kept : List Descriptor} {history : List Entry} {memory : List ℕ} {q : Queue} {c : ChannelState} (longer : List Entry) (other : List ℕ) → ((k : ℕ) (e : Entry) → slice_get history k ≡ Some e → slice_get longer k ≡ Some e) → IsRun other q.channel c → IsQueue ch kept history memory q c → IsQueue ch kept longer other q c
+pub queue_kept : {ch : ℕ} {kept : List Descriptor} {history : List Entry} {memory : List ℕ} {q : Queue} {c : ChannelState} (longer : List Entry)
+    (other : List ℕ) → ((k : ℕ) (e : Entry) → slice_get history k ≡ Some e → slice_get longer k ≡ Some e) → IsRun other q.channel c
+    → IsQueue ch kept history memory q c → IsQueue ch kept longer other q c
 queue_kept longer other grows machine h =
     record { submitted = submitted_kept longer grows h.submitted; outcomes = h.outcomes; issued = h.issued; halted = h.halted; machine = machine }
 
@@ -95,14 +95,16 @@ pub record EntersWith (p : Parts) (e : Entry) (memory : List ℕ) (flags : List 
       IsRun p.memory (slice_index_or p.queues ch d).channel (channel (object_of (view_of p)) ch) →
       IsRun memory (slice_index_or p.queues ch d).channel (channel (object_of (view_of p)) ch)
 
-pub holds_entered : (p : Parts) (e : Entry) (memory : List ℕ) (events : List Bool) (marks : MarkList) → Holds p → EntersWith p e memory events marks → Holds (with_entry_at p e memory events marks)
+pub holds_entered : (p : Parts) (e : Entry) (memory : List ℕ) (events : List Bool) (marks : MarkList) → Holds p → EntersWith p e memory events marks
+    → Holds (with_entry_at p e memory events marks)
 holds_entered p e memory events marks h w =
     let v : View = view_of p in
     let u : View = view_of (with_entry_at p e memory events marks) in
     let o = object_of v in
     let step : object_of u ≡ after o e = object_after_append v.base p.history (e ∷ []) in
     let channels = ap (λ (x : Object). x.channels) step ∙ w.stay in
-    let same : (ch : ℕ) → runs (object_of u) u.schedule ch ≡ runs o v.schedule ch = λ ch. ap (λ l. running_in ch (slice_index_or l ch empty_channel) (slice_index_or v.schedule ch idle).taken) channels in
+    let same : (ch : ℕ) → runs (object_of u) u.schedule ch ≡ runs o v.schedule ch =
+    λ ch. ap (λ l. running_in ch (slice_index_or l ch empty_channel) (slice_index_or v.schedule ch idle).taken) channels in
     record {
       sound = w.sound;
       shown = rw step w.shown;
@@ -110,7 +112,8 @@ holds_entered p e memory events marks h w =
       marks = rw step w.marks;
       size = h.size;
       each = λ ch d less.
-          let kept = queue_kept (p.history ++ e ∷ []) memory (λ k x. slice_get_push p.history e x k) (w.machines ch d less (h.each ch d less).machine) (h.each ch d less) in
+          let kept = queue_kept (p.history ++ e ∷ []) memory (λ k x. slice_get_push p.history e x k) (w.machines ch d less (h.each ch d less).machine)
+          (h.each ch d less) in
           rw (step, w.stay) kept;
       prepared = λ ch. subst (IsPrepared p.made) (sym (same ch)) (h.prepared ch);
       ranges = λ ch d less. subst (AreOfRunning (slice_index_or p.queues ch d).ranges) (sym (same ch)) (h.ranges ch d less);
@@ -119,12 +122,14 @@ holds_entered p e memory events marks h w =
 -- ---- pages
 
 -- The destinations of what runs lie on made pages, also after more pages are made.
-pub prepared_more : (made more : List Bool) (x : Option RunningTransfer) → ((page : ℕ) → slice_index_or made page false ≡ true → slice_index_or more page false ≡ true) → IsPrepared made x → IsPrepared more x
+pub prepared_more : (made more : List Bool) (x : Option RunningTransfer)
+    → ((page : ℕ) → slice_index_or made page false ≡ true → slice_index_or more page false ≡ true) → IsPrepared made x → IsPrepared more x
 prepared_more made more None keeps h = tt
 prepared_more made more (Some r) keeps h = λ a i. keeps (a / 4096) (h a i)
 
 -- Making pages changes nothing else.
-pub holds_pages : (p : Parts) (more : List Bool) → Holds p → ((page : ℕ) → slice_index_or p.made page false ≡ true → slice_index_or more page false ≡ true) → Holds (record p { made = more })
+pub holds_pages : (p : Parts) (more : List Bool) → Holds p → ((page : ℕ) → slice_index_or p.made page false ≡ true → slice_index_or more page false ≡ true)
+    → Holds (record p { made = more })
 holds_pages p more h keeps = record {
   sound = h.sound;
   size = h.size;
@@ -138,54 +143,83 @@ holds_pages p more h keeps = record {
 
 -- ---- one channel changes
 
-pub runs_here_law : (o : Object) (s : List ChannelSchedule) (ch : ℕ) (x : ChannelSchedule) → ch < length s → runs o (slice_set s ch x) ch ≡ running_in ch (channel o ch) x.taken
+pub runs_here_law : (o : Object) (s : List ChannelSchedule) (ch : ℕ) (x : ChannelSchedule) → ch < length s
+    → runs o (slice_set s ch x) ch ≡ running_in ch (channel o ch) x.taken
 runs_here_law o s ch x less = ap (λ (y : ChannelSchedule). running_in ch (channel o ch) y.taken) (get_or-set_same s ch x idle less)
 
-pub runs_other : (o p : Object) (s : List ChannelSchedule) (ch c : ℕ) (x : ChannelSchedule) → c ≢ ch → channel p c ≡ channel o c → runs p (slice_set s ch x) c ≡ runs o s c
+pub runs_other : (o p : Object) (s : List ChannelSchedule) (ch c : ℕ) (x : ChannelSchedule) → c ≢ ch → channel p c ≡ channel o c
+    → runs p (slice_set s ch x) c ≡ runs o s c
 runs_other o p s ch c x differs same =
     ap (λ (y : ChannelSchedule). running_in c (channel p c) y.taken) (get_or-set_other s ch c x idle differs)
     ∙ ap (λ d. running_in c d (slice_index_or s c idle).taken) same
 
--- An object and a schedule, of which one channel changes, still fit each other.
-pub record FitsStill (o p : Object) (s : List ChannelSchedule) (ch : ℕ) (x : ChannelSchedule) : Type 0 where
-  pub there : ch < length o.channels
+-- The channels of p are those of o but for this one, whose state is `state`.
+pub record Sets (o p : Object) (ch : ℕ) (state : ChannelState) : Type 0 where
   pub many : length p.channels ≡ length o.channels
+  pub here : channel p ch ≡ state
   pub others : (c : ℕ) → c ≢ ch → channel p c ≡ channel o c
-  pub agrees : Agrees (channel p ch) x.taken
-  pub free : (d : ℕ) → d < length o.channels → d ≢ ch → AreFree (running_in ch (channel p ch) x.taken) (runs o s d)
 
-pub fits_changed : (o p : Object) (s : List ChannelSchedule) (ch : ℕ) (x : ChannelSchedule) → Fits o s → FitsStill o p s ch x → Fits p (slice_set s ch x)
-fits_changed o p s ch x h w =
+pub sets : (o p : Object) (ch : ℕ) (state : ChannelState) → ch < length o.channels → p.channels ≡ slice_set o.channels ch state → Sets o p ch state
+sets o p ch state there is = record {
+  many = ap length is ∙ length-set o.channels ch state;
+  here = ap (λ (l : List ChannelState). slice_index_or l ch empty_channel) is ∙ get_or-set_same o.channels ch state empty_channel there;
+  others = λ c f. ap (λ (l : List ChannelState). slice_index_or l c empty_channel) is ∙ get_or-set_other o.channels ch c state empty_channel f;
+}
+
+-- An object and a schedule still fit each other if a channel has this state and this schedule.
+pub record FitsStill (o : Object) (s : List ChannelSchedule) (ch : ℕ) (state : ChannelState) (x : ChannelSchedule) : Type 0 where
+  pub there : ch < length o.channels
+  pub agrees : Agrees state x.taken
+  pub free : (d : ℕ) → d < length o.channels → d ≢ ch → AreFree (running_in ch state x.taken) (runs o s d)
+
+pub fits_changed : (o p : Object) (s : List ChannelSchedule) (ch : ℕ) (state : ChannelState) (x : ChannelSchedule) →
+    Fits o s → p.channels ≡ slice_set o.channels ch state → FitsStill o s ch state x → Fits p (slice_set s ch x)
+fits_changed o p s ch state x h is w =
+    let to = sets o p ch state w.there is in
     let less : ch < length s = omega (arith, h.many, w.there) in
-    let here = runs_here_law p s ch x less in
-    let other : (c : ℕ) → c ≢ ch → runs p (slice_set s ch x) c ≡ runs o s c = λ c d. runs_other o p s ch c x d (w.others c d) in
+    let here = runs_here_law p s ch x less ∙ ap (λ c. running_in ch c x.taken) to.here in
+    let other : (c : ℕ) → c ≢ ch → runs p (slice_set s ch x) c ≡ runs o s c = λ c d. runs_other o p s ch c x d (to.others c d) in
     record {
-      many = length-set s ch x ∙ h.many ∙ sym w.many;
+      many = length-set s ch x ∙ h.many ∙ sym to.many;
       each = λ c l. elim (cases_eq c ch) [
-        | inl e ↦ rw (e, get_or-set_same s ch x idle less) w.agrees
-        | inr d ↦ rw (w.others c d, get_or-set_other s ch c x idle d) (h.each c (omega (arith, w.many, l)))
+        | inl e ↦ rw (e, to.here, get_or-set_same s ch x idle less) w.agrees
+        | inr d ↦ rw (to.others c d, get_or-set_other s ch c x idle d) (h.each c (omega (arith, to.many, l)))
       ];
       free = λ c d i j k. elim (cases_eq c ch) [
         | inl e ↦ elim (cases_eq d ch) [
           | inl f ↦ absurd (k (e ∙ sym f))
-          | inr g ↦ rw (e, here, other d g) (w.free d (omega (arith, w.many, j)) g)
+          | inr g ↦ rw (e, here, other d g) (w.free d (omega (arith, to.many, j)) g)
         ]
         | inr f ↦ elim (cases_eq d ch) [
-          | inl e ↦ rw (e, here, other c f) (AreFree_sym _ _ (w.free c (omega (arith, w.many, i)) f))
-          | inr g ↦ rw (other c f, other d g) (h.free c d (omega (arith, w.many, i)) (omega (arith, w.many, j)) k)
+          | inl e ↦ rw (e, here, other c f) (AreFree_sym _ _ (w.free c (omega (arith, to.many, i)) f))
+          | inr g ↦ rw (other c f, other d g) (h.free c d (omega (arith, to.many, i)) (omega (arith, to.many, j)) k)
         ]
       ];
     }
 
 -- the parts after a change of one queue
 abbrev pub changed : Parts → ℕ → Queue → List ℕ → List Bool → List Entry → ℕ → Parts
-changed p ch q memory events history steps = record { size = p.size; memory = memory; made = p.made; events = events; marks = p.marks; queues = slice_set p.queues ch q; base = p.base; history = history; steps = steps }
+changed p ch q memory events history steps =
+    record {
+      size = p.size;
+      memory = memory;
+      made = p.made;
+      events = events;
+      marks = p.marks;
+      queues = slice_set p.queues ch q;
+      base = p.base;
+      history =
+          history;
+      steps = steps;
+    }
 
 -- their view
 abbrev pub changed_view : Parts → ℕ → Queue → List Entry → ℕ → View
-changed_view p ch q history steps = record { base = (view_of p).base; history = history; steps = steps; schedule = slice_set (view_of p).schedule ch (schedule_of q) }
+changed_view p ch q history steps =
+    record { base = (view_of p).base; history = history; steps = steps; schedule = slice_set (view_of p).schedule ch (schedule_of q) }
 
-pub view_changed : (p : Parts) (ch : ℕ) (q : Queue) (memory : List ℕ) (events : List Bool) (history : List Entry) (steps : ℕ) → view_of (changed p ch q memory events history steps) ≡ changed_view p ch q history steps
+pub view_changed : (p : Parts) (ch : ℕ) (q : Queue) (memory : List ℕ) (events : List Bool) (history : List Entry) (steps : ℕ)
+    → view_of (changed p ch q memory events history steps) ≡ changed_view p ch q history steps
 view_changed p ch q memory events history steps =
     let s = map-set schedule_of p.queues ch q in
     rw s refl
@@ -196,28 +230,25 @@ pub record LeadsTo (p : Parts) (ch : ℕ) (history : List Entry) (o : Object) (s
   pub becomes : object_after (view_of p).base history ≡ o
   pub grows : (k : ℕ) (e : Entry) → slice_get p.history k ≡ Some e → slice_get history k ≡ Some e
   pub marks : (object_of (view_of p)).marks ≡ o.marks
-  pub many : length o.channels ≡ length (object_of (view_of p)).channels
-  pub here : channel o ch ≡ state
-  pub others : (c : ℕ) → c ≢ ch → channel o c ≡ channel (object_of (view_of p)) c
+  pub sets : Sets (object_of (view_of p)) o ch state
+  pub open sets use *
 
 -- The present history leads to the present object, and with one more entry to the object after it.
 pub leads_still : (p : Parts) (ch : ℕ) → LeadsTo p ch p.history (object_of (view_of p)) (channel (object_of (view_of p)) ch)
-leads_still p ch = record { becomes = refl; grows = λ k e is. is; marks = refl; many = refl; here = refl; others = λ c f. refl }
+leads_still p ch = record { becomes = refl; grows = λ k e is. is; marks = refl; sets = record { many = refl; here = refl; others = λ c f. refl } }
 
-pub leads_on : (p : Parts) (ch : ℕ) (e : Entry) (state : ChannelState) → ch < length (object_of (view_of p)).channels → (object_of (view_of p)).marks ≡ (after (object_of (view_of p)) e).marks → (after (object_of (view_of p)) e).channels ≡ slice_set (object_of (view_of p)).channels ch state → LeadsTo p ch (p.history ++ e ∷ []) (after (object_of (view_of p)) e) state
-leads_on p ch e state there marks is =
-    let cs = (object_of (view_of p)).channels in
-    record {
-      becomes = object_after_append (view_of p).base p.history (e ∷ []);
-      grows = λ k x. slice_get_push p.history e x k;
-      marks = marks;
-      many = ap length is ∙ length-set cs ch state;
-      here = ap (λ (l : List ChannelState). slice_index_or l ch empty_channel) is ∙ get_or-set_same cs ch state empty_channel there;
-      others = λ c f. ap (λ (l : List ChannelState). slice_index_or l c empty_channel) is ∙ get_or-set_other cs ch c state empty_channel f;
-    }
+pub leads_on : (p : Parts) (ch : ℕ) (e : Entry) (state : ChannelState) → let o = object_of (view_of p) in ch < length o.channels →
+    o.marks ≡ (after o e).marks → (after o e).channels ≡ slice_set o.channels ch state → LeadsTo p ch (p.history ++ e ∷ []) (after o e) state
+leads_on p ch e state there marks is = record {
+  becomes = object_after_append p.base p.history (e ∷ []);
+  grows = λ k x. slice_get_push p.history e x k;
+  marks = marks;
+  sets = sets (object_of (view_of p)) (after (object_of (view_of p)) e) ch state there is;
+}
 
 -- What must hold after a change at one channel, so that the engine keeps what it keeps (`Holds`).
-pub record ChangesTo (p : Parts) (ch : ℕ) (q : Queue) (memory : List ℕ) (flags : List Bool) (history : List Entry) (steps : ℕ) (o : Object) (state : ChannelState) : Type 0 where
+pub record ChangesTo (p : Parts) (ch : ℕ) (q : Queue) (memory : List ℕ) (flags : List Bool) (history : List Entry) (steps : ℕ) (o : Object)
+    (state : ChannelState) : Type 0 where
   pub sound : IsSound (view_of (changed p ch q memory flags history steps))
   pub leads : LeadsTo p ch history o state
   pub shown : memory ≡ memory_shown o (slice_set (view_of p).schedule ch (schedule_of q))
@@ -229,7 +260,9 @@ pub record ChangesTo (p : Parts) (ch : ℕ) (q : Queue) (memory : List ℕ) (fla
       IsRun p.memory (slice_index_or p.queues c d).channel (channel (object_of (view_of p)) c) →
       IsRun memory (slice_index_or p.queues c d).channel (channel (object_of (view_of p)) c)
 
-pub holds_changed : {p : Parts} {ch : ℕ} {old : Queue} → HoldsAt p ch old → (q : Queue) (memory : List ℕ) (events : List Bool) (history : List Entry) (steps : ℕ) (o : Object) (state : ChannelState) → ChangesTo p ch q memory events history steps o state → Holds (changed p ch q memory events history steps)
+pub holds_changed : {p : Parts} {ch : ℕ} {old : Queue} → HoldsAt p ch old
+    → (q : Queue) (memory : List ℕ) (events : List Bool) (history : List Entry) (steps : ℕ) (o : Object) (state : ChannelState)
+    → ChangesTo p ch q memory events history steps o state → Holds (changed p ch q memory events history steps)
 holds_changed {p} {ch} at q memory events history steps o state w =
     let h = at.holds in
     let less = at.less in
@@ -240,9 +273,12 @@ holds_changed {p} {ch} at q memory events history steps o state w =
     let is : u ≡ view_of r = sym (view_changed p ch q memory events history steps) in
     let x : ChannelSchedule = schedule_of q in
     let runs_new : ℕ → Option RunningTransfer = runs (object_of (view_of r)) (view_of r).schedule in
-    let new : (c : ℕ) → runs_new c ≡ runs o (slice_set v.schedule ch x) c = λ c. ap (λ (y : View). runs (object_of y) y.schedule c) (sym is) ∙ ap (λ (y : Object). runs y (slice_set v.schedule ch x) c) to.becomes in
-    let here : (c : ℕ) → c ≡ ch → runs_new c ≡ running_in ch state x.taken = λ c e. new c ∙ ap (runs o (slice_set v.schedule ch x)) e ∙ runs_here_law o v.schedule ch x at.within ∙ ap (λ y. running_in ch y x.taken) to.here in
-    let elsewhere : (c : ℕ) → c ≢ ch → runs_new c ≡ runs (object_of v) v.schedule c = λ c f. new c ∙ runs_other (object_of v) o v.schedule ch c x f (to.others c f) in
+    let new : (c : ℕ) → runs_new c ≡ runs o (slice_set v.schedule ch x) c = λ c. ap (λ (y : View). runs (object_of y) y.schedule c) (sym is)
+    ∙ ap (λ (y : Object). runs y (slice_set v.schedule ch x) c) to.becomes in
+    let here : (c : ℕ) → c ≡ ch → runs_new c ≡ running_in ch state x.taken = λ c e. new c ∙ ap (runs o (slice_set v.schedule ch x)) e
+    ∙ runs_here_law o v.schedule ch x at.within ∙ ap (λ y. running_in ch y x.taken) to.here in
+    let elsewhere : (c : ℕ) → c ≢ ch → runs_new c ≡ runs (object_of v) v.schedule c = λ c f. new c
+    ∙ runs_other (object_of v) o v.schedule ch c x f (to.others c f) in
     record {
       sound = w.sound;
       shown = w.shown ∙ ap (λ x. memory_shown x (slice_set v.schedule ch (schedule_of q))) (sym to.becomes) ∙ ap memory_of is;
@@ -263,16 +299,19 @@ holds_changed {p} {ch} at q memory events history steps o state w =
       ];
       ranges = λ c d l. elim (cases_eq c ch) [
         | inl e ↦
-            let slot : slice_index_or (slice_set p.queues ch q) c d ≡ q = ap (λ k. slice_index_or (slice_set p.queues ch q) k d) e ∙ get_or-set_same p.queues ch q d less in
+            let slot : slice_index_or (slice_set p.queues ch q) c d ≡ q = ap (λ k. slice_index_or (slice_set p.queues ch q) k d) e
+            ∙ get_or-set_same p.queues ch q d less in
             subst (λ (y : Queue). AreOfRunning y.ranges (runs_new c)) (sym slot) (subst (AreOfRunning q.ranges) (sym (here c e)) w.ranges)
         | inr f ↦
             let slot : slice_index_or (slice_set p.queues ch q) c d ≡ slice_index_or p.queues c d = get_or-set_other p.queues ch c q d f in
             let l' : c < length p.queues = omega (arith, l, length-set p.queues ch q) in
-            subst (λ (y : Queue). AreOfRunning y.ranges (runs_new c)) (sym slot) (subst (AreOfRunning (slice_index_or p.queues c d).ranges) (sym (elsewhere c f)) (h.ranges c d l'))
+            subst (λ (y : Queue). AreOfRunning y.ranges (runs_new c)) (sym slot)
+            (subst (AreOfRunning (slice_index_or p.queues c d).ranges) (sym (elsewhere c f)) (h.ranges c d l'))
       ];
     }
 
 -- The schedule stays the same if that of the changed queue does.
-pub schedule_kept : {p : Parts} {ch : ℕ} {q : Queue} → HoldsAt p ch q → (r : Queue) → schedule_of r ≡ schedule_of q → slice_set (view_of p).schedule ch (schedule_of r) ≡ (view_of p).schedule
+pub schedule_kept : {p : Parts} {ch : ℕ} {q : Queue} → HoldsAt p ch q → (r : Queue) → schedule_of r ≡ schedule_of q
+    → slice_set (view_of p).schedule ch (schedule_of r) ≡ (view_of p).schedule
 schedule_kept {p} {ch} {q} at r same =
     ap (slice_set (view_of p).schedule ch) (same ∙ sym at.schedule_is) ∙ set-get_or (view_of p).schedule ch idle

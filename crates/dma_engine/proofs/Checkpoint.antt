@@ -1,38 +1,28 @@
 -- What an engine keeps at a checkpoint.
-use Rattle.std.proofs.Common.{◌≡◌, ℕ, ◌<◌, ◌≤◌, List, [], ◌∷◌, ◌++◌, zero, suc, length, map, take, drop, Option, Some, None, true, refl, ap, sym, ◌∙◌, subst, arith, inl, inr}
-use Rattle.std.specs.Prelude.{slice_index_or, slice_set, find}
-use Rattle.std.proofs.lemmas.Bool.{cases_lt}
+use Rattle.std.proofs.Common.{◌≡◌, ℕ, ◌<◌, ◌≤◌, List, [], ◌∷◌, ◌++◌, zero, suc, length, map, take, drop, Option, Some, None, true, refl, ap, sym, ◌∙◌, subst}
+use Rattle.std.proofs.Common.{arith, inl, inr}
+use Rattle.std.specs.{Prelude.slice_index_or, Prelude.slice_set, Prelude.find, List.sum_by}
 use Rattle.std.proofs.lemmas.List.{get_or-map, get_or_past, length-map, length-drop, get_or_default, take_all}
-use Rattle.std.proofs.lemmas.List.Sums.{sum_by-cons}
+use Rattle.std.proofs.{lemmas.Bool.cases_lt, lemmas.List.Sums.sum_by-cons}
 use Rattle.dma_mem.specs.Image.{over, after_moves}
 use Rattle.dma_mem.proofs.PageImages.{put_none}
-use Rattle.dma_engine.specs.declared.queue.Queue.{Queue}
-use Rattle.std.specs.List.{sum_by}
 use Rattle.dma_engine.specs.Object.{used, finished_all, Object, ChannelState, base_from, forget, channel, empty_channel, finished}
-use Rattle.dma_engine.specs.declared.call.Reply.{Reply}
-use Rattle.dma_engine.specs.declared.call.Reply.TheVariants.{Done, Refused}
-use Rattle.dma_engine.specs.declared.fault.EngineFault.{EngineFault}
 use Rattle.dma_engine.specs.Answer.{checkpoint_fault, checkpointed, unless}
-use Rattle.dma_engine.specs.Laws.{CheckpointsKeep}
-use Rattle.dma_engine.specs.Room.{no_room}
-use Rattle.dma_engine.specs.inner.Inside.{queue_room}
-use Rattle.dma_engine.specs.inner.Ranges.{AreOfRunning}
 use Rattle.dma_engine.specs.View.{View, ChannelSchedule, RunningTransfer, Fits, runs, running_in, running, idle, object_of, memory_of, IsSound, with_stored}
-use Rattle.dma_engine.specs.Ticks.{board_of, counts_of}
 use Rattle.dma_engine.specs.inner.Holds.{Holds, IsPrepared, IsQueue, Parts, view_of, schedule_of, taken_of, queue_forgotten}
+use Rattle.dma_engine.specs.{declared.queue.Queue.Queue, declared.call.Reply.Reply, declared.call.Reply.TheVariants.Done}
+use Rattle.dma_engine.specs.{declared.call.Reply.TheVariants.Refused, declared.fault.EngineFault.EngineFault, Laws.CheckpointsKeep, Room.no_room}
+use Rattle.dma_engine.specs.{inner.Inside.queue_room, inner.Ranges.AreOfRunning, Ticks.board_of, Ticks.counts_of}
 use Rattle.dma_engine.proofs.Boards.{counted_at, counted_base, counted_object}
-use Rattle.dma_engine.proofs.Changes.{run_none}
-use Rattle.dma_engine.proofs.QueueCalls.{shown_both}
-use Rattle.dma_engine.proofs.Queues.{HoldsAt, holds_at}
-use Rattle.dma_engine.proofs.Sizes.{size_object}
 use Rattle.dma_engine.proofs.StaysSound.{NothingRuns, checkpoint_sound, forgotten_at, none_taken}
-use Rattle.dma_engine.proofs.WhatRuns.{running_same}
+use Rattle.dma_engine.proofs.{Changes.run_none, QueueCalls.shown_both, Queues.HoldsAt, Queues.holds_at, Sizes.size_object, WhatRuns.running_same}
 
 -- ---- the channels of the next base
 
 -- ---- the queues after it
 
-queue_next : {p : Parts} {ch : ℕ} {q : Queue} → HoldsAt p ch q → taken_of q.channel ≡ None → let c = channel (object_of (view_of p)) ch in IsQueue ch (forget c).submitted [] p.memory (queue_forgotten q) (forget c)
+queue_next : {p : Parts} {ch : ℕ} {q : Queue} → HoldsAt p ch q → taken_of q.channel ≡ None → let c = channel (object_of (view_of p)) ch in
+    IsQueue ch (forget c).submitted [] p.memory (queue_forgotten q) (forget c)
 queue_next {p} {ch} {q} at none =
     let c = channel (object_of (view_of p)) ch in
     let t = at.tied in
@@ -92,7 +82,8 @@ holds_next p h none =
           let q = slice_index_or p.queues ch d in
           let at = get_or-map queue_forgotten p.queues ch d d l in
           let here = holds_at p h ch q l (get_or_default p.queues ch d q l) in
-          let taken : taken_of q.channel ≡ None = ap (λ (x : ChannelSchedule). x.taken) (sym here.schedule_is) ∙ none_taken o s ch h.sound.fits none here.there in
+          let taken : taken_of q.channel ≡ None = ap (λ (x : ChannelSchedule). x.taken) (sym here.schedule_is)
+          ∙ none_taken o s ch h.sound.fits none here.there in
           rw (at, forgotten_at o ch) (queue_next here taken);
       prepared = λ ch. subst (IsPrepared p.made) (sym (later ch)) tt;
       ranges = λ ch d less.
@@ -115,12 +106,14 @@ image_now p h none =
 
 -- ---- one queue after another
 
-pub at_next_law : (xs : List Queue) (i : ℕ) (d : Queue) → i < length xs → slice_index_or (map queue_forgotten (take i xs) ++ drop i xs) i d ≡ slice_index_or xs i d
+pub at_next_law : (xs : List Queue) (i : ℕ) (d : Queue) → i < length xs
+    → slice_index_or (map queue_forgotten (take i xs) ++ drop i xs) i d ≡ slice_index_or xs i d
 at_next_law [] i d h = absurd (omega arith)
 at_next_law (x ∷ xs) zero d h = refl
 at_next_law (x ∷ xs) (suc i) d h = at_next_law xs i d (omega arith)
 
-pub set_next_law : (xs : List Queue) (i : ℕ) (q d : Queue) → i < length xs → q ≡ queue_forgotten (slice_index_or xs i d) → slice_set (map queue_forgotten (take i xs) ++ drop i xs) i q ≡ map queue_forgotten (take (suc i) xs) ++ drop (suc i) xs
+pub set_next_law : (xs : List Queue) (i : ℕ) (q d : Queue) → i < length xs → q ≡ queue_forgotten (slice_index_or xs i d)
+    → slice_set (map queue_forgotten (take i xs) ++ drop i xs) i q ≡ map queue_forgotten (take (suc i) xs) ++ drop (suc i) xs
 set_next_law [] i q d h e = absurd (omega arith)
 set_next_law (x ∷ xs) zero q d h e = ap (λ y. y ∷ xs) e
 set_next_law (x ∷ xs) (suc i) q d h e = ap (λ l. queue_forgotten x ∷ l) (set_next_law xs i q d (omega arith) e)
@@ -140,7 +133,8 @@ counts_next c h =
     let done : finished (forget c) ≡ finished c = omega arith in
     rw (same, done) refl
 
-counts_all_law : (cs : List ChannelState) → ((k : ℕ) → finished (slice_index_or cs k empty_channel) ≤ used (slice_index_or cs k empty_channel)) → map counts_of (map forget cs) ≡ map counts_of cs
+counts_all_law : (cs : List ChannelState) → ((k : ℕ) → finished (slice_index_or cs k empty_channel) ≤ used (slice_index_or cs k empty_channel))
+    → map counts_of (map forget cs) ≡ map counts_of cs
 counts_all_law [] h = refl
 counts_all_law (c ∷ cs) h =
     let first : counts_of (forget c) ≡ counts_of c = counts_next c (h 0) in

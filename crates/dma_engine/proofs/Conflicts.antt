@@ -1,27 +1,21 @@
 -- The fronts that are found by their entries, and the first running transfer that conflicts.
 use Rattle.std.proofs.Common.{◌≡◌, ℕ, ◌+◌, ◌-◌, ◌<◌, ◌≤◌, List, length, Option, Some, None, Bool, true, false, cond, refl, ap, sym, ◌∙◌, arith}
-use Rattle.std.specs.Prelude.{find, slice_index_or, unwrap_or, nat_lt}
-use Rattle.std.specs.Option.{option_map, option_to_list}
+use Rattle.std.specs.{Prelude.find, Prelude.slice_index_or, Prelude.unwrap_or, Prelude.nat_lt, Option.option_map, Option.option_to_list}
 use Rattle.std.proofs.lemmas.Bool.{le-ltb, lt-ltb, ltb-false, ltb-true}
 use Rattle.std.proofs.lemmas.Option.{get_or_from_slice_get, slice_get-get_or}
 use Rattle.dma_mem.specs.Places.{Descriptor}
-use Rattle.dma_engine.specs.declared.queue.Queue.{Queue}
-use Rattle.dma_engine.specs.declared.access.Ranges.{Ranges}
-use Rattle.dma_engine.specs.inner.Ranges.{AreOfRunning, HasRangesOf}
 use Rattle.dma_engine.specs.Object.{Object, ChannelState, channel, front, issued_front, finished, no_transfer, used}
 use Rattle.dma_engine.specs.View.{ChannelSchedule, RunningTransfer, object_of, runs, running_in, running, idle}
-use Rattle.dma_engine.specs.inner.Accesses.{named}
-use Rattle.dma_engine.specs.inner.Found.{front_in, transfer_at}
-use Rattle.dma_engine.specs.inner.Holds.{Parts, view_of}
-use Rattle.dma_engine.proofs.Boards.{counted_at}
-use Rattle.dma_engine.proofs.ConflictsByRanges.{kept_ranges, no_ranges}
+use Rattle.dma_engine.specs.{declared.queue.Queue.Queue, declared.access.Ranges.Ranges, inner.Ranges.AreOfRunning, inner.Ranges.HasRangesOf}
+use Rattle.dma_engine.specs.{inner.Accesses.named, inner.Found.front_in, inner.Found.transfer_at, inner.Holds.Parts, inner.Holds.view_of}
 use Rattle.dma_engine.proofs.Queues.{Front, HoldsAt, transfer_found}
-use Rattle.dma_engine.proofs.WhatRuns.{below, find_here}
+use Rattle.dma_engine.proofs.{Boards.counted_at, ConflictsByRanges.kept_ranges, ConflictsByRanges.no_ranges, WhatRuns.below, WhatRuns.find_here}
 
 -- ---- the issued front
 
 -- if fewer are finished than issued, there is an issued front
-pub front_queued : {p : Parts} {ch : ℕ} {q : Queue} → HoldsAt p ch q → q.forgotten + length q.outcomes.items < q.issued → Front (channel (object_of (view_of p)) ch) (λ t. Unit {0})
+pub front_queued : {p : Parts} {ch : ℕ} {q : Queue} → HoldsAt p ch q → q.forgotten + length q.outcomes.items < q.issued
+    → Front (channel (object_of (view_of p)) ch) (λ t. Unit {0})
 front_queued {p} {ch} {q} at open_one =
     let c = channel (object_of (view_of p)) ch in
     let counted = counted_at p at.holds ch in
@@ -32,7 +26,8 @@ front_queued {p} {ch} {q} at open_one =
     record { transfer = _; is = is; issued = rw e is; holds = tt; within = inside; below = before }
 
 -- and it is found in the base or in the history
-pub front_found : {p : Parts} {ch : ℕ} {q : Queue} → HoldsAt p ch q → front_in q (channel p.base ch).submitted p.history ≡ issued_front (channel (object_of (view_of p)) ch)
+pub front_found : {p : Parts} {ch : ℕ} {q : Queue} → HoldsAt p ch q
+    → front_in q (channel p.base ch).submitted p.history ≡ issued_front (channel (object_of (view_of p)) ch)
 front_found {p} {ch} {q} at = by (nat_lt (length q.outcomes.items) (q.issued - q.forgotten)) refl where
   c : ChannelState
   c = channel (object_of (view_of p)) ch
@@ -73,12 +68,15 @@ few_issued {p} {ch} at =
 runs_named : (ch : ℕ) (c : ChannelState) (taken : Option ℕ) (r : RunningTransfer) → running_in ch c taken ≡ Some r → (r.ch ≡ ch) × (r.cookie ≡ finished c + 1)
 runs_named ch c None r h = absurd cc
 runs_named ch c (Some n) r h = by (front c) h where
-  by : (o : Option Descriptor) → option_map (λ t. record { ch = ch; cookie = finished c + 1; transfer = t; taken = n }) o ≡ Some r → (r.ch ≡ ch) × (r.cookie ≡ finished c + 1)
+  by : (o : Option Descriptor) → option_map (λ t. record { ch = ch; cookie = finished c + 1; transfer = t; taken = n }) o ≡ Some r → (r.ch ≡ ch)
+      × (r.cookie ≡ finished c + 1)
   by None e = absurd cc
   by (Some t) e = (sym (ap (λ (x : Option RunningTransfer). (unwrap_or x r).ch) e), sym (ap (λ (x : Option RunningTransfer). (unwrap_or x r).cookie) e))
 
 -- the first transfer that conflicts is the one with these ranges
-pub way_here : (q : Descriptor → Bool) (o : Object) (s : List ChannelSchedule) (ch cookie : ℕ) (r : Ranges) → ch < length o.channels → find (λ x. q x.transfer) (below o s ch) ≡ None → AreOfRunning (Some r) (runs o s ch) → cookie ≡ finished (channel o ch) + 1 → ((t : Descriptor) → HasRangesOf r t → true ≡ q t) → Some (ch, cookie) ≡ named (find (λ x. q x.transfer) (running o s))
+pub way_here : (q : Descriptor → Bool) (o : Object) (s : List ChannelSchedule) (ch cookie : ℕ) (r : Ranges) → ch < length o.channels
+    → find (λ x. q x.transfer) (below o s ch) ≡ None → AreOfRunning (Some r) (runs o s ch) → cookie ≡ finished (channel o ch) + 1
+    → ((t : Descriptor) → HasRangesOf r t → true ≡ q t) → Some (ch, cookie) ≡ named (find (λ x. q x.transfer) (running o s))
 way_here q o s ch cookie r less none kept number passes =
     let k = kept_ranges r (runs o s ch) kept in
     let x = k.it in
@@ -88,7 +86,8 @@ way_here q o s ch cookie r less none kept number passes =
     sym (ap named first ∙ pair)
 
 -- a transfer that doesn't conflict is passed over
-pub passed_over : (q : Descriptor → Bool) (x : Option RunningTransfer) (r : Ranges) → AreOfRunning (Some r) x → ((t : Descriptor) → HasRangesOf r t → false ≡ q t) → find (λ y. q y.transfer) (option_to_list x) ≡ None
+pub passed_over : (q : Descriptor → Bool) (x : Option RunningTransfer) (r : Ranges) → AreOfRunning (Some r) x
+    → ((t : Descriptor) → HasRangesOf r t → false ≡ q t) → find (λ y. q y.transfer) (option_to_list x) ≡ None
 passed_over q x r kept fails =
     let k = kept_ranges r x kept in
     ap (λ y. find (λ z. q z.transfer) (option_to_list y)) k.is ∙ ap (λ b. cond b (Some k.it) None) (sym (fails k.it.transfer k.ranges))

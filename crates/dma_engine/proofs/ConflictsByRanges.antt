@@ -1,16 +1,11 @@
 -- The ranges of what runs, and which running transfers conflict by them.
 use Rattle.std.proofs.Common.{◌≡◌, ℕ, ◌+◌, ◌≤◌, Option, Some, None, Bool, true, false, ◌||◌, not, refl, ap, sym, ◌∙◌, subst, arith, List}
 use Rattle.std.specs.Prelude.{nat_le}
-use Rattle.std.proofs.lemmas.Bool.{and_parts, le-leb}
-use Rattle.std.proofs.lemmas.List.Sums.{list_all-from_AllPass}
-use Rattle.std.proofs.Math.Bool.{or_assoc}
+use Rattle.std.proofs.{lemmas.Bool.and_parts, lemmas.Bool.le-leb, lemmas.List.Sums.list_all-from_AllPass, Math.Bool.or_assoc}
 use Rattle.dma_mem.specs.declared.segment.Segment.{Segment}
 use Rattle.dma_mem.specs.Places.{Descriptor, all_below, destinations, is_free_of, lies_below, places, range_of, share, sources, touches, writes}
-use Rattle.dma_mem.proofs.SharedPlaces.{ends_below}
-use Rattle.dma_mem.proofs.RangeSets.{is_free_of_ranges, touches_ranges, writes_ranges}
-use Rattle.dma_engine.specs.declared.access.Ranges.{Ranges}
-use Rattle.dma_engine.specs.inner.Ranges.{AreOfRunning, HasRangesOf}
-use Rattle.dma_engine.specs.View.{RunningTransfer}
+use Rattle.dma_mem.proofs.{SharedPlaces.ends_below, RangeSets.is_free_of_ranges, RangeSets.touches_ranges, RangeSets.writes_ranges}
+use Rattle.dma_engine.specs.{declared.access.Ranges.Ranges, inner.Ranges.AreOfRunning, inner.Ranges.HasRangesOf, View.RunningTransfer}
 
 -- ---- below a higher address
 
@@ -33,17 +28,21 @@ or_first a x y is h = h ∙ ap (λ b. b || y) (sym h ∙ is)
 pub or_second : (a b x y : Bool) → a ≡ x → a ≡ false → b ≡ y → b ≡ (x || y)
 or_second a b x y is h next = next ∙ ap (λ c. c || y) (sym h ∙ is)
 
-pub write_way : (r : Ranges) (t : Descriptor) (range : Segment) (b : Bool) → HasRangesOf r t → b ≡ (share (range_of range) (places r.destinations) || share (range_of range) (places r.sources)) → b ≡ touches t range
+pub write_way : (r : Ranges) (t : Descriptor) (range : Segment) (b : Bool) → HasRangesOf r t
+    → b ≡ (share (range_of range) (places r.destinations) || share (range_of range) (places r.sources)) → b ≡ touches t range
 write_way r t range b h is = is ∙ touches_ranges t range r.sources r.destinations h.sources h.destinations
 
-pub read_way : (r : Ranges) (t : Descriptor) (range : Segment) (b : Bool) → HasRangesOf r t → b ≡ share (range_of range) (places r.destinations) → b ≡ writes t range
+pub read_way : (r : Ranges) (t : Descriptor) (range : Segment) (b : Bool) → HasRangesOf r t → b ≡ share (range_of range) (places r.destinations)
+    → b ≡ writes t range
 read_way r t range b h is = is ∙ writes_ranges t range r.destinations h.destinations
 
 not_not : (b : Bool) → not (not b) ≡ b
 not_not true = refl
 not_not false = refl
 
-pub start_way : (r : Ranges) (t other : Descriptor) (b : Bool) → HasRangesOf r t → b ≡ ((share (destinations other) (places r.destinations) || share (destinations other) (places r.sources)) || share (sources other) (places r.destinations)) → b ≡ not (is_free_of other t)
+pub start_way : (r : Ranges) (t other : Descriptor) (b : Bool) → HasRangesOf r t
+    → b ≡ ((share (destinations other) (places r.destinations) || share (destinations other) (places r.sources)) || share (sources other)
+    (places r.destinations)) → b ≡ not (is_free_of other t)
 start_way r t other b h is =
     let one = share (destinations other) (places r.destinations) in
     let two = share (destinations other) (places r.sources) in

@@ -1,36 +1,29 @@
 -- The state of a channel after a submit and a terminate on it, and the counts that the ticks of a history sum up to.
 use Rattle.std.proofs.Common.{◌≡◌, ℕ, ◌+◌, ◌<◌, ◌≤◌, ◌^◌, List, [], ◌∷◌, length, drop, refl, ap, sym, ◌∙◌, arith, inl, inr, ◌++◌}
-use Rattle.std.specs.List.{All}
-use Rattle.std.specs.Prelude.{Option, Some, None}
-use Rattle.std.proofs.lemmas.Bool.{cases_lt}
+use Rattle.std.specs.{List.All, Prelude.Option, Prelude.Some, Prelude.None}
 use Rattle.std.proofs.lemmas.List.{length-map, length_push, get_or-set_same, get_or_past, length-append, length-drop}
 use Rattle.std.proofs.lemmas.List.Elements.{All-cons, All-from_get_or, All-nil}
-use Rattle.std.proofs.lemmas.List.Sums.{sum_by-le}
-use Rattle.std.proofs.Math.ListN.{get_or-map}
+use Rattle.std.proofs.{lemmas.Bool.cases_lt, lemmas.List.Sums.sum_by-le, Math.ListN.get_or-map}
 use Rattle.dma_mem.specs.Places.{Descriptor}
-use Rattle.dma_engine.specs.declared.call.Reply.{Reply}
-use Rattle.dma_engine.specs.declared.call.Reply.TheVariants.{Cookie, Count, Refused}
-use Rattle.dma_engine.specs.declared.fault.EngineFault.{EngineFault}
-use Rattle.dma_engine.specs.declared.entry.Entry.{Entry}
-use Rattle.dma_engine.specs.declared.entry.Entry.TheVariants.{Submitted as SubmittedEntry, Finished as FinishedEntry, Terminated as TerminatedEntry}
-use Rattle.dma_engine.specs.declared.outcome.TransResult.{TransResult}
-use Rattle.dma_engine.specs.declared.outcome.TransResult.TheVariants.{Aborted}
-use Rattle.dma_engine.specs.Answer.{unless, channel_fault, done_on, submit_fault, terminated}
-use Rattle.dma_engine.specs.History.{IsLegal}
 use Rattle.dma_engine.specs.Laws.{SubmitsAdd, TerminatesAdd, BoardsCount, StatusByTicks, BaseCountsBounded, TicksAtMostEntries, TicksNameChannels}
-use Rattle.dma_engine.specs.Object.{Allows, ChannelState, FrontIs, Object, after, channel, empty_channel, last_cookie, used, finished, finished_all, unfinished, aborted, with_transfer, with_all_aborted, with_front_laid}
-use Rattle.dma_engine.specs.Ticks.{Counts, Finished, Submitted, counts_of, tick_channel, ticks_of}
-use Rattle.dma_engine.specs.Turn.{with_entry}
-use Rattle.dma_engine.specs.View.{IsSound, View, object_of, channels}
+use Rattle.dma_engine.specs.Object.{Allows, ChannelState, FrontIs, Object, after, channel, empty_channel, last_cookie, used, finished, finished_all, unfinished}
+use Rattle.dma_engine.specs.Object.{aborted, with_transfer, with_all_aborted, with_front_laid}
+use Rattle.dma_engine.specs.{declared.call.Reply.Reply, declared.call.Reply.TheVariants.Cookie, declared.call.Reply.TheVariants.Count}
+use Rattle.dma_engine.specs.{declared.call.Reply.TheVariants.Refused, declared.fault.EngineFault.EngineFault, declared.entry.Entry.Entry}
+use Rattle.dma_engine.specs.{declared.outcome.TransResult.TransResult, declared.outcome.TransResult.TheVariants.Aborted, Answer.unless, Answer.channel_fault}
+use Rattle.dma_engine.specs.{Answer.done_on, Answer.submit_fault, Answer.terminated, History.IsLegal, Ticks.Counts, Ticks.Finished, Ticks.Submitted}
+use Rattle.dma_engine.specs.{Ticks.counts_of, Ticks.tick_channel, Ticks.ticks_of, Turn.with_entry, View.IsSound, View.View, View.object_of, View.channels}
 use Rattle.dma_engine.proofs.AnswerCounts.{finished_same, finished_with, object_one, ticks_append}
 use Rattle.dma_engine.proofs.Boards.{AreCounted, board_is, counted_base, counted_object, length_aborted, status_by_board}
 use Rattle.dma_engine.proofs.CallCases.{channel_open, submit_open}
+use Rattle.dma_engine.specs.declared.entry.Entry.TheVariants.{Submitted as SubmittedEntry, Finished as FinishedEntry, Terminated as TerminatedEntry}
 use Rattle.dma_engine.proofs.Sizes.{made, many_after as channels-after, many_channels as channels-object}
 
 -- ---- a reply that is no refusal
 
 -- Nothing refuses the call, and the reply and the view are those of an accepted one.
-not_refused : (f : Option EngineFault) (v w : View) (x : Reply × View) (reply : Reply) → ((fault : EngineFault) → reply ≡ Refused fault → ⊥) → (reply, w) ≡ unless f v x → (f ≡ None) × ((reply, w) ≡ x)
+not_refused : (f : Option EngineFault) (v w : View) (x : Reply × View) (reply : Reply) → ((fault : EngineFault) → reply ≡ Refused fault → ⊥)
+    → (reply, w) ≡ unless f v x → (f ≡ None) × ((reply, w) ≡ x)
 not_refused None v w x reply is_answer h = (refl, h)
 not_refused (Some fault) v w x reply is_answer h = absurd (is_answer fault (ap (λ (y : Reply × View). y.0) h))
 
@@ -44,7 +37,8 @@ submits_add v w ch cookie t h =
     let number : cookie ≡ used c + 1 = let both : Cookie cookie ≡ Cookie (used c + 1) = ap (λ (x : Reply × View). x.0) a.1 in cc in
     let is : w ≡ with_entry v e = ap (λ (x : Reply × View). x.1) a.1 in
     let becomes : object_of w ≡ after o e = ap object_of is ∙ object_one v e in
-    let here : channel (object_of w) ch ≡ with_transfer c t = ap (λ (x : Object). channel x ch) becomes ∙ get_or-set_same o.channels ch (with_transfer c t) empty_channel less in
+    let here : channel (object_of w) ch ≡ with_transfer c t = ap (λ (x : Object). channel x ch) becomes
+    ∙ get_or-set_same o.channels ch (with_transfer c t) empty_channel less in
     let many : channels w ≡ channels v = ap (λ (x : Object). length x.channels) becomes ∙ channels-after o e in (
       record {
         ticks = ap (λ (u : View). ticks_of u.history) is ∙ ticks_append v.history (e ∷ []);
@@ -68,9 +62,17 @@ terminates_add v w ch count h =
     let number : count ≡ m = let both : Count count ≡ Count m = ap (λ (x : Reply × View). x.0) a.1 in cc in
     let is : w ≡ terminated v ch = ap (λ (x : Reply × View). x.1) a.1 in
     let becomes : object_of w ≡ after o e = ap object_of is ∙ object_one v e in
-    let here : channel (object_of w) ch ≡ with_all_aborted c done = ap (λ (x : Object). channel x ch) becomes ∙ get_or-set_same o.channels ch (with_all_aborted c done) empty_channel less in
+    let here : channel (object_of w) ch ≡ with_all_aborted c done = ap (λ (x : Object). channel x ch) becomes
+    ∙ get_or-set_same o.channels ch (with_all_aborted c done) empty_channel less in
     let many : channels w ≡ channels v = ap (λ (x : Object). length x.channels) becomes ∙ channels-after o e in
-    let more : finished (with_all_aborted c done) ≡ finished c + m = omega (arith, length-append c.outcomes (aborted done (drop (length c.outcomes) c.submitted)), length_aborted done (drop (length c.outcomes) c.submitted), length-drop (length c.outcomes) c.submitted) in (
+    let more : finished (with_all_aborted c done) ≡ finished c + m =
+    omega (
+      arith,
+      length-append c.outcomes (aborted done (drop (length c.outcomes) c.submitted)),
+      length_aborted done
+          (drop (length c.outcomes) c.submitted),
+      length-drop (length c.outcomes) c.submitted,
+    ) in (
       record {
         ticks = ap (λ (u : View). ticks_of u.history) is ∙ ticks_append v.history (e ∷ []) ∙ ap (λ k. ticks_of v.history ++ Finished ch k ∷ []) (sym number);
         steps = omega (arith, ap (λ (u : View). u.steps) is);
@@ -128,9 +130,15 @@ finish_there o ch result done h = front_there_law o ch _ h
 -- the ticks of a legal history are of channels that are there
 ticks_there : (n : ℕ) (o : Object) (es : List Entry) → length o.channels ≡ n → IsLegal o es → All (λ t. tick_channel t < n) (ticks_of es)
 ticks_there n o [] many h = All-nil (λ t. tick_channel t < n)
-ticks_there n o (SubmittedEntry ch t cookie ∷ es) many h = All-cons (λ t. tick_channel t < n) (Submitted ch) (ticks_of es) (omega (arith, h.0.0, many)) (ticks_there n (after o (SubmittedEntry ch t cookie)) es (channels-after o (SubmittedEntry ch t cookie) ∙ many) h.1)
-ticks_there n o (FinishedEntry ch result done ∷ es) many h = All-cons (λ t. tick_channel t < n) (Finished ch 1) (ticks_of es) (omega (arith, finish_there o ch result done h.0, many)) (ticks_there n (after o (FinishedEntry ch result done)) es (channels-after o (FinishedEntry ch result done) ∙ many) h.1)
-ticks_there n o (TerminatedEntry ch done count ∷ es) many h = All-cons (λ t. tick_channel t < n) (Finished ch count) (ticks_of es) (omega (arith, h.0.0, many)) (ticks_there n (after o (TerminatedEntry ch done count)) es (channels-after o (TerminatedEntry ch done count) ∙ many) h.1)
+ticks_there n o (SubmittedEntry ch t cookie ∷ es) many h =
+    All-cons (λ t. tick_channel t < n) (Submitted ch) (ticks_of es) (omega (arith, h.0.0, many))
+    (ticks_there n (after o (SubmittedEntry ch t cookie)) es (channels-after o (SubmittedEntry ch t cookie) ∙ many) h.1)
+ticks_there n o (FinishedEntry ch result done ∷ es) many h =
+    All-cons (λ t. tick_channel t < n) (Finished ch 1) (ticks_of es) (omega (arith, finish_there o ch result done h.0, many))
+    (ticks_there n (after o (FinishedEntry ch result done)) es (channels-after o (FinishedEntry ch result done) ∙ many) h.1)
+ticks_there n o (TerminatedEntry ch done count ∷ es) many h =
+    All-cons (λ t. tick_channel t < n) (Finished ch count) (ticks_of es) (omega (arith, h.0.0, many))
+    (ticks_there n (after o (TerminatedEntry ch done count)) es (channels-after o (TerminatedEntry ch done count) ∙ many) h.1)
 ticks_there n o (e ∷ es) many h = ticks_there n (after o e) es (channels-after o e ∙ many) h.1
 
 pub ticks_name_channels : TicksNameChannels

@@ -1,41 +1,28 @@
 -- What an engine keeps when an entry is added that changes no channel: a write, a read, a mark, an unmark, a raise.
 use Rattle.std.proofs.Common.{◌≡◌, ◌≢◌, ℕ, ◌+◌, ◌<◌, ◌≤◌, List, [], ◌∷◌, ◌++◌, length, None, true, refl, ap, sym, ◌∙◌, arith, take, drop, inr, subst}
-use Rattle.std.specs.Prelude.{slice_index, slice_index_or, slice_set}
-use Rattle.std.specs.List.{Contains, range_with_len}
-use Rattle.std.specs.Map.{keys_of}
-use Rattle.std.proofs.lemmas.List.{get_or_default}
-use Rattle.std.proofs.lemmas.List.FromFn.{length-range_with_len}
-use Rattle.std.proofs.lemmas.Map.Made.{keys_of-zip}
-use Rattle.dma_mem.specs.Image.{put, bytes_at}
-use Rattle.dma_mem.specs.Places.{touches, writes}
-use Rattle.dma_mem.specs.declared.marks.MarkKind.{MarkKind}
-use Rattle.dma_mem.specs.declared.segment.Segment.{Segment}
-use Rattle.dma_mem.proofs.ImagePut.{get_or_put_other}
-use Rattle.dma_mem.proofs.SharedPlaces.{touches_false}
+use Rattle.std.specs.{Prelude.slice_index, Prelude.slice_index_or, Prelude.slice_set, List.Contains, List.range_with_len, Map.keys_of}
+use Rattle.std.proofs.{lemmas.List.get_or_default, lemmas.List.FromFn.length-range_with_len, lemmas.Map.Made.keys_of-zip}
+use Rattle.dma_mem.specs.{Image.put, Image.bytes_at, Places.touches, Places.writes, declared.marks.MarkKind.MarkKind, declared.segment.Segment.Segment}
+use Rattle.dma_mem.proofs.{ImagePut.get_or_put_other, SharedPlaces.touches_false}
 use Rattle.dma_engine.specs.declared.entry.Entry.TheVariants.{Wrote, ReadBack, Signalled, Marked, Unmarked}
-use Rattle.dma_engine.specs.declared.entry.Signaller.TheVariants.{Host}
-use Rattle.dma_engine.specs.Object.{Object, channel, after}
 use Rattle.dma_engine.specs.View.{View, ChannelSchedule, running, memory_shown, object_of, channels, memory_of, IsSound}
-use Rattle.dma_engine.specs.Answer.{write_fault, read_fault}
-use Rattle.dma_engine.specs.inner.Holds.{Holds, Parts, view_of}
-use Rattle.dma_engine.specs.Turn.{with_entry}
-use Rattle.dma_engine.proofs.CallCases.{range_open, read_entry}
-use Rattle.dma_engine.proofs.Changes.{holds_entered, run_kept, with_entry_at}
-use Rattle.dma_engine.proofs.Memory.{shown_read, shown_wrote}
-use Rattle.dma_engine.proofs.Queues.{holds_at, many_queues, runs_at}
-use Rattle.dma_engine.proofs.StaysSound.{entered_sound}
-use Rattle.dma_engine.proofs.WhatRuns.{find_none_at}
+use Rattle.dma_engine.specs.{declared.entry.Signaller.TheVariants.Host, Object.Object, Object.channel, Object.after, Answer.write_fault, Answer.read_fault}
+use Rattle.dma_engine.specs.{inner.Holds.Holds, inner.Holds.Parts, inner.Holds.view_of, Turn.with_entry}
+use Rattle.dma_engine.proofs.{CallCases.range_open, CallCases.read_entry, Changes.holds_entered, Changes.run_kept, Changes.with_entry_at, Memory.shown_read}
+use Rattle.dma_engine.proofs.{Memory.shown_wrote, Queues.holds_at, Queues.many_queues, Queues.runs_at, StaysSound.entered_sound, WhatRuns.find_none_at}
 
 -- ---- a write
 
 -- an address that a write doesn't touch keeps its byte
-kept_byte : (memory : List ℕ) (addr : ℕ) (bytes : List ℕ) (a : ℕ) → ¬ Contains (range_with_len addr (length bytes)) a → slice_index (put memory (bytes_at addr bytes)) a ≡ slice_index memory a
+kept_byte : (memory : List ℕ) (addr : ℕ) (bytes : List ℕ) (a : ℕ) → ¬ Contains (range_with_len addr (length bytes)) a
+    → slice_index (put memory (bytes_at addr bytes)) a ≡ slice_index memory a
 kept_byte memory addr bytes a h =
     let range = range_with_len addr (length bytes) in
     let keys : keys_of (bytes_at addr bytes) ≡ range = keys_of-zip range bytes (sym (length-range_with_len addr (length bytes))) in
     get_or_put_other memory (bytes_at addr bytes) a (rw keys h)
 
-pub holds_wrote : (p : Parts) (addr : ℕ) (bytes : List ℕ) → Holds p → write_fault (view_of p) addr (length bytes) ≡ None → Holds (with_entry_at p (Wrote addr bytes) (put p.memory (bytes_at addr bytes)) p.events p.marks)
+pub holds_wrote : (p : Parts) (addr : ℕ) (bytes : List ℕ) → Holds p → write_fault (view_of p) addr (length bytes) ≡ None
+    → Holds (with_entry_at p (Wrote addr bytes) (put p.memory (bytes_at addr bytes)) p.events p.marks)
 holds_wrote p addr bytes h free =
     let v : View = view_of p in
     let o = object_of v in
@@ -60,14 +47,18 @@ holds_wrote p addr bytes h free =
 -- ---- a read
 
 -- the bytes that are read are the image's
-pub read_seen : (p : Parts) (v : View) (addr n : ℕ) (bytes : List ℕ) → Holds p → view_of p ≡ v → read_fault v addr n ≡ None → bytes ≡ take n (drop addr p.memory) → bytes ≡ take n (drop addr (object_of v).image)
+pub read_seen : (p : Parts) (v : View) (addr n : ℕ) (bytes : List ℕ) → Holds p → view_of p ≡ v → read_fault v addr n ≡ None
+    → bytes ≡ take n (drop addr p.memory) → bytes ≡ take n (drop addr (object_of v).image)
 read_seen p v addr n bytes h is free read =
-    read ∙ ap (λ m. take n (drop addr m)) (h.shown ∙ ap memory_of is) ∙ shown_read (object_of v) v.schedule addr n (range_open v addr n (λ s t. writes t s) free).1
+    read ∙ ap (λ m. take n (drop addr m)) (h.shown ∙ ap memory_of is)
+    ∙ shown_read (object_of v) v.schedule addr n (range_open v addr n (λ s t. writes t s) free).1
 
-pub holds_read : (p : Parts) (v : View) (addr n : ℕ) (bytes : List ℕ) → Holds p → view_of p ≡ v → read_fault v addr n ≡ None → bytes ≡ take n (drop addr p.memory) → Holds (with_entry_at p (ReadBack addr bytes) p.memory p.events p.marks)
+pub holds_read : (p : Parts) (v : View) (addr n : ℕ) (bytes : List ℕ) → Holds p → view_of p ≡ v → read_fault v addr n ≡ None
+    → bytes ≡ take n (drop addr p.memory) → Holds (with_entry_at p (ReadBack addr bytes) p.memory p.events p.marks)
 holds_read p v addr n bytes h is free read =
     holds_entered p (ReadBack addr bytes) p.memory p.events p.marks h (record {
-      sound = subst (λ (w : View). IsSound (with_entry w (ReadBack addr bytes))) (sym is) (entered_sound v (ReadBack addr bytes) (subst IsSound is h.sound) (read_entry v addr n bytes free (read_seen p v addr n bytes h is free read)) refl);
+      sound = subst (λ (w : View). IsSound (with_entry w (ReadBack addr bytes))) (sym is)
+          (entered_sound v (ReadBack addr bytes) (subst IsSound is h.sound) (read_entry v addr n bytes free (read_seen p v addr n bytes h is free read)) refl);
       stay = refl;
       shown = h.shown;
       events = h.events;
@@ -82,7 +73,8 @@ unfolding running
 shown_same o p s image channels = rw (image, channels) refl
 
 -- the memory that is shown depends only on the image and the channels
-pub holds_marked : (p : Parts) (kind : MarkKind) (s : Segment) → Holds p → s.len ≢ 0 → s.addr + s.len ≤ 4294967296 → Holds (with_entry_at p (Marked kind s) p.memory p.events (p.marks ++ (kind, s) ∷ []))
+pub holds_marked : (p : Parts) (kind : MarkKind) (s : Segment) → Holds p → s.len ≢ 0 → s.addr + s.len ≤ 4294967296
+    → Holds (with_entry_at p (Marked kind s) p.memory p.events (p.marks ++ (kind, s) ∷ []))
 holds_marked p kind s h some within =
     holds_entered p (Marked kind s) p.memory p.events (p.marks ++ (kind, s) ∷ []) h (record {
       sound = entered_sound (view_of p) (Marked kind s) h.sound (omega arith, within) refl;
@@ -104,7 +96,8 @@ holds_unmarked p h =
       machines = λ ch d less machine. machine;
     })
 
-pub holds_raised : (p : Parts) (event : ℕ) → Holds p → event ≤ 31 → Holds (with_entry_at p (Signalled Host event) p.memory (slice_set p.events event true) p.marks)
+pub holds_raised : (p : Parts) (event : ℕ) → Holds p → event ≤ 31
+    → Holds (with_entry_at p (Signalled Host event) p.memory (slice_set p.events event true) p.marks)
 holds_raised p event h small =
     holds_entered p (Signalled Host event) p.memory (slice_set p.events event true) p.marks h (record {
       sound = entered_sound (view_of p) (Signalled Host event) h.sound small refl;

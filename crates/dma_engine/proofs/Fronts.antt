@@ -1,33 +1,20 @@
 -- The front of a channel, by what the object knows of the channel and the instructions that it has executed.
-use Rattle.std.proofs.Common.{◌≡◌, ◌≢◌, ℕ, ◌+◌, ◌-◌, ◌<◌, ◌≤◌, List, [], ◌∷◌, take, drop, Option, Some, None, Bool, true, false, ◌&&◌, ◌||◌, zero, suc, refl, ap, sym, ◌∙◌, subst, arith, inl, inr}
-use Rattle.std.specs.Prelude.{is_some, nat_lt, ◌==◌, IfSome, IsSome, MatchOption}
-use Rattle.std.specs.List.{list_any}
-use Rattle.std.specs.Option.{option_map_or}
+use Rattle.std.proofs.Common.{◌≡◌, ◌≢◌, ℕ, ◌+◌, ◌-◌, ◌<◌, ◌≤◌, List, [], ◌∷◌, take, drop, Option, Some, None, Bool, true, false, ◌&&◌, ◌||◌, zero, suc, refl}
+use Rattle.std.proofs.Common.{ap, sym, ◌∙◌, subst, arith, inl, inr}
+use Rattle.std.specs.{Prelude.is_some, Prelude.nat_lt, Prelude.◌==◌, Prelude.IfSome, Prelude.IsSome, Prelude.MatchOption, List.list_any, Option.option_map_or}
 use Rattle.std.proofs.lemmas.Bool.{cases_lt, eq-eqb, eqb-true, ne_eqb, lt-ltb, ltb-false, false≢true, true≢false, and_right}
 use Rattle.dma_insn.specs.declared.chip.ChipInsn.TheVariants.{End, Sev, Wfe}
-use Rattle.dma_mem.specs.Marking.{MarkList, meets_mark}
-use Rattle.dma_mem.specs.declared.marks.MarkKind.{MarkKind}
-use Rattle.dma_mem.specs.declared.marks.MarkKind.TheVariants.{Reading, Writing}
 use Rattle.dma_mem.specs.Places.{Descriptor, sources, destinations, size_of, lies_below}
-use Rattle.dma_mem.specs.Rules.{IsTransfer}
-use Rattle.dma_chan.specs.Compiled.{cost}
-use Rattle.dma_chan.specs.Traffic.{member, stored_after, burst}
+use Rattle.dma_mem.specs.{Marking.MarkList, Marking.meets_mark, declared.marks.MarkKind.MarkKind, declared.marks.MarkKind.TheVariants.Reading}
+use Rattle.dma_mem.specs.{declared.marks.MarkKind.TheVariants.Writing, Rules.IsTransfer}
+use Rattle.dma_chan.specs.{Compiled.cost, Traffic.member, Traffic.stored_after, Traffic.burst, Channel.ChannelValue, inner.At.IsAt, Programs.ProgramValue}
 use Rattle.dma_chan.proofs.ShapeLaws.{shape_is, stored_is}
-use Rattle.dma_engine.specs.declared.entry.Entry.TheVariants.{Finished}
-use Rattle.dma_engine.specs.declared.outcome.TransResult.{TransResult}
 use Rattle.dma_engine.specs.declared.outcome.TransResult.TheVariants.{NoError, ReadFailed, WriteFailed, Aborted}
-use Rattle.dma_engine.specs.declared.queue.Queue.{Queue}
 use Rattle.dma_engine.specs.Object.{ChannelState, Allows, CanHaveStored, channel, front, issued_front, finished}
 use Rattle.dma_engine.specs.View.{View, RunningTransfer, Agrees, IsSound, channels, object_of, running_in, schedule_at, runs, ChannelSchedule, size}
-use Rattle.dma_engine.specs.Answer.{done_on}
-use Rattle.dma_engine.specs.inner.Due.{Finishes}
-use Rattle.dma_engine.specs.inner.Holds.{Parts, view_of, IsRun}
-use Rattle.dma_chan.specs.Channel.{ChannelValue}
-use Rattle.dma_chan.specs.inner.At.{IsAt}
-use Rattle.dma_chan.specs.Programs.{ProgramValue}
-use Rattle.dma_engine.proofs.Queues.{HoldsAt, front_where, runs_at, runs_front, taken_some}
-use Rattle.dma_engine.proofs.TransferRules.{ruled_front}
-use Rattle.dma_engine.specs.declared.turn.Turn.TheVariants.{Finished}
+use Rattle.dma_engine.specs.{declared.entry.Entry.TheVariants.Finished, declared.outcome.TransResult.TransResult, declared.queue.Queue.Queue, Answer.done_on}
+use Rattle.dma_engine.specs.{inner.Due.Finishes, inner.Holds.Parts, inner.Holds.view_of, inner.Holds.IsRun, declared.turn.Turn.TheVariants.Finished}
+use Rattle.dma_engine.proofs.{Queues.HoldsAt, Queues.front_where, Queues.runs_at, Queues.runs_front, Queues.taken_some, TransferRules.ruled_front}
 
 -- how many bytes a running transfer has stored, or 0 if nothing runs
 abbrev pub done_by : Option RunningTransfer → ℕ
@@ -55,7 +42,8 @@ any_longer p (x ∷ xs) (suc b) (suc c) l h =
     let rest : list_any p (take b xs) ≡ true → list_any p (take c xs) ≡ true = any_longer p xs b c (omega arith) in
     either (p x) (list_any p (take b xs)) (list_any p (take c xs)) rest h
 
-more_marked : (kind : MarkKind) (marks : MarkList) (xs : List ℕ) (b : ℕ) → b ≤ 256 → meets_mark kind marks (take b xs) ≡ true → meets_mark kind marks (take 256 xs) ≡ true
+more_marked : (kind : MarkKind) (marks : MarkList) (xs : List ℕ) (b : ℕ) → b ≤ 256 → meets_mark kind marks (take b xs) ≡ true
+    → meets_mark kind marks (take 256 xs) ≡ true
 unfolding meets_mark
 more_marked kind marks xs b small h = any_longer _ xs b 256 small h
 
@@ -95,11 +83,13 @@ pub record Runs (p : Parts) (ch : ℕ) (q : Queue) : Type 0 where
   pub transfer : Descriptor
   pub known : IsFront (channel (object_of (view_of p)) ch) transfer q.channel.taken
   pub open known use *
-  pub runs_is : runs (object_of (view_of p)) (view_of p).schedule ch ≡ Some (record { ch = ch; cookie = finished (channel (object_of (view_of p)) ch) + 1; transfer = transfer; taken = q.channel.taken })
+  pub runs_is : runs (object_of (view_of p)) (view_of p).schedule ch ≡ Some
+      (record { ch = ch; cookie = finished (channel (object_of (view_of p)) ch) + 1; transfer = transfer; taken = q.channel.taken })
   pub below : lies_below transfer (size (view_of p)) ≡ true
   pub machine : IsAt transfer q.channel.taken p.memory q.channel
 
-machine_at : (memory : List ℕ) (m : ChannelValue) (c : ChannelState) (t : Descriptor) → is_some m.program ≡ true → front c ≡ Some t → IsRun memory m c → IsAt t m.taken memory m
+machine_at : (memory : List ℕ) (m : ChannelValue) (c : ChannelState) (t : Descriptor) → is_some m.program ≡ true → front c ≡ Some t → IsRun memory m c
+    → IsAt t m.taken memory m
 machine_at memory m c t loaded is h = by m.program loaded (rw is at h) where
   by : (o : Option ProgramValue) → is_some o ≡ true → IfSome o (λ _. IsAt t m.taken memory m) → IsAt t m.taken memory m
   by None e g = absurd cc
@@ -121,7 +111,8 @@ running {p} {ch} {q} at loaded =
 -- ---- after one more instruction
 
 -- it has passed if it waits
-pub passed_next : (c : ChannelState) (t : Descriptor) (n : ℕ) → IsFront c t n → ((e : ℕ) (v : Bool) → member t n ≢ Wfe e v) → c.passed ≡ (is_some t.wait && nat_lt 0 (n + 1))
+pub passed_next : (c : ChannelState) (t : Descriptor) (n : ℕ) → IsFront c t n → ((e : ℕ) (v : Bool) → member t n ≢ Wfe e v)
+    → c.passed ≡ (is_some t.wait && nat_lt 0 (n + 1))
 passed_next c t n f other = f.passed ∙ by t.wait (shape_is t f.rules).wait_first where
   by : (w : Option ℕ) → IfSome w (λ e. member t 0 ≡ Wfe e false) → (is_some w && nat_lt 0 n) ≡ (is_some w && nat_lt 0 (n + 1))
   by None first = refl
@@ -133,7 +124,8 @@ pub has_passed : (c : ChannelState) (t : Descriptor) (n : ℕ) → IsFront c t n
 has_passed c t n f other waits = passed_next c t n f other ∙ ap (λ b. b && nat_lt 0 (n + 1)) waits ∙ lt-ltb 0 (n + 1) (omega arith)
 
 -- it hasn't signalled where it doesn't signal now
-pub signalled_next : (c : ChannelState) (t : Descriptor) (n : ℕ) → IsFront c t n → ((e : ℕ) → member t n ≢ Sev e) → n + 1 < cost t → c.signalled ≡ (is_some t.signal && n + 1 == cost t - 1)
+pub signalled_next : (c : ChannelState) (t : Descriptor) (n : ℕ) → IsFront c t n → ((e : ℕ) → member t n ≢ Sev e) → n + 1 < cost t
+    → c.signalled ≡ (is_some t.signal && n + 1 == cost t - 1)
 signalled_next c t n f other next = f.signalled ∙ by t.signal (shape_is t f.rules).signal_last where
   by : (w : Option ℕ) → IfSome w (λ e. (2 ≤ cost t) × (member t (cost t - 2) ≡ Sev e)) → (is_some w && n == cost t - 1) ≡ (is_some w && n + 1 == cost t - 1)
   by None last = refl
@@ -159,7 +151,8 @@ not_signalled c t n f other =
 -- ---- its end
 
 -- the result that the next instruction gives it may come
-pub finish_may : (v : View) (ch n : ℕ) (t : Descriptor) (how : TransResult) → IsFront (channel (object_of v) ch) t n → Finishes v how t n → Allows (object_of v) (Finished ch how (stored_after t n))
+pub finish_may : (v : View) (ch n : ℕ) (t : Descriptor) (how : TransResult) → IsFront (channel (object_of v) ch) t n → Finishes v how t n
+    → Allows (object_of v) (Finished ch how (stored_after t n))
 finish_may v ch n t NoError f is =
     let c = channel (object_of v) ch in
     let last : n + 1 ≡ cost t = (shape_is t f.rules).end_only n f.within is in
@@ -227,7 +220,8 @@ and_true : (b : Bool) → (b && true) ≡ b
 and_true true = refl
 and_true false = refl
 
-pub signalled_end : {p : Parts} {ch : ℕ} {q : Queue} → (r : Runs p ch q) → member r.transfer q.channel.taken ≡ End → (channel (object_of (view_of p)) ch).signalled ≡ is_some r.transfer.signal
+pub signalled_end : {p : Parts} {ch : ℕ} {q : Queue} → (r : Runs p ch q) → member r.transfer q.channel.taken ≡ End
+    → (channel (object_of (view_of p)) ch).signalled ≡ is_some r.transfer.signal
 signalled_end {p} {ch} {q} r is =
     let t = r.transfer in
     let n = q.channel.taken in

@@ -1,8 +1,6 @@
 -- A history with more entries at its end.
 use Rattle.std.proofs.Common.{◌≡◌, List, [], ◌∷◌, ◌++◌, refl}
-use Rattle.dma_engine.specs.declared.entry.Entry.{Entry}
-use Rattle.dma_engine.specs.Object.{Object, after}
-use Rattle.dma_engine.specs.History.{object_after, IsLegal}
+use Rattle.dma_engine.specs.{declared.entry.Entry.Entry, Object.Object, Object.after, History.object_after, History.IsLegal}
 
 pub object_after_append : (o : Object) (h more : List Entry) → object_after o (h ++ more) ≡ object_after (object_after o h) more
 object_after_append o [] more = refl

@@ -2,15 +2,9 @@
 use Rattle.std.proofs.Common.{◌≡◌, ℕ, Bool, true, false, refl, ap, sym, ◌∙◌}
 use Rattle.std.specs.Prelude.{Result, Ok}
 use Rattle.dma_mem.specs.declared.call.Call.TheVariants.{Step}
-use Rattle.dma_engine.specs.declared.call.Reply.{Reply}
-use Rattle.dma_engine.specs.declared.call.Reply.TheVariants.{Turned}
-use Rattle.dma_engine.specs.declared.fault.EngineFault.{EngineFault}
-use Rattle.dma_engine.specs.declared.turn.Turn.{Turn}
 use Rattle.dma_engine.specs.declared.turn.Turn.TheVariants.{Started, Moved, Finished}
-use Rattle.dma_engine.specs.Answer.{answer, reply_of}
-use Rattle.dma_engine.specs.Room.{IsIdle}
-use Rattle.dma_engine.specs.View.{View}
-use Rattle.dma_engine.specs.Turn.{Stepped, turn}
+use Rattle.dma_engine.specs.{declared.call.Reply.Reply, declared.call.Reply.TheVariants.Turned, declared.fault.EngineFault.EngineFault, declared.turn.Turn.Turn}
+use Rattle.dma_engine.specs.{Answer.answer, Answer.reply_of, Room.IsIdle, View.View, Turn.Stepped, Turn.turn}
 use Rattle.dma_engine.proofs.Turns.{turn_cases}
 
 -- ---- an idle answer, by its reply

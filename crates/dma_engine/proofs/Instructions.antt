@@ -1,63 +1,40 @@
 -- What an engine keeps and answers when its channel executes an instruction and its front doesn't finish.
-use Rattle.std.proofs.Common.{◌≡◌, ◌≢◌, ℕ, ◌+◌, ◌<◌, List, ◌∷◌, ◌++◌, length, map, Option, Some, None, Bool, true, refl, ap, sym, ◌∙◌, subst, arith, [], drop, false, inl, inr, ◌⊎◌}
+use Rattle.std.proofs.Common.{◌≡◌, ◌≢◌, ℕ, ◌+◌, ◌<◌, List, ◌∷◌, ◌++◌, length, map, Option, Some, None, Bool, true, refl, ap, sym, ◌∙◌, subst, arith, [], drop}
+use Rattle.std.proofs.Common.{false, inl, inr, take, ◌⊎◌}
 use Rattle.std.specs.Prelude.{slice_index_or, slice_set, is_some, IfSome, IsSomeAnd, slice_index, Ok}
-use Rattle.std.specs.Option.{option_to_list}
+use Rattle.std.specs.{Option.option_to_list, List.All, List.Contains, List.zip, Map.keys_of}
 use Rattle.dma_insn.specs.declared.chip.ChipInsn.TheVariants.{Sev, Wfe, St, Ld, End}
-use Rattle.dma_mem.specs.Image.{over, put, moves_of}
+use Rattle.dma_insn.specs.declared.chip.ChipInsn.{ChipInsn}
 use Rattle.dma_mem.specs.Places.{Descriptor, Apart, moves, sources, destinations, lies_below, is_free_of}
+use Rattle.dma_mem.specs.{Image.over, Image.put, Image.moves_of, Pages.Paged, Meeting.IsFree, declared.marks.MarkKind.TheVariants.Writing}
+use Rattle.dma_mem.specs.{declared.marks.MarkKind.TheVariants.Reading, Marking.meets_mark, declared.call.Call.TheVariants.Step}
 use Rattle.dma_chan.specs.Channel.{ChannelValue, stepped, ahead_of}
-use Rattle.dma_chan.specs.inner.At.{IsAt}
 use Rattle.dma_chan.specs.Traffic.{member, stored_after, burst, read_places, written_places}
-use Rattle.dma_engine.specs.declared.entry.Entry.{Entry}
-use Rattle.dma_engine.specs.declared.queue.Queue.{Queue}
+use Rattle.dma_chan.specs.Layer.{Shared, StepAgrees, step_at, AnswerImplies, effect_of}
+use Rattle.dma_chan.specs.declared.turn.ChanTurn.TheVariants.{Moved, Fault, Waiting, Ended}
+use Rattle.dma_chan.specs.{inner.At.IsAt, Exec.read_at, Exec.fault_in, inner.Acts.IsOther, Ready.OnPages, Ready.ready_of, declared.turn.ChanTurn.ChanTurn}
+use Rattle.dma_chan.specs.{declared.turn.FaultKind.FaultKind, declared.turn.FaultKind.TheVariants.DataReadErr, declared.turn.FaultKind.TheVariants.DataWriteErr}
 use Rattle.dma_engine.specs.Object.{Object, ChannelState, channel, front, finished, after}
 use Rattle.dma_engine.specs.View.{View, ChannelSchedule, RunningTransfer, AreFree, runs, running_in, running, with_stored, memory_shown, object_of, IsSound}
-use Rattle.dma_engine.specs.inner.Ranges.{AreOfRunning}
 use Rattle.dma_engine.specs.inner.Holds.{Holds, IsPrepared, IsRun, Parts, view_of, schedule_of, taken_of}
-use Rattle.std.specs.List.{All, Contains, zip}
-use Rattle.std.specs.Map.{keys_of}
-use Rattle.std.proofs.lemmas.Bool.{cases_Bool}
-use Rattle.std.proofs.lemmas.List.{map-append, get_or_default}
-use Rattle.std.proofs.lemmas.List.Elements.{Contains-append_cases, Contains-append_left, Contains-append_right, All-head, All-tail, All-map, All-weaker, All-append, All-cons}
-use Rattle.dma_insn.specs.declared.chip.ChipInsn.{ChipInsn}
-use Rattle.dma_mem.specs.Pages.{Paged}
-use Rattle.dma_mem.specs.Meeting.{IsFree}
-use Rattle.dma_mem.specs.declared.marks.MarkKind.TheVariants.{Writing, Reading}
-use Rattle.dma_mem.proofs.ImagePut.{get_or_put_other}
-use Rattle.dma_mem.proofs.SharedPlaces.{is_free_of_true}
+use Rattle.dma_engine.specs.inner.Due.{Adds, Finishes, failure_of, IsDue, IsNext}
+use Rattle.dma_engine.specs.{declared.entry.Entry.Entry, declared.queue.Queue.Queue, inner.Ranges.AreOfRunning, declared.entry.Entry.TheVariants.Passed}
+use Rattle.dma_engine.specs.{declared.entry.Entry.TheVariants.Signalled, declared.entry.Signaller.TheVariants.Channel}
+use Rattle.dma_engine.specs.{declared.fault.EngineFault.TheVariants.NoMemory, declared.call.Reply.TheVariants.Turned, declared.call.Reply.TheVariants.Refused}
+use Rattle.dma_engine.specs.{Turn.next_moved, Turn.turn, Turn.Stepped, Answer.CallAnswers}
+use Rattle.std.proofs.lemmas.List.Elements.{Contains-append_cases, Contains-append_left, Contains-append_right, All-head, All-tail, All-map, All-weaker}
+use Rattle.std.proofs.lemmas.List.Elements.{All-append, All-cons}
+use Rattle.std.proofs.{lemmas.Bool.cases_Bool, lemmas.List.map-append, lemmas.List.get_or_default}
 use Rattle.dma_mem.proofs.OverTransfers.{moves_writes, Contains_take, Contains_drop, over_sources}
-use Rattle.dma_chan.specs.Exec.{read_at, fault_in}
-use Rattle.dma_chan.specs.inner.Acts.{IsOther}
-use Rattle.dma_chan.specs.Layer.{Shared, StepAgrees, step_at, AnswerImplies, effect_of}
-use Rattle.dma_mem.specs.Marking.{meets_mark}
-use Rattle.dma_chan.specs.Ready.{OnPages, ready_of}
-use Rattle.dma_chan.specs.declared.turn.ChanTurn.{ChanTurn}
-use Rattle.dma_chan.specs.declared.turn.ChanTurn.TheVariants.{Moved, Fault, Waiting, Ended}
-use Rattle.dma_chan.proofs.LayerLaws.{step_is, turn_reports}
-use Rattle.dma_chan.proofs.ReadyLaws.{ready_is}
-use Rattle.dma_chan.proofs.ShapeLaws.{stored_is}
-use Rattle.dma_engine.specs.declared.entry.Entry.TheVariants.{Passed, Signalled}
-use Rattle.dma_engine.specs.declared.entry.Signaller.TheVariants.{Channel}
-use Rattle.dma_engine.specs.inner.Due.{Waits, Signals, Finishes, failure_of, IsDue, IsNext}
-use Rattle.dma_engine.specs.declared.fault.EngineFault.TheVariants.{NoMemory}
-use Rattle.dma_chan.specs.declared.turn.FaultKind.{FaultKind}
-use Rattle.dma_chan.specs.declared.turn.FaultKind.TheVariants.{DataReadErr, DataWriteErr}
-use Rattle.dma_chan.proofs.TreeCosts.{cost_is}
-use Rattle.dma_mem.specs.declared.call.Call.TheVariants.{Step}
-use Rattle.dma_engine.specs.declared.call.Reply.TheVariants.{Turned, Refused}
-use Rattle.dma_engine.specs.declared.turn.Turn.TheVariants.{Moved as TurnMoved, Moved}
-use Rattle.dma_engine.specs.Turn.{next_moved, turn, with_entry, Stepped}
-use Rattle.dma_engine.specs.Answer.{CallAnswers}
+use Rattle.dma_mem.proofs.{ImagePut.get_or_put_other, SharedPlaces.is_free_of_true}
+use Rattle.dma_chan.proofs.{LayerLaws.step_is, LayerLaws.turn_reports, ReadyLaws.ready_is, ShapeLaws.stored_is, TreeCosts.cost_is}
 use Rattle.dma_engine.proofs.Changes.{LeadsTo, changed, holds_changed, leads_on, leads_still, run_kept, runs_here_law, runs_other, submitted_kept, view_changed}
-use Rattle.dma_engine.proofs.ConflictsByRanges.{ranges_stay}
-use Rattle.dma_engine.proofs.Fronts.{Runs}
 use Rattle.dma_engine.proofs.Memory.{DiffersAt, parts_changed, parts_split, shown_stored}
 use Rattle.dma_engine.proofs.Queues.{holds_at, many_queues, runs_at, runs_front, taken_some}
-use Rattle.dma_engine.proofs.Sizes.{memory_size}
-use Rattle.dma_engine.proofs.StaysSound.{stepped_sound, with_flags}
 use Rattle.dma_engine.proofs.StepCases.{Clear, Due, GoesOn, due_ahead, due_there, pass_turn, plain_turn, signal_turn, step_starved, stepped_so}
-use Rattle.dma_engine.proofs.TransferRules.{free_others}
-use Rattle.dma_engine.proofs.WhatRuns.{above, below, running_split}
+use Rattle.dma_engine.proofs.{ConflictsByRanges.ranges_stay, Fronts.Runs, Sizes.memory_size, StaysSound.stepped_sound, StaysSound.with_flags}
+use Rattle.dma_engine.proofs.{TransferRules.free_others, WhatRuns.above, WhatRuns.below, WhatRuns.running_split}
+use Rattle.dma_engine.specs.declared.turn.Turn.TheVariants.{Moved as TurnMoved, Moved}
 
 -- ---- the step of the channel
 
@@ -93,7 +70,13 @@ can_execute {p} {ch} {q} i m d same =
     let r = d.it in
     let prepared : OnPages p.made (destinations r.transfer) = subst (IsPrepared p.made) r.runs_is (r.at.holds.prepared ch) in
     let on : OnPages m.made (destinations r.transfer) = subst (λ made. OnPages made (destinations r.transfer)) (sym same) prepared in
-    record { next = due_ahead i d; loaded = d.loaded; count = omega (arith, r.within, cost_is r.transfer r.rules); ready = ready_is r.transfer q.channel.taken p.memory m q.channel r.rules r.machine on }
+    record {
+      next = due_ahead i d;
+      loaded = d.loaded;
+      count = omega (arith, r.within, cost_is r.transfer r.rules);
+      ready =
+          ready_is r.transfer q.channel.taken p.memory m q.channel r.rules r.machine on;
+    }
 
 -- ---- one more instruction
 
@@ -106,142 +89,192 @@ run_at t n memory m c is h =
     let at_front : IsSomeAnd (front c) (λ u. IsAt u m.taken memory m) = subst (λ f. IsSomeAnd f (λ u. IsAt u m.taken memory m)) (sym is) here in
     subst (λ o. IfSome o (λ _. IsSomeAnd (front c) (λ u. IsAt u m.taken memory m))) (sym h.program) at_front
 
--- what runs on the channel after n instructions
-abbrev now_at : {p : Parts} {ch : ℕ} {q : Queue} → Runs p ch q → ℕ → RunningTransfer
-now_at {p} {ch} r n = record { ch = ch; cookie = finished (channel (object_of (view_of p)) ch) + 1; transfer = r.transfer; taken = n }
+module _ {p : Parts} {ch : ℕ} {q : Queue} (r : Runs p ch q) where
+  abbrev old : Object
+  old = object_of (view_of p)
 
--- the machine after an instruction that moves, with this effect
-moved_at : {p : Parts} {ch : ℕ} {q : Queue} (r : Runs p ch q) (m : Shared) → step_of_it r ≡ (Moved, m) → IsAt r.transfer (q.channel.taken + 1) m.image (machine_after p q)
-moved_at {p} {ch} {q} r m does =
-    subst (λ (x : ChanTurn × Shared). IsAt r.transfer (q.channel.taken + 1) x.1.image (machine_after p q)) does ((the_step r).goes_on (ap (λ (x : ChanTurn × Shared). x.0) does))
+  abbrev schedule : List ChannelSchedule
+  schedule = (view_of p).schedule
 
--- the view after it
-moved_view : {p : Parts} {ch : ℕ} {q : Queue} (r : Runs p ch q) (memory : List ℕ) (flags : List Bool) (history : List Entry) → (step_of_it r).0 ≡ Moved → view_of (moved_on p ch q memory flags history) ≡ (next_moved (record (view_of p) { history = history }) ch q.channel.taken).1
-moved_view {p} {ch} {q} r memory flags history moved =
-    let v : View = view_of p in
-    let taken = taken_at r.transfer (q.channel.taken + 1) (step_of_it r).1.image (machine_after p q) ((the_step r).goes_on moved) in
-    view_changed p ch (record q { channel = machine_after p q }) memory flags history (p.steps + 1)
-    ∙ ap (λ k. record v { history = history; steps = p.steps + 1; schedule = slice_set v.schedule ch (record { paused = q.paused; taken = k }) }) taken
-    ∙ ap (λ (x : ChannelSchedule). record v { history = history; steps = p.steps + 1; schedule = slice_set v.schedule ch (record x { taken = Some (q.channel.taken + 1) }) }) (sym r.at.schedule_is)
+  -- what runs on the channel after k instructions
+  abbrev now_at : ℕ → RunningTransfer
+  now_at k = record { ch = ch; cookie = finished (channel old ch) + 1; transfer = r.transfer; taken = k }
 
--- The machine moves, and so does the step. The history leads to the object o, in which the front has passed if a, and
--- has signalled if b.
-pub record MovesTo (p : Parts) (ch : ℕ) (q : Queue) (r : Runs p ch q) (m : Shared) (history : List Entry) (o : Object) (a b : Bool) : Type 0 where
-  pub does : step_of_it r ≡ (Moved, m)
-  pub turn_is : turn (view_of p) ch ≡ next_moved (record (view_of p) { history = history }) ch q.channel.taken
-  pub leads : LeadsTo p ch history o (with_flags (channel (object_of (view_of p)) ch) a b)
-  pub events : m.flags ≡ o.events
-  -- what the memory shows, if only what runs on this channel differs
-  pub shown : (x : ChannelSchedule) → DiffersAt ch (object_of (view_of p)) o (view_of p).schedule (slice_set (view_of p).schedule ch x) →
-      runs o (slice_set (view_of p).schedule ch x) ch ≡ Some (now_at r (q.channel.taken + 1)) →
-      m.image ≡ memory_shown o (slice_set (view_of p).schedule ch x)
-  pub machines : (c : ℕ) (d : Queue) → c < length p.queues → c ≢ ch →
-      IsRun p.memory (slice_index_or p.queues c d).channel (channel (object_of (view_of p)) c) →
-      IsRun m.image (slice_index_or p.queues c d).channel (channel (object_of (view_of p)) c)
+  -- the machine after an instruction that moves, with this effect
+  moved_at : (m : Shared) → step_of_it r ≡ (Moved, m) → IsAt r.transfer (q.channel.taken + 1) m.image (machine_after p q)
+  moved_at m does =
+      subst (λ (x : ChanTurn × Shared). IsAt r.transfer (q.channel.taken + 1) x.1.image (machine_after p q)) does
+      ((the_step r).goes_on (ap (λ (x : ChanTurn × Shared). x.0) does))
 
-pub holds_moved : {p : Parts} {ch : ℕ} {q : Queue} (r : Runs p ch q) (m : Shared) (history : List Entry) (o : Object) (a b : Bool) → MovesTo p ch q r m history o a b → Holds (moved_on p ch q (step_of_it r).1.image (step_of_it r).1.flags history)
-holds_moved {p} {ch} {q} r m history o a b w =
-    let v : View = view_of p in
-    let at = r.at in
-    let c = channel (object_of v) ch in
-    let t = at.tied in
-    let d : Queue = record q { channel = machine_after p q } in
-    let x : ChannelSchedule = schedule_of d in
-    let machine = moved_at r m w.does in
-    let taken : x.taken ≡ Some (q.channel.taken + 1) = taken_at r.transfer (q.channel.taken + 1) m.image d.channel machine in
-    let before : RunningTransfer = now_at r q.channel.taken in
-    let now : RunningTransfer = now_at r (q.channel.taken + 1) in
-    let there_is : running_in ch (with_flags c a b) x.taken ≡ Some now = ap (running_in ch (with_flags c a b)) taken ∙ runs_front ch (with_flags c a b) r.transfer (q.channel.taken + 1) r.is in
-    let runs_is : runs o (slice_set v.schedule ch x) ch ≡ Some now = runs_here_law o v.schedule ch x at.within ∙ ap (λ y. running_in ch y x.taken) w.leads.here ∙ there_is in
-    rw w.does (holds_changed at d m.image m.flags history (p.steps + 1) o (with_flags c a b) (record {
-      sound = subst IsSound (sym (moved_view r m.image m.flags history (ap (λ (y : ChanTurn × Shared). y.0) w.does))) (stepped_sound v ch _ at.holds.sound w.turn_is);
-      leads = w.leads;
-      shown = w.shown x (record { channels = sym w.leads.many; there = at.there; others = λ e k. sym (runs_other (object_of v) o v.schedule ch e x k (w.leads.others e k)) }) runs_is;
-      events = w.events;
-      tied = record {
-        submitted = submitted_kept history w.leads.grows t.submitted;
-        outcomes = t.outcomes;
-        issued = t.issued;
-        halted = t.halted;
-        machine = run_at r.transfer (q.channel.taken + 1) m.image d.channel (with_flags c a b) r.is machine;
-      };
-      prepared = subst (IsPrepared p.made) (sym there_is) (subst (IsPrepared p.made) r.runs_is (at.holds.prepared ch));
-      ranges = subst (AreOfRunning q.ranges) (sym there_is) (ranges_stay q.ranges before now refl (subst (AreOfRunning q.ranges) r.runs_is at.ranges));
-      machines = w.machines;
-    }))
+  -- the view after it
+  moved_view : (memory : List ℕ) (flags : List Bool) (history : List Entry) → (step_of_it r).0 ≡ Moved →
+      view_of (moved_on p ch q memory flags history) ≡ (next_moved (record (view_of p) { history = history }) ch q.channel.taken).1
+  moved_view memory flags history moved =
+      let after_it : ChannelSchedule → View = λ x. record { base = p.base; history = history; steps = p.steps + 1; schedule = slice_set schedule ch x } in
+      let taken = taken_at r.transfer (q.channel.taken + 1) (step_of_it r).1.image (machine_after p q) ((the_step r).goes_on moved) in
+      view_changed p ch (record q { channel = machine_after p q }) memory flags history (p.steps + 1)
+      ∙ ap (λ k. after_it (record { paused = q.paused; taken = k })) taken
+      ∙ ap (λ (x : ChannelSchedule). after_it (record x { taken = Some (q.channel.taken + 1) })) (sym r.at.schedule_is)
 
-pub moved_answers : {p : Parts} {ch : ℕ} {q : Queue} (r : Runs p ch q) (memory : List ℕ) (flags : List Bool) (history : List Entry) → (step_of_it r).0 ≡ Moved → turn (view_of p) ch ≡ next_moved (record (view_of p) { history = history }) ch q.channel.taken → CallAnswers (view_of p) (Step ch) (Turned TurnMoved) (view_of (moved_on p ch q memory flags history))
-moved_answers {p} {ch} r memory flags history moved is =
-    ap (λ w. (Turned TurnMoved, w)) (moved_view r memory flags history moved) ∙ stepped_so (view_of p) _ ch TurnMoved is
+  pub moved_answers : (memory : List ℕ) (flags : List Bool) (history : List Entry) → (step_of_it r).0 ≡ Moved →
+      turn (view_of p) ch ≡ next_moved (record (view_of p) { history = history }) ch q.channel.taken →
+      CallAnswers (view_of p) (Step ch) (Turned TurnMoved) (view_of (moved_on p ch q memory flags history))
+  moved_answers memory flags history moved is =
+      ap (λ w. (Turned TurnMoved, w)) (moved_view memory flags history moved) ∙ stepped_so (view_of p) _ ch TurnMoved is
 
--- The same for an instruction that stores nothing: the memory stays.
-holds_beside : {p : Parts} {ch : ℕ} {q : Queue} (r : Runs p ch q) (flags : List Bool) (history : List Entry) (o : Object) (a b : Bool) → member r.transfer q.channel.taken ≢ St → step_of_it r ≡ (Moved, record { image = p.memory; flags = flags }) → turn (view_of p) ch ≡ next_moved (record (view_of p) { history = history }) ch q.channel.taken → LeadsTo p ch history o (with_flags (channel (object_of (view_of p)) ch) a b) → flags ≡ o.events → o.image ≡ (object_of (view_of p)).image → Holds (moved_on p ch q (step_of_it r).1.image (step_of_it r).1.flags history)
-holds_beside {p} {ch} {q} r flags history o a b other does is leads events image =
-    let v : View = view_of p in
-    let old = object_of v in
-    let low = map with_stored (below old v.schedule ch) in
-    let high = map with_stored (above old v.schedule ch) in
-    let f : Option RunningTransfer → List (Descriptor × ℕ) = λ x. low ++ (map with_stored (option_to_list x) ++ high) in
-    let same : stored_after r.transfer (q.channel.taken + 1) ≡ stored_after r.transfer q.channel.taken = (stored_is r.transfer r.rules).by_other q.channel.taken other in
-    holds_moved r (record { image = p.memory; flags = flags }) history o a b (record {
-      does = does;
-      turn_is = is;
-      leads = leads;
-      events = events;
-      shown = λ x d now.
-          let s = slice_set v.schedule ch x in
-          r.at.holds.shown
-          ∙ ap (over old.image) (parts_split old v.schedule ch d.there ∙ ap f r.runs_is ∙ ap (λ k. low ++ (r.transfer, k) ∷ high) (sym same) ∙ sym (parts_changed ch old o v.schedule s d ∙ ap f now))
-          ∙ ap (λ i. over i (map with_stored (running o s))) (sym image);
-      machines = λ k f l g m. m;
-    })
+  -- The machine moves, and so does the step. The history leads to the object `to`, in which the front has passed if a,
+  -- and has signalled if b.
+  pub record MovesTo (m : Shared) (history : List Entry) (to : Object) (a b : Bool) : Type 0 where
+    pub does : step_of_it r ≡ (Moved, m)
+    pub turn_is : turn (view_of p) ch ≡ next_moved (record (view_of p) { history = history }) ch q.channel.taken
+    pub leads : LeadsTo p ch history to (with_flags (channel old ch) a b)
+    pub events : m.flags ≡ to.events
+    -- what the memory shows, if only what runs on this channel differs
+    pub shown : (x : ChannelSchedule) → DiffersAt ch old to schedule (slice_set schedule ch x) →
+        runs to (slice_set schedule ch x) ch ≡ Some (now_at (q.channel.taken + 1)) →
+        m.image ≡ memory_shown to (slice_set schedule ch x)
+    pub machines : (c : ℕ) (d : Queue) → c < length p.queues → c ≢ ch →
+        IsRun p.memory (slice_index_or p.queues c d).channel (channel old c) → IsRun m.image (slice_index_or p.queues c d).channel (channel old c)
 
--- ---- DMAWFE
+  holds_moved : (m : Shared) (history : List Entry) (to : Object) (a b : Bool) → MovesTo m history to a b →
+      Holds (moved_on p ch q (step_of_it r).1.image (step_of_it r).1.flags history)
+  holds_moved m history to a b w =
+      let at = r.at in
+      let c : ChannelState = with_flags (channel old ch) a b in
+      let t = at.tied in
+      let d : Queue = record q { channel = machine_after p q } in
+      let x : ChannelSchedule = schedule_of d in
+      let machine = moved_at m w.does in
+      let taken : x.taken ≡ Some (q.channel.taken + 1) = taken_at r.transfer (q.channel.taken + 1) m.image d.channel machine in
+      let before : RunningTransfer = now_at q.channel.taken in
+      let now : RunningTransfer = now_at (q.channel.taken + 1) in
+      let there_is : running_in ch c x.taken ≡ Some now = ap (running_in ch c) taken ∙ runs_front ch c r.transfer (q.channel.taken + 1) r.is in
+      let runs_is : runs to (slice_set schedule ch x) ch ≡ Some now = runs_here_law to schedule ch x at.within ∙ ap (λ y. running_in ch y x.taken) w.leads.here
+      ∙ there_is in
+      let others : (e : ℕ) → e ≢ ch → runs old schedule e ≡ runs to (slice_set schedule ch x) e =
+      λ e k. sym (runs_other old to schedule ch e x k (w.leads.others e k)) in
+      let view_is = moved_view m.image m.flags history (ap (λ (y : ChanTurn × Shared). y.0) w.does) in
+      let ranges = ranges_stay q.ranges before now refl (subst (AreOfRunning q.ranges) r.runs_is at.ranges) in
+      rw w.does (holds_changed at d m.image m.flags history (p.steps + 1) to c (record {
+        sound = subst IsSound (sym view_is) (stepped_sound (view_of p) ch _ at.holds.sound w.turn_is);
+        leads = w.leads;
+        shown = w.shown x (record { channels = sym w.leads.many; there = at.there; others = others }) runs_is;
+        events = w.events;
+        tied = record {
+          submitted = submitted_kept history w.leads.grows t.submitted;
+          outcomes = t.outcomes;
+          issued = t.issued;
+          halted = t.halted;
+          machine = run_at r.transfer (q.channel.taken + 1) m.image d.channel c r.is machine;
+        };
+        prepared = subst (IsPrepared p.made) (sym there_is) (subst (IsPrepared p.made) r.runs_is (at.holds.prepared ch));
+        ranges = subst (AreOfRunning q.ranges) (sym there_is) ranges;
+        machines = w.machines;
+      }))
 
-pass_step : (p : Parts) (event n : ℕ) (t : Descriptor) (invalid : Bool) → member t n ≡ Wfe event invalid → slice_index_or p.events event false ≡ true → step_at t n p.marks (shared p) ≡ (Moved, record { image = p.memory; flags = slice_set p.events event false })
-pass_step p event n t invalid is set = rw (is, set) refl
+  -- The same for an instruction that stores nothing: the memory stays.
+  pub record MovesBeside (flags : List Bool) (history : List Entry) (to : Object) (a b : Bool) : Type 0 where
+    pub other : member r.transfer q.channel.taken ≢ St
+    pub does : step_of_it r ≡ (Moved, record { image = p.memory; flags = flags })
+    pub turn_is : turn (view_of p) ch ≡ next_moved (record (view_of p) { history = history }) ch q.channel.taken
+    pub leads : LeadsTo p ch history to (with_flags (channel old ch) a b)
+    pub events : flags ≡ to.events
+    pub image : to.image ≡ old.image
 
-pub passed_turn : {p : Parts} {ch event : ℕ} {q : Queue} → (d : Due p ch q (Waits event)) → slice_index_or p.events event false ≡ true → turn (view_of p) ch ≡ next_moved (with_entry (view_of p) (Passed ch event)) ch q.channel.taken
-passed_turn {p} {ch} {event} {q} d set =
-    d.turn_is ∙ pass_turn (view_of p) ch q.channel.taken event d.it.transfer d.holds.0 d.holds.1 (ap (λ l. slice_index_or l event false) (sym d.it.at.holds.events) ∙ set)
+  holds_beside : (flags : List Bool) (history : List Entry) (to : Object) (a b : Bool) → MovesBeside flags history to a b →
+      Holds (moved_on p ch q (step_of_it r).1.image (step_of_it r).1.flags history)
+  holds_beside flags history to a b w =
+      let t = r.transfer in
+      let low = map with_stored (below old schedule ch) in
+      let high = map with_stored (above old schedule ch) in
+      let f : Option RunningTransfer → List (Descriptor × ℕ) = λ x. low ++ (map with_stored (option_to_list x) ++ high) in
+      let same = (stored_is t r.rules).by_other q.channel.taken w.other in
+      let before = parts_split old schedule ch r.at.there ∙ ap f r.runs_is in
+      holds_moved (record { image = p.memory; flags = flags }) history to a b (record {
+        does = w.does;
+        turn_is = w.turn_is;
+        leads = w.leads;
+        events = w.events;
+        shown = λ x d now.
+            let s = slice_set schedule ch x in
+            let then = parts_changed ch old to schedule s d ∙ ap f now in
+            r.at.holds.shown ∙ ap (over old.image) (before ∙ ap (λ k. low ++ (t, k) ∷ high) (sym same) ∙ sym then)
+            ∙ ap (λ i. over i (map with_stored (running to s))) (sym w.image);
+        machines = λ k f l g m. m;
+      })
 
-pub pass_starved : (p : Parts) → Holds p → (ch event : ℕ) → IsDue (view_of p) ch (Waits event) → slice_index_or p.events event false ≡ true → CallAnswers (view_of p) (Step ch) (Refused NoMemory) (view_of p)
-pass_starved p h ch event asked set = step_starved (view_of p) ch _ (Passed ch event) (passed_turn (due_there p h ch (Waits event) asked).1 set) refl
+-- ---- an instruction that adds an entry: a DMAWFE that passes, or a DMASEV
 
-pub holds_passed : {p : Parts} {ch event : ℕ} {q : Queue} → (d : Due p ch q (Waits event)) → slice_index_or p.events event false ≡ true → Holds (moved_on p ch q (step_of_it d.it).1.image (step_of_it d.it).1.flags (p.history ++ Passed ch event ∷ []))
-holds_passed {p} {ch} {event} {q} d set =
-    let c = channel (object_of (view_of p)) ch in
-    let r = d.it in
-    let e = Passed ch event in
-    holds_beside r (slice_set p.events event false) (p.history ++ e ∷ []) (after (object_of (view_of p)) e) true c.signalled (λ f. let g = sym d.holds.1 ∙ f in absurd cc)
-    (pass_step p event q.channel.taken r.transfer d.holds.0 d.holds.1 set) (passed_turn d set) (leads_on p ch e (with_flags c true c.signalled) r.at.there refl refl) (ap (λ l. slice_set l event false) r.at.holds.events) refl
+-- how the flags, and the front, are after it
+pub record Added (p : Parts) (ch : ℕ) (q : Queue) (r : Runs p ch q) (e : Entry) : Type 0 where
+  pub flags : List Bool
+  pub passed : Bool
+  pub signalled : Bool
+  pub beside : MovesBeside r flags (p.history ++ e ∷ []) (after (object_of (view_of p)) e) passed signalled
 
-pub passed_answers : {p : Parts} {ch event : ℕ} {q : Queue} → (d : Due p ch q (Waits event)) (memory : List ℕ) (flags : List Bool) → slice_index_or p.events event false ≡ true → CallAnswers (view_of p) (Step ch) (Turned TurnMoved) (view_of (moved_on p ch q memory flags (p.history ++ Passed ch event ∷ [])))
-passed_answers {p} {ch} {event} {q} d memory flags set =
-    moved_answers d.it memory flags (p.history ++ Passed ch event ∷ []) (ap (λ (x : ChanTurn × Shared). x.0) (pass_step p event q.channel.taken d.it.transfer d.holds.0 d.holds.1 set)) (passed_turn d set)
+pub added : {p : Parts} {ch : ℕ} {q : Queue} {e : Entry} → (d : Due p ch q (Adds (view_of p) ch e)) → Added p ch q d.it e
+added {p} {ch} {q} {e} d = by e d.holds where
+  t : Descriptor
+  t = d.it.transfer
 
--- ---- DMASEV
+  n : ℕ
+  n = q.channel.taken
 
-signal_step : (p : Parts) (event n : ℕ) (t : Descriptor) → member t n ≡ Sev event → step_at t n p.marks (shared p) ≡ (Moved, record { image = p.memory; flags = slice_set p.events event true })
-signal_step p event n t is = rw is refl
+  c : ChannelState
+  c = channel (object_of (view_of p)) ch
 
-pub signalled_turn : {p : Parts} {ch event : ℕ} {q : Queue} → (d : Due p ch q (Signals event)) → turn (view_of p) ch ≡ next_moved (with_entry (view_of p) (Signalled (Channel ch) event)) ch q.channel.taken
-signalled_turn {p} {ch} {event} {q} d = d.turn_is ∙ signal_turn (view_of p) ch q.channel.taken event d.it.transfer d.holds
+  passes : (event : ℕ) (invalid : Bool) → member t n ≡ Wfe event invalid → slice_index_or p.events event false ≡ true → Added p ch q d.it (Passed ch event)
+  passes event invalid is set = record {
+    flags = slice_set p.events event false;
+    passed = true;
+    signalled = c.signalled;
+    beside = record {
+      other = λ f. let g = sym is ∙ f in absurd cc;
+      does = rw (is, set) refl;
+      turn_is = d.turn_is ∙ pass_turn (view_of p) ch n event t invalid is (ap (λ l. slice_index_or l event false) (sym d.it.at.holds.events) ∙ set);
+      leads = leads_on p ch (Passed ch event) (with_flags c true c.signalled) d.it.at.there refl refl;
+      events = ap (λ l. slice_set l event false) d.it.at.holds.events;
+      image = refl;
+    };
+  }
 
-pub signal_starved : (p : Parts) → Holds p → (ch event : ℕ) → IsDue (view_of p) ch (Signals event) → CallAnswers (view_of p) (Step ch) (Refused NoMemory) (view_of p)
-signal_starved p h ch event asked = step_starved (view_of p) ch _ (Signalled (Channel ch) event) (signalled_turn (due_there p h ch (Signals event) asked).1) refl
+  signals : (event : ℕ) → member t n ≡ Sev event → Added p ch q d.it (Signalled (Channel ch) event)
+  signals event is = record {
+    flags = slice_set p.events event true;
+    passed = c.passed;
+    signalled = true;
+    beside = record {
+      other = λ f. let g = sym is ∙ f in absurd cc;
+      does = rw is refl;
+      turn_is = d.turn_is ∙ signal_turn (view_of p) ch n event t is;
+      leads = leads_on p ch (Signalled (Channel ch) event) (with_flags c c.passed true) d.it.at.there refl refl;
+      events = ap (λ l. slice_set l event true) d.it.at.holds.events;
+      image = refl;
+    };
+  }
 
-pub holds_signalled : {p : Parts} {ch event : ℕ} {q : Queue} → (d : Due p ch q (Signals event)) → Holds (moved_on p ch q (step_of_it d.it).1.image (step_of_it d.it).1.flags (p.history ++ Signalled (Channel ch) event ∷ []))
-holds_signalled {p} {ch} {event} {q} d =
-    let c = channel (object_of (view_of p)) ch in
-    let r = d.it in
-    let e = Signalled (Channel ch) event in
-    holds_beside r (slice_set p.events event true) (p.history ++ e ∷ []) (after (object_of (view_of p)) e) c.passed true (λ f. let g = sym d.holds ∙ f in absurd cc)
-    (signal_step p event q.channel.taken r.transfer d.holds) (signalled_turn d) (leads_on p ch e (with_flags c c.passed true) r.at.there refl refl) (ap (λ l. slice_set l event true) r.at.holds.events) refl
+  by : (e : Entry) → Adds (view_of p) ch e t n → Added p ch q d.it e
+  by (Passed k event) a =
+      let set = ap (λ l. slice_index_or l event false) d.it.at.holds.events ∙ a.2 in
+      subst (λ i. Added p ch q d.it (Passed i event)) (sym a.0) (passes event a.1.0 a.1.1 set)
+  by (Signalled (Channel k) event) a = subst (λ i. Added p ch q d.it (Signalled (Channel i) event)) (sym a.0) (signals event a.1)
+  by e a = absurd a
 
-pub signalled_answers : {p : Parts} {ch event : ℕ} {q : Queue} → (d : Due p ch q (Signals event)) (memory : List ℕ) (flags : List Bool) → CallAnswers (view_of p) (Step ch) (Turned TurnMoved) (view_of (moved_on p ch q memory flags (p.history ++ Signalled (Channel ch) event ∷ [])))
-signalled_answers {p} {ch} {event} {q} d memory flags =
-    moved_answers d.it memory flags (p.history ++ Signalled (Channel ch) event ∷ []) (ap (λ (x : ChanTurn × Shared). x.0) (signal_step p event q.channel.taken d.it.transfer d.holds)) (signalled_turn d)
+pub added_starved : (p : Parts) → Holds p → (ch : ℕ) (e : Entry) → IsDue (view_of p) ch (Adds (view_of p) ch e) →
+    CallAnswers (view_of p) (Step ch) (Refused NoMemory) (view_of p)
+added_starved p h ch e asked =
+    let d = (due_there p h ch (Adds (view_of p) ch e) asked).1 in
+    step_starved (view_of p) ch _ e (added d).beside.turn_is refl
+
+pub holds_added : {p : Parts} {ch : ℕ} {q : Queue} (e : Entry) (d : Due p ch q (Adds (view_of p) ch e)) →
+    Holds (moved_on p ch q (step_of_it d.it).1.image (step_of_it d.it).1.flags (p.history ++ e ∷ []))
+holds_added e d = let a = added d in holds_beside d.it a.flags _ _ a.passed a.signalled a.beside
+
+pub added_answers : {p : Parts} {ch : ℕ} {q : Queue} (e : Entry) (d : Due p ch q (Adds (view_of p) ch e)) (memory : List ℕ) (flags : List Bool) →
+    CallAnswers (view_of p) (Step ch) (Turned TurnMoved) (view_of (moved_on p ch q memory flags (p.history ++ e ∷ [])))
+added_answers e d memory flags =
+    let a = added d in
+    moved_answers d.it memory flags _ (ap (λ (x : ChanTurn × Shared). x.0) a.beside.does) a.beside.turn_is
 
 -- ---- a store
 
@@ -261,7 +294,8 @@ apart_running ss (r ∷ rs) all = λ a i j. elim (Contains-append_cases (keys_of
 ]
 
 -- At the sources of what runs, the memory has the bytes of the image: nothing that runs writes there.
-sources_shown : {p : Parts} {ch : ℕ} {q : Queue} (r : Runs p ch q) (ss : List ℕ) → ((a : ℕ) → Contains ss a → Contains (sources r.transfer) a) → read_at p.memory ss ≡ map (slice_index (object_of (view_of p)).image) ss
+sources_shown : {p : Parts} {ch : ℕ} {q : Queue} (r : Runs p ch q) (ss : List ℕ) → ((a : ℕ) → Contains ss a → Contains (sources r.transfer) a)
+    → read_at p.memory ss ≡ map (slice_index (object_of (view_of p)).image) ss
 sources_shown {p} {ch} {q} r ss inside =
     let o = object_of (view_of p) in
     let s = (view_of p).schedule in
@@ -273,15 +307,20 @@ sources_shown {p} {ch} {q} r ss inside =
     let own : P now = λ a i j. r.rules.apart a (inside a i) j in
     let low : All P (below o s ch) = All-weaker (λ x. IsFree t x.transfer) P each (below o s ch) free.0 in
     let high : All P (above o s ch) = All-weaker (λ x. IsFree t x.transfer) P each (above o s ch) free.1 in
-    let list : running o s ≡ below o s ch ++ now ∷ above o s ch = running_split o s ch r.at.there ∙ ap (λ x. below o s ch ++ (option_to_list x ++ above o s ch)) r.runs_is in
+    let list : running o s ≡ below o s ch ++ now ∷ above o s ch = running_split o s ch r.at.there
+    ∙ ap (λ x. below o s ch ++ (option_to_list x ++ above o s ch)) r.runs_is in
     let all : All P (running o s) = rw list (All-append P (below o s ch) (now ∷ above o s ch) low (All-cons P now (above o s ch) own high)) in
     let apart = apart_running ss (map with_stored (running o s)) (All-map (λ y. Apart ss (destinations y.0)) with_stored (running o s) all) in
     ap (λ m. map (slice_index m) ss) r.at.holds.shown ∙ over_sources o.image (map with_stored (running o s)) ss apart
 
-store_step : (p : Parts) (n : ℕ) (t : Descriptor) → member t n ≡ St → meets_mark Writing p.marks (written_places t n) ≡ false → step_at t n p.marks (shared p) ≡ (Moved, record { image = put p.memory (zip (written_places t n) (read_at p.memory (read_places t n))); flags = p.events })
+store_step : (p : Parts) (n : ℕ) (t : Descriptor) → member t n ≡ St → meets_mark Writing p.marks (written_places t n) ≡ false →
+    let image = put p.memory (zip (written_places t n) (read_at p.memory (read_places t n))) in
+    step_at t n p.marks (shared p) ≡ (Moved, record { image = image; flags = p.events })
 store_step p n t is clear = rw (is, clear) refl
 
-holds_stored : {p : Parts} {ch : ℕ} {q : Queue} → (d : Due p ch q GoesOn) → member d.it.transfer q.channel.taken ≡ St → meets_mark Writing p.marks (written_places d.it.transfer q.channel.taken) ≡ false → turn (view_of p) ch ≡ next_moved (view_of p) ch q.channel.taken → Holds (moved_on p ch q (step_of_it d.it).1.image (step_of_it d.it).1.flags p.history)
+holds_stored : {p : Parts} {ch : ℕ} {q : Queue} → (d : Due p ch q GoesOn) → member d.it.transfer q.channel.taken ≡ St →
+    meets_mark Writing p.marks (written_places d.it.transfer q.channel.taken) ≡ false → turn (view_of p) ch ≡ next_moved (view_of p) ch q.channel.taken →
+    Holds (moved_on p ch q (step_of_it d.it).1.image (step_of_it d.it).1.flags p.history)
 holds_stored {p} {ch} {q} d is clear turns =
     let o = object_of (view_of p) in
     let s = (view_of p).schedule in
@@ -293,14 +332,15 @@ holds_stored {p} {ch} {q} d is clear turns =
     let writes = written_places t n in
     let bytes = read_at p.memory reads in
     let m : Shared = record { image = put p.memory (zip writes bytes); flags = p.events } in
-    let does = store_step p n t is clear in
     let now : RunningTransfer = now_at r n in
     let then : RunningTransfer = now_at r (n + 1) in
     let free = free_others o s ch now h.sound.fits r.at.there r.runs_is in
-    let from : bytes ≡ map (slice_index o.image) reads = sources_shown r reads (λ a i. Contains_drop (stored_after t n) (sources t) a (Contains_take (burst t n) (drop (stored_after t n) (sources t)) a i)) in
+    let in_part : (k : ℕ) (l : List ℕ) (a : ℕ) → Contains (take (burst t n) (drop k l)) a → Contains l a =
+    λ k l a i. Contains_drop k l a (Contains_take (burst t n) (drop k l) a i) in
+    let from : bytes ≡ map (slice_index o.image) reads = sources_shown r reads (λ a i. in_part (stored_after t n) (sources t) a i) in
     let more : stored_after t (n + 1) ≡ stored_after t n + burst t n = (stored_is t r.rules).by_store n is in
     holds_moved r m p.history o (channel o ch).passed (channel o ch).signalled (record {
-      does = does;
+      does = store_step p n t is clear;
       turn_is = turns;
       leads = leads_still p ch;
       events = h.events;
@@ -315,7 +355,7 @@ holds_stored {p} {ch} {q} d is clear turns =
           let both : AreFree (Some now) (runs o s k) = rw r.runs_is at (h.sound.fits.free ch k r.at.there there (λ z. g (sym z))) in
           let apart : is_free_of t u ≡ true = rw runs_k at both in
           get_or_put_other p.memory (zip writes bytes) a (λ z.
-          (is_free_of_true t u apart).writes_no_source a (Contains_drop (stored_after t n) (destinations t) a (Contains_take (burst t n) (drop (stored_after t n) (destinations t)) a (zip_keys writes bytes a z))) inside)) i;
+          (is_free_of_true t u apart).writes_no_source a (in_part (stored_after t n) (destinations t) a (zip_keys writes bytes a z)) inside)) i;
     })
 
 -- ---- an instruction that neither waits, signals nor ends
@@ -344,10 +384,13 @@ went_on {p} {ch} {q} d moved = by (member t n) refl d.holds where
 
   -- without a store
   beside : member t n ≢ St → step_of_it d.it ≡ (Moved, m) → Clear (view_of p) t n → WentOn p ch q d.it
-  beside other does clear = record {
-    holds = holds_beside d.it p.events p.history (object_of (view_of p)) _ _ other does (turns clear) (leads_still p ch) h.events refl;
-    turn_is = turns clear;
-  }
+  beside other does clear =
+      let turn_is = turns clear in
+      record {
+        holds = holds_beside d.it p.events p.history (object_of (view_of p)) _ _
+            (record { other = other; does = does; turn_is = turn_is; leads = leads_still p ch; events = h.events; image = refl });
+        turn_is = turn_is;
+      }
 
   by : (i : ChipInsn) → member t n ≡ i → IsOther i → WentOn p ch q d.it
   by (Wfe e v) is o = absurd o
@@ -355,18 +398,22 @@ went_on {p} {ch} {q} d moved = by (member t n) refl d.holds where
   by End is o = absurd o
   by Ld is o = elim (cases_Bool (meets_mark Reading p.marks (read_places t n))) [
     | inl hit ↦ let fails : (step_of_it d.it).0 ≡ Fault DataReadErr = rw (is, hit) refl in let never = sym fails ∙ moved in absurd cc
-    | inr free ↦ beside (λ f. let g = sym is ∙ f in absurd cc) (rw (is, free) refl) (record { reads = λ _. ap (λ k. meets_mark Reading k (read_places t n)) (sym h.marks) ∙ free; writes = λ f. let g = sym is ∙ f in absurd cc })
+    | inr free ↦ beside (λ f. let g = sym is ∙ f in absurd cc) (rw (is, free) refl)
+        (record { reads = λ _. ap (λ k. meets_mark Reading k (read_places t n)) (sym h.marks) ∙ free; writes = λ f. let g = sym is ∙ f in absurd cc })
   ]
   by St is o = elim (cases_Bool (meets_mark Writing p.marks (written_places t n))) [
     | inl hit ↦ let fails : (step_of_it d.it).0 ≡ Fault DataWriteErr = rw (is, hit) refl in let never = sym fails ∙ moved in absurd cc
     | inr free ↦
-        let is_turn = turns (record { reads = λ f. let g = sym is ∙ f in absurd cc; writes = λ _. ap (λ k. meets_mark Writing k (written_places t n)) (sym h.marks) ∙ free }) in
+        let is_turn = turns (record
+        { reads = λ f. let g = sym is ∙ f in absurd cc; writes = λ _. ap (λ k. meets_mark Writing k (written_places t n)) (sym h.marks) ∙ free }) in
         record { holds = holds_stored d is free is_turn; turn_is = is_turn }
   ]
-  by i is o = beside (λ f. let g = sym is ∙ f in absurd cc) (ap (λ j. effect_of j (read_places t n) (written_places t n) p.marks m) is) (record { reads = λ f. let g = sym is ∙ f in absurd cc; writes = λ f. let g = sym is ∙ f in absurd cc })
+  by i is o = beside (λ f. let g = sym is ∙ f in absurd cc) (ap (λ j. effect_of j (read_places t n) (written_places t n) p.marks m) is)
+      (record { reads = λ f. let g = sym is ∙ f in absurd cc; writes = λ f. let g = sym is ∙ f in absurd cc })
 
 -- It moves or it fails.
-pub moves_or_fails : (p : Parts) (t : Descriptor) (n : ℕ) → IsOther (member t n) → ((step_at t n p.marks (shared p)).0 ≡ Moved) ⊎ ((kind : FaultKind) × ((step_at t n p.marks (shared p)).0 ≡ Fault kind))
+pub moves_or_fails : (p : Parts) (t : Descriptor) (n : ℕ) → IsOther (member t n) → ((step_at t n p.marks (shared p)).0 ≡ Moved)
+    ⊎ ((kind : FaultKind) × ((step_at t n p.marks (shared p)).0 ≡ Fault kind))
 moves_or_fails p t n other = by _ (turn_reports t n p.marks (shared p)) where
   by : (x : ChanTurn) → AnswerImplies t n p.marks (shared p) x → (x ≡ Moved) ⊎ ((kind : FaultKind) × (x ≡ Fault kind))
   by Moved r = inl refl
@@ -375,7 +422,8 @@ moves_or_fails p t n other = by _ (turn_reports t n p.marks (shared p)) where
   by Ended r = let never : IsOther End = subst IsOther r other in absurd never
 
 -- If it fails, a load or a store has met a mark, and the front finishes with the result for it.
-pub failed : (p : Parts) (t : Descriptor) (n : ℕ) (kind : FaultKind) → Holds p → (step_at t n p.marks (shared p)).0 ≡ Fault kind → Finishes (view_of p) (failure_of kind) t n
+pub failed : (p : Parts) (t : Descriptor) (n : ℕ) (kind : FaultKind) → Holds p → (step_at t n p.marks (shared p)).0 ≡ Fault kind
+    → Finishes (view_of p) (failure_of kind) t n
 failed p t n kind h fails = by kind (subst (AnswerImplies t n p.marks (shared p)) fails (turn_reports t n p.marks (shared p))) where
   by : (k : FaultKind) → AnswerImplies t n p.marks (shared p) (Fault k) → Finishes (view_of p) (failure_of k) t n
   by DataReadErr r = rw (← h.marks) r
@@ -386,7 +434,8 @@ fault_is : (x : ChanTurn) (kind : FaultKind) → Some kind ≡ fault_in x → x 
 fault_is (Fault k) kind h = cc
 fault_is x kind h = absurd cc
 
-pub fails_next : {p : Parts} {ch : ℕ} {q : Queue} (kind : FaultKind) → (d : Due p ch q GoesOn) → Some kind ≡ fault_in (step_of_it d.it).0 → Finishes (view_of p) (failure_of kind) d.it.transfer q.channel.taken
+pub fails_next : {p : Parts} {ch : ℕ} {q : Queue} (kind : FaultKind) → (d : Due p ch q GoesOn) → Some kind ≡ fault_in (step_of_it d.it).0
+    → Finishes (view_of p) (failure_of kind) d.it.transfer q.channel.taken
 fails_next {p} {ch} {q} kind d is = failed p d.it.transfer q.channel.taken kind d.it.at.holds (fault_is _ kind is)
 
 pub moves_next : {p : Parts} {ch : ℕ} {q : Queue} → (d : Due p ch q GoesOn) → None ≡ fault_in (step_of_it d.it).0 → (turn (view_of p) ch).0 ≡ Ok Moved

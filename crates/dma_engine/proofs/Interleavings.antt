@@ -1,40 +1,11 @@
 -- Turns of several jobs, taken one after another.
-use Rattle.std.proofs.Common.{◌≡◌, ◌≢◌, ◌==◌, ℕ, ◌+◌, ◌-◌, ◌%◌, ◌*◌, ◌/◌, ◌<◌, ◌≤◌, Bool, true, false, List, [], ◌∷◌, ◌++◌, length, Result, Ok, Err, refl, sym, ap, ◌∙◌, arith, append-nil, add-mul, one-mul, inl, inr}
+use Rattle.std.proofs.Common.{◌≡◌, ◌==◌, ℕ, ◌+◌, ◌-◌, ◌%◌, ◌*◌, ◌/◌, ◌<◌, ◌≤◌, Bool, true, false, List, [], ◌∷◌, ◌++◌, length, Result, refl, sym, ap, ◌∙◌}
+use Rattle.std.proofs.Common.{arith, append-nil, add-mul, one-mul, inl, inr}
 use Rattle.std.specs.Prelude.{if◌then◌else◌, slice_index_or, slice_set}
-use Rattle.std.proofs.lemmas.Bool.{cases_eq, eq-eqb, ne_eqb}
-use Rattle.std.proofs.lemmas.List.{get_or-set_other, get_or-set_same}
-use Rattle.std.proofs.lemmas.Nat.{mod-mul-add, mod_below, div-add-mod'}
-use Rattle.dma_mem.specs.declared.call.Call.TheVariants.{Step}
-use Rattle.dma_engine.specs.Answer.{StepAnswers, reply_of}
+use Rattle.std.proofs.{lemmas.Bool.cases_eq, lemmas.Bool.eq-eqb, lemmas.Bool.ne_eqb, lemmas.List.get_or-set_other, lemmas.List.get_or-set_same}
+use Rattle.std.proofs.{lemmas.Nat.mod-mul-add, lemmas.Nat.mod_below, lemmas.Nat.div-add-mod'}
 use Rattle.dma_engine.specs.Interleaved.{Interleaves, JobTurn, channel_at, channels_of, turns_taken}
-use Rattle.dma_engine.specs.Turn.{Stepped, turn}
-use Rattle.dma_engine.specs.View.{View}
-use Rattle.dma_engine.specs.declared.call.Reply.{Reply}
-use Rattle.dma_engine.specs.declared.call.Reply.TheVariants.{Refused, Turned}
-use Rattle.dma_engine.specs.declared.fault.EngineFault.{EngineFault}
-use Rattle.dma_engine.specs.declared.fault.EngineFault.TheVariants.{NoMemory}
-use Rattle.dma_engine.specs.declared.turn.Turn.{Turn}
-use Rattle.dma_engine.proofs.JoinedCalls.{answer_unless_no_memory}
-
--- ---- the answer to a step that is not out of memory
-
--- the result that a reply is of
-abbrev result_in : Reply → Result Turn EngineFault
-result_in (Turned turned) = Ok turned
-result_in (Refused fault) = Err fault
-result_in _ = Err NoMemory
-
-result_back : (r : Result Turn EngineFault) → r ≡ result_in (reply_of Turned r)
-result_back (Ok turned) = refl
-result_back (Err fault) = refl
-
--- it is the turn's
-pub answered_turn : (v w : View) (ch : ℕ) (r : Result Turn EngineFault) → r ≢ Err NoMemory → StepAnswers v ch r w → (r, w) ≡ turn v ch
-answered_turn v w ch r other step =
-    let reply = reply_of Turned r in
-    let given = answer_unless_no_memory v w (Step ch) reply (λ e. other (result_back r ∙ ap result_in e)) step in
-    ap {B = Stepped} (λ x. (x, w)) (result_back r) ∙ ap {B = Stepped} (λ (a : Reply × View). (result_in a.0, a.1)) given
-    ∙ ap {B = Stepped} (λ x. (x, (turn v ch).1)) (sym (result_back (turn v ch).0))
+use Rattle.dma_engine.specs.{Turn.turn, View.View, declared.fault.EngineFault.EngineFault, declared.turn.Turn.Turn}
 
 -- ---- one turn more
 
@@ -47,7 +18,8 @@ channels_append k [] more = refl
 channels_append k (t ∷ turns) more = in_front (t.job == k) t.channel _ _ _ (channels_append k turns more)
 
 -- the turns that one more turn makes of an interleaving
-pub interleaves_more : (jobs : List (List ℕ)) (turns : List JobTurn) (t : JobTurn) → t.job < length jobs → Interleaves jobs turns → Interleaves (slice_set jobs t.job (slice_index_or jobs t.job [] ++ t.channel ∷ [])) (turns ++ t ∷ [])
+pub interleaves_more : (jobs : List (List ℕ)) (turns : List JobTurn) (t : JobTurn) → t.job < length jobs → Interleaves jobs turns
+    → Interleaves (slice_set jobs t.job (slice_index_or jobs t.job [] ++ t.channel ∷ [])) (turns ++ t ∷ [])
 interleaves_more jobs turns t there h k =
     let more = slice_index_or jobs t.job [] ++ t.channel ∷ [] in
     channels_append k turns (t ∷ [])
@@ -61,7 +33,8 @@ interleaves_more jobs turns t there h k =
           ∙ append-nil (channels_of k turns) ∙ h k ∙ sym (get_or-set_other jobs t.job k more [] apart)
     ]
 
-pub taken_append : (v : View) (turns more : List JobTurn) → turns_taken v (turns ++ more) ≡ (let a = turns_taken v turns in let b = turns_taken a.1 more in (a.0 ++ b.0, b.1))
+pub taken_append : (v : View) (turns more : List JobTurn)
+    → turns_taken v (turns ++ more) ≡ (let a = turns_taken v turns in let b = turns_taken a.1 more in (a.0 ++ b.0, b.1))
 taken_append v [] more = refl
 taken_append v (t ∷ turns) more =
     ap (λ (a : List (Result Turn EngineFault) × View). ((turn v t.channel).0 ∷ a.0, a.1)) (taken_append (turn v t.channel).1 turns more)

@@ -1,23 +1,18 @@
 -- Answers to consecutive calls, and answers when memory doesn't run out.
 use Rattle.std.proofs.Common.{inl, inr, ◌≡◌, ◌≢◌, ℕ, ◌+◌, List, [], ◌∷◌, ◌++◌, length, take, drop, Option, Some, None, Bool, true, refl, ap, ◌∙◌, subst, sym}
-use Rattle.std.specs.Prelude.{◌==◌, ◌||◌, nat_le, nat_lt, not}
-use Rattle.std.specs.Option.{option_map}
-use Rattle.std.proofs.lemmas.List.Elements.{All-head, All-tail}
-use Rattle.std.proofs.lemmas.Bool.{cond_both}
-use Rattle.dma_mem.specs.Places.{Descriptor, lies_below}
-use Rattle.dma_mem.specs.declared.call.Call.{Call}
+use Rattle.std.specs.{Prelude.◌==◌, Prelude.◌||◌, Prelude.nat_le, Prelude.nat_lt, Prelude.not, Option.option_map}
+use Rattle.std.proofs.{lemmas.List.Elements.All-head, lemmas.List.Elements.All-tail, lemmas.Bool.cond_both}
 use Rattle.dma_mem.specs.declared.call.Call.TheVariants.{Write, Read, Submit, Issue, Pause, Resume, Terminate, Step, Mark, Raise, Checkpoint}
-use Rattle.dma_engine.specs.declared.call.Reply.{Reply}
+use Rattle.dma_mem.specs.{Places.Descriptor, Places.lies_below, declared.call.Call.Call}
 use Rattle.dma_engine.specs.declared.call.Reply.TheVariants.{Done, Bytes, Cookie, Turned, Refused}
 use Rattle.dma_engine.specs.declared.entry.Entry.TheVariants.{Wrote, ReadBack, Submitted, Marked, Signalled}
-use Rattle.dma_engine.specs.declared.entry.Signaller.TheVariants.{Host}
-use Rattle.dma_engine.specs.declared.fault.EngineFault.{EngineFault}
 use Rattle.dma_engine.specs.declared.fault.EngineFault.TheVariants.{OutOfMemoryRange, Running, NoChannel, CookiesSpent, BadEvent, BadRange, NoMemory}
-use Rattle.dma_engine.specs.Object.{channel, last_cookie, used}
 use Rattle.dma_engine.specs.View.{View, RunningTransfer, object_of, channels, size}
-use Rattle.dma_engine.specs.Turn.{Stepped, turn, with_entry}
-use Rattle.dma_engine.specs.Answer.{CallAnswers, AreAnswers, answer, answers, busy, cause, first_running, reply_of, unless, write_fault, read_fault, submit_fault, channel_fault, mark_fault, raise_fault, checkpoint_fault}
+use Rattle.dma_engine.specs.Answer.{CallAnswers, AreAnswers, answer, answers, busy, cause, first_running, reply_of, unless, write_fault, read_fault}
+use Rattle.dma_engine.specs.Answer.{submit_fault, channel_fault, mark_fault, raise_fault, checkpoint_fault}
 use Rattle.dma_engine.specs.Laws.{AnswersOne, AnswersAppend, AnswersSplit, AnswerIsOne, AnswersAreAnswers, AnswerUnlessNoMemory, AnswersUnlessNoMemory}
+use Rattle.dma_engine.specs.{declared.call.Reply.Reply, declared.entry.Signaller.TheVariants.Host, declared.fault.EngineFault.EngineFault, Object.channel}
+use Rattle.dma_engine.specs.{Object.last_cookie, Object.used, Turn.Stepped, Turn.turn, Turn.with_entry}
 use Rattle.dma_engine.proofs.Turns.{answer_is, turn_cases}
 
 -- ---- calls in a row
@@ -101,10 +96,12 @@ turn_other v ch = turn_cases v ch IsOtherStep (record {
 
 answer_other : (v : View) (call : Call) → IsOther (answer v call).0
 answer_other v (Write addr bytes) =
-    unless_other v (write_fault v addr (length bytes)) (Done, with_entry v (Wrote addr bytes)) (one_cause (nat_lt (size v) (addr + length bytes)) OutOfMemoryRange _ tt (busy_cause _)) tt
+    unless_other v (write_fault v addr (length bytes)) (Done, with_entry v (Wrote addr bytes))
+    (one_cause (nat_lt (size v) (addr + length bytes)) OutOfMemoryRange _ tt (busy_cause _)) tt
 answer_other v (Read addr len) =
     let bytes = take len (drop addr (object_of v).image) in
-    unless_other v (read_fault v addr len) (Bytes bytes, with_entry v (ReadBack addr bytes)) (one_cause (nat_lt (size v) (addr + len)) OutOfMemoryRange _ tt (busy_cause _)) tt
+    unless_other v (read_fault v addr len) (Bytes bytes, with_entry v (ReadBack addr bytes))
+    (one_cause (nat_lt (size v) (addr + len)) OutOfMemoryRange _ tt (busy_cause _)) tt
 answer_other v (Submit ch t) =
     let cookie = used (channel (object_of v) ch) + 1 in
     unless_other v (submit_fault v ch t) (Cookie cookie, with_entry v (Submitted ch t cookie)) (submit_cause v ch t) tt

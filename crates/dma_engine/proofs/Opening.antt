@@ -1,19 +1,16 @@
 -- What a new engine keeps.
-use Rattle.std.proofs.Common.{◌≡◌, ◌≢◌, ℕ, ◌+◌, ◌<◌, ◌≤◌, List, [], ◌∷◌, length, map, Option, None, true, false, refl, ap, sym, ◌∙◌, subst, arith, inl, inr, zero, suc}
-use Rattle.std.specs.Prelude.{List, Bool, slice_index_or, replicate, nat_lt, ◌==◌}
-use Rattle.dma_mem.specs.Image.{is_size, over, after_moves}
-use Rattle.std.specs.List.{filter_map, range_with_len}
+use Rattle.std.proofs.Common.{◌≡◌, ◌≢◌, ℕ, ◌+◌, ◌<◌, ◌≤◌, List, [], ◌∷◌, length, map, Option, None, true, false, refl, ap, sym, ◌∙◌, subst, arith, inl, inr}
+use Rattle.std.proofs.Common.{zero, suc}
+use Rattle.std.specs.{Prelude.List, Prelude.Bool, Prelude.slice_index_or, Prelude.replicate, Prelude.nat_lt, Prelude.◌==◌, List.filter_map, List.range_with_len}
+use Rattle.dma_mem.specs.{Image.is_size, Image.over, Image.after_moves, Flags.all_clear}
 use Rattle.std.proofs.lemmas.Bool.{cases_lt, ne_eqb, le-ltb}
 use Rattle.std.proofs.lemmas.List.{length-replicate, get_or-replicate, get_or_past}
-use Rattle.dma_mem.specs.Flags.{all_clear}
-use Rattle.dma_engine.specs.Object.{IsBase, channel, empty_channel, opening}
-use Rattle.dma_engine.specs.View.{View, ChannelSchedule, RunningTransfer, Fits, runs, running_in, running, with_stored, memory_shown, memory_of, object_of, IsSound, idle, new_fault, new_view}
-use Rattle.dma_engine.specs.declared.queue.Queue.{Queue}
-use Rattle.dma_engine.specs.inner.Ranges.{AreOfRunning}
+use Rattle.dma_engine.specs.View.{View, ChannelSchedule, RunningTransfer, Fits, runs, running_in, running, with_stored, memory_shown, memory_of, object_of}
+use Rattle.dma_engine.specs.View.{IsSound, idle, new_fault, new_view}
 use Rattle.dma_engine.specs.inner.Holds.{Holds, IsPrepared, Parts, view_of, schedule_of, new_queue}
+use Rattle.dma_engine.specs.{Object.IsBase, Object.channel, Object.empty_channel, Object.opening, declared.queue.Queue.Queue, inner.Ranges.AreOfRunning}
 use Rattle.dma_mem.proofs.PageImages.{put_none}
-use Rattle.dma_engine.proofs.Sizes.{opening_flags, opening_many, opening_size}
-use Rattle.dma_engine.proofs.TransferRules.{AreMarks}
+use Rattle.dma_engine.proofs.{Sizes.opening_flags, Sizes.opening_many, Sizes.opening_size, TransferRules.AreMarks}
 
 map_same : (n : ℕ) → map schedule_of (replicate n new_queue) ≡ replicate n idle
 map_same zero = refl
@@ -70,7 +67,8 @@ pub base_opening : (bytes n : ℕ) → IsBase (opening bytes n)
 base_opening bytes n = record {
   flags = opening_flags bytes n;
   marks = subst AreMarks (opening_marks bytes n) (λ k d l. absurd (omega (arith, l)));
-  each = λ ch. rw (new_at bytes n ch) (record { outcomes = refl; rests = (refl, refl); counts = (omega arith, omega arith, omega arith); rules = λ k d l. absurd (omega (arith, l)) });
+  each = λ ch. rw (new_at bytes n ch)
+      (record { outcomes = refl; rests = (refl, refl); counts = (omega arith, omega arith, omega arith); rules = λ k d l. absurd (omega (arith, l)) });
 }
 
 -- the view of a new engine is sound
@@ -84,7 +82,18 @@ new_sound bytes n made = record {
 
 -- the parts of a new engine
 abbrev pub new_parts : ℕ → List Bool → ℕ → Parts
-new_parts bytes made n = record { size = bytes; memory = replicate bytes 0; made = made; events = all_clear; marks = []; queues = replicate n new_queue; base = opening bytes n; history = []; steps = 0 }
+new_parts bytes made n = record {
+  size = bytes;
+  memory = replicate bytes 0;
+  made = made;
+  events = all_clear;
+  marks = [];
+  queues = replicate n new_queue;
+  base = opening bytes n;
+  history =
+      [];
+  steps = 0;
+}
 
 pub new_view_law : (bytes : ℕ) (made : List Bool) (n : ℕ) → view_of (new_parts bytes made n) ≡ new_view bytes n
 new_view_law bytes made n =

@@ -1,27 +1,15 @@
 -- A known outcome never changes, and after calls it is known or forgotten.
 use Rattle.std.proofs.Common.{◌≡◌, ℕ, ◌-◌, List, [], ◌∷◌, Some, None, Bool, true, false, refl, ap, ◌∙◌, inl, inr, ◌≤◌, sym, subst, arith}
 use Rattle.std.specs.Prelude.{slice_get, if◌then◌else◌, nat_le}
-use Rattle.std.proofs.lemmas.Bool.{cases_eq, cases_Bool}
-use Rattle.std.proofs.lemmas.List.{get_or-set_other}
-use Rattle.dma_engine.specs.declared.entry.Entry.{Entry}
+use Rattle.std.proofs.{lemmas.Bool.cases_eq, lemmas.Bool.cases_Bool, lemmas.List.get_or-set_other, lemmas.Option.slice_get_within}
 use Rattle.dma_engine.specs.declared.entry.Entry.TheVariants.{Submitted, Issued, Passed, Signalled, Finished, Terminated}
-use Rattle.dma_engine.specs.declared.entry.Signaller.TheVariants.{Channel}
-use Rattle.dma_engine.specs.declared.outcome.Outcome.{Outcome}
 use Rattle.dma_engine.specs.Object.{Object, ChannelState, after, channel, empty_channel, with_channel, with_flag, with_front_laid, finished}
-use Rattle.dma_engine.specs.History.{object_after}
-use Rattle.dma_engine.specs.View.{View, object_of}
 use Rattle.dma_engine.specs.Answer.{Extends, KeepsOutcomes, result_of, AreAnswers, CallAnswers, Remembers, checkpoint_fault, checkpointed, is_checkpoint}
-use Rattle.dma_engine.proofs.Boards.{with_channel_at}
-use Rattle.dma_engine.proofs.Histories.{object_after_append}
-use Rattle.dma_engine.proofs.Queues.{slice_get_longer}
-use Rattle.std.proofs.lemmas.Option.{slice_get_within}
-use Rattle.dma_mem.specs.declared.call.Call.{Call}
-use Rattle.dma_mem.specs.declared.call.Call.TheVariants.{Checkpoint}
-use Rattle.dma_engine.specs.declared.call.Reply.{Reply}
-use Rattle.dma_engine.specs.declared.call.Reply.TheVariants.{Done}
-use Rattle.dma_engine.proofs.CallLists.{answers_extend}
-use Rattle.dma_engine.proofs.Checkpoint.{accepted}
-use Rattle.dma_engine.proofs.StaysSound.{forgotten_at}
+use Rattle.dma_engine.specs.{declared.entry.Entry.Entry, declared.entry.Signaller.TheVariants.Channel, declared.outcome.Outcome.Outcome, History.object_after}
+use Rattle.dma_engine.specs.{View.View, View.object_of, declared.call.Reply.Reply, declared.call.Reply.TheVariants.Done}
+use Rattle.dma_engine.proofs.{Boards.with_channel_at, Histories.object_after_append, Queues.slice_get_longer, CallLists.answers_extend, Checkpoint.accepted}
+use Rattle.dma_engine.proofs.{StaysSound.forgotten_at}
+use Rattle.dma_mem.specs.{declared.call.Call.Call, declared.call.Call.TheVariants.Checkpoint}
 
 -- each outcome of the first channel is one of the second, at its place
 record Keeps (c d : ChannelState) : Type 0 where
@@ -42,8 +30,10 @@ keeps_after o (Submitted ch t cookie) d = keeps_with o ch _ (record { forgotten 
 keeps_after o (Issued ch) d = keeps_with o ch _ (record { forgotten = refl; outcomes = λ k x g. g }) d
 keeps_after o (Passed ch event) d = keeps_with (with_flag o event false) ch _ (record { forgotten = refl; outcomes = λ k x g. g }) d
 keeps_after o (Signalled (Channel ch) event) d = keeps_with (with_flag o event true) ch _ (record { forgotten = refl; outcomes = λ k x g. g }) d
-keeps_after o (Finished ch result done) d = keeps_with (with_front_laid o ch done) ch _ (record { forgotten = refl; outcomes = λ k x g. slice_get_longer (channel o ch).outcomes _ k x g }) d
-keeps_after o (Terminated ch done count) d = keeps_with (with_front_laid o ch done) ch _ (record { forgotten = refl; outcomes = λ k x g. slice_get_longer (channel o ch).outcomes _ k x g }) d
+keeps_after o (Finished ch result done) d =
+    keeps_with (with_front_laid o ch done) ch _ (record { forgotten = refl; outcomes = λ k x g. slice_get_longer (channel o ch).outcomes _ k x g }) d
+keeps_after o (Terminated ch done count) d =
+    keeps_with (with_front_laid o ch done) ch _ (record { forgotten = refl; outcomes = λ k x g. slice_get_longer (channel o ch).outcomes _ k x g }) d
 keeps_after o e d = keeps_all_law (channel o d)
 
 keeps_object : (o : Object) (es : List Entry) (d : ℕ) → Keeps (channel o d) (channel (object_after o es) d)
@@ -61,13 +51,15 @@ pub kept : (old new : View) → Extends old new → KeepsOutcomes old new
 kept old new h =
     let more = h.1 in
     let o = object_of old in
-    let is : object_of new ≡ object_after o more.0 = ap (λ b. object_after b new.history) h.0 ∙ ap (object_after old.base) more.1 ∙ object_after_append old.base old.history more.0 in
+    let is : object_of new ≡ object_after o more.0 = ap (λ b. object_after b new.history) h.0 ∙ ap (object_after old.base) more.1
+    ∙ object_after_append old.base old.history more.0 in
     λ ch cookie x g.
     let c = channel o ch in
     let d = channel (object_after o more.0) ch in
     let keeps = keeps_object o more.0 ch in
     let n = cookie - c.forgotten - 1 in
-    let by : (b : Bool) → (if b then None else slice_get c.outcomes n) ≡ Some x → (if b then None else slice_get d.outcomes n) ≡ Some x = λ b. elim b as (λ b. (if b then None else slice_get c.outcomes n) ≡ Some x → (if b then None else slice_get d.outcomes n) ≡ Some x) [
+    let by : (b : Bool) → (if b then None else slice_get c.outcomes n) ≡ Some x → (if b then None else slice_get d.outcomes n) ≡ Some x =
+    λ b. elim b as (λ b. (if b then None else slice_get c.outcomes n) ≡ Some x → (if b then None else slice_get d.outcomes n) ≡ Some x) [
       | true ↦ λ e. absurd cc
       | false ↦ λ e. keeps.outcomes n x e
     ] in
@@ -78,7 +70,8 @@ kept old new h =
 pub extends_forgotten : (old new : View) → Extends old new → (ch : ℕ) → (channel (object_of new) ch).forgotten ≡ (channel (object_of old) ch).forgotten
 extends_forgotten old new h ch =
     let more = h.1 in
-    let is : object_of new ≡ object_after (object_of old) more.0 = ap (λ b. object_after b new.history) h.0 ∙ ap (object_after old.base) more.1 ∙ object_after_append old.base old.history more.0 in
+    let is : object_of new ≡ object_after (object_of old) more.0 = ap (λ b. object_after b new.history) h.0 ∙ ap (object_after old.base) more.1
+    ∙ object_after_append old.base old.history more.0 in
     ap (λ (o : Object). (channel o ch).forgotten) is ∙ forgotten_stays (object_of old) more.0 ch
 
 -- ---- after calls, checkpoints included
@@ -96,13 +89,15 @@ forgets : (v w : View) → w ≡ checkpointed v → Remembers v w
 forgets v w is ch cookie x lost =
     let o = object_of v in
     let c = channel o ch in
-    let next : (channel (object_of w) ch).forgotten ≡ finished c = ap (λ (u : View). (channel (object_of u) ch).forgotten) is ∙ ap (λ (d : ChannelState). d.forgotten) (forgotten_at o ch) in
+    let next : (channel (object_of w) ch).forgotten ≡ finished c = ap (λ (u : View). (channel (object_of u) ch).forgotten) is
+    ∙ ap (λ (d : ChannelState). d.forgotten) (forgotten_at o ch) in
     inr (elim (cases_Bool (nat_le cookie c.forgotten)) [
       | inl e ↦ let none = rw e at lost in absurd cc
       | inr e ↦ omega (arith, slice_get_within c.outcomes (cookie - c.forgotten - 1) x (rw e at lost), next)
     ])
 
-then_remembers : (u v w : View) → Remembers u v → Remembers v w → ((ch : ℕ) → (channel (object_of v) ch).forgotten ≤ (channel (object_of w) ch).forgotten) → Remembers u w
+then_remembers : (u v w : View) → Remembers u v → Remembers v w → ((ch : ℕ) → (channel (object_of v) ch).forgotten ≤ (channel (object_of w) ch).forgotten)
+    → Remembers u w
 then_remembers u v w a b rises ch cookie x is = elim (a ch cookie x is) [
   | inl stays ↦ b ch cookie x stays
   | inr gone ↦ inr (omega (arith, gone, rises ch))
@@ -115,7 +110,8 @@ checkpoint_keeps : (v w : View) → w ≡ checkpointed v → RemembersOn v w
 checkpoint_keeps v w is = record {
   remembers = forgets v w is;
   rises = λ ch.
-      let next : (channel (object_of w) ch).forgotten ≡ finished (channel (object_of v) ch) = ap (λ (u : View). (channel (object_of u) ch).forgotten) is ∙ ap (λ (d : ChannelState). d.forgotten) (forgotten_at (object_of v) ch) in
+      let next : (channel (object_of w) ch).forgotten ≡ finished (channel (object_of v) ch) = ap (λ (u : View). (channel (object_of u) ch).forgotten) is
+      ∙ ap (λ (d : ChannelState). d.forgotten) (forgotten_at (object_of v) ch) in
       omega (arith, next);
 }
 
@@ -128,7 +124,8 @@ by_test_law : (v w : View) (call : Call) (reply : Reply) (b : Bool) → is_check
 by_test_law v w call reply false e h = extends_keeps v w (answers_extend v w call reply e h)
 by_test_law v w call reply true e h =
     let both = only_done call reply e in
-    let lost : CallAnswers v Checkpoint Done w = subst (λ (r : Reply). CallAnswers v Checkpoint r w) both.1 (subst (λ (c : Call). CallAnswers v c reply w) both.0 h) in
+    let lost : CallAnswers v Checkpoint Done w =
+    subst (λ (r : Reply). CallAnswers v Checkpoint r w) both.1 (subst (λ (c : Call). CallAnswers v c reply w) both.0 h) in
     checkpoint_keeps v w (accepted (checkpoint_fault v) v w (checkpointed v) lost)
 
 call_keeps_law : (v w : View) (call : Call) (reply : Reply) → CallAnswers v call reply w → RemembersOn v w

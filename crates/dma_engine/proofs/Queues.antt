@@ -1,20 +1,15 @@
 -- A queue and what the object knows of its channel.
-use Rattle.std.proofs.Common.{◌≡◌, ℕ, ◌+◌, ◌-◌, ◌<◌, List, [], ◌∷◌, ◌++◌, length, Option, Some, None, Bool, true, false, cond, refl, ap, sym, ◌∙◌, arith, suc, zero, inl, inr}
-use Rattle.std.specs.Prelude.{IsSomeAnd, is_some, slice_get, slice_index_or, nat_lt}
-use Rattle.std.specs.Option.{option_map}
-use Rattle.std.proofs.lemmas.Bool.{cases_lt, le-ltb, lt-ltb, ltb-true}
-use Rattle.std.proofs.lemmas.Option.{slice_get_within, slice_get-get_or}
-use Rattle.std.proofs.lemmas.List.{get_or-map, length-map, get_or-take, get_or_default}
-use Rattle.dma_chan.specs.Channel.{ChannelValue}
-use Rattle.dma_chan.specs.Programs.{ProgramValue}
+use Rattle.std.proofs.Common.{◌≡◌, ℕ, ◌+◌, ◌-◌, ◌<◌, List, [], ◌∷◌, ◌++◌, length, Option, Some, None, Bool, true, false, cond, refl, ap, sym, ◌∙◌, arith, suc}
+use Rattle.std.proofs.Common.{zero, inl, inr}
+use Rattle.std.specs.{Prelude.IsSomeAnd, Prelude.is_some, Prelude.slice_get, Prelude.slice_index_or, Prelude.nat_lt, Option.option_map}
+use Rattle.std.proofs.{lemmas.Bool.cases_lt, lemmas.Bool.le-ltb, lemmas.Bool.lt-ltb, lemmas.Bool.ltb-true, lemmas.Option.slice_get_within}
+use Rattle.std.proofs.{lemmas.Option.slice_get-get_or, lemmas.List.get_or-map, lemmas.List.length-map, lemmas.List.get_or-take, lemmas.List.get_or_default}
+use Rattle.dma_chan.specs.{Channel.ChannelValue, Programs.ProgramValue}
 use Rattle.dma_mem.specs.Places.{Descriptor}
-use Rattle.dma_engine.specs.declared.entry.Entry.{Entry}
-use Rattle.dma_engine.specs.declared.queue.Queue.{Queue}
 use Rattle.dma_engine.specs.Object.{ChannelState, channel, front, issued_front, no_transfer, used, finished}
-use Rattle.dma_engine.specs.inner.Found.{given_by, transfer_at}
-use Rattle.dma_engine.specs.inner.Ranges.{AreOfRunning}
 use Rattle.dma_engine.specs.View.{Agrees, running_in, runs, idle, object_of, channels, View, ChannelSchedule}
 use Rattle.dma_engine.specs.inner.Holds.{IsQueue, Holds, Parts, view_of, schedule_of, taken_of}
+use Rattle.dma_engine.specs.{declared.entry.Entry.Entry, declared.queue.Queue.Queue, inner.Found.given_by, inner.Found.transfer_at, inner.Ranges.AreOfRunning}
 
 -- ---- the front of a channel
 
@@ -49,7 +44,8 @@ pub front_issued : (c : ChannelState) (t : Descriptor) → issued_front c ≡ So
 front_issued c t h = let f = front_known c t h in f.is ∙ ap (λ u. Some u) f.holds
 
 -- what runs at a channel whose front is known
-pub runs_front : (ch : ℕ) (c : ChannelState) (t : Descriptor) (taken : ℕ) → front c ≡ Some t → running_in ch c (Some taken) ≡ Some (record { ch = ch; cookie = finished c + 1; transfer = t; taken = taken })
+pub runs_front : (ch : ℕ) (c : ChannelState) (t : Descriptor) (taken : ℕ) → front c ≡ Some t
+    → running_in ch c (Some taken) ≡ Some (record { ch = ch; cookie = finished c + 1; transfer = t; taken = taken })
 runs_front ch c t taken h = rw h refl
 
 -- ---- a queue at its channel
@@ -106,24 +102,31 @@ taken_none m h = by m.program h where
   by (Some p) e = absurd cc
 
 -- what runs on its channel
-pub runs_at : {p : Parts} {ch : ℕ} {q : Queue} → HoldsAt p ch q → (t : Descriptor) → is_some q.channel.program ≡ true → front (channel (object_of (view_of p)) ch) ≡ Some t → runs (object_of (view_of p)) (view_of p).schedule ch ≡ Some (record { ch = ch; cookie = finished (channel (object_of (view_of p)) ch) + 1; transfer = t; taken = q.channel.taken })
+pub runs_at : {p : Parts} {ch : ℕ} {q : Queue} → HoldsAt p ch q → (t : Descriptor) → is_some q.channel.program ≡ true
+    → front (channel (object_of (view_of p)) ch) ≡ Some t
+    → runs (object_of (view_of p)) (view_of p).schedule ch ≡ Some
+    (record { ch = ch; cookie = finished (channel (object_of (view_of p)) ch) + 1; transfer = t; taken = q.channel.taken })
 runs_at {p} {ch} {q} at t loaded is =
     let c = channel (object_of (view_of p)) ch in
     at.runs_is ∙ ap (running_in ch c) (taken_some q.channel loaded) ∙ runs_front ch c t q.channel.taken is
 
-pub runs_none : {p : Parts} {ch : ℕ} {q : Queue} → HoldsAt p ch q → is_some q.channel.program ≡ false → None ≡ runs (object_of (view_of p)) (view_of p).schedule ch
+pub runs_none : {p : Parts} {ch : ℕ} {q : Queue} → HoldsAt p ch q → is_some q.channel.program ≡ false
+    → None ≡ runs (object_of (view_of p)) (view_of p).schedule ch
 runs_none {p} {ch} {q} at unloaded =
     sym (at.runs_is ∙ ap (running_in ch (channel (object_of (view_of p)) ch)) (taken_none q.channel unloaded))
 
 -- ---- a queue's transfers
 
 -- a transfer that the base has is the one submitted
-pub first_at : (ch : ℕ) (kept : List Descriptor) (history : List Entry) (memory : List ℕ) (q : Queue) (c : ChannelState) (n : ℕ) (t : Descriptor) → IsQueue ch kept history memory q c → n < length kept → t ≡ slice_index_or kept n t → t ≡ slice_index_or c.submitted n no_transfer
+pub first_at : (ch : ℕ) (kept : List Descriptor) (history : List Entry) (memory : List ℕ) (q : Queue) (c : ChannelState) (n : ℕ) (t : Descriptor)
+    → IsQueue ch kept history memory q c → n < length kept → t ≡ slice_index_or kept n t → t ≡ slice_index_or c.submitted n no_transfer
 first_at ch kept history memory q c n t tied less read =
-    read ∙ ap (λ l. slice_index_or l n t) (sym tied.first) ∙ get_or-take (length kept) c.submitted n t less ∙ get_or_default c.submitted n t no_transfer (omega (arith, tied.many))
+    read ∙ ap (λ l. slice_index_or l n t) (sym tied.first) ∙ get_or-take (length kept) c.submitted n t less
+    ∙ get_or_default c.submitted n t no_transfer (omega (arith, tied.many))
 
 -- the transfer of a cookie that isn't forgotten is found in the base, or by its entry
-pub transfer_found : (ch : ℕ) (kept : List Descriptor) (history : List Entry) (memory : List ℕ) (q : Queue) (c : ChannelState) (n : ℕ) → IsQueue ch kept history memory q c → n < length c.submitted → transfer_at kept history q.indices.items n ≡ Some (slice_index_or c.submitted n no_transfer)
+pub transfer_found : (ch : ℕ) (kept : List Descriptor) (history : List Entry) (memory : List ℕ) (q : Queue) (c : ChannelState) (n : ℕ)
+    → IsQueue ch kept history memory q c → n < length c.submitted → transfer_at kept history q.indices.items n ≡ Some (slice_index_or c.submitted n no_transfer)
 transfer_found ch kept history memory q c n tied less = elim (cases_lt n (length kept)) [
   | inl early ↦
       let e : nat_lt n (length kept) ≡ true = lt-ltb n (length kept) early in

@@ -1,36 +1,25 @@
 -- The room that is allocated before it is needed, transfers found in a history, and which steps end.
-use Rattle.std.proofs.Common.{◌≡◌, ◌≢◌, ℕ, ◌+◌, ◌-◌, ◌<◌, ◌≤◌, List, [], ◌∷◌, ◌++◌, length, map, take, drop, Option, Some, Bool, true, false, refl, ap, sym, ◌∙◌, subst, arith, suc, inl, inr}
+use Rattle.std.proofs.Common.{◌≡◌, ◌≢◌, ℕ, ◌+◌, ◌-◌, ◌<◌, ◌≤◌, List, [], ◌∷◌, ◌++◌, length, map, take, drop, Option, Some, Bool, true, false, refl, ap, sym}
+use Rattle.std.proofs.Common.{◌∙◌, subst, arith, suc, inl, inr}
 use Rattle.std.specs.Prelude.{slice_get, slice_index, slice_index_or, slice_set, is_some, nat_lt, unwrap_or, if◌then◌else◌}
 use Rattle.std.proofs.lemmas.Bool.{cases_eq, cases_lt, le-ltb, lt-ltb, cond_both}
 use Rattle.std.proofs.lemmas.Option.{slice_get-get_or}
-use Rattle.std.proofs.lemmas.List.{get_or-drop, get_or-map, get_or-append-add, get_or_append_left, map-set, get_or-set_same, get_or-set_other, length-drop, length-map, take-append-drop}
+use Rattle.std.proofs.lemmas.List.{get_or-drop, get_or-map, get_or-append-add, get_or_append_left, map-set, get_or-set_same, get_or-set_other, length-drop}
+use Rattle.std.proofs.lemmas.List.{length-map, take-append-drop}
 use Rattle.dma_insn.specs.declared.chip.ChipInsn.{ChipInsn}
 use Rattle.dma_insn.specs.declared.chip.ChipInsn.TheVariants.{Ld, St, End, Wfe}
-use Rattle.dma_mem.specs.Places.{Descriptor}
-use Rattle.dma_mem.specs.declared.marks.MarkKind.TheVariants.{Reading, Writing}
-use Rattle.dma_chan.specs.Exec.{fault_in}
-use Rattle.dma_chan.specs.Layer.{Shared, effect_of}
-use Rattle.dma_mem.specs.Marking.{meets_mark}
-use Rattle.dma_chan.specs.Traffic.{read_places, written_places}
-use Rattle.dma_chan.specs.declared.turn.ChanTurn.{ChanTurn}
+use Rattle.dma_mem.specs.{Places.Descriptor, declared.marks.MarkKind.TheVariants.Reading, declared.marks.MarkKind.TheVariants.Writing, Marking.meets_mark}
 use Rattle.dma_chan.specs.declared.turn.ChanTurn.TheVariants.{Moved, Waiting, Fault}
-use Rattle.dma_chan.specs.declared.turn.FaultKind.{FaultKind}
-use Rattle.dma_chan.specs.declared.turn.FaultKind.TheVariants.{DataReadErr, DataWriteErr}
-use Rattle.dma_engine.specs.declared.entry.Entry.{Entry}
-use Rattle.dma_engine.specs.declared.entry.Entry.TheVariants.{Submitted}
-use Rattle.dma_engine.specs.declared.outcome.TransResult.{TransResult}
-use Rattle.dma_engine.specs.declared.outcome.TransResult.TheVariants.{ReadFailed, WriteFailed}
-use Rattle.dma_engine.specs.declared.queue.Queue.{Queue}
+use Rattle.dma_chan.specs.{Exec.fault_in, Layer.Shared, Layer.effect_of, Traffic.read_places, Traffic.written_places, declared.turn.ChanTurn.ChanTurn}
+use Rattle.dma_chan.specs.{declared.turn.FaultKind.FaultKind, declared.turn.FaultKind.TheVariants.DataReadErr, declared.turn.FaultKind.TheVariants.DataWriteErr}
 use Rattle.dma_engine.specs.inner.Found.{given_by, transfer_at, transfer_in, transfer_of, transfers_in, unfinished_in}
-use Rattle.dma_engine.specs.inner.Inside.{queue_room}
 use Rattle.dma_engine.specs.Object.{Object, ChannelState, channel, no_transfer, unfinished, is_set}
-use Rattle.dma_engine.specs.Room.{no_room, room_on, HasRoom, KeepsRoom}
 use Rattle.dma_engine.specs.Turn.{Stepped, ends, insn_turn, finishes, next_moved}
-use Rattle.dma_engine.specs.View.{View, EngineState, object_of}
-use Rattle.dma_engine.specs.inner.Holds.{Holds, IsQueue, Parts, view_of}
-use Rattle.dma_engine.proofs.Changes.{changed, schedule_kept, view_changed}
-use Rattle.dma_engine.proofs.QueueCalls.{holds_paused}
-use Rattle.dma_engine.proofs.Queues.{HoldsAt}
+use Rattle.dma_engine.specs.{declared.entry.Entry.Entry, declared.entry.Entry.TheVariants.Submitted, declared.outcome.TransResult.TransResult}
+use Rattle.dma_engine.specs.{declared.outcome.TransResult.TheVariants.ReadFailed, declared.outcome.TransResult.TheVariants.WriteFailed}
+use Rattle.dma_engine.specs.{declared.queue.Queue.Queue, inner.Inside.queue_room, Room.no_room, Room.room_on, Room.HasRoom, Room.KeepsRoom, View.View}
+use Rattle.dma_engine.specs.{View.EngineState, View.object_of, inner.Holds.Holds, inner.Holds.IsQueue, inner.Holds.Parts, inner.Holds.view_of}
+use Rattle.dma_engine.proofs.{Changes.changed, Changes.schedule_kept, Changes.view_changed, QueueCalls.holds_paused, Queues.HoldsAt}
 
 -- ---- room
 
@@ -42,26 +31,35 @@ with_room q a b =
 pub holds_room : {p : Parts} {ch : ℕ} {q : Queue} → HoldsAt p ch q → (a b : ℕ) → Holds (changed p ch (with_room q a b) p.memory p.events p.history p.steps)
 holds_room {q = q} at a b = holds_paused at a b q.paused
 
-pub view_room : {p : Parts} {ch : ℕ} {q : Queue} → HoldsAt p ch q → (a b : ℕ) → view_of (changed p ch (with_room q a b) p.memory p.events p.history p.steps) ≡ view_of p
+pub view_room : {p : Parts} {ch : ℕ} {q : Queue} → HoldsAt p ch q → (a b : ℕ)
+    → view_of (changed p ch (with_room q a b) p.memory p.events p.history p.steps) ≡ view_of p
 view_room {p} {ch} {q} at a b =
-    view_changed p ch (with_room q a b) p.memory p.events p.history p.steps ∙ ap (λ s. record (view_of p) { schedule = s }) (schedule_kept at (with_room q a b) refl)
+    view_changed p ch (with_room q a b) p.memory p.events p.history p.steps
+    ∙ ap (λ s. record (view_of p) { schedule = s }) (schedule_kept at (with_room q a b) refl)
 
 -- the room of a channel is that of its queue
-pub room_at : (queues : List Queue) (ch : ℕ) (q : Queue) → ch < length queues → q ≡ slice_index_or queues ch q → slice_index_or (map queue_room queues) ch no_room ≡ queue_room q
+pub room_at : (queues : List Queue) (ch : ℕ) (q : Queue) → ch < length queues → q ≡ slice_index_or queues ch q
+    → slice_index_or (map queue_room queues) ch no_room ≡ queue_room q
 room_at queues ch q less read = get_or-map queue_room queues ch q no_room less ∙ ap queue_room (sym read)
 
-pub room_set : (queues : List Queue) (ch : ℕ) (q : Queue) → ch < length queues → slice_index_or (map queue_room (slice_set queues ch q)) ch no_room ≡ queue_room q
+pub room_set : (queues : List Queue) (ch : ℕ) (q : Queue) → ch < length queues
+    → slice_index_or (map queue_room (slice_set queues ch q)) ch no_room ≡ queue_room q
 room_set queues ch q less =
     ap (λ l. slice_index_or l ch no_room) (map-set queue_room queues ch q)
     ∙ get_or-set_same (map queue_room queues) ch (queue_room q) no_room (omega (arith, less, length-map queues queue_room))
 
 -- every channel's room is kept when one queue is replaced by one with no less room
-pub keeps_room : {p : Parts} {ch : ℕ} {q : Queue} → HoldsAt p ch q → (r : Queue) (entries : ℕ) (e f : EngineState) → record { view = view_of p; memory = p.memory; room = record { entries = entries; queues = map queue_room p.queues } } ≡ e → object_of f.view ≡ object_of (view_of p) → entries ≤ f.room.entries → f.room.queues ≡ map queue_room (slice_set p.queues ch r) → q.indices.spare ≤ r.indices.spare → q.outcomes.spare ≤ r.outcomes.spare → KeepsRoom e f
+pub keeps_room : {p : Parts} {ch : ℕ} {q : Queue} → HoldsAt p ch q → (r : Queue) (entries : ℕ) (e f : EngineState)
+    → record { view = view_of p; memory = p.memory; room = record { entries = entries; queues = map queue_room p.queues } } ≡ e
+    → object_of f.view ≡ object_of (view_of p) → entries ≤ f.room.entries → f.room.queues ≡ map queue_room (slice_set p.queues ch r)
+    → q.indices.spare ≤ r.indices.spare → q.outcomes.spare ≤ r.outcomes.spare → KeepsRoom e f
 keeps_room {p} {ch} {q} at r entries e f is object more queues indices outcomes d h =
     let h' = subst (λ (s : EngineState). HasRoom s d) (sym is) h in
-    let grow : ((slice_index_or (map queue_room p.queues) d no_room).indices ≤ (room_on f.room d).indices) × ((slice_index_or (map queue_room p.queues) d no_room).outcomes ≤ (room_on f.room d).outcomes) = elim (cases_eq d ch) [
+    let grow : ((slice_index_or (map queue_room p.queues) d no_room).indices ≤ (room_on f.room d).indices)
+    × ((slice_index_or (map queue_room p.queues) d no_room).outcomes ≤ (room_on f.room d).outcomes) = elim (cases_eq d ch) [
       | inl same ↦ rw (queues, same, room_at p.queues ch q at.less at.read, room_set p.queues ch r at.less) (indices, outcomes)
-      | inr other ↦ rw (queues, map-set queue_room p.queues ch r, get_or-set_other (map queue_room p.queues) ch d (queue_room r) no_room other) (omega arith, omega arith)
+      | inr other ↦ rw (queues, map-set queue_room p.queues ch r, get_or-set_other (map queue_room p.queues) ch d (queue_room r) no_room other)
+          (omega arith, omega arith)
     ] in
     record {
       entry = omega (arith, more, h'.entry);
@@ -71,7 +69,8 @@ keeps_room {p} {ch} {q} at r entries e f is object more queues indices outcomes 
 
 -- ---- transfers that are found by their indices
 
-map_same : (f : ℕ → Descriptor) (xs : List ℕ) (ts : List Descriptor) → length xs ≡ length ts → ((k : ℕ) → k < length ts → f (slice_index xs k) ≡ slice_index_or ts k no_transfer) → map f xs ≡ ts
+map_same : (f : ℕ → Descriptor) (xs : List ℕ) (ts : List Descriptor) → length xs ≡ length ts
+    → ((k : ℕ) → k < length ts → f (slice_index xs k) ≡ slice_index_or ts k no_transfer) → map f xs ≡ ts
 map_same f [] [] n h = refl
 map_same f [] (t ∷ ts) n h = absurd (omega arith)
 map_same f (x ∷ xs) [] n h = absurd (omega arith)
@@ -81,7 +80,8 @@ map_same f (x ∷ xs) (t ∷ ts) n h =
     ap (λ u. u ∷ map f xs) first ∙ ap (λ l. t ∷ l) rest
 
 -- the transfers of a queue that its entries give
-later_all : (ch : ℕ) (kept : List Descriptor) (history : List Entry) (memory : List ℕ) (q : Queue) (c : ChannelState) → IsQueue ch kept history memory q c → map (transfer_in history) q.indices.items ≡ drop (length kept) c.submitted
+later_all : (ch : ℕ) (kept : List Descriptor) (history : List Entry) (memory : List ℕ) (q : Queue) (c : ChannelState) → IsQueue ch kept history memory q c
+    → map (transfer_in history) q.indices.items ≡ drop (length kept) c.submitted
 later_all ch kept history memory q c t =
     let n = length kept in
     let many : length q.indices.items ≡ length (drop n c.submitted) = omega (arith, t.many, length-drop n c.submitted) in
@@ -89,20 +89,24 @@ later_all ch kept history memory q c t =
     (λ k less. ap transfer_of (t.indexed k (omega (arith, less, many))).1 ∙ sym (get_or-drop n c.submitted k no_transfer))
 
 -- all its transfers, with those that the base has
-found_all : (ch : ℕ) (kept : List Descriptor) (history : List Entry) (memory : List ℕ) (q : Queue) (c : ChannelState) → IsQueue ch kept history memory q c → transfers_in kept history q.indices.items ≡ c.submitted
+found_all : (ch : ℕ) (kept : List Descriptor) (history : List Entry) (memory : List ℕ) (q : Queue) (c : ChannelState) → IsQueue ch kept history memory q c
+    → transfers_in kept history q.indices.items ≡ c.submitted
 found_all ch kept history memory q c t =
     ap (λ l. l ++ map (transfer_in history) q.indices.items) (sym t.first)
     ∙ ap (λ l. take (length kept) c.submitted ++ l) (later_all ch kept history memory q c t)
     ∙ take-append-drop (length kept) c.submitted
 
 -- those of its unfinished cookies
-pub unfinished_found : {p : Parts} {ch : ℕ} {q : Queue} → HoldsAt p ch q → let c = channel (object_of (view_of p)) ch in unfinished_in q (channel p.base ch).submitted p.history ≡ drop (length c.outcomes) c.submitted
+pub unfinished_found : {p : Parts} {ch : ℕ} {q : Queue} → HoldsAt p ch q → let c = channel (object_of (view_of p)) ch in
+    unfinished_in q (channel p.base ch).submitted p.history ≡ drop (length c.outcomes) c.submitted
 unfinished_found {p} {ch} {q} at =
     let c = channel (object_of (view_of p)) ch in
-    ap (drop (length q.outcomes.items)) (found_all ch (channel p.base ch).submitted p.history p.memory q c at.tied) ∙ ap (λ l. drop (length l) c.submitted) at.tied.outcomes
+    ap (drop (length q.outcomes.items)) (found_all ch (channel p.base ch).submitted p.history p.memory q c at.tied)
+    ∙ ap (λ l. drop (length l) c.submitted) at.tied.outcomes
 
 -- a transfer of the base or of an entry is the one at its place among all
-pub transfer_at_all : (kept : List Descriptor) (history : List Entry) (indices : List ℕ) (n : ℕ) → n < length kept + length indices → unwrap_or (transfer_at kept history indices n) no_transfer ≡ slice_index_or (transfers_in kept history indices) n no_transfer
+pub transfer_at_all : (kept : List Descriptor) (history : List Entry) (indices : List ℕ) (n : ℕ) → n < length kept + length indices
+    → unwrap_or (transfer_at kept history indices n) no_transfer ≡ slice_index_or (transfers_in kept history indices) n no_transfer
 transfer_at_all kept history indices n less = elim (cases_lt n (length kept)) [
   | inl early ↦
       let e : nat_lt n (length kept) ≡ true = lt-ltb n (length kept) early in
@@ -125,16 +129,20 @@ transfer_at_all kept history indices n less = elim (cases_lt n (length kept)) [
 
 -- ---- which steps end
 
-by_mark_law : (b : Bool) (v : View) (ch n : ℕ) (t : Descriptor) (how : TransResult) (kind : FaultKind) (m w : Shared) → ends (if◌then◌else◌ {A = Stepped} b (finishes v ch t n how) (next_moved v ch n)).0 ≡ is_some (fault_in (if◌then◌else◌ {A = ChanTurn × Shared} b (Fault kind, m) (Moved, w)).0)
+by_mark_law : (b : Bool) (v : View) (ch n : ℕ) (t : Descriptor) (how : TransResult) (kind : FaultKind) (m w : Shared)
+    → ends (if◌then◌else◌ {A = Stepped} b (finishes v ch t n how) (next_moved v ch n)).0 ≡ is_some
+    (fault_in (if◌then◌else◌ {A = ChanTurn × Shared} b (Fault kind, m) (Moved, w)).0)
 by_mark_law true v ch n t how kind m w = refl
 by_mark_law false v ch n t how kind m w = refl
 
 -- an instruction that isn't the end finishes the front where the channel fails at it
-pub ends_insn : (v : View) (ch n : ℕ) (t : Descriptor) (m : Shared) (i : ChipInsn) → i ≢ End → ends (insn_turn v ch t n i).0 ≡ is_some (fault_in (effect_of i (read_places t n) (written_places t n) (object_of v).marks m).0)
+pub ends_insn : (v : View) (ch n : ℕ) (t : Descriptor) (m : Shared) (i : ChipInsn) → i ≢ End
+    → ends (insn_turn v ch t n i).0 ≡ is_some (fault_in (effect_of i (read_places t n) (written_places t n) (object_of v).marks m).0)
 ends_insn v ch n t m End h = absurd (h refl)
 ends_insn v ch n t m Ld h = by_mark_law (meets_mark Reading (object_of v).marks (read_places t n)) v ch n t ReadFailed DataReadErr m m
 ends_insn v ch n t m St h = by_mark_law (meets_mark Writing (object_of v).marks (written_places t n)) v ch n t WriteFailed DataWriteErr m _
 ends_insn v ch n t m (Wfe e x) h =
     cond_both {A = Stepped} (is_set (object_of v) e) _ _ (λ (s : Stepped). ends s.0 ≡ false) (λ _. refl) (λ _. refl)
-    ∙ sym (cond_both {A = ChanTurn × Shared} (slice_index_or m.flags e false) (Moved, _) (Waiting e, m) (λ (s : ChanTurn × Shared). is_some (fault_in s.0) ≡ false) (λ _. refl) (λ _. refl))
+    ∙ sym (cond_both {A = ChanTurn × Shared} (slice_index_or m.flags e false) (Moved, _) (Waiting e, m)
+    (λ (s : ChanTurn × Shared). is_some (fault_in s.0) ≡ false) (λ _. refl) (λ _. refl))
 ends_insn v ch n t m i h = refl

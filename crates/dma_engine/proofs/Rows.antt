@@ -1,33 +1,23 @@
 -- Worked rows, computed from the definitions.
 use Rattle.std.proofs.Common.{◌≡◌, ℕ, ◌<◌, ◌≤◌, List, [], ◌∷◌, Option, Some, None, true, false, refl, sym, arith}
 use Rattle.std.proofs.lemmas.Bool.{eqb-false}
-use Rattle.dma_mem.specs.Places.{Descriptor, filling, lies_below, share}
-use Rattle.dma_mem.specs.Image.{put, after_moves}
-use Rattle.dma_mem.specs.declared.marks.MarkKind.{MarkKind}
-use Rattle.dma_mem.specs.declared.marks.MarkKind.TheVariants.{Reading, Writing}
+use Rattle.dma_mem.specs.{Places.Descriptor, Places.filling, Places.lies_below, Places.share, Image.put, Image.after_moves, declared.marks.MarkKind.MarkKind}
+use Rattle.dma_mem.specs.{declared.marks.MarkKind.TheVariants.Reading, declared.marks.MarkKind.TheVariants.Writing, Marking.meets_mark, declared.call.Call.Call}
 use Rattle.dma_mem.proofs.TransferRules.{IsTransfer_from_no_refusal}
 use Rattle.dma_insn.specs.ControlWord.{bits_of, end_bits}
-use Rattle.dma_chan.specs.Compiled.{beat_of, parts, members}
-use Rattle.dma_chan.specs.Traffic.{member, stored_after, burst}
-use Rattle.dma_chan.specs.Bursts.{burst_at}
-use Rattle.dma_mem.specs.Marking.{meets_mark}
-use Rattle.dma_engine.specs.declared.entry.Entry.{Entry}
+use Rattle.dma_chan.specs.{Compiled.beat_of, Compiled.parts, Compiled.members, Traffic.member, Traffic.stored_after, Traffic.burst, Bursts.burst_at}
 use Rattle.dma_engine.specs.declared.entry.Entry.TheVariants.{Wrote, ReadBack, Submitted, Issued, Signalled, Finished, Marked}
-use Rattle.dma_engine.specs.declared.entry.Signaller.TheVariants.{Host}
-use Rattle.dma_mem.specs.declared.call.Call.{Call}
-use Rattle.dma_mem.specs.declared.call.Call.TheVariants.{Write, Read, Submit, Issue, Pause, Resume, Terminate, Step, Status, Result as ResultOf, Mark, Raise, Checkpoint}
-use Rattle.dma_engine.specs.declared.call.Reply.{Reply}
-use Rattle.dma_engine.specs.declared.call.Reply.TheVariants.{Done, Bytes, Cookie, Count, Turned, State, Result as Resulted, Refused}
 use Rattle.dma_engine.specs.declared.turn.Status.TheVariants.{Unknown, InProgress, Complete}
-use Rattle.dma_engine.specs.declared.turn.Turn.TheVariants.{Nothing, Held, Started, Moved, Waiting, Paused, Halted, Finished as TurnFinished}
 use Rattle.dma_engine.specs.declared.fault.EngineFault.TheVariants.{OutOfMemoryRange, Busy, Running, NoChannel, BadEvent, BadRange, CookiesSpent, StepsSpent}
-use Rattle.dma_engine.specs.declared.fault.NewFault.TheVariants.{BadChannels, SizeOutOfRange}
 use Rattle.dma_engine.specs.declared.outcome.TransResult.TheVariants.{NoError, ReadFailed, Aborted}
 use Rattle.dma_engine.specs.Object.{Object, opening, Allows, channel, used}
-use Rattle.dma_engine.specs.Ticks.{added_up}
-use Rattle.dma_engine.specs.History.{object_after, IsLegal}
 use Rattle.dma_engine.specs.View.{View, channels, new_fault, new_view, object_of, running, size}
-use Rattle.dma_engine.specs.Answer.{answer, answers}
+use Rattle.dma_engine.specs.{declared.entry.Entry.Entry, declared.entry.Signaller.TheVariants.Host, declared.call.Reply.Reply}
+use Rattle.dma_engine.specs.{declared.fault.NewFault.TheVariants.BadChannels, declared.fault.NewFault.TheVariants.SizeOutOfRange, Ticks.added_up}
+use Rattle.dma_engine.specs.{History.object_after, History.IsLegal, Answer.answer, Answer.answers}
+use Rattle.dma_mem.specs.declared.call.Call.TheVariants.{Write, Read, Submit, Issue, Pause, Resume, Terminate, Step, Status, Result as ResultOf, Mark, Raise, Checkpoint}
+use Rattle.dma_engine.specs.declared.call.Reply.TheVariants.{Done, Bytes, Cookie, Count, Turned, State, Result as Resulted, Refused}
+use Rattle.dma_engine.specs.declared.turn.Turn.TheVariants.{Nothing, Held, Started, Moved, Waiting, Paused, Halted, Finished as TurnFinished}
 
 -- a transfer of n bytes from one range to another, and one of a byte with events
 abbrev copy : ℕ → ℕ → ℕ → Descriptor
@@ -85,7 +75,8 @@ filled_image = refl
 -- a mark on a fill's byte can fail it at its first byte, and after its second
 abbrev fill_of_a_marked_byte : Object
 fill_of_a_marked_byte =
-    object_after (opening 4 1) (Submitted 0 (filling 0 (record { addr = 1; len = 3 } ∷ []) None None) 1 ∷ Issued 0 ∷ Marked Reading (record { addr = 0; len = 1 }) ∷ [])
+    object_after (opening 4 1)
+    (Submitted 0 (filling 0 (record { addr = 1; len = 3 } ∷ []) None None) 1 ∷ Issued 0 ∷ Marked Reading (record { addr = 0; len = 1 }) ∷ [])
 
 fails_at_its_first_byte : Allows fill_of_a_marked_byte (Finished 0 ReadFailed 0)
 unfolding opening meets_mark
@@ -97,56 +88,79 @@ fails_after_its_second_byte = (refl, ((λ waits. waits), refl, omega arith, refl
 
 -- ---- answers
 
-held_by_the_lowest : replies 16 3 (Submit 0 (copy 0 4 1) ∷ Submit 1 (copy 1 5 1) ∷ Submit 2 (copy 4 8 2) ∷ Issue 0 ∷ Issue 1 ∷ Issue 2 ∷ Step 0 ∷ Step 1 ∷ Step 2 ∷ [])
+held_by_the_lowest : replies 16 3
+    (Submit 0 (copy 0 4 1) ∷ Submit 1 (copy 1 5 1) ∷ Submit 2 (copy 4 8 2) ∷ Issue 0 ∷ Issue 1 ∷ Issue 2 ∷ Step 0 ∷ Step 1 ∷ Step 2 ∷ [])
     ≡ Cookie 1 ∷ Cookie 1 ∷ Cookie 1 ∷ Count 1 ∷ Count 1 ∷ Count 1 ∷ Turned (Started 1) ∷ Turned (Started 1) ∷ Turned (Held 0 1) ∷ []
 unfolding opening put after_moves share running
 held_by_the_lowest = refl
 
-busy_with_a_later_cookie : replies 16 2 (Submit 1 (copy 0 4 2) ∷ Terminate 1 ∷ Submit 1 (copy 0 4 2) ∷ Issue 1 ∷ Step 1 ∷ Write 1 (7 ∷ []) ∷ Read 1 1 ∷ Read 5 1 ∷ Write 15 (7 ∷ 7 ∷ []) ∷ [])
+busy_with_a_later_cookie : replies 16 2
+    (Submit 1 (copy 0 4 2) ∷ Terminate 1 ∷ Submit 1 (copy 0 4 2) ∷ Issue 1 ∷ Step 1 ∷ Write 1 (7 ∷ []) ∷ Read 1 1 ∷ Read 5 1 ∷ Write 15 (7 ∷ 7 ∷ []) ∷ [])
     ≡ Cookie 1 ∷ Count 1 ∷ Cookie 2 ∷ Count 1 ∷ Turned (Started 2) ∷ Refused (Busy 1 2) ∷ Bytes (0 ∷ []) ∷ Refused (Busy 1 2) ∷ Refused OutOfMemoryRange ∷ []
 unfolding opening put after_moves share running
 busy_with_a_later_cookie = refl
 
-how_far_a_cookie_is : replies 16 1 (Submit 0 (copy 0 4 2) ∷ Terminate 0 ∷ Submit 0 (copy 0 4 2) ∷ Status 0 0 ∷ Status 0 1 ∷ Status 0 2 ∷ Status 0 3 ∷ Status 1 1 ∷ [])
+how_far_a_cookie_is : replies 16 1
+    (Submit 0 (copy 0 4 2) ∷ Terminate 0 ∷ Submit 0 (copy 0 4 2) ∷ Status 0 0 ∷ Status 0 1 ∷ Status 0 2 ∷ Status 0 3 ∷ Status 1 1 ∷ [])
     ≡ Cookie 1 ∷ Count 1 ∷ Cookie 2 ∷ State Unknown ∷ State Complete ∷ State InProgress ∷ State Unknown ∷ State Unknown ∷ []
 unfolding opening put after_moves share
 how_far_a_cookie_is = refl
 
 -- three bytes go in bursts of two and one; the first is stored when the channel is terminated
-residues_of_a_terminate : replies 16 1 (Write 0 (17 ∷ 34 ∷ 51 ∷ []) ∷ Submit 0 (copy 0 8 3) ∷ Submit 0 (copy 0 4 2) ∷ Issue 0 ∷ Step 0 ∷ Step 0 ∷ Step 0 ∷ Step 0 ∷ Step 0 ∷ Step 0 ∷ Step 0 ∷ Terminate 0 ∷ ResultOf 0 1 ∷ ResultOf 0 2 ∷ ResultOf 0 3 ∷ Read 8 3 ∷ [])
-    ≡ Done ∷ Cookie 1 ∷ Cookie 2 ∷ Count 2 ∷ Turned (Started 1) ∷ Turned Moved ∷ Turned Moved ∷ Turned Moved ∷ Turned Moved ∷ Turned Moved ∷ Turned Moved ∷ Count 2 ∷ Resulted (Some (record { result = Aborted; residue = 1 })) ∷ Resulted (Some (record { result = Aborted; residue = 2 })) ∷ Resulted None ∷ Bytes (17 ∷ 34 ∷ 0 ∷ []) ∷ []
+residues_of_a_terminate : replies 16 1
+    (Write 0 (17 ∷ 34 ∷ 51 ∷ []) ∷ Submit 0 (copy 0 8 3) ∷ Submit 0 (copy 0 4 2) ∷ Issue 0 ∷ Step 0 ∷ Step 0 ∷ Step 0 ∷ Step 0 ∷ Step 0 ∷ Step 0 ∷ Step 0 ∷
+    Terminate 0 ∷ ResultOf 0 1 ∷ ResultOf 0 2 ∷ ResultOf 0 3 ∷ Read 8 3 ∷ [])
+    ≡ Done ∷ Cookie 1 ∷ Cookie 2 ∷ Count 2 ∷ Turned (Started 1) ∷ Turned Moved ∷ Turned Moved ∷ Turned Moved ∷ Turned Moved ∷ Turned Moved ∷ Turned Moved ∷
+    Count 2 ∷ Resulted (Some (record { result = Aborted; residue = 1 })) ∷ Resulted (Some (record { result = Aborted; residue = 2 })) ∷ Resulted None ∷
+    Bytes (17 ∷ 34 ∷ 0 ∷ []) ∷ []
 unfolding opening put after_moves share running member members stored_after burst meets_mark parts beat_of bits_of end_bits burst_at
 residues_of_a_terminate = refl
 
 -- a fill's two pieces are a burst each; the first is stored when the channel is terminated
-a_fill_stops_halfway : replies 16 1 (Write 0 (17 ∷ []) ∷ Submit 0 (filling 0 (record { addr = 8; len = 2 } ∷ record { addr = 12; len = 1 } ∷ []) None None) ∷ Issue 0 ∷ Step 0 ∷ Step 0 ∷ Step 0 ∷ Step 0 ∷ Step 0 ∷ Step 0 ∷ Step 0 ∷ Terminate 0 ∷ ResultOf 0 1 ∷ Read 8 5 ∷ [])
-    ≡ Done ∷ Cookie 1 ∷ Count 1 ∷ Turned (Started 1) ∷ Turned Moved ∷ Turned Moved ∷ Turned Moved ∷ Turned Moved ∷ Turned Moved ∷ Turned Moved ∷ Count 1 ∷ Resulted (Some (record { result = Aborted; residue = 1 })) ∷ Bytes (17 ∷ 17 ∷ 0 ∷ 0 ∷ 0 ∷ []) ∷ []
+a_fill_stops_halfway : replies 16 1
+    (Write 0 (17 ∷ []) ∷ Submit 0 (filling 0 (record { addr = 8; len = 2 } ∷ record { addr = 12; len = 1 } ∷ []) None None) ∷ Issue 0 ∷ Step 0 ∷ Step 0 ∷ Step 0
+    ∷ Step 0 ∷ Step 0 ∷ Step 0 ∷ Step 0 ∷ Terminate 0 ∷ ResultOf 0 1 ∷ Read 8 5 ∷ [])
+    ≡ Done ∷ Cookie 1 ∷ Count 1 ∷ Turned (Started 1) ∷ Turned Moved ∷ Turned Moved ∷ Turned Moved ∷ Turned Moved ∷ Turned Moved ∷ Turned Moved ∷ Count 1 ∷
+    Resulted (Some (record { result = Aborted; residue = 1 })) ∷ Bytes (17 ∷ 17 ∷ 0 ∷ 0 ∷ 0 ∷ []) ∷ []
 unfolding opening put after_moves share running member members stored_after burst meets_mark parts beat_of bits_of end_bits burst_at
 a_fill_stops_halfway = refl
 
-one_event_lets_one_pass : replies 16 2 (Submit 0 (byte 0 4 (Some 3) None) ∷ Submit 1 (byte 0 8 (Some 3) None) ∷ Issue 0 ∷ Issue 1 ∷ Step 0 ∷ Step 1 ∷ Step 0 ∷ Raise 3 ∷ Step 1 ∷ Step 0 ∷ Raise 32 ∷ [])
-    ≡ Cookie 1 ∷ Cookie 1 ∷ Count 1 ∷ Count 1 ∷ Turned (Started 1) ∷ Turned (Started 1) ∷ Turned (Waiting 3) ∷ Done ∷ Turned Moved ∷ Turned (Waiting 3) ∷ Refused BadEvent ∷ []
+one_event_lets_one_pass : replies 16 2
+    (Submit 0 (byte 0 4 (Some 3) None) ∷ Submit 1 (byte 0 8 (Some 3) None) ∷ Issue 0 ∷ Issue 1 ∷ Step 0 ∷ Step 1 ∷ Step 0 ∷ Raise 3 ∷ Step 1 ∷ Step 0 ∷ Raise 32
+    ∷ [])
+    ≡ Cookie 1 ∷ Cookie 1 ∷ Count 1 ∷ Count 1 ∷ Turned (Started 1) ∷ Turned (Started 1) ∷ Turned (Waiting 3) ∷ Done ∷ Turned Moved ∷ Turned (Waiting 3) ∷
+    Refused BadEvent ∷ []
 unfolding opening put after_moves share running member members
 one_event_lets_one_pass = refl
 
-a_failed_load_halts : replies 16 1 (Mark Reading (record { addr = 0; len = 1 }) ∷ Submit 0 (copy 0 4 1) ∷ Submit 0 (copy 1 4 1) ∷ Issue 0 ∷ Step 0 ∷ Step 0 ∷ Step 0 ∷ Step 0 ∷ Step 0 ∷ Step 0 ∷ Terminate 0 ∷ Step 0 ∷ [])
-    ≡ Done ∷ Cookie 1 ∷ Cookie 2 ∷ Count 2 ∷ Turned (Started 1) ∷ Turned Moved ∷ Turned Moved ∷ Turned Moved ∷ Turned (TurnFinished 1 ReadFailed 1) ∷ Turned Halted ∷ Count 1 ∷ Turned Nothing ∷ []
+a_failed_load_halts : replies 16 1
+    (Mark Reading (record { addr = 0; len = 1 }) ∷ Submit 0 (copy 0 4 1) ∷ Submit 0 (copy 1 4 1) ∷ Issue 0 ∷ Step 0 ∷ Step 0 ∷ Step 0 ∷ Step 0 ∷ Step 0 ∷ Step 0
+    ∷ Terminate 0 ∷ Step 0 ∷ [])
+    ≡ Done ∷ Cookie 1 ∷ Cookie 2 ∷ Count 2 ∷ Turned (Started 1) ∷ Turned Moved ∷ Turned Moved ∷ Turned Moved ∷ Turned (TurnFinished 1 ReadFailed 1) ∷ Turned
+    Halted ∷ Count 1 ∷ Turned Nothing ∷ []
 unfolding opening put after_moves share running member members stored_after burst meets_mark parts beat_of bits_of end_bits burst_at
 a_failed_load_halts = refl
 
-other_kind_stops_nothing : replies 16 1 (Mark Writing (record { addr = 0; len = 1 }) ∷ Submit 0 (copy 0 4 1) ∷ Issue 0 ∷ Step 0 ∷ Step 0 ∷ Step 0 ∷ Step 0 ∷ Step 0 ∷ [])
+other_kind_stops_nothing : replies 16 1
+    (Mark Writing (record { addr = 0; len = 1 }) ∷ Submit 0 (copy 0 4 1) ∷ Issue 0 ∷ Step 0 ∷ Step 0 ∷ Step 0 ∷ Step 0 ∷ Step 0 ∷ [])
     ≡ Done ∷ Cookie 1 ∷ Count 1 ∷ Turned (Started 1) ∷ Turned Moved ∷ Turned Moved ∷ Turned Moved ∷ Turned Moved ∷ []
 unfolding opening put after_moves share running member members stored_after burst meets_mark parts beat_of bits_of end_bits burst_at
 other_kind_stops_nothing = refl
 
-a_copy_to_its_end : replies 16 1 (Write 0 (17 ∷ []) ∷ Submit 0 (copy 0 4 1) ∷ Step 0 ∷ Issue 0 ∷ Pause 0 ∷ Step 0 ∷ Resume 0 ∷ Step 0 ∷ Step 0 ∷ Step 0 ∷ Step 0 ∷ Step 0 ∷ Step 0 ∷ Step 0 ∷ Step 0 ∷ Step 0 ∷ Step 0 ∷ Read 4 1 ∷ Step 1 ∷ [])
-    ≡ Done ∷ Cookie 1 ∷ Turned Nothing ∷ Count 1 ∷ Done ∷ Turned Paused ∷ Done ∷ Turned (Started 1) ∷ Turned Moved ∷ Turned Moved ∷ Turned Moved ∷ Turned Moved ∷ Turned Moved ∷ Turned Moved ∷ Turned Moved ∷ Turned (TurnFinished 1 NoError 0) ∷ Turned Nothing ∷ Bytes (17 ∷ []) ∷ Refused NoChannel ∷ []
+a_copy_to_its_end : replies 16 1
+    (Write 0 (17 ∷ []) ∷ Submit 0 (copy 0 4 1) ∷ Step 0 ∷ Issue 0 ∷ Pause 0 ∷ Step 0 ∷ Resume 0 ∷ Step 0 ∷ Step 0 ∷ Step 0 ∷ Step 0 ∷ Step 0 ∷ Step 0 ∷ Step 0 ∷
+    Step 0 ∷ Step 0 ∷ Step 0 ∷ Read 4 1 ∷ Step 1 ∷ [])
+    ≡ Done ∷ Cookie 1 ∷ Turned Nothing ∷ Count 1 ∷ Done ∷ Turned Paused ∷ Done ∷ Turned (Started 1) ∷ Turned Moved ∷ Turned Moved ∷ Turned Moved ∷ Turned Moved
+    ∷ Turned Moved ∷ Turned Moved ∷ Turned Moved ∷ Turned (TurnFinished 1 NoError 0) ∷ Turned Nothing ∷ Bytes (17 ∷ []) ∷ Refused NoChannel ∷ []
 unfolding opening put after_moves share running member members stored_after burst meets_mark parts beat_of bits_of end_bits burst_at
 a_copy_to_its_end = refl
 
 -- a signal of one channel lets another pass
-a_signal_lets_one_pass : replies 16 2 (Submit 0 (byte 0 4 None (Some 5)) ∷ Submit 1 (byte 0 8 (Some 5) None) ∷ Issue 0 ∷ Issue 1 ∷ Step 0 ∷ Step 1 ∷ Step 0 ∷ Step 0 ∷ Step 0 ∷ Step 0 ∷ Step 0 ∷ Step 0 ∷ Step 0 ∷ Step 1 ∷ Step 0 ∷ Step 1 ∷ [])
-    ≡ Cookie 1 ∷ Cookie 1 ∷ Count 1 ∷ Count 1 ∷ Turned (Started 1) ∷ Turned (Started 1) ∷ Turned Moved ∷ Turned Moved ∷ Turned Moved ∷ Turned Moved ∷ Turned Moved ∷ Turned Moved ∷ Turned Moved ∷ Turned (Waiting 5) ∷ Turned Moved ∷ Turned Moved ∷ []
+a_signal_lets_one_pass : replies 16 2
+    (Submit 0 (byte 0 4 None (Some 5)) ∷ Submit 1 (byte 0 8 (Some 5) None) ∷ Issue 0 ∷ Issue 1 ∷ Step 0 ∷ Step 1 ∷ Step 0 ∷ Step 0 ∷ Step 0 ∷ Step 0 ∷ Step 0 ∷
+    Step 0 ∷ Step 0 ∷ Step 1 ∷ Step 0 ∷ Step 1 ∷ [])
+    ≡ Cookie 1 ∷ Cookie 1 ∷ Count 1 ∷ Count 1 ∷ Turned (Started 1) ∷ Turned (Started 1) ∷ Turned Moved ∷ Turned Moved ∷ Turned Moved ∷ Turned Moved ∷ Turned
+    Moved ∷ Turned Moved ∷ Turned Moved ∷ Turned (Waiting 5) ∷ Turned Moved ∷ Turned Moved ∷ []
 unfolding opening put after_moves share running member members stored_after burst meets_mark parts beat_of bits_of end_bits burst_at
 a_signal_lets_one_pass = refl
 
@@ -174,7 +188,9 @@ events_up_to_31 : replies 16 1 (Raise 31 ∷ Raise 32 ∷ []) ≡ Done ∷ Refus
 unfolding opening
 events_up_to_31 = refl
 
-marks_up_to_the_last_address : replies 16 1 (Mark Reading (record { addr = 4294967295; len = 1 }) ∷ Mark Reading (record { addr = 4294967295; len = 2 }) ∷ Mark Writing (record { addr = 0; len = 0 }) ∷ [])
+marks_up_to_the_last_address : replies 16 1
+    (Mark Reading (record { addr = 4294967295; len = 1 }) ∷ Mark Reading (record { addr = 4294967295; len = 2 }) ∷ Mark Writing (record { addr = 0; len = 0 }) ∷
+    [])
     ≡ Done ∷ Refused BadRange ∷ Refused BadRange ∷ []
 unfolding opening
 marks_up_to_the_last_address = refl
@@ -226,10 +242,12 @@ unfolding opening put after_moves share running member members stored_after burs
 no_step_after_it = refl
 
 -- the last cookie of a channel, whatever was submitted before it
-the_last_cookie : (v : View) (t : Descriptor) → channels v ≡ 1 → lies_below t (size v) ≡ true → used (channel (object_of v) 0) ≡ 2147483646 → (answer v (Submit 0 t)).0 ≡ Cookie 2147483647
+the_last_cookie : (v : View) (t : Descriptor) → channels v ≡ 1 → lies_below t (size v) ≡ true → used (channel (object_of v) 0) ≡ 2147483646
+    → (answer v (Submit 0 t)).0 ≡ Cookie 2147483647
 the_last_cookie v t many below given = rw (many, below, given) refl
 
-no_cookie_after_it : (v : View) (t : Descriptor) → channels v ≡ 1 → lies_below t (size v) ≡ true → used (channel (object_of v) 0) ≡ 2147483647 → answer v (Submit 0 t) ≡ (Refused CookiesSpent, v)
+no_cookie_after_it : (v : View) (t : Descriptor) → channels v ≡ 1 → lies_below t (size v) ≡ true → used (channel (object_of v) 0) ≡ 2147483647
+    → answer v (Submit 0 t) ≡ (Refused CookiesSpent, v)
 no_cookie_after_it v t many below given = rw (many, below, given) refl
 
 no_count_above_32_bits : added_up 4294967294 1 ∷ added_up 4294967295 1 ∷ [] ≡ 4294967295 ∷ 4294967295 ∷ []
@@ -237,7 +255,10 @@ no_count_above_32_bits = refl
 
 -- a checkpoint forgets how two cookies ended, and keeps the third, which has not run; it fails with `Running` while
 -- that runs
-what_a_checkpoint_forgets : replies 16 1 (Submit 0 (copy 0 4 2) ∷ Submit 0 (copy 0 8 2) ∷ Terminate 0 ∷ Submit 0 (copy 0 4 2) ∷ Checkpoint ∷ ResultOf 0 2 ∷ Status 0 2 ∷ Status 0 3 ∷ Status 0 4 ∷ Issue 0 ∷ Submit 0 (copy 0 8 2) ∷ Step 0 ∷ Checkpoint ∷ [])
-    ≡ Cookie 1 ∷ Cookie 2 ∷ Count 2 ∷ Cookie 3 ∷ Done ∷ Resulted None ∷ State Complete ∷ State InProgress ∷ State Unknown ∷ Count 1 ∷ Cookie 4 ∷ Turned (Started 3) ∷ Refused (Running 0 3) ∷ []
+what_a_checkpoint_forgets : replies 16 1
+    (Submit 0 (copy 0 4 2) ∷ Submit 0 (copy 0 8 2) ∷ Terminate 0 ∷ Submit 0 (copy 0 4 2) ∷ Checkpoint ∷ ResultOf 0 2 ∷ Status 0 2 ∷ Status 0 3 ∷ Status 0 4 ∷
+    Issue 0 ∷ Submit 0 (copy 0 8 2) ∷ Step 0 ∷ Checkpoint ∷ [])
+    ≡ Cookie 1 ∷ Cookie 2 ∷ Count 2 ∷ Cookie 3 ∷ Done ∷ Resulted None ∷ State Complete ∷ State InProgress ∷ State Unknown ∷ Count 1 ∷ Cookie 4 ∷ Turned
+    (Started 3) ∷ Refused (Running 0 3) ∷ []
 unfolding opening put after_moves share running
 what_a_checkpoint_forgets = refl

@@ -3,18 +3,13 @@ use Rattle.std.proofs.Common.{◌≡◌, ℕ, ◌≤◌, List, [], ◌∷◌, le
 use Rattle.std.specs.Prelude.{nat_le, nat_lt, ◌==◌}
 use Rattle.std.proofs.lemmas.Bool.{and_parts, leb-true, ltb-false, or_parts, cases_Bool}
 use Rattle.std.proofs.lemmas.List.{length-replicate, length-set, length-map}
-use Rattle.dma_mem.specs.Image.{bytes_at, is_size}
-use Rattle.dma_mem.specs.Limits.{largest_size}
-use Rattle.dma_mem.proofs.ImageOver.{length_after_moves}
-use Rattle.dma_mem.proofs.ImagePut.{length_put}
-use Rattle.dma_engine.specs.declared.entry.Entry.{Entry}
+use Rattle.dma_mem.specs.{Image.bytes_at, Image.is_size, Limits.largest_size}
+use Rattle.dma_mem.proofs.{ImageOver.length_after_moves, ImagePut.length_put}
 use Rattle.dma_engine.specs.declared.entry.Entry.TheVariants.{Wrote, ReadBack, Passed, Signalled, Finished, Terminated, Marked, Unmarked}
-use Rattle.dma_engine.specs.declared.entry.Signaller.TheVariants.{Channel, Host}
-use Rattle.dma_engine.specs.declared.fault.NewFault.TheVariants.{BadChannels, SizeOutOfRange}
-use Rattle.dma_engine.specs.Object.{Object, after, opening}
-use Rattle.dma_engine.specs.History.{object_after}
-use Rattle.dma_engine.specs.View.{View, object_of, size, new_fault}
 use Rattle.dma_engine.specs.inner.Holds.{Holds, Parts, view_of, schedule_of}
+use Rattle.dma_engine.specs.{declared.entry.Entry.Entry, declared.entry.Signaller.TheVariants.Channel, declared.entry.Signaller.TheVariants.Host}
+use Rattle.dma_engine.specs.{declared.fault.NewFault.TheVariants.BadChannels, declared.fault.NewFault.TheVariants.SizeOutOfRange, Object.Object, Object.after}
+use Rattle.dma_engine.specs.{Object.opening, History.object_after, View.View, View.size, View.new_fault}
 
 -- no entry changes the size of the memory
 pub size_after : (o : Object) (e : Entry) → length (after o e).image ≡ length o.image
@@ -69,9 +64,6 @@ size_is p h = h.size ∙ sym (size_object p.base p.history)
 
 pub memory_size : (p : Parts) → Holds p → length p.memory ≡ size (view_of p)
 memory_size p h = ap length h.shown ∙ length_after_moves _ _
-
-pub flags_many : (p : Parts) → Holds p → length (object_of (view_of p)).events ≡ 32
-flags_many p h = flags_object p.base p.history ∙ h.sound.opens.flags
 
 -- an engine that can be made has 1 to 8 channels and a memory's size
 pub made : (bytes many : ℕ) → new_fault bytes many ≡ None → (many ≤ 8) × (is_size bytes ≡ true)

@@ -1,56 +1,34 @@
 -- What an engine keeps and answers when a front starts, finishes or is terminated.
-use Rattle.std.proofs.Common.{◌≡◌, ◌≢◌, ℕ, ◌+◌, ◌-◌, ◌<◌, ◌≤◌, List, [], ◌∷◌, ◌++◌, length, Option, Some, None, Bool, true, false, ◌||◌, refl, ap, sym, ◌∙◌, subst, arith, Ok, map, take, drop, inl, inr, zero, suc, add-one}
+use Rattle.std.proofs.Common.{◌≡◌, ◌≢◌, ℕ, ◌+◌, ◌-◌, ◌<◌, ◌≤◌, List, [], ◌∷◌, ◌++◌, length, Option, Some, None, Bool, true, false, ◌||◌, refl, ap, sym, ◌∙◌}
+use Rattle.std.proofs.Common.{subst, arith, Ok, map, take, drop, inl, inr, zero, suc, add-one}
 use Rattle.std.specs.Prelude.{slice_index_or, slice_set, is_some, nat_lt, ◌==◌, unwrap_or, IsSomeAnd, if◌then◌else◌, Ok}
 use Rattle.std.specs.Option.{option_map}
-use Rattle.std.proofs.lemmas.Bool.{ne_eqb, cases_eq, eq-eqb}
-use Rattle.std.proofs.lemmas.Option.{some_pair_parts}
-use Rattle.dma_engine.specs.inner.Found.{front_in, known_with}
-use Rattle.dma_engine.specs.declared.entry.Entry.{Entry}
-use Rattle.dma_mem.specs.Places.{Descriptor, lies_below, size_of, destinations}
-use Rattle.dma_chan.specs.Channel.{loaded}
-use Rattle.dma_chan.specs.Compiled.{compiled}
-use Rattle.dma_chan.specs.Ready.{OnPages}
-use Rattle.dma_chan.specs.Traffic.{stored_after}
-use Rattle.dma_chan.proofs.LayerLaws.{starts_at}
-use Rattle.dma_chan.proofs.ShapeLaws.{stored_is}
-use Rattle.dma_mem.specs.declared.call.Call.TheVariants.{Step}
-use Rattle.dma_engine.specs.declared.call.Reply.{Reply}
-use Rattle.dma_engine.specs.declared.call.Reply.TheVariants.{Turned, Refused}
-use Rattle.dma_engine.specs.declared.entry.Entry.TheVariants.{Finished, Terminated}
-use Rattle.dma_engine.specs.declared.outcome.Outcome.{Outcome}
-use Rattle.dma_engine.specs.declared.outcome.TransResult.{TransResult}
-use Rattle.dma_engine.specs.declared.fault.EngineFault.TheVariants.{NoMemory}
-use Rattle.dma_engine.specs.declared.queue.Queue.{Queue}
-use Rattle.dma_engine.specs.declared.turn.Turn.TheVariants.{Held, Started, Finished as TurnFinished}
-use Rattle.dma_engine.specs.Object.{ChannelState, channel, front, issued_front, finished, unfinished, Object, after, front_of, no_transfer, with_outcome, with_all_aborted, outcome_of, aborted, is_failure, with_channel, with_front_laid}
+use Rattle.std.proofs.{lemmas.Bool.ne_eqb, lemmas.Bool.cases_eq, lemmas.Bool.eq-eqb, lemmas.Option.some_pair_parts, lemmas.List.length-drop}
+use Rattle.std.proofs.{lemmas.List.get_or-drop, lemmas.List.map_more, lemmas.List.Elements.All-append}
+use Rattle.dma_engine.specs.Object.{ChannelState, channel, front, issued_front, finished, unfinished, Object, after, front_of, no_transfer, with_outcome}
+use Rattle.dma_engine.specs.Object.{with_all_aborted, outcome_of, aborted, is_failure, with_channel, with_front_laid}
 use Rattle.dma_engine.specs.View.{View, ChannelSchedule, RunningTransfer, IsSound, runs, running_in, object_of, size, channels, memory_shown, schedule_at}
 use Rattle.dma_engine.specs.Turn.{front_cookie, first_conflicting, start_turn, with_entry, with_step, with_taken, turn, Stepped}
-use Rattle.dma_engine.specs.inner.Accesses.{named}
 use Rattle.dma_engine.specs.Answer.{CallAnswers, is_started, done_on, terminated}
 use Rattle.dma_engine.specs.inner.Due.{MayStart, Finishes, IsDue, front_with_cookie}
-use Rattle.dma_engine.specs.declared.access.Ranges.{Ranges}
-use Rattle.dma_engine.specs.inner.Ranges.{AreOfRunning, HasRangesOf}
 use Rattle.dma_engine.specs.inner.Holds.{Holds, IsPrepared, Parts, view_of, schedule_of, queue_finished, queue_started, queue_terminated, IsQueue}
-use Rattle.dma_engine.proofs.CallCases.{named_by}
+use Rattle.dma_engine.specs.{inner.Found.front_in, inner.Found.known_with, declared.entry.Entry.Entry, declared.call.Reply.Reply}
+use Rattle.dma_engine.specs.{declared.call.Reply.TheVariants.Turned, declared.call.Reply.TheVariants.Refused, declared.entry.Entry.TheVariants.Finished}
+use Rattle.dma_engine.specs.{declared.entry.Entry.TheVariants.Terminated, declared.outcome.Outcome.Outcome, declared.outcome.TransResult.TransResult}
+use Rattle.dma_engine.specs.{declared.fault.EngineFault.TheVariants.NoMemory, declared.queue.Queue.Queue, inner.Accesses.named, declared.access.Ranges.Ranges}
+use Rattle.dma_engine.specs.{inner.Ranges.AreOfRunning, inner.Ranges.HasRangesOf, declared.outcome.TransResult.TheVariants.Aborted}
+use Rattle.dma_mem.specs.Places.{Descriptor, lies_below, size_of, destinations}
+use Rattle.dma_mem.specs.{declared.call.Call.TheVariants.Step, Image.laid, Limits.most_transfer_bytes, Meeting.IsFree}
+use Rattle.dma_chan.specs.{Channel.loaded, Compiled.compiled, Ready.OnPages, Traffic.stored_after}
+use Rattle.dma_chan.proofs.{LayerLaws.starts_at, ShapeLaws.stored_is, CopyAlone.laid_none}
 use Rattle.dma_engine.proofs.Changes.{changed, holds_changed, leads_still, runs_here_law, runs_other, view_changed, leads_on, submitted_kept}
-use Rattle.dma_engine.proofs.Conflicts.{few_issued, front_found}
-use Rattle.dma_engine.proofs.ConflictsByRanges.{below_more_law}
-use Rattle.dma_engine.proofs.Memory.{shown_started, shown_ended}
 use Rattle.dma_engine.proofs.Queues.{HoldsAt, front_issued, holds_at, many_queues, runs_front, front_known, runs_none, slice_get_push}
-use Rattle.dma_engine.proofs.Sizes.{size_small}
-use Rattle.dma_engine.proofs.StaysSound.{stepped_sound, terminate_sound}
 use Rattle.dma_engine.proofs.StepCases.{start_turn_law, stepped_so, Due, due_there, finish_turn, step_starved}
-use Rattle.dma_engine.proofs.TransferRules.{IsGood, good_front, free_others}
-use Rattle.std.proofs.lemmas.List.{length-drop, get_or-drop, map_more}
-use Rattle.std.proofs.lemmas.List.Elements.{All-append}
-use Rattle.dma_chan.proofs.CopyAlone.{laid_none}
-use Rattle.dma_mem.specs.Image.{laid}
-use Rattle.dma_mem.specs.Limits.{most_transfer_bytes}
-use Rattle.dma_mem.specs.Meeting.{IsFree}
-use Rattle.dma_engine.specs.declared.outcome.TransResult.TheVariants.{Aborted}
-use Rattle.dma_engine.proofs.QueueCalls.{shown_both}
-use Rattle.dma_engine.proofs.WhatRuns.{running_same, below, above}
-use Rattle.dma_engine.proofs.Fronts.{Runs, done_by, running}
+use Rattle.dma_engine.proofs.{CallCases.named_by, Conflicts.few_issued, Conflicts.front_found, ConflictsByRanges.below_more_law, Memory.shown_started}
+use Rattle.dma_engine.proofs.{Memory.shown_ended, Sizes.size_small, StaysSound.stepped_sound, StaysSound.terminate_sound, TransferRules.IsGood}
+use Rattle.dma_engine.proofs.{TransferRules.good_front, TransferRules.free_others, QueueCalls.shown_both, WhatRuns.running_same, WhatRuns.below, WhatRuns.above}
+use Rattle.dma_engine.proofs.{Fronts.Runs, Fronts.done_by, Fronts.running}
+use Rattle.dma_engine.specs.declared.turn.Turn.TheVariants.{Held, Started, Finished as TurnFinished}
 
 -- ---- the front that starts
 
@@ -74,7 +52,8 @@ now_started q r t h = by r.ranges h where
   by (Some ranges) g = record { ranges = ranges; has = g.0; is = g.1 }
 
 -- it keeps these ranges
-pub started_with : (q : Queue) (t : Descriptor) (x : Option Ranges) → IsSomeAnd x (λ ranges. HasRangesOf ranges t) → IsSomeAnd x (λ ranges. HasRangesOf ranges t × (record q { channel = loaded (compiled t); ranges = x } ≡ queue_started q t ranges))
+pub started_with : (q : Queue) (t : Descriptor) (x : Option Ranges) → IsSomeAnd x (λ ranges. HasRangesOf ranges t)
+    → IsSomeAnd x (λ ranges. HasRangesOf ranges t × (record q { channel = loaded (compiled t); ranges = x } ≡ queue_started q t ranges))
 started_with q t None h = h
 started_with q t (Some ranges) h = (h, refl)
 
@@ -98,7 +77,9 @@ pub record FrontFound (p : Parts) (ch : ℕ) (q : Queue) (kept : List Descriptor
   pub good : IsGood (size (view_of p)) t
   pub low : lies_below t 4294967295 ≡ true
 
-pub found_front : (p : Parts) → Holds p → (ch index : ℕ) (q : Queue) (kept : List Descriptor) (history : List Entry) (t : Descriptor) → index ≡ ch → q ≡ slice_index_or p.queues index q → kept ≡ (channel p.base index).submitted → history ≡ p.history → ch < channels (view_of p) → issued_front (channel (object_of (view_of p)) ch) ≡ Some t → FrontFound p ch q kept history t
+pub found_front : (p : Parts) → Holds p → (ch index : ℕ) (q : Queue) (kept : List Descriptor) (history : List Entry) (t : Descriptor) → index ≡ ch
+    → q ≡ slice_index_or p.queues index q → kept ≡ (channel p.base index).submitted → history ≡ p.history → ch < channels (view_of p)
+    → issued_front (channel (object_of (view_of p)) ch) ≡ Some t → FrontFound p ch q kept history t
 found_front p h ch index q kept history t same found keeps all there issued =
     let read : q ≡ slice_index_or p.queues ch q = rw same at found in
     let at = holds_at p h ch q (omega (arith, there, many_queues p h)) read in
@@ -114,15 +95,19 @@ found_front p h ch index q kept history t same found keeps all there issued =
 
 -- ---- a start
 
-pub start_is : (v : View) (ch : ℕ) (t : Descriptor) → MayStart v ch → issued_front (channel (object_of v) ch) ≡ Some t → first_conflicting v t ≡ None → turn v ch ≡ (Ok (Started (front_cookie v ch)), with_taken v ch (Some 0))
+pub start_is : (v : View) (ch : ℕ) (t : Descriptor) → MayStart v ch → issued_front (channel (object_of v) ch) ≡ Some t → first_conflicting v t ≡ None
+    → turn v ch ≡ (Ok (Started (front_cookie v ch)), with_taken v ch (Some 0))
 start_is v ch t may some none = start_turn_law v ch t may some ∙ ap (start_turn v ch) none
 
-view_started : {p : Parts} {ch : ℕ} {q : Queue} → HoldsAt p ch q → (t : Descriptor) (u : Ranges) → view_of (changed p ch (queue_started q t u) p.memory p.events p.history p.steps) ≡ with_taken (view_of p) ch (Some 0)
+view_started : {p : Parts} {ch : ℕ} {q : Queue} → HoldsAt p ch q → (t : Descriptor) (u : Ranges)
+    → view_of (changed p ch (queue_started q t u) p.memory p.events p.history p.steps) ≡ with_taken (view_of p) ch (Some 0)
 view_started {p} {ch} {q} at t u =
     view_changed p ch (queue_started q t u) p.memory p.events p.history p.steps
     ∙ ap (λ (x : ChannelSchedule). record (view_of p) { schedule = slice_set (view_of p).schedule ch (record x { taken = Some 0 }) }) (sym at.schedule_is)
 
-pub holds_started : {p : Parts} {ch : ℕ} {q : Queue} → HoldsAt p ch q → (t : Descriptor) (u : Ranges) → MayStart (view_of p) ch → issued_front (channel (object_of (view_of p)) ch) ≡ Some t → first_conflicting (view_of p) t ≡ None → OnPages p.made (destinations t) → HasRangesOf u t → Holds (changed p ch (queue_started q t u) p.memory p.events p.history p.steps)
+pub holds_started : {p : Parts} {ch : ℕ} {q : Queue} → HoldsAt p ch q → (t : Descriptor) (u : Ranges) → MayStart (view_of p) ch
+    → issued_front (channel (object_of (view_of p)) ch) ≡ Some t → first_conflicting (view_of p) t ≡ None → OnPages p.made (destinations t) → HasRangesOf u t
+    → Holds (changed p ch (queue_started q t u) p.memory p.events p.history p.steps)
 holds_started {p} {ch} {q} at t u may some none pages ranges =
     let v : View = view_of p in
     let o = object_of v in
@@ -142,27 +127,39 @@ holds_started {p} {ch} {q} at t u may some none pages ranges =
     holds_changed at r p.memory p.events p.history p.steps o c (record {
       sound = subst IsSound (sym (view_started at t u)) (stepped_sound v ch _ h.sound (start_is v ch t may some none));
       leads = leads_still p ch;
-      shown = h.shown ∙ sym (shown_started ch o o s (slice_set s ch x) now (record { channels = refl; there = at.there; others = others }) refl rested (runs_here_law o s ch x at.within ∙ there_is) (stored_is t good.0).none);
+      shown = h.shown ∙ sym (shown_started ch o o s (slice_set s ch x) now (record { channels = refl; there = at.there; others = others }) refl rested
+          (runs_here_law o s ch x at.within ∙ there_is) (stored_is t good.0).none);
       events = h.events;
-      tied = record { submitted = tied.submitted; outcomes = tied.outcomes; issued = tied.issued; halted = tied.halted; machine = rw is (starts_at t p.memory good.0) };
+      tied = record {
+        submitted = tied.submitted;
+        outcomes = tied.outcomes;
+        issued = tied.issued;
+        halted = tied.halted;
+        machine =
+            rw is (starts_at t p.memory good.0);
+      };
       prepared = subst (IsPrepared p.made) (sym there_is) pages;
       ranges = subst (AreOfRunning (Some u)) (sym there_is) ranges;
       machines = λ d i l k machine. machine;
     })
 
-pub start_answers : {p : Parts} {ch : ℕ} {q : Queue} → HoldsAt p ch q → (cookie : ℕ) (t : Descriptor) (u : Ranges) → MayStart (view_of p) ch → issued_front (channel (object_of (view_of p)) ch) ≡ Some t → first_conflicting (view_of p) t ≡ None → cookie ≡ front_cookie (view_of p) ch → CallAnswers (view_of p) (Step ch) (Turned (Started cookie)) (view_of (changed p ch (queue_started q t u) p.memory p.events p.history p.steps))
+pub start_answers : {p : Parts} {ch : ℕ} {q : Queue} → HoldsAt p ch q → (cookie : ℕ) (t : Descriptor) (u : Ranges) → MayStart (view_of p) ch
+    → issued_front (channel (object_of (view_of p)) ch) ≡ Some t → first_conflicting (view_of p) t ≡ None → cookie ≡ front_cookie (view_of p) ch
+    → CallAnswers (view_of p) (Step ch) (Turned (Started cookie)) (view_of (changed p ch (queue_started q t u) p.memory p.events p.history p.steps))
 start_answers {p} {ch} {q} at cookie t u may some none number =
     let v : View = view_of p in
     ap (λ w. (Turned (Started cookie), w)) (view_started at t u) ∙ ap (λ k. (Turned (Started k), with_taken v ch (Some 0))) number
     ∙ stepped_so v _ ch (Started (front_cookie v ch)) (start_is v ch t may some none)
 
 -- a start that is out of memory
-pub start_starved : (v w : View) (ch : ℕ) (t : Descriptor) → MayStart v ch → issued_front (channel (object_of v) ch) ≡ Some t → first_conflicting v t ≡ None → w ≡ v → CallAnswers v (Step ch) (Refused NoMemory) w
+pub start_starved : (v w : View) (ch : ℕ) (t : Descriptor) → MayStart v ch → issued_front (channel (object_of v) ch) ≡ Some t → first_conflicting v t ≡ None
+    → w ≡ v → CallAnswers v (Step ch) (Refused NoMemory) w
 start_starved v w ch t may some none same =
     let is = stepped_so v _ ch (Started (front_cookie v ch)) (start_is v ch t may some none) in
     (sym (ap (λ (x : Reply × View). is_started x.0 || nat_lt (length v.history) (length x.1.history)) is), same)
 
-pub held_is : (v : View) (ch other cookie : ℕ) (t : Descriptor) → MayStart v ch → issued_front (channel (object_of v) ch) ≡ Some t → Some (other, cookie) ≡ named (first_conflicting v t) → turn v ch ≡ (Ok (Held other cookie), v)
+pub held_is : (v : View) (ch other cookie : ℕ) (t : Descriptor) → MayStart v ch → issued_front (channel (object_of v) ch) ≡ Some t
+    → Some (other, cookie) ≡ named (first_conflicting v t) → turn v ch ≡ (Ok (Held other cookie), v)
 held_is v ch other cookie t may some held =
     named_by (first_conflicting v t) other cookie (λ x c k. first_conflicting v t ≡ x → turn v ch ≡ (Ok (Held c k), v))
     (λ r is. start_turn_law v ch t may some ∙ ap (start_turn v ch) is) held refl
@@ -177,7 +174,10 @@ front_is_law c t h = ap (λ o. unwrap_or o no_transfer) h
 
 -- When nothing runs on the channel any more, and the image has got what the front had stored, the memory shown is the
 -- same.
-shown_over : {p : Parts} {ch : ℕ} {q : Queue} → HoldsAt p ch q → (o : Object) (x : ChannelSchedule) → length o.channels ≡ channels (view_of p) → ((c : ℕ) → c ≢ ch → channel o c ≡ channel (object_of (view_of p)) c) → x.taken ≡ None → o.image ≡ laid (object_of (view_of p)).image (front_of (channel (object_of (view_of p)) ch)) (done_on (view_of p) ch) → p.memory ≡ memory_shown o (slice_set (view_of p).schedule ch x)
+shown_over : {p : Parts} {ch : ℕ} {q : Queue} → HoldsAt p ch q → (o : Object) (x : ChannelSchedule) → length o.channels ≡ channels (view_of p)
+    → ((c : ℕ) → c ≢ ch → channel o c ≡ channel (object_of (view_of p)) c) → x.taken ≡ None
+    → o.image ≡ laid (object_of (view_of p)).image (front_of (channel (object_of (view_of p)) ch)) (done_on (view_of p) ch)
+    → p.memory ≡ memory_shown o (slice_set (view_of p).schedule ch x)
 shown_over {p} {ch} {q} at o x many others none image = at.holds.shown ∙ by _ refl where
   old : Object
   old = object_of (view_of p)
@@ -198,17 +198,25 @@ shown_over {p} {ch} {q} at o x many others none image = at.holds.shown ∙ by _ 
   by true loaded =
       let r = running at loaded in
       let here : RunningTransfer = record { ch = ch; cookie = finished (channel old ch) + 1; transfer = r.transfer; taken = q.channel.taken } in
-      let laid_is : o.image ≡ laid old.image here.transfer (stored_after here.transfer here.taken) = image ∙ ap (λ y. laid old.image (front_of (channel old ch)) (done_by y)) r.runs_is ∙ ap (λ u. laid old.image u (stored_after here.transfer here.taken)) (front_is_law (channel old ch) r.transfer r.is) in
+      let laid_is : o.image ≡ laid old.image here.transfer (stored_after here.transfer here.taken) = image
+      ∙ ap (λ y. laid old.image (front_of (channel old ch)) (done_by y)) r.runs_is
+      ∙ ap (λ u. laid old.image u (stored_after here.transfer here.taken)) (front_is_law (channel old ch) r.transfer r.is) in
       let free = free_others old s ch here at.holds.sound.fits at.there r.runs_is in
-      sym (shown_ended ch old o s t here (record { channels = sym many; there = at.there; others = rest }) r.runs_is now laid_is (All-append (λ y. IsFree here.transfer y.transfer) (below old s ch) (above old s ch) free.0 free.1))
+      sym (shown_ended ch old o s t here (record { channels = sym many; there = at.there; others = rest }) r.runs_is now laid_is
+      (All-append (λ y. IsFree here.transfer y.transfer) (below old s ch) (above old s ch) free.0 free.1))
   by false unloaded =
       let before : runs old s ch ≡ None = sym (runs_none at unloaded) in
-      let nothing : o.image ≡ old.image = image ∙ ap (λ y. laid old.image (front_of (channel old ch)) (done_by y)) before ∙ laid_none old.image (front_of (channel old ch)) in
+      let nothing : o.image ≡ old.image = image ∙ ap (λ y. laid old.image (front_of (channel old ch)) (done_by y)) before
+      ∙ laid_none old.image (front_of (channel old ch)) in
       let same = running_same old o s t (sym many) (λ c l. elim (cases_eq c ch) [ inl e ↦ rw e (now ∙ sym before) | inr d ↦ sym (rest c d) ]) in
       shown_both old o s t (sym nothing) (sym same)
 
 -- What an engine keeps after such a change.
-holds_ended : {p : Parts} {ch : ℕ} {q : Queue} → HoldsAt p ch q → (r : Queue) (e : Entry) (steps : ℕ) (state : ChannelState) → IsSound (view_of (changed p ch r p.memory p.events (p.history ++ e ∷ []) steps)) → after (object_of (view_of p)) e ≡ with_channel (with_front_laid (object_of (view_of p)) ch (done_on (view_of p) ch)) ch state → ((schedule_of r).taken ≡ None) × (r.ranges ≡ None) → IsQueue ch (channel p.base ch).submitted (p.history ++ e ∷ []) p.memory r state → Holds (changed p ch r p.memory p.events (p.history ++ e ∷ []) steps)
+holds_ended : {p : Parts} {ch : ℕ} {q : Queue} → HoldsAt p ch q → (r : Queue) (e : Entry) (steps : ℕ) (state : ChannelState)
+    → IsSound (view_of (changed p ch r p.memory p.events (p.history ++ e ∷ []) steps))
+    → after (object_of (view_of p)) e ≡ with_channel (with_front_laid (object_of (view_of p)) ch (done_on (view_of p) ch)) ch state
+    → ((schedule_of r).taken ≡ None) × (r.ranges ≡ None) → IsQueue ch (channel p.base ch).submitted (p.history ++ e ∷ []) p.memory r state
+    → Holds (changed p ch r p.memory p.events (p.history ++ e ∷ []) steps)
 holds_ended {p} {ch} at r e steps state sound is stopped tied =
     let w = after (object_of (view_of p)) e in
     let to = leads_on p ch e state at.there (sym (ap (λ (o : Object). o.marks) is)) (ap (λ (o : Object). o.channels) is) in
@@ -225,17 +233,23 @@ holds_ended {p} {ch} at r e steps state sound is stopped tied =
 
 -- ---- terminate
 
-pub view_terminated : (p : Parts) (ch spare : ℕ) (q : Queue) (outcomes : List Outcome) (issued : ℕ) → view_of (changed p ch (queue_terminated q spare outcomes issued) p.memory p.events (terminated (view_of p) ch).history p.steps) ≡ terminated (view_of p) ch
-view_terminated p ch spare q outcomes issued = view_changed p ch (queue_terminated q spare outcomes issued) p.memory p.events (terminated (view_of p) ch).history p.steps
+pub view_terminated : (p : Parts) (ch spare : ℕ) (q : Queue) (outcomes : List Outcome) (issued : ℕ)
+    → view_of (changed p ch (queue_terminated q spare outcomes issued) p.memory p.events (terminated (view_of p) ch).history p.steps) ≡ terminated (view_of p)
+    ch
+view_terminated p ch spare q outcomes issued =
+    view_changed p ch (queue_terminated q spare outcomes issued) p.memory p.events (terminated (view_of p) ch).history p.steps
 
-pub holds_terminated : {p : Parts} {ch : ℕ} {q : Queue} → HoldsAt p ch q → (spare : ℕ) → let v : View = view_of p in let c = channel (object_of v) ch in Holds (changed p ch (queue_terminated q spare (aborted (done_on v ch) (drop (length c.outcomes) c.submitted)) q.given) p.memory p.events (terminated v ch).history p.steps)
+pub holds_terminated : {p : Parts} {ch : ℕ} {q : Queue} → HoldsAt p ch q → (spare : ℕ) → let v : View = view_of p in let c = channel (object_of v) ch in
+    Holds (changed p ch (queue_terminated q spare (aborted (done_on v ch) (drop (length c.outcomes) c.submitted)) q.given) p.memory p.events
+    (terminated v ch).history p.steps)
 holds_terminated {p} {ch} {q} at spare =
     let v : View = view_of p in
     let c = channel (object_of v) ch in
     let t = at.tied in
     let outcomes = aborted (done_on v ch) (drop (length c.outcomes) c.submitted) in
     let e = Terminated ch (done_on v ch) (unfinished c) in
-    holds_ended at (queue_terminated q spare outcomes q.given) e p.steps (with_all_aborted c (done_on v ch)) (subst IsSound (sym (view_terminated p ch spare q outcomes q.given)) (terminate_sound v ch at.holds.sound at.there)) refl (refl, refl) (record {
+    holds_ended at (queue_terminated q spare outcomes q.given) e p.steps (with_all_aborted c (done_on v ch))
+    (subst IsSound (sym (view_terminated p ch spare q outcomes q.given)) (terminate_sound v ch at.holds.sound at.there)) refl (refl, refl) (record {
       submitted = submitted_kept (p.history ++ e ∷ []) (λ k x. slice_get_push p.history e x k) t.submitted;
       outcomes = ap (λ l. l ++ outcomes) t.outcomes;
       issued = t.given;
@@ -246,27 +260,41 @@ holds_terminated {p} {ch} {q} at spare =
 -- ---- a finish
 
 -- the turn of a step that finishes the front, in terms of the bytes that are stored
-pub finish_is : {p : Parts} {ch : ℕ} {q : Queue} (how : TransResult) → Due p ch q (Finishes (view_of p) how) → let v : View = view_of p in let c = channel (object_of v) ch in turn v ch ≡ (Ok (TurnFinished (front_cookie v ch) how (size_of (front_of c) - done_on v ch)), with_step (with_taken (with_entry v (Finished ch how (done_on v ch))) ch None))
+pub finish_is : {p : Parts} {ch : ℕ} {q : Queue} (how : TransResult) → Due p ch q (Finishes (view_of p) how) → let v : View = view_of p in let c =
+    channel (object_of v) ch in
+    turn v ch ≡ (
+      Ok (TurnFinished (front_cookie v ch) how (size_of (front_of c) - done_on v ch)),
+      with_step
+          (with_taken (with_entry v (Finished ch how (done_on v ch))) ch None),
+    )
 finish_is {p} {ch} {q} how d =
     let v : View = view_of p in
     let t = d.it.transfer in
-    let answer : Descriptor → ℕ → Stepped = λ u k. (Ok (TurnFinished (front_cookie v ch) how (size_of u - k)), with_step (with_taken (with_entry v (Finished ch how k)) ch None)) in
+    let answer : Descriptor → ℕ → Stepped =
+    λ u k. (Ok (TurnFinished (front_cookie v ch) how (size_of u - k)), with_step (with_taken (with_entry v (Finished ch how k)) ch None)) in
     d.turn_is ∙ finish_turn v ch q.channel.taken t how d.holds ∙ ap (answer t) (sym (ap done_by d.it.runs_is))
     ∙ ap (λ u. answer u (done_on v ch)) (sym (front_is_law (channel (object_of v) ch) t d.it.is))
 
 -- the residue of the front, from that of the transfer that was found
-pub finish_left : (c : ChannelState) (u : Descriptor) (len stored : ℕ) {done : ℕ} → issued_front c ≡ Some u → len ≡ size_of u → stored ≡ done → len - stored ≡ size_of (front_of c) - done
+pub finish_left : (c : ChannelState) (u : Descriptor) (len stored : ℕ) {done : ℕ} → issued_front c ≡ Some u → len ≡ size_of u → stored ≡ done
+    → len - stored ≡ size_of (front_of c) - done
 finish_left c u len stored some size is =
     let front = front_is_law c u (front_issued c u some) in
     rw (size, is, front) refl
 
 -- the view after it
-view_finished : {p : Parts} {ch : ℕ} {q : Queue} → HoldsAt p ch q → (spare : ℕ) (outcome : Outcome) (halted : Bool) (e : Entry) → view_of (changed p ch (queue_finished q spare outcome halted) p.memory p.events (p.history ++ e ∷ []) (p.steps + 1)) ≡ with_step (with_taken (with_entry (view_of p) e) ch None)
+view_finished : {p : Parts} {ch : ℕ} {q : Queue} → HoldsAt p ch q → (spare : ℕ) (outcome : Outcome) (halted : Bool) (e : Entry)
+    → view_of (changed p ch (queue_finished q spare outcome halted) p.memory p.events (p.history ++ e ∷ []) (p.steps + 1)) ≡ with_step
+    (with_taken (with_entry (view_of p) e) ch None)
 view_finished {p} {ch} {q} at spare outcome halted e =
     view_changed p ch (queue_finished q spare outcome halted) p.memory p.events (p.history ++ e ∷ []) (p.steps + 1)
-    ∙ ap (λ (x : ChannelSchedule). record (view_of p) { history = p.history ++ e ∷ []; steps = p.steps + 1; schedule = slice_set (view_of p).schedule ch (record x { taken = None }) }) (sym at.schedule_is)
+    ∙ ap (λ (x : ChannelSchedule). record (view_of p)
+    { history = p.history ++ e ∷ []; steps = p.steps + 1; schedule = slice_set (view_of p).schedule ch (record x { taken = None }) }) (sym at.schedule_is)
 
-pub holds_finished : {p : Parts} {ch : ℕ} {q : Queue} (spare : ℕ) (how : TransResult) → Due p ch q (Finishes (view_of p) how) → let v : View = view_of p in let c = channel (object_of v) ch in Holds (changed p ch (queue_finished q spare (outcome_of how (front_of c) (done_on v ch)) (is_failure how)) p.memory p.events (p.history ++ Finished ch how (done_on v ch) ∷ []) (p.steps + 1))
+pub holds_finished : {p : Parts} {ch : ℕ} {q : Queue} (spare : ℕ) (how : TransResult) → Due p ch q (Finishes (view_of p) how) → let v : View = view_of p in
+    let c = channel (object_of v) ch in
+    Holds (changed p ch (queue_finished q spare (outcome_of how (front_of c) (done_on v ch)) (is_failure how)) p.memory p.events
+    (p.history ++ Finished ch how (done_on v ch) ∷ []) (p.steps + 1))
 holds_finished {p} {ch} {q} spare how d =
     let v : View = view_of p in
     let c = channel (object_of v) ch in
@@ -274,7 +302,9 @@ holds_finished {p} {ch} {q} spare how d =
     let t = at.tied in
     let e = Finished ch how (done_on v ch) in
     let outcome = outcome_of how (front_of c) (done_on v ch) in
-    holds_ended at (queue_finished q spare outcome (is_failure how)) e (p.steps + 1) (with_outcome c how (done_on v ch)) (subst IsSound (sym (view_finished at spare outcome (is_failure how) e)) (stepped_sound v ch _ at.holds.sound (finish_is how d))) refl (refl, refl) (record {
+    holds_ended at (queue_finished q spare outcome (is_failure how)) e (p.steps + 1) (with_outcome c how (done_on v ch))
+    (subst IsSound (sym (view_finished at spare outcome (is_failure how) e)) (stepped_sound v ch _ at.holds.sound (finish_is how d))) refl (refl, refl)
+    (record {
       submitted = submitted_kept (p.history ++ e ∷ []) (λ k x. slice_get_push p.history e x k) t.submitted;
       outcomes = ap (λ l. l ++ outcome ∷ []) t.outcomes;
       issued = t.issued;
@@ -282,7 +312,10 @@ holds_finished {p} {ch} {q} spare how d =
       machine = tt;
     })
 
-pub finish_answers : {p : Parts} {ch : ℕ} {q : Queue} (spare : ℕ) (how : TransResult) (outcome : Outcome) (halted : Bool) → Due p ch q (Finishes (view_of p) how) → let v : View = view_of p in let c = channel (object_of v) ch in CallAnswers v (Step ch) (Turned (TurnFinished (front_cookie v ch) how (size_of (front_of c) - done_on v ch))) (view_of (changed p ch (queue_finished q spare outcome halted) p.memory p.events (p.history ++ Finished ch how (done_on v ch) ∷ []) (p.steps + 1)))
+pub finish_answers : {p : Parts} {ch : ℕ} {q : Queue} (spare : ℕ) (how : TransResult) (outcome : Outcome) (halted : Bool)
+    → Due p ch q (Finishes (view_of p) how) → let v : View = view_of p in let c = channel (object_of v) ch in
+    CallAnswers v (Step ch) (Turned (TurnFinished (front_cookie v ch) how (size_of (front_of c) - done_on v ch)))
+    (view_of (changed p ch (queue_finished q spare outcome halted) p.memory p.events (p.history ++ Finished ch how (done_on v ch) ∷ []) (p.steps + 1)))
 finish_answers {p} {ch} spare how outcome halted d =
     let v : View = view_of p in
     let residue = size_of (front_of (channel (object_of v) ch)) - done_on v ch in
@@ -290,7 +323,8 @@ finish_answers {p} {ch} spare how outcome halted d =
     ∙ stepped_so v _ ch (TurnFinished (front_cookie v ch) how residue) (finish_is how d)
 
 -- a finish that is out of memory
-pub finish_starved : (p : Parts) → Holds p → (ch : ℕ) (how : TransResult) → IsDue (view_of p) ch (Finishes (view_of p) how) → CallAnswers (view_of p) (Step ch) (Refused NoMemory) (view_of p)
+pub finish_starved : (p : Parts) → Holds p → (ch : ℕ) (how : TransResult) → IsDue (view_of p) ch (Finishes (view_of p) how)
+    → CallAnswers (view_of p) (Step ch) (Refused NoMemory) (view_of p)
 finish_starved p h ch how asked =
     let d = (due_there p h ch (Finishes (view_of p) how) asked).1 in
     step_starved (view_of p) ch _ (Finished ch how (done_on (view_of p) ch)) (finish_is how d) refl
@@ -303,20 +337,24 @@ unfinished_some {p} {ch} r =
 
 -- ---- the outcomes of a terminate
 
-pub aborted_more : (done : ℕ) (ts : List Descriptor) (k : ℕ) → k < length ts → aborted done (take (k + 1) ts) ≡ aborted done (take k ts) ++ outcome_of Aborted (slice_index_or ts k no_transfer) (if k == 0 then done else 0) ∷ []
+pub aborted_more : (done : ℕ) (ts : List Descriptor) (k : ℕ) → k < length ts
+    → aborted done (take (k + 1) ts) ≡ aborted done (take k ts) ++ outcome_of Aborted (slice_index_or ts k no_transfer) (if k == 0 then done else 0) ∷ []
 aborted_more done [] k h = absurd (omega arith)
 aborted_more done (t ∷ ts) zero h = refl
 aborted_more done (t ∷ ts) (suc k) h =
     let f : Descriptor → Outcome = λ u. outcome_of Aborted u 0 in
     let e : (suc k == 0) ≡ false = ne_eqb (suc k) 0 (λ z. omega arith) in
-    let more : map f (take (suc k) ts) ≡ map f (take k ts) ++ f (slice_index_or ts k no_transfer) ∷ [] = rw add-one at (map_more f ts k no_transfer (omega arith)) in
+    let more : map f (take (suc k) ts) ≡ map f (take k ts) ++ f (slice_index_or ts k no_transfer) ∷ [] =
+    rw add-one at (map_more f ts k no_transfer (omega arith)) in
     rw (add-one, e) (ap (λ l. outcome_of Aborted t done ∷ l) more)
 
 same_test : (k n first : ℕ) → first + k ≡ n → (k == 0) ≡ (n == first)
 same_test zero n first e = sym (eq-eqb n first (omega arith))
 same_test (suc k) n first e = ne_eqb (suc k) 0 (λ z. omega arith) ∙ sym (ne_eqb n first (λ f. omega arith))
 
-pub aborted_step : (done : ℕ) (ts : List Descriptor) (first n stored residue : ℕ) (u : Descriptor) (list : List Outcome) → first ≤ n → n < length ts → list ≡ aborted done (take (n - first) (drop first ts)) → u ≡ slice_index_or ts n no_transfer → stored ≡ (if n == first then done else 0) → residue ≡ size_of u - stored → list ++ record { result = Aborted; residue = residue } ∷ [] ≡ aborted done (take (n + 1 - first) (drop first ts))
+pub aborted_step : (done : ℕ) (ts : List Descriptor) (first n stored residue : ℕ) (u : Descriptor) (list : List Outcome) → first ≤ n → n < length ts
+    → list ≡ aborted done (take (n - first) (drop first ts)) → u ≡ slice_index_or ts n no_transfer → stored ≡ (if n == first then done else 0)
+    → residue ≡ size_of u - stored → list ++ record { result = Aborted; residue = residue } ∷ [] ≡ aborted done (take (n + 1 - first) (drop first ts))
 aborted_step done ts first n stored residue u list low high so_far is part rest =
     let k = n - first in
     let less : k < length (drop first ts) = omega (arith, length-drop first ts) in
@@ -334,7 +372,8 @@ aborted_step done ts first n stored residue u list low high so_far is part rest 
 -- ---- the readings of what runs
 
 -- what its machine has stored
-pub stored_small : {p : Parts} {ch : ℕ} {q : Queue} → HoldsAt p ch q → is_some q.channel.program ≡ true → (q.channel.stored ≤ most_transfer_bytes) × (q.channel.stored ≡ done_on (view_of p) ch)
+pub stored_small : {p : Parts} {ch : ℕ} {q : Queue} → HoldsAt p ch q → is_some q.channel.program ≡ true → (q.channel.stored ≤ most_transfer_bytes)
+    × (q.channel.stored ≡ done_on (view_of p) ch)
 stored_small {p} {ch} {q} at loaded =
     let r = running at loaded in
     let stores = stored_is r.transfer r.rules in

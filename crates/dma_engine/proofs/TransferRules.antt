@@ -1,25 +1,17 @@
 -- Facts of each submitted transfer, and of a running one.
-use Rattle.std.proofs.Common.{◌≡◌, ◌≢◌, ℕ, ◌+◌, ◌-◌, ◌<◌, List, [], ◌∷◌, ◌++◌, length, Option, Some, None, true, false, refl, ap, ◌∙◌, subst, arith, inl, inr, ◌⊎◌, zero, suc}
-use Rattle.std.specs.Prelude.{slice_get, IfSome}
-use Rattle.std.specs.List.{All}
-use Rattle.std.proofs.lemmas.List.Elements.{All-nil, All-push}
-use Rattle.std.proofs.lemmas.Option.{slice_get_within, get_or_from_slice_get}
+use Rattle.std.proofs.Common.{◌≡◌, ◌≢◌, ℕ, ◌+◌, ◌-◌, ◌<◌, List, [], ◌∷◌, ◌++◌, length, Option, Some, None, true, false, refl, ap, ◌∙◌, subst, arith, inl, inr}
+use Rattle.std.proofs.Common.{◌⊎◌, zero, suc}
+use Rattle.std.specs.{Prelude.slice_get, Prelude.IfSome, List.All}
+use Rattle.std.proofs.{lemmas.List.Elements.All-nil, lemmas.List.Elements.All-push, lemmas.Option.slice_get_within, lemmas.Option.get_or_from_slice_get}
 use Rattle.dma_mem.specs.Places.{Descriptor, lies_below}
-use Rattle.dma_mem.specs.Meeting.{IsFree}
-use Rattle.dma_mem.specs.Rules.{IsTransfer}
+use Rattle.dma_mem.specs.{Meeting.IsFree, Rules.IsTransfer, declared.marks.MarkKind.MarkKind, declared.segment.Segment.Segment}
 use Rattle.dma_mem.proofs.SharedPlaces.{is_free_of_true}
-use Rattle.dma_mem.specs.declared.marks.MarkKind.{MarkKind}
-use Rattle.dma_mem.specs.declared.segment.Segment.{Segment}
-use Rattle.dma_engine.specs.declared.entry.Entry.{Entry}
 use Rattle.dma_engine.specs.declared.entry.Entry.TheVariants.{Submitted, Issued, Passed, Signalled, Finished, Terminated, Marked, Unmarked}
-use Rattle.dma_engine.specs.declared.entry.Signaller.TheVariants.{Channel}
 use Rattle.dma_engine.specs.Object.{Object, ChannelState, Allows, IsMark, after, channel, with_channel, front, IsBase, with_flag, with_front_laid}
-use Rattle.dma_engine.specs.History.{object_after, IsLegal}
 use Rattle.dma_engine.specs.View.{View, ChannelSchedule, RunningTransfer, AreFree, Fits, IsSound, runs, object_of, size}
 use Rattle.dma_engine.specs.inner.Holds.{Holds, Parts, view_of}
-use Rattle.dma_engine.proofs.Boards.{each_with}
-use Rattle.dma_engine.proofs.Sizes.{size_after, size_object}
-use Rattle.dma_engine.proofs.WhatRuns.{All_filter_map, above, below}
+use Rattle.dma_engine.specs.{declared.entry.Entry.Entry, declared.entry.Signaller.TheVariants.Channel, History.object_after, History.IsLegal}
+use Rattle.dma_engine.proofs.{Boards.each_with, Sizes.size_after, Sizes.size_object, WhatRuns.All_filter_map, WhatRuns.above, WhatRuns.below}
 
 -- ---- submitted transfers
 
@@ -30,7 +22,8 @@ IsGood n t = IsTransfer t × (lies_below t n ≡ true)
 abbrev pub AreRuled : ℕ → Object → Type 0
 AreRuled n o = (ch k : ℕ) (t : Descriptor) → slice_get (channel o ch).submitted k ≡ Some t → IsGood n t
 
-ruled_with : (n : ℕ) (o : Object) (ch : ℕ) (c : ChannelState) → AreRuled n o → ((k : ℕ) (t : Descriptor) → slice_get c.submitted k ≡ Some t → IsGood n t) → AreRuled n (with_channel o ch c)
+ruled_with : (n : ℕ) (o : Object) (ch : ℕ) (c : ChannelState) → AreRuled n o → ((k : ℕ) (t : Descriptor) → slice_get c.submitted k ≡ Some t → IsGood n t)
+    → AreRuled n (with_channel o ch c)
 ruled_with n o ch c h g = each_with (λ d. (k : ℕ) (t : Descriptor) → slice_get d.submitted k ≡ Some t → IsGood n t) o ch c h g
 
 push_cases : {X : Type 0} (xs : List X) (y x : X) (k : ℕ) → slice_get (xs ++ y ∷ []) k ≡ Some x → (slice_get xs k ≡ Some x) ⊎ (y ≡ x)
@@ -96,7 +89,8 @@ free_at : (x : Option RunningTransfer) (r : RunningTransfer) → AreFree (Some r
 free_at None r h = tt
 free_at (Some s) r h = is_free_of_true r.transfer s.transfer h
 
-pub free_others : (o : Object) (s : List ChannelSchedule) (ch : ℕ) (r : RunningTransfer) → Fits o s → ch < length o.channels → runs o s ch ≡ Some r → All (λ x. IsFree r.transfer x.transfer) (below o s ch) × All (λ x. IsFree r.transfer x.transfer) (above o s ch)
+pub free_others : (o : Object) (s : List ChannelSchedule) (ch : ℕ) (r : RunningTransfer) → Fits o s → ch < length o.channels → runs o s ch ≡ Some r
+    → All (λ x. IsFree r.transfer x.transfer) (below o s ch) × All (λ x. IsFree r.transfer x.transfer) (above o s ch)
 free_others o s ch r h less is =
     let P : RunningTransfer → Type 0 = λ x. IsFree r.transfer x.transfer in
     let each : (d : ℕ) → d < length o.channels → ch ≢ d → IfSome (runs o s d) P = λ d l k.

@@ -1,28 +1,21 @@
 -- The answer to each call.
-use Rattle.std.specs.Prelude.{◌≡◌, ◌≤◌, ◌⊎◌, ℕ, ◌+◌, ◌-◌, if◌then◌else◌, ◌==◌, ◌||◌, Bool, true, false, nat_lt, nat_le, not, is_none, Option, Some, None, Result, Ok, Err, List, [], ◌∷◌, ◌++◌, length, take, drop, slice_get, slice_set, find}
+use Rattle.std.specs.Prelude.{◌≡◌, ◌≤◌, ◌⊎◌, ℕ, ◌+◌, ◌-◌, if◌then◌else◌, ◌==◌, ◌||◌, Bool, true, false, nat_lt, nat_le, not, is_none, Option, Some, None}
+use Rattle.std.specs.Prelude.{Result, Ok, Err, List, [], ◌∷◌, ◌++◌, length, take, drop, slice_get, slice_set, find}
 use Rattle.std.specs.Option.{option_map, option_map_or}
-use Rattle.dma_mem.specs.Limits.{last_event}
 use Rattle.dma_mem.specs.Places.{Descriptor, end_of_addresses, touches, writes, lies_below}
-use Rattle.dma_mem.specs.declared.segment.Segment.{Segment}
-use Rattle.dma_engine.specs.declared.entry.Entry.{Entry}
+use Rattle.dma_mem.specs.{Limits.last_event, declared.segment.Segment.Segment, declared.call.Call.Call}
 use Rattle.dma_engine.specs.declared.entry.Entry.TheVariants.{Wrote, ReadBack, Submitted, Issued, Signalled, Terminated, Marked, Unmarked}
-use Rattle.dma_engine.specs.declared.entry.Signaller.TheVariants.{Host}
-use Rattle.dma_mem.specs.declared.call.Call.{Call}
+use Rattle.dma_engine.specs.declared.turn.Status.TheVariants.{Unknown, InProgress, Complete}
+use Rattle.dma_engine.specs.declared.fault.EngineFault.TheVariants.{OutOfMemoryRange, Busy, Running, NoChannel, CookiesSpent, BadEvent, BadRange, NoMemory}
+use Rattle.dma_engine.specs.Object.{Object, base_from, channel, used, finished, unfinished, last_cookie}
+use Rattle.dma_engine.specs.View.{View, RunningTransfer, object_of, schedule_at, size, channels, idle, runs, running}
+use Rattle.dma_engine.specs.{declared.entry.Entry.Entry, declared.entry.Signaller.TheVariants.Host, declared.call.Reply.Reply, declared.turn.Turn.Turn}
+use Rattle.dma_engine.specs.{declared.turn.Turn.TheVariants.Started, declared.fault.EngineFault.EngineFault, declared.fault.SubmitFault.SubmitFault}
+use Rattle.dma_engine.specs.{declared.outcome.Outcome.Outcome, Turn.with_entry, Turn.turn}
+use Rattle.dma_chan.specs.Traffic.{stored_after}
 use Rattle.dma_mem.specs.declared.call.Call.TheVariants.{Write, Read, Submit, Issue, Pause, Resume, Terminate, Step, Status, Result as ResultOf, Mark, Unmark, Raise, Checkpoint}
-use Rattle.dma_engine.specs.declared.call.Reply.{Reply}
 use Rattle.dma_engine.specs.declared.call.Reply.TheVariants.{Done, Bytes, Cookie, Count, Turned, State, Result as Resulted, Refused}
 use Rattle.dma_engine.specs.declared.turn.Status.{Status as EngineStatus}
-use Rattle.dma_engine.specs.declared.turn.Status.TheVariants.{Unknown, InProgress, Complete}
-use Rattle.dma_engine.specs.declared.turn.Turn.{Turn}
-use Rattle.dma_engine.specs.declared.turn.Turn.TheVariants.{Started}
-use Rattle.dma_engine.specs.declared.fault.EngineFault.{EngineFault}
-use Rattle.dma_engine.specs.declared.fault.EngineFault.TheVariants.{OutOfMemoryRange, Busy, Running, NoChannel, CookiesSpent, BadEvent, BadRange, NoMemory}
-use Rattle.dma_engine.specs.declared.fault.SubmitFault.{SubmitFault}
-use Rattle.dma_engine.specs.declared.outcome.Outcome.{Outcome}
-use Rattle.dma_engine.specs.Object.{Object, base_from, channel, used, finished, unfinished, last_cookie}
-use Rattle.dma_chan.specs.Traffic.{stored_after}
-use Rattle.dma_engine.specs.View.{View, RunningTransfer, object_of, schedule_at, size, channels, idle, runs, running}
-use Rattle.dma_engine.specs.Turn.{with_entry, turn}
 
 -- ---- the first cause of a refusal, if any
 

@@ -1,9 +1,7 @@
 -- Histories: lists of entries in the order in which they were added.
-use Rattle.std.specs.Prelude.{ℕ, List, [], ◌∷◌, length}
-use Rattle.std.specs.List.{sum_by}
-use Rattle.dma_engine.specs.declared.entry.Entry.{Entry}
-use Rattle.dma_engine.specs.declared.entry.Entry.TheVariants.{Wrote, ReadBack}
+use Rattle.std.specs.{Prelude.ℕ, Prelude.List, Prelude.[], Prelude.◌∷◌, Prelude.length, List.sum_by}
 use Rattle.dma_engine.specs.Object.{Object, Allows, after}
+use Rattle.dma_engine.specs.{declared.entry.Entry.Entry, declared.entry.Entry.TheVariants.Wrote, declared.entry.Entry.TheVariants.ReadBack}
 
 -- The object after these entries, starting from this object.
 abbrev pub object_after : Object → List Entry → Object

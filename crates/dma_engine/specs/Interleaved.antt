@@ -1,9 +1,6 @@
 -- Turns of several jobs, taken one after another in some order. A turn is a step of a channel.
 use Rattle.std.specs.Prelude.{◌≡◌, ◌==◌, ℕ, ◌+◌, ◌-◌, ◌%◌, zero, suc, if◌then◌else◌, Result, List, [], ◌∷◌, ◌++◌, slice_index_or}
-use Rattle.dma_engine.specs.declared.fault.EngineFault.{EngineFault}
-use Rattle.dma_engine.specs.declared.turn.Turn.{Turn}
-use Rattle.dma_engine.specs.Turn.{turn}
-use Rattle.dma_engine.specs.View.{View}
+use Rattle.dma_engine.specs.{declared.fault.EngineFault.EngineFault, declared.turn.Turn.Turn, Turn.turn, View.View}
 
 -- the channel of a job's turn k, where turns count from 0: the first channel up to the last one, over and over
 abbrev pub channel_at : ℕ → ℕ → ℕ → ℕ

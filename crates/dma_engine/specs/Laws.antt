@@ -2,23 +2,17 @@
 -- answers; and answers to consecutive calls.
 use Rattle.std.specs.Prelude.{◌≡◌, ◌≢◌, ℕ, ◌+◌, ◌≤◌, ◌<◌, ◌⊎◌, false, if◌then◌else◌, None, Result, Err, List, [], ◌∷◌, ◌++◌, length, take, drop}
 use Rattle.std.specs.List.{All}
-use Rattle.dma_mem.specs.Limits.{most_channels}
-use Rattle.dma_mem.specs.Places.{Descriptor}
-use Rattle.dma_mem.specs.Rules.{IsTransfer}
-use Rattle.dma_mem.specs.declared.call.Call.{Call}
 use Rattle.dma_mem.specs.declared.call.Call.TheVariants.{Submit, Terminate, Step, Checkpoint}
-use Rattle.dma_engine.specs.declared.call.Reply.{Reply}
+use Rattle.dma_mem.specs.{Limits.most_channels, Places.Descriptor, Rules.IsTransfer, declared.call.Call.Call}
 use Rattle.dma_engine.specs.declared.call.Reply.TheVariants.{Cookie, Count, Done, Turned, Refused}
-use Rattle.dma_engine.specs.declared.entry.Entry.{Entry}
-use Rattle.dma_engine.specs.declared.fault.EngineFault.{EngineFault}
-use Rattle.dma_engine.specs.declared.fault.EngineFault.TheVariants.{NoMemory}
-use Rattle.dma_engine.specs.declared.turn.Turn.{Turn}
 use Rattle.dma_engine.specs.Object.{channel, finished, finished_all, last_cookie, unfinished, used}
 use Rattle.dma_engine.specs.Ticks.{Tick, Submitted, Finished, board_after, board_of, counts, status_of, tick_channel, ticks_of}
 use Rattle.dma_engine.specs.Turn.{ends, finishes_in, steps_in, turn}
-use Rattle.dma_engine.specs.Answer.{CallAnswers, AreAnswers, StepAnswers, Extends, KeepsOutcomes, answer, answers, has_checkpoint, is_checkpoint, reply_of, status_in}
-use Rattle.dma_engine.specs.Room.{IsIdle}
+use Rattle.dma_engine.specs.Answer.{CallAnswers, AreAnswers, StepAnswers, Extends, KeepsOutcomes, answer, answers, has_checkpoint, is_checkpoint, reply_of}
+use Rattle.dma_engine.specs.Answer.{status_in}
 use Rattle.dma_engine.specs.View.{View, IsSound, channels, new_fault, new_view, object_of}
+use Rattle.dma_engine.specs.{declared.call.Reply.Reply, declared.entry.Entry.Entry, declared.fault.EngineFault.EngineFault}
+use Rattle.dma_engine.specs.{declared.fault.EngineFault.TheVariants.NoMemory, declared.turn.Turn.Turn, Room.IsIdle}
 
 -- the tick of a step's answer: one if it finishes a cookie, else none
 abbrev pub ticks_in : ℕ → Result Turn EngineFault → List Tick

@@ -1,21 +1,15 @@
 -- The single-threaded object that models a DMA controller; for each entry of its history, what the entry requires of
 -- the object and how it changes it.
-use Rattle.std.specs.Prelude.{◌≡◌, ℕ, ◌+◌, ◌-◌, ◌<◌, ◌≤◌, if◌then◌else◌, Bool, true, false, nat_lt, Option, Some, None, IsSome, IsSomeAnd, MatchOption, unwrap_or, List, [], ◌∷◌, ◌++◌, length, map, take, drop, replicate, slice_get, slice_index_or, slice_set}
+use Rattle.std.specs.Prelude.{◌≡◌, ℕ, ◌+◌, ◌-◌, ◌<◌, ◌≤◌, if◌then◌else◌, Bool, true, false, nat_lt, Option, Some, None, IsSome, IsSomeAnd, MatchOption}
+use Rattle.std.specs.Prelude.{unwrap_or, List, [], ◌∷◌, ◌++◌, length, map, take, drop, replicate, slice_get, slice_index_or, slice_set}
 use Rattle.std.specs.List.{All, sum_by}
-use Rattle.dma_mem.specs.Limits.{last_event}
-use Rattle.dma_mem.specs.Places.{Descriptor, end_of_addresses, lies_below, size_of, sources, destinations}
-use Rattle.dma_mem.specs.Rules.{IsTransfer}
-use Rattle.dma_mem.specs.Image.{put, bytes_at, laid}
-use Rattle.dma_mem.specs.declared.segment.Segment.{Segment}
-use Rattle.dma_engine.specs.declared.entry.Entry.{Entry}
+use Rattle.dma_mem.specs.{Limits.last_event, Places.Descriptor, Places.end_of_addresses, Places.lies_below, Places.size_of, Places.sources, Places.destinations}
+use Rattle.dma_mem.specs.{Rules.IsTransfer, Image.put, Image.bytes_at, Image.laid, declared.segment.Segment.Segment, declared.marks.MarkKind.MarkKind}
+use Rattle.dma_mem.specs.{declared.marks.MarkKind.TheVariants.Reading, declared.marks.MarkKind.TheVariants.Writing, Marking.meets_mark}
 use Rattle.dma_engine.specs.declared.entry.Entry.TheVariants.{Wrote, ReadBack, Submitted, Issued, Passed, Signalled, Finished, Terminated, Marked, Unmarked}
 use Rattle.dma_engine.specs.declared.entry.Signaller.TheVariants.{Channel, Host}
-use Rattle.dma_mem.specs.declared.marks.MarkKind.{MarkKind}
-use Rattle.dma_mem.specs.declared.marks.MarkKind.TheVariants.{Reading, Writing}
-use Rattle.dma_mem.specs.Marking.{meets_mark}
-use Rattle.dma_engine.specs.declared.outcome.Outcome.{Outcome}
-use Rattle.dma_engine.specs.declared.outcome.TransResult.{TransResult}
 use Rattle.dma_engine.specs.declared.outcome.TransResult.TheVariants.{NoError, ReadFailed, WriteFailed, Aborted}
+use Rattle.dma_engine.specs.{declared.entry.Entry.Entry, declared.outcome.Outcome.Outcome, declared.outcome.TransResult.TransResult}
 
 -- ---- the object
 

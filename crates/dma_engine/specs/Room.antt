@@ -1,11 +1,8 @@
 -- Room that is allocated before it is needed.
 use Rattle.std.specs.Prelude.{◌≡◌, ◌≢◌, ℕ, ◌<◌, ◌≤◌, None, Result, Ok, IfErr, slice_index_or}
-use Rattle.dma_engine.specs.declared.fault.EngineFault.{EngineFault}
-use Rattle.dma_engine.specs.declared.fault.EngineFault.TheVariants.{NoMemory}
-use Rattle.dma_engine.specs.declared.turn.Turn.{Turn}
-use Rattle.dma_engine.specs.declared.turn.Turn.TheVariants.{Started, Moved, Finished}
-use Rattle.dma_engine.specs.Object.{channel, unfinished}
-use Rattle.dma_engine.specs.View.{EngineState, QueueRoom, Room, View, object_of, schedule_at}
+use Rattle.dma_engine.specs.{declared.fault.EngineFault.EngineFault, declared.fault.EngineFault.TheVariants.NoMemory, declared.turn.Turn.Turn}
+use Rattle.dma_engine.specs.{declared.turn.Turn.TheVariants.Started, declared.turn.Turn.TheVariants.Moved, declared.turn.Turn.TheVariants.Finished}
+use Rattle.dma_engine.specs.{Object.channel, Object.unfinished, View.EngineState, View.QueueRoom, View.Room, View.View, View.object_of, View.schedule_at}
 
 -- the room of a channel that doesn't exist
 abbrev pub no_room : QueueRoom

@@ -1,10 +1,8 @@
 -- The changes that readers of the status see.
 use Rattle.std.specs.Prelude.{ℕ, ◌+◌, min, List, [], ◌∷◌, map, slice_index_or, slice_set}
-use Rattle.dma_engine.specs.declared.entry.Entry.{Entry}
-use Rattle.dma_engine.specs.declared.entry.Entry.TheVariants.{Submitted as EntrySubmitted, Finished as EntryFinished, Terminated}
-use Rattle.dma_engine.specs.declared.turn.Status.{Status}
-use Rattle.dma_engine.specs.Answer.{status_by}
 use Rattle.dma_engine.specs.Object.{Object, ChannelState, used, finished}
+use Rattle.dma_engine.specs.{declared.entry.Entry.Entry, declared.turn.Status.Status, Answer.status_by}
+use Rattle.dma_engine.specs.declared.entry.Entry.TheVariants.{Submitted as EntrySubmitted, Finished as EntryFinished, Terminated}
 
 -- A channel gave a cookie, or `count` of its cookies finished.
 pub data Tick : Type 0 where

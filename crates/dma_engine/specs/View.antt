@@ -1,18 +1,12 @@
 -- What contracts see of an engine: its history, its step count and its schedule.
-use Rattle.std.specs.Prelude.{◌≡◌, ◌≢◌, ℕ, ◌+◌, ◌-◌, ◌<◌, ◌==◌, ◌||◌, if◌then◌else◌, Bool, true, false, ◌&&◌, not, nat_lt, Option, Some, None, is_some, List, [], length, map, replicate, slice_index_or}
-use Rattle.std.specs.Option.{option_map}
-use Rattle.std.specs.List.{filter_map, range_with_len}
-use Rattle.dma_mem.specs.Limits.{most_channels}
-use Rattle.dma_mem.specs.Places.{Descriptor, is_free_of}
-use Rattle.dma_mem.specs.Image.{over, is_size}
-use Rattle.dma_engine.specs.declared.entry.Entry.{Entry}
-use Rattle.dma_engine.specs.declared.fault.NewFault.{NewFault}
-use Rattle.dma_engine.specs.declared.fault.NewFault.TheVariants.{BadChannels, SizeOutOfRange}
-use Rattle.dma_engine.specs.declared.turn.Running.{Running}
+use Rattle.std.specs.Prelude.{◌≡◌, ◌≢◌, ℕ, ◌+◌, ◌-◌, ◌<◌, ◌==◌, ◌||◌, if◌then◌else◌, Bool, true, false, ◌&&◌, not, nat_lt, Option, Some, None, is_some, List}
+use Rattle.std.specs.Prelude.{[], length, map, replicate, slice_index_or}
+use Rattle.std.specs.{Option.option_map, List.filter_map, List.range_with_len}
+use Rattle.dma_mem.specs.{Limits.most_channels, Places.Descriptor, Places.is_free_of, Image.over, Image.is_size}
 use Rattle.dma_engine.specs.Object.{Object, ChannelState, IsBase, channel, finished, front, FrontIs, opening}
-use Rattle.dma_engine.specs.History.{object_after, IsLegal}
-use Rattle.dma_chan.specs.Compiled.{cost}
-use Rattle.dma_chan.specs.Traffic.{stored_after}
+use Rattle.dma_engine.specs.{declared.entry.Entry.Entry, declared.fault.NewFault.NewFault, declared.fault.NewFault.TheVariants.BadChannels}
+use Rattle.dma_engine.specs.{declared.fault.NewFault.TheVariants.SizeOutOfRange, declared.turn.Running.Running, History.object_after, History.IsLegal}
+use Rattle.dma_chan.specs.{Compiled.cost, Traffic.stored_after}
 
 -- whether a channel is paused, and how many instructions its front has executed if it runs
 pub record ChannelSchedule : Type 0 where

@@ -40,6 +40,8 @@ mod totals;
 /// and its memory's bytes. They do not see which pages of the memory are made.
 #[derive(Drop)]
 pub struct Engine {
+    // first, as each step writes it: it lies in the line of the lock that a desk's workers take
+    steps: u64,
     alloc: Global,
     size: u32,
     memory: Memory,
@@ -48,7 +50,6 @@ pub struct Engine {
     queues: Vec<Queue>,
     base: Base,
     history: Vec<Entry>,
-    steps: u64,
 }
 
 impl Model for Engine {

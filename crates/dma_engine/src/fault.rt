@@ -2,7 +2,6 @@
 
 ghost use Rattle.std.specs.Prelude.{◌≡◌};
 
-use dma_chan::compile;
 use dma_mem::limits::{MAX_CHANNELS, MAX_SIZE};
 use dma_mem::transfer::Transfer;
 use std::alloc::AllocError;
@@ -74,17 +73,6 @@ pub enum NewFault {
     /// Memory ran out.
     #[error("out of memory")]
     NoMemory,
-}
-
-impl From<compile::NoMemory> for EngineFault {
-    ghost use Rattle.std.specs.Prelude.{◌≡◌};
-    ghost use Rattle.dma_engine.specs.declared.fault.EngineFault.TheVariants.{NoMemory};
-
-    ghost from_gives = { λ _ fault. fault ≡ NoMemory };
-
-    fn from(_refused: compile::NoMemory) -> EngineFault {
-        EngineFault::NoMemory
-    }
 }
 
 impl From<AllocError> for NewFault {

@@ -1,42 +1,28 @@
 -- A program that copies, over a memory that others write between its steps.
-use Rattle.std.proofs.Common.{◌≡◌, ℕ, zero, suc, ◌+◌, ◌≤◌, ◌<◌, true, List, length, get_or, refl, sym, ap, ◌∙◌, subst, arith, length-append, inl, inr, Bool, None, Result, Ok, ◌≢◌, [], append-nil, Option, Some}
-use Rattle.std.specs.Prelude.{IsSomeAnd}
-use Rattle.std.proofs.lemmas.Bool.{and_parts, cases_lt}
+use Rattle.std.proofs.Common.{◌≡◌, ℕ, zero, suc, ◌+◌, ◌≤◌, ◌<◌, true, List, length, get_or, refl, sym, ap, ◌∙◌, subst, arith, length-append, inl, inr, Bool}
+use Rattle.std.proofs.Common.{None, Result, Ok, ◌≢◌, [], append-nil, Option, Some}
+use Rattle.std.specs.{Prelude.IsSomeAnd, List.Contains}
+use Rattle.std.proofs.{lemmas.Bool.and_parts, lemmas.Bool.cases_lt, lemmas.List.Elements.Contains-append_left, lemmas.List.ext_get_or}
 use Rattle.dma_insn.specs.declared.chip.ChipInsn.{ChipInsn}
 use Rattle.dma_insn.specs.declared.chip.ChipInsn.TheVariants.{St, StoreZeros, End, Wfe}
 use Rattle.dma_mem.specs.Places.{Descriptor, all_below, size_of, lies_below, destinations, moves}
-use Rattle.dma_mem.specs.Image.{laid}
-use Rattle.dma_mem.specs.Marking.{MarkList}
-use Rattle.dma_chan.specs.declared.exec.Registers.{Registers}
-use Rattle.dma_explain.specs.declared.explain.Amounts.{Amounts}
-use Rattle.dma_chan.specs.declared.turn.ChanTurn.{ChanTurn}
-use Rattle.dma_chan.specs.declared.turn.ChanTurn.TheVariants.{Moved, Waiting, Ended, Fault}
-use Rattle.dma_chan.specs.declared.turn.FaultKind.{FaultKind}
-use Rattle.dma_chan.specs.Bursts.{touched}
-use Rattle.dma_chan.specs.Exec.{State, destination_of, start_on, state, act, exec}
-use Rattle.dma_chan.specs.Channel.{ChannelValue, ahead_of, step_of, stored_by, bytes_of_program, loaded}
-use Rattle.dma_explain.specs.Explains.{Explains, IsIn, IsLoadedWith, IsWait, StartsWith, Trace, Work, after_insn, all_of, amounts_of, cleared, next_in, only, traced, written}
-use Rattle.dma_chan.specs.Others.{Touches}
-use Rattle.dma_explain.specs.Works.{IsWorked, MissesAll, Uses, work_below}
-use Rattle.dma_chan.specs.Stepping.{Machine, answer_at, after_step, machine}
-use Rattle.dma_chan.proofs.CallWrites.{does_next, turned}
+use Rattle.dma_mem.specs.{Image.laid, Marking.MarkList}
+use Rattle.dma_chan.specs.{declared.exec.Registers.Registers, declared.turn.ChanTurn.ChanTurn, declared.turn.ChanTurn.TheVariants.Moved}
+use Rattle.dma_chan.specs.{declared.turn.ChanTurn.TheVariants.Waiting, declared.turn.ChanTurn.TheVariants.Ended, declared.turn.ChanTurn.TheVariants.Fault}
+use Rattle.dma_chan.specs.{declared.turn.FaultKind.FaultKind, Bursts.touched, Exec.State, Exec.destination_of, Exec.start_on, Exec.state, Exec.act, Exec.exec}
+use Rattle.dma_chan.specs.{Channel.ChannelValue, Channel.ahead_of, Channel.step_of, Channel.stored_by, Channel.bytes_of_program, Channel.loaded, Others.Touches}
+use Rattle.dma_chan.specs.{Stepping.Machine, Stepping.answer_at, Stepping.after_step, Stepping.machine, declared.bus.Bus.TheVariants.Ideal}
+use Rattle.dma_chan.specs.{declared.run.RunEnd.RunEnd, Programs.ProgramValue, Run.opening, Run.state_after, Run.turn_after, Run.StopsAfter, Run.RunsTo}
+use Rattle.dma_explain.specs.Explains.{Explains, IsIn, IsLoadedWith, IsWait, StartsWith, Trace, Work, after_insn, all_of, amounts_of, cleared, next_in, only}
+use Rattle.dma_explain.specs.Explains.{traced, written}
+use Rattle.dma_explain.specs.{declared.explain.Amounts.Amounts, Works.IsWorked, Works.MissesAll, Works.Uses, Works.work_below, Alone.ExplainedCopiesAlone}
+use Rattle.dma_chan.proofs.{CallWrites.does_next, CallWrites.turned, LayerLaws.places_below, LayerLaws.touched_below, CopyAlone.laid_none}
+use Rattle.dma_chan.proofs.{OthersKept.writes_no_other}
 use Rattle.dma_explain.proofs.CallStays.{Nexts, Goes, Ends, ahead_at, ends_then, inside, nexts, traced_next, next_inside}
-use Rattle.dma_chan.proofs.LayerLaws.{places_below, touched_below}
-use Rattle.dma_chan.proofs.CopyAlone.{laid_none}
 use Rattle.dma_explain.proofs.GoingOn.{Can, length_up}
 use Rattle.dma_explain.proofs.Traced.{Answers, Inside, Mirrors, answers, in_or_not, length_laid}
-use Rattle.std.specs.List.{Contains}
-use Rattle.std.proofs.lemmas.List.Elements.{Contains-append_left}
-use Rattle.std.proofs.lemmas.List.{ext_get_or}
-use Rattle.dma_mem.proofs.ImageOver.{get_or_after_moves_other}
-use Rattle.dma_mem.proofs.OverTransfers.{moves_writes}
-use Rattle.dma_chan.specs.declared.bus.Bus.TheVariants.{Ideal}
-use Rattle.dma_chan.specs.declared.run.RunEnd.{RunEnd}
+use Rattle.dma_mem.proofs.{ImageOver.get_or_after_moves_other, OverTransfers.moves_writes}
 use Rattle.dma_chan.specs.declared.run.RunEnd.TheVariants as ends
-use Rattle.dma_explain.specs.Alone.{ExplainedCopiesAlone}
-use Rattle.dma_chan.specs.Programs.{ProgramValue}
-use Rattle.dma_chan.specs.Run.{opening, state_after, turn_after, StopsAfter, RunsTo}
-use Rattle.dma_chan.proofs.OthersKept.{writes_no_other}
 
 -- ---- what a work uses, in a memory that has its ranges
 
@@ -58,7 +44,8 @@ Fits work size = (a : ℕ) → Uses work a → a < size
 abbrev pub AreCleared : Work → Trace → Type 0
 AreCleared work x = (a : ℕ) → Contains x.zeros a → Contains (cleared work) a
 
-pub zeros_in : (start : Registers) (program : List ℕ) (work : Work) (n : ℕ) → Explains start program work n → (k : ℕ) → k ≤ n → AreCleared work (traced start program k)
+pub zeros_in : (start : Registers) (program : List ℕ) (work : Work) (n : ℕ) → Explains start program work n → (k : ℕ) → k ≤ n
+    → AreCleared work (traced start program k)
 zeros_in start program work n h k l a i =
     let part = inside start program work n h k l in
     subst (λ (xs : List ℕ). Contains xs a) (sym part.zeros) (Contains-append_left (traced start program k).zeros part.zeros_rest a i)
@@ -73,11 +60,13 @@ pub record Among (start : Registers) (program : List ℕ) (work : Work) (n : ℕ
   pub part : AreCleared work (traced start program k)
   pub mirrors : Mirrors work first (traced start program k) c.registers c.buffer image
 
-pub is_in : (start : Registers) (program : List ℕ) (work : Work) (n : ℕ) (first : List ℕ) (k : ℕ) (image : List ℕ) (c : ChannelValue) → Among start program work n first k image c → IsIn start program n k c
+pub is_in : (start : Registers) (program : List ℕ) (work : Work) (n : ℕ) (first : List ℕ) (k : ℕ) (image : List ℕ) (c : ChannelValue)
+    → Among start program work n first k image c → IsIn start program n k c
 is_in start program work n first k image c w = record { begins = w.begins; within = w.within; registers = w.mirrors.registers_are }
 
 -- a channel into which the program was just loaded, over the first memory
-pub at_start : (start : Registers) (program : List ℕ) (work : Work) (n : ℕ) (first : List ℕ) (c : ChannelValue) → Fits work (length first) → IsLoadedWith start program c → Among start program work n first 0 first c
+pub at_start : (start : Registers) (program : List ℕ) (work : Work) (n : ℕ) (first : List ℕ) (c : ChannelValue) → Fits work (length first)
+    → IsLoadedWith start program c → Among start program work n first 0 first c
 at_start start program work n first c low l =
     subst (Among start program work n first 0 first) (sym l.2) (record {
       begins = l.1;
@@ -85,11 +74,23 @@ at_start start program work n first c low l =
       taken = refl;
       stored = refl;
       part = λ a i. absurd (omega (arith, i.1));
-      mirrors = record { registers_are = refl; buffer_is = refl; few = omega arith; same = λ a i. ap (λ (x : List ℕ). get_or x a 0) (sym (laid_none first work.copy)); zeros = λ a i. absurd (omega (arith, i.1)); rest = λ a i off. refl; fits = low };
+      mirrors = record {
+        registers_are = refl;
+        buffer_is = refl;
+        few = omega arith;
+        same =
+            λ a i. ap (λ (x : List ℕ). get_or x a 0) (sym (laid_none first work.copy));
+        zeros = λ a i. absurd (omega (arith, i.1));
+        rest = λ a i off. refl;
+        fits =
+            low;
+      };
     })
 
 -- what others do
-pub kept : (start : Registers) (program : List ℕ) (work : Work) (n : ℕ) (first : List ℕ) (k : ℕ) (image other : List ℕ) (c d : ChannelValue) → Among start program work n first k image c → d ≡ c → ((a : ℕ) → Uses work a → get_or other a 0 ≡ get_or image a 0) → Fits work (length other) → Among start program work n first k other d
+pub kept : (start : Registers) (program : List ℕ) (work : Work) (n : ℕ) (first : List ℕ) (k : ℕ) (image other : List ℕ) (c d : ChannelValue)
+    → Among start program work n first k image c → d ≡ c → ((a : ℕ) → Uses work a → get_or other a 0 ≡ get_or image a 0) → Fits work (length other)
+    → Among start program work n first k other d
 kept start program work n first k image other c d w same unchanged fits =
     subst (Among start program work n first k other) (sym same) (record {
       begins = w.begins;
@@ -127,7 +128,8 @@ stored_insn St x c = let b = destination_of x.registers in omega (arith, length-
 stored_insn StoreZeros x c = let b = destination_of x.registers in omega (arith, length-append x.zeros (touched b), length_up b c)
 stored_insn i x c = omega arith
 
-module _ (start : Registers) (program : List ℕ) (work : Work) (n : ℕ) (marks : MarkList) (first : List ℕ) (h : Explains start program work n) (low : Fits work (length first)) where
+module _ (start : Registers) (program : List ℕ) (work : Work) (n : ℕ) (marks : MarkList) (first : List ℕ) (h : Explains start program work n)
+    (low : Fits work (length first)) where
   -- what the answer of a step says
   abbrev pub After : ℕ → Machine → ChanTurn → Type 0
   After k u Moved = Among start program work n first (suc k) (after_step marks u).image (after_step marks u).channel
@@ -139,7 +141,9 @@ module _ (start : Registers) (program : List ℕ) (work : Work) (n : ℕ) (marks
   waits_at k i x less next a =
       record { step = k; within = less; invalid = a.0; waits = next ∙ ap (λ (j : ChipInsn). Ok j) a.1 }
 
-  to : (k : ℕ) (u : Machine) (i : ChipInsn) (turn : ChanTurn) → answer_at marks u ≡ turn → Among start program work n first k u.image u.channel → k < n → next_in program (traced start program k) ≡ Ok i → Can i (traced start program k) → Answers work first marks i (traced start program (suc k)) (turn, (step_of marks u.channel u.image u.flags).1) → After k u turn
+  to : (k : ℕ) (u : Machine) (i : ChipInsn) (turn : ChanTurn) → answer_at marks u ≡ turn → Among start program work n first k u.image u.channel → k < n
+      → next_in program (traced start program k) ≡ Ok i → Can i (traced start program k)
+      → Answers work first marks i (traced start program (suc k)) (turn, (step_of marks u.channel u.image u.flags).1) → After k u turn
   to k u i Moved e w less next go a =
       let c = u.channel in
       let ahead = ahead_at start program k i c w.begins w.mirrors.registers_are next in
@@ -159,16 +163,31 @@ module _ (start : Registers) (program : List ℕ) (work : Work) (n : ℕ) (marks
   to k u i Ended e w less next go a = absurd a
   to k u i (Fault kind) e w less next go a = a
 
-  answers_at : (k : ℕ) (u : Machine) (i : ChipInsn) → Among start program work n first k u.image u.channel → k < n → next_in program (traced start program k) ≡ Ok i → Can i (traced start program k) → Answers work first marks i (traced start program (suc k)) (step_of marks u.channel u.image u.flags)
+  answers_at : (k : ℕ) (u : Machine) (i : ChipInsn) → Among start program work n first k u.image u.channel → k < n
+      → next_in program (traced start program k) ≡ Ok i → Can i (traced start program k)
+      → Answers work first marks i (traced start program (suc k)) (step_of marks u.channel u.image u.flags)
   answers_at k u i w less next go =
       let c = u.channel in
       let x = traced start program k in
       let does : step_of marks c u.image u.flags ≡ act marks i (state x.registers c.buffer u.image u.flags) =
-      does_next marks i u (ahead_at start program k i c w.begins w.mirrors.registers_are next) ∙ ap (λ (r : Registers). act marks i (state r c.buffer u.image u.flags)) w.mirrors.registers_are in
-      let m : Mirrors work first x x.registers c.buffer u.image = record { registers_are = refl; buffer_is = w.mirrors.buffer_is; few = w.mirrors.few; same = w.mirrors.same; zeros = w.mirrors.zeros; rest = w.mirrors.rest; fits = w.mirrors.fits } in
+      does_next marks i u (ahead_at start program k i c w.begins w.mirrors.registers_are next)
+      ∙ ap (λ (r : Registers). act marks i (state r c.buffer u.image u.flags)) w.mirrors.registers_are in
+      let m : Mirrors work first x x.registers c.buffer u.image =
+      record {
+        registers_are = refl;
+        buffer_is = w.mirrors.buffer_is;
+        few = w.mirrors.few;
+        same = w.mirrors.same;
+        zeros = w.mirrors.zeros;
+        rest =
+            w.mirrors.rest;
+        fits = w.mirrors.fits;
+      } in
       let same = traced_next start program work n h k i next in
-      let all = answers work first marks h.work low x c.buffer u.image u.flags m i (subst (Inside work) same (inside start program work n h (suc k) (omega (arith, less)))) (inside start program work n h k w.within) go in
-      subst (λ (y : Trace). Answers work first marks i y (step_of marks c u.image u.flags)) (sym same) (subst (Answers work first marks i (after_insn i x)) (sym does) all)
+      let all = answers work first marks h.work low x c.buffer u.image u.flags m i
+      (subst (Inside work) same (inside start program work n h (suc k) (omega (arith, less)))) (inside start program work n h k w.within) go in
+      subst (λ (y : Trace). Answers work first marks i y (step_of marks c u.image u.flags)) (sym same)
+      (subst (Answers work first marks i (after_insn i x)) (sym does) all)
 
   -- what the answer of a step before DMAEND says
   abbrev pub Before : ChanTurn → Type 0
@@ -177,31 +196,38 @@ module _ (start : Registers) (program : List ℕ) (work : Work) (n : ℕ) (marks
   Before Ended = ⊥
   Before (Fault kind) = ¬ MissesAll marks work
 
-  went : (k : ℕ) (i : ChipInsn) (x : Trace) (turn : ChanTurn) (s : State) → k < n → next_in program (traced start program k) ≡ Ok i → Answers work first marks i x (turn, s) → Before turn
+  went : (k : ℕ) (i : ChipInsn) (x : Trace) (turn : ChanTurn) (s : State) → k < n → next_in program (traced start program k) ≡ Ok i
+      → Answers work first marks i x (turn, s) → Before turn
   went k i x Moved s less next a = tt
   went k i x (Waiting e) s less next a = waits_at k i e less next a
   went k i x turn s less next a = a
 
-  before_by : (k : ℕ) (u : Machine) (turn : ChanTurn) → answer_at marks u ≡ turn → Among start program work n first k u.image u.channel → k < n → Nexts start program work n k → Before turn
+  before_by : (k : ℕ) (u : Machine) (turn : ChanTurn) → answer_at marks u ≡ turn → Among start program work n first k u.image u.channel → k < n
+      → Nexts start program work n k → Before turn
   before_by k u turn e w l (Ends last next) = absurd (omega (arith, l, last))
   before_by k u turn e w l (Goes i less next go) =
       let s = (step_of marks u.channel u.image u.flags).1 in
-      went k i (traced start program (suc k)) turn s less next (subst (λ (v : ChanTurn). Answers work first marks i (traced start program (suc k)) (v, s)) e (answers_at k u i w less next go))
+      went k i (traced start program (suc k)) turn s less next
+      (subst (λ (v : ChanTurn). Answers work first marks i (traced start program (suc k)) (v, s)) e (answers_at k u i w less next go))
 
-  pub goes_on_at : (k : ℕ) (u : Machine) (turn : ChanTurn) → answer_at marks u ≡ turn → Among start program work n first k u.image u.channel → k < n → Before turn
+  pub goes_on_at : (k : ℕ) (u : Machine) (turn : ChanTurn) → answer_at marks u ≡ turn → Among start program work n first k u.image u.channel → k < n
+      → Before turn
   goes_on_at k u turn e w l = before_by k u turn e w l (nexts start program work n h k w.within)
 
-  by_next : (k : ℕ) (u : Machine) (turn : ChanTurn) → answer_at marks u ≡ turn → Among start program work n first k u.image u.channel → Nexts start program work n k → After k u turn
+  by_next : (k : ℕ) (u : Machine) (turn : ChanTurn) → answer_at marks u ≡ turn → Among start program work n first k u.image u.channel
+      → Nexts start program work n k → After k u turn
   by_next k u turn e w (Goes i less next go) =
       let s = (step_of marks u.channel u.image u.flags).1 in
-      to k u i turn e w less next go (subst (λ (v : ChanTurn). Answers work first marks i (traced start program (suc k)) (v, s)) e (answers_at k u i w less next go))
+      to k u i turn e w less next go
+      (subst (λ (v : ChanTurn). Answers work first marks i (traced start program (suc k)) (v, s)) e (answers_at k u i w less next go))
   by_next k u turn e w (Ends last next) =
       let c = u.channel in
       let ahead = ahead_at start program k End c w.begins w.mirrors.registers_are next in
       let does = does_next marks End u ahead in
       let over : turn ≡ Ended = sym e ∙ ends_then marks u ahead in
       let is_after = turned marks u Ended (ends_then marks u ahead) in
-      let count : length (traced start program k).stores ≡ size_of work.copy = ap (λ (j : ℕ). length (traced start program j).stores) last ∙ ap length h.stores in
+      let count : length (traced start program k).stores ≡ size_of work.copy = ap (λ (j : ℕ). length (traced start program j).stores) last
+      ∙ ap length h.stores in
       let zeros : (traced start program k).zeros ≡ cleared work = ap (λ (j : ℕ). (traced start program j).zeros) last ∙ h.zeros in
       let still : (step_of marks u.channel u.image u.flags).1.image ≡ u.image = ap (λ (y : ChanTurn × State). y.1.image) does in
       subst (After k u) (sym over) (record {
@@ -248,14 +274,16 @@ pub only_uses : (t : Descriptor) (a : ℕ) → Uses (only t) a → Touches t a
 only_uses t a (inl touches) = touches
 only_uses t a (inr i) = absurd (omega (arith, i.1))
 
-module _ (program : List ℕ) (t : Descriptor) (n : ℕ) (image : List ℕ) (h : Explains (start_on Ideal) program (only t) n) (waits : (e : ℕ) → ¬ IsWait (start_on Ideal) program n e) (low : Fits (only t) (length image)) where
+module _ (program : List ℕ) (t : Descriptor) (n : ℕ) (image : List ℕ) (h : Explains (start_on Ideal) program (only t) n)
+    (waits : (e : ℕ) → ¬ IsWait (start_on Ideal) program n e) (low : Fits (only t) (length image)) where
   first : Along program t n image 0 (opening image)
   first = record {
     channel = loaded (record { bytes = program; cost = None });
     has = refl;
     registers = refl;
     buffer = refl;
-    among = at_start (start_on Ideal) program (only t) n image (loaded (record { bytes = program; cost = None })) low (record { bytes = program; cost = None }, ([], sym (append-nil program)), refl);
+    among = at_start (start_on Ideal) program (only t) n image (loaded (record { bytes = program; cost = None })) low
+        (record { bytes = program; cost = None }, ([], sym (append-nil program)), refl);
     others = λ a off. refl;
     size = refl;
   }
@@ -294,10 +322,13 @@ module _ (program : List ℕ) (t : Descriptor) (n : ℕ) (image : List ℕ) (h :
         has = ap (λ (c : ChannelValue). c.program) is ∙ w.has;
         registers = ap (λ (c : ChannelValue). c.registers) is ∙ ap (λ (y : State). y.registers) same;
         buffer = ap (λ (c : ChannelValue). c.buffer) is ∙ ap (λ (y : State). y.buffer) same;
-        among = subst (λ (i : List ℕ). Among (start_on Ideal) program (only t) n image (suc k) i (after_step [] u).channel) images (after_next (start_on Ideal) program (only t) n [] image h low k u Moved goes w.among);
+        among = subst (λ (i : List ℕ). Among (start_on Ideal) program (only t) n image (suc k) i (after_step [] u).channel) images
+            (after_next (start_on Ideal) program (only t) n [] image h low k u Moved goes w.among);
         others = λ a off.
             sym (ap (λ (i : List ℕ). get_or i a 0) images)
-            ∙ kept.bytes a (λ i. off (only_writes t a (next_inside (start_on Ideal) program (only t) n h k w.channel a (is_in (start_on Ideal) program (only t) n image k s.image w.channel w.among) (nexts (start_on Ideal) program (only t) n h k w.among.within) i)))
+            ∙ kept.bytes a (λ i. off (only_writes t a
+            (next_inside (start_on Ideal) program (only t) n h k w.channel a (is_in (start_on Ideal) program (only t) n image k s.image w.channel w.among)
+            (nexts (start_on Ideal) program (only t) n h k w.among.within) i)))
             ∙ w.others a off;
         size = ap length (sym images) ∙ kept.size ∙ w.size;
       }
@@ -312,9 +343,11 @@ module _ (program : List ℕ) (t : Descriptor) (n : ℕ) (image : List ℕ) (h :
       let w = along k (omega arith) in
       ap (λ (y : ChanTurn × State). y.0) (sym (same_step k s w)) ∙ goes_at k s l w
 
-  over : Nexts (start_on Ideal) program (only t) n n → (w : Along program t n image n (state_after [] program (opening image) n)) → answer_at [] (at n (state_after [] program (opening image) n) w) ≡ Ended
+  over : Nexts (start_on Ideal) program (only t) n n → (w : Along program t n image n (state_after [] program (opening image) n))
+      → answer_at [] (at n (state_after [] program (opening image) n) w) ≡ Ended
   over (Goes i less next go) w = absurd (omega (arith, less))
-  over (Ends e next) w = ends_then [] (at n (state_after [] program (opening image) n) w) (ahead_at (start_on Ideal) program n End w.channel w.among.begins w.among.mirrors.registers_are next)
+  over (Ends e next) w = ends_then [] (at n (state_after [] program (opening image) n) w)
+      (ahead_at (start_on Ideal) program n End w.channel w.among.begins w.among.mirrors.registers_are next)
 
   last : (turn_after [] program (opening image) n).0 ≡ Ended
   last =
@@ -327,14 +360,19 @@ module _ (program : List ℕ) (t : Descriptor) (n : ℕ) (image : List ℕ) (h :
       let s = state_after [] program (opening image) n in
       let w = along n (omega arith) in
       let u = at n s w in
-      let done = after_next (start_on Ideal) program (only t) n [] image h low n u Ended (over (nexts (start_on Ideal) program (only t) n h n (omega arith)) w) w.among in
+      let done = after_next (start_on Ideal) program (only t) n [] image h low n u Ended (over (nexts (start_on Ideal) program (only t) n h n (omega arith)) w)
+      w.among in
       let kept = writes_no_other [] w.channel s.image s.flags in
-      let images : (step_of [] w.channel s.image s.flags).1.image ≡ (turn_after [] program (opening image) n).1.image = ap (λ (y : ChanTurn × State). y.1.image) (same_step n s w) in
+      let images : (step_of [] w.channel s.image s.flags).1.image ≡ (turn_after [] program (opening image) n).1.image =
+      ap (λ (y : ChanTurn × State). y.1.image) (same_step n s w) in
       sym images
-      ∙ ext_get_or 0 (step_of [] w.channel s.image s.flags).1.image (laid image t (size_of t)) (kept.size ∙ w.size ∙ sym (length_laid image t (size_of t))) (λ a l. elim (in_or_not (destinations t) a) [
+      ∙ ext_get_or 0 (step_of [] w.channel s.image s.flags).1.image (laid image t (size_of t)) (kept.size ∙ w.size ∙ sym (length_laid image t (size_of t)))
+      (λ a l. elim (in_or_not (destinations t) a) [
         | inl i ↦ done.all.copied a (inr i)
         | inr off ↦
-            kept.bytes a (λ i. off (only_writes t a (next_inside (start_on Ideal) program (only t) n h n w.channel a (is_in (start_on Ideal) program (only t) n image n s.image w.channel w.among) (nexts (start_on Ideal) program (only t) n h n (omega arith)) i)))
+            kept.bytes a (λ i. off (only_writes t a
+            (next_inside (start_on Ideal) program (only t) n h n w.channel a (is_in (start_on Ideal) program (only t) n image n s.image w.channel w.among)
+            (nexts (start_on Ideal) program (only t) n h n (omega arith)) i)))
             ∙ w.others a off
             ∙ sym (get_or_after_moves_other image (moves t (size_of t)) a (λ i. off (moves_writes t (size_of t) a i)))
       ])
@@ -350,11 +388,15 @@ module _ (program : List ℕ) (t : Descriptor) (n : ℕ) (image : List ℕ) (h :
         ]
       ]
 
-  decides : (limit : ℕ) (how : RunEnd) (after : State) → n < limit → RunsTo [] program (opening image) limit how after → (how ≡ ends.Ended (n + 1)) × (after.image ≡ laid image t (size_of t))
+  decides : (limit : ℕ) (how : RunEnd) (after : State) → n < limit → RunsTo [] program (opening image) limit how after → (how ≡ ends.Ended (n + 1))
+      × (after.image ≡ laid image t (size_of t))
   decides limit ends.OutOfTurns after enough r = let moved : Ended ≡ Moved = sym last ∙ r.0 n enough in absurd (cc)
   decides limit (ends.Ended turns) after enough r =
-      let e : r.0 ≡ n = stops_last limit r.0 Ended after (λ z. cc) r.2 in
-      (ap ends.Ended (r.1 ∙ ap (λ (k : ℕ). k + 1) e), sym (ap (λ (s : State). s.image) r.2.ends_at) ∙ ap (λ (k : ℕ). (turn_after [] program (opening image) k).1.image) e ∙ last_image)
+      let e : r.0 ≡ n = stops_last limit r.0 Ended after (λ z. cc) r.2 in (
+        ap ends.Ended (r.1 ∙ ap (λ (k : ℕ). k + 1) e),
+        sym (ap (λ (s : State). s.image) r.2.ends_at)
+            ∙ ap (λ (k : ℕ). (turn_after [] program (opening image) k).1.image) e ∙ last_image,
+      )
   decides limit (ends.Waiting x) after enough r =
       let e : r.0 ≡ n = stops_last limit r.0 (Waiting x) after (λ z. cc) r.1 in
       let f : Ended ≡ Waiting x = sym last ∙ ap (λ (k : ℕ). (turn_after [] program (opening image) k).0) (sym e) ∙ r.1.answer in

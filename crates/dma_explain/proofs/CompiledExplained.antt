@@ -1,41 +1,27 @@
 -- From any registers and on each bus a transfer explains its program that was compiled for that bus, which has its
 -- events.
-use Rattle.std.proofs.Common.{◌≡◌, ℕ, zero, suc, ◌+◌, ◌-◌, ◌≤◌, ◌<◌, List, [], ◌++◌, append-nil, length, take, refl, sym, ap, ◌∙◌, subst, arith, Ok, ◌≢◌, Bool, true, false, cond, ◌&&◌, Option, Some, None, inl, inr}
-use Rattle.std.specs.Prelude.{IfSome, nat_lt}
-use Rattle.std.specs.List.{AllPairs}
-use Rattle.std.proofs.lemmas.Bool.{cases_lt, le-ltb}
-use Rattle.std.proofs.lemmas.List.{length-take-le, take_all}
-use Rattle.std.proofs.Math.Seq.{take-add}
+use Rattle.std.proofs.Common.{◌≡◌, ℕ, zero, suc, ◌+◌, ◌-◌, ◌≤◌, ◌<◌, List, [], ◌++◌, append-nil, length, take, refl, sym, ap, ◌∙◌, subst, arith, Ok, ◌≢◌, Bool}
+use Rattle.std.proofs.Common.{true, false, cond, ◌&&◌, Option, Some, None, inl, inr}
+use Rattle.std.specs.{Prelude.IfSome, Prelude.nat_lt, List.AllPairs}
+use Rattle.std.proofs.{lemmas.Bool.cases_lt, lemmas.Bool.le-ltb, lemmas.List.length-take-le, lemmas.List.take_all, Math.Seq.take-add}
 use Rattle.dma_insn.specs.declared.insn.Reg.TheVariants.{Sar, Dar, Ccr}
 use Rattle.dma_insn.specs.declared.chip.ChipInsn.{ChipInsn}
 use Rattle.dma_insn.specs.declared.chip.ChipInsn.TheVariants.{Mov, Ld, St, End, LpEnd, Sev, Wfe, StoreZeros, AddHalfword, LoopAgain}
-use Rattle.dma_mem.specs.Places.{Apart, Descriptor, sources, destinations, size_of}
-use Rattle.dma_mem.specs.Rules.{IsTransfer}
-use Rattle.dma_chan.specs.declared.bus.Bus.{Bus}
-use Rattle.dma_chan.specs.declared.bus.Bus.TheVariants.{Ideal}
-use Rattle.dma_chan.specs.declared.exec.Registers.{Registers}
-use Rattle.dma_explain.specs.declared.explain.Cause.TheVariants.{Fails, LoadsPast, StoresPast, StoresFixed}
+use Rattle.dma_mem.specs.{Places.Apart, Places.Descriptor, Places.sources, Places.destinations, Places.size_of, Rules.IsTransfer}
 use Rattle.dma_chan.specs.declared.turn.FaultKind.TheVariants.{OperandInvalid, MfifoErr, StDataUnavailable, InstrFetchErr}
-use Rattle.dma_chan.specs.Bursts.{burst_len, touched}
-use Rattle.dma_chan.specs.Bus.{accepts}
 use Rattle.dma_chan.specs.Compiled.{compiled, compiled_on, cost, cost_on, members_on, tree_on}
 use Rattle.dma_chan.specs.Exec.{begun, buffer_size, start_on, counter_of, source_of, destination_of, moved}
+use Rattle.dma_chan.specs.{declared.bus.Bus.Bus, declared.bus.Bus.TheVariants.Ideal, declared.exec.Registers.Registers, Bursts.burst_len, Bursts.touched}
+use Rattle.dma_chan.specs.{Bus.accepts, Next.next_of, Tree.bytes_of, Traffic.read_len, Traffic.write_len, inner.At.moved_by}
+use Rattle.dma_explain.specs.declared.explain.Cause.TheVariants.{Fails, LoadsPast, StoresPast, StoresFixed}
 use Rattle.dma_explain.specs.OnBuses.{CompiledEvents, CompiledExplained, CompiledOnBus}
-use Rattle.dma_explain.specs.Explains.{GoesOn, IsWork, Trace, all_of, amounts_of, held, only, passes, written, stop_of, stop_of_insn, stop_of_mov, after_fetch, after_insn, next_in, traced, untraced}
-use Rattle.dma_chan.specs.Next.{next_of}
-use Rattle.dma_chan.proofs.NextFits.{next_widens}
-use Rattle.dma_chan.specs.Tree.{bytes_of}
-use Rattle.dma_chan.specs.Traffic.{read_len, write_len}
-use Rattle.dma_chan.specs.inner.At.{moved_by}
-use Rattle.dma_chan.proofs.BurstsInTurn.{Progress, advanced, CarriesOne}
-use Rattle.dma_chan.proofs.ControlWords.{aligned_len, touched_from}
-use Rattle.dma_explain.proofs.GoingOn.{ends_low, mov_empty, passed}
-use Rattle.dma_chan.proofs.MemberActs.{cannot_jump}
+use Rattle.dma_explain.specs.Explains.{GoesOn, IsWork, Trace, all_of, amounts_of, held, only, passes, written, stop_of, stop_of_insn, stop_of_mov, after_fetch}
+use Rattle.dma_explain.specs.Explains.{after_insn, next_in, traced, untraced}
 use Rattle.dma_chan.proofs.MembersByNumber.{at_on, begin_on, bus_on, carries_on, fetches_on, member_on, next_on, registers_on}
 use Rattle.dma_chan.proofs.ShapeLaws.{all_stored, end_last, end_only, signal_last, signal_only, wait_first, wait_only}
-use Rattle.dma_explain.proofs.TraceParts.{same_amounts}
-use Rattle.dma_chan.proofs.TreeCosts.{cost_below, some_on}
-use Rattle.dma_chan.proofs.TreeWalk.{CanJump}
+use Rattle.dma_chan.proofs.{NextFits.next_widens, BurstsInTurn.Progress, BurstsInTurn.advanced, BurstsInTurn.CarriesOne, ControlWords.aligned_len}
+use Rattle.dma_chan.proofs.{ControlWords.touched_from, MemberActs.cannot_jump, TreeCosts.cost_below, TreeCosts.some_on, TreeWalk.CanJump}
+use Rattle.dma_explain.proofs.{GoingOn.ends_low, GoingOn.mov_empty, GoingOn.passed, TraceParts.same_amounts}
 
 -- a trace of a part of a copy, by the bytes stored and those in the buffer
 pub record Traces (src dst : List ℕ) (p : Progress) (x : Trace) : Type 0 where
@@ -107,7 +93,8 @@ module _ (bus : Bus) (src dst : List ℕ) (p : Progress) (x : Trace) (full : hel
   passes_on Ld ne c j =
       let b = source_of p.registers in
       let len : burst_len b ≡ read_len p.registers.ccr = aligned_len p.registers.bus 0 p.registers.sar p.registers.ccr c.aligned in
-      passed (nat_lt buffer_size (held here + burst_len b)) (Fails MfifoErr) _ (le-ltb buffer_size (held here + burst_len b) (omega (arith, full, len, c.room, c.empty)))
+      passed (nat_lt buffer_size (held here + burst_len b)) (Fails MfifoErr) _
+      (le-ltb buffer_size (held here + burst_len b) (omega (arith, full, len, c.room, c.empty)))
       (passed (passes b) LoadsPast None (ends_low b c.ends) refl)
   passes_on St ne c j =
       let b = destination_of p.registers in
@@ -148,7 +135,8 @@ module _ (start : Registers) (t : Descriptor) (h : IsTransfer t) where
       ∙ (fetches_on start t k h l).next)
 
   pub along : (k : ℕ) → k < cost_on start.bus t → TracesAt k
-  along zero l = subst (λ (p : Progress). Traces (sources t) (destinations t) p (untraced start)) (sym (begin_on start t)) (record { registers = refl; loads = refl; stores = refl; zeros = refl; in_src = omega arith; in_dst = omega arith })
+  along zero l = subst (λ (p : Progress). Traces (sources t) (destinations t) p (untraced start)) (sym (begin_on start t))
+      (record { registers = refl; loads = refl; stores = refl; zeros = refl; in_src = omega arith; in_dst = omega arith })
   along (suc k) l =
       let less : k < cost_on start.bus t = omega arith in
       let w = along k less in
@@ -183,7 +171,8 @@ module _ (start : Registers) (t : Descriptor) (h : IsTransfer t) where
             omega (arith, end_only start.bus t k less is),
         subst (λ next. stop_of next x ≡ None) (sym (fetched k less))
             (subst (λ (r : Registers). stop_of_insn (member_on start.bus t k) (record x { registers = r }) ≡ None) (sym w.registers)
-            (passes_on start.bus (sources t) (destinations t) p x (held_at k less) (bus_on start t k) (member_on start.bus t k) (λ e. let last = end_only start.bus t k less e in omega (arith, last)) (carries_on start t k h less) jump)),
+            (passes_on start.bus (sources t) (destinations t) p x (held_at k less) (bus_on start t k) (member_on start.bus t k)
+            (λ e. let last = end_only start.bus t k less e in omega (arith, last)) (carries_on start t k h less) jump)),
       )
 
   -- the first instruction waits, and the last before DMAEND signals
@@ -196,7 +185,8 @@ module _ (start : Registers) (t : Descriptor) (h : IsTransfer t) where
       let less : k < cost_on start.bus t = omega (arith, last) in
       let still : (at_on start t (k + 1)).stored ≡ (at_on start t k).stored =
       ap (λ (p : Progress). p.stored) (next_on start t k less) ∙ ap (λ (i : ChipInsn). (advanced i (at_on start t k)).stored) is in
-      let all : length (traced start program k).stores ≡ size_of t = stored_at k less ∙ sym still ∙ ap (λ (n : ℕ). (at_on start t n).stored) next_last ∙ all_stored start t h in
+      let all : length (traced start program k).stores ≡ size_of t = stored_at k less ∙ sym still ∙ ap (λ (n : ℕ). (at_on start t n).stored) next_last
+      ∙ all_stored start t h in
       same_amounts all (ap length (along k less).zeros)
 
 -- a copy alone does nothing else
@@ -247,7 +237,8 @@ compiled_events start t h = record {
             absurd (cc)
       ];
   has_signal = λ e known.
-      let last = subst (λ (o : Option ℕ). IfSome o (λ v. (2 ≤ cost_on start.bus t) × (member_on start.bus t (cost_on start.bus t - 2) ≡ Sev v))) known (signal_last start.bus t) in
+      let last = subst (λ (o : Option ℕ). IfSome o (λ v. (2 ≤ cost_on start.bus t) × (member_on start.bus t (cost_on start.bus t - 2) ≡ Sev v))) known
+      (signal_last start.bus t) in
       record {
         step = cost_on start.bus t - 2;
         within = omega (arith, last.0);

@@ -1,34 +1,26 @@
 -- The run that explains a program, turn after turn.
-use Rattle.std.proofs.Common.{◌≡◌, ◌≢◌, ℕ, suc, ◌+◌, ◌-◌, ◌≤◌, ◌<◌, Bool, true, false, cond, List, ◌++◌, length, length-append, Option, Some, None, Result, Ok, refl, sym, ap, ◌∙◌, subst, arith, inl, inr}
-use Rattle.std.specs.Prelude.{nat_lt}
-use Rattle.std.specs.List.{AllPairs}
+use Rattle.std.proofs.Common.{◌≡◌, ◌≢◌, ℕ, suc, ◌+◌, ◌-◌, ◌≤◌, ◌<◌, Bool, true, false, cond, List, ◌++◌, length, length-append, Option, Some, None, Result, Ok}
+use Rattle.std.proofs.Common.{refl, sym, ap, ◌∙◌, subst, arith, inl, inr}
+use Rattle.std.specs.{Prelude.nat_lt, List.AllPairs}
 use Rattle.std.proofs.lemmas.Bool.{cases_lt, le-ltb, ltb-false}
-use Rattle.dma_insn.specs.Chip.{spelling}
-use Rattle.dma_insn.specs.declared.chip.ChipInsn.{ChipInsn}
-use Rattle.dma_insn.specs.declared.chip.Address.TheVariants.{Destination}
 use Rattle.dma_insn.specs.declared.chip.ChipInsn.TheVariants.{Mov, Ld, St, End, LpEnd, StoreZeros, AddHalfword, LoopAgain}
 use Rattle.dma_insn.specs.declared.insn.Reg.TheVariants.{Ccr, Dar}
+use Rattle.dma_insn.specs.{Chip.spelling, declared.chip.ChipInsn.ChipInsn, declared.chip.Address.TheVariants.Destination}
 use Rattle.dma_mem.specs.Places.{Apart, copying, destinations, places, share, sources}
 use Rattle.dma_mem.proofs.SharedPlaces.{share_false, share_none}
-use Rattle.dma_chan.specs.declared.exec.Registers.{Registers}
-use Rattle.dma_explain.specs.declared.explain.Amounts.{Amounts}
-use Rattle.dma_explain.specs.declared.explain.BurstCounts.{BurstCounts}
-use Rattle.dma_explain.specs.declared.explain.Cause.{Cause}
-use Rattle.dma_explain.specs.declared.explain.Cause.TheVariants.{Fails, LoadsPast, StoresPast, StoresFixed, DropsBytes, BytesLeft, StoresSource, StoresTwice, TooLong}
-use Rattle.dma_explain.specs.declared.explain.Explained.{Explained}
-use Rattle.dma_explain.specs.declared.explain.Happening.{Happening}
-use Rattle.dma_explain.specs.declared.explain.tracer.Tracer.{Tracer}
-use Rattle.dma_chan.specs.declared.turn.FaultKind.{FaultKind}
 use Rattle.dma_chan.specs.declared.turn.FaultKind.TheVariants.{OperandInvalid, MfifoErr, StDataUnavailable, InstrFetchErr}
-use Rattle.dma_chan.specs.Channel.{last_count}
-use Rattle.dma_explain.specs.Explains.{ExplainedOnce, Explains, Finds, FoundOnce, GoesOn, HasAddress, IsWork, RefusedUnexplained, Refuses, StopsAt, Trace, Work, after_fetch, after_insn, all_of, amounts_of, bursts_in, cleared, counted, events_in, happening_of, has_twice, held, items_in, items_of, next_in, stop_of, stop_of_insn, stop_of_lists, traced, unrolled, work_of, written, written_in}
+use Rattle.dma_chan.specs.{declared.exec.Registers.Registers, declared.turn.FaultKind.FaultKind, Channel.last_count, Next.next_on}
+use Rattle.dma_explain.specs.declared.explain.Cause.TheVariants.{Fails, LoadsPast, StoresPast, StoresFixed, DropsBytes, BytesLeft, StoresSource, StoresTwice}
+use Rattle.dma_explain.specs.declared.explain.Cause.TheVariants.{TooLong}
+use Rattle.dma_explain.specs.Explains.{ExplainedOnce, Explains, Finds, FoundOnce, GoesOn, HasAddress, IsWork, RefusedUnexplained, Refuses, StopsAt, Trace, Work}
+use Rattle.dma_explain.specs.Explains.{after_fetch, after_insn, all_of, amounts_of, bursts_in, cleared, counted, events_in, happening_of, has_twice, held}
+use Rattle.dma_explain.specs.Explains.{items_in, items_of, next_in, stop_of, stop_of_insn, stop_of_lists, traced, unrolled, work_of, written, written_in}
 use Rattle.dma_explain.specs.Items.{Items, with_burst}
-use Rattle.dma_chan.specs.Next.{next_on}
 use Rattle.dma_explain.specs.inner.Tracing.{Advances, AreItems, CountsOf, Follows, IsCopied, IsNew, Leads, Reaches, lists_of, total_of, trace_of}
-use Rattle.dma_explain.proofs.GoingOn.{none_first, passed}
+use Rattle.dma_explain.specs.{declared.explain.Amounts.Amounts, declared.explain.BurstCounts.BurstCounts, declared.explain.Cause.Cause}
+use Rattle.dma_explain.specs.{declared.explain.Explained.Explained, declared.explain.Happening.Happening, declared.explain.tracer.Tracer.Tracer}
+use Rattle.dma_explain.proofs.{GoingOn.none_first, GoingOn.passed, TraceParts.same_lists, LowestPlaces.none_twice, LowestPlaces.once_of}
 use Rattle.dma_chan.proofs.NextFits.{next_fits}
-use Rattle.dma_explain.proofs.TraceParts.{same_lists}
-use Rattle.dma_explain.proofs.LowestPlaces.{none_twice, once_of}
 
 -- ---- turn after turn
 
@@ -45,11 +37,15 @@ follows_new start program x h =
           (omega (arith, ap (λ (b : BurstCounts). b.loads) h.bursts), omega (arith, ap (λ (b : BurstCounts). b.stores) h.bursts));
     }
 
-next_here : (start : Registers) (program : List ℕ) (n : ℕ) (x : Tracer) (r : Result ChipInsn FaultKind) → Follows start program n x → r ≡ next_on x.registers.bus program x.registers.pc → next_in program (traced start program n) ≡ r
+next_here : (start : Registers) (program : List ℕ) (n : ℕ) (x : Tracer) (r : Result ChipInsn FaultKind) → Follows start program n x
+    → r ≡ next_on x.registers.bus program x.registers.pc → next_in program (traced start program n) ≡ r
 next_here start program n x r w e = ap (λ (y : Trace). next_on y.registers.bus program y.registers.pc) (sym w.reaches.trace) ∙ sym e
 
 -- one more instruction
-pub reaches_on : (start : Registers) (program : List ℕ) (n : ℕ) (z : Trace) (events : List Happening) (items : Items) (bursts : BurstCounts) (i : ChipInsn) → Reaches start program n z events items bursts → next_in program z ≡ Ok i → i ≢ End → stop_of_insn i z ≡ None → Reaches start program (n + 1) (after_insn i z) (events ++ happening_of (Ok i) (amounts_of z)) (with_burst (Ok i) z.registers items) (counted (Ok i) bursts)
+pub reaches_on : (start : Registers) (program : List ℕ) (n : ℕ) (z : Trace) (events : List Happening) (items : Items) (bursts : BurstCounts) (i : ChipInsn)
+    → Reaches start program n z events items bursts → next_in program z ≡ Ok i → i ≢ End → stop_of_insn i z ≡ None
+    → Reaches start program (n + 1) (after_insn i z) (events ++ happening_of (Ok i) (amounts_of z)) (with_burst (Ok i) z.registers items)
+    (counted (Ok i) bursts)
 reaches_on start program n z events items bursts i w e other stops =
     let here = traced start program n in
     let next : next_in program here ≡ Ok i = ap (next_in program) (sym w.trace) ∙ e in
@@ -83,7 +79,9 @@ reaches_on start program n z events items bursts i w e other stops =
           ∙ ap (bursts_in start program) (sym number);
     }
 
-pub follows_on : (program : List ℕ) (x y : Tracer) (bursts : BurstCounts) (i : ChipInsn) → Ok i ≡ next_on x.registers.bus program x.registers.pc → i ≢ End → Advances i x y → y.registers.pc ≤ x.registers.pc + length (spelling i) → total_of y ≤ total_of x + 256 → bursts ≡ counted (Ok i) x.bursts → ((n : ℕ) → CountsOf n x.bursts → CountsOf (n + 1) bursts) → Leads program 1 x (record y { bursts = bursts })
+pub follows_on : (program : List ℕ) (x y : Tracer) (bursts : BurstCounts) (i : ChipInsn) → Ok i ≡ next_on x.registers.bus program x.registers.pc → i ≢ End
+    → Advances i x y → y.registers.pc ≤ x.registers.pc + length (spelling i) → total_of y ≤ total_of x + 256 → bursts ≡ counted (Ok i) x.bursts
+    → ((n : ℕ) → CountsOf n x.bursts → CountsOf (n + 1) bursts) → Leads program 1 x (record y { bursts = bursts })
 follows_on program x y bursts i e other a jump more count few start n w =
     let fits = next_fits x.registers.bus program x.registers.pc i w.pc (sym e) in
     let on = reaches_on start program n (trace_of x) x.events.items (lists_of x) x.bursts i w.reaches (sym e) other a.goes in
@@ -95,7 +93,14 @@ follows_on program x y bursts i e other a jump more count few start n w =
         done = a.tracer.done;
         items = a.tracer.items;
       };
-      reaches = record { trace = a.trace ∙ on.trace; goes = on.goes; events_are = a.events ∙ on.events_are; items_are = a.lists ∙ on.items_are; bursts_are = count ∙ on.bursts_are };
+      reaches = record {
+        trace = a.trace ∙ on.trace;
+        goes = on.goes;
+        events_are = a.events ∙ on.events_are;
+        items_are = a.lists ∙ on.items_are;
+        bursts_are =
+            count ∙ on.bursts_are;
+      };
       pc = omega (arith, fits, jump);
       stored = omega (arith, w.stored, more);
       counts = few n w.counts;
@@ -127,10 +132,14 @@ ends w z work loads stores zeros =
     let to = written w in
     let empty : held z ≤ 0 = omega (arith, work.same_length, ap length loads, ap length stores) in
     let writes : written_in z ≡ to = ap (λ (xs : List ℕ). xs ++ z.zeros) stores ∙ ap (λ (xs : List ℕ). destinations w.copy ++ xs) zeros in
-    let lists : stop_of_lists from to ≡ None = passed (has_twice to) StoresTwice _ (none_twice to work.once) (passed (share from to) StoresSource None (share_none from to work.apart) refl) in
-    passed (nat_lt 0 (held z)) BytesLeft _ (le-ltb 0 (held z) empty) (ap (λ (xs : List ℕ). stop_of_lists xs (written_in z)) loads ∙ ap (stop_of_lists from) writes ∙ lists)
+    let lists : stop_of_lists from to ≡ None =
+    passed (has_twice to) StoresTwice _ (none_twice to work.once) (passed (share from to) StoresSource None (share_none from to work.apart) refl) in
+    passed (nat_lt 0 (held z)) BytesLeft _ (le-ltb 0 (held z) empty)
+    (ap (λ (xs : List ℕ). stop_of_lists xs (written_in z)) loads ∙ ap (stop_of_lists from) writes ∙ lists)
 
-pub finds : (start : Registers) (program : List ℕ) (n count : ℕ) (x : Tracer) (y : Explained) → Follows start program n x → Ok End ≡ next_on x.registers.bus program x.registers.pc → n < last_count → (most : ℕ) → n < most → count ≡ n + 1 → IsCopied x count y → Finds start program most y
+pub finds : (start : Registers) (program : List ℕ) (n count : ℕ) (x : Tracer) (y : Explained) → Follows start program n x
+    → Ok End ≡ next_on x.registers.bus program x.registers.pc → n < last_count → (most : ℕ) → n < most → count ≡ n + 1 → IsCopied x count y
+    → Finds start program most y
 finds start program n count x y w e few most less is c =
     let work : Work = record { copy = copying (unrolled x.src.items) x.dst.items None None; zeros = x.zeros.items } in
     let same : work ≡ work_of y =
@@ -166,7 +175,8 @@ finds start program n count x y w e few most less is c =
     }
 
 -- the counts of a run to DMAEND are those of the instructions before it
-pub counts_bursts : (start : Registers) (program : List ℕ) (n count : ℕ) (x : Tracer) (y : Explained) → Follows start program n x → count ≡ n + 1 → IsCopied x count y → y.bursts ≡ bursts_in start program (y.steps - 1)
+pub counts_bursts : (start : Registers) (program : List ℕ) (n count : ℕ) (x : Tracer) (y : Explained) → Follows start program n x → count ≡ n + 1
+    → IsCopied x count y → y.bursts ≡ bursts_in start program (y.steps - 1)
 counts_bursts start program n count x y w is c =
     let before : n ≡ y.steps - 1 = omega (arith, c.steps, is) in
     c.bursts ∙ w.reaches.bursts_are ∙ ap (bursts_in start program) before
@@ -174,12 +184,15 @@ counts_bursts start program n count x y w is c =
 -- ---- refusals
 
 -- why a program stops at its next instruction
-pub stops_here : (start : Registers) (program : List ℕ) (most n : ℕ) (x : Tracer) (r : Result ChipInsn FaultKind) (cause : Cause) → Follows start program n x → r ≡ next_on x.registers.bus program x.registers.pc → n < most → stop_of r (trace_of x) ≡ Some cause → StopsAt start program most n cause
+pub stops_here : (start : Registers) (program : List ℕ) (most n : ℕ) (x : Tracer) (r : Result ChipInsn FaultKind) (cause : Cause) → Follows start program n x
+    → r ≡ next_on x.registers.bus program x.registers.pc → n < most → stop_of r (trace_of x) ≡ Some cause → StopsAt start program most n cause
 stops_here start program most n x r cause w e less stop =
     inl (less, ap (λ q. stop_of q (traced start program n)) (next_here start program n x r w e) ∙ ap (stop_of r) (sym w.reaches.trace) ∙ stop)
 
 -- a refusal has the place of its tracer
-pub refuses : (start : Registers) (program : List ℕ) (most n : ℕ) (x : Tracer) (cause : Cause) (a stored : ℕ) → Follows start program n x → StopsAt start program most n cause → HasAddress cause (places (unrolled x.src.items)) (written_in (trace_of x)) a → stored ≡ total_of x → Refuses start program most (record { cause = cause; pc = x.registers.pc; steps = n; addr = a; stored = stored })
+pub refuses : (start : Registers) (program : List ℕ) (most n : ℕ) (x : Tracer) (cause : Cause) (a stored : ℕ) → Follows start program n x
+    → StopsAt start program most n cause → HasAddress cause (places (unrolled x.src.items)) (written_in (trace_of x)) a → stored ≡ total_of x
+    → Refuses start program most (record { cause = cause; pc = x.registers.pc; steps = n; addr = a; stored = stored })
 refuses start program most n x cause a stored w stops has total =
     let at = w.reaches.trace in
     let done = w.tracer.done in
@@ -189,7 +202,15 @@ refuses start program most n x cause a stored w stops has total =
       stops = stops;
       addr = subst (λ (z : Trace). HasAddress cause z.loads (written_in z) a) at has;
       stored =
-          let all : stored ≡ length (written_in (trace_of x)) = omega (arith, total, ap (λ (d : Amounts). d.copied) done, ap (λ (d : Amounts). d.cleared) done, length-append (trace_of x).stores (trace_of x).zeros) in
+          let all : stored ≡ length (written_in (trace_of x)) =
+          omega (
+            arith,
+            total,
+            ap (λ (d : Amounts). d.copied) done,
+            ap (λ (d : Amounts). d.cleared) done,
+            length-append (trace_of x).stores
+                (trace_of x).zeros,
+          ) in
           all ∙ ap (λ (z : Trace). length (written_in z)) at;
     }
 
@@ -270,7 +291,8 @@ refused_unexplained start program most u r w n l h =
               | inl sooner ↦ let bad : None ≡ Some u.cause = sym (h.goes u.steps sooner).1 ∙ at in cc
               | inr le ↦
                   let same : n ≡ u.steps = omega arith in
-                  let bad : None ≡ Some u.cause = sym none ∙ ap (λ (k : ℕ). stop_of (next_in program (traced start program k)) (traced start program k)) same ∙ at in
+                  let bad : None ≡ Some u.cause = sym none ∙ ap (λ (k : ℕ). stop_of (next_in program (traced start program k)) (traced start program k)) same
+                  ∙ at in
                   cc
             ]
       ]

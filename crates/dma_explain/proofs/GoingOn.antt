@@ -1,23 +1,18 @@
 -- What it means that an instruction goes on.
-use Rattle.std.proofs.Common.{◌≡◌, ◌≢◌, ℕ, zero, suc, ◌+◌, ◌≤◌, ◌<◌, Bool, true, false, cond, ◌&&◌, List, length, Option, Some, None, Result, Ok, Err, refl, ap, ◌∙◌, arith, length-append}
+use Rattle.std.proofs.Common.{◌≡◌, ◌≢◌, ℕ, zero, suc, ◌+◌, ◌≤◌, ◌<◌, Bool, true, false, cond, ◌&&◌, List, length, Option, Some, None, Result, Ok, Err, refl, ap}
+use Rattle.std.proofs.Common.{◌∙◌, arith, length-append}
 use Rattle.std.specs.Prelude.{nat_lt}
-use Rattle.std.proofs.lemmas.Bool.{le-ltb, ltb-false}
-use Rattle.std.proofs.lemmas.Bool.Decides.{nat_tests}
-use Rattle.std.proofs.lemmas.List.FromFn.{length-range_with_len}
-use Rattle.dma_insn.specs.declared.chip.ChipInsn.{ChipInsn}
+use Rattle.std.proofs.{lemmas.Bool.le-ltb, lemmas.Bool.ltb-false, lemmas.Bool.Decides.nat_tests, lemmas.List.FromFn.length-range_with_len}
 use Rattle.dma_insn.specs.declared.chip.ChipInsn.TheVariants.{Mov, Ld, St, End, LpEnd, StoreZeros, AddHalfword, LoopAgain}
-use Rattle.dma_insn.specs.declared.chip.Address.TheVariants.{Destination}
 use Rattle.dma_insn.specs.declared.insn.Reg.TheVariants.{Ccr, Dar}
+use Rattle.dma_insn.specs.{declared.chip.ChipInsn.ChipInsn, declared.chip.Address.TheVariants.Destination}
 use Rattle.dma_mem.specs.Places.{end_of_addresses}
-use Rattle.dma_chan.specs.declared.bursts.Burst.{Burst}
-use Rattle.dma_chan.specs.declared.exec.Registers.{Registers}
-use Rattle.dma_explain.specs.declared.explain.Cause.{Cause}
-use Rattle.dma_explain.specs.declared.explain.Cause.TheVariants.{Fails, StoresPast, StoresFixed, DropsBytes}
-use Rattle.dma_chan.specs.declared.turn.FaultKind.{FaultKind}
 use Rattle.dma_chan.specs.declared.turn.FaultKind.TheVariants.{OperandInvalid, MfifoErr, StDataUnavailable, InstrFetchErr}
 use Rattle.dma_chan.specs.Bursts.{burst_len, drops, span_of, touched}
-use Rattle.dma_chan.specs.Bus.{accepts}
 use Rattle.dma_chan.specs.Exec.{buffer_size, counter_of, destination_of, moved, source_of}
+use Rattle.dma_chan.specs.{declared.bursts.Burst.Burst, declared.exec.Registers.Registers, declared.turn.FaultKind.FaultKind, Bus.accepts}
+use Rattle.dma_explain.specs.declared.explain.Cause.{Cause}
+use Rattle.dma_explain.specs.declared.explain.Cause.TheVariants.{Fails, StoresPast, StoresFixed, DropsBytes}
 use Rattle.dma_explain.specs.Explains.{GoesOn, Trace, after_fetch, after_insn, held, next_in, passes, stop_of_insn, stop_of_mov, traced}
 use Rattle.dma_chan.proofs.ControlWords.{touched_up}
 
@@ -47,7 +42,8 @@ dropped i x =
 pub mov_empty : (i : ChipInsn) (x : Trace) → held x ≡ 0 → stop_of_mov i x ≡ None
 mov_empty i x e =
     let r = x.registers in
-    passed (dropped i x) DropsBytes None (ap (λ (b : Bool). b && drops r.bus (destination_of r) (destination_of (moved i r))) (le-ltb 0 (held x) (omega (arith, e)))) refl
+    passed (dropped i x) DropsBytes None
+    (ap (λ (b : Bool). b && drops r.bus (destination_of r) (destination_of (moved i r))) (le-ltb 0 (held x) (omega (arith, e)))) refl
 
 -- a burst that ends at or below the last address
 pub ends_low : (b : Burst) → b.addr + span_of b ≤ end_of_addresses → passes b ≡ false
@@ -97,7 +93,8 @@ can (Mov Ccr w) x few ne e =
 can (AddHalfword Destination half negative) x few ne e =
     (none_first (dropped (AddHalfword Destination half negative) x) DropsBytes None e).0
 can (LpEnd c back) x few ne e =
-    no_jump (counter_of c x.registers) x.registers.pc back (none_first (nat_lt 0 (counter_of c x.registers) && nat_lt x.registers.pc back) (Fails InstrFetchErr) None e).0
+    no_jump (counter_of c x.registers) x.registers.pc back
+    (none_first (nat_lt 0 (counter_of c x.registers) && nat_lt x.registers.pc back) (Fails InstrFetchErr) None e).0
 can End x few ne e = absurd (ne refl)
 can StoreZeros x few ne e =
     let b = destination_of x.registers in (none_second b.increments StoresFixed None (none_first (passes b) StoresPast _ e).1).0
@@ -116,7 +113,8 @@ few_next : (r : Result ChipInsn FaultKind) (x : Trace) → Few x → GoesOn r x 
 few_next (Ok i) x few go = few_insn i x few (can_next i x few go)
 few_next (Err kind) x few go = absurd (let bad = go.1 in cc)
 
-pub few_at : (start : Registers) (program : List ℕ) (k : ℕ) → ((j : ℕ) → j < k → GoesOn (next_in program (traced start program j)) (traced start program j)) → Few (traced start program k)
+pub few_at : (start : Registers) (program : List ℕ) (k : ℕ) → ((j : ℕ) → j < k → GoesOn (next_in program (traced start program j)) (traced start program j))
+    → Few (traced start program k)
 few_at start program zero goes = omega arith
 few_at start program (suc k) goes =
     let x = traced start program k in

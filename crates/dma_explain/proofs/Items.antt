@@ -1,17 +1,13 @@
 -- Lists of items, to whose ends items are joined.
-use Rattle.std.proofs.Common.{All, ◌≡◌, ℕ, zero, suc, ◌+◌, ◌^◌, ◌≤◌, ◌<◌, ◌⊎◌, Bool, true, false, cond, List, [], ◌∷◌, ◌++◌, length, take, get_or, set, Option, Some, None, refl, sym, ap, ◌∙◌, subst, arith, append-nil, append_assoc, inl, inr}
-use Rattle.std.specs.Prelude.{replicate, ◌==◌, ◌&&◌}
-use Rattle.std.specs.List.{flat_map, range_with_len}
-use Rattle.std.specs.Option.{option_map_or}
+use Rattle.std.proofs.Common.{All, ◌≡◌, ℕ, zero, suc, ◌+◌, ◌^◌, ◌≤◌, ◌<◌, ◌⊎◌, Bool, true, false, cond, List, [], ◌∷◌, ◌++◌, length, take, get_or, set, Option}
+use Rattle.std.proofs.Common.{Some, None, refl, sym, ap, ◌∙◌, subst, arith, append-nil, append_assoc, inl, inr}
+use Rattle.std.specs.{Prelude.replicate, Prelude.◌==◌, Prelude.◌&&◌, List.flat_map, List.range_with_len, Option.option_map_or}
 use Rattle.std.proofs.lemmas.Bool.{and_from, and_parts, both_ways, cases_Bool, cond-false, cond-true, eq-eqb, eqb-true, lt-ltb, ltb-true}
 use Rattle.std.proofs.lemmas.List.{length-set, take_all, take_more_set}
 use Rattle.std.proofs.lemmas.List.Elements.{All-cons, All-head, All-nil, All-tail}
-use Rattle.dma_mem.specs.declared.segment.Segment.{Segment}
-use Rattle.dma_mem.specs.Places.{places, range_of}
-use Rattle.dma_explain.specs.declared.explain.Repeated.{Repeated}
-use Rattle.dma_explain.specs.Explains.{IsRead, IsRun, unrolled}
+use Rattle.dma_mem.specs.{declared.segment.Segment.Segment, Places.places, Places.range_of}
 use Rattle.dma_explain.specs.Items.{NoneJoin, Items, goes_on, is_again, join_first, join_read, join_run, with_item}
-use Rattle.dma_explain.specs.inner.Tracing.{AreItems}
+use Rattle.dma_explain.specs.{declared.explain.Repeated.Repeated, Explains.IsRead, Explains.IsRun, Explains.unrolled, inner.Tracing.AreItems}
 use Rattle.dma_chan.proofs.CutPlaces.{range_add}
 use Rattle.dma_explain.proofs.LowestPlaces.{read_again, reads, unrolled_reads}
 
@@ -30,13 +26,15 @@ module _ {A : Type 0} (join : A → A → Option A) where
   first_item (x ∷ xs) r none = absurd (omega (arith, none))
 
   -- an item that is joined to the last of n + 1 items takes its place
-  pub joins_at : (xs : List A) (n : ℕ) (d r all : A) → n < length xs → join (get_or xs n d) r ≡ Some all → with_item join (take (suc n) xs) r ≡ with_item join (take n xs) all
+  pub joins_at : (xs : List A) (n : ℕ) (d r all : A) → n < length xs → join (get_or xs n d) r ≡ Some all
+      → with_item join (take (suc n) xs) r ≡ with_item join (take n xs) all
   joins_at [] n d r all within e = absurd (omega (arith, within))
   joins_at (x ∷ xs) zero d r all within e = first_joined x r all [] e
   joins_at (x ∷ xs) (suc n) d r all within e = ap (join_first join x) (joins_at xs n d r all (omega (arith, within)) e)
 
   -- one that can't be joined to it follows it
-  pub ends_at : (xs : List A) (n : ℕ) (d r : A) → n < length xs → join (get_or xs n d) r ≡ None → NoneJoin join xs → with_item join (take (suc n) xs) r ≡ take (suc n) xs ++ r ∷ []
+  pub ends_at : (xs : List A) (n : ℕ) (d r : A) → n < length xs → join (get_or xs n d) r ≡ None → NoneJoin join xs
+      → with_item join (take (suc n) xs) r ≡ take (suc n) xs ++ r ∷ []
   ends_at [] n d r within e apart = absurd (omega (arith, within))
   ends_at (x ∷ xs) zero d r within e apart = first_apart x r [] e
   ends_at (x ∷ []) (suc n) d r within e apart = absurd (omega (arith, within))
@@ -44,7 +42,8 @@ module _ {A : Type 0} (join : A → A → Option A) where
       ap (join_first join x) (ends_at (y ∷ xs) n d r (omega (arith, within)) e apart.1) ∙ first_apart x y (take n xs ++ r ∷ []) apart.0
 
   -- an item that can't be joined to item n - 1 follows it
-  pub settles : (xs : List A) (n : ℕ) (d all : A) → n < length xs → NoneJoin join xs → ((m : ℕ) → n ≡ suc m → join (get_or xs m d) all ≡ None) → with_item join (take n xs) all ≡ take n xs ++ all ∷ []
+  pub settles : (xs : List A) (n : ℕ) (d all : A) → n < length xs → NoneJoin join xs → ((m : ℕ) → n ≡ suc m → join (get_or xs m d) all ≡ None)
+      → with_item join (take n xs) all ≡ take n xs ++ all ∷ []
   settles xs zero d all within apart none = refl
   settles xs (suc m) d all within apart none = ends_at xs m d all (omega (arith, within)) (none m refl) apart
 
@@ -67,7 +66,8 @@ module _ {A : Type 0} (join : A → A → Option A) where
     | inl one ↦
         let c = one.0 in
         let from : with_item join (a ∷ items) r ≡ join_first join a (c ∷ []) = ap (join_first join a) one.1 in
-        let by : (o : Option A) → join a c ≡ o → Grown (a ∷ items) (with_item join (a ∷ items) r) = λ o. elim o as (λ o. join a c ≡ o → Grown (a ∷ items) (with_item join (a ∷ items) r)) [
+        let by : (o : Option A) → join a c ≡ o → Grown (a ∷ items) (with_item join (a ∷ items) r) =
+        λ o. elim o as (λ o. join a c ≡ o → Grown (a ∷ items) (with_item join (a ∷ items) r)) [
           | Some d ↦ λ e. inl (d, from ∙ first_joined a c d [] e)
           | None ↦ λ e.
               let is = from ∙ first_apart a c [] e in
@@ -96,12 +96,14 @@ module _ {A : Type 0} (join : A → A → Option A) where
   ]
 
 -- what holds of each item, and the addresses of all
-module _ {A : Type 0} (join : A → A → Option A) (f : A → List ℕ) (P : A → Type 0) (sound : (a b c : A) → P a → P b → join a b ≡ Some c → P c × (f c ≡ f a ++ f b)) where
+module _ {A : Type 0} (join : A → A → Option A) (f : A → List ℕ) (P : A → Type 0)
+    (sound : (a b c : A) → P a → P b → join a b ≡ Some c → P c × (f c ≡ f a ++ f b)) where
   first_sound : (a : A) (ys : List A) → P a → All P ys → All P (join_first join a ys) × (flat_map f (join_first join a ys) ≡ f a ++ flat_map f ys)
   first_sound a [] p ps = (All-cons P a [] p (All-nil P), refl)
   first_sound a (b ∷ rest) p ps =
       let Is : List A → Type 0 = λ xs. All P xs × (flat_map f xs ≡ f a ++ (f b ++ flat_map f rest)) in
-      let by : (o : Option A) → join a b ≡ o → Is (option_map_or (λ c. c ∷ rest) o (a ∷ b ∷ rest)) = λ o. elim o as (λ o. join a b ≡ o → Is (option_map_or (λ c. c ∷ rest) o (a ∷ b ∷ rest))) [
+      let by : (o : Option A) → join a b ≡ o → Is (option_map_or (λ c. c ∷ rest) o (a ∷ b ∷ rest)) =
+      λ o. elim o as (λ o. join a b ≡ o → Is (option_map_or (λ c. c ∷ rest) o (a ∷ b ∷ rest))) [
         | None ↦ λ e. (All-cons P a (b ∷ rest) p ps, refl)
         | Some c ↦ λ e.
             let one = sound a b c p (All-head P b rest ps) e in
@@ -109,7 +111,8 @@ module _ {A : Type 0} (join : A → A → Option A) (f : A → List ℕ) (P : A 
       ] in
       by (join a b) refl
 
-  pub more_sound : (items : List A) (r : A) → All P items → P r → All P (with_item join items r) × (flat_map f (with_item join items r) ≡ flat_map f items ++ f r)
+  pub more_sound : (items : List A) (r : A) → All P items → P r → All P (with_item join items r)
+      × (flat_map f (with_item join items r) ≡ flat_map f items ++ f r)
   more_sound [] r ps p = (All-cons P r [] p (All-nil P), append-nil (f r))
   more_sound (a ∷ items) r ps p =
       let rest = more_sound items r (All-tail P a items ps) p in
@@ -169,7 +172,8 @@ run_settles z a b c none e = elim (run_cases z c) [
 ]
 
 -- The last range of a list and one more become one.
-pub run_grown : (xs : List Segment) (n : ℕ) (d r all : Segment) → n + 1 ≡ length xs → join_run (get_or xs n d) r ≡ Some all → NoneJoin join_run xs → set xs n all ≡ with_item join_run xs r
+pub run_grown : (xs : List Segment) (n : ℕ) (d r all : Segment) → n + 1 ≡ length xs → join_run (get_or xs n d) r ≡ Some all → NoneJoin join_run xs
+    → set xs n all ≡ with_item join_run xs r
 run_grown xs n d r all last e apart =
     let within : n < length xs = omega (arith, last) in
     let none : (m : ℕ) → n ≡ suc m → join_run (get_or xs m d) all ≡ None = λ m is.
@@ -180,13 +184,16 @@ run_grown xs n d r all last e apart =
     ∙ sym (joins_at join_run xs n d r all within e) ∙ ap (λ (ys : List Segment). with_item join_run ys r) (take_all (suc n) xs (omega (arith, last)))
 
 -- or the second follows the first
-pub run_added : (xs : List Segment) (n : ℕ) (d r : Segment) → n + 1 ≡ length xs → join_run (get_or xs n d) r ≡ None → NoneJoin join_run xs → xs ++ r ∷ [] ≡ with_item join_run xs r
+pub run_added : (xs : List Segment) (n : ℕ) (d r : Segment) → n + 1 ≡ length xs → join_run (get_or xs n d) r ≡ None → NoneJoin join_run xs
+    → xs ++ r ∷ [] ≡ with_item join_run xs r
 run_added xs n d r last e apart =
     let all = take_all (suc n) xs (omega (arith, last)) in
-    ap (λ (ys : List Segment). ys ++ r ∷ []) (sym all) ∙ sym (ends_at join_run xs n d r (omega (arith, last)) e apart) ∙ ap (λ (ys : List Segment). with_item join_run ys r) all
+    ap (λ (ys : List Segment). ys ++ r ∷ []) (sym all) ∙ sym (ends_at join_run xs n d r (omega (arith, last)) e apart)
+    ∙ ap (λ (ys : List Segment). with_item join_run ys r) all
 
 -- the ranges and the addresses with one more range
-pub runs_with : (items : List Segment) (r : Segment) → All IsRun items → IsRun r → All IsRun (with_item join_run items r) × (places (with_item join_run items r) ≡ places items ++ range_of r)
+pub runs_with : (items : List Segment) (r : Segment) → All IsRun items → IsRun r → All IsRun (with_item join_run items r)
+    × (places (with_item join_run items r) ≡ places items ++ range_of r)
 runs_with = more_sound join_run range_of IsRun run_sound
 
 -- ---- ranges that are read
@@ -273,7 +280,8 @@ read_sound a b c p q e = elim (read_cases a b) [
 ]
 
 -- the items and the addresses with one more item
-pub reads_with : (items : List Repeated) (r : Repeated) → All IsRead items → IsRead r → All IsRead (with_item join_read items r) × (places (unrolled (with_item join_read items r)) ≡ places (unrolled items) ++ reads r)
+pub reads_with : (items : List Repeated) (r : Repeated) → All IsRead items → IsRead r → All IsRead (with_item join_read items r)
+    × (places (unrolled (with_item join_read items r)) ≡ places (unrolled items) ++ reads r)
 reads_with items r ps p =
     let w = more_sound join_read reads IsRead read_sound items r ps p in
     (w.0, unrolled_reads (with_item join_read items r) ∙ w.1 ∙ ap (λ (xs : List ℕ). xs ++ reads r) (sym (unrolled_reads items)))

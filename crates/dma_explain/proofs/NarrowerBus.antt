@@ -1,32 +1,21 @@
 -- A run without memory is the same on chips' buses of all widths, but for the bus. A narrower one drops no bytes where a
 -- wider one drops none.
-use Rattle.std.proofs.Common.{◌≡◌, ℕ, zero, suc, ◌+◌, ◌-◌, ◌%◌, ◌^◌, ◌≤◌, Bool, true, false, ◌&&◌, List, ◌++◌, None, Result, Ok, Err, refl, sym, ap, ◌∙◌, subst, arith}
+use Rattle.std.proofs.Common.{◌≡◌, ℕ, zero, suc, ◌+◌, ◌-◌, ◌%◌, ◌^◌, ◌≤◌, Bool, true, false, ◌&&◌, List, ◌++◌, None, Result, Ok, Err, refl, sym, ap, ◌∙◌, subst}
+use Rattle.std.proofs.Common.{arith}
 use Rattle.std.specs.Prelude.{◌==◌, ◌||◌, not, nat_lt}
-use Rattle.std.proofs.Math.Pow.{mod-mod-pow}
-use Rattle.std.proofs.lemmas.Bool.{eq-eqb, eqb-true}
-use Rattle.dma_insn.specs.ControlWord.{field}
-use Rattle.dma_insn.specs.declared.chip.ChipInsn.{ChipInsn}
+use Rattle.std.proofs.{Math.Pow.mod-mod-pow, lemmas.Bool.eq-eqb, lemmas.Bool.eqb-true}
 use Rattle.dma_insn.specs.declared.chip.ChipInsn.TheVariants.{Mov, Ld, St, StoreZeros, AddHalfword}
-use Rattle.dma_insn.specs.declared.chip.Address.TheVariants.{Destination}
 use Rattle.dma_insn.specs.declared.insn.Reg.TheVariants.{Ccr, Dar}
-use Rattle.dma_chan.specs.declared.bus.Bus.{Bus}
-use Rattle.dma_chan.specs.declared.bus.Bus.TheVariants.{Chip}
-use Rattle.dma_chan.specs.declared.bus.BusWidth.{BusWidth}
-use Rattle.dma_chan.specs.declared.bursts.Burst.{Burst}
-use Rattle.dma_chan.specs.declared.exec.Registers.{Registers}
-use Rattle.dma_explain.specs.declared.explain.Cause.TheVariants.{Fails, DropsBytes}
-use Rattle.dma_explain.specs.declared.explain.Happening.{Happening}
-use Rattle.dma_chan.specs.declared.turn.FaultKind.{FaultKind}
-use Rattle.dma_chan.specs.declared.turn.FaultKind.TheVariants.{OperandInvalid}
-use Rattle.dma_chan.specs.Bus.{accepts, bus_code}
-use Rattle.dma_chan.specs.Bursts.{burst_at, drops, skip_of}
-use Rattle.dma_chan.specs.Exec.{destination_of, moved}
+use Rattle.dma_insn.specs.{ControlWord.field, declared.chip.ChipInsn.ChipInsn, declared.chip.Address.TheVariants.Destination}
+use Rattle.dma_chan.specs.{declared.bus.Bus.Bus, declared.bus.Bus.TheVariants.Chip, declared.bus.BusWidth.BusWidth, declared.bursts.Burst.Burst}
+use Rattle.dma_chan.specs.{declared.exec.Registers.Registers, declared.turn.FaultKind.FaultKind, declared.turn.FaultKind.TheVariants.OperandInvalid}
+use Rattle.dma_chan.specs.{Bus.accepts, Bus.bus_code, Bursts.burst_at, Bursts.drops, Bursts.skip_of, Exec.destination_of, Exec.moved, Next.next_on}
 use Rattle.dma_explain.specs.Explains.{GoesOn, Trace, after_fetch, amounts_of, events_in, happening_of, held, next_in, stop_of_insn, stop_of_mov, traced}
-use Rattle.dma_chan.specs.Next.{next_on}
 use Rattle.dma_explain.specs.OnBuses.{EventsOnWidths, ExplainedNarrower, TracedOnWidths, fits_bus}
+use Rattle.dma_explain.specs.{declared.explain.Cause.TheVariants.Fails, declared.explain.Cause.TheVariants.DropsBytes, declared.explain.Happening.Happening}
 use Rattle.dma_explain.proofs.GoingOn.{dropped, none_first, none_second, passed}
-use Rattle.dma_chan.proofs.MembersByNumber.{bus_moved}
 use Rattle.dma_explain.proofs.OnBuses.{KeepsOn, MovesSame, explained_there, goes_on, insn_on, registers_on, trace_on, traced_bus}
+use Rattle.dma_chan.proofs.MembersByNumber.{bus_moved}
 
 -- ---- bursts
 
@@ -34,7 +23,8 @@ use Rattle.dma_explain.proofs.OnBuses.{KeepsOn, MovesSame, explained_there, goes
 chip_burst : (v w : BusWidth) (k a c : ℕ) → burst_at (Chip v) k a c ≡ burst_at (Chip w) k a c
 unfolding burst_at
 chip_burst v w k a c =
-    ap (λ (n : ℕ). record { addr = a; increments = field k 1 c == 1; size = 2 ^ field (k + 1) 3 c; beats = field (k + 4) 4 c + 1; skip = n }) (by (field k 1 c == 1))
+    ap (λ (n : ℕ). record { addr = a; increments = field k 1 c == 1; size = 2 ^ field (k + 1) 3 c; beats = field (k + 4) 4 c + 1; skip = n })
+    (by (field k 1 c == 1))
   where
     by : (up : Bool) → skip_of (Chip v) up a (2 ^ field (k + 1) 3 c) ≡ skip_of (Chip w) up a (2 ^ field (k + 1) 3 c)
     by true = refl
@@ -57,11 +47,13 @@ and_both true y z f e = f e
 and_both false y z f e = refl
 
 -- a narrower bus drops no bytes where a wider one drops none
-drops_less : (wide narrow : BusWidth) (old new : Burst) → bus_code narrow ≤ bus_code wide → drops (Chip wide) old new ≡ false → drops (Chip narrow) old new ≡ false
+drops_less : (wide narrow : BusWidth) (old new : Burst) → bus_code narrow ≤ bus_code wide → drops (Chip wide) old new ≡ false
+    → drops (Chip narrow) old new ≡ false
 drops_less wide narrow old new le =
     let m = bus_code wide in
     let n = bus_code narrow in
-    or_rest (old.addr % 2 ^ m == new.addr % 2 ^ m) (old.addr % 2 ^ n == new.addr % 2 ^ n) _ (λ e. eq-eqb (old.addr % 2 ^ n) (new.addr % 2 ^ n) (same_lanes old.addr new.addr m n le (eqb-true (old.addr % 2 ^ m) (new.addr % 2 ^ m) e)))
+    or_rest (old.addr % 2 ^ m == new.addr % 2 ^ m) (old.addr % 2 ^ n == new.addr % 2 ^ n) _
+    (λ e. eq-eqb (old.addr % 2 ^ n) (new.addr % 2 ^ n) (same_lanes old.addr new.addr m n le (eqb-true (old.addr % 2 ^ m) (new.addr % 2 ^ m) e)))
 
 -- ---- runs
 
@@ -81,11 +73,13 @@ module _ (width other : BusWidth) where
   next_there : (program : List ℕ) (x : Trace) → x.registers.bus ≡ Chip width → next_in program (trace_on (Chip other) x) ≡ next_in program x
   next_there program x on = ap (λ (b : Bus). next_on b program x.registers.pc) (sym on)
 
-  fetch_there : (r : Result ChipInsn FaultKind) (x : Trace) → x.registers.bus ≡ Chip width → after_fetch r (trace_on (Chip other) x) ≡ trace_on (Chip other) (after_fetch r x)
+  fetch_there : (r : Result ChipInsn FaultKind) (x : Trace) → x.registers.bus ≡ Chip width
+      → after_fetch r (trace_on (Chip other) x) ≡ trace_on (Chip other) (after_fetch r x)
   fetch_there (Ok i) x on = insn_on (Chip other) i x (moves_there i x.registers on)
   fetch_there (Err kind) x on = refl
 
-  run_there : (start : Registers) (program : List ℕ) (n : ℕ) → start.bus ≡ Chip width → traced (registers_on (Chip other) start) program n ≡ trace_on (Chip other) (traced start program n)
+  run_there : (start : Registers) (program : List ℕ) (n : ℕ) → start.bus ≡ Chip width
+      → traced (registers_on (Chip other) start) program n ≡ trace_on (Chip other) (traced start program n)
   run_there start program zero on = refl
   run_there start program (suc n) on =
       let x = traced start program n in
@@ -94,16 +88,21 @@ module _ (width other : BusWidth) where
       ∙ ap (λ (r : Result ChipInsn FaultKind). after_fetch r (trace_on (Chip other) x)) (next_there program x here)
       ∙ fetch_there (next_in program x) x here
 
-  events_there : (start : Registers) (program : List ℕ) (n : ℕ) → start.bus ≡ Chip width → events_in (registers_on (Chip other) start) program n ≡ events_in start program n
+  events_there : (start : Registers) (program : List ℕ) (n : ℕ) → start.bus ≡ Chip width
+      → events_in (registers_on (Chip other) start) program n ≡ events_in start program n
   events_there start program zero on = refl
   events_there start program (suc n) on =
       let x = traced start program n in
-      ap (λ (es : List Happening). es ++ happening_of (next_in program (traced (registers_on (Chip other) start) program n)) (amounts_of (traced (registers_on (Chip other) start) program n))) (events_there start program n on)
+      ap (λ (es : List Happening). es ++ happening_of (next_in program (traced (registers_on (Chip other) start) program n))
+      (amounts_of (traced (registers_on (Chip other) start) program n))) (events_there start program n on)
       ∙ ap (λ (y : Trace). events_in start program n ++ happening_of (next_in program y) (amounts_of y)) (run_there start program n on)
-      ∙ ap (λ (r : Result ChipInsn FaultKind). events_in start program n ++ happening_of r (amounts_of x)) (next_there program x (traced_bus start program n ∙ on))
+      ∙ ap (λ (r : Result ChipInsn FaultKind). events_in start program n ++ happening_of r (amounts_of x))
+      (next_there program x (traced_bus start program n ∙ on))
 
   -- an instruction that computes the same registers, but for the bus, drops no bytes on a narrower bus
-  mov_there : (i : ChipInsn) (x : Trace) → x.registers.bus ≡ Chip width → bus_code other ≤ bus_code width → moved i (registers_on (Chip other) x.registers) ≡ registers_on (Chip other) (moved i x.registers) → stop_of_mov i x ≡ None → stop_of_mov i (trace_on (Chip other) x) ≡ None
+  mov_there : (i : ChipInsn) (x : Trace) → x.registers.bus ≡ Chip width → bus_code other ≤ bus_code width
+      → moved i (registers_on (Chip other) x.registers) ≡ registers_on (Chip other) (moved i x.registers) → stop_of_mov i x ≡ None
+      → stop_of_mov i (trace_on (Chip other) x) ≡ None
   mov_there i x on le same g =
       let r = x.registers in
       let old = destination_of r in
@@ -115,7 +114,8 @@ module _ (width other : BusWidth) where
       let there : dropped i (trace_on (Chip other) x) ≡ (nat_lt 0 (held x) && drops (Chip other) old new) =
       ap (λ (b : Burst). nat_lt 0 (held x) && drops (Chip other) b (destination_of (moved i (registers_on (Chip other) r)))) (destination_there r on)
       ∙ ap (λ (b : Burst). nat_lt 0 (held x) && drops (Chip other) old b) to in
-      passed (dropped i (trace_on (Chip other) x)) DropsBytes None (there ∙ and_both (nat_lt 0 (held x)) (drops r.bus old new) (drops (Chip other) old new) less (none_first (dropped i x) DropsBytes None g).0) refl
+      passed (dropped i (trace_on (Chip other) x)) DropsBytes None
+      (there ∙ and_both (nat_lt 0 (held x)) (drops r.bus old new) (drops (Chip other) old new) less (none_first (dropped i x) DropsBytes None g).0) refl
 
   keeps_there : (i : ChipInsn) (x : Trace) → x.registers.bus ≡ Chip width → bus_code other ≤ bus_code width → stop_of_insn i x ≡ None → KeepsOn (Chip other) i x
   keeps_there (Mov Dar v) x on le g = mov_there (Mov Dar v) x on le refl g
@@ -125,7 +125,8 @@ module _ (width other : BusWidth) where
       mov_there (AddHalfword Destination half negative) x on le refl g
   keeps_there i x on le g = tt
 
-  goes_there : (r : Result ChipInsn FaultKind) (x : Trace) → x.registers.bus ≡ Chip width → bus_code other ≤ bus_code width → fits_bus (Chip other) r ≡ true → GoesOn r x → GoesOn r (trace_on (Chip other) x)
+  goes_there : (r : Result ChipInsn FaultKind) (x : Trace) → x.registers.bus ≡ Chip width → bus_code other ≤ bus_code width → fits_bus (Chip other) r ≡ true
+      → GoesOn r x → GoesOn r (trace_on (Chip other) x)
   goes_there (Ok i) x on le f g =
       (g.0, goes_on (Chip other) i x f (moves_there i x.registers on) (keeps_there i x on le g.1) g.1)
   goes_there (Err kind) x on le f g = absurd (let bad = g.1 in cc)

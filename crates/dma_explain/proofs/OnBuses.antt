@@ -2,30 +2,20 @@
 -- begin at multiples of their beats' sizes.
 use Rattle.std.proofs.Common.{◌≡◌, ℕ, zero, suc, ◌+◌, ◌≤◌, ◌<◌, Bool, true, cond, List, ◌++◌, Some, None, Result, Ok, Err, refl, sym, ap, ◌∙◌, subst, arith}
 use Rattle.std.proofs.lemmas.Bool.{and_from, and_parts}
-use Rattle.dma_insn.specs.ControlWord.{is_control}
-use Rattle.dma_insn.specs.declared.insn.Counter.{Counter}
-use Rattle.dma_insn.specs.declared.insn.Counter.TheVariants.{Lc0, Lc1}
 use Rattle.dma_insn.specs.declared.insn.Reg.TheVariants.{Sar, Dar, Ccr}
-use Rattle.dma_insn.specs.declared.chip.ChipInsn.{ChipInsn}
-use Rattle.dma_insn.specs.declared.chip.Address.TheVariants.{Source, Destination}
 use Rattle.dma_insn.specs.declared.chip.ChipInsn.TheVariants.{Mov, Ld, St, Lp, LpEnd, StoreZeros, AddHalfword, End}
+use Rattle.dma_insn.specs.{ControlWord.is_control, declared.insn.Counter.Counter, declared.insn.Counter.TheVariants.Lc0, declared.insn.Counter.TheVariants.Lc1}
+use Rattle.dma_insn.specs.{declared.chip.ChipInsn.ChipInsn, declared.chip.Address.TheVariants.Source, declared.chip.Address.TheVariants.Destination}
 use Rattle.std.specs.Prelude.{nat_lt}
-use Rattle.dma_chan.specs.declared.bus.Bus.{Bus}
-use Rattle.dma_chan.specs.declared.bus.Bus.TheVariants.{Ideal}
-use Rattle.dma_chan.specs.declared.exec.Registers.{Registers}
-use Rattle.dma_explain.specs.declared.explain.Cause.TheVariants.{Fails, LoadsPast, StoresPast, StoresFixed}
-use Rattle.dma_chan.specs.declared.turn.FaultKind.{FaultKind}
 use Rattle.dma_chan.specs.declared.turn.FaultKind.TheVariants.{OperandInvalid, MfifoErr, StDataUnavailable}
-use Rattle.dma_chan.specs.Bus.{accepts, fits}
-use Rattle.dma_chan.specs.declared.bursts.Burst.{Burst}
 use Rattle.dma_chan.specs.Bursts.{IsAligned, advance, burst_len, touched}
 use Rattle.dma_chan.specs.Exec.{buffer_size, destination_of, looped, past, source_of, wrapped}
+use Rattle.dma_chan.specs.{declared.bus.Bus.Bus, declared.bus.Bus.TheVariants.Ideal, declared.exec.Registers.Registers, declared.turn.FaultKind.FaultKind}
+use Rattle.dma_chan.specs.{Bus.accepts, Bus.fits, declared.bursts.Burst.Burst, Next.next_on}
+use Rattle.dma_explain.specs.declared.explain.Cause.TheVariants.{Fails, LoadsPast, StoresPast, StoresFixed}
 use Rattle.dma_explain.specs.OnBuses.{ExplainedOnBus, IsAlignedTo, MovesAligned, SetsEmpty, fits_bus}
 use Rattle.dma_explain.specs.Explains.{Explains, GoesOn, Trace, Work, after_fetch, after_insn, held, next_in, passes, stop_of_insn, stop_of_mov, traced}
-use Rattle.dma_chan.proofs.ControlWords.{same_burst}
-use Rattle.dma_chan.specs.Next.{next_on}
-use Rattle.dma_chan.proofs.NextFits.{next_widens}
-use Rattle.dma_chan.proofs.MembersByNumber.{bus_moved}
+use Rattle.dma_chan.proofs.{ControlWords.same_burst, NextFits.next_widens, MembersByNumber.bus_moved}
 use Rattle.dma_explain.proofs.GoingOn.{mov_empty, none_second}
 
 -- a run stays on its bus
@@ -103,11 +93,14 @@ module _ (bus : Bus) where
   abbrev AreFetched : Registers → List ℕ → ℕ → Type 0
   AreFetched start program n = (k : ℕ) → k < n → GoesOn (next_in program (traced start program k)) (traced start program k)
 
-  fetch_on : (program : List ℕ) (r : Result ChipInsn FaultKind) (x : Trace) → x.registers.bus ≡ Ideal → next_in program x ≡ r → GoesOn r x → MovesAligned r x.registers → after_fetch (next_in program (trace_on x)) (trace_on x) ≡ trace_on (after_fetch r x)
-  fetch_on program (Ok i) x ideal next go a = ap (λ r. after_fetch r (trace_on x)) (next_same program x i ideal next) ∙ insn_on i x (aligned_same i x.registers a)
+  fetch_on : (program : List ℕ) (r : Result ChipInsn FaultKind) (x : Trace) → x.registers.bus ≡ Ideal → next_in program x ≡ r → GoesOn r x
+      → MovesAligned r x.registers → after_fetch (next_in program (trace_on x)) (trace_on x) ≡ trace_on (after_fetch r x)
+  fetch_on program (Ok i) x ideal next go a = ap (λ r. after_fetch r (trace_on x)) (next_same program x i ideal next)
+      ∙ insn_on i x (aligned_same i x.registers a)
   fetch_on program (Err kind) x ideal next go a = absurd (let bad = go.1 in cc)
 
-  pub traced_on : (start : Registers) (program : List ℕ) (n : ℕ) → start.bus ≡ Ideal → AreFetched start program n → IsAlignedTo start program n → traced (record start { bus = bus }) program n ≡ trace_on (traced start program n)
+  pub traced_on : (start : Registers) (program : List ℕ) (n : ℕ) → start.bus ≡ Ideal → AreFetched start program n → IsAlignedTo start program n
+      → traced (record start { bus = bus }) program n ≡ trace_on (traced start program n)
   traced_on start program zero ideal goes a = refl
   traced_on start program (suc n) ideal goes a =
       let x = traced start program n in
@@ -127,7 +120,8 @@ module _ (bus : Bus) where
   empty_keeps (AddHalfword Destination half negative) x d = mov_empty (AddHalfword Destination half negative) (trace_on x) d
   empty_keeps i x d = tt
 
-  pub goes_on : (i : ChipInsn) (x : Trace) → fits_bus bus (Ok i) ≡ true → MovesSame i x.registers → KeepsOn i x → stop_of_insn i x ≡ None → stop_of_insn i (trace_on x) ≡ None
+  pub goes_on : (i : ChipInsn) (x : Trace) → fits_bus bus (Ok i) ≡ true → MovesSame i x.registers → KeepsOn i x → stop_of_insn i x ≡ None
+      → stop_of_insn i (trace_on x) ≡ None
   goes_on (Mov Ccr v) x f a d g =
       let valid = (and_parts (fits x.registers.bus v) (is_control v) (none_second (accepts x.registers.bus v) (Fails OperandInvalid) _ g).0).1 in
       ap (λ (b : Bool). cond b (stop_of_mov (Mov Ccr v) (trace_on x)) (Some (Fails OperandInvalid))) (and_from (fits bus v) (is_control v) f valid) ∙ d
@@ -137,13 +131,15 @@ module _ (bus : Bus) where
   goes_on Ld x f a d g =
       subst (λ (b : Burst). cond (nat_lt buffer_size (held x + burst_len b)) (Some (Fails MfifoErr)) (cond (passes b) (Some LoadsPast) None) ≡ None) (sym a) g
   goes_on St x f a d g =
-      subst (λ (b : Burst). cond (nat_lt (held x) (burst_len b)) (Some (Fails StDataUnavailable)) (cond (passes b) (Some StoresPast) (cond b.increments None (Some StoresFixed))) ≡ None) (sym a) g
+      subst (λ (b : Burst). cond (nat_lt (held x) (burst_len b)) (Some (Fails StDataUnavailable))
+      (cond (passes b) (Some StoresPast) (cond b.increments None (Some StoresFixed))) ≡ None) (sym a) g
   goes_on StoreZeros x f a d g =
       subst (λ (b : Burst). cond (passes b) (Some StoresPast) (cond b.increments None (Some StoresFixed)) ≡ None) (sym a) g
   goes_on (LpEnd Lc0 back) x f a d g = g
   goes_on i x f a d g = g
 
-  goes_next : (program : List ℕ) (r : Result ChipInsn FaultKind) (x : Trace) → x.registers.bus ≡ Ideal → next_in program x ≡ r → fits_bus bus r ≡ true → MovesAligned r x.registers → SetsEmpty r (held x) → GoesOn r x → GoesOn (next_in program (trace_on x)) (trace_on x)
+  goes_next : (program : List ℕ) (r : Result ChipInsn FaultKind) (x : Trace) → x.registers.bus ≡ Ideal → next_in program x ≡ r → fits_bus bus r ≡ true
+      → MovesAligned r x.registers → SetsEmpty r (held x) → GoesOn r x → GoesOn (next_in program (trace_on x)) (trace_on x)
   goes_next program (Ok i) x ideal next f a d g =
       subst (λ r. GoesOn r (trace_on x)) (sym (next_same program x i ideal next)) (g.0, goes_on i x f (aligned_same i x.registers a) (empty_keeps i x d) g.1)
   goes_next program (Err kind) x ideal next f a d g = absurd (let bad = g.1 in cc)
@@ -154,7 +150,8 @@ module _ (bus : Bus) where
     pub goes : (k : ℕ) → k < n → let y = trace_on (traced start program k) in GoesOn (next_in program y) y
     pub ends : next_in program (trace_on (traced start program n)) ≡ Ok End
 
-  pub explained_there : (start : Registers) (program : List ℕ) (w : Work) (n : ℕ) → Explains start program w n → GoesThere start program n → Explains (registers_on start) program w n
+  pub explained_there : (start : Registers) (program : List ℕ) (w : Work) (n : ℕ) → Explains start program w n → GoesThere start program n
+      → Explains (registers_on start) program w n
   explained_there start program w n h there =
       let last = there.same n (omega arith) in
       record {

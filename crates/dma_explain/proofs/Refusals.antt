@@ -1,48 +1,33 @@
 -- What a channel does at the instruction at which `explain` refuses its program.
-use Rattle.std.proofs.Common.{◌≡◌, ◌≢◌, ℕ, zero, suc, ◌+◌, ◌≤◌, ◌<◌, Bool, true, false, cond, ◌&&◌, List, [], ◌∷◌, length, Option, Some, None, Result, Ok, Err, refl, sym, ap, ◌∙◌, subst, arith, inl, inr, length-append, true≢false}
+use Rattle.std.proofs.Common.{◌≡◌, ◌≢◌, ℕ, zero, suc, ◌+◌, ◌≤◌, ◌<◌, Bool, true, false, cond, ◌&&◌, List, [], ◌∷◌, length, Option, Some, None, Result, Ok, Err}
+use Rattle.std.proofs.Common.{refl, sym, ap, ◌∙◌, subst, arith, inl, inr, length-append, true≢false}
 use Rattle.std.specs.Prelude.{is_some, nat_lt, not, slice_index, slice_index_or}
-use Rattle.std.specs.List.{list_any, range_with_len}
-use Rattle.std.specs.Option.{option_and_then}
-use Rattle.std.proofs.lemmas.Bool.{cases_lt, cond_both}
-use Rattle.std.proofs.lemmas.Bool.Decides.{nat_tests}
-use Rattle.std.proofs.lemmas.List.{length-drop, length-map}
-use Rattle.std.proofs.lemmas.Option.{none-some, same_Some}
-use Rattle.dma_insn.specs.declared.chip.Address.TheVariants.{Destination}
+use Rattle.std.specs.{List.list_any, List.range_with_len, Option.option_and_then}
+use Rattle.std.proofs.{lemmas.Bool.cases_lt, lemmas.Bool.cond_both, lemmas.Bool.Decides.nat_tests, lemmas.List.length-drop, lemmas.List.length-map}
+use Rattle.std.proofs.{lemmas.Option.none-some, lemmas.Option.same_Some}
 use Rattle.dma_insn.specs.declared.insn.Reg.TheVariants.{Ccr, Dar}
-use Rattle.dma_insn.specs.declared.chip.ChipInsn.{ChipInsn}
 use Rattle.dma_insn.specs.declared.chip.ChipInsn.TheVariants.{Mov, Ld, St, End, LpEnd, Sev, Wfe, StoreZeros, AddHalfword, LoopAgain}
-use Rattle.dma_mem.specs.Places.{end_of_addresses, share}
-use Rattle.dma_mem.specs.Marking.{MarkList, is_marked}
-use Rattle.dma_mem.specs.declared.marks.MarkKind.{MarkKind}
-use Rattle.dma_mem.specs.declared.marks.MarkKind.TheVariants.{Reading, Writing}
-use Rattle.dma_chan.specs.declared.exec.Registers.{Registers}
-use Rattle.dma_explain.specs.declared.explain.Amounts.{Amounts}
-use Rattle.dma_explain.specs.declared.explain.Cause.{Cause}
-use Rattle.dma_explain.specs.declared.explain.Cause.TheVariants.{Fails, LoadsPast, StoresPast, StoresFixed, DropsBytes, BytesLeft, StoresTwice, StoresSource}
-use Rattle.dma_chan.specs.declared.turn.ChanTurn.{ChanTurn}
-use Rattle.dma_explain.specs.declared.explain.Unexplained.{Unexplained}
+use Rattle.dma_insn.specs.{declared.chip.Address.TheVariants.Destination, declared.chip.ChipInsn.ChipInsn}
+use Rattle.dma_mem.specs.{Places.end_of_addresses, Places.share, Marking.MarkList, Marking.is_marked, declared.marks.MarkKind.MarkKind}
+use Rattle.dma_mem.specs.{declared.marks.MarkKind.TheVariants.Reading, declared.marks.MarkKind.TheVariants.Writing}
 use Rattle.dma_chan.specs.declared.turn.ChanTurn.TheVariants.{Moved, Waiting, Ended, Fault}
-use Rattle.dma_chan.specs.declared.turn.FaultKind.{FaultKind}
 use Rattle.dma_chan.specs.declared.turn.FaultKind.TheVariants.{OperandInvalid, MfifoErr, StDataUnavailable, InstrFetchErr, DataWriteErr, DataReadErr}
-use Rattle.dma_chan.specs.declared.bursts.Burst.{Burst}
 use Rattle.dma_chan.specs.Bursts.{burst_len, reaches, span_of, touched}
-use Rattle.dma_chan.specs.Bus.{accepts}
 use Rattle.dma_chan.specs.Channel.{ChannelValue, after_turn, ahead_of, code_of, last_count, state_of, step_of, stepped, stored_by}
-use Rattle.dma_chan.specs.Exec.{ChangesNothing, State, act, buffer_size, counter_of, destination_of, exec_fetched, fault_in, faults, kept, moved, read_at, source_of, state}
-use Rattle.dma_explain.specs.Explains.{GoesOn, IsSignal, Refuses, StopsAt, Trace, after_fetch, after_insn, amounts_of, has_twice, held, next_in, passes, stop_of, stop_of_insn, stop_of_lists, stop_of_mov, traced, written_in}
-use Rattle.dma_chan.specs.Next.{next_on}
-use Rattle.dma_explain.specs.Refusals.{FaultsAreRefusals, FirstGoOn, ExecutesFirst, RefusalsAreFaults, fault_of_cause}
+use Rattle.dma_chan.specs.Exec.{ChangesNothing, State, act, buffer_size, counter_of, destination_of, exec_fetched, fault_in, faults, kept, moved, read_at}
+use Rattle.dma_chan.specs.Exec.{source_of, state}
 use Rattle.dma_chan.specs.Stepping.{Machine, TakesSteps, after_step, after_steps, answer_at, goes_on_after, signal_after, signal_of}
-use Rattle.dma_chan.specs.inner.Spans.{MovesSome}
-use Rattle.dma_chan.proofs.BurstReach.{reaches_span}
-use Rattle.dma_chan.proofs.CallWrites.{act_leads, turned}
-use Rattle.dma_explain.proofs.CallStays.{registers_after}
-use Rattle.dma_chan.proofs.ControlWords.{moves_some}
-use Rattle.dma_explain.proofs.GoingOn.{Can, Few, can_next, dropped, few_at, length_up}
-use Rattle.dma_chan.proofs.KeptBytes.{kept_held}
-use Rattle.dma_chan.proofs.RunAlone.{moved_count}
-use Rattle.dma_chan.proofs.StepsTaken.{steps_move, steps_stop}
+use Rattle.dma_chan.specs.{declared.exec.Registers.Registers, declared.turn.ChanTurn.ChanTurn, declared.turn.FaultKind.FaultKind, declared.bursts.Burst.Burst}
+use Rattle.dma_chan.specs.{Bus.accepts, Next.next_on, inner.Spans.MovesSome}
+use Rattle.dma_explain.specs.declared.explain.Cause.TheVariants.{Fails, LoadsPast, StoresPast, StoresFixed, DropsBytes, BytesLeft, StoresTwice, StoresSource}
+use Rattle.dma_explain.specs.Explains.{GoesOn, IsSignal, Refuses, StopsAt, Trace, after_fetch, after_insn, amounts_of, has_twice, held, next_in, passes}
+use Rattle.dma_explain.specs.Explains.{stop_of, stop_of_insn, stop_of_lists, stop_of_mov, traced, written_in}
+use Rattle.dma_explain.specs.Refusals.{FaultsAreRefusals, FirstGoOn, ExecutesFirst, RefusalsAreFaults, fault_of_cause}
+use Rattle.dma_explain.specs.{declared.explain.Amounts.Amounts, declared.explain.Cause.Cause, declared.explain.Unexplained.Unexplained}
 use Rattle.dma_chan.proofs.SteppedOver.{is_still, steps_size, was_moved, went_before}
+use Rattle.dma_chan.proofs.{BurstReach.reaches_span, CallWrites.act_leads, CallWrites.turned, ControlWords.moves_some, KeptBytes.kept_held}
+use Rattle.dma_chan.proofs.{RunAlone.moved_count, StepsTaken.steps_move, StepsTaken.steps_stop}
+use Rattle.dma_explain.proofs.{CallStays.registers_after, GoingOn.Can, GoingOn.Few, GoingOn.can_next, GoingOn.dropped, GoingOn.few_at, GoingOn.length_up}
 
 -- ---- how many bytes are in the buffer after an instruction that moved
 
@@ -99,7 +84,9 @@ module _ (start : Registers) (program : List ℕ) where
       ap (λ (xs : List ℕ). next_on c.registers.bus xs c.registers.pc) b.code
       ∙ ap (λ (r : Registers). next_on r.bus program r.pc) b.registers
 
-  moved_by : (k : ℕ) (marks : MarkList) (c : ChannelValue) (image : List ℕ) (flags : List Bool) (next : Result ChipInsn FaultKind) → Beside start program k c → Few (traced start program k) → next_in program (traced start program k) ≡ next → GoesOn next (traced start program k) → (step_of marks c image flags).0 ≡ Moved → Beside start program (suc k) (stepped marks c image flags)
+  moved_by : (k : ℕ) (marks : MarkList) (c : ChannelValue) (image : List ℕ) (flags : List Bool) (next : Result ChipInsn FaultKind) → Beside start program k c
+      → Few (traced start program k) → next_in program (traced start program k) ≡ next → GoesOn next (traced start program k)
+      → (step_of marks c image flags).0 ≡ Moved → Beside start program (suc k) (stepped marks c image flags)
   moved_by k marks c image flags (Err kind) b few next go moves = absurd (let bad = go.1 in cc)
   moved_by k marks c image flags (Ok i) b few next go moves =
       let x = traced start program k in
@@ -108,21 +95,28 @@ module _ (start : Registers) (program : List ℕ) where
       let does : e ≡ act marks i s = ap (λ (r : Result ChipInsn FaultKind). exec_fetched marks r s) (ahead_beside k c b ∙ next) in
       let turn : (act marks i s).0 ≡ Moved = sym (ap (λ (y : ChanTurn × State). y.0) does) ∙ moves in
       let after : traced start program (suc k) ≡ after_insn i x = ap (λ (r : Result ChipInsn FaultKind). after_fetch r x) next in
-      let channel : stepped marks c image flags ≡ after_turn Moved e.1 (stored_by (ahead_of c) c.registers) c = ap (λ (t : ChanTurn). after_turn t e.1 (stored_by (ahead_of c) c.registers) c) moves in
-      let holds = subst (λ (r : Registers). Holds i x (act marks i (state r c.buffer image flags))) (sym b.registers) (holds_after marks x c.buffer image flags b.holds i few (can_next i x few go)) in
+      let channel : stepped marks c image flags ≡ after_turn Moved e.1 (stored_by (ahead_of c) c.registers) c =
+      ap (λ (t : ChanTurn). after_turn t e.1 (stored_by (ahead_of c) c.registers) c) moves in
+      let holds = subst (λ (r : Registers). Holds i x (act marks i (state r c.buffer image flags))) (sym b.registers)
+      (holds_after marks x c.buffer image flags b.holds i few (can_next i x few go)) in
       subst (Beside start program (suc k)) (sym channel) (record {
         code = b.code;
-        registers = ap (λ (y : ChanTurn × State). y.1.registers) does ∙ act_leads marks i s turn ∙ ap (moved i) b.registers ∙ sym (registers_after i x) ∙ sym (ap (λ (y : Trace). y.registers) after);
+        registers = ap (λ (y : ChanTurn × State). y.1.registers) does ∙ act_leads marks i s turn ∙ ap (moved i) b.registers ∙ sym (registers_after i x)
+            ∙ sym (ap (λ (y : Trace). y.registers) after);
         holds = ap (λ (y : ChanTurn × State). length y.1.buffer) does ∙ holds turn ∙ sym (ap held after);
       })
 
-  beside : (n : ℕ) (marks : ℕ → MarkList) (channel : ℕ → ChannelValue) (image : ℕ → List ℕ) (flags : ℕ → List Bool) → FirstGoOn start program n → ExecutesFirst start program n marks channel image flags → (k : ℕ) → k ≤ n → Beside start program k (channel k)
+  beside : (n : ℕ) (marks : ℕ → MarkList) (channel : ℕ → ChannelValue) (image : ℕ → List ℕ) (flags : ℕ → List Bool) → FirstGoOn start program n
+      → ExecutesFirst start program n marks channel image flags → (k : ℕ) → k ≤ n → Beside start program k (channel k)
   beside n marks channel image flags goes g zero l =
       subst (Beside start program zero) (sym g.begins.2) (record { code = g.begins.1; registers = refl; holds = refl })
   beside n marks channel image flags goes g (suc k) l =
       let less : k < n = omega arith in
       let next : suc k ≡ k + 1 = omega arith in
-      subst (Beside start program (suc k)) (sym (ap channel next ∙ g.goes_on k less)) (moved_by k (marks k) (channel k) (image k) (flags k) (next_in program (traced start program k)) (beside n marks channel image flags goes g k (omega arith)) (few_at start program k (λ j m. goes j (omega arith))) refl (goes k less) (g.moves k less))
+      subst (Beside start program (suc k)) (sym (ap channel next ∙ g.goes_on k less))
+      (moved_by k (marks k) (channel k) (image k) (flags k) (next_in program (traced start program k))
+      (beside n marks channel image flags goes g k (omega arith)) (few_at start program k (λ j m. goes j (omega arith))) refl (goes k less)
+      (g.moves k less))
 
 -- ---- bursts that end above the last address
 
@@ -134,13 +128,15 @@ all_past : (hit : Bool) (size n : ℕ) → nat_lt end_of_addresses n ≡ true �
 all_past hit size n past low = grind (arith, nat_tests)
 
 -- it fails in each memory of at most 2^32 bytes
-past_fails : (kind : MarkKind) (marks : MarkList) (size : ℕ) (b : Burst) → MovesSome b → passes b ≡ true → size ≤ end_of_addresses → reaches kind marks size (touched b) ≡ false
+past_fails : (kind : MarkKind) (marks : MarkList) (size : ℕ) (b : Burst) → MovesSome b → passes b ≡ true → size ≤ end_of_addresses
+    → reaches kind marks size (touched b) ≡ false
 past_fails kind marks size b some past low =
     reaches_span kind marks size b some
     ∙ all_past (list_any (is_marked kind marks) (range_with_len b.addr (span_of b))) size (b.addr + span_of b) past low
 
 -- only it fails in a memory of 2^32 bytes without marks
-whole_reached : (kind : MarkKind) (marks : MarkList) (size : ℕ) (b : Burst) → MovesSome b → size ≡ end_of_addresses → marks ≡ [] → reaches kind marks size (touched b) ≡ not (passes b)
+whole_reached : (kind : MarkKind) (marks : MarkList) (size : ℕ) (b : Burst) → MovesSome b → size ≡ end_of_addresses → marks ≡ []
+    → reaches kind marks size (touched b) ≡ not (passes b)
 whole_reached kind marks size b some all unmarked =
     reaches_span kind marks size b some
     ∙ ap (λ (ms : MarkList). not (list_any (is_marked kind ms) (range_with_len b.addr (span_of b))) && not (nat_lt size (b.addr + span_of b))) unmarked
@@ -178,18 +174,23 @@ module _ (marks : MarkList) (s : State) where
   none stop y e f = record { everywhere = λ low kind g. absurd (none-some kind (sym e ∙ g)); no_other = λ all unmarked. f ∙ sym e }
 
   -- a test of the machine and of the run without memory
-  if_fails : (b : Bool) (k : FaultKind) (stop : Option Cause) (y : ChanTurn × State) → Agrees marks s stop y → Agrees marks s (cond b (Some (Fails k)) stop) (cond b (faults k s) y)
+  if_fails : (b : Bool) (k : FaultKind) (stop : Option Cause) (y : ChanTurn × State) → Agrees marks s stop y
+      → Agrees marks s (cond b (Some (Fails k)) stop) (cond b (faults k s) y)
   if_fails true k stop y a = fails k
   if_fails false k stop y a = a
 
-  unless_fails : (b : Bool) (k : FaultKind) (stop : Option Cause) (y : ChanTurn × State) → Agrees marks s stop y → Agrees marks s (cond b stop (Some (Fails k))) (cond b y (faults k s))
+  unless_fails : (b : Bool) (k : FaultKind) (stop : Option Cause) (y : ChanTurn × State) → Agrees marks s stop y
+      → Agrees marks s (cond b stop (Some (Fails k))) (cond b y (faults k s))
   unless_fails true k stop y a = a
   unless_fails false k stop y a = fails k
 
   -- a burst
-  by_tests : (past reached : Bool) (cause : Cause) (k : FaultKind) (stop : Option Cause) (y : ChanTurn × State) → (past ≡ true → length s.image ≤ end_of_addresses → reached ≡ false) → (length s.image ≡ end_of_addresses → marks ≡ [] → reached ≡ not past) → fault_of_cause cause ≡ Some k → refused stop ≡ None → fault_in y.0 ≡ None → Agrees marks s (cond past (Some cause) stop) (cond reached y (faults k s))
+  by_tests : (past reached : Bool) (cause : Cause) (k : FaultKind) (stop : Option Cause) (y : ChanTurn × State)
+      → (past ≡ true → length s.image ≤ end_of_addresses → reached ≡ false) → (length s.image ≡ end_of_addresses → marks ≡ [] → reached ≡ not past)
+      → fault_of_cause cause ≡ Some k → refused stop ≡ None → fault_in y.0 ≡ None → Agrees marks s (cond past (Some cause) stop) (cond reached y (faults k s))
   by_tests true reached cause k stop y fails_there whole is calm_stop moves = record {
-    everywhere = λ low kind e. ap (λ (b : Bool). cond b y (faults k s)) (fails_there refl low) ∙ ap (λ (j : FaultKind). faults j s) (same_Some k kind (sym is ∙ e));
+    everywhere = λ low kind e. ap (λ (b : Bool). cond b y (faults k s)) (fails_there refl low)
+        ∙ ap (λ (j : FaultKind). faults j s) (same_Some k kind (sym is ∙ e));
     no_other = λ all unmarked. ap (λ (b : Bool). fault_in (cond b y (faults k s)).0) (whole all unmarked) ∙ sym is;
   }
   by_tests false reached cause k stop y fails_there whole is calm_stop moves = record {
@@ -197,9 +198,12 @@ module _ (marks : MarkList) (s : State) where
     no_other = λ all unmarked. ap (λ (b : Bool). fault_in (cond b y (faults k s)).0) (whole all unmarked) ∙ moves ∙ sym calm_stop;
   }
 
-  burst : (kind : MarkKind) (b : Burst) (cause : Cause) (k : FaultKind) (stop : Option Cause) (y : ChanTurn × State) → MovesSome b → fault_of_cause cause ≡ Some k → refused stop ≡ None → fault_in y.0 ≡ None → Agrees marks s (cond (passes b) (Some cause) stop) (cond (reaches kind marks (length s.image) (touched b)) y (faults k s))
+  burst : (kind : MarkKind) (b : Burst) (cause : Cause) (k : FaultKind) (stop : Option Cause) (y : ChanTurn × State) → MovesSome b
+      → fault_of_cause cause ≡ Some k → refused stop ≡ None → fault_in y.0 ≡ None
+      → Agrees marks s (cond (passes b) (Some cause) stop) (cond (reaches kind marks (length s.image) (touched b)) y (faults k s))
   burst kind b cause k stop y some is calm_stop moves =
-      by_tests (passes b) (reaches kind marks (length s.image) (touched b)) cause k stop y (past_fails kind marks (length s.image) b some) (whole_reached kind marks (length s.image) b some) is calm_stop moves
+      by_tests (passes b) (reaches kind marks (length s.image) (touched b)) cause k stop y (past_fails kind marks (length s.image) b some)
+      (whole_reached kind marks (length s.image) b some) is calm_stop moves
 
 module _ (marks : MarkList) (x : Trace) (buffer image : List ℕ) (flags : List Bool) (holds : length buffer ≡ held x) where
   abbrev now : State
@@ -208,13 +212,17 @@ module _ (marks : MarkList) (x : Trace) (buffer image : List ℕ) (flags : List 
   agrees : (i : ChipInsn) → Agrees marks now (stop_of_insn i x) (act marks i now)
   agrees Ld =
       let b = source_of x.registers in
-      rw holds (if_fails marks now (nat_lt buffer_size (held x + burst_len b)) MfifoErr _ _ (burst marks now Reading b LoadsPast DataReadErr None _ (moves_some x.registers.bus 0 x.registers.sar x.registers.ccr) refl refl refl))
+      rw holds (if_fails marks now (nat_lt buffer_size (held x + burst_len b)) MfifoErr _ _
+      (burst marks now Reading b LoadsPast DataReadErr None _ (moves_some x.registers.bus 0 x.registers.sar x.registers.ccr) refl refl refl))
   agrees St =
       let b = destination_of x.registers in
-      rw holds (if_fails marks now (nat_lt (held x) (burst_len b)) StDataUnavailable _ _ (burst marks now Writing b StoresPast DataWriteErr _ _ (moves_some x.registers.bus 14 x.registers.dar x.registers.ccr) refl (calm b.increments None (Some StoresFixed) refl refl) refl))
+      rw holds (if_fails marks now (nat_lt (held x) (burst_len b)) StDataUnavailable _ _
+      (burst marks now Writing b StoresPast DataWriteErr _ _ (moves_some x.registers.bus 14 x.registers.dar x.registers.ccr) refl
+      (calm b.increments None (Some StoresFixed) refl refl) refl))
   agrees StoreZeros =
       let b = destination_of x.registers in
-      burst marks now Writing b StoresPast DataWriteErr _ _ (moves_some x.registers.bus 14 x.registers.dar x.registers.ccr) refl (calm b.increments None (Some StoresFixed) refl refl) refl
+      burst marks now Writing b StoresPast DataWriteErr _ _ (moves_some x.registers.bus 14 x.registers.dar x.registers.ccr) refl
+      (calm b.increments None (Some StoresFixed) refl refl) refl
   agrees (Mov Ccr w) =
       unless_fails marks now (accepts x.registers.bus w) OperandInvalid _ _ (none marks now (stop_of_mov (Mov Ccr w) x) _ (calm_mov (Mov Ccr w) x) refl)
   agrees (Mov Dar v) = none marks now (stop_of_mov (Mov Dar v) x) _ (calm_mov (Mov Dar v) x) refl
@@ -226,7 +234,8 @@ module _ (marks : MarkList) (x : Trace) (buffer image : List ℕ) (flags : List 
   agrees End =
       none marks now (stop_of_insn End x) (act marks End now) (calm (nat_lt 0 (held x)) (Some BytesLeft) _ refl (calm_lists x.loads (written_in x))) refl
   agrees (Wfe n v) =
-      none marks now None (act marks (Wfe n v) now) refl (cond_both (slice_index_or flags n false) _ _ (λ (y : ChanTurn × State). fault_in y.0 ≡ None) (λ set. refl) (λ clear. refl))
+      none marks now None (act marks (Wfe n v) now) refl
+      (cond_both (slice_index_or flags n false) _ _ (λ (y : ChanTurn × State). fault_in y.0 ≡ None) (λ set. refl) (λ clear. refl))
   agrees i = none marks now None (act marks i now) refl refl
 
   agrees_fetched : (next : Result ChipInsn FaultKind) → Agrees marks now (stop_of next x) (exec_fetched marks next now)
@@ -234,21 +243,27 @@ module _ (marks : MarkList) (x : Trace) (buffer image : List ℕ) (flags : List 
   agrees_fetched (Err kind) = fails marks now kind
 
 -- the next step of a channel beside the run without memory
-agrees_beside : (start : Registers) (program : List ℕ) (n : ℕ) (c : ChannelValue) (marks : MarkList) (image : List ℕ) (flags : List Bool) → Beside start program n c → let x = traced start program n in Agrees marks (state_of c image flags) (stop_of (next_in program x) x) (step_of marks c image flags)
+agrees_beside : (start : Registers) (program : List ℕ) (n : ℕ) (c : ChannelValue) (marks : MarkList) (image : List ℕ) (flags : List Bool)
+    → Beside start program n c → let x = traced start program n in
+    Agrees marks (state_of c image flags) (stop_of (next_in program x) x) (step_of marks c image flags)
 agrees_beside start program n c marks image flags b =
     let x = traced start program n in
     let next = next_in program x in
     let at_trace = agrees_fetched marks x c.buffer image flags b.holds next in
-    let at_channel = subst (λ (r : Registers). let s = state r c.buffer image flags in Agrees marks s (stop_of next x) (exec_fetched marks next s)) (sym b.registers) at_trace in
-    subst (λ (r : Result ChipInsn FaultKind). Agrees marks (state_of c image flags) (stop_of next x) (exec_fetched marks r (state_of c image flags))) (sym (ahead_beside start program n c b)) at_channel
+    let at_channel = subst (λ (r : Registers). let s = state r c.buffer image flags in Agrees marks s (stop_of next x) (exec_fetched marks next s))
+    (sym b.registers) at_trace in
+    subst (λ (r : Result ChipInsn FaultKind). Agrees marks (state_of c image flags) (stop_of next x) (exec_fetched marks r (state_of c image flags)))
+    (sym (ahead_beside start program n c b)) at_channel
 
 -- a refusal for a fault is one at an instruction
-stop_there : (start : Registers) (program : List ℕ) (most steps : ℕ) (cause : Cause) (kind : FaultKind) → StopsAt start program most steps cause → fault_of_cause cause ≡ Some kind → let x = traced start program steps in refused (stop_of (next_in program x) x) ≡ Some kind
+stop_there : (start : Registers) (program : List ℕ) (most steps : ℕ) (cause : Cause) (kind : FaultKind) → StopsAt start program most steps cause
+    → fault_of_cause cause ≡ Some kind → let x = traced start program steps in refused (stop_of (next_in program x) x) ≡ Some kind
 stop_there start program most steps cause kind (inl stop) is = ap refused stop.1 ∙ is
 stop_there start program most steps cause kind (inr none) is = absurd (none-some kind (sym (ap fault_of_cause none.1) ∙ is))
 
 -- and comes before the limit
-refused_early : (start : Registers) (program : List ℕ) (most steps : ℕ) (cause : Cause) (kind : FaultKind) → StopsAt start program most steps cause → fault_of_cause cause ≡ Some kind → steps < most
+refused_early : (start : Registers) (program : List ℕ) (most steps : ℕ) (cause : Cause) (kind : FaultKind) → StopsAt start program most steps cause
+    → fault_of_cause cause ≡ Some kind → steps < most
 refused_early start program most steps cause kind (inl stop) is = stop.0
 refused_early start program most steps cause kind (inr none) is = absurd (let bad = sym (ap fault_of_cause none.1) ∙ is in cc)
 
@@ -272,7 +287,8 @@ goes_never_ends : (marks : MarkList) (next : Result ChipInsn FaultKind) (s : Sta
 goes_never_ends marks (Ok i) s other = never_ends marks i s (λ e. other (ap (λ (j : ChipInsn). Ok j) e))
 goes_never_ends marks (Err kind) s other = λ e. cc
 
-module _ (start : Registers) (program : List ℕ) (most : ℕ) (u : Unexplained) (kind : FaultKind) (h : Refuses start program most u) (is : fault_of_cause u.cause ≡ Some kind) where
+module _ (start : Registers) (program : List ℕ) (most : ℕ) (u : Unexplained) (kind : FaultKind) (h : Refuses start program most u)
+    (is : fault_of_cause u.cause ≡ Some kind) where
   -- it has executed at most the instructions before the refused one
   pub record Before (c : ChannelValue) : Type 0 where
     pub few : c.taken ≤ u.steps
@@ -299,8 +315,10 @@ module _ (start : Registers) (program : List ℕ) (most : ℕ) (u : Unexplained)
     moves_before less moves =
         let c = m.channel in
         let k = c.taken in
-        let counted : (after_step marks m).channel.taken ≡ suc k = moved_count (answer_at marks m) (step_of marks c m.image m.flags).1 (stored_by (ahead_of c) c.registers) c moves ∙ omega arith in
-        let after = moved_by start program k marks c m.image m.flags _ b.beside (few_at start program k (λ j l. h.goes j (omega arith))) refl (h.goes k less) moves in
+        let counted : (after_step marks m).channel.taken ≡ suc k =
+        moved_count (answer_at marks m) (step_of marks c m.image m.flags).1 (stored_by (ahead_of c) c.registers) c moves ∙ omega arith in
+        let after = moved_by start program k marks c m.image m.flags _ b.beside (few_at start program k (λ j l. h.goes j (omega arith))) refl (h.goes k less)
+        moves in
         record {
           few = omega (arith, counted, less);
           beside = subst (λ (j : ℕ). Beside start program j (after_step marks m).channel) (sym counted) after;
@@ -312,13 +330,16 @@ module _ (start : Registers) (program : List ℕ) (most : ℕ) (u : Unexplained)
         let k = m.channel.taken in
         let next = next_in program (traced start program k) in
         goes_never_ends marks next (state_of m.channel m.image m.flags) (h.goes k less).0
-        (ap (λ (r : Result ChipInsn FaultKind). (exec_fetched marks r (state_of m.channel m.image m.flags)).0) (sym (ahead_beside start program k m.channel b.beside)) ∙ over)
+        (ap (λ (r : Result ChipInsn FaultKind). (exec_fetched marks r (state_of m.channel m.image m.flags)).0)
+        (sym (ahead_beside start program k m.channel b.beside)) ∙ over)
 
     leads_before : m.channel.taken < u.steps → (turn : ChanTurn) → answer_at marks m ≡ turn → Leads turn (after_step marks m).channel
     leads_before less Moved e = moves_before less e
     leads_before less Ended e = absurd (goes_before less e)
     leads_before less (Waiting k) e = subst (λ (n : Machine). Leads (Waiting k) n.channel) (sym (is_still marks m (subst ChangesNothing (sym e) tt))) (b, less)
-    leads_before less (Fault k) e = subst (λ (n : Machine). Leads (Fault k) n.channel) (sym (is_still marks m (subst ChangesNothing (sym e) tt))) (b, λ at. absurd (omega (arith, less, at)))
+    leads_before less (Fault k) e =
+        subst (λ (n : Machine). Leads (Fault k) n.channel) (sym (is_still marks m (subst ChangesNothing (sym e) tt)))
+        (b, λ at. absurd (omega (arith, less, at)))
 
     pub step_leads : Leads (answer_at marks m) (after_step marks m).channel
     step_leads = elim (cases_lt m.channel.taken u.steps) [
@@ -348,7 +369,8 @@ module _ (start : Registers) (program : List ℕ) (most : ℕ) (u : Unexplained)
         (step_leads marks m (low_after j) (many_held j (λ k l. moves k (omega arith))))
 
     -- a call that may take a step takes one
-    pub call_leads : (v : Machine) (limit_of taken : ℕ) (last : Option ChanTurn) → 0 < limit_of → TakesSteps marks s limit_of taken last v → LastLeads last v.channel
+    pub call_leads : (v : Machine) (limit_of taken : ℕ) (last : Option ChanTurn) → 0 < limit_of → TakesSteps marks s limit_of taken last v
+        → LastLeads last v.channel
     call_leads v limit_of zero last some x = elim (steps_stop x) [
       | inl all ↦ absurd (omega (arith, all, some))
       | inr other ↦ elim other [
@@ -365,7 +387,8 @@ module _ (start : Registers) (program : List ℕ) (most : ℕ) (u : Unexplained)
         (step_leads marks m (low_after p) (many_held p (steps_move x))))
 
     -- an event that it signals is that of a DMASEV before the refused instruction
-    pub call_signals : (v : Machine) (limit_of taken : ℕ) (last : Option ChanTurn) (e : ℕ) → TakesSteps marks s limit_of taken last v → last ≡ Some Moved → signal_after marks s taken ≡ Some e → (done : Amounts) × IsSignal start program u.steps e done
+    pub call_signals : (v : Machine) (limit_of taken : ℕ) (last : Option ChanTurn) (e : ℕ) → TakesSteps marks s limit_of taken last v → last ≡ Some Moved
+        → signal_after marks s taken ≡ Some e → (done : Amounts) × IsSignal start program u.steps e done
     call_signals v limit_of zero last e x moved signal = absurd (cc)
     call_signals v limit_of (suc p) last e x moved signal =
         let m = after_steps marks s p in
@@ -375,7 +398,13 @@ module _ (start : Registers) (program : List ℕ) (most : ℕ) (u : Unexplained)
         elim (cases_lt k u.steps) [
           | inl less ↦ (
             amounts_of (traced start program k),
-            record { step = k; within = less; signals = sym (ahead_beside start program k m.channel held.beside) ∙ sent (ahead_of m.channel) e signal; after = refl },
+            record {
+              step = k;
+              within = less;
+              signals = sym (ahead_beside start program k m.channel held.beside) ∙ sent (ahead_of m.channel) e signal;
+              after =
+                  refl;
+            },
           )
           | inr all ↦
               let fails = fails_there marks m (low_after p) held (let few = held.few in omega (arith, all, few)) in
@@ -386,8 +415,10 @@ module _ (start : Registers) (program : List ℕ) (most : ℕ) (u : Unexplained)
         sent next i signal = grind arith
 
     -- a call at the refused instruction fails there and changes nothing
-    pub call_fails_there : (v : Machine) (limit_of taken : ℕ) (last : Option ChanTurn) → 0 < limit_of → TakesSteps marks s limit_of taken last v → s.channel.taken ≡ u.steps → (last ≡ Some (Fault kind)) × (v ≡ s)
-    call_fails_there v limit_of zero last some x at = absurd (subst (λ (o : Option ChanTurn). LastLeads o v.channel) x.answer (call_leads v limit_of zero last some x))
+    pub call_fails_there : (v : Machine) (limit_of taken : ℕ) (last : Option ChanTurn) → 0 < limit_of → TakesSteps marks s limit_of taken last v
+        → s.channel.taken ≡ u.steps → (last ≡ Some (Fault kind)) × (v ≡ s)
+    call_fails_there v limit_of zero last some x at =
+        absurd (subst (λ (o : Option ChanTurn). LastLeads o v.channel) x.answer (call_leads v limit_of zero last some x))
     call_fails_there v limit_of (suc zero) last some x at =
         let fails = fails_there marks s low b at in (
           x.answer ∙ ap (λ (turn : ChanTurn). Some turn) fails,

@@ -1,22 +1,15 @@
 -- An address that lies in a region lies in no gap, and below the size of the regions' memory.
 use Rattle.std.proofs.Common.{◌≡◌, ℕ, ◌≤◌, ◌||◌, List, [], ◌∷◌, ◌++◌, Bool, true, false, refl, ◌∙◌, arith, inl, inr}
-use Rattle.std.specs.List.{Contains, list_any}
-use Rattle.std.proofs.lemmas.List.Elements.{Contains-append_left, Contains-append_right}
-use Rattle.dma_mem.specs.declared.segment.Segment.{Segment}
-use Rattle.dma_mem.specs.Marking.{MarkList, is_marked}
-use Rattle.dma_mem.specs.Places.{destinations}
-use Rattle.std.proofs.lemmas.Bool.{or_from}
-use Rattle.dma_mem.specs.declared.marks.MarkKind.TheVariants.{Reading, Writing}
-use Rattle.dma_mem.specs.Lent.{lies_in_any, stores_at}
+use Rattle.std.specs.{List.Contains, List.list_any, Prelude.IsTrue}
+use Rattle.std.proofs.{lemmas.List.Elements.Contains-append_left, lemmas.List.Elements.Contains-append_right, lemmas.Bool.or_from}
 use Rattle.dma_mem.specs.Regions.{Piece, end_of, has, rises_from, gaps_above, gaps_of, in_order, pieces_of, read_only_of}
-use Rattle.dma_mem.specs.declared.regions.Region.{Region}
-use Rattle.std.specs.Prelude.{IsTrue}
+use Rattle.dma_mem.specs.{declared.segment.Segment.Segment, Marking.MarkList, Marking.is_marked, Places.destinations}
+use Rattle.dma_mem.specs.{declared.marks.MarkKind.TheVariants.Reading, declared.marks.MarkKind.TheVariants.Writing, Lent.lies_in_any, Lent.stores_at}
+use Rattle.dma_mem.specs.{declared.regions.Region.Region}
 use Rattle.dma_mem.proofs.GapMarks.{is_marked_at, loads_in, stores_in}
 use Rattle.dma_mem.proofs.Pieces.{first, gaps_past, has_parts, past_first_gap}
-use Rattle.dma_explain.specs.Explains.{Work, cleared, written}
+use Rattle.dma_explain.specs.{Explains.Work, Explains.cleared, Explains.written, RegionsHave.GapsMiss, RegionsHave.HaveAll, Works.Uses}
 use Rattle.dma_chan.specs.LentRegions.{with_gaps_of}
-use Rattle.dma_explain.specs.RegionsHave.{GapsMiss, HaveAll}
-use Rattle.dma_explain.specs.Works.{Uses}
 
 -- what lies in pieces that rise from an address on isn't below it
 low : (at : ℕ) (ps : List Piece) (a : ℕ) → rises_from at ps ≡ true → list_any (has a) ps ≡ true → at ≤ a
@@ -31,7 +24,8 @@ in_no_gap : (at : ℕ) (ps : List Piece) (a : ℕ) → rises_from at ps ≡ true
 in_no_gap at [] a h lies = absurd (cc)
 in_no_gap at (p ∷ ps) a h lies = let f = first at p ps h in by (has a p) refl lies (in_no_gap (end_of p) ps a f.rest)
   where
-    by : (b : Bool) → has a p ≡ b → (b || list_any (has a) ps) ≡ true → (list_any (has a) ps ≡ true → lies_in_any (gaps_above (end_of p) ps) a ≡ false) → lies_in_any (gaps_above at (p ∷ ps)) a ≡ false
+    by : (b : Bool) → has a p ≡ b → (b || list_any (has a) ps) ≡ true → (list_any (has a) ps ≡ true → lies_in_any (gaps_above (end_of p) ps) a ≡ false)
+        → lies_in_any (gaps_above at (p ∷ ps)) a ≡ false
     by true e lies later =
         let f = first at p ps h in
         let w = has_parts a p e in

@@ -1,23 +1,14 @@
 -- The limits, as numbers, and a program worked out: rows computed from the definitions, and the code's own constants.
 -- And what a law refuses.
 use Rattle.std.proofs.Common.{◌≡◌, ℕ, zero, suc, ◌<◌, ap, ◌-◌, ◌≤◌, [], ◌∷◌, Some, None, refl, arith}
-use Rattle.dma_mem.specs.Places.{Descriptor, copying, size_of}
-use Rattle.dma_mem.specs.Rules.{IsTransfer}
+use Rattle.dma_mem.specs.{Places.Descriptor, Places.copying, Places.size_of, Rules.IsTransfer}
 use Rattle.dma_mem.proofs.TransferRules.{size_of_some}
 use Rattle.dma_insn.specs.declared.chip.ChipInsn.TheVariants.{StoreZeros}
-use Rattle.dma_chan.specs.declared.bus.Bus.{Bus}
-use Rattle.dma_chan.specs.declared.bus.Bus.TheVariants.{Chip}
-use Rattle.dma_chan.specs.declared.bus.BusWidth.TheVariants.{Bits32}
-use Rattle.dma_chan.specs.Bursts.{burst_at}
-use Rattle.dma_explain.specs.Changes.{Call, HasCopied}
-use Rattle.dma_chan.specs.declared.exec.Registers.{Registers}
-use Rattle.dma_explain.specs.declared.explain.Amounts.{Amounts}
-use Rattle.dma_explain.specs.declared.explain.Cause.TheVariants.{StoresFixed}
+use Rattle.dma_chan.specs.{declared.bus.Bus.Bus, declared.bus.Bus.TheVariants.Chip, declared.bus.BusWidth.TheVariants.Bits32, Bursts.burst_at}
+use Rattle.dma_chan.specs.{declared.exec.Registers.Registers, Exec.start_on, Compiled.compiled_on, Compiled.cost_on}
 use Rattle.dma_explain.specs.Explains.{Explains, GoesOn, Work, next_in, only, stop_of_insn, traced, untraced}
-use Rattle.dma_explain.proofs.LowestPlaces.{once_of}
-use Rattle.dma_chan.specs.Exec.{start_on}
-use Rattle.dma_chan.specs.Compiled.{compiled_on, cost_on}
-use Rattle.dma_explain.proofs.CompiledExplained.{compiled_events}
+use Rattle.dma_explain.specs.{Changes.Call, Changes.HasCopied, declared.explain.Amounts.Amounts, declared.explain.Cause.TheVariants.StoresFixed}
+use Rattle.dma_explain.proofs.{LowestPlaces.once_of, CompiledExplained.compiled_events}
 
 -- ---- a program worked out
 
@@ -53,7 +44,8 @@ zeros_of_one_address = refl
 -- ---- what a law refuses
 
 -- A channel that reports a signal of a compiled program before it has stored anything breaks the law of copies.
-early_signal_is_refused : (bus : Bus) (t : Descriptor) (first memory : ℕ → ℕ) (call : Call) (e : ℕ) → IsTransfer t → call.signal ≡ Some e → call.left.channel.stored ≡ 0 → ¬ HasCopied (start_on bus) (compiled_on bus t).bytes (only t) (cost_on bus t - 1) first memory call
+early_signal_is_refused : (bus : Bus) (t : Descriptor) (first memory : ℕ → ℕ) (call : Call) (e : ℕ) → IsTransfer t → call.signal ≡ Some e
+    → call.left.channel.stored ≡ 0 → ¬ HasCopied (start_on bus) (compiled_on bus t).bytes (only t) (cost_on bus t - 1) first memory call
 early_signal_is_refused bus t first memory call e h signals none copied =
     let at = (compiled_events (start_on bus) t h).signals e copied.done (copied.signals e signals) in
     let all : copied.done.copied ≡ size_of t = ap (λ (done : Amounts). done.copied) at.1 in

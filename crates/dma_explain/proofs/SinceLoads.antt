@@ -1,36 +1,28 @@
 -- Transfers' programs that channels execute over one memory, each counted from its own load.
-use Rattle.std.proofs.Common.{◌≡◌, ℕ, zero, suc, ◌+◌, ◌-◌, ◌≤◌, ◌⊎◌, List, [], length, length-append, map, take, get_or, Option, Some, None, refl, sym, ap, ◌∙◌, subst, arith, inl, inr}
-use Rattle.std.specs.Prelude.{IsSome}
-use Rattle.std.specs.List.{Contains, range_with_len}
+use Rattle.std.proofs.Common.{◌≡◌, ℕ, zero, suc, ◌+◌, ◌-◌, ◌≤◌, ◌⊎◌, List, [], length, length-append, map, take, get_or, Option, Some, None, refl, sym, ap, ◌∙◌}
+use Rattle.std.proofs.Common.{subst, arith, inl, inr}
+use Rattle.std.specs.{Prelude.IsSome, List.Contains, List.range_with_len}
 use Rattle.std.proofs.lemmas.List.{get_or-take, length-take, take_all, take_at}
-use Rattle.std.proofs.lemmas.Bool.{cases_Bool, cases_eq}
-use Rattle.std.proofs.lemmas.List.Elements.{Contains-get_or}
-use Rattle.std.proofs.lemmas.List.FromFn.{get_or-map-range_with_len, length-map-range_with_len}
-use Rattle.dma_mem.specs.declared.segment.Segment.{Segment}
-use Rattle.dma_mem.specs.Places.{destinations, size_of, sources}
-use Rattle.dma_mem.specs.Image.{laid}
-use Rattle.dma_chan.specs.declared.exec.Registers.{Registers}
-use Rattle.dma_chan.specs.declared.turn.ChanTurn.{ChanTurn}
-use Rattle.dma_chan.specs.declared.turn.ChanTurn.TheVariants.{Ended}
-use Rattle.dma_chan.specs.Channel.{ChannelValue}
-use Rattle.dma_chan.specs.Stepping.{Machine}
-use Rattle.dma_chan.specs.Written.{LiesIn}
-use Rattle.dma_explain.specs.declared.explain.Amounts.{Amounts}
-use Rattle.dma_chan.specs.Others.{Touches}
-use Rattle.dma_explain.specs.Works.{IsWorked, Uses}
+use Rattle.std.proofs.{lemmas.Bool.cases_Bool, lemmas.Bool.cases_eq, lemmas.List.Elements.Contains-get_or, lemmas.List.FromFn.get_or-map-range_with_len}
+use Rattle.std.proofs.{lemmas.List.FromFn.length-map-range_with_len}
+use Rattle.dma_mem.specs.{declared.segment.Segment.Segment, Places.destinations, Places.size_of, Places.sources, Image.laid}
+use Rattle.dma_chan.specs.{declared.exec.Registers.Registers, declared.turn.ChanTurn.ChanTurn, declared.turn.ChanTurn.TheVariants.Ended, Channel.ChannelValue}
+use Rattle.dma_chan.specs.{Stepping.Machine, Written.LiesIn, Others.Touches}
 use Rattle.dma_explain.specs.Explains.{DoneGrows, Executes, Explains, IsLoadedWith, IsReached, IsWork, Work, all_of, amounts_of, cleared, traced}
-use Rattle.dma_explain.specs.Changes.{System, Call, Change, Sets, Calls, Guest, DoesCall, TakesCall, MakesChange, DoesAll, LendsAll, SinceLoad, KeepsUsed, LeavesAlone, HasFirst, HasCopied, CopiesSinceLoad, bytes_in, Holds, Gives, HaveWorks, WritesElsewhere, IsApart, ChannelsCopy}
+use Rattle.dma_explain.specs.Changes.{System, Call, Change, Sets, Calls, Guest, DoesCall, TakesCall, MakesChange, DoesAll, LendsAll, SinceLoad, KeepsUsed}
+use Rattle.dma_explain.specs.Changes.{LeavesAlone, HasFirst, HasCopied, CopiesSinceLoad, bytes_in, Holds, Gives, HaveWorks, WritesElsewhere, IsApart}
+use Rattle.dma_explain.specs.Changes.{ChannelsCopy}
+use Rattle.dma_explain.specs.{declared.explain.Amounts.Amounts, Works.IsWorked, Works.Uses}
 use Rattle.dma_explain.proofs.AmongOthers.{Fits, amounts, is_in}
 use Rattle.dma_explain.proofs.CallsAmongOthers.{done_at, Leads, Runs, at_first, call, call_fails, call_waits, either_way, not_none, signalled, survived}
+use Rattle.dma_explain.proofs.{CallStays.call_stays_in, CallStays.inside, LaidPlaces.laid_copied, LaidPlaces.laid_kept, Traced.copy_of, Traced.grows_to}
 use Rattle.dma_chan.proofs.CallWrites.{call_writes_no_other}
-use Rattle.dma_explain.proofs.CallStays.{call_stays_in, inside}
-use Rattle.dma_explain.proofs.LaidPlaces.{laid_copied, laid_kept}
-use Rattle.dma_explain.proofs.Traced.{copy_of, grows_to}
 
 -- ---- one call
 
 -- the same of memories that agree at what the work uses
-pub first_agrees : (work : Work) (done : Amounts) (f g first memory : ℕ → ℕ) → IsWork work → ((a : ℕ) → Uses work a → first a ≡ f a) → ((a : ℕ) → Uses work a → memory a ≡ g a) → HasFirst work done f g → HasFirst work done first memory
+pub first_agrees : (work : Work) (done : Amounts) (f g first memory : ℕ → ℕ) → IsWork work → ((a : ℕ) → Uses work a → first a ≡ f a)
+    → ((a : ℕ) → Uses work a → memory a ≡ g a) → HasFirst work done f g → HasFirst work done first memory
 first_agrees work done f g first memory h same left w =
     let t = work.copy in
     record {
@@ -48,7 +40,8 @@ pub record IsPart (work : Work) (first : List ℕ) (done : Amounts) (image : Lis
   pub zeros : (a : ℕ) → Contains (take done.cleared (cleared work)) a → get_or image a 0 ≡ 0
   pub rest : (a : ℕ) → Contains (cleared work) a → ¬ Contains (take done.cleared (cleared work)) a → get_or image a 0 ≡ get_or first a 0
 
-pub part_first : (work : Work) (first : List ℕ) (done : Amounts) (image : List ℕ) → IsWork work → Fits work (length first) → IsPart work first done image → HasFirst work done (bytes_in first) (bytes_in image)
+pub part_first : (work : Work) (first : List ℕ) (done : Amounts) (image : List ℕ) → IsWork work → Fits work (length first) → IsPart work first done image
+    → HasFirst work done (bytes_in first) (bytes_in image)
 part_first work first done image h low part =
     let t = work.copy in
     let zs = cleared work in
@@ -77,7 +70,8 @@ done_grows start program k m l =
     }
 
 -- what is reached is no more than all
-pub cleared_within : (start : Registers) (program : List ℕ) (work : Work) (n : ℕ) (done : Amounts) → Explains start program work n → IsReached start program n done → done.cleared ≤ length (cleared work)
+pub cleared_within : (start : Registers) (program : List ℕ) (work : Work) (n : ℕ) (done : Amounts) → Explains start program work n
+    → IsReached start program n done → done.cleared ≤ length (cleared work)
 cleared_within start program work n done h r =
     let x = traced start program r.0 in
     let inner = inside start program work n h r.0 r.1 in
@@ -107,7 +101,8 @@ module _ (start : Registers) (program : List ℕ) (work : Work) (n : ℕ) (first
     pub reached : IsReached start program n (done_at start program v)
     pub part : IsPart work first (done_at start program v) v.image
 
-  so_far : (v : Machine) (done : Amounts) → done_at start program v ≡ done → v.channel.stored ≡ done.copied + done.cleared → IsReached start program n done → IsPart work first done v.image → IsSoFar v
+  so_far : (v : Machine) (done : Amounts) → done_at start program v ≡ done → v.channel.stored ≡ done.copied + done.cleared → IsReached start program n done
+      → IsPart work first done v.image → IsSoFar v
   so_far v done e count reached part = record {
     count = subst (λ (d : Amounts). v.channel.stored ≡ d.copied + d.cleared) (sym e) count;
     reached = subst (IsReached start program n) (sym e) reached;
@@ -120,7 +115,8 @@ module _ (start : Registers) (program : List ℕ) (work : Work) (n : ℕ) (first
       let m = r.1.mirrors in
       let x = traced start program k in
       let inner = inside start program work n h k r.1.within in
-      let zeros : take (length x.zeros) (cleared work) ≡ x.zeros = ap (take (length x.zeros)) inner.zeros ∙ take_at x.zeros inner.zeros_rest (length x.zeros) refl in
+      let zeros : take (length x.zeros) (cleared work) ≡ x.zeros = ap (take (length x.zeros)) inner.zeros
+      ∙ take_at x.zeros inner.zeros_rest (length x.zeros) refl in
       so_far v (amounts_of x) (ap (λ (j : ℕ). amounts_of (traced start program j)) r.1.taken) r.1.stored
       (k, r.1.within, refl)
       (record {
@@ -133,26 +129,29 @@ module _ (start : Registers) (program : List ℕ) (work : Work) (n : ℕ) (first
   leads_so (Some Ended) v d = so_far v (all_of work) d.done d.stored (n, omega arith, all_done start program work n h) (worked_part work first v.image d.all)
   leads_so o v r = runs_so v r
 
-module _ (start : Registers) (program : List ℕ) (work : Work) (n : ℕ) (first : List ℕ) (h : Explains start program work n) (low : Fits work (length first)) where
-  pub leads : (c : Call) → Runs start program work n first c.found → DoesCall c → Leads start program work n first c.last c.left
-  leads c r does = call start program work n c.marks first h low c.found c.left c.most c.taken c.last r does.steps
+module _ (start : Registers) (program : List ℕ) (work : Work) (n : ℕ) (first : List ℕ) (h : Explains start program work n) (low : Fits work (length first))
+  where
+    pub leads : (c : Call) → Runs start program work n first c.found → DoesCall c → Leads start program work n first c.last c.left
+    leads c r does = call start program work n c.marks first h low c.found c.left c.most c.taken c.last r does.steps
 
-  pub has_copied : (c : Call) → Runs start program work n first c.found → DoesCall c → HasCopied start program work n (bytes_in first) (bytes_in c.left.image) c
-  has_copied c r does =
-      let so = leads_so start program work n first h c.last c.left (leads c r does) in
-      record {
-        done = done_at start program c.left;
-        count = so.count;
-        reached = so.reached;
-        bytes = part_first work first (done_at start program c.left) c.left.image h.work low so.part;
-        writes = λ a i.
-            let stays = call_stays_in start program work n c.marks c.found c.most c.taken c.last c.left h (r.0, is_in start program work n first r.0 c.found.image c.found.channel r.1) does.steps in
-            stays.writes a (subst (λ (w : Segment). LiesIn w a) does.written i);
-        signals = λ e reported. signalled start program work n c.marks first h low c.found c.left c.most c.taken c.last e r does.steps (sym does.signal ∙ reported);
-        ends = λ over. (subst (λ (o : Option ChanTurn). Leads start program work n first o c.left) over (leads c r does)).done;
-        waits = λ e is. call_waits start program work n c.marks first h low c.found c.left c.most c.taken e c.last r does.steps is;
-        never_fails = λ kind none. call_fails start program work n c.marks first h low c.found c.left c.most c.taken c.last kind none r does.steps;
-      }
+    pub has_copied : (c : Call) → Runs start program work n first c.found → DoesCall c → HasCopied start program work n (bytes_in first) (bytes_in c.left.image) c
+    has_copied c r does =
+        let so = leads_so start program work n first h c.last c.left (leads c r does) in
+        record {
+          done = done_at start program c.left;
+          count = so.count;
+          reached = so.reached;
+          bytes = part_first work first (done_at start program c.left) c.left.image h.work low so.part;
+          writes = λ a i.
+              let stays = call_stays_in start program work n c.marks c.found c.most c.taken c.last c.left h
+              (r.0, is_in start program work n first r.0 c.found.image c.found.channel r.1) does.steps in
+              stays.writes a (subst (λ (w : Segment). LiesIn w a) does.written i);
+          signals = λ e reported. signalled start program work n c.marks first h low c.found c.left c.most c.taken c.last e r does.steps
+              (sym does.signal ∙ reported);
+          ends = λ over. (subst (λ (o : Option ChanTurn). Leads start program work n first o c.left) over (leads c r does)).done;
+          waits = λ e is. call_waits start program work n c.marks first h low c.found c.left c.most c.taken e c.last r does.steps is;
+          never_fails = λ kind none. call_fails start program work n c.marks first h low c.found c.left c.most c.taken c.last kind none r does.steps;
+        }
 
 -- ---- since the load
 
@@ -160,74 +159,83 @@ module _ (start : Registers) (program : List ℕ) (work : Work) (n : ℕ) (first
 abbrev imaged : ℕ → (ℕ → ℕ) → List ℕ
 imaged size memory = map memory (range_with_len 0 size)
 
-module _ (start : Registers) (program : List ℕ) (work : Work) (n : ℕ) (size : ℕ) (memory : ℕ → ℕ) (h : Explains start program work n) (low : Fits work size) where
-  abbrev first : List ℕ
-  first = imaged size memory
+module _ (start : Registers) (program : List ℕ) (work : Work) (n : ℕ) (size : ℕ) (memory : ℕ → ℕ) (h : Explains start program work n) (low : Fits work size)
+  where
+    abbrev first : List ℕ
+    first = imaged size memory
 
-  within : (other : ℕ → ℕ) → Fits work (length (imaged size other))
-  within other = subst (Fits work) (sym (length-map-range_with_len other 0 size)) low
+    within : (other : ℕ → ℕ) → Fits work (length (imaged size other))
+    within other = subst (Fits work) (sym (length-map-range_with_len other 0 size)) low
 
-  shows : (other : ℕ → ℕ) (a : ℕ) → Uses work a → get_or (imaged size other) a 0 ≡ other a
-  shows other a touches = get_or-map-range_with_len other 0 size a a 0 (low a touches) (omega arith)
+    shows : (other : ℕ → ℕ) (a : ℕ) → Uses work a → get_or (imaged size other) a 0 ≡ other a
+    shows other a touches = get_or-map-range_with_len other 0 size a a 0 (low a touches) (omega arith)
 
-  -- a channel of the system with its memory
-  abbrev at_channel : System → ℕ → Machine
-  at_channel s ch = record { channel = s.channels ch; image = imaged size s.memory; flags = [] }
+    -- a channel of the system with its memory
+    abbrev at_channel : System → ℕ → Machine
+    at_channel s ch = record { channel = s.channels ch; image = imaged size s.memory; flags = [] }
 
-  -- the channel is not finished, or it has ended
-  abbrev Is : ℕ → System → Type 0
-  Is ch s = Runs start program work n first (at_channel s ch) ⊎ ((s.channels ch).program ≡ None)
+    -- the channel is not finished, or it has ended
+    abbrev Is : ℕ → System → Type 0
+    Is ch s = Runs start program work n first (at_channel s ch) ⊎ ((s.channels ch).program ≡ None)
 
-  -- a change that does not touch the channel
-  kept : (ch : ℕ) (s v : System) → v.channels ch ≡ s.channels ch → KeepsUsed work s v → Is ch s → Is ch v
-  kept ch s v same keeps (inl r) =
-      inl (survived start program work n first (at_channel s ch) (at_channel v ch) r same (λ a touches. shows v.memory a touches ∙ keeps a touches ∙ sym (shows s.memory a touches)) (within v.memory))
-  kept ch s v same keeps (inr none) = inr (ap (λ (c : ChannelValue). c.program) same ∙ none)
+    -- a change that does not touch the channel
+    kept : (ch : ℕ) (s v : System) → v.channels ch ≡ s.channels ch → KeepsUsed work s v → Is ch s → Is ch v
+    kept ch s v same keeps (inl r) =
+        inl (survived start program work n first (at_channel s ch) (at_channel v ch) r same
+        (λ a touches. shows v.memory a touches ∙ keeps a touches ∙ sym (shows s.memory a touches)) (within v.memory))
+    kept ch s v same keeps (inr none) = inr (ap (λ (c : ChannelValue). c.program) same ∙ none)
 
-  -- before a call on the channel
-  found : (c : Call) (s v : System) → TakesCall c s v → LendsAll work c → Is c.channel s → Runs start program work n first c.found
-  found c s v takes lent (inl r) =
-      survived start program work n first (at_channel s c.channel) c.found r takes.finds_channel (λ a touches. takes.finds a (lent a touches) ∙ sym (shows s.memory a touches)) (λ a touches. takes.within a (lent a touches))
-  found c s v takes lent (inr none) = absurd (not_none c.found.channel.program takes.does.is_loaded (ap (λ (d : ChannelValue). d.program) takes.finds_channel ∙ none))
+    -- before a call on the channel
+    found : (c : Call) (s v : System) → TakesCall c s v → LendsAll work c → Is c.channel s → Runs start program work n first c.found
+    found c s v takes lent (inl r) =
+        survived start program work n first (at_channel s c.channel) c.found r takes.finds_channel
+        (λ a touches. takes.finds a (lent a touches) ∙ sym (shows s.memory a touches)) (λ a touches. takes.within a (lent a touches))
+    found c s v takes lent (inr none) =
+        absurd (not_none c.found.channel.program takes.does.is_loaded (ap (λ (d : ChannelValue). d.program) takes.finds_channel ∙ none))
 
-  -- after the call
-  left : (c : Call) (s v : System) → TakesCall c s v → LendsAll work c → Runs start program work n first c.left ⊎ (c.left.channel.program ≡ None) → Is c.channel v
-  left c s v takes lent (inl r) =
-      inl (survived start program work n first c.left (at_channel v c.channel) r takes.leaves_channel (λ a touches. shows v.memory a touches ∙ takes.leaves a (lent a touches)) (within v.memory))
-  left c s v takes lent (inr none) = inr (ap (λ (d : ChannelValue). d.program) takes.leaves_channel ∙ none)
+    -- after the call
+    left : (c : Call) (s v : System) → TakesCall c s v → LendsAll work c → Runs start program work n first c.left ⊎ (c.left.channel.program ≡ None)
+        → Is c.channel v
+    left c s v takes lent (inl r) =
+        inl (survived start program work n first c.left (at_channel v c.channel) r takes.leaves_channel
+        (λ a touches. shows v.memory a touches ∙ takes.leaves a (lent a touches)) (within v.memory))
+    left c s v takes lent (inr none) = inr (ap (λ (d : ChannelValue). d.program) takes.leaves_channel ∙ none)
 
-  called : (c : Call) (s v : System) → TakesCall c s v → LendsAll work c → Is c.channel s → Is c.channel v
-  called c s v takes lent i =
-      left c s v takes lent (either_way start program work n first c.last c.left (leads start program work n first h (within memory) c (found c s v takes lent i) takes.does))
+    called : (c : Call) (s v : System) → TakesCall c s v → LendsAll work c → Is c.channel s → Is c.channel v
+    called c s v takes lent i =
+        left c s v takes lent (either_way start program work n first c.last c.left
+        (leads start program work n first h (within memory) c (found c s v takes lent i) takes.does))
 
-  changed : (ch : ℕ) (change : Change) (s v : System) → MakesChange change s v → LeavesAlone work ch change s v → Is ch s → Is ch v
-  changed ch (Sets other c) s v does alone i = elim (cases_eq other ch) [
-    | inl e ↦ kept ch s v (subst (λ (d : ℕ). v.channels d ≡ c) e does.0 ∙ alone e) (λ a touches. does.1.1 a) i
-    | inr ne ↦ kept ch s v (does.1.0 ch (λ e. ne (sym e))) (λ a touches. does.1.1 a) i
-  ]
-  changed ch Guest s v does alone i = kept ch s v (does ch) alone i
-  changed ch (Calls c) s v takes alone i = elim (cases_eq c.channel ch) [
-    | inl e ↦ subst (λ (d : ℕ). Is d v) e (called c s v takes (alone.0 e) (subst (λ (d : ℕ). Is d s) (sym e) i))
-    | inr ne ↦ kept ch s v (takes.others ch (λ e. ne (sym e))) (alone.1 ne) i
-  ]
+    changed : (ch : ℕ) (change : Change) (s v : System) → MakesChange change s v → LeavesAlone work ch change s v → Is ch s → Is ch v
+    changed ch (Sets other c) s v does alone i = elim (cases_eq other ch) [
+      | inl e ↦ kept ch s v (subst (λ (d : ℕ). v.channels d ≡ c) e does.0 ∙ alone e) (λ a touches. does.1.1 a) i
+      | inr ne ↦ kept ch s v (does.1.0 ch (λ e. ne (sym e))) (λ a touches. does.1.1 a) i
+    ]
+    changed ch Guest s v does alone i = kept ch s v (does ch) alone i
+    changed ch (Calls c) s v takes alone i = elim (cases_eq c.channel ch) [
+      | inl e ↦ subst (λ (d : ℕ). Is d v) e (called c s v takes (alone.0 e) (subst (λ (d : ℕ). Is d s) (sym e) i))
+      | inr ne ↦ kept ch s v (takes.others ch (λ e. ne (sym e))) (alone.1 ne) i
+    ]
 
-  copied : (c : Call) (s v : System) → TakesCall c s v → LendsAll work c → Is c.channel s → HasCopied start program work n memory v.memory c
-  copied c s v takes lent i =
-      let all = has_copied start program work n first h (within memory) c (found c s v takes lent i) takes.does in
-      record {
-        done = all.done;
-        count = all.count;
-        reached = all.reached;
-        bytes = first_agrees work all.done (bytes_in first) (bytes_in c.left.image) memory v.memory h.work
-            (λ a touches. sym (shows memory a touches)) (λ a touches. takes.leaves a (lent a touches)) all.bytes;
-        writes = all.writes;
-        signals = all.signals;
-        ends = all.ends;
-        waits = all.waits;
-        never_fails = all.never_fails;
-      }
+    copied : (c : Call) (s v : System) → TakesCall c s v → LendsAll work c → Is c.channel s → HasCopied start program work n memory v.memory c
+    copied c s v takes lent i =
+        let all = has_copied start program work n first h (within memory) c (found c s v takes lent i) takes.does in
+        record {
+          done = all.done;
+          count = all.count;
+          reached = all.reached;
+          bytes = first_agrees work all.done (bytes_in first) (bytes_in c.left.image) memory v.memory h.work
+              (λ a touches. sym (shows memory a touches)) (λ a touches. takes.leaves a (lent a touches)) all.bytes;
+          writes = all.writes;
+          signals = all.signals;
+          ends = all.ends;
+          waits = all.waits;
+          never_fails = all.never_fails;
+        }
 
-module _ (start : Registers) (program : List ℕ) (work : Work) (n : ℕ) (changes : ℕ → Change) (states : ℕ → System) (load now : ℕ) (c : Call) (h : Explains start program work n) (does : DoesAll changes states load (now + 1)) (since : SinceLoad start program work changes states load now c (λ k. LeavesAlone work c.channel)) where
+module _ (start : Registers) (program : List ℕ) (work : Work) (n : ℕ) (changes : ℕ → Change) (states : ℕ → System) (load now : ℕ) (c : Call)
+    (h : Explains start program work n) (does : DoesAll changes states load (now + 1))
+    (since : SinceLoad start program work changes states load now c (λ k. LeavesAlone work c.channel)) where
   takes : TakesCall c (states now) (states (now + 1))
   takes = let later = since.later in subst (λ (x : Change). MakesChange x (states now) (states (now + 1))) since.is_call (does now (omega arith) (omega arith))
 
@@ -249,14 +257,16 @@ module _ (start : Registers) (program : List ℕ) (work : Work) (n : ℕ) (chang
       let is_loaded = subst (IsLoadedWith start program) (sym d.0) since.loads.1 in
       let s = states (load + 1) in
       kept start program work n size memory h low c.channel (record s { memory = memory }) s refl (λ a touches. d.1.1 a)
-      (inl (at_first start program work n (imaged size memory) (record { channel = s.channels c.channel; image = imaged size memory; flags = [] }) (within start program work n size memory h low memory) is_loaded refl))
+      (inl (at_first start program work n (imaged size memory) (record { channel = s.channels c.channel; image = imaged size memory; flags = [] })
+      (within start program work n size memory h low memory) is_loaded refl))
 
   along : (d : ℕ) → load + 1 + d ≤ now → Is_at (load + 1 + d)
   along zero l = let e : load + 1 ≡ load + 1 + zero = omega arith in subst Is_at e after_load
   along (suc d) l =
       let k = load + 1 + d in
       let e : k + 1 ≡ load + 1 + suc d = omega arith in
-      subst Is_at e (changed start program work n size (states load).memory h low c.channel (changes k) (states k) (states (k + 1)) (does k (omega arith) (omega arith)) (since.spares k (omega arith) (omega arith)) (along d (omega arith)))
+      subst Is_at e (changed start program work n size (states load).memory h low c.channel (changes k) (states k) (states (k + 1))
+      (does k (omega arith) (omega arith)) (since.spares k (omega arith) (omega arith)) (along d (omega arith)))
 
   at_call : Is_at now
   at_call =
@@ -280,7 +290,8 @@ executes : (work : Work) (c : ChannelValue) → IsSome c.program → Holds (Some
 executes work c some (inl none) = absurd (not_none c.program some none)
 executes work c some (inr w) = w
 
-still : (start : Registers) (program : List ℕ) (work : Work) (n : ℕ) (c : ChannelValue) → Explains start program work n → Executes start program n c ⊎ (c.program ≡ None) → Holds (Some work) c
+still : (start : Registers) (program : List ℕ) (work : Work) (n : ℕ) (c : ChannelValue) → Explains start program work n → Executes start program n c
+    ⊎ (c.program ≡ None) → Holds (Some work) c
 still start program work n c h (inl w) = inr (start, program, n, h, w)
 still start program work n c h (inr none) = inl none
 
@@ -316,7 +327,8 @@ module _ (c : Call) (s v : System) (takes : TakesCall c s v) where
 same_held : (o p : Option Work) (c d : ChannelValue) → p ≡ o → d ≡ c → Holds o c → Holds p d
 same_held o p c d e f h = subst (λ (x : Option Work). Holds x d) (sym e) (subst (Holds o) (sym f) h)
 
-one : (change : Change) (before after : ℕ → Option Work) (s v : System) → MakesChange change s v → Gives change before after → ((ch : ℕ) → Holds (before ch) (s.channels ch)) → (ch : ℕ) → Holds (after ch) (v.channels ch)
+one : (change : Change) (before after : ℕ → Option Work) (s v : System) → MakesChange change s v → Gives change before after
+    → ((ch : ℕ) → Holds (before ch) (s.channels ch)) → (ch : ℕ) → Holds (after ch) (v.channels ch)
 one (Sets d c) before after s v does gives holds ch = elim (cases_eq ch d) [
   | inl e ↦ subst (λ (k : ℕ). Holds (after k) (v.channels k)) (sym e) (subst (Holds (after d)) (sym does.0) gives.0)
   | inr ne ↦ same_held (before ch) (after ch) (s.channels ch) (v.channels ch) (gives.1 ch ne) (does.1.0 ch ne) (holds ch)
@@ -330,11 +342,13 @@ one (Calls c) before after s v takes gives holds ch = elim (cases_eq ch c.channe
   | inr ne ↦ same_held (before ch) (after ch) (s.channels ch) (v.channels ch) (gives ch) (takes.others ch ne) (holds ch)
 ]
 
-apart_alone : (work : Work) (ch : ℕ) (own : ℕ → Option Work) (change : Change) (s v : System) → MakesChange change s v → ((d : ℕ) → Holds (own d) (s.channels d)) → IsApart work ch own change s v → LeavesAlone work ch change s v
+apart_alone : (work : Work) (ch : ℕ) (own : ℕ → Option Work) (change : Change) (s v : System) → MakesChange change s v
+    → ((d : ℕ) → Holds (own d) (s.channels d)) → IsApart work ch own change s v → LeavesAlone work ch change s v
 apart_alone work ch own (Calls c) s v takes holds apart = (apart.0, λ ne. elsewhere c s v takes work (own c.channel) (holds c.channel) (apart.1 ne))
 apart_alone work ch own change s v does holds apart = apart
 
-module _ (own : ℕ → ℕ → Option Work) (changes : ℕ → Change) (states : ℕ → System) (from count : ℕ) (does : DoesAll changes states from count) (have : HaveWorks own changes states from count) where
+module _ (own : ℕ → ℕ → Option Work) (changes : ℕ → Change) (states : ℕ → System) (from count : ℕ) (does : DoesAll changes states from count)
+    (have : HaveWorks own changes states from count) where
   hold : (d : ℕ) → from + d ≤ count → (ch : ℕ) → Holds (own (from + d) ch) ((states (from + d)).channels ch)
   hold zero l ch =
       let e : from ≡ from + zero = omega arith in
@@ -343,7 +357,8 @@ module _ (own : ℕ → ℕ → Option Work) (changes : ℕ → Change) (states 
       let k = from + d in
       let e : k + 1 ≡ from + suc d = omega arith in
       subst (λ (j : ℕ). Holds (own j ch) ((states j).channels ch)) e
-      (one (changes k) (own k) (own (k + 1)) (states k) (states (k + 1)) (does k (omega arith) (omega arith)) (have.gives k (omega arith) (omega arith)) (hold d (omega arith)) ch)
+      (one (changes k) (own k) (own (k + 1)) (states k) (states (k + 1)) (does k (omega arith) (omega arith)) (have.gives k (omega arith) (omega arith))
+      (hold d (omega arith)) ch)
 
   pub hold_at : (k : ℕ) → from ≤ k → k ≤ count → (ch : ℕ) → Holds (own k ch) ((states k).channels ch)
   hold_at k low high ch =
@@ -358,5 +373,6 @@ channels_copy start program work n own changes states load now c h does have sin
       is_call = since.is_call;
       lent = since.lent;
       spares = λ k l m.
-          apart_alone work c.channel (own k) (changes k) (states k) (states (k + 1)) (does k (omega arith) (omega arith)) (hold_at own changes states load (now + 1) does have k (omega arith) (omega arith)) (since.spares k l m);
+          apart_alone work c.channel (own k) (changes k) (states k) (states (k + 1)) (does k (omega arith) (omega arith))
+          (hold_at own changes states load (now + 1) does have k (omega arith) (omega arith)) (since.spares k l m);
     })

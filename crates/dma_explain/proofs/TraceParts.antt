@@ -2,10 +2,7 @@
 use Rattle.std.proofs.Common.{◌≡◌, ℕ, List, ap, ◌∙◌}
 use Rattle.dma_mem.specs.declared.segment.Segment.{Segment}
 use Rattle.dma_chan.specs.declared.exec.Registers.{Registers}
-use Rattle.dma_explain.specs.declared.explain.Amounts.{Amounts}
-use Rattle.dma_explain.specs.declared.explain.Repeated.{Repeated}
-use Rattle.dma_explain.specs.Explains.{Trace}
-use Rattle.dma_explain.specs.Items.{Items}
+use Rattle.dma_explain.specs.{declared.explain.Amounts.Amounts, declared.explain.Repeated.Repeated, Explains.Trace, Items.Items}
 
 abbrev pub parts : Registers → List ℕ → List ℕ → List ℕ → Trace
 parts r loads stores zeros = record { registers = r; loads = loads; stores = stores; zeros = zeros }

@@ -1,45 +1,32 @@
 -- A run without memory, and one instruction of the machine beside it.
-use Rattle.std.proofs.Common.{◌≡◌, ℕ, zero, suc, ◌+◌, ◌-◌, ◌≤◌, ◌<◌, Bool, true, false, ltb, List, [], ◌++◌, length, get_or, take, drop, refl, sym, ap, ◌∙◌, subst, arith, append_assoc, append-nil, length-append, inl, inr, Result, Ok, Err}
+use Rattle.std.proofs.Common.{◌≡◌, ℕ, zero, suc, ◌+◌, ◌-◌, ◌≤◌, ◌<◌, Bool, true, false, ltb, List, [], ◌++◌, length, get_or, take, drop, refl, sym, ap, ◌∙◌}
+use Rattle.std.proofs.Common.{subst, arith, append_assoc, append-nil, length-append, inl, inr, Result, Ok, Err}
 use Rattle.std.specs.Prelude.{Option, Some, ◌≢◌, ◌⊎◌, replicate, nat_eq, slice_index, slice_index_or, slice_set, unwrap_or}
-use Rattle.std.specs.List.{Contains, list_any, range_with_len, zip}
-use Rattle.std.specs.Map.{keys_of, lookup}
+use Rattle.std.specs.{List.Contains, List.list_any, List.range_with_len, List.zip, Map.keys_of, Map.lookup}
 use Rattle.std.proofs.lemmas.Bool.{cases_Bool, cond_both, eq-eqb, eqb-true, le-ltb, cases_lt, true≢false}
-use Rattle.std.proofs.lemmas.List.{get_or_append_left, get_or-replicate, length-replicate, take_all, map-append, drop-append-le, take_at, drop_at, drop-drop, length-drop, length-map, length-take-le, take-map, drop-map, take-append-le}
+use Rattle.std.proofs.lemmas.List.{get_or_append_left, get_or-replicate, length-replicate, take_all, map-append, drop-append-le, take_at, drop_at, drop-drop}
+use Rattle.std.proofs.lemmas.List.{length-drop, length-map, length-take-le, take-map, drop-map, take-append-le}
 use Rattle.std.proofs.lemmas.List.Elements.{Contains-append_cases, Contains-append_left, Contains-append_right}
-use Rattle.std.proofs.lemmas.List.Folds.{Any-from_list_any}
-use Rattle.std.proofs.Math.Seq.{take-add}
-use Rattle.dma_insn.specs.declared.chip.Address.TheVariants.{Destination}
+use Rattle.std.proofs.{lemmas.List.Folds.Any-from_list_any, Math.Seq.take-add}
 use Rattle.dma_insn.specs.declared.insn.Reg.TheVariants.{Ccr, Dar}
-use Rattle.dma_insn.specs.declared.chip.ChipInsn.{ChipInsn}
 use Rattle.dma_insn.specs.declared.chip.ChipInsn.TheVariants.{Mov, Ld, St, End, LpEnd, Sev, Wfe, StoreZeros, AddHalfword, LoopAgain}
+use Rattle.dma_insn.specs.{declared.chip.Address.TheVariants.Destination, declared.chip.ChipInsn.ChipInsn}
 use Rattle.dma_mem.specs.Image.{bytes_at, put, after_moves, carried, laid}
 use Rattle.dma_mem.specs.Places.{Descriptor, Apart, sources, destinations, moves}
-use Rattle.dma_mem.specs.Marking.{MarkList}
-use Rattle.dma_mem.specs.declared.marks.MarkKind.TheVariants.{Reading, Writing}
-use Rattle.dma_mem.proofs.ImageOver.{after_moves_more, get_or_after_moves_other, length_after_moves}
-use Rattle.dma_mem.proofs.BytesPut.{lookup_bytes_at}
-use Rattle.dma_mem.proofs.ImagePut.{get_or_put, get_or_put_other, length_put}
-use Rattle.dma_mem.proofs.MarkHits.{list_any_of}
-use Rattle.dma_mem.proofs.SharedPlaces.{range_in}
+use Rattle.dma_mem.specs.{Marking.MarkList, declared.marks.MarkKind.TheVariants.Reading, declared.marks.MarkKind.TheVariants.Writing}
 use Rattle.dma_mem.proofs.OverTransfers.{keys_in, once_parts, moves_writes, drop_zip, take_zip, carried_zip}
-use Rattle.dma_chan.specs.declared.exec.Registers.{Registers}
-use Rattle.dma_chan.specs.declared.turn.ChanTurn.{ChanTurn}
+use Rattle.dma_mem.proofs.{ImageOver.after_moves_more, ImageOver.get_or_after_moves_other, ImageOver.length_after_moves, BytesPut.lookup_bytes_at}
+use Rattle.dma_mem.proofs.{ImagePut.get_or_put, ImagePut.get_or_put_other, ImagePut.length_put, MarkHits.list_any_of, SharedPlaces.range_in}
 use Rattle.dma_chan.specs.declared.turn.ChanTurn.TheVariants.{Moved, Waiting, Ended, Fault}
-use Rattle.dma_chan.specs.declared.turn.FaultKind.{FaultKind}
-use Rattle.dma_chan.specs.declared.bursts.Burst.{Burst}
 use Rattle.dma_chan.specs.Bursts.{burst_len, reaches, span_of, touched, writes_of, zeros_of}
 use Rattle.dma_chan.specs.Exec.{source_of, destination_of, counter_of, State, state, act, read_at, moved, moves_keeping}
-use Rattle.dma_chan.specs.Others.{Touches}
+use Rattle.dma_chan.specs.{declared.exec.Registers.Registers, declared.turn.ChanTurn.ChanTurn, declared.turn.FaultKind.FaultKind, declared.bursts.Burst.Burst}
+use Rattle.dma_chan.specs.{Others.Touches}
 use Rattle.dma_explain.specs.Works.{MissesAll, Uses}
 use Rattle.dma_explain.specs.Explains.{Trace, after_insn, after_fetch, cleared, next_in, traced, IsCopy, IsWork, Work}
-use Rattle.dma_chan.proofs.BurstReach.{reaches_all}
-use Rattle.dma_chan.proofs.BurstsInTurn.{left_up}
-use Rattle.dma_chan.proofs.ControlWords.{moves_some, touched_up}
+use Rattle.dma_chan.proofs.{BurstReach.reaches_all, BurstsInTurn.left_up, ControlWords.moves_some, ControlWords.touched_up, KeptBytes.kept_held}
+use Rattle.dma_chan.proofs.{MemberActs.cannot_jump, OthersKept.left_touched, OthersKept.zeros_touched, ReadsOnly.read_at_agrees}
 use Rattle.dma_explain.proofs.GoingOn.{Can, dropped, length_up}
-use Rattle.dma_chan.proofs.KeptBytes.{kept_held}
-use Rattle.dma_chan.proofs.MemberActs.{cannot_jump}
-use Rattle.dma_chan.proofs.OthersKept.{left_touched, zeros_touched}
-use Rattle.dma_chan.proofs.ReadsOnly.{read_at_agrees}
 
 -- ---- the lists grow
 
@@ -115,17 +102,20 @@ grows_to start program k (suc m) l =
       | inl last ↦
           let e : k ≡ suc m = omega arith in
           grows_same (traced start program k) (traced start program (suc m)) (ap (traced start program) (sym e))
-      | inr le ↦ grows_on (traced start program k) (traced start program m) (traced start program (suc m)) (grows_to start program k m le) (grows_fetch (next_in program (traced start program m)) (traced start program m))
+      | inr le ↦ grows_on (traced start program k) (traced start program m) (traced start program (suc m)) (grows_to start program k m le)
+          (grows_fetch (next_in program (traced start program m)) (traced start program m))
     ]
 
 -- if two images have the same byte at an address, they still do after the same bytes are put into both
-pub put_agrees : (x y : List ℕ) (es : List (ℕ × ℕ)) (a : ℕ) → a < length x → a < length y → get_or x a 0 ≡ get_or y a 0 → get_or (put x es) a 0 ≡ get_or (put y es) a 0
+pub put_agrees : (x y : List ℕ) (es : List (ℕ × ℕ)) (a : ℕ) → a < length x → a < length y → get_or x a 0 ≡ get_or y a 0
+    → get_or (put x es) a 0 ≡ get_or (put y es) a 0
 put_agrees x y es a in_x in_y same = get_or_put x es a in_x ∙ ap (unwrap_or (lookup (nat_eq a) es)) same ∙ sym (get_or_put y es a in_y)
 
 -- ---- a copy that goes on
 
 -- what is put at the next destinations
-pub laid_more : (first : List ℕ) (t : Descriptor) (k n : ℕ) → IsCopy t → put (laid first t k) (zip (take n (drop k (destinations t))) (read_at first (take n (drop k (sources t))))) ≡ laid first t (k + n)
+pub laid_more : (first : List ℕ) (t : Descriptor) (k n : ℕ) → IsCopy t
+    → put (laid first t k) (zip (take n (drop k (destinations t))) (read_at first (take n (drop k (sources t))))) ≡ laid first t (k + n)
 laid_more first t k n copy =
     let ds = destinations t in
     let ss = sources t in
@@ -171,8 +161,10 @@ zeros_apart work a h i (inl read) = h.apart a read (Contains-append_right (desti
 zeros_apart work a h i (inr stored) =
     let ds = destinations work.copy in
     let zs = cleared work in
-    let behind : take (length zs) (drop (length ds) (ds ++ zs)) ≡ zs = ap (take (length zs)) (drop_at ds zs (length ds) refl) ∙ take_all (length zs) zs (omega arith) in
-    once_parts (ds ++ zs) (length ds) (length zs) h.once a (subst (λ (xs : List ℕ). Contains xs a) (sym behind) i) (subst (λ (xs : List ℕ). Contains xs a) (sym (take_at ds zs (length ds) refl)) stored)
+    let behind : take (length zs) (drop (length ds) (ds ++ zs)) ≡ zs = ap (take (length zs)) (drop_at ds zs (length ds) refl)
+    ∙ take_all (length zs) zs (omega arith) in
+    once_parts (ds ++ zs) (length ds) (length zs) h.once a (subst (λ (xs : List ℕ). Contains xs a) (sym behind) i)
+    (subst (λ (xs : List ℕ). Contains xs a) (sym (take_at ds zs (length ds) refl)) stored)
 
 pub in_or_not : (xs : List ℕ) (a : ℕ) → Contains xs a ⊎ ¬ Contains xs a
 in_or_not xs a = elim (cases_Bool (list_any (nat_eq a) xs)) [
@@ -189,7 +181,8 @@ put_zeros image b a up low i =
     let zeros : List ℕ = replicate n 0 in
     let k = a - b.addr in
     let less : k < n = omega arith in
-    let found : lookup (nat_eq a) (bytes_at b.addr zeros) ≡ Some (get_or zeros k 0) = lookup_bytes_at b.addr zeros k a (omega (arith, less, length-replicate {A = ℕ} n 0)) (omega (arith, within.0)) in
+    let found : lookup (nat_eq a) (bytes_at b.addr zeros) ≡ Some (get_or zeros k 0) =
+    lookup_bytes_at b.addr zeros k a (omega (arith, less, length-replicate {A = ℕ} n 0)) (omega (arith, within.0)) in
     ap (λ (m : ℕ). get_or (put image (bytes_at b.addr (replicate m 0))) a 0) span
     ∙ get_or_put image (bytes_at b.addr zeros) a low
     ∙ ap (λ (o : Option ℕ). unwrap_or o (get_or image a 0)) found
@@ -224,7 +217,8 @@ Answers work first marks i x (Waiting e, s) = (v : Bool) × (i ≡ Wfe e v)
 Answers work first marks i x (Ended, s) = ⊥
 Answers work first marks i x (Fault kind, s) = ¬ MissesAll marks work
 
-module _ (work : Work) (first : List ℕ) (marks : MarkList) (whole : IsWork work) (low : (a : ℕ) → Uses work a → a < length first) (x : Trace) (buffer image : List ℕ) (flags : List Bool) (m : Mirrors work first x x.registers buffer image) where
+module _ (work : Work) (first : List ℕ) (marks : MarkList) (whole : IsWork work) (low : (a : ℕ) → Uses work a → a < length first) (x : Trace)
+    (buffer image : List ℕ) (flags : List Bool) (m : Mirrors work first x x.registers buffer image) where
   abbrev here : State
   here = state x.registers buffer image flags
 
@@ -235,15 +229,26 @@ module _ (work : Work) (first : List ℕ) (marks : MarkList) (whole : IsWork wor
   copy = copy_of work whole
 
   held : length buffer ≡ length x.loads - length x.stores
-  held = ap length m.buffer_is ∙ length-drop (length x.stores) (read_at first x.loads) ∙ ap (λ (n : ℕ). n - length x.stores) (length-map x.loads (slice_index first))
+  held = ap length m.buffer_is ∙ length-drop (length x.stores) (read_at first x.loads)
+      ∙ ap (λ (n : ℕ). n - length x.stores) (length-map x.loads (slice_index first))
 
   -- an instruction that moves no byte
   quiet : (i : ChipInsn) (r : Registers) (new : List Bool) → Answers work first marks i (record x { registers = r }) (Moved, state r buffer image new)
   quiet i r new = record { registers_are = refl; buffer_is = m.buffer_is; few = m.few; same = m.same; zeros = m.zeros; rest = m.rest; fits = m.fits }
 
   -- one that changes the next store and drops no byte
-  keeps : (i : ChipInsn) → dropped i x ≡ false → Answers work first marks i (record x { registers = moved i x.registers }) (moves_keeping (moved i x.registers) here)
-  keeps i none = record { registers_are = refl; buffer_is = kept_held x.registers (moved i x.registers) buffer _ held none ∙ m.buffer_is; few = m.few; same = m.same; zeros = m.zeros; rest = m.rest; fits = m.fits }
+  keeps : (i : ChipInsn) → dropped i x ≡ false
+      → Answers work first marks i (record x { registers = moved i x.registers }) (moves_keeping (moved i x.registers) here)
+  keeps i none = record {
+    registers_are = refl;
+    buffer_is = kept_held x.registers (moved i x.registers) buffer _ held none ∙ m.buffer_is;
+    few = m.few;
+    same =
+        m.same;
+    zeros = m.zeros;
+    rest = m.rest;
+    fits = m.fits;
+  }
 
   load_answers : Inside work (after_insn Ld x) → Can Ld x → Answers work first marks Ld (after_insn Ld x) (act marks Ld here)
   load_answers part c =
@@ -251,8 +256,10 @@ module _ (work : Work) (first : List ℕ) (marks : MarkList) (whole : IsWork wor
       let new = touched b in
       let room : ltb 256 (length buffer + burst_len b) ≡ false = le-ltb 256 _ (omega (arith, held, c, m.few)) in
       let source : (a : ℕ) → Contains new a → Contains (sources t) a =
-      λ a i. subst (λ (xs : List ℕ). Contains xs a) (sym part.loads) (Contains-append_left (x.loads ++ new) part.loads_rest a (Contains-append_right x.loads new a i)) in
-      let bytes : read_at image new ≡ read_at first new = read_at_agrees image first new (λ a i. m.same a (inl (source a i)) ∙ source_kept first t (length x.stores) a copy (source a i)) in
+      λ a i. subst (λ (xs : List ℕ). Contains xs a) (sym part.loads)
+      (Contains-append_left (x.loads ++ new) part.loads_rest a (Contains-append_right x.loads new a i)) in
+      let bytes : read_at image new ≡ read_at first new =
+      read_at_agrees image first new (λ a i. m.same a (inl (source a i)) ∙ source_kept first t (length x.stores) a copy (source a i)) in
       rw room (cond_both (reaches Reading marks (length image) new) _ _ (Answers work first marks Ld (after_insn Ld x)) (λ e. record {
         registers_are = refl;
         buffer_is =
@@ -265,7 +272,8 @@ module _ (work : Work) (first : List ℕ) (marks : MarkList) (whole : IsWork wor
         zeros = m.zeros;
         rest = m.rest;
         fits = m.fits;
-      }) (λ e misses. true≢false (sym (reaches_all Reading marks (length image) new (λ a i. m.fits a (inl (inl (source a i)))) (λ a i. misses.copy.reads a (source a i))) ∙ e)))
+      }) (λ e misses. true≢false
+      (sym (reaches_all Reading marks (length image) new (λ a i. m.fits a (inl (inl (source a i)))) (λ a i. misses.copy.reads a (source a i))) ∙ e)))
 
   -- what is set to 0 so far is a part of all that is
   zero_in : Inside work x → (a : ℕ) → Contains x.zeros a → Contains (cleared work) a
@@ -280,7 +288,8 @@ module _ (work : Work) (first : List ℕ) (marks : MarkList) (whole : IsWork wor
       let long : length new ≡ n = length_up b c.1 in
       let enough : ltb (length buffer) n ≡ false = le-ltb _ _ (omega (arith, held, c.0)) in
       let is_in : (a : ℕ) → Contains new a → Contains (destinations t) a =
-      λ a i. subst (λ (xs : List ℕ). Contains xs a) (sym part.stores) (Contains-append_left (x.stores ++ new) part.stores_rest a (Contains-append_right x.stores new a i)) in
+      λ a i. subst (λ (xs : List ℕ). Contains xs a) (sym part.stores)
+      (Contains-append_left (x.stores ++ new) part.stores_rest a (Contains-append_right x.stores new a i)) in
       -- the places of the burst
       let at_dst : take n (drop k (destinations t)) ≡ new =
       ap (λ (xs : List ℕ). take n (drop k xs)) (part.stores ∙ append_assoc x.stores new part.stores_rest)
@@ -304,22 +313,27 @@ module _ (work : Work) (first : List ℕ) (marks : MarkList) (whole : IsWork wor
       let count : length (x.stores ++ new) ≡ k + n = omega (arith, length-append x.stores new, long) in
       let base = laid first t k in
       let elsewhere : (a : ℕ) → Contains (cleared work) a → get_or (put image (writes_of b (take n buffer))) a 0 ≡ get_or image a 0 =
-      λ a i. get_or_put_other image (writes_of b (take n buffer)) a (λ j. zeros_apart work a whole i (inr (is_in a (left_touched b (take n buffer) a (moves_some x.registers.bus 14 x.registers.dar x.registers.ccr).beats length_bytes j)))) in
+      λ a i. get_or_put_other image (writes_of b (take n buffer)) a
+      (λ j. zeros_apart work a whole i
+      (inr (is_in a (left_touched b (take n buffer) a (moves_some x.registers.bus 14 x.registers.dar x.registers.ccr).beats length_bytes j)))) in
       rw enough (cond_both (reaches Writing marks (length image) new) _ _ (Answers work first marks St (after_insn St x)) (λ e. record {
         registers_are = refl;
         buffer_is = ap (drop n) m.buffer_is ∙ drop-drop n k (read_at first x.loads) ∙ ap (λ (j : ℕ). drop j (read_at first x.loads)) (sym count);
         few = omega (arith, c.0, count);
         same = λ a touches.
             ap (λ (ms : List (ℕ × ℕ)). get_or (put image ms) a 0) left
-            ∙ put_agrees image base (zip (take n (drop k (destinations t))) (read_at first (take n (drop k (sources t))))) a (m.fits a (inl touches)) (omega (arith, low a (inl touches), length_laid first t k)) (m.same a touches)
+            ∙ put_agrees image base (zip (take n (drop k (destinations t))) (read_at first (take n (drop k (sources t))))) a (m.fits a (inl touches))
+            (omega (arith, low a (inl touches), length_laid first t k)) (m.same a touches)
             ∙ ap (λ (i : List ℕ). get_or i a 0) (laid_more first t k n copy)
             ∙ ap (λ (j : ℕ). get_or (laid first t j) a 0) (sym count);
         zeros = λ a i. elsewhere a (zero_in before a i) ∙ m.zeros a i;
         rest = λ a i off. elsewhere a i ∙ m.rest a i off;
         fits = λ a touches. omega (arith, m.fits a touches, length_put image (writes_of b (take n buffer)));
-      }) (λ e misses. true≢false (sym (reaches_all Writing marks (length image) new (λ a i. m.fits a (inl (inr (is_in a i)))) (λ a i. misses.copy.writes a (is_in a i))) ∙ e)))
+      }) (λ e misses. true≢false
+      (sym (reaches_all Writing marks (length image) new (λ a i. m.fits a (inl (inr (is_in a i)))) (λ a i. misses.copy.writes a (is_in a i))) ∙ e)))
 
-  zeros_answer : Inside work (after_insn StoreZeros x) → Can StoreZeros x → Answers work first marks StoreZeros (after_insn StoreZeros x) (act marks StoreZeros here)
+  zeros_answer : Inside work (after_insn StoreZeros x) → Can StoreZeros x
+      → Answers work first marks StoreZeros (after_insn StoreZeros x) (act marks StoreZeros here)
   zeros_answer part up =
       let b = destination_of x.registers in
       let new = touched b in
@@ -344,7 +358,8 @@ module _ (work : Work) (first : List ℕ) (marks : MarkList) (whole : IsWork wor
             elsewhere a (λ now. off (Contains-append_right x.zeros new a now))
             ∙ m.rest a i (λ before. off (Contains-append_left x.zeros new a before));
         fits = λ a uses. omega (arith, m.fits a uses, length_put image (zeros_of b));
-      }) (λ e misses. true≢false (sym (reaches_all Writing marks (length image) new (λ a i. m.fits a (inr (is_in a i))) (λ a i. misses.zeros a (is_in a i))) ∙ e))
+      }) (λ e misses. true≢false
+      (sym (reaches_all Writing marks (length image) new (λ a i. m.fits a (inr (is_in a i))) (λ a i. misses.zeros a (is_in a i))) ∙ e))
 
   pub answers : (i : ChipInsn) → Inside work (after_insn i x) → Inside work x → Can i x → Answers work first marks i (after_insn i x) (act marks i here)
   answers Ld part before c = load_answers part c
@@ -352,10 +367,15 @@ module _ (work : Work) (first : List ℕ) (marks : MarkList) (whole : IsWork wor
   answers (Mov Dar v) part before c = keeps (Mov Dar v) c
   answers (Mov Ccr v) part before c = rw c.0 (keeps (Mov Ccr v) c.1)
   answers (AddHalfword Destination half negative) part before c = keeps (AddHalfword Destination half negative) c
-  answers (LpEnd k back) part before c = rw (cannot_jump (counter_of k x.registers) x.registers.pc back (λ n. c (omega (arith, n)))) (quiet (LpEnd k back) (moved (LpEnd k back) x.registers) flags)
+  answers (LpEnd k back) part before c =
+      rw (cannot_jump (counter_of k x.registers) x.registers.pc back (λ n. c (omega (arith, n))))
+      (quiet (LpEnd k back) (moved (LpEnd k back) x.registers) flags)
   answers End part before c = absurd c
   answers StoreZeros part before c = zeros_answer part c
-  answers (LoopAgain counter back) part before c = rw (le-ltb x.registers.pc back c) (quiet (LoopAgain counter back) (moved (LoopAgain counter back) x.registers) flags)
+  answers (LoopAgain counter back) part before c =
+      rw (le-ltb x.registers.pc back c) (quiet (LoopAgain counter back) (moved (LoopAgain counter back) x.registers) flags)
   answers (Sev e) part before c = quiet (Sev e) (moved (Sev e) x.registers) (slice_set flags e true)
-  answers (Wfe e v) part before c = cond_both (slice_index_or flags e false) _ _ (Answers work first marks (Wfe e v) (after_insn (Wfe e v) x)) (λ set. quiet (Wfe e v) (moved (Wfe e v) x.registers) (slice_set flags e false)) (λ clear. (v, refl))
+  answers (Wfe e v) part before c =
+      cond_both (slice_index_or flags e false) _ _ (Answers work first marks (Wfe e v) (after_insn (Wfe e v) x))
+      (λ set. quiet (Wfe e v) (moved (Wfe e v) x.registers) (slice_set flags e false)) (λ clear. (v, refl))
   answers i part before c = quiet i (moved i x.registers) flags

@@ -1,31 +1,21 @@
 -- The bursts of a run without memory, as its tracer keeps them.
-use Rattle.std.proofs.Common.{◌≡◌, ℕ, zero, suc, ◌+◌, ◌-◌, ◌*◌, ◌≤◌, ◌<◌, Bool, true, false, cond, List, ◌++◌, length, Some, None, Result, Ok, Err, refl, sym, ap, ◌∙◌, subst, arith, append-nil, length-append, inl, inr, OnOk}
-use Rattle.std.specs.Prelude.{is_err, nat_lt, replicate}
-use Rattle.std.specs.List.{flat_map, range_with_len}
-use Rattle.std.proofs.lemmas.List.FromFn.{length-range_with_len}
-use Rattle.std.proofs.lemmas.Bool.{cases_Bool, le-ltb, ltb-false}
-use Rattle.std.proofs.lemmas.Nat.{mul-le}
+use Rattle.std.proofs.Common.{◌≡◌, ℕ, zero, suc, ◌+◌, ◌-◌, ◌*◌, ◌≤◌, ◌<◌, Bool, true, false, cond, List, ◌++◌, length, Some, None, Result, Ok, Err, refl, sym}
+use Rattle.std.proofs.Common.{ap, ◌∙◌, subst, arith, append-nil, length-append, inl, inr, OnOk}
+use Rattle.std.specs.{Prelude.is_err, Prelude.nat_lt, Prelude.replicate, List.flat_map, List.range_with_len}
+use Rattle.std.proofs.{lemmas.List.FromFn.length-range_with_len, lemmas.Bool.cases_Bool, lemmas.Bool.le-ltb, lemmas.Bool.ltb-false, lemmas.Nat.mul-le}
 use Rattle.dma_insn.specs.declared.chip.ChipInsn.TheVariants.{Ld, St, StoreZeros}
-use Rattle.dma_mem.specs.declared.segment.Segment.{Segment}
-use Rattle.dma_mem.specs.Places.{end_of_addresses, places, range_of}
-use Rattle.dma_chan.specs.declared.bursts.Burst.{Burst}
-use Rattle.dma_chan.specs.declared.exec.Registers.{Registers}
-use Rattle.dma_explain.specs.declared.explain.Amounts.{Amounts}
+use Rattle.dma_mem.specs.{declared.segment.Segment.Segment, Places.end_of_addresses, Places.places, Places.range_of}
+use Rattle.dma_chan.specs.{declared.bursts.Burst.Burst, declared.exec.Registers.Registers, declared.turn.FaultKind.TheVariants.MfifoErr}
+use Rattle.dma_chan.specs.{declared.turn.FaultKind.TheVariants.StDataUnavailable, Bursts.advance, Bursts.burst_len, Bursts.span_of, Bursts.touched}
+use Rattle.dma_chan.specs.{Exec.buffer_size, Exec.source_of, Exec.destination_of, Exec.moved, Exec.wrapped, inner.Spans.MovesSome, inner.Spans.rounds_of}
 use Rattle.dma_explain.specs.declared.explain.Cause.TheVariants.{Fails, LoadsPast, StoresFixed, StoresPast}
-use Rattle.dma_explain.specs.declared.explain.tracer.Tracer.{Tracer}
-use Rattle.dma_chan.specs.declared.turn.FaultKind.TheVariants.{MfifoErr, StDataUnavailable}
-use Rattle.dma_chan.specs.Bursts.{advance, burst_len, span_of, touched}
-use Rattle.dma_chan.specs.Exec.{buffer_size, source_of, destination_of, moved, wrapped}
 use Rattle.dma_explain.specs.Explains.{IsRead, IsRun, Trace, held, passes, unrolled}
-use Rattle.dma_chan.specs.inner.Spans.{MovesSome, rounds_of}
 use Rattle.dma_explain.specs.Items.{join_read, join_run, read_of, run_of, with_item}
 use Rattle.dma_explain.specs.inner.Tracing.{Advances, AreItems, IsTracer, lists_of, trace_of}
-use Rattle.dma_chan.proofs.BurstReach.{touched_rounds}
-use Rattle.dma_chan.proofs.ControlWords.{advance_up}
-use Rattle.dma_explain.proofs.GoingOn.{length_up, passed}
-use Rattle.dma_explain.proofs.Items.{reads_with, runs_with, with_read, with_run, with_zeros}
-use Rattle.dma_explain.proofs.LowestPlaces.{reads, rounds_read}
-use Rattle.dma_explain.proofs.TraceParts.{same_amounts, same_lists, same_parts}
+use Rattle.dma_explain.specs.{declared.explain.Amounts.Amounts, declared.explain.tracer.Tracer.Tracer}
+use Rattle.dma_chan.proofs.{BurstReach.touched_rounds, ControlWords.advance_up}
+use Rattle.dma_explain.proofs.{GoingOn.length_up, GoingOn.passed, Items.reads_with, Items.runs_with, Items.with_read, Items.with_run, Items.with_zeros}
+use Rattle.dma_explain.proofs.{LowestPlaces.reads, LowestPlaces.rounds_read, TraceParts.same_amounts, TraceParts.same_lists, TraceParts.same_parts}
 
 -- a burst touches some address
 span_some : (b : Burst) → MovesSome b → 0 < span_of b
@@ -60,7 +50,8 @@ length_touched b some = elim (cases_Bool b.increments) [
   | inl up ↦ length_up b up
   | inr fixed ↦
       let again : touched b ≡ flat_map (λ xs. xs) (replicate b.beats (range_with_len b.addr b.size)) = rw fixed refl in
-      ap length again ∙ fixed_length b.beats (range_with_len b.addr b.size) ∙ ap (λ (n : ℕ). b.beats * n) (length-range_with_len b.addr b.size) ∙ omega (arith, some.fixed fixed)
+      ap length again ∙ fixed_length b.beats (range_with_len b.addr b.size) ∙ ap (λ (n : ℕ). b.beats * n) (length-range_with_len b.addr b.size)
+      ∙ omega (arith, some.fixed fixed)
 ]
 
 -- the range of a burst that rises
@@ -74,12 +65,16 @@ module _ (x : Tracer) (b : Burst) (h : IsTracer x) (some : MovesSome b) where
   abbrev z : Trace
   z = trace_of x
 
-  pub load_advances : (y : Tracer) → b ≡ source_of x.registers → y.registers ≡ moved Ld x.registers → y.held ≡ x.held + burst_len b → y.held ≤ 256 → passes b ≡ false → y.src.items ≡ with_item join_read x.src.items (read_of b) → y.dst ≡ x.dst → y.zeros ≡ x.zeros → y.done ≡ x.done → y.events ≡ x.events → Advances Ld x y
+  pub load_advances : (y : Tracer) → b ≡ source_of x.registers → y.registers ≡ moved Ld x.registers → y.held ≡ x.held + burst_len b → y.held ≤ 256
+      → passes b ≡ false → y.src.items ≡ with_item join_read x.src.items (read_of b) → y.dst ≡ x.dst → y.zeros ≡ x.zeros → y.done ≡ x.done → y.events ≡ x.events
+      → Advances Ld x y
   load_advances y is registers more room low pushed dst zeros done events =
       let all = reads_with x.src.items (read_of b) h.items.reads (read_is b some low) in
-      let src : (trace_of y).loads ≡ z.loads ++ touched b = ap (λ rs. places (unrolled rs)) pushed ∙ all.1 ∙ ap (λ (xs : List ℕ). z.loads ++ xs) (read_touched b) in
+      let src : (trace_of y).loads ≡ z.loads ++ touched b = ap (λ rs. places (unrolled rs)) pushed ∙ all.1
+      ∙ ap (λ (xs : List ℕ). z.loads ++ xs) (read_touched b) in
       let long = length_touched b some in
-      let lists : lists_of y ≡ record (lists_of x) { reads = with_item join_read x.src.items (read_of b) } = same_lists pushed (ap (λ v. v.items) dst) (ap (λ v. v.items) zeros) in
+      let lists : lists_of y ≡ record (lists_of x) { reads = with_item join_read x.src.items (read_of b) } =
+      same_lists pushed (ap (λ v. v.items) dst) (ap (λ v. v.items) zeros) in
       let grown : length z.loads + burst_len b ≡ length (trace_of y).loads = omega (arith, ap length src, length-append z.loads (touched b), long) in
       let stores = ap (λ v. places v.items) dst in
       let clears = ap (λ v. places v.items) zeros in
@@ -92,18 +87,24 @@ module _ (x : Tracer) (b : Burst) (h : IsTracer x) (some : MovesSome b) where
           done = done ∙ h.done ∙ same_amounts (sym to) (ap length (sym clears));
           items = subst AreItems (sym lists) (with_read (lists_of x) (read_of b) h.items (read_is b some low));
         };
-        goes = rw (← is) (passed (nat_lt buffer_size (held z + burst_len b)) (Fails MfifoErr) _ (le-ltb buffer_size (held z + burst_len b) (omega (arith, more, room, h.held))) (passed (passes b) LoadsPast None low refl));
+        goes = rw (← is) (passed (nat_lt buffer_size (held z + burst_len b)) (Fails MfifoErr) _
+            (le-ltb buffer_size (held z + burst_len b) (omega (arith, more, room, h.held))) (passed (passes b) LoadsPast None low refl));
         trace = same_parts registers (src ∙ ap (λ (c : Burst). z.loads ++ touched c) is) stores clears;
         events = ap (λ v. v.items) events ∙ sym (append-nil x.events.items);
         lists = lists ∙ ap (λ (c : Burst). record (lists_of x) { reads = with_item join_read x.src.items (read_of c) }) is;
       }
 
-  pub store_advances : (y : Tracer) → b ≡ destination_of x.registers → b.increments ≡ true → burst_len b ≤ x.held → passes b ≡ false → y.registers ≡ moved St x.registers → y.held ≡ x.held - burst_len b → y.done ≡ record x.done { copied = x.done.copied + burst_len b } → y.dst.items ≡ with_item join_run x.dst.items (run_of b) → y.src ≡ x.src → y.zeros ≡ x.zeros → y.events ≡ x.events → Advances St x y
+  pub store_advances : (y : Tracer) → b ≡ destination_of x.registers → b.increments ≡ true → burst_len b ≤ x.held → passes b ≡ false
+      → y.registers ≡ moved St x.registers → y.held ≡ x.held - burst_len b → y.done ≡ record x.done { copied = x.done.copied + burst_len b }
+      → y.dst.items ≡ with_item join_run x.dst.items (run_of b) → y.src ≡ x.src → y.zeros ≡ x.zeros → y.events ≡ x.events → Advances St x y
   store_advances y is up has low registers less more pushed src zeros events =
       let all = runs_with x.dst.items (run_of b) h.items.writes (run_is b some low) in
-      let dst : (trace_of y).stores ≡ z.stores ++ touched b = ap places pushed ∙ all.1 ∙ ap (λ (xs : List ℕ). z.stores ++ xs) (touched_span b (run_of b) up refl refl) in
-      let lists : lists_of y ≡ record (lists_of x) { writes = with_item join_run x.dst.items (run_of b) } = same_lists (ap (λ v. v.items) src) pushed (ap (λ v. v.items) zeros) in
-      let grown : x.done.copied + burst_len b ≡ length (trace_of y).stores = omega (arith, ap (λ (a : Amounts). a.copied) h.done, ap length dst, length-append z.stores (touched b), length_up b up) in
+      let dst : (trace_of y).stores ≡ z.stores ++ touched b = ap places pushed ∙ all.1
+      ∙ ap (λ (xs : List ℕ). z.stores ++ xs) (touched_span b (run_of b) up refl refl) in
+      let lists : lists_of y ≡ record (lists_of x) { writes = with_item join_run x.dst.items (run_of b) } =
+      same_lists (ap (λ v. v.items) src) pushed (ap (λ v. v.items) zeros) in
+      let grown : x.done.copied + burst_len b ≡ length (trace_of y).stores =
+      omega (arith, ap (λ (a : Amounts). a.copied) h.done, ap length dst, length-append z.stores (touched b), length_up b up) in
       let copied = ap (λ (a : Amounts). a.copied) h.done in
       let loads = ap (λ v. places (unrolled v.items)) src in
       let clears = ap (λ v. places v.items) zeros in
@@ -116,18 +117,24 @@ module _ (x : Tracer) (b : Burst) (h : IsTracer x) (some : MovesSome b) where
           done = more ∙ same_amounts grown (ap (λ (a : Amounts). a.cleared) h.done ∙ ap length (sym clears));
           items = subst AreItems (sym lists) (with_run (lists_of x) (run_of b) h.items (run_is b some low));
         };
-        goes = rw (← is) (passed (nat_lt (held z) (burst_len b)) (Fails StDataUnavailable) _ (le-ltb (held z) (burst_len b) (omega (arith, has, h.held))) (passed (passes b) StoresPast _ low (ap (λ (i : Bool). cond i None (Some StoresFixed)) up)));
+        goes = rw (← is) (passed (nat_lt (held z) (burst_len b)) (Fails StDataUnavailable) _ (le-ltb (held z) (burst_len b) (omega (arith, has, h.held)))
+            (passed (passes b) StoresPast _ low (ap (λ (i : Bool). cond i None (Some StoresFixed)) up)));
         trace = same_parts registers loads (dst ∙ ap (λ (c : Burst). z.stores ++ touched c) is) clears;
         events = ap (λ v. v.items) events ∙ sym (append-nil x.events.items);
         lists = lists ∙ ap (λ (c : Burst). record (lists_of x) { writes = with_item join_run x.dst.items (run_of c) }) is;
       }
 
-  pub clear_advances : (y : Tracer) → b ≡ destination_of x.registers → b.increments ≡ true → passes b ≡ false → y.registers ≡ moved StoreZeros x.registers → y.held ≡ x.held → y.done ≡ record x.done { cleared = x.done.cleared + burst_len b } → y.zeros.items ≡ with_item join_run x.zeros.items (run_of b) → y.src ≡ x.src → y.dst ≡ x.dst → y.events ≡ x.events → Advances StoreZeros x y
+  pub clear_advances : (y : Tracer) → b ≡ destination_of x.registers → b.increments ≡ true → passes b ≡ false → y.registers ≡ moved StoreZeros x.registers
+      → y.held ≡ x.held → y.done ≡ record x.done { cleared = x.done.cleared + burst_len b } → y.zeros.items ≡ with_item join_run x.zeros.items (run_of b)
+      → y.src ≡ x.src → y.dst ≡ x.dst → y.events ≡ x.events → Advances StoreZeros x y
   clear_advances y is up low registers same more pushed src dst events =
       let all = runs_with x.zeros.items (run_of b) h.items.zeros (run_is b some low) in
-      let zeros : (trace_of y).zeros ≡ z.zeros ++ touched b = ap places pushed ∙ all.1 ∙ ap (λ (xs : List ℕ). z.zeros ++ xs) (touched_span b (run_of b) up refl refl) in
-      let lists : lists_of y ≡ record (lists_of x) { zeros = with_item join_run x.zeros.items (run_of b) } = same_lists (ap (λ v. v.items) src) (ap (λ v. v.items) dst) pushed in
-      let grown : x.done.cleared + burst_len b ≡ length (trace_of y).zeros = omega (arith, ap (λ (a : Amounts). a.cleared) h.done, ap length zeros, length-append z.zeros (touched b), length_up b up) in
+      let zeros : (trace_of y).zeros ≡ z.zeros ++ touched b = ap places pushed ∙ all.1
+      ∙ ap (λ (xs : List ℕ). z.zeros ++ xs) (touched_span b (run_of b) up refl refl) in
+      let lists : lists_of y ≡ record (lists_of x) { zeros = with_item join_run x.zeros.items (run_of b) } =
+      same_lists (ap (λ v. v.items) src) (ap (λ v. v.items) dst) pushed in
+      let grown : x.done.cleared + burst_len b ≡ length (trace_of y).zeros =
+      omega (arith, ap (λ (a : Amounts). a.cleared) h.done, ap length zeros, length-append z.zeros (touched b), length_up b up) in
       let loads = ap (λ v. places (unrolled v.items)) src in
       let stores = ap (λ v. places v.items) dst in
       let from = ap length loads in
@@ -156,12 +163,15 @@ at_ok (Err x) P e h = absurd (cc)
 pub passes_span : (b : Burst) (s : Segment) → s.addr ≡ b.addr → s.len ≡ span_of b → nat_lt end_of_addresses (s.addr + s.len) ≡ passes b
 passes_span b s at long = ap (λ (a : ℕ). nat_lt end_of_addresses (a + s.len)) at ∙ ap (λ (n : ℕ). nat_lt end_of_addresses (b.addr + n)) long
 
-pub loaded_registers : (r : Registers) (b : Burst) (n : ℕ) → b ≡ source_of r → n ≡ advance b → record r { pc = r.pc + 1; sar = wrapped (r.sar + n) } ≡ moved Ld r
+pub loaded_registers : (r : Registers) (b : Burst) (n : ℕ) → b ≡ source_of r → n ≡ advance b
+    → record r { pc = r.pc + 1; sar = wrapped (r.sar + n) } ≡ moved Ld r
 loaded_registers r b n is e = ap (λ (k : ℕ). record r { pc = r.pc + 1; sar = wrapped (r.sar + k) }) (e ∙ ap advance is)
 
-pub stored_registers : (r : Registers) (b : Burst) (n : ℕ) → b ≡ destination_of r → b.increments ≡ true → n ≡ burst_len b → record r { pc = r.pc + 1; dar = wrapped (r.dar + n) } ≡ moved St r
+pub stored_registers : (r : Registers) (b : Burst) (n : ℕ) → b ≡ destination_of r → b.increments ≡ true → n ≡ burst_len b
+    → record r { pc = r.pc + 1; dar = wrapped (r.dar + n) } ≡ moved St r
 stored_registers r b n is up e =
     ap (λ (k : ℕ). record r { pc = r.pc + 1; dar = wrapped (r.dar + k) }) (e ∙ sym (advance_up b (burst_len b) up refl) ∙ ap advance is)
 
-pub cleared_registers : (r : Registers) (b : Burst) (n : ℕ) → b ≡ destination_of r → b.increments ≡ true → n ≡ burst_len b → record r { pc = r.pc + 1; dar = wrapped (r.dar + n) } ≡ moved StoreZeros r
+pub cleared_registers : (r : Registers) (b : Burst) (n : ℕ) → b ≡ destination_of r → b.increments ≡ true → n ≡ burst_len b
+    → record r { pc = r.pc + 1; dar = wrapped (r.dar + n) } ≡ moved StoreZeros r
 cleared_registers r b n is up e = stored_registers r b n is up e

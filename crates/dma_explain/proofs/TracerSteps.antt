@@ -1,37 +1,24 @@
 -- The instructions of a run without memory, as its tracer keeps them, but for its bursts.
-use Rattle.std.proofs.Common.{◌≡◌, ◌≢◌, ℕ, Bool, true, false, cond, ◌&&◌, List, [], ◌∷◌, ◌++◌, length, Some, None, Result, Ok, Err, refl, sym, ap, ◌∙◌, subst, arith, append-nil, inl, inr, IfErr, OnOk}
+use Rattle.std.proofs.Common.{◌≡◌, ◌≢◌, ℕ, Bool, true, false, cond, ◌&&◌, List, [], ◌∷◌, ◌++◌, length, Some, None, Result, Ok, Err, refl, sym, ap, ◌∙◌, subst}
+use Rattle.std.proofs.Common.{arith, append-nil, inl, inr, IfErr, OnOk}
 use Rattle.std.specs.Prelude.{nat_lt, not}
 use Rattle.std.proofs.lemmas.Bool.{cases_Bool, not-false, not-true}
-use Rattle.dma_insn.specs.declared.insn.Counter.{Counter}
-use Rattle.dma_insn.specs.declared.insn.Reg.{Reg}
 use Rattle.dma_insn.specs.declared.insn.Reg.TheVariants.{Sar, Dar, Ccr}
-use Rattle.dma_insn.specs.declared.chip.ChipInsn.{ChipInsn}
-use Rattle.dma_insn.specs.declared.chip.Address.{Address}
 use Rattle.dma_insn.specs.declared.chip.Address.TheVariants.{Source, Destination}
 use Rattle.dma_insn.specs.declared.chip.ChipInsn.TheVariants.{Mov, Ld, St, Lp, LpEnd, Sev, Wfe, StoreZeros, AddHalfword, LoopAgain}
+use Rattle.dma_insn.specs.{declared.insn.Counter.Counter, declared.insn.Reg.Reg, declared.chip.ChipInsn.ChipInsn, declared.chip.Address.Address}
 use Rattle.dma_mem.specs.Places.{places}
-use Rattle.dma_chan.specs.Bus.{accepts}
-use Rattle.dma_chan.specs.declared.exec.Registers.{Registers}
-use Rattle.dma_explain.specs.declared.explain.Amounts.{Amounts}
-use Rattle.dma_explain.specs.declared.explain.Cause.{Cause}
-use Rattle.dma_explain.specs.declared.explain.Cause.TheVariants.{DropsBytes, Fails}
-use Rattle.dma_explain.specs.declared.explain.Happening.{Happening}
-use Rattle.dma_explain.specs.declared.explain.Sync.{Sync}
-use Rattle.dma_explain.specs.declared.explain.tracer.Tracer.{Tracer}
-use Rattle.dma_chan.specs.declared.turn.ChanTurn.{ChanTurn}
-use Rattle.dma_chan.specs.declared.turn.ChanTurn.TheVariants.{Moved, Fault}
-use Rattle.dma_chan.specs.declared.turn.FaultKind.{FaultKind}
-use Rattle.dma_chan.specs.declared.turn.FaultKind.TheVariants.{InstrFetchErr, OperandInvalid}
-use Rattle.dma_chan.specs.Bursts.{drops}
 use Rattle.dma_chan.specs.Exec.{State, act, destination_of, counter_of, moved, past, state}
-use Rattle.dma_explain.specs.Items.{Items, with_burst}
+use Rattle.dma_chan.specs.{Bus.accepts, declared.exec.Registers.Registers, declared.turn.ChanTurn.ChanTurn, declared.turn.ChanTurn.TheVariants.Moved}
+use Rattle.dma_chan.specs.{declared.turn.ChanTurn.TheVariants.Fault, declared.turn.FaultKind.FaultKind, declared.turn.FaultKind.TheVariants.InstrFetchErr}
+use Rattle.dma_chan.specs.{declared.turn.FaultKind.TheVariants.OperandInvalid, Bursts.drops, inner.Acts.SetsKeeping, inner.Acts.SetsRegisters}
 use Rattle.dma_explain.specs.Explains.{Trace, after_insn, amounts_of, happening_of, held, stop_of_insn, stop_of_mov, unrolled}
-use Rattle.dma_chan.specs.inner.Acts.{SetsKeeping, SetsRegisters}
 use Rattle.dma_explain.specs.inner.Tracing.{Advances, AreItems, IsTracer, Stops, lists_of, trace_of}
-use Rattle.dma_chan.proofs.CallWrites.{act_leads}
-use Rattle.dma_explain.proofs.GoingOn.{passed}
-use Rattle.dma_chan.proofs.KeptBytes.{drops_same, kept_none}
-use Rattle.dma_explain.proofs.TraceParts.{same_amounts, same_lists, same_parts}
+use Rattle.dma_explain.specs.{declared.explain.Amounts.Amounts, declared.explain.Cause.Cause, declared.explain.Cause.TheVariants.DropsBytes}
+use Rattle.dma_explain.specs.{declared.explain.Cause.TheVariants.Fails, declared.explain.Happening.Happening, declared.explain.Sync.Sync}
+use Rattle.dma_explain.specs.{declared.explain.tracer.Tracer.Tracer, Items.Items, Items.with_burst}
+use Rattle.dma_chan.proofs.{CallWrites.act_leads, KeptBytes.drops_same, KeptBytes.kept_none}
+use Rattle.dma_explain.proofs.{GoingOn.passed, TraceParts.same_amounts, TraceParts.same_lists, TraceParts.same_parts}
 
 -- ---- instructions that change only registers
 
@@ -63,7 +50,8 @@ quiet_lists St r x q = absurd q
 quiet_lists StoreZeros r x q = absurd q
 quiet_lists i r x q = refl
 
-quiet_advances : (i : ChipInsn) (x : Tracer) (after : Registers) → IsQuiet i → IsTracer x → after ≡ moved i x.registers → stop_of_insn i (trace_of x) ≡ None → Advances i x (record x { registers = after })
+quiet_advances : (i : ChipInsn) (x : Tracer) (after : Registers) → IsQuiet i → IsTracer x → after ≡ moved i x.registers → stop_of_insn i (trace_of x) ≡ None
+    → Advances i x (record x { registers = after })
 quiet_advances i x after q h to goes = record {
   tracer = record { few = h.few; held = h.held; room = h.room; done = h.done; items = h.items };
   goes = goes;
@@ -129,7 +117,8 @@ turn_of i r after turn sets = ap (λ (x : ChanTurn × State). x.0) sets
 add_stop : (a : Address) (half : ℕ) (negative : Bool) (z : Trace) → stop_of_insn (AddHalfword a half negative) z ≡ stop_of_mov (AddHalfword a half negative) z
 add_stop Source half negative z =
     let b = destination_of z.registers in
-    let same : (nat_lt 0 (held z) && drops z.registers.bus b b) ≡ false = ap (λ (d : Bool). nat_lt 0 (held z) && d) (drops_same z.registers.bus b) ∙ no_test (nat_lt 0 (held z)) in
+    let same : (nat_lt 0 (held z) && drops z.registers.bus b b) ≡ false = ap (λ (d : Bool). nat_lt 0 (held z) && d) (drops_same z.registers.bus b)
+    ∙ no_test (nat_lt 0 (held z)) in
     sym (passed (nat_lt 0 (held z) && drops z.registers.bus b b) DropsBytes None same refl)
   where
     no_test : (b : Bool) → (b && false) ≡ false
@@ -143,10 +132,12 @@ mov_moves Sar v r after turn sets none = sym (turn_of (Mov Sar v) r after turn s
 mov_moves Dar v r after turn sets none = sym (turn_of (Mov Dar v) r after turn sets)
 mov_moves Ccr v r after turn sets none = (moves_if (accepts r.bus v) OperandInvalid turn _ _ (turn_of (Mov Ccr v) r after turn sets) none).1
 
-mov_accepted : (reg : Reg) (v : ℕ) (z : Trace) (after : Registers) (turn : ChanTurn) → SetsAlone (Mov reg v) z.registers turn after → NoFault turn → stop_of_insn (Mov reg v) z ≡ stop_of_mov (Mov reg v) z
+mov_accepted : (reg : Reg) (v : ℕ) (z : Trace) (after : Registers) (turn : ChanTurn) → SetsAlone (Mov reg v) z.registers turn after → NoFault turn
+    → stop_of_insn (Mov reg v) z ≡ stop_of_mov (Mov reg v) z
 mov_accepted Sar v z after turn sets none =
     let b = destination_of z.registers in
-    let same : (nat_lt 0 (held z) && drops z.registers.bus b b) ≡ false = ap (λ (d : Bool). nat_lt 0 (held z) && d) (drops_same z.registers.bus b) ∙ no_test (nat_lt 0 (held z)) in
+    let same : (nat_lt 0 (held z) && drops z.registers.bus b b) ≡ false = ap (λ (d : Bool). nat_lt 0 (held z) && d) (drops_same z.registers.bus b)
+    ∙ no_test (nat_lt 0 (held z)) in
     sym (passed (nat_lt 0 (held z) && drops z.registers.bus b b) DropsBytes None same refl)
   where
     no_test : (b : Bool) → (b && false) ≡ false
@@ -154,9 +145,11 @@ mov_accepted Sar v z after turn sets none =
     no_test false = refl
 mov_accepted Dar v z after turn sets none = refl
 mov_accepted Ccr v z after turn sets none =
-    ap (λ (b : Bool). cond b (stop_of_mov (Mov Ccr v) z) (Some (Fails OperandInvalid))) (moves_if (accepts z.registers.bus v) OperandInvalid turn _ _ (turn_of (Mov Ccr v) z.registers after turn sets) none).0
+    ap (λ (b : Bool). cond b (stop_of_mov (Mov Ccr v) z) (Some (Fails OperandInvalid)))
+    (moves_if (accepts z.registers.bus v) OperandInvalid turn _ _ (turn_of (Mov Ccr v) z.registers after turn sets) none).0
 
-mov_fails : (reg : Reg) (v : ℕ) (z : Trace) (after : Registers) (turn : ChanTurn) → SetsAlone (Mov reg v) z.registers turn after → (cause : Cause) → FaultIs turn cause → stop_of_insn (Mov reg v) z ≡ Some cause
+mov_fails : (reg : Reg) (v : ℕ) (z : Trace) (after : Registers) (turn : ChanTurn) → SetsAlone (Mov reg v) z.registers turn after → (cause : Cause)
+    → FaultIs turn cause → stop_of_insn (Mov reg v) z ≡ Some cause
 mov_fails Sar v z after turn sets cause f = absurd (let bad : Moved ≡ Fault f.0 = turn_of (Mov Sar v) z.registers after turn sets ∙ f.1 in cc)
 mov_fails Dar v z after turn sets cause f = absurd (let bad : Moved ≡ Fault f.0 = turn_of (Mov Dar v) z.registers after turn sets ∙ f.1 in cc)
 mov_fails Ccr v z after turn sets cause f =
@@ -182,7 +175,8 @@ module _ (reg : Reg) (v : ℕ) (x : Tracer) (after : Registers) (turn : ChanTurn
   pub set_advances : NoFault turn → Dropped x.held after ≡ false → Advances (Mov reg v) x (record x { registers = after })
   set_advances none keeps =
       quiet_advances (Mov reg v) x after tt h (to none)
-      (mov_accepted reg v (trace_of x) after turn alone none ∙ passed (Dropped (held (trace_of x)) (moved (Mov reg v) x.registers)) DropsBytes None (tested false none keeps) refl)
+      (mov_accepted reg v (trace_of x) after turn alone none
+      ∙ passed (Dropped (held (trace_of x)) (moved (Mov reg v) x.registers)) DropsBytes None (tested false none keeps) refl)
 
   pub set_drops : NoFault turn → Dropped x.held after ≡ true → stop_of_insn (Mov reg v) (trace_of x) ≡ Some DropsBytes
   set_drops none drop =
@@ -193,7 +187,8 @@ add_answer : (a : Address) (half : ℕ) (negative : Bool) (s : State) → (act [
 add_answer Source half negative s = refl
 add_answer Destination half negative s = refl
 
-module _ (a : Address) (half : ℕ) (negative : Bool) (x : Tracer) (after : Registers) (turn : ChanTurn) (h : IsTracer x) (sets : SetsKeeping (AddHalfword a half negative) x.registers turn after) where
+module _ (a : Address) (half : ℕ) (negative : Bool) (x : Tracer) (after : Registers) (turn : ChanTurn) (h : IsTracer x)
+    (sets : SetsKeeping (AddHalfword a half negative) x.registers turn after) where
   abbrev adds : ChipInsn
   adds = AddHalfword a half negative
 
@@ -216,31 +211,36 @@ module _ (a : Address) (half : ℕ) (negative : Bool) (x : Tracer) (after : Regi
   add_tested b e = ap (λ (n : ℕ). AddDropped n (moved adds x.registers)) (sym h.held) ∙ ap (AddDropped x.held) (sym add_to) ∙ e
 
   pub add_advances : AddDropped x.held after ≡ false → Advances adds x (record x { registers = after })
-  add_advances keeps = quiet_advances adds x after tt h add_to (add_stop a half negative (trace_of x) ∙ passed (AddDropped (held (trace_of x)) (moved adds x.registers)) DropsBytes None (add_tested false keeps) refl)
+  add_advances keeps = quiet_advances adds x after tt h add_to
+      (add_stop a half negative (trace_of x) ∙ passed (AddDropped (held (trace_of x)) (moved adds x.registers)) DropsBytes None (add_tested false keeps) refl)
 
   pub add_drops : AddDropped x.held after ≡ true → stop_of_insn adds (trace_of x) ≡ Some DropsBytes
   add_drops drop = add_stop a half negative (trace_of x) ∙ ap (λ (b : Bool). cond b (Some DropsBytes) None) (add_tested true drop)
 
 -- DMALP and DMALPEND
 module _ {X : Type 0} (done : Result X Cause) (x : Tracer) (after : Registers) (turn : ChanTurn) (h : IsTracer x) where
-  answered : (i : ChipInsn) → IsQuiet i → SetsRegisters i x.registers turn after → (NoFault turn → (turn ≡ Moved) × (stop_of_insn i (trace_of x) ≡ None)) → OnOk done (NoFault turn) → OnOk done (Advances i x (record x { registers = after }))
+  answered : (i : ChipInsn) → IsQuiet i → SetsRegisters i x.registers turn after → (NoFault turn → (turn ≡ Moved) × (stop_of_insn i (trace_of x) ≡ None))
+      → OnOk done (NoFault turn) → OnOk done (Advances i x (record x { registers = after }))
   answered i q sets moves none = by done none
     where
       by : (r : Result X Cause) → OnOk r (NoFault turn) → OnOk r (Advances i x (record x { registers = after }))
       by (Ok y) ok = let w = moves ok in quiet_advances i x after q h (sets_to i x.registers after turn (sets [] [] [] []) w.0) w.1
       by (Err cause) ok = tt
 
-  refused : (i : ChipInsn) → ((cause : Cause) → FaultIs turn cause → stop_of_insn i (trace_of x) ≡ Some cause) → IfErr done (λ cause. FaultIs turn cause) → IfErr done (λ cause. Stops i x cause)
+  refused : (i : ChipInsn) → ((cause : Cause) → FaultIs turn cause → stop_of_insn i (trace_of x) ≡ Some cause) → IfErr done (λ cause. FaultIs turn cause)
+      → IfErr done (λ cause. Stops i x cause)
   refused i stops fault = by done fault
     where
       by : (r : Result X Cause) → IfErr r (λ cause. FaultIs turn cause) → IfErr r (λ cause. Stops i x cause)
       by (Ok y) f = tt
       by (Err cause) f = λ _. stops cause f
 
-  pub lp_advances : (c : Counter) (n : ℕ) → SetsRegisters (Lp c n) x.registers turn after → OnOk done (NoFault turn) → OnOk done (Advances (Lp c n) x (record x { registers = after }))
+  pub lp_advances : (c : Counter) (n : ℕ) → SetsRegisters (Lp c n) x.registers turn after → OnOk done (NoFault turn)
+      → OnOk done (Advances (Lp c n) x (record x { registers = after }))
   lp_advances c n sets none = answered (Lp c n) tt sets (λ _. (sym (turn_of (Lp c n) x.registers after turn (sets [] [] [] [])), refl)) none
 
-  pub lp_stops : (c : Counter) (n : ℕ) → SetsRegisters (Lp c n) x.registers turn after → IfErr done (λ cause. FaultIs turn cause) → IfErr done (λ cause. Stops (Lp c n) x cause)
+  pub lp_stops : (c : Counter) (n : ℕ) → SetsRegisters (Lp c n) x.registers turn after → IfErr done (λ cause. FaultIs turn cause)
+      → IfErr done (λ cause. Stops (Lp c n) x cause)
   lp_stops c n sets fault =
       refused (Lp c n) (λ cause f. absurd (let bad : Moved ≡ Fault f.0 = turn_of (Lp c n) x.registers after turn (sets [] [] [] []) ∙ f.1 in cc)) fault
 
@@ -248,7 +248,8 @@ module _ {X : Type 0} (done : Result X Cause) (x : Tracer) (after : Registers) (
     abbrev early : Bool
     early = nat_lt x.registers.pc back
 
-    again_is : turn_if (not early) (Moved, record (state x.registers [] [] []) { registers = moved (LoopAgain counter back) x.registers }) (Fault InstrFetchErr, state x.registers [] [] []) ≡ turn
+    again_is : turn_if (not early) (Moved, record (state x.registers [] [] []) { registers = moved (LoopAgain counter back) x.registers })
+        (Fault InstrFetchErr, state x.registers [] [] []) ≡ turn
     again_is = turn_not early _ _ ∙ turn_of (LoopAgain counter back) x.registers after turn (sets [] [] [] [])
 
     again_moves : NoFault turn → (turn ≡ Moved) × (stop_of_insn (LoopAgain counter back) (trace_of x) ≡ None)
@@ -271,7 +272,8 @@ module _ {X : Type 0} (done : Result X Cause) (x : Tracer) (after : Registers) (
     abbrev before : Bool
     before = nat_lt 0 (counter_of c x.registers) && nat_lt x.registers.pc back
 
-    is : turn_if (not before) (Moved, record (state x.registers [] [] []) { registers = moved (LpEnd c back) x.registers }) (Fault InstrFetchErr, state x.registers [] [] []) ≡ turn
+    is : turn_if (not before) (Moved, record (state x.registers [] [] []) { registers = moved (LpEnd c back) x.registers })
+        (Fault InstrFetchErr, state x.registers [] [] []) ≡ turn
     is = turn_not before _ _ ∙ turn_of (LpEnd c back) x.registers after turn (sets [] [] [] [])
 
     loop_moves : NoFault turn → (turn ≡ Moved) × (stop_of_insn (LpEnd c back) (trace_of x) ≡ None)
@@ -308,7 +310,8 @@ syncs i s z h =
     let none : Amounts = record { copied = 0; cleared = 0 } in
     absurd (let bad : [] ≡ record { sync = s; done = none } ∷ [] = h none in cc)
 
-pub happen_advances : (i : ChipInsn) (s : Sync) (x y : Tracer) → IsTracer x → Happens i s → y.registers ≡ past i x.registers → y.held ≡ x.held → y.done ≡ x.done → y.src ≡ x.src → y.dst ≡ x.dst → y.zeros ≡ x.zeros → y.events.items ≡ x.events.items ++ record { sync = s; done = x.done } ∷ [] → Advances i x y
+pub happen_advances : (i : ChipInsn) (s : Sync) (x y : Tracer) → IsTracer x → Happens i s → y.registers ≡ past i x.registers → y.held ≡ x.held → y.done ≡ x.done
+    → y.src ≡ x.src → y.dst ≡ x.dst → y.zeros ≡ x.zeros → y.events.items ≡ x.events.items ++ record { sync = s; done = x.done } ∷ [] → Advances i x y
 happen_advances i s x y h is registers held_same done src dst zeros events =
     let w = syncs i s (trace_of x) is in
     let loads = ap (λ v. places (unrolled v.items)) src in

@@ -1,13 +1,9 @@
 -- A program that copies, run alone.
 use Rattle.std.specs.Prelude.{◌≡◌, ℕ, ◌+◌, ◌<◌, List, true, length}
-use Rattle.dma_mem.specs.Image.{laid}
-use Rattle.dma_mem.specs.Places.{Descriptor, lies_below, size_of}
-use Rattle.dma_chan.specs.declared.bus.Bus.TheVariants.{Ideal}
-use Rattle.dma_chan.specs.declared.run.RunEnd.{RunEnd}
-use Rattle.dma_chan.specs.declared.run.RunEnd.TheVariants as ends
-use Rattle.dma_chan.specs.Exec.{start_on}
+use Rattle.dma_mem.specs.{Image.laid, Places.Descriptor, Places.lies_below, Places.size_of}
+use Rattle.dma_chan.specs.{declared.bus.Bus.TheVariants.Ideal, declared.run.RunEnd.RunEnd, Exec.start_on, Run.RunsAlone}
 use Rattle.dma_explain.specs.Explains.{Explains, IsWait, only}
-use Rattle.dma_chan.specs.Run.{RunsAlone}
+use Rattle.dma_chan.specs.declared.run.RunEnd.TheVariants as ends
 
 -- A program that a copy explains and that has no DMAWFE, run alone over a memory that contains the copy's ranges and
 -- with a limit above the number of instructions before DMAEND, ends after as many instructions and DMAEND, and the

@@ -1,13 +1,9 @@
 -- The addresses that a call reads on a channel whose program a work explains, and that nothing else in the memory has
 -- any effect on it.
-use Rattle.std.specs.Prelude.{◌≡◌, ◌⊎◌, ℕ, ◌≤◌, List, slice_index, Option}
-use Rattle.std.specs.List.{Contains}
-use Rattle.dma_mem.specs.Marking.{MarkList}
-use Rattle.dma_mem.specs.Places.{sources}
-use Rattle.dma_chan.specs.declared.exec.Registers.{Registers}
-use Rattle.dma_chan.specs.declared.turn.ChanTurn.{ChanTurn}
-use Rattle.dma_chan.specs.Reads.{AgreeAt, Reads}
+use Rattle.std.specs.{Prelude.◌≡◌, Prelude.◌⊎◌, Prelude.ℕ, Prelude.◌≤◌, Prelude.List, Prelude.slice_index, Prelude.Option, List.Contains}
+use Rattle.dma_mem.specs.{Marking.MarkList, Places.sources}
 use Rattle.dma_chan.specs.Stepping.{Machine, TakesSteps, after_steps}
+use Rattle.dma_chan.specs.{declared.exec.Registers.Registers, declared.turn.ChanTurn.ChanTurn, Reads.AgreeAt, Reads.Reads}
 use Rattle.dma_explain.specs.Explains.{Executes, Explains, Work}
 
 -- Each call on a channel that executes a program that a work explains reads only the sources of its copy, whatever the

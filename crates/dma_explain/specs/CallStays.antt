@@ -1,12 +1,8 @@
 -- The addresses that a call writes on a channel whose program a work explains.
-use Rattle.std.specs.Prelude.{◌≡◌, ℕ, ◌⊎◌, List, Option, None}
-use Rattle.std.specs.List.{Contains}
+use Rattle.std.specs.{Prelude.◌≡◌, Prelude.ℕ, Prelude.◌⊎◌, Prelude.List, Prelude.Option, Prelude.None, List.Contains}
 use Rattle.dma_mem.specs.Marking.{MarkList}
-use Rattle.dma_chan.specs.declared.exec.Registers.{Registers}
-use Rattle.dma_chan.specs.declared.turn.ChanTurn.{ChanTurn}
-use Rattle.dma_chan.specs.Channel.{ChannelValue}
 use Rattle.dma_chan.specs.Stepping.{Machine, TakesSteps, written_after}
-use Rattle.dma_chan.specs.Written.{LiesIn}
+use Rattle.dma_chan.specs.{declared.exec.Registers.Registers, declared.turn.ChanTurn.ChanTurn, Channel.ChannelValue, Written.LiesIn}
 use Rattle.dma_explain.specs.Explains.{Executes, Explains, IsLoadedWith, Work, written}
 
 -- What a call on a channel does whose program this work explains: it writes only what the work writes, and the channel

@@ -1,20 +1,13 @@
 -- Channels that share a memory, and what changes them and the memory, one change after another.
 use Rattle.std.specs.Prelude.{◌≡◌, ◌≢◌, ℕ, ◌+◌, ◌≤◌, ◌<◌, ◌⊎◌, Bool, true, false, List, length, take, slice_index, Option, Some, None, IsSome}
 use Rattle.std.specs.List.{Contains}
-use Rattle.dma_mem.specs.declared.segment.Segment.{Segment}
 use Rattle.dma_mem.specs.Places.{Descriptor, sources, destinations, size_of, lies_below}
-use Rattle.dma_mem.specs.Image.{laid}
-use Rattle.dma_mem.specs.Marking.{MarkList}
-use Rattle.dma_chan.specs.declared.exec.Registers.{Registers}
-use Rattle.dma_chan.specs.declared.turn.ChanTurn.{ChanTurn}
-use Rattle.dma_chan.specs.declared.turn.ChanTurn.TheVariants.{Ended, Fault, Waiting}
-use Rattle.dma_chan.specs.declared.turn.FaultKind.{FaultKind}
-use Rattle.dma_chan.specs.Channel.{ChannelValue}
-use Rattle.dma_chan.specs.Stepping.{Machine, TakesSteps, signal_after, written_after}
-use Rattle.dma_chan.specs.Written.{LiesIn}
-use Rattle.dma_explain.specs.declared.explain.Amounts.{Amounts}
-use Rattle.dma_explain.specs.Works.{MissesAll, Uses}
+use Rattle.dma_mem.specs.{declared.segment.Segment.Segment, Image.laid, Marking.MarkList}
+use Rattle.dma_chan.specs.{declared.exec.Registers.Registers, declared.turn.ChanTurn.ChanTurn, declared.turn.ChanTurn.TheVariants.Ended}
+use Rattle.dma_chan.specs.{declared.turn.ChanTurn.TheVariants.Fault, declared.turn.ChanTurn.TheVariants.Waiting, declared.turn.FaultKind.FaultKind}
+use Rattle.dma_chan.specs.{Channel.ChannelValue, Stepping.Machine, Stepping.TakesSteps, Stepping.signal_after, Stepping.written_after, Written.LiesIn}
 use Rattle.dma_explain.specs.Explains.{Executes, Explains, IsCopy, IsLoadedWith, IsReached, IsSignal, IsWait, Work, all_of, cleared, only, written}
+use Rattle.dma_explain.specs.{declared.explain.Amounts.Amounts, Works.MissesAll, Works.Uses}
 
 -- Channels by number, and the memory that they share: the byte at each address.
 pub record System : Type 0 where

@@ -1,19 +1,13 @@
 -- What a channel does at the instruction at which `explain` refuses its program.
 use Rattle.std.specs.Prelude.{◌≡◌, ℕ, ◌+◌, ◌≤◌, ◌<◌, Bool, List, [], length, Option, Some, None}
 use Rattle.std.specs.Option.{option_and_then}
-use Rattle.dma_mem.specs.Places.{end_of_addresses}
-use Rattle.dma_mem.specs.Marking.{MarkList}
-use Rattle.dma_chan.specs.declared.exec.Registers.{Registers}
-use Rattle.dma_explain.specs.declared.explain.Cause.{Cause}
+use Rattle.dma_mem.specs.{Places.end_of_addresses, Marking.MarkList}
+use Rattle.dma_chan.specs.{declared.exec.Registers.Registers, declared.turn.ChanTurn.TheVariants.Moved, declared.turn.FaultKind.FaultKind}
+use Rattle.dma_chan.specs.{declared.turn.FaultKind.TheVariants.DataReadErr, declared.turn.FaultKind.TheVariants.DataWriteErr, Channel.ChannelValue}
+use Rattle.dma_chan.specs.{Channel.loaded_with, Channel.state_of, Channel.step_of, Channel.stepped, Exec.fault_in, Exec.faults, Programs.ProgramValue}
 use Rattle.dma_explain.specs.declared.explain.Cause.TheVariants.{Fails, LoadsPast, StoresPast}
-use Rattle.dma_explain.specs.declared.explain.Unexplained.{Unexplained}
-use Rattle.dma_chan.specs.declared.turn.ChanTurn.TheVariants.{Moved}
-use Rattle.dma_chan.specs.declared.turn.FaultKind.{FaultKind}
-use Rattle.dma_chan.specs.declared.turn.FaultKind.TheVariants.{DataReadErr, DataWriteErr}
-use Rattle.dma_chan.specs.Channel.{ChannelValue, loaded_with, state_of, step_of, stepped}
-use Rattle.dma_chan.specs.Exec.{fault_in, faults}
 use Rattle.dma_explain.specs.Explains.{GoesOn, Refuses, next_in, stop_of, traced}
-use Rattle.dma_chan.specs.Programs.{ProgramValue}
+use Rattle.dma_explain.specs.{declared.explain.Cause.Cause, declared.explain.Unexplained.Unexplained}
 
 -- The fault that a channel answers at an instruction that is refused for this cause, or None for a cause that is no
 -- fault, such as an address that is stored twice.

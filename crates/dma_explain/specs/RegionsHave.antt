@@ -1,13 +1,9 @@
 -- Regions that contain what a work uses.
-use Rattle.std.specs.Prelude.{◌≡◌, ℕ, false, List, IsTrue}
-use Rattle.std.specs.List.{list_any, Contains}
-use Rattle.dma_mem.specs.declared.regions.Region.{Region}
-use Rattle.dma_mem.specs.Marking.{MarkList}
-use Rattle.dma_mem.specs.Lent.{lies_in_any}
+use Rattle.std.specs.{Prelude.◌≡◌, Prelude.ℕ, Prelude.false, Prelude.List, Prelude.IsTrue, List.list_any, List.Contains}
 use Rattle.dma_mem.specs.Regions.{has, in_order, pieces_of, read_only_of}
+use Rattle.dma_mem.specs.{declared.regions.Region.Region, Marking.MarkList, Lent.lies_in_any}
 use Rattle.dma_chan.specs.LentRegions.{with_gaps_of}
-use Rattle.dma_explain.specs.Explains.{Work, written}
-use Rattle.dma_explain.specs.Works.{MissesAll, Uses}
+use Rattle.dma_explain.specs.{Explains.Work, Explains.written, Works.MissesAll, Works.Uses}
 
 -- Each address that a program's work reads or writes lies in a region, and none that it writes in a read-only one.
 pub record HaveAll (regions : List Region) (w : Work) : Type 0 where

@@ -1,10 +1,7 @@
 -- Which addresses a work uses, and what memory has when it is done.
-use Rattle.std.specs.Prelude.{◌≡◌, ℕ, ◌⊎◌, ◌&&◌, Bool, false, List, slice_index}
-use Rattle.std.specs.List.{Contains}
+use Rattle.std.specs.{Prelude.◌≡◌, Prelude.ℕ, Prelude.◌⊎◌, Prelude.◌&&◌, Prelude.Bool, Prelude.false, Prelude.List, Prelude.slice_index, List.Contains}
 use Rattle.dma_mem.specs.Places.{all_below, size_of, lies_below}
-use Rattle.dma_mem.specs.Image.{laid}
-use Rattle.dma_mem.specs.declared.marks.MarkKind.TheVariants.{Writing}
-use Rattle.dma_mem.specs.Marking.{MarkList, is_marked}
+use Rattle.dma_mem.specs.{Image.laid, declared.marks.MarkKind.TheVariants.Writing, Marking.MarkList, Marking.is_marked}
 use Rattle.dma_chan.specs.Others.{Misses, Touches}
 use Rattle.dma_explain.specs.Explains.{Work, cleared}
 

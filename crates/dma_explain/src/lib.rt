@@ -1,7 +1,7 @@
-//! What a program of `dma_chan`, compiled or not, copies and sets to 0, found by one run without memory.
+//! Finds what a channel's program copies and what it sets to 0, by one run without memory.
 //!
-//! Proved: `explain::explain` finds the work that explains a program (`Explains`) and its events, or why and where there
-//! is none (`laws::refused_is_unexplained`). A transfer explains its program that was compiled for a bus
+//! Proved: `explain::explain` finds the work that explains a program (`Explains`) and its events, or why and where
+//! there is none (`laws::refused_is_unexplained`). A transfer explains its program that was compiled for a bus
 //! (`compiled_is_explained`). Run alone, an explained program without DMAWFE makes one simultaneous copy
 //! (`explained_copies_alone`). Over lent memory, it has copied and set to 0 as many bytes as the channel counts, and all
 //! of them at its end, if since its load nobody else wrote what the work reads or writes; its signals and waits are the

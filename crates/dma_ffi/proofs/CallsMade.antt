@@ -1,31 +1,19 @@
 -- A call from C is a list of the engine's calls.
-use Rattle.std.proofs.Common.{◌≡◌, ℕ, zero, suc, ◌+◌, Bool, true, false, List, [], ◌∷◌, ◌++◌, Option, Some, None, refl, ap, subst, sym, ◌∙◌, inl, inr, append_assoc, arith}
+use Rattle.std.proofs.Common.{◌≡◌, ℕ, zero, suc, ◌+◌, Bool, true, false, List, [], ◌∷◌, ◌++◌, Option, Some, None, refl, ap, subst, sym, ◌∙◌, inl, inr}
+use Rattle.std.proofs.Common.{append_assoc, arith}
 use Rattle.std.specs.Prelude.{if◌then◌else◌, ◌==◌, Result, Ok, Err, replicate, unwrap_or}
-use Rattle.std.proofs.lemmas.Bool.{eqb-true}
-use Rattle.std.proofs.lemmas.List.{replicate-append-replicate}
-use Rattle.dma_mem.specs.Places.{Descriptor}
-use Rattle.dma_mem.specs.Refusals.{refusal_of}
-use Rattle.dma_mem.specs.declared.marks.MarkKind.{MarkKind}
-use Rattle.dma_mem.specs.declared.segment.Segment.{Segment}
-use Rattle.dma_mem.specs.declared.transfer.TransferFault.TheVariants as transfers
-use Rattle.dma_mem.specs.declared.call.Call.{Call}
+use Rattle.std.proofs.{lemmas.Bool.eqb-true, lemmas.List.replicate-append-replicate}
 use Rattle.dma_mem.specs.declared.call.Call.TheVariants.{Submit, Step, Mark}
-use Rattle.dma_engine.specs.declared.call.Reply.{Reply}
-use Rattle.dma_engine.specs.declared.call.Reply.TheVariants.{Turned, Refused}
-use Rattle.dma_engine.specs.declared.fault.EngineFault.{EngineFault}
-use Rattle.dma_engine.specs.declared.turn.Advanced.{Advanced}
-use Rattle.dma_engine.specs.declared.turn.Turn.{Turn}
-use Rattle.dma_engine.specs.declared.turn.Turn.TheVariants.{Moved}
+use Rattle.dma_mem.specs.{Places.Descriptor, Refusals.refusal_of, declared.marks.MarkKind.MarkKind, declared.segment.Segment.Segment, declared.call.Call.Call}
 use Rattle.dma_engine.specs.Advance.{EndsWith, after_steps, replies_before, start_replies, steps_before}
-use Rattle.dma_engine.specs.View.{View}
-use Rattle.dma_engine.specs.Answer.{AreAnswers, StepAnswers, answers}
-use Rattle.dma_engine.proofs.CallLists.{AreAnswers_push}
-use Rattle.dma_engine.proofs.IdleSteps.{idle_steps_stay}
-use Rattle.dma_engine.proofs.JoinedCalls.{answers_are_answers}
-use Rattle.dma_engine.proofs.Turns.{answer_is}
-use Rattle.dma_ffi.specs.Codes.{mark_kind}
-use Rattle.dma_ffi.specs.Requests.{Answer, Answers, AnswersMark, AnswersSubmit, Replies, Request, Returns, advance_answer, ask_call, ask_mark, ask_steps, ask_submit, ask_value, replied, stepped, turn_before, unfit}
-use Rattle.dma_ffi.specs.Laws.{AreReplies, CallsAreTheEngines, calls_made, if_replied, marking}
+use Rattle.dma_engine.specs.{declared.call.Reply.Reply, declared.call.Reply.TheVariants.Turned, declared.call.Reply.TheVariants.Refused}
+use Rattle.dma_engine.specs.{declared.fault.EngineFault.EngineFault, declared.turn.Advanced.Advanced, declared.turn.Turn.Turn}
+use Rattle.dma_engine.specs.{declared.turn.Turn.TheVariants.Moved, View.View, Answer.AreAnswers, Answer.StepAnswers, Answer.answers}
+use Rattle.dma_engine.proofs.{CallLists.AreAnswers_push, IdleSteps.idle_steps_stay, JoinedCalls.answers_are_answers, Turns.answer_is}
+use Rattle.dma_ffi.specs.Requests.{Answer, Answers, AnswersMark, AnswersSubmit, Replies, Request, Returns, advance_answer, ask_call, ask_mark, ask_steps}
+use Rattle.dma_ffi.specs.Requests.{ask_submit, ask_value, replied, stepped, turn_before, unfit}
+use Rattle.dma_ffi.specs.{Codes.mark_kind, Laws.AreReplies, Laws.CallsAreTheEngines, Laws.calls_made, Laws.if_replied, Laws.marking}
+use Rattle.dma_mem.specs.declared.transfer.TransferFault.TheVariants as transfers
 
 -- there are replies to calls in order that fit an answer and lead to this view
 abbrev Made : View → List Call → Answer → View → Type 0
@@ -44,7 +32,8 @@ one_made v w call answer (reply, is, answers) =
 refused_stays : (v w : View) (ch : ℕ) (fault : EngineFault) → StepAnswers v ch (Err fault) w → w ≡ v
 refused_stays v w ch fault h = grind (arith, answer_is, idle_steps_stay)
 
-before_fits : (n : ℕ) (started : Option ℕ) (moved : ℕ) → AreReplies (stepped n (turn_before started moved)) (start_replies started ++ replicate moved (Turned Moved))
+before_fits : (n : ℕ) (started : Option ℕ) (moved : ℕ)
+    → AreReplies (stepped n (turn_before started moved)) (start_replies started ++ replicate moved (Turned Moved))
 before_fits n None zero = refl
 before_fits n (Some cookie) zero = ([], refl)
 before_fits n started (suc moved) =
@@ -56,14 +45,20 @@ before_fits n started (suc moved) =
     )
 
 -- the steps before the last
-before_answers : (v w : View) (ch : ℕ) (a : Advanced) → (answers v (replicate (steps_before a) (Step ch))).0 ≡ replies_before a → w ≡ after_steps v ch (steps_before a) → AreAnswers v (replicate (steps_before a) (Step ch)) (replies_before a) w
+before_answers : (v w : View) (ch : ℕ) (a : Advanced) → (answers v (replicate (steps_before a) (Step ch))).0 ≡ replies_before a
+    → w ≡ after_steps v ch (steps_before a) → AreAnswers v (replicate (steps_before a) (Step ch)) (replies_before a) w
 before_answers v w ch a is same = grind (arith, answers_are_answers)
 
-before_made : (v w : View) (ch : ℕ) (a : Advanced) → (answers v (replicate (steps_before a) (Step ch))).0 ≡ replies_before a → w ≡ after_steps v ch (steps_before a) → Made v (replicate (steps_before a) (Step ch)) (stepped (steps_before a) (turn_before a.started a.moved)) w
+before_made : (v w : View) (ch : ℕ) (a : Advanced) → (answers v (replicate (steps_before a) (Step ch))).0 ≡ replies_before a
+    → w ≡ after_steps v ch (steps_before a) → Made v (replicate (steps_before a) (Step ch)) (stepped (steps_before a) (turn_before a.started a.moved)) w
 before_made v w ch a is same = (replies_before a, before_fits (steps_before a) a.started a.moved, before_answers v w ch a is same)
 
 -- a refused step after others, or as the first
-refused_made : (v w : View) (ch : ℕ) (a : Advanced) (fault : EngineFault) (first : Bool) → (answers v (replicate (steps_before a) (Step ch))).0 ≡ replies_before a → StepAnswers (after_steps v ch (steps_before a)) ch (Err fault) w → (steps_before a == 0) ≡ first → (let answer = if first then replied (Refused fault) else stepped (steps_before a) (turn_before a.started a.moved) in Made v (calls_made (ask_steps ch 0) answer) answer w)
+refused_made : (v w : View) (ch : ℕ) (a : Advanced) (fault : EngineFault) (first : Bool)
+    → (answers v (replicate (steps_before a) (Step ch))).0 ≡ replies_before a → StepAnswers (after_steps v ch (steps_before a)) ch (Err fault) w
+    → (steps_before a == 0) ≡ first
+    → (let answer = if first then replied (Refused fault) else stepped (steps_before a) (turn_before a.started a.moved) in
+    Made v (calls_made (ask_steps ch 0) answer) answer w)
 refused_made v w ch a fault true before is none =
     let zero = eqb-true (steps_before a) 0 none in
     one_made v w (Step ch) (replied (Refused fault)) (Refused fault, refl, subst (λ (k : ℕ). StepAnswers (after_steps v ch k) ch (Err fault) w) zero is)
@@ -71,7 +66,9 @@ refused_made v w ch a fault false before is some =
     before_made v w ch a before (refused_stays (after_steps v ch (steps_before a)) w ch fault is)
 
 -- the steps of an advance, by the result of the last
-advance_made : (v w : View) (ch most : ℕ) (a : Advanced) (last : Option (Result Turn EngineFault)) → (answers v (replicate (steps_before a) (Step ch))).0 ≡ replies_before a → EndsWith (after_steps v ch (steps_before a)) ch (steps_before a) most last w → Made v (calls_made (ask_steps ch most) (advance_answer a last)) (advance_answer a last) w
+advance_made : (v w : View) (ch most : ℕ) (a : Advanced) (last : Option (Result Turn EngineFault))
+    → (answers v (replicate (steps_before a) (Step ch))).0 ≡ replies_before a → EndsWith (after_steps v ch (steps_before a)) ch (steps_before a) most last w
+    → Made v (calls_made (ask_steps ch most) (advance_answer a last)) (advance_answer a last) w
 advance_made v w ch most a None before last = before_made v w ch a before last.1
 advance_made v w ch most a (Some (Ok turn)) before last =
     let u = after_steps v ch (steps_before a) in

@@ -1,6 +1,7 @@
 -- A walk: a `&mut` to one struct lends itself as a `&mut` to another with the same fields, by a cast of its pointer.
 use Rattle.std.proofs.Common.{◌≡◌, ℕ, List, [], ◌∷◌, refl}
 use Rattle.std.specs.Borrow.{MutBor}
+use Rattle.std.proofs.{raw_atomic.Walks.proved, alloc.Shapes.after}
 use mir.Syntax.{Callee, Fn, local, value_local, named, erased, mut, ty_ref, ty_ptr, deref, place, copy, assign, addr_of, rv_opd, seq, block, return}
 use mir.Val.{Val, vptr}
 use base.Fraction.{full_share}
@@ -25,8 +26,6 @@ use denote.Steps.{nothing, opens}
 use denote.Triple.Clauses.{Clauses, Ended, closing}
 use denote.Triple.Spec.{Meets}
 use denote.Triple.Walked.{Stays, stay_dropped, walk_of, Goes-spent_ref, ends_at, says}
-use Rattle.std.proofs.raw_atomic.Walks.{proved}
-use Rattle.std.proofs.alloc.Shapes.{after}
 
 -- `F` and `G` take a value of each struct to the same value of the other, and `V` is what the cast's contract says of
 -- the two values
@@ -36,7 +35,13 @@ module _ (P Q : RattleType) (F : Q.Denot → P.Denot) (G : P.Denot → Q.Denot) 
     (back : (w : Q.Denot) (b o : ℕ) → part_at Q full_share w b o ≡ part_at P full_share (F w) b o) where
   abbrev ended : Ended
   ended = record {
-    signature = record { lifetimes = 1; outlives = []; params = mut_ref_to (0 ∷ []) tt (plain (λ _. P)) ∷ []; result = mut_ref_to (0 ∷ []) tt (plain (λ _. Q)) };
+    signature = record {
+      lifetimes = 1;
+      outlives = [];
+      params = mut_ref_to (0 ∷ []) tt (plain (λ _. P)) ∷ [];
+      result =
+          mut_ref_to (0 ∷ []) tt (plain (λ _. Q));
+    };
     kept = (no, tt);
   }
 
@@ -47,8 +52,10 @@ module _ (P Q : RattleType) (F : Q.Denot → P.Denot) (G : P.Denot → Q.Denot) 
     ty_params = [];
     givens = 0;
     params = 1;
-    locals = local (ty_ref (named 0) mut (pointee Q.written)) value_local ∷ local (ty_ref (named 0) mut (pointee P.written)) value_local ∷ local (ty_ref erased mut (pointee Q.written)) value_local ∷ local ty_ptr value_local ∷ local ty_ptr value_local ∷ [];
-    body = seq (block (seq (assign (place 3 []) (addr_of (place 1 (deref (lone P.mir) ∷ [])))) (seq (assign (place 4 []) (rv_opd (copy (place 3 [])))) (assign (place 2 []) (addr_of (place 4 (deref (lone Q.mir) ∷ [])))))))
+    locals = local (ty_ref (named 0) mut (pointee Q.written)) value_local ∷ local (ty_ref (named 0) mut (pointee P.written)) value_local ∷ local
+        (ty_ref erased mut (pointee Q.written)) value_local ∷ local ty_ptr value_local ∷ local ty_ptr value_local ∷ [];
+    body = seq (block (seq (assign (place 3 []) (addr_of (place 1 (deref (lone P.mir) ∷ []))))
+        (seq (assign (place 4 []) (rv_opd (copy (place 3 [])))) (assign (place 2 []) (addr_of (place 4 (deref (lone Q.mir) ∷ [])))))))
         (seq (assign (place 0 []) (rv_opd (copy (place 2 [])))) return);
   }
 
@@ -57,10 +64,16 @@ module _ (P Q : RattleType) (F : Q.Denot → P.Denot) (G : P.Denot → Q.Denot) 
 
   module _ {M : Type 1} {𝓤 : Ura M} (𝓛 : Logic 𝓤) where
     abbrev lending : Clauses 𝓤 ended
-    lending κs a = record { ghost = Unit {0}; requires = λ _. emp 𝓤; ensures = λ _ r _. sep 𝓤 (sem 𝓛 (follows P Q a.0.ghost_name r.ghost_name F)) (fact 𝓤 (V r.now a.0.now)) }
+    lending κs a = record {
+      ghost = Unit {0};
+      requires = λ _. emp 𝓤;
+      ensures =
+          λ _ r _. sep 𝓤 (sem 𝓛 (follows P Q a.0.ghost_name r.ghost_name F)) (fact 𝓤 (V r.now a.0.now));
+    }
 
     returned : (b o : ℕ) (w : Q.Denot) → ent 𝓤 (sep 𝓤 (sem 𝓛 ((mem Q).own_at w b o)) (sem 𝓛 ftrue)) (sem 𝓛 ((mem P).own_at (F w) b o))
-    returned b o w = qed 𝓛 (‵ (part_at Q full_share w b o) ∷ ‵ ftrue ∷ []) ∵ move ! (1 ∷ []) $ drop ! $ rewrite ! 0 (λ (X : Fml). ‵ X) (back w b o) refl $ done !
+    returned b o w = qed 𝓛 (‵ (part_at Q full_share w b o) ∷ ‵ ftrue ∷ []) ∵ move ! (1 ∷ []) $ drop ! $ rewrite ! 0 (λ (X : Fml). ‵ X) (back w b o) refl $ done
+        !
 
     module _ (𝓜 : Model 𝓤 𝓛.H) (𝓡 : Running 𝓤 𝓛.H 𝓜) where
       pub casts : (k : Callee) → Closed 𝓤 𝓛.H (tables 𝓤 𝓛.H 𝓜 𝓡 𝓡.env).C (tables 𝓤 𝓛.H 𝓜 𝓡 𝓡.env).Λ k cast
@@ -68,11 +81,13 @@ module _ (P Q : RattleType) (F : Q.Denot → P.Denot) (G : P.Denot → Q.Denot) 
       unfolding part_of
       casts k closed =
           let H = 𝓛.H in let 𝓣 = tables 𝓤 H 𝓜 𝓡 𝓡.env in
-          proved 𝓛 ended stayed lending 𝓜 𝓡 (Goes-spent_ref 𝓛 1 (0 ∷ []) tt (plain (λ _. P)), tt) k cast closed (λ κs. (mut_vals, tt)) (λ κs. (mut_Tells (named 0) κs.0 P, tt)) (λ κs qs bounds a g are.
+          proved 𝓛 ended stayed lending 𝓜 𝓡 (Goes-spent_ref 𝓛 1 (0 ∷ []) tt (plain (λ _. P)), tt) k cast closed (λ κs. (mut_vals, tt))
+          (λ κs. (mut_Tells (named 0) κs.0 P, tt)) (λ κs qs bounds a g are.
           let h = a.0.now in let γ = a.0.ghost_name in let b = a.0.ref_ptr.0 in let o = a.0.ref_ptr.1 in let x : Q.Denot = G h in
           let y : (walk_of 𝓛 ended stayed lending).Ghost = ((κs, qs, bounds, a, (vptr b o ∷ [], tt)), g) in
           let Post : Val → SProp 𝓤 = (walk_of 𝓛 ended stayed lending).post y in
-          qed 𝓛 (((‵ (flft κs.0 qs.0) ⊛ ‵ ftrue) ⊛ ‵ (owns (types_at ended.signature.params κs) a (vptr b o ∷ [], tt))) ∷ ‵ ftrue ∷ []) ∵ move ! (1 ∷ []) $ drop ! $
+          qed 𝓛 (((‵ (flft κs.0 qs.0) ⊛ ‵ ftrue) ⊛ ‵ (owns (types_at ended.signature.params κs) a (vptr b o ∷ [], tt))) ∷ ‵ ftrue ∷ []) ∵ move ! (1 ∷ []) $ drop
+          ! $
           split ! $ enter ! 𝓣.C 𝓣.Λ cast (vptr b o ∷ []) Post $ alloc_all ! (λ l. pass_all ! refl ((tt, tt), tt) $
           let Ev : Env 𝓤 H = env cast.locals l in
           first ! $ blocks ! $ sets ! (addr ! (through ! refl (stop !))) refl (tt, tt) $
@@ -83,8 +98,10 @@ module _ (P Q : RattleType) (F : Q.Denot → P.Denot) (G : P.Denot → Q.Denot) 
           rewrite ! 0 (λ (X : Fml). ‵ X) (there h b o) refl $ nothing ! $ move ! (2 ∷ 3 ∷ 4 ∷ 1 ∷ 0 ∷ []) $ group ! 5 $
           let lent : GName → MutBor Q.Denot = λ γ'. record { ref_ptr = (b, o); ghost_name = γ'; now = x } in
           use1 𝓛 (later (some (λ (γ' : GName). ‵ ((MutRef (named 0) κs.0 Q).own_val (lent γ') (vptr b o ∷ [])) ⊛ ‵ (flft κs.0 qs.0) ⊛ ‵ (follows P Q γ γ' F))))
-          (lends_Part 𝓛 P Q F (named 0) κs.0 qs.0 b o b o γ (sem 𝓛 ftrue) (returned b o) (P.coded.code h) (P.coded.code h) x) $ await ! tt $ pick ! (λ γ'. split3 ! $
+          (lends_Part 𝓛 P Q F (named 0) κs.0 qs.0 b o b o γ (sem 𝓛 ftrue) (returned b o) (P.coded.code h) (P.coded.code h) x) $ await ! tt $ pick !
+          (λ γ'. split3 ! $
           -- [the reference; the token; what follows it]
           returns ! (look_at ! 0 refl) $ free_all ! refl $ keep ! (0 ∷ 1 ∷ 2 ∷ []) $
-          suffices ! _ (ends_at 𝓛 ended stayed lending y (vptr b o) (lent γ') (tt, tt) (tt, tt)) $ nothing ! $ nothing ! $ fjoin ! $ join ! $ nothing ! $ move ! (2 ∷ 0 ∷ []) $ join ! $ join ! $
+          suffices ! _ (ends_at 𝓛 ended stayed lending y (vptr b o) (lent γ') (tt, tt) (tt, tt)) $ nothing ! $ nothing ! $ fjoin ! $ join ! $ nothing ! $ move !
+          (2 ∷ 0 ∷ []) $ join ! $ join ! $
           frame ! $ says ! (sees h) $ done !))))

@@ -1,45 +1,29 @@
 -- Calls from C that load a transfer into a channel and step it.
-use Rattle.std.proofs.Common.{◌≡◌, ◌≢◌, ℕ, ◌+◌, ◌-◌, ◌<◌, ◌≤◌, Bool, true, false, ◌||◌, List, [], ◌∷◌, ◌++◌, length, take, Option, Some, None, refl, sym, ap, ◌∙◌, subst, arith, inl, inr}
+use Rattle.std.proofs.Common.{◌≡◌, ◌≢◌, ℕ, ◌+◌, ◌-◌, ◌<◌, ◌≤◌, Bool, true, false, ◌||◌, List, [], ◌∷◌, ◌++◌, length, take, Option, Some, None, refl, sym, ap}
+use Rattle.std.proofs.Common.{◌∙◌, subst, arith, inl, inr}
 use Rattle.std.specs.List.{Contains, list_any}
 use Rattle.std.proofs.lemmas.List.{append-nil}
 use Rattle.dma_insn.specs.AssemblyText.{most_program_bytes}
-use Rattle.dma_mem.specs.Marking.{MarkList}
-use Rattle.dma_mem.specs.Places.{Descriptor}
-use Rattle.dma_mem.specs.Refusals.{refusal_of}
 use Rattle.dma_mem.specs.Regions.{Piece, bytes_above, end_of, has, in_order, pieces_of, rises_from, run_from}
-use Rattle.dma_mem.specs.Rules.{IsTransfer}
-use Rattle.dma_mem.specs.declared.regions.Region.{Region}
-use Rattle.dma_mem.specs.declared.segment.Segment.{Segment}
-use Rattle.dma_mem.specs.declared.transfer.TransferFault.{TransferFault}
-use Rattle.dma_mem.proofs.Pieces.{first as first_piece, has_parts}
+use Rattle.dma_mem.specs.{Marking.MarkList, Places.Descriptor, Refusals.refusal_of, Rules.IsTransfer, declared.regions.Region.Region}
+use Rattle.dma_mem.specs.{declared.segment.Segment.Segment, declared.transfer.TransferFault.TransferFault}
 use Rattle.dma_mem.proofs.TransferRules.{IsTransfer_from_no_refusal}
-use Rattle.dma_chan.specs.declared.bus.Bus.TheVariants.{Ideal}
-use Rattle.dma_chan.specs.Channel.{ChannelValue}
-use Rattle.dma_explain.specs.Changes as chan
-use Rattle.dma_chan.specs.Compiled.{compiled, cost}
-use Rattle.dma_chan.specs.Exec.{start_on}
-use Rattle.dma_explain.specs.Explains.{Explains, HasEvents, IsLoadedWith, cleared, only}
-use Rattle.dma_explain.specs.RegionsHave.{HaveAll}
-use Rattle.dma_chan.specs.Others.{Misses}
-use Rattle.dma_explain.specs.Works.{MissesAll}
-use Rattle.dma_explain.specs.declared.explain.Amounts.{Amounts}
-use Rattle.dma_chan.specs.Stepping.{Machine, Wrote}
-use Rattle.dma_chan.specs.Written.{KeepsOutside, LiesIn}
-use Rattle.dma_chan.specs.declared.lent.Taken.{Taken}
-use Rattle.dma_chan.specs.declared.turn.ChanTurn.{ChanTurn}
 use Rattle.dma_chan.specs.declared.turn.ChanTurn.TheVariants.{Waiting, Ended, Fault}
-use Rattle.dma_chan.specs.declared.turn.FaultKind.{FaultKind}
-use Rattle.dma_explain.proofs.CompiledExplained.{compiled_events, compiled_explained}
-use Rattle.dma_chan.proofs.PlacesKept.{long_above}
-use Rattle.dma_explain.proofs.RegionsHave.{gaps_miss}
+use Rattle.dma_chan.specs.{declared.bus.Bus.TheVariants.Ideal, Channel.ChannelValue, Compiled.compiled, Compiled.cost, Exec.start_on, Others.Misses}
+use Rattle.dma_chan.specs.{Stepping.Machine, Stepping.Wrote, Written.KeepsOutside, Written.LiesIn, declared.lent.Taken.Taken, declared.turn.ChanTurn.ChanTurn}
+use Rattle.dma_chan.specs.{declared.turn.FaultKind.FaultKind}
+use Rattle.dma_explain.specs.Explains.{Explains, HasEvents, IsLoadedWith, cleared, only}
+use Rattle.dma_explain.specs.{RegionsHave.HaveAll, Works.MissesAll, declared.explain.Amounts.Amounts}
 use Rattle.dma_explain.proofs.SinceLoads.{channels_copy, cleared_within, copies_since_load}
-use Rattle.dma_chan.proofs.StepsTaken.{steps_move}
-use Rattle.dma_chan.proofs.SteppedOver.{writes_each}
-use Rattle.dma_ffi.specs.declared.channel_steps.ChannelReport.{ChannelReport}
-use Rattle.dma_ffi.specs.declared.marked_channel.MarkedChannel.{MarkedChannel}
-use Rattle.dma_ffi.specs.ChannelLaws.{HasTransfer, IsCallOf, IsMade, KeepsEvents, LoadsATransfer, ReportsCopy, StepCall, StepsCopy, StepsAreCalls, StepsKeepTheRest, channel_of, machine_of, marked_of, marks_in, memory_of, copied}
+use Rattle.dma_explain.proofs.{CompiledExplained.compiled_events, CompiledExplained.compiled_explained, RegionsHave.gaps_miss}
+use Rattle.dma_chan.proofs.{PlacesKept.long_above, StepsTaken.steps_move, SteppedOver.writes_each}
+use Rattle.dma_ffi.specs.ChannelLaws.{HasTransfer, IsCallOf, IsMade, KeepsEvents, LoadsATransfer, ReportsCopy, StepCall, StepsCopy, StepsAreCalls}
+use Rattle.dma_ffi.specs.ChannelLaws.{StepsKeepTheRest, channel_of, machine_of, marked_of, marks_in, memory_of, copied}
 use Rattle.dma_ffi.specs.Channels.{LoadsBytes, LoadsFrom, LoadsTransfer, StepsOver, are_usable, marks_over, channel_report}
 use Rattle.dma_ffi.specs.Codes.{ok_code, transfer_code}
+use Rattle.dma_ffi.specs.{declared.channel_steps.ChannelReport.ChannelReport, declared.marked_channel.MarkedChannel.MarkedChannel}
+use Rattle.dma_mem.proofs.Pieces.{first as first_piece, has_parts}
+use Rattle.dma_explain.specs.Changes as chan
 
 -- ---- loads
 
@@ -49,9 +33,12 @@ refused fault e = grind arith
 was_loaded : (t : Descriptor) (c d : ChannelValue) → LoadsTransfer t c ok_code d → (refusal_of t ≡ None) × IsLoadedWith (start_on Ideal) (compiled t).bytes d
 was_loaded t c d h1 = grind (arith, append-nil, refused)
 
-was_read : (program : List ℕ) (regions : List Region) (addr : ℕ) (rest : List ℕ) (c d : ChannelValue) → take most_program_bytes (run_from (pieces_of regions) addr) ≡ program ++ rest → LoadsFrom regions addr c ok_code d → IsLoadedWith (start_on Ideal) program d
+was_read : (program : List ℕ) (regions : List Region) (addr : ℕ) (rest : List ℕ) (c d : ChannelValue)
+    → take most_program_bytes (run_from (pieces_of regions) addr) ≡ program ++ rest → LoadsFrom regions addr c ok_code d
+    → IsLoadedWith (start_on Ideal) program d
 was_read program regions addr rest c d e (inl bad) = absurd (let f = bad.0 in cc)
-was_read program regions addr rest c d e (inr ok) = (record { bytes = take most_program_bytes (run_from (pieces_of regions) addr); cost = None }, (rest, e), ok.2)
+was_read program regions addr rest c d e (inr ok) =
+    (record { bytes = take most_program_bytes (run_from (pieces_of regions) addr); cost = None }, (rest, e), ok.2)
 
 was_given : (program rest : List ℕ) (c d : ChannelValue) → LoadsBytes (program ++ rest) c ok_code d → IsLoadedWith (start_on Ideal) program d
 was_given program rest c d (inl ok) = (record { bytes = program ++ rest; cost = None }, (rest, refl), ok.2)
@@ -100,7 +87,8 @@ ends_after : (at : ℕ) (ps : List Piece) (a : ℕ) → rises_from at ps ≡ tru
 ends_after at [] a h lies = absurd (cc)
 ends_after at (p ∷ ps) a h lies = let f = first_piece at p ps h in by (has a p) refl lies (ends_after (end_of p) ps a f.rest)
   where
-    by : (b : Bool) → has a p ≡ b → (b || list_any (has a) ps) ≡ true → (list_any (has a) ps ≡ true → a < end_of p + length (bytes_above (end_of p) ps)) → a < at + length (bytes_above at (p ∷ ps))
+    by : (b : Bool) → has a p ≡ b → (b || list_any (has a) ps) ≡ true → (list_any (has a) ps ≡ true → a < end_of p + length (bytes_above (end_of p) ps))
+        → a < at + length (bytes_above at (p ∷ ps))
     by true e lies later = let f = first_piece at p ps h in let w = has_parts a p e in omega (arith, w.1, f.after, long_above at p ps)
     by false e lies later = let f = first_piece at p ps h in omega (arith, later lies, f.after, long_above at p ps)
 
@@ -143,7 +131,8 @@ does_call ch call d = rw (d.3.before, d.3.after) (record { is_loaded = d.3.is_lo
 -- the report, by the channel that is left
 reported_by : (call : StepCall) (d : Took call) → call.report ≡ channel_report d.2.count (channel_of call.left).registers.pc d.2.written d.2.last d.2.signal
 reported_by call d =
-    d.3.reported ∙ ap (λ (o : Option MarkedChannel). channel_report d.2.count (marked_of o).channel.registers.pc d.2.written d.2.last d.2.signal) (sym d.3.after)
+    d.3.reported ∙ ap (λ (o : Option MarkedChannel). channel_report d.2.count (marked_of o).channel.registers.pc d.2.written d.2.last d.2.signal)
+    (sym d.3.after)
 
 pub steps_are_calls : StepsAreCalls
 steps_are_calls ch call made ok =
@@ -164,17 +153,21 @@ steps_are_calls ch call made ok =
     )
 
 -- one of its steps wrote each address in the range that a call reports as written
-each_was_written : (call : StepCall) (d : Took call) (a : ℕ) → LiesIn call.report.written a → Wrote (marks_in call.lent) (machine_of call.lent) call.report.taken a
+each_was_written : (call : StepCall) (d : Took call) (a : ℕ) → LiesIn call.report.written a
+    → Wrote (marks_in call.lent) (machine_of call.lent) call.report.taken a
 each_was_written call d a i =
     let does = does_call 0 call d in
     let s = machine_of call.lent in
     let count = taken_in call.report d.2.count d.1.channel.registers.pc d.2.written d.2.last d.2.signal d.3.reported in
-    let wrote = writes_each (marks_over d.0 call.lent.regions) s d.2.count a (steps_move does.steps) (subst (λ (w : Segment). LiesIn w a) (reported_range call d ∙ does.written) i) in
-    subst (λ (o : Option MarkedChannel). Wrote (marks_over (marked_of o) call.lent.regions) s call.report.taken a) (sym d.3.before) (subst (λ (n : ℕ). Wrote (marks_over d.0 call.lent.regions) s n a) (sym count) wrote)
+    let wrote = writes_each (marks_over d.0 call.lent.regions) s d.2.count a (steps_move does.steps)
+    (subst (λ (w : Segment). LiesIn w a) (reported_range call d ∙ does.written) i) in
+    subst (λ (o : Option MarkedChannel). Wrote (marks_over (marked_of o) call.lent.regions) s call.report.taken a) (sym d.3.before)
+    (subst (λ (n : ℕ). Wrote (marks_over d.0 call.lent.regions) s n a) (sym count) wrote)
 
 pub steps_keep_the_rest : StepsKeepTheRest
 steps_keep_the_rest call made = record {
-  ok = λ ok. let d = took call ok made in subst (λ (w : Segment). KeepsOutside w (memory_of call.lent) (memory_of call.left)) (sym (reported_range call d)) d.3.kept;
+  ok = λ ok. let d = took call ok made in
+      subst (λ (w : Segment). KeepsOutside w (memory_of call.lent) (memory_of call.left)) (sym (reported_range call d)) d.3.kept;
   writes_each = λ a ok i. each_was_written call (took call ok made) a i;
   refused = λ bad. was_refused call bad made;
 }
@@ -191,7 +184,9 @@ only_done : (d : Amounts) (n : ℕ) → n ≡ d.copied + d.cleared → d.cleared
 only_done d n e le = grind arith
 
 -- what a call from C reports, if the call that it is has copied
-module _ (program : List ℕ) (n : ℕ) (t : Descriptor) (first memory : ℕ → ℕ) (call : chan.Call) (from : StepCall) (h : Explains (start_on Ideal) program (only t) n) (is : IsCallOf call.channel from call) (copy : chan.HasCopied (start_on Ideal) program (only t) n first memory call) where
+module _ (program : List ℕ) (n : ℕ) (t : Descriptor) (first memory : ℕ → ℕ) (call : chan.Call) (from : StepCall)
+    (h : Explains (start_on Ideal) program (only t) n) (is : IsCallOf call.channel from call)
+    (copy : chan.HasCopied (start_on Ideal) program (only t) n first memory call) where
   missed : HaveAll from.lent.regions (only t) → Misses (marked_of from.lent.channel).marks t → MissesAll call.marks (only t)
   missed have none =
       let own = (marked_of from.lent.channel).marks in
@@ -215,7 +210,8 @@ module _ (program : List ℕ) (n : ℕ) (t : Descriptor) (first memory : ℕ →
       }
 
 -- a signal and a wait are the transfer's, if the program's are
-keeps_events : (program : List ℕ) (n : ℕ) (t : Descriptor) (first memory : ℕ → ℕ) (call : chan.Call) (from : StepCall) → HasEvents (start_on Ideal) program t n → ReportsCopy program n t first memory from call → KeepsEvents t from
+keeps_events : (program : List ℕ) (n : ℕ) (t : Descriptor) (first memory : ℕ → ℕ) (call : chan.Call) (from : StepCall) → HasEvents (start_on Ideal) program t n
+    → ReportsCopy program n t first memory from call → KeepsEvents t from
 keeps_events program n t first memory call from has r = record {
   signals = λ e.
       let s = has.signals from.report.event r.copy.done (r.copy.signals from.report.event (r.signals e)) in

@@ -1,20 +1,15 @@
 -- The accesses that one call from C on an open device makes.
 use Rattle.std.proofs.Common.{◌≡◌, ◌∙◌, ℕ, zero, suc, ◌+◌, ◌-◌, ◌≤◌, ℤ, false, List, Option, Some, None, refl, sym, ap, subst, inl, inr, arith}
-use Rattle.std.specs.Prelude.{◌||◌, if◌then◌else◌}
-use Rattle.std.specs.Ordering.{int_eq}
-use Rattle.std.proofs.lemmas.Bool.{false≢true}
-use Rattle.std.proofs.lemmas.Bool.Decides.{Decides-int_eq}
-use Rattle.dma_mem.specs.Regions.{pieces_of, read_only_of}
-use Rattle.dma_mem.specs.declared.regions.Region.{Region}
+use Rattle.std.specs.{Prelude.◌||◌, Prelude.if◌then◌else◌, Ordering.int_eq}
+use Rattle.std.proofs.{lemmas.Bool.false≢true, lemmas.Bool.Decides.Decides-int_eq}
+use Rattle.dma_mem.specs.{Regions.pieces_of, Regions.read_only_of, declared.regions.Region.Region}
 use Rattle.dma_device.specs.Accesses.{Access, Answer, AreAlike, Does, Done, Happen, Reads, Resets, Restores, Turned, Turns, Value, Writes}
-use Rattle.dma_device.specs.Device.{DeviceValue, reset_device}
-use Rattle.dma_device.specs.RowTurns.{TakesRowTurns, report_in}
-use Rattle.dma_device.specs.Run.{StaysLent}
-use Rattle.dma_device.specs.declared.device.rows.RowTurns.{RowTurns}
-use Rattle.dma_ffi.specs.declared.device_rows.DeviceRows.{DeviceRows}
+use Rattle.dma_device.specs.{Device.DeviceValue, Device.reset_device, RowTurns.TakesRowTurns, RowTurns.report_in, Run.StaysLent}
+use Rattle.dma_device.specs.{declared.device.rows.RowTurns.RowTurns}
 use Rattle.dma_ffi.specs.Codes.{bad_save, ok_code, other_device}
-use Rattle.dma_ffi.specs.Devices.{RestoresDevice, rows_report_of}
-use Rattle.dma_ffi.specs.DeviceSessions.{AreTurns, Called, DeviceCall, DeviceRequest, History, IsOne, Makes, accesses_for, ask_look, ask_read, ask_reset, ask_restore, ask_rows, ask_turn, ask_write}
+use Rattle.dma_ffi.specs.DeviceSessions.{AreTurns, Called, DeviceCall, DeviceRequest, History, IsOne, Makes, accesses_for, ask_look, ask_read, ask_reset}
+use Rattle.dma_ffi.specs.DeviceSessions.{ask_restore, ask_rows, ask_turn, ask_write}
+use Rattle.dma_ffi.specs.{declared.device_rows.DeviceRows.DeviceRows, Devices.RestoresDevice, Devices.rows_report_of}
 
 -- the number of accesses of a write and of a turn
 abbrev pub if_ok : ℤ → ℕ
@@ -59,7 +54,8 @@ abbrev pub idle : DeviceValue → List Region → History
 idle d regions = record { access = λ k. Resets; answer = λ k. Done; before = λ k. d; lent = λ k. regions; left = λ k. regions }
 
 -- a call that makes no access
-own_none : (d : DeviceValue) (call : DeviceCall) (request : DeviceRequest) (new : Option DeviceValue) → accesses_for request call.code ≡ 0 → new ≡ Some d → call.left ≡ call.lent → Makes (idle d call.lent) 0 call request → Own d call request new
+own_none : (d : DeviceValue) (call : DeviceCall) (request : DeviceRequest) (new : Option DeviceValue) → accesses_for request call.code ≡ 0 → new ≡ Some d
+    → call.left ≡ call.lent → Makes (idle d call.lent) 0 call request → Own d call request new
 own_none d call request new none same kept makes = (
   idle d call.lent,
   record {
@@ -91,7 +87,8 @@ is_one : (d e : DeviceValue) (call : DeviceCall) (a : Access) (r : Answer) → I
 is_one d e call a r = record { access = refl; answer = refl; lent = refl; left = refl }
 
 -- a call that makes one access
-own_one : (d e : DeviceValue) (call : DeviceCall) (request : DeviceRequest) (a : Access) (r : Answer) → accesses_for request call.code ≡ 1 → Does a d call.lent r e call.left → Makes (single d e call a r) 0 call request → Own d call request (Some e)
+own_one : (d e : DeviceValue) (call : DeviceCall) (request : DeviceRequest) (a : Access) (r : Answer) → accesses_for request call.code ≡ 1
+    → Does a d call.lent r e call.left → Makes (single d e call a r) 0 call request → Own d call request (Some e)
 own_one d e call request a r one does makes = (
   single d e call a r,
   record {
@@ -119,7 +116,8 @@ in_row d e call n t takes = record {
   left = λ k. takes.lent (k + 1);
 }
 
-are_turns : (d e : DeviceValue) (call : DeviceCall) (n : ℕ) (t : RowTurns) (takes : TakesRowTurns d call.lent n e call.left t) → 1 ≤ t.rows.count → AreTurns (in_row d e call n t takes) 0 call n t
+are_turns : (d e : DeviceValue) (call : DeviceCall) (n : ℕ) (t : RowTurns) (takes : TakesRowTurns d call.lent n e call.left t) → 1 ≤ t.rows.count
+    → AreTurns (in_row d e call n t takes) 0 call n t
 are_turns d e call n t takes some = record {
   some = some;
   access = λ k less. refl;
@@ -132,7 +130,8 @@ are_turns d e call n t takes some = record {
 }
 
 -- a call that takes turns in a row
-own_rows : (d e : DeviceValue) (call : DeviceCall) (n most : ℕ) (before report : DeviceRows) (t : RowTurns) → call.code ≡ ok_code → TakesRowTurns d call.lent n e call.left t → report ≡ rows_report_of t e → 1 ≤ report.count → Own d call (ask_rows n most before report) (Some e)
+own_rows : (d e : DeviceValue) (call : DeviceCall) (n most : ℕ) (before report : DeviceRows) (t : RowTurns) → call.code ≡ ok_code
+    → TakesRowTurns d call.lent n e call.left t → report ≡ rows_report_of t e → 1 ≤ report.count → Own d call (ask_rows n most before report) (Some e)
 own_rows d e call n most before report t ok takes is some =
     let h = in_row d e call n t takes in
     let count : report.count ≡ t.rows.count = ap (λ (r : DeviceRows). r.count) is in
@@ -160,7 +159,8 @@ apart : (code a b : ℤ) → int_eq a b ≡ false → code ≡ a → ¬ (code �
 apart code a b differ is other = false≢true (sym differ ∙ (Decides-int_eq a b).1 (sym is ∙ other))
 
 -- a restore, by its code
-own_restored : (d e : DeviceValue) (call : DeviceCall) (save : List ℕ) → RestoresDevice save d call.code e → call.left ≡ call.lent → Own d call (ask_restore save) (Some e)
+own_restored : (d e : DeviceValue) (call : DeviceCall) (save : List ℕ) → RestoresDevice save d call.code e → call.left ≡ call.lent
+    → Own d call (ask_restore save) (Some e)
 own_restored d e call save (inl x) same =
     own_one d e call (ask_restore save) (Restores e) Done (ap if_restored x.0)
     (refl, refl, alike call.lent call.left same, x.1.config, x.1.value)
@@ -175,7 +175,8 @@ own_restored d e call save (inr (inr x)) same =
     (λ ok. absurd (apart call.code bad_save ok_code refl x.0 ok), λ bad. is_one d e call Resets Done)
 
 -- every call on an open device has a history
-pub own : (d : DeviceValue) (call : DeviceCall) (request : DeviceRequest) (new : Option DeviceValue) → Called request call.code (Some d) call.lent new call.left → Own d call request new
+pub own : (d : DeviceValue) (call : DeviceCall) (request : DeviceRequest) (new : Option DeviceValue) → Called request call.code (Some d) call.lent new call.left
+    → Own d call request new
 own d call (ask_read at before value) new is =
     subst (Own d call (ask_read at before value)) (sym is.0.2)
     (own_one d d call (ask_read at before value) (Reads at) (Value value) refl

@@ -1,10 +1,9 @@
 -- Calls from C on one device, one after another, are a history of accesses.
 use Rattle.std.proofs.Common.{◌≡◌, ◌∙◌, ℕ, zero, suc, ◌+◌, ◌<◌, ◌≤◌, Option, Some, refl, sym, ap, subst, inl, inr, add-one, arith}
 use Rattle.std.proofs.lemmas.Bool.{cases_lt}
-use Rattle.dma_device.specs.Accesses.{AreAlike}
-use Rattle.dma_device.specs.Device.{DeviceValue}
-use Rattle.dma_device.specs.Run.{StaysLent}
-use Rattle.dma_ffi.specs.DeviceSessions.{AreDeviceCalls, Called, DeviceCall, DeviceSessionsAreHistories, History, IsHistoryOf, Makes, accesses_for, first_access}
+use Rattle.dma_device.specs.{Accesses.AreAlike, Device.DeviceValue, Run.StaysLent}
+use Rattle.dma_ffi.specs.DeviceSessions.{AreDeviceCalls, Called, DeviceCall, DeviceSessionsAreHistories, History, IsHistoryOf, Makes, accesses_for}
+use Rattle.dma_ffi.specs.DeviceSessions.{first_access}
 use Rattle.dma_ffi.proofs.DeviceCalls.{IsOwn, alike, alike_back, alike_then, idle, own}
 use Rattle.dma_ffi.proofs.JoinedHistories.{beyond, first_same, happen_joined, joined, makes_same, second_same, stays_joined, upto}
 
@@ -30,7 +29,8 @@ record SoFar (call : ℕ → DeviceCall) (found : ℕ → Option DeviceValue) (n
   pub lends : Stay call n → AreAlike (h.lent (first_access call n)) (call n).lent
 
 -- the history of one more call
-module _ (call : ℕ → DeviceCall) (found : ℕ → Option DeviceValue) (n : ℕ) (h g : History) (so_far : SoFar call found n h) (own : IsOwn (h.before (first_access call n)) (call n) (call n).request (found (suc n)) g) where
+module _ (call : ℕ → DeviceCall) (found : ℕ → Option DeviceValue) (n : ℕ) (h g : History) (so_far : SoFar call found n h)
+    (own : IsOwn (h.before (first_access call n)) (call n) (call n).request (found (suc n)) g) where
   abbrev at : ℕ
   at = first_access call n
 
@@ -42,7 +42,8 @@ module _ (call : ℕ → DeviceCall) (found : ℕ → Option DeviceValue) (n : �
     | inl over ↦
         let is : k ≡ suc n = omega (arith, over, most) in
         let last : found (suc n) ≡ Some (with_own.before (first_access call (suc n))) =
-        own.ends ∙ ap (λ (d : DeviceValue). Some d) (sym (beyond at h.before g.before (accesses_for (call n).request (call n).code) (first_access call (suc n)) refl)) in
+        own.ends ∙ ap (λ (d : DeviceValue). Some d)
+        (sym (beyond at h.before g.before (accesses_for (call n).request (call n).code) (first_access call (suc n)) refl)) in
         subst (λ (i : ℕ). found i ≡ Some (with_own.before (first_access call i))) (sym is) last
     | inr less ↦
         so_far.is.finds k less
@@ -91,7 +92,8 @@ module _ (call : ℕ → DeviceCall) (found : ℕ → Option DeviceValue) (n : �
     lends = lends_then;
   }
 
-history_so_far : (call : ℕ → DeviceCall) (found : ℕ → Option DeviceValue) (n : ℕ) (d : DeviceValue) → found 0 ≡ Some d → AreDeviceCalls call found n → (h : History) × SoFar call found n h
+history_so_far : (call : ℕ → DeviceCall) (found : ℕ → Option DeviceValue) (n : ℕ) (d : DeviceValue) → found 0 ≡ Some d → AreDeviceCalls call found n
+    → (h : History) × SoFar call found n h
 history_so_far call found zero d begun are = (
   idle d (call 0).lent,
   record {

@@ -1,24 +1,19 @@
 -- What a turn of a device's channel from C changes.
 use Rattle.std.proofs.Common.{◌≡◌, ℕ, List, Option, Some, None, refl, sym, ap, subst, inl, inr, arith}
 use Rattle.std.specs.Prelude.{ℤ, IsTrue}
-use Rattle.dma_mem.specs.Regions.{image_of, in_order, pieces_of}
-use Rattle.dma_mem.specs.declared.regions.Region.{Region}
-use Rattle.dma_mem.specs.declared.segment.Segment.{Segment}
-use Rattle.dma_chan.specs.LentRegions.{AreKept}
-use Rattle.dma_chan.specs.Written.{KeepsOutside, LiesIn}
+use Rattle.dma_mem.specs.{Regions.image_of, Regions.in_order, Regions.pieces_of, declared.regions.Region.Region, declared.segment.Segment.Segment}
+use Rattle.dma_chan.specs.{LentRegions.AreKept, Written.KeepsOutside, Written.LiesIn}
 use Rattle.dma_device.specs.Device.{DeviceValue}
-use Rattle.dma_device.proofs.RowWrites.{rows_write_each}
-use Rattle.dma_device.proofs.Writes.{turn_writes_each}
-use Rattle.dma_ffi.specs.declared.device_rows.DeviceRows.{DeviceRows}
-use Rattle.dma_ffi.specs.declared.device_calls.DeviceTurn.{DeviceTurn}
-use Rattle.dma_ffi.specs.Codes.{ok_code}
+use Rattle.dma_device.proofs.{RowWrites.rows_write_each, Writes.turn_writes_each}
 use Rattle.dma_ffi.specs.Devices.{KeepsOutsideRows, KeepsTheRest, RowsKeepTheRest, TurnsKeepTheRest}
+use Rattle.dma_ffi.specs.{declared.device_rows.DeviceRows.DeviceRows, declared.device_calls.DeviceTurn.DeviceTurn, Codes.ok_code}
 
 stay : (regions left : List Region) → left ≡ regions → AreKept left regions
 stay regions left same = subst (λ (l : List Region). AreKept l regions) (sym same) (record { places = refl; read_only = refl; names = refl })
 
 -- the call is refused
-refused_keeps : (n most : ℕ) (old : Option DeviceValue) (regions : List Region) (before : DeviceTurn) (code : ℤ) (new : Option DeviceValue) (left : List Region) (report : DeviceTurn) → ¬ (code ≡ ok_code) → new ≡ old → left ≡ regions → report ≡ before → KeepsTheRest n most old regions before code new left report
+refused_keeps : (n most : ℕ) (old : Option DeviceValue) (regions : List Region) (before : DeviceTurn) (code : ℤ) (new : Option DeviceValue) (left : List Region)
+    (report : DeviceTurn) → ¬ (code ≡ ok_code) → new ≡ old → left ≡ regions → report ≡ before → KeepsTheRest n most old regions before code new left report
 refused_keeps n most old regions before code new left report bad device same former = grind (arith, stay)
 
 pub turns_keep_the_rest : TurnsKeepTheRest
@@ -40,7 +35,8 @@ turns_keep_the_rest n most (Some d) regions before code (Some e) left report (in
 -- ---- several turns
 
 -- the call is refused
-rows_refused : (n : ℕ) (old : Option DeviceValue) (regions : List Region) (before : DeviceRows) (code : ℤ) (new : Option DeviceValue) (left : List Region) (report : DeviceRows) → ¬ (code ≡ ok_code) → new ≡ old → left ≡ regions → report ≡ before → KeepsOutsideRows n old regions before code new left report
+rows_refused : (n : ℕ) (old : Option DeviceValue) (regions : List Region) (before : DeviceRows) (code : ℤ) (new : Option DeviceValue) (left : List Region)
+    (report : DeviceRows) → ¬ (code ≡ ok_code) → new ≡ old → left ≡ regions → report ≡ before → KeepsOutsideRows n old regions before code new left report
 rows_refused n old regions before code new left report bad device same former = grind (arith, stay)
 
 pub rows_keep_the_rest : RowsKeepTheRest

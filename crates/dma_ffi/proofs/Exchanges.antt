@@ -3,19 +3,19 @@ use Rattle.std.proofs.Common.{◌≡◌, ℕ, ℤ, List, [], ◌∷◌, Option, 
 use Rattle.std.specs.Prelude.{IsSomeAnd}
 use Rattle.std.proofs.lemmas.List.Elements.{All-append}
 use Rattle.dma_engine.proofs.JoinedCalls.{answers_append}
-use Rattle.dma_engine.specs.Laws.{IsCall}
-use Rattle.dma_engine.specs.View.{EngineState, View, new_view}
+use Rattle.dma_engine.specs.{Laws.IsCall, View.EngineState, View.View, View.new_view}
 use Rattle.dma_ffi.specs.Requests.{Opens, Returns}
-use Rattle.dma_ffi.specs.Laws.{AreExchanges, AreOneList, CanBeRequested, Exchange, ExchangesAreTheEngines, Service, Serves, SessionsAreTheEngines, all_calls, all_replies, calls_made}
-use Rattle.dma_ffi.proofs.CallsMade.{calls_are_the_engines}
-use Rattle.dma_ffi.proofs.CanBeMade.{can_be_made, none_made_law}
+use Rattle.dma_ffi.specs.Laws.{AreExchanges, AreOneList, CanBeRequested, Exchange, ExchangesAreTheEngines, Service, Serves, SessionsAreTheEngines, all_calls}
+use Rattle.dma_ffi.specs.Laws.{all_replies, calls_made}
+use Rattle.dma_ffi.proofs.{CallsMade.calls_are_the_engines, CanBeMade.can_be_made, CanBeMade.none_made_law}
 
 -- after these calls from C there is an engine, and the calls are one list
 abbrev Left : EngineState → List Exchange → Option EngineState → Type 0
 Left e calls left = IsSomeAnd left (λ e'. AreOneList e.view calls e'.view)
 
 -- a call before others
-one_before : (v u w : View) (call : Exchange) (later : List Exchange) (service : Service) → CanBeRequested call.request → Serves v call service u → AreOneList u later w → AreOneList v (call ∷ later) w
+one_before : (v u w : View) (call : Exchange) (later : List Exchange) (service : Service) → CanBeRequested call.request → Serves v call service u
+    → AreOneList u later w → AreOneList v (call ∷ later) w
 one_before v u w call later service can first rest =
     let calls = calls_made call.request service.answer in
     let others = all_calls later rest.0 in (
@@ -25,7 +25,8 @@ one_before v u w call later service can first rest =
       All-append IsCall calls others (can_be_made v u call.request service.answer can first.answers) rest.3,
     )
 
-then : (e u : EngineState) (call : Exchange) (later : List Exchange) (left : Option EngineState) → CanBeRequested call.request → Returns (Some e) call.request call.code call.written (Some u) → Left u later left → Left e (call ∷ later) left
+then : (e u : EngineState) (call : Exchange) (later : List Exchange) (left : Option EngineState) → CanBeRequested call.request
+    → Returns (Some e) call.request call.code call.written (Some u) → Left u later left → Left e (call ∷ later) left
 then e u call later None can returned rest = absurd rest
 then e u call later (Some e') can returned rest =
     let one = calls_are_the_engines e call.request call.code call.written (Some u) returned in
@@ -37,7 +38,11 @@ pub exchanges_are_the_engines : ExchangesAreTheEngines
 exchanges_are_the_engines e [] left is =
     subst (λ (x : Option EngineState). Left e [] x) (sym is) ([], refl, refl, none_made_law)
 exchanges_are_the_engines e (call ∷ later) left (next, can, returned, rest) =
-    let by : (found : Option EngineState) → Returns (Some e) call.request call.code call.written found → AreExchanges found later left → Left e (call ∷ later) left = λ found. elim found as (λ (found : Option EngineState). Returns (Some e) call.request call.code call.written found → AreExchanges found later left → Left e (call ∷ later) left) [
+    let by : (found : Option EngineState) → Returns (Some e) call.request call.code call.written found → AreExchanges found later left
+    → Left e (call ∷ later) left =
+    λ found. elim found as
+    (λ (found : Option EngineState). Returns (Some e) call.request call.code call.written found → AreExchanges found later left
+    → Left e (call ∷ later) left) [
       | Some u ↦ λ returned rest. then e u call later left can returned (exchanges_are_the_engines u later left rest)
       | None ↦ λ returned rest. absurd (calls_are_the_engines e call.request call.code call.written None returned)
     ] in

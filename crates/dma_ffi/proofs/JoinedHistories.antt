@@ -4,12 +4,10 @@ use Rattle.std.specs.Prelude.{if◌then◌else◌, nat_lt}
 use Rattle.std.proofs.lemmas.Bool.{cases_lt, le-ltb, lt-ltb}
 use Rattle.dma_mem.specs.declared.regions.Region.{Region}
 use Rattle.dma_device.specs.Accesses.{Access, Answer, AreAlike, Does, Done, Happen, Reads, Resets, Restores, Turned, Turns, Value, Writes}
-use Rattle.dma_device.specs.Device.{DeviceValue}
-use Rattle.dma_device.specs.Run.{StaysLent}
-use Rattle.dma_device.specs.declared.device.rows.RowTurns.{RowTurns}
-use Rattle.dma_ffi.specs.declared.device_rows.DeviceRows.{DeviceRows}
-use Rattle.dma_ffi.specs.Devices.{device_report, rows_report_of}
-use Rattle.dma_ffi.specs.DeviceSessions.{AreTurns, DeviceCall, DeviceRequest, History, IsOne, Makes, accesses_for, ask_look, ask_read, ask_reset, ask_restore, ask_rows, ask_turn, ask_write}
+use Rattle.dma_device.specs.{Device.DeviceValue, Run.StaysLent, declared.device.rows.RowTurns.RowTurns}
+use Rattle.dma_ffi.specs.DeviceSessions.{AreTurns, DeviceCall, DeviceRequest, History, IsOne, Makes, accesses_for, ask_look, ask_read, ask_reset, ask_restore}
+use Rattle.dma_ffi.specs.DeviceSessions.{ask_rows, ask_turn, ask_write}
+use Rattle.dma_ffi.specs.{declared.device_rows.DeviceRows.DeviceRows, Devices.device_report, Devices.rows_report_of}
 use Rattle.dma_ffi.proofs.DeviceCalls.{alike, alike_then, if_ok, if_restored, if_rows}
 
 -- ---- one history after another
@@ -102,7 +100,8 @@ module _ (h g : History) (i j size : ℕ) (call : DeviceCall) (same : AreSame h 
   }
 
 -- a call makes the same accesses wherever they are
-pub makes_same : (h g : History) (i j : ℕ) (call : DeviceCall) (request : DeviceRequest) → AreSame h g i j (accesses_for request call.code) → Makes h i call request → Makes g j call request
+pub makes_same : (h g : History) (i j : ℕ) (call : DeviceCall) (request : DeviceRequest) → AreSame h g i j (accesses_for request call.code)
+    → Makes h i call request → Makes g j call request
 makes_same h g i j call (ask_read at before value) same is = one_same h g i j 1 call same (Reads at) (Reads at) (Value value) (omega arith) refl is
 makes_same h g i j call (ask_write at value) same is = λ ok.
     let one : if_ok call.code ≡ 1 = ap if_ok ok in
@@ -126,7 +125,8 @@ makes_same h g i j call ask_reset same is = one_same h g i j 1 call same Resets 
 makes_same h g i j call (ask_restore save) same is = (
   λ ok.
       let one : if_restored call.code ≡ 1 = ap if_restored ok in
-      one_same h g i j (if_restored call.code) call same (Restores (h.before (i + 1))) (Restores (g.before (j + 1))) Done (omega (arith, one)) (ap (λ (d : DeviceValue). Restores d) (same.before 1 (omega (arith, one)))) (is.0 ok),
+      one_same h g i j (if_restored call.code) call same (Restores (h.before (i + 1))) (Restores (g.before (j + 1))) Done (omega (arith, one))
+      (ap (λ (d : DeviceValue). Restores d) (same.before 1 (omega (arith, one)))) (is.0 ok),
   λ bad.
       let one : if_restored call.code ≡ 1 = ap if_restored bad in
       one_same h g i j (if_restored call.code) call same Resets Resets Done (omega (arith, one)) refl (is.1 bad),
@@ -134,11 +134,13 @@ makes_same h g i j call (ask_restore save) same is = (
 makes_same h g i j call ask_look same is = tt
 
 -- an access with equal parts does the same
-does_same : (a b : Access) (r s : Answer) (d e d' e' : DeviceValue) (lent left lent' left' : List Region) → b ≡ a → s ≡ r → d' ≡ d → e' ≡ e → lent' ≡ lent → left' ≡ left → Does a d lent r e left → Does b d' lent' s e' left'
+does_same : (a b : Access) (r s : Answer) (d e d' e' : DeviceValue) (lent left lent' left' : List Region) → b ≡ a → s ≡ r → d' ≡ d → e' ≡ e → lent' ≡ lent
+    → left' ≡ left → Does a d lent r e left → Does b d' lent' s e' left'
 does_same a b r s d e d' e' lent left lent' left' access answer before after lends leaves does = rw (access, answer, before, after, lends, leaves) does
 
 -- the second history begins with the device that the first one ends with, and both happen
-pub happen_joined : (n m : ℕ) (h g : History) → g.before 0 ≡ h.before n → Happen h.access h.answer h.before h.lent h.left n → Happen g.access g.answer g.before g.lent g.left m → let j = joined n h g in Happen j.access j.answer j.before j.lent j.left (n + m)
+pub happen_joined : (n m : ℕ) (h g : History) → g.before 0 ≡ h.before n → Happen h.access h.answer h.before h.lent h.left n
+    → Happen g.access g.answer g.before g.lent g.left m → let j = joined n h g in Happen j.access j.answer j.before j.lent j.left (n + m)
 happen_joined n m h g meets first second k less = elim (cases_lt k n) [
   | inl early ↦ does_same
       (h.access k) (chained n h.access g.access k) (h.answer k) (chained n h.answer g.answer k)
@@ -161,7 +163,8 @@ happen_joined n m h g meets first second k less = elim (cases_lt k n) [
 ]
 
 -- the second history begins with the memory that the first one ends with, and in both the memory stays
-pub stays_joined : (n m : ℕ) (h g : History) → AreAlike (g.lent 0) (h.lent n) → StaysLent h.lent h.left n → StaysLent g.lent g.left m → StaysLent (joined n h g).lent (joined n h g).left (n + m)
+pub stays_joined : (n m : ℕ) (h g : History) → AreAlike (g.lent 0) (h.lent n) → StaysLent h.lent h.left n → StaysLent g.lent g.left m
+    → StaysLent (joined n h g).lent (joined n h g).left (n + m)
 stays_joined n m h g meets first second k less = elim (cases_lt k n) [
   | inl early ↦
       let l = chained n h.lent g.lent (k + 1) in

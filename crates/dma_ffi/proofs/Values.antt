@@ -1,10 +1,11 @@
 -- The machine values of boxes and of the pointers that C keeps, at the type R of what they own.
 use Rattle.std.proofs.Common.{◌≡◌, ℕ, List, [], ◌∷◌, ◌++◌, refl, sym, subst, lit<}
-use Rattle.std.specs.Prelude.{Option, None, Some, IsSome}
+use Rattle.std.specs.{Prelude.Option, Prelude.None, Prelude.Some, Prelude.IsSome, Box.Ownership.box_owns}
+use Rattle.std.proofs.{ResultValues.and_tt, alloc.Calls.Al, cell.Inside.Good}
+use Rattle.dma_ffi.specs.inner.Owned.{owned, may_free}
 use mathlib.Core.Bool.{true, ◌&&◌, true≢false}
 use lib.Dec.{T}
 use denote.Param.{layout}
-use Rattle.std.proofs.ResultValues.{and_tt}
 use seplogic.Ra.Ura.{Ura}
 use mir.Syntax.{impl, tnil, dnil, tcons, ty_ptr, ty_struct}
 use mir.Raw.{raw as bare}
@@ -19,13 +20,9 @@ use denote.Memory.{lone}
 use denote.RawPtr.{Ptr, block_ptr, null_ptr, ptr_val, in_a_block}
 use denote.Steps.{nothing}
 use denote.Struct.Struct.{Shape, within}
-use Rattle.std.proofs.alloc.Calls.{Al}
-use Rattle.std.proofs.cell.Inside.{Good}
-use Rattle.std.specs.Box.Ownership.{box_owns}
 use Rattle.std.specs.contracts.alloc.Global.{the_row as Z}
 use Rattle.std.proofs.alloc.Global.TheLaws.{the_row_laws as LZ}
 use Rattle.std.specs.contracts.impls.GlobalAllocator.TheImpl.{ghosts as g}
-use Rattle.dma_ffi.specs.inner.Owned.{owned, may_free}
 
 abbrev pub heap : Al
 heap = record { row = Z; laws = LZ; g = g; d = impl [] tnil dnil; drops = impl [] tnil dnil }
@@ -75,5 +72,6 @@ module _ (R : RattleType) where
 
     pub raw_none : K → Step K 𝓛 (‵ (Owns null_ptr None (alone (ptr_val null_ptr) ∷ [])) ∷ Γ) G Γ G
     raw_none t = step (λ s. let v : Val = alone (ptr_val null_ptr) in
-        nothing t $ nothing t $ feq_i t (List Val) (ptr_val null_ptr ∷ []) (ptr_val null_ptr ∷ []) refl $ fjoin t $ feq_i t (List Val) (v ∷ []) (v ∷ []) refl $ fjoin t $
+        nothing t $ nothing t $ feq_i t (List Val) (ptr_val null_ptr ∷ []) (ptr_val null_ptr ∷ []) refl $ fjoin t $ feq_i t (List Val) (v ∷ []) (v ∷ []) refl $
+        fjoin t $
         fpack t (Valss (RawPtr ∷ [])) (within shape (null_ptr, tt) (v ∷ [])) (ptr_val null_ptr ∷ [], tt) $ fjoin t $ s)

@@ -1,7 +1,6 @@
 -- What each call from C on a channel or a device that it keeps does and returns, if that isn't open.
 use Rattle.std.specs.Prelude.{◌≡◌, ℕ, ℤ, Option, None, Some, IsSomeAnd, List}
-use Rattle.dma_ffi.specs.Codes.{ok_code, not_open}
-use Rattle.dma_ffi.specs.Programs.{Writes}
+use Rattle.dma_ffi.specs.{Codes.ok_code, Codes.not_open, Programs.Writes}
 
 -- A call on a kept value. On one that isn't open it returns `not_open` and changes nothing. On an open one it acts and
 -- returns a code as `does` says, and the value stays open.

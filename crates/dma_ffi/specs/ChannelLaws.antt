@@ -1,29 +1,18 @@
 -- What calls from C on a channel copy, since the load of a transfer.
 use Rattle.std.specs.Prelude.{◌≡◌, ◌≢◌, ℕ, ◌+◌, ◌-◌, ◌<◌, ◌++◌, ℤ, true, List, [], length, take, Option, Some, None}
 use Rattle.std.specs.List.{list_any}
-use Rattle.dma_mem.specs.Places.{Descriptor, size_of}
-use Rattle.dma_mem.specs.Flags.{flags_of}
-use Rattle.dma_mem.specs.Marking.{MarkList}
 use Rattle.dma_mem.specs.Regions.{has, image_of, pieces_of, run_from}
-use Rattle.dma_mem.specs.Rules.{HasOneByte}
-use Rattle.dma_mem.specs.declared.regions.Region.{Region}
+use Rattle.dma_mem.specs.{Places.Descriptor, Places.size_of, Flags.flags_of, Marking.MarkList, Rules.HasOneByte, declared.regions.Region.Region}
 use Rattle.dma_insn.specs.AssemblyText.{most_program_bytes}
-use Rattle.dma_chan.specs.declared.bus.Bus.TheVariants.{Ideal}
-use Rattle.dma_explain.specs.declared.explain.Amounts.{Amounts}
-use Rattle.dma_chan.specs.declared.turn.ChanTurn.TheVariants.{Ended, Waiting}
+use Rattle.dma_chan.specs.{declared.bus.Bus.TheVariants.Ideal, declared.turn.ChanTurn.TheVariants.Ended, declared.turn.ChanTurn.TheVariants.Waiting}
+use Rattle.dma_chan.specs.{Channel.ChannelValue, Channel.unloaded, Compiled.compiled, Compiled.cost, Exec.start_on, Others.Misses, Stepping.Machine}
+use Rattle.dma_chan.specs.{Stepping.Wrote, Stepping.machine, Written.KeepsOutside, Written.LiesIn}
 use Rattle.dma_explain.specs.Changes.{Call, Change, DoesAll, DoesCall, HasCopied, HaveWorks, IsApart, LeavesAlone, SinceLoad, System}
-use Rattle.dma_chan.specs.Channel.{ChannelValue, unloaded}
-use Rattle.dma_chan.specs.Compiled.{compiled, cost}
-use Rattle.dma_chan.specs.Exec.{start_on}
 use Rattle.dma_explain.specs.Explains.{Explains, HasEvents, IsLoadedWith, Work, only}
-use Rattle.dma_explain.specs.RegionsHave.{HaveAll}
-use Rattle.dma_chan.specs.Others.{Misses}
-use Rattle.dma_chan.specs.Stepping.{Machine, Wrote, machine}
-use Rattle.dma_chan.specs.Written.{KeepsOutside, LiesIn}
-use Rattle.dma_ffi.specs.declared.channel_steps.ChannelReport.{ChannelReport}
-use Rattle.dma_ffi.specs.declared.marked_channel.MarkedChannel.{MarkedChannel}
-use Rattle.dma_ffi.specs.Channels.{Lent, LoadsBytes, LoadsFrom, LoadsTransfer, ReportsSteps, are_usable, channel_report, ended_turn, fault_turn, marks_over, signalled_turn, waiting_turn}
-use Rattle.dma_ffi.specs.Codes.{ok_code}
+use Rattle.dma_explain.specs.{declared.explain.Amounts.Amounts, RegionsHave.HaveAll}
+use Rattle.dma_ffi.specs.Channels.{Lent, LoadsBytes, LoadsFrom, LoadsTransfer, ReportsSteps, are_usable, channel_report, ended_turn, fault_turn, marks_over}
+use Rattle.dma_ffi.specs.Channels.{signalled_turn, waiting_turn}
+use Rattle.dma_ffi.specs.{declared.channel_steps.ChannelReport.ChannelReport, declared.marked_channel.MarkedChannel.MarkedChannel, Codes.ok_code}
 
 -- ---- loads
 
@@ -102,8 +91,8 @@ StepsKeepTheRest = (call : StepCall) → IsMade call → KeepsTheRest call
 
 -- ---- among other channels
 
--- A call on the channel with this number, in the words of `dma_explain::laws::channels_copy`, is this call from C. It is
--- lent the addresses of the regions, which are usable, and it reports the same.
+-- A call on the channel with this number, in the words of `dma_explain::laws::channels_copy`, is this call from C. It
+-- is lent the addresses of the regions, which are usable, and it reports the same.
 pub record IsCallOf (ch : ℕ) (from : StepCall) (call : Call) : Type 0 where
   pub does : DoesCall call
   pub usable : are_usable from.lent.regions ≡ true

@@ -1,30 +1,20 @@
 -- What a call from C on a channel does and returns.
-use Rattle.std.specs.Prelude.{◌≡◌, ℕ, ◌+◌, ◌≤◌, ◌<◌, ◌⊎◌, ◌||◌, ◌==◌, ◌&&◌, nat_lt, nat_le, Bool, true, false, ℤ, Option, Some, None, IsSome, IsSomeAnd, is_some, if◌then◌else◌, List, [], ◌∷◌, ◌++◌, length, take, unwrap_or}
-use Rattle.dma_mem.specs.Flags.{flags_of}
-use Rattle.dma_mem.specs.Marking.{MarkList}
-use Rattle.dma_mem.specs.Places.{Descriptor, end_of_addresses}
-use Rattle.dma_mem.specs.Refusals.{refusal_of}
+use Rattle.std.specs.Prelude.{◌≡◌, ℕ, ◌+◌, ◌≤◌, ◌<◌, ◌⊎◌, ◌||◌, ◌==◌, ◌&&◌, nat_lt, nat_le, Bool, true, false, ℤ, Option, Some, None, IsSome, IsSomeAnd}
+use Rattle.std.specs.Prelude.{is_some, if◌then◌else◌, List, [], ◌∷◌, ◌++◌, length, take, unwrap_or}
 use Rattle.dma_mem.specs.Regions.{in_order, pieces_of, image_of, run_from}
-use Rattle.dma_mem.specs.declared.marks.MarkKind.{MarkKind}
-use Rattle.dma_mem.specs.declared.regions.Region.{Region}
-use Rattle.dma_mem.specs.declared.segment.Segment.{Segment}
-use Rattle.dma_mem.specs.declared.transfer.TransferFault.TheVariants as transfers
+use Rattle.dma_mem.specs.{Flags.flags_of, Marking.MarkList, Places.Descriptor, Places.end_of_addresses, Refusals.refusal_of, declared.marks.MarkKind.MarkKind}
+use Rattle.dma_mem.specs.{declared.regions.Region.Region, declared.segment.Segment.Segment}
 use Rattle.dma_insn.specs.AssemblyText.{most_program_bytes}
-use Rattle.dma_chan.specs.declared.bus.Bus.TheVariants.{Ideal}
-use Rattle.dma_chan.specs.Channel.{ChannelValue, on_bus, unloaded, loaded}
-use Rattle.dma_chan.specs.Compiled.{compiled}
-use Rattle.dma_chan.specs.LentRegions.{AreKept, with_gaps_of}
-use Rattle.dma_chan.specs.Saved.{IsChannelValue, IsSave, most_saved, saved}
-use Rattle.dma_chan.specs.Stepping.{Machine, TakesSteps, signal_after, written_after}
-use Rattle.dma_chan.specs.Written.{KeepsOutside}
-use Rattle.dma_chan.specs.declared.turn.ChanTurn.{ChanTurn}
-use Rattle.dma_chan.specs.declared.turn.ChanTurn.TheVariants.{Moved, Waiting, Ended, Fault}
-use Rattle.dma_chan.specs.declared.lent.Taken.{Taken}
-use Rattle.dma_ffi.specs.declared.channel_calls.ChannelRegisters.{ChannelRegisters}
-use Rattle.dma_ffi.specs.declared.channel_steps.ChannelReport.{ChannelReport}
-use Rattle.dma_ffi.specs.declared.marked_channel.MarkedChannel.{MarkedChannel}
-use Rattle.dma_ffi.specs.Calls.{OnOpen}
-use Rattle.dma_ffi.specs.Codes.{ok_code, not_open, already_open, no_memory, no_program, bad_kind, bad_range, bad_regions, bad_save, program_too_long, kind_number, transfer_code}
+use Rattle.dma_chan.specs.{declared.bus.Bus.TheVariants.Ideal, Channel.ChannelValue, Channel.on_bus, Channel.unloaded, Channel.loaded, Compiled.compiled}
+use Rattle.dma_chan.specs.{LentRegions.AreKept, LentRegions.with_gaps_of, Saved.IsChannelValue, Saved.IsSave, Saved.most_saved, Saved.saved, Stepping.Machine}
+use Rattle.dma_chan.specs.{Stepping.TakesSteps, Stepping.signal_after, Stepping.written_after, Written.KeepsOutside, declared.turn.ChanTurn.ChanTurn}
+use Rattle.dma_chan.specs.{declared.turn.ChanTurn.TheVariants.Moved, declared.turn.ChanTurn.TheVariants.Waiting, declared.turn.ChanTurn.TheVariants.Ended}
+use Rattle.dma_chan.specs.{declared.turn.ChanTurn.TheVariants.Fault, declared.lent.Taken.Taken}
+use Rattle.dma_ffi.specs.Codes.{ok_code, not_open, already_open, no_memory, no_program, bad_kind, bad_range, bad_regions, bad_save, program_too_long}
+use Rattle.dma_ffi.specs.Codes.{kind_number, transfer_code}
+use Rattle.dma_ffi.specs.{declared.channel_calls.ChannelRegisters.ChannelRegisters, declared.channel_steps.ChannelReport.ChannelReport}
+use Rattle.dma_ffi.specs.{declared.marked_channel.MarkedChannel.MarkedChannel, Calls.OnOpen}
+use Rattle.dma_mem.specs.declared.transfer.TransferFault.TheVariants as transfers
 
 -- ---- calls
 

@@ -1,29 +1,25 @@
 -- The numbers that calls from C return and write.
 use Rattle.std.specs.Prelude.{ℕ, ℤ, pos, negsuc, min, ◌-◌, ◌==◌, if◌then◌else◌, Option, None, Some, Result, Ok, Err}
-use Rattle.dma_mem.specs.declared.marks.MarkKind.{MarkKind}
 use Rattle.dma_mem.specs.declared.marks.MarkKind.TheVariants.{Reading, Writing}
-use Rattle.dma_mem.specs.declared.transfer.TransferFault.{TransferFault}
-use Rattle.dma_mem.specs.declared.transfer.TransferFault.TheVariants as transfers
-use Rattle.dma_insn.specs.declared.assembler.AsmCause.{AsmCause}
+use Rattle.dma_mem.specs.{declared.marks.MarkKind.MarkKind, declared.transfer.TransferFault.TransferFault}
 use Rattle.dma_insn.specs.declared.assembler.AsmCause.TheVariants.{Mnemonic, Operand, Range}
-use Rattle.dma_insn.specs.declared.codec.DecodeFault.{DecodeFault}
+use Rattle.dma_insn.specs.{declared.assembler.AsmCause.AsmCause, declared.codec.DecodeFault.DecodeFault}
+use Rattle.dma_chan.specs.declared.turn.FaultKind.TheVariants.{UndefInstr, OperandInvalid, MfifoErr, StDataUnavailable, InstrFetchErr, DataWriteErr}
+use Rattle.dma_chan.specs.declared.turn.FaultKind.TheVariants.{DataReadErr}
+use Rattle.dma_chan.specs.{declared.program.ProgramFault.ProgramFault, declared.turn.FaultKind.FaultKind}
+use Rattle.dma_engine.specs.declared.fault.EngineFault.TheVariants.{OutOfMemoryRange, Busy, Running, NoChannel, CookiesSpent, StepsSpent, BadEvent, BadRange}
+use Rattle.dma_engine.specs.declared.fault.EngineFault.TheVariants.{NoMemory}
+use Rattle.dma_engine.specs.declared.outcome.TransResult.TheVariants.{NoError, ReadFailed, WriteFailed, Aborted}
+use Rattle.dma_engine.specs.declared.turn.Status.TheVariants.{Unknown, InProgress, Complete}
+use Rattle.dma_engine.specs.{declared.call.Reply.Reply, declared.fault.EngineFault.EngineFault, declared.fault.NewFault.NewFault}
+use Rattle.dma_engine.specs.{declared.outcome.TransResult.TransResult, declared.turn.Status.Status}
+use Rattle.dma_mem.specs.declared.transfer.TransferFault.TheVariants as transfers
 use Rattle.dma_insn.specs.declared.codec.DecodeFault.TheVariants.{Cut, Unknown as UnknownByte, BadField}
-use Rattle.dma_chan.specs.declared.program.ProgramFault.{ProgramFault}
 use Rattle.dma_chan.specs.declared.program.ProgramFault.TheVariants as programs
-use Rattle.dma_chan.specs.declared.turn.FaultKind.{FaultKind}
-use Rattle.dma_chan.specs.declared.turn.FaultKind.TheVariants.{UndefInstr, OperandInvalid, MfifoErr, StDataUnavailable, InstrFetchErr, DataWriteErr, DataReadErr}
 use Rattle.dma_device.specs.declared.config.NewFault.{NewFault as DeviceFault}
 use Rattle.dma_device.specs.declared.config.NewFault.TheVariants as devices
-use Rattle.dma_engine.specs.declared.call.Reply.{Reply}
 use Rattle.dma_engine.specs.declared.call.Reply.TheVariants.{Done, Bytes, Cookie, Count, Turned, State, Result as Resulted, Refused}
-use Rattle.dma_engine.specs.declared.fault.EngineFault.{EngineFault}
-use Rattle.dma_engine.specs.declared.fault.EngineFault.TheVariants.{OutOfMemoryRange, Busy, Running, NoChannel, CookiesSpent, StepsSpent, BadEvent, BadRange, NoMemory}
-use Rattle.dma_engine.specs.declared.fault.NewFault.{NewFault}
 use Rattle.dma_engine.specs.declared.fault.NewFault.TheVariants as engines
-use Rattle.dma_engine.specs.declared.outcome.TransResult.{TransResult}
-use Rattle.dma_engine.specs.declared.outcome.TransResult.TheVariants.{NoError, ReadFailed, WriteFailed, Aborted}
-use Rattle.dma_engine.specs.declared.turn.Status.{Status}
-use Rattle.dma_engine.specs.declared.turn.Status.TheVariants.{Unknown, InProgress, Complete}
 
 -- ---- codes: 0 for success, and a negative number for each refusal
 

@@ -4,15 +4,10 @@ use Rattle.std.specs.Ordering.{int_eq}
 use Rattle.dma_mem.specs.declared.regions.Region.{Region}
 use Rattle.dma_device.specs.Accesses.{Access, Answer, AreAlike, Done, Happen, Reads, Resets, Restores, Turned, Turns, Value, Writes}
 use Rattle.dma_device.specs.Device.{DeviceValue, read_at, reset_device}
-use Rattle.dma_device.specs.RowTurns.{report_in}
-use Rattle.dma_device.specs.Run.{StaysLent}
-use Rattle.dma_device.specs.declared.device.rows.RowTurns.{RowTurns}
-use Rattle.dma_device.specs.declared.device.turns.Turn.{Turn}
-use Rattle.dma_ffi.specs.declared.device_calls.DeviceTurn.{DeviceTurn}
-use Rattle.dma_ffi.specs.declared.device_rows.DeviceRows.{DeviceRows}
+use Rattle.dma_device.specs.{RowTurns.report_in, Run.StaysLent, declared.device.rows.RowTurns.RowTurns, declared.device.turns.Turn.Turn}
 use Rattle.dma_ffi.specs.Calls.{Becomes, OnOpen, WritesValue}
-use Rattle.dma_ffi.specs.Codes.{bad_save, ok_code}
 use Rattle.dma_ffi.specs.Devices.{ReportsRows, ReportsTurn, RestoresDevice, WritesRegister, device_report, rows_report_of}
+use Rattle.dma_ffi.specs.{declared.device_calls.DeviceTurn.DeviceTurn, declared.device_rows.DeviceRows.DeviceRows, Codes.bad_save, Codes.ok_code}
 
 -- ---- calls
 

@@ -1,37 +1,23 @@
 -- What a call from C on a device does and returns.
-use Rattle.std.specs.Prelude.{◌≡◌, ◌≢◌, ℕ, ◌+◌, ◌*◌, ◌^◌, ◌≤◌, ◌<◌, ◌⊎◌, ◌==◌, Bool, true, false, not, ℤ, Option, Some, None, IsSomeAnd, if◌then◌else◌, List, Result, Ok, Err, IsTrue, length, min, slice_index}
+use Rattle.std.specs.Prelude.{◌≡◌, ◌≢◌, ℕ, ◌+◌, ◌*◌, ◌^◌, ◌≤◌, ◌<◌, ◌⊎◌, ◌==◌, Bool, true, false, not, ℤ, Option, Some, None, IsSomeAnd, if◌then◌else◌, List}
+use Rattle.std.specs.Prelude.{Result, Ok, Err, IsTrue, length, min, slice_index}
 use Rattle.std.specs.List.{list_any}
-use Rattle.dma_mem.specs.Lent.{lies_in_any}
 use Rattle.dma_mem.specs.Regions.{has, image_of, pieces_of, read_only_of}
-use Rattle.dma_mem.specs.declared.regions.Region.{Region}
-use Rattle.dma_mem.specs.declared.segment.Segment.{Segment}
-use Rattle.dma_chan.specs.LentRegions.{AreKept}
-use Rattle.dma_chan.specs.Written.{KeepsOutside, LiesIn, range_at}
+use Rattle.dma_mem.specs.{Lent.lies_in_any, declared.regions.Region.Region, declared.segment.Segment.Segment}
+use Rattle.dma_chan.specs.{LentRegions.AreKept, Written.KeepsOutside, Written.LiesIn, Written.range_at, declared.bus.BusWidth.BusWidth}
+use Rattle.dma_chan.specs.{declared.bus.BusWidth.TheVariants.Bits32, declared.bus.BusWidth.TheVariants.Bits64, declared.bus.BusWidth.TheVariants.Bits128}
 use Rattle.dma_device.specs.Accesses.{Does, Done, Reads, Resets, Restores, Turned, Turns, Value, Writes}
-use Rattle.dma_device.specs.Config.{is_valid}
 use Rattle.dma_device.specs.Device.{DeviceValue, irq_abort, read_at, reset_device, written}
-use Rattle.dma_device.specs.Explaining.{channel_of}
-use Rattle.dma_device.specs.RowTurns.{TakesRowTurns}
 use Rattle.dma_device.specs.Snapshot.{IsDeviceValue, IsOfOther, IsSavedAs, most_saved, saved_device}
-use Rattle.dma_device.specs.Thread.{can_step}
-use Rattle.dma_device.specs.Turns.{TakesTurn, visible_events}
-use Rattle.dma_device.specs.Writes.{TurnWrote}
-use Rattle.dma_chan.specs.declared.bus.BusWidth.{BusWidth}
-use Rattle.dma_chan.specs.declared.bus.BusWidth.TheVariants.{Bits32, Bits64, Bits128}
-use Rattle.dma_device.specs.declared.config.Config.{Config}
-use Rattle.dma_device.specs.declared.config.Revision.{Revision}
 use Rattle.dma_device.specs.declared.config.Revision.TheVariants.{R0p0, R1p0, R1p1, R1p2}
-use Rattle.dma_device.specs.declared.device.rows.RowTurns.{RowTurns}
-use Rattle.dma_device.specs.declared.device.turns.Turn.{Turn}
-use Rattle.dma_device.specs.declared.save.RestoreFault.{RestoreFault}
-use Rattle.dma_device.specs.declared.save.RestoreFault.TheVariants.{BadSave, OtherDevice}
-use Rattle.dma_ffi.specs.declared.channel_calls.ChannelRegisters.{ChannelRegisters}
-use Rattle.dma_ffi.specs.declared.device_config.DeviceConfig.{DeviceConfig}
-use Rattle.dma_ffi.specs.declared.device_calls.DeviceTurn.{DeviceTurn}
-use Rattle.dma_ffi.specs.declared.device_rows.DeviceRows.{DeviceRows}
+use Rattle.dma_device.specs.{Config.is_valid, Explaining.channel_of, RowTurns.TakesRowTurns, Thread.can_step, Turns.TakesTurn, Turns.visible_events}
+use Rattle.dma_device.specs.{Writes.TurnWrote, declared.config.Config.Config, declared.config.Revision.Revision, declared.device.rows.RowTurns.RowTurns}
+use Rattle.dma_device.specs.{declared.device.turns.Turn.Turn, declared.save.RestoreFault.RestoreFault, declared.save.RestoreFault.TheVariants.BadSave}
+use Rattle.dma_device.specs.{declared.save.RestoreFault.TheVariants.OtherDevice}
 use Rattle.dma_ffi.specs.Calls.{Becomes, OnOpen, WritesValue}
-use Rattle.dma_ffi.specs.Channels.{are_usable, registers_of}
 use Rattle.dma_ffi.specs.Codes.{already_open, bad_config, bad_regions, bad_save, no_channel, no_memory, not_open, ok_code, other_device}
+use Rattle.dma_ffi.specs.{declared.channel_calls.ChannelRegisters.ChannelRegisters, declared.device_config.DeviceConfig.DeviceConfig}
+use Rattle.dma_ffi.specs.{declared.device_calls.DeviceTurn.DeviceTurn, declared.device_rows.DeviceRows.DeviceRows, Channels.are_usable, Channels.registers_of}
 
 -- ---- the configuration
 

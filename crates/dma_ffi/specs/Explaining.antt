@@ -3,30 +3,17 @@ use Rattle.std.specs.Prelude.{◌≡◌, ◌≢◌, ℕ, ◌<◌, ◌≤◌, ◌
 use Rattle.std.specs.Option.{option_map}
 use Rattle.dma_mem.specs.declared.segment.Segment.{Segment}
 use Rattle.dma_insn.specs.AssemblyText.{most_program_bytes}
-use Rattle.dma_explain.specs.Explains.{Finds, Refuses}
-use Rattle.dma_chan.specs.declared.bus.Bus.{Bus}
+use Rattle.dma_explain.specs.declared.explain.Cause.TheVariants.{TooLong, Fails, LoadsPast, StoresPast, StoresFixed, DropsBytes, BytesLeft, StoresTwice}
+use Rattle.dma_explain.specs.declared.explain.Cause.TheVariants.{StoresSource, NoEnd, NoMemory}
+use Rattle.dma_explain.specs.{Explains.Finds, Explains.Refuses, declared.explain.Cause.Cause, declared.explain.Explained.Explained}
+use Rattle.dma_explain.specs.{declared.explain.Happening.Happening, declared.explain.Repeated.Repeated, declared.explain.Sync.Sync}
+use Rattle.dma_explain.specs.{declared.explain.Sync.TheVariants.Waits, declared.explain.Sync.TheVariants.Signals, declared.explain.Unexplained.Unexplained}
 use Rattle.dma_chan.specs.declared.bus.Bus.TheVariants.{Chip, Ideal}
-use Rattle.dma_chan.specs.declared.bus.BusWidth.{BusWidth}
-use Rattle.dma_chan.specs.declared.exec.Registers.{Registers}
-use Rattle.dma_chan.specs.Bus.{accepts}
-use Rattle.dma_chan.specs.Exec.{start_on}
-use Rattle.dma_explain.specs.declared.explain.Cause.{Cause}
-use Rattle.dma_explain.specs.declared.explain.Cause.TheVariants.{TooLong, Fails, LoadsPast, StoresPast, StoresFixed, DropsBytes, BytesLeft, StoresTwice, StoresSource, NoEnd, NoMemory}
-use Rattle.dma_explain.specs.declared.explain.Explained.{Explained}
-use Rattle.dma_explain.specs.declared.explain.Happening.{Happening}
-use Rattle.dma_explain.specs.declared.explain.Repeated.{Repeated}
-use Rattle.dma_explain.specs.declared.explain.Sync.{Sync}
-use Rattle.dma_explain.specs.declared.explain.Sync.TheVariants.{Waits, Signals}
-use Rattle.dma_explain.specs.declared.explain.Unexplained.{Unexplained}
-use Rattle.dma_device.specs.Device.{DeviceValue}
-use Rattle.dma_device.specs.Explaining.{IsLoadedAnd, program_of}
-use Rattle.dma_ffi.specs.declared.channel_calls.ChannelRegisters.{ChannelRegisters}
-use Rattle.dma_ffi.specs.declared.explaining.DmaHappening.{DmaHappening}
-use Rattle.dma_ffi.specs.declared.explaining.Explanation.{Explanation}
-use Rattle.dma_ffi.specs.declared.works.Moment.{Moment}
-use Rattle.dma_ffi.specs.declared.works.WorkFound.{WorkFound}
+use Rattle.dma_chan.specs.{declared.bus.Bus.Bus, declared.bus.BusWidth.BusWidth, declared.exec.Registers.Registers, Bus.accepts, Exec.start_on}
+use Rattle.dma_device.specs.{Device.DeviceValue, Explaining.IsLoadedAnd, Explaining.program_of}
 use Rattle.dma_ffi.specs.Codes.{bad_config, buffer_too_small, kind_number, no_channel, no_memory, no_program, ok_code, program_too_long, unexplained}
-use Rattle.dma_ffi.specs.Devices.{width_of_bits}
+use Rattle.dma_ffi.specs.{declared.channel_calls.ChannelRegisters.ChannelRegisters, declared.explaining.DmaHappening.DmaHappening}
+use Rattle.dma_ffi.specs.{declared.explaining.Explanation.Explanation, declared.works.Moment.Moment, declared.works.WorkFound.WorkFound, Devices.width_of_bits}
 
 -- ---- numbers
 

@@ -1,18 +1,13 @@
 -- How calls from C correspond to calls of the engine.
 use Rattle.std.specs.Prelude.{◌≡◌, ℕ, ℤ, Option, None, Some, IsSomeAnd, List, [], ◌∷◌, ◌++◌, flat_map, replicate}
 use Rattle.std.specs.List.{All}
-use Rattle.dma_mem.specs.declared.marks.MarkKind.{MarkKind}
-use Rattle.dma_mem.specs.declared.segment.Segment.{Segment}
-use Rattle.dma_mem.specs.Rules.{HasOneByte}
-use Rattle.dma_mem.specs.declared.call.Call.{Call}
 use Rattle.dma_mem.specs.declared.call.Call.TheVariants.{Submit, Step, Mark}
-use Rattle.dma_engine.specs.declared.call.Reply.{Reply}
-use Rattle.dma_engine.specs.declared.call.Reply.TheVariants.{Turned}
+use Rattle.dma_mem.specs.{declared.marks.MarkKind.MarkKind, declared.segment.Segment.Segment, Rules.HasOneByte, declared.call.Call.Call}
 use Rattle.dma_engine.specs.View.{EngineState, View, new_view}
-use Rattle.dma_engine.specs.Answer.{AreAnswers}
-use Rattle.dma_engine.specs.Laws.{IsCall}
+use Rattle.dma_engine.specs.{declared.call.Reply.Reply, declared.call.Reply.TheVariants.Turned, Answer.AreAnswers, Laws.IsCall}
 use Rattle.dma_ffi.specs.Codes.{mark_kind}
-use Rattle.dma_ffi.specs.Requests.{Answer, Answers, IsWritten, Opens, Request, Returns, Written, code_of, ask_call, ask_mark, ask_steps, ask_submit, replied, stepped}
+use Rattle.dma_ffi.specs.Requests.{Answer, Answers, IsWritten, Opens, Request, Returns, Written, code_of, ask_call, ask_mark, ask_steps, ask_submit, replied}
+use Rattle.dma_ffi.specs.Requests.{stepped}
 
 -- the call that marks a range for this kind; no call without a kind
 abbrev pub marking : Option MarkKind → Segment → List Call

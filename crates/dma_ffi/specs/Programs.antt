@@ -1,23 +1,16 @@
 -- What calls from C without a controller return and write: running a program alone, assembling a text, disassembling
 -- bytes, planning a transfer.
-use Rattle.std.specs.Prelude.{◌≡◌, ℕ, ◌<◌, ◌≤◌, ◌⊎◌, Bool, true, false, if◌then◌else◌, nat_le, ℤ, Option, None, Some, unwrap_or, List, [], ◌∷◌, ◌++◌, length, drop, codes}
-use Rattle.dma_mem.specs.Image.{is_size}
-use Rattle.dma_mem.specs.Places.{Descriptor}
-use Rattle.dma_mem.specs.Refusals.{refusal_of}
-use Rattle.dma_mem.specs.declared.transfer.TransferFault.TheVariants as transfers
+use Rattle.std.specs.Prelude.{◌≡◌, ℕ, ◌<◌, ◌≤◌, ◌⊎◌, Bool, true, false, if◌then◌else◌, nat_le, ℤ, Option, None, Some, unwrap_or, List, [], ◌∷◌, ◌++◌, length}
+use Rattle.std.specs.Prelude.{drop, codes}
+use Rattle.dma_mem.specs.{Image.is_size, Places.Descriptor, Refusals.refusal_of}
 use Rattle.dma_insn.specs.AssemblyText.{Assembles, IsFirstFault, most_program_bytes}
-use Rattle.dma_insn.specs.Disassembly.{Disassembles, IsDisFault}
-use Rattle.dma_insn.specs.declared.assembler.AsmFault.TheVariants as texts
-use Rattle.dma_insn.specs.declared.assembler.AsmCause.{AsmCause}
-use Rattle.dma_insn.specs.declared.codec.DecodeFault.{DecodeFault}
-use Rattle.dma_insn.specs.declared.disassembler.DisFault.TheVariants as programs
-use Rattle.dma_chan.specs.Compiled.{compiled_on}
-use Rattle.dma_chan.specs.declared.bus.Bus.{Bus}
-use Rattle.dma_chan.specs.declared.run.RunEnd.{RunEnd}
-use Rattle.dma_chan.specs.Run.{RunsAlone}
-use Rattle.dma_ffi.specs.declared.reports.DmaRunEnd.{DmaRunEnd}
+use Rattle.dma_insn.specs.{Disassembly.Disassembles, Disassembly.IsDisFault, declared.assembler.AsmCause.AsmCause, declared.codec.DecodeFault.DecodeFault}
+use Rattle.dma_chan.specs.{Compiled.compiled_on, declared.bus.Bus.Bus, declared.run.RunEnd.RunEnd, Run.RunsAlone}
 use Rattle.dma_ffi.specs.Codes.{ok_code, no_memory, bad_config, buffer_too_small, size_out_of_range, program_too_long, cause_code, decode_code, transfer_code}
-use Rattle.dma_ffi.specs.Reports.{end_of}
+use Rattle.dma_ffi.specs.{declared.reports.DmaRunEnd.DmaRunEnd, Reports.end_of}
+use Rattle.dma_mem.specs.declared.transfer.TransferFault.TheVariants as transfers
+use Rattle.dma_insn.specs.declared.assembler.AsmFault.TheVariants as texts
+use Rattle.dma_insn.specs.declared.disassembler.DisFault.TheVariants as programs
 
 -- ---- bytes written to a buffer
 

@@ -2,17 +2,12 @@
 -- program ended.
 use Rattle.std.specs.Prelude.{ℕ, Option, None, Some, Result, Err}
 use Rattle.dma_chan.specs.declared.run.RunEnd.{RunEnd}
-use Rattle.dma_chan.specs.declared.run.RunEnd.TheVariants as ends
-use Rattle.dma_engine.specs.declared.fault.EngineFault.{EngineFault}
-use Rattle.dma_engine.specs.declared.fault.EngineFault.TheVariants.{Busy, Running as RunningOn}
-use Rattle.dma_engine.specs.declared.outcome.Outcome.{Outcome}
-use Rattle.dma_engine.specs.declared.turn.Turn.{Turn}
 use Rattle.dma_engine.specs.declared.turn.Turn.TheVariants.{Nothing, Held, Started, Moved, Waiting, Paused, Halted, Finished}
-use Rattle.dma_ffi.specs.declared.reports.DmaOutcome.{DmaOutcome}
-use Rattle.dma_ffi.specs.declared.reports.DmaConflict.{DmaConflict}
-use Rattle.dma_ffi.specs.declared.reports.DmaReport.{DmaReport}
-use Rattle.dma_ffi.specs.declared.reports.DmaRunEnd.{DmaRunEnd}
-use Rattle.dma_ffi.specs.Codes.{result_number, kind_number}
+use Rattle.dma_engine.specs.{declared.fault.EngineFault.EngineFault, declared.outcome.Outcome.Outcome, declared.turn.Turn.Turn}
+use Rattle.dma_ffi.specs.{declared.reports.DmaOutcome.DmaOutcome, declared.reports.DmaConflict.DmaConflict, declared.reports.DmaReport.DmaReport}
+use Rattle.dma_ffi.specs.{declared.reports.DmaRunEnd.DmaRunEnd, Codes.result_number, Codes.kind_number}
+use Rattle.dma_chan.specs.declared.run.RunEnd.TheVariants as ends
+use Rattle.dma_engine.specs.declared.fault.EngineFault.TheVariants.{Busy, Running as RunningOn}
 
 -- how a cookie finished
 abbrev pub outcome_of : Outcome → DmaOutcome

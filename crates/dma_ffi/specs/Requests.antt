@@ -1,34 +1,20 @@
 -- What a call from C on a controller returns and writes: one definition for all calls.
-use Rattle.std.specs.Prelude.{◌≡◌, ◌≢◌, ℕ, ◌+◌, ◌⊎◌, zero, suc, if◌then◌else◌, ◌==◌, ℤ, Option, None, Some, IsSomeAnd, MatchOption, Result, Ok, Err, List, length, min, unwrap_or}
+use Rattle.std.specs.Prelude.{◌≡◌, ◌≢◌, ℕ, ◌+◌, ◌⊎◌, zero, suc, if◌then◌else◌, ◌==◌, ℤ, Option, None, Some, IsSomeAnd, MatchOption, Result, Ok, Err, List}
+use Rattle.std.specs.Prelude.{length, min, unwrap_or}
 use Rattle.std.specs.Option.{option_map}
-use Rattle.dma_mem.specs.Places.{Descriptor}
-use Rattle.dma_mem.specs.Refusals.{refusal_of}
-use Rattle.dma_mem.specs.declared.marks.MarkKind.{MarkKind}
-use Rattle.dma_mem.specs.declared.segment.Segment.{Segment}
-use Rattle.dma_mem.specs.declared.transfer.TransferFault.{TransferFault}
-use Rattle.dma_mem.specs.declared.transfer.TransferFault.TheVariants as transfers
-use Rattle.dma_mem.specs.declared.call.Call.{Call}
-use Rattle.dma_mem.specs.declared.call.Call.TheVariants.{Submit, Status as StatusOf, Result as ResultOf, Mark, Checkpoint}
-use Rattle.dma_engine.specs.declared.call.Reply.{Reply}
-use Rattle.dma_engine.specs.declared.call.Reply.TheVariants.{Bytes, Cookie, Count, Result as Resulted, Refused}
-use Rattle.dma_engine.specs.declared.fault.EngineFault.{EngineFault}
-use Rattle.dma_engine.specs.declared.fault.NewFault.TheVariants as engines
-use Rattle.dma_engine.specs.declared.turn.Advanced.{Advanced}
-use Rattle.dma_engine.specs.declared.turn.Running.{Running}
-use Rattle.dma_engine.specs.declared.turn.Turn.{Turn}
-use Rattle.dma_engine.specs.declared.turn.Turn.TheVariants.{Started, Moved}
-use Rattle.dma_engine.specs.Object.{channel, unfinished}
-use Rattle.dma_engine.specs.Advance.{IsAdvance, steps_before}
-use Rattle.dma_engine.specs.History.{kept_bytes}
+use Rattle.dma_mem.specs.{Places.Descriptor, Refusals.refusal_of, declared.marks.MarkKind.MarkKind, declared.segment.Segment.Segment}
+use Rattle.dma_mem.specs.{declared.transfer.TransferFault.TransferFault, declared.call.Call.Call}
 use Rattle.dma_engine.specs.View.{View, EngineState, object_of, running, running_on, new_fault, new_view}
-use Rattle.dma_engine.specs.Answer.{CallAnswers}
-use Rattle.dma_engine.specs.Room.{HasNoSpare}
-use Rattle.dma_ffi.specs.declared.steps.StepsTaken.{StepsTaken}
-use Rattle.dma_ffi.specs.declared.reports.DmaConflict.{DmaConflict}
-use Rattle.dma_ffi.specs.declared.reports.DmaOutcome.{DmaOutcome}
-use Rattle.dma_ffi.specs.declared.reports.DmaReport.{DmaReport}
+use Rattle.dma_engine.specs.{declared.call.Reply.Reply, declared.fault.EngineFault.EngineFault, declared.turn.Advanced.Advanced, declared.turn.Running.Running}
+use Rattle.dma_engine.specs.{declared.turn.Turn.Turn, declared.turn.Turn.TheVariants.Started, declared.turn.Turn.TheVariants.Moved, Object.channel}
+use Rattle.dma_engine.specs.{Object.unfinished, Advance.IsAdvance, Advance.steps_before, History.kept_bytes, Answer.CallAnswers, Room.HasNoSpare}
 use Rattle.dma_ffi.specs.Codes.{ok_code, not_open, already_open, bad_kind, not_running, new_code, transfer_code, reply_code, mark_kind}
-use Rattle.dma_ffi.specs.Reports.{conflict_of, outcome_of, report_of}
+use Rattle.dma_ffi.specs.{declared.steps.StepsTaken.StepsTaken, declared.reports.DmaConflict.DmaConflict, declared.reports.DmaOutcome.DmaOutcome}
+use Rattle.dma_ffi.specs.{declared.reports.DmaReport.DmaReport, Reports.conflict_of, Reports.outcome_of, Reports.report_of}
+use Rattle.dma_mem.specs.declared.transfer.TransferFault.TheVariants as transfers
+use Rattle.dma_mem.specs.declared.call.Call.TheVariants.{Submit, Status as StatusOf, Result as ResultOf, Mark, Checkpoint}
+use Rattle.dma_engine.specs.declared.call.Reply.TheVariants.{Bytes, Cookie, Count, Result as Resulted, Refused}
+use Rattle.dma_engine.specs.declared.fault.NewFault.TheVariants as engines
 
 -- ---- requests and answers
 

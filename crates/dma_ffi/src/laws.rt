@@ -20,13 +20,13 @@ pub fn exchanges_are_the_engines()
 {}
 
 /// A call from C that steps a channel and succeeds is one of the calls in
-/// [`copies_since_load`](dma_explain::laws::copies_since_load) and [`channels_copy`](dma_explain::laws::channels_copy). If a
-/// transfer explains the channel's program, and all changes since its load left the transfer alone, or all were apart
-/// from it, as in these laws, then the transfer's first bytes are copied, as many as the channel counts, and the report
-/// says what the call did. A load from C that succeeds gives a channel such a program, if it loads a copy, a fill whose
-/// byte has a 32-bit address, or bytes that begin with such a program. A call that steps a channel, whatever its
-/// program is, changes no byte outside the range that it reports, and one of its steps wrote each address in this
-/// range.
+/// [`copies_since_load`](dma_explain::laws::copies_since_load) and
+/// [`channels_copy`](dma_explain::laws::channels_copy). If a transfer explains the channel's program, and all changes
+/// since its load left the transfer alone, or all were apart from it, as in these laws, then the transfer's first bytes
+/// are copied, as many as the channel counts, and the report says what the call did. A load from C that succeeds gives
+/// a channel such a program, if it loads a copy, a fill whose byte has a 32-bit address, or bytes that begin with such
+/// a program. A call that steps a channel, whatever its program is, changes no byte outside the range that it reports,
+/// and one of its steps wrote each address in this range.
 pub fn channel_calls_copy()
     ensures loads { LoadsATransfer }
     ensures steps { StepsCopy }

@@ -11,8 +11,8 @@
 //! bus (`PlansTransfer`). All calls on an open device, however many, are one history of the accesses that the laws of
 //! `dma_device` are about (`laws::device_sessions_are_histories`).
 //!
-//! The proofs assume that the caller fulfils its duties (docs/EMBEDDING.md). Controllers and channels are zeros before
-//! their first call, are not copied, and are used by one call at a time, ordered by a lock, a start, a join or a
+//! The proofs assume that the caller fulfils its duties (the head of dma330.h). Controllers and channels are zeros
+//! before their first call, are not copied, and are used by one call at a time, ordered by a lock, a start, a join or a
 //! sequentially consistent atomic. Pointers are not null, aligned, valid for their counts, and don't overlap except
 //! for lists that are only read. Nobody else writes what a call reads or reads what it writes. No call comes from a
 //! signal handler or from the child of a fork of a process with threads. Not proved: that a close frees everything.

@@ -1,22 +1,19 @@
 -- How decoding and encoding of a chip's instructions are related.
-use Rattle.std.proofs.Common.{◌≡◌, ℕ, ◌%◌, ◌/◌, ◌^◌, ◌<◌, ◌≤◌, Bool, true, false, List, [], ◌∷◌, ◌++◌, length, drop, take, refl, sym, ap, ◌∙◌, subst, Ok, Err, arith, cond, eqb, suc}
-use Rattle.std.proofs.lemmas.Bool.{eqb-true, le-ltb, false≢true}
-use Rattle.std.proofs.lemmas.List.{take-append-drop, length-take}
+use Rattle.std.proofs.Common.{◌≡◌, ℕ, ◌%◌, ◌/◌, ◌^◌, ◌<◌, ◌≤◌, Bool, true, false, List, [], ◌∷◌, ◌++◌, length, drop, take, refl, sym, ap, ◌∙◌, subst, Ok, Err}
+use Rattle.std.proofs.Common.{arith, cond, eqb, suc}
+use Rattle.std.proofs.{lemmas.Bool.eqb-true, lemmas.Bool.le-ltb, lemmas.Bool.false≢true, lemmas.List.take-append-drop, lemmas.List.length-take}
 use Rattle.std.specs.Prelude.{MatchResult, IfOk, IfErr}
-use Rattle.byteorder.specs.Numbers.{little_number-reads_back}
-use Rattle.byteorder.specs.Endian.{little_bytes, little_number}
-use Rattle.dma_insn.specs.declared.insn.Insn.{Insn}
-use Rattle.dma_insn.specs.declared.insn.Insn.TheVariants.{Mov as CoreMov, Ld as CoreLd, St as CoreSt, Rmb as CoreRmb, Wmb as CoreWmb, Nop as CoreNop, End as CoreEnd, Lp as CoreLp, LpEnd as CoreLpEnd, Sev as CoreSev, Wfe as CoreWfe}
-use Rattle.dma_insn.specs.declared.insn.Counter.{Counter}
+use Rattle.byteorder.specs.{Numbers.little_number-reads_back, Endian.little_bytes, Endian.little_number}
 use Rattle.dma_insn.specs.declared.insn.Counter.TheVariants.{Lc0, Lc1}
-use Rattle.dma_insn.specs.declared.chip.Address.{Address}
 use Rattle.dma_insn.specs.declared.chip.Address.TheVariants.{Source, Destination}
-use Rattle.dma_insn.specs.declared.chip.ChipInsn.{ChipInsn}
 use Rattle.dma_insn.specs.declared.chip.ChipInsn.TheVariants.{Mov, Ld, St, Rmb, Wmb, Nop, End, Lp, LpEnd, Sev, Wfe, StoreZeros, AddHalfword, LoopAgain}
 use Rattle.dma_insn.specs.declared.codec.DecodeFault.TheVariants.{Cut, Unknown, BadField}
+use Rattle.dma_insn.specs.Chip.{widened, add_byte, again_byte, spelling, HasRanges, HasCoreRanges, IsSpelledAt, BeginsWith, IsRefusedFor, Decoded, widely}
+use Rattle.dma_insn.specs.Chip.{decoded_core, added_by, again_by, beyond_core, or_beyond, decoded}
+use Rattle.dma_insn.specs.{declared.insn.Insn.Insn, declared.insn.Counter.Counter, declared.chip.Address.Address, declared.chip.ChipInsn.ChipInsn}
+use Rattle.dma_insn.specs.declared.insn.Insn.TheVariants.{Mov as CoreMov, Ld as CoreLd, St as CoreSt, Rmb as CoreRmb, Wmb as CoreWmb, Nop as CoreNop, End as CoreEnd, Lp as CoreLp, LpEnd as CoreLpEnd, Sev as CoreSev, Wfe as CoreWfe}
 use Rattle.dma_insn.specs.Spelling.{spelling as core_spelling, HasRanges as CoreRanges, IsSpelledAt as IsCoreAt, BeginsWith as CoreBegins}
 use Rattle.dma_insn.specs.Decoding.{Decoded as CoreDecoded, decoded as core_decoded}
-use Rattle.dma_insn.specs.Chip.{widened, add_byte, again_byte, spelling, HasRanges, HasCoreRanges, IsSpelledAt, BeginsWith, IsRefusedFor, Decoded, widely, decoded_core, added_by, again_by, beyond_core, or_beyond, decoded}
 use Rattle.dma_insn.proofs.Laws.{IsBytes, decoded_spelling as core_decoded_spelling, decoded_right as core_right, Right as CoreRight}
 
 -- ---- an instruction of the model
@@ -123,7 +120,8 @@ by_test bytes true x y f g = f refl
 by_test bytes false x y f g = g refl
 
 -- by whether the first byte is this
-first_is : (b : ℕ) (rest : List ℕ) (c : ℕ) (x y : Decoded) → (b ≡ c → Right (b ∷ rest) x) → (eqb b c ≡ false → Right (b ∷ rest) y) → Right (b ∷ rest) (cond (eqb b c) x y)
+first_is : (b : ℕ) (rest : List ℕ) (c : ℕ) (x y : Decoded) → (b ≡ c → Right (b ∷ rest) x) → (eqb b c ≡ false → Right (b ∷ rest) y)
+    → Right (b ∷ rest) (cond (eqb b c) x y)
 first_is b rest c x y f g = by_test (b ∷ rest) (eqb b c) x y (λ t. f (eqb-true b c t)) g
 
 zeros_right : (b : ℕ) (rest : List ℕ) → b ≡ 0x0c → Right (b ∷ rest) (Ok (StoreZeros, 1))
@@ -139,7 +137,8 @@ again_right b (c ∷ rest) l h e =
     rw (le-ltb (length (b ∷ c ∷ rest)) 2 long) (record { in_range = h 0; count_is = refl; bytes_are = ap (λ (k : ℕ). k ∷ c ∷ []) e })
 
 add_cut : (b : ℕ) (rest : List ℕ) (a : Address) (n : Bool) → b ≡ add_byte a n → length (b ∷ rest) < 3 → IsRefusedFor (b ∷ rest) Cut
-add_cut b rest a n e few = (AddHalfword a 0 n, record { in_range = omega arith; tail = 0 ∷ 0 ∷ []; bytes_are = ap (λ (k : ℕ). k ∷ 0 ∷ 0 ∷ []) (sym e) }, omega (arith, few))
+add_cut b rest a n e few =
+    (AddHalfword a 0 n, record { in_range = omega arith; tail = 0 ∷ 0 ∷ []; bytes_are = ap (λ (k : ℕ). k ∷ 0 ∷ 0 ∷ []) (sym e) }, omega (arith, few))
 
 two_bytes : (c d : ℕ) (rest : List ℕ) → c < 256 → d < 256 → little_bytes 2 (little_number 2 (c ∷ d ∷ rest)) ≡ c ∷ d ∷ []
 two_bytes c d rest low high =
@@ -204,8 +203,12 @@ beyond_right b rest h core =
     first_is b rest 0x54 _ _ (λ e. add_right b rest Source false h e) (λ n2.
     first_is b rest 0x56 _ _ (λ e. add_right b rest Destination false h e) (λ n3.
     first_is b rest 0x5c _ _ (λ e. add_right b rest Source true h e) (λ n4.
-    first_is b rest 0x5e _ _ (λ e. add_right b rest Destination true h e) (λ n5.
-    (refl, λ i begins. begins_known i b core (record { not_zeros = n0; not_again = n1; not_again_one = n6; not_source = n2; not_destination = n3; not_source_down = n4; not_destination_down = n5 }) begins))))))))
+    first_is b rest 0x5e _ _ (λ e. add_right b rest Destination true h e) (λ n5. (
+      refl,
+      λ i begins. begins_known i b core
+          (record { not_zeros = n0; not_again = n1; not_again_one = n6; not_source = n2; not_destination = n3; not_source_down = n4; not_destination_down = n5 })
+          begins,
+    ))))))))
 
 right_by : (bytes : List ℕ) (r : CoreDecoded) → IsBytes bytes → CoreRight bytes r → Right bytes (or_beyond bytes r)
 right_by bytes (Ok x) h right = widened_at bytes x.0 x.1 right
@@ -258,6 +261,7 @@ spelled_within bytes i n h =
     let taken = length-take n bytes in
     (omega arith, omega arith)
 
-pub within_ok : (bytes : List ℕ) (r : Decoded) → IfOk r (λ found. IsSpelledAt bytes found.0 found.1) → IfOk r (λ found. (0 < found.1) × (found.1 ≤ length bytes))
+pub within_ok : (bytes : List ℕ) (r : Decoded) → IfOk r (λ found. IsSpelledAt bytes found.0 found.1)
+    → IfOk r (λ found. (0 < found.1) × (found.1 ≤ length bytes))
 within_ok bytes (Ok x) h = spelled_within bytes x.0 x.1 h
 within_ok bytes (Err fault) h = tt

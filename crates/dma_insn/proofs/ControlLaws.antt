@@ -1,15 +1,13 @@
 -- Control words against their fields, both ways.
-use Rattle.std.proofs.Common.{◌≡◌, ℕ, ◌+◌, ◌^◌, ◌<◌, ◌≤◌, Bool, true, false, refl, sym, ap, ◌∙◌, subst, Option, Some, None, Result, Ok, Err, arith, cond, eqb, zero, suc}
+use Rattle.std.proofs.Common.{◌≡◌, ℕ, ◌+◌, ◌^◌, ◌<◌, ◌≤◌, Bool, true, false, refl, sym, ap, ◌∙◌, subst, Option, Some, None, Result, Ok, Err, arith, cond, eqb}
+use Rattle.std.proofs.Common.{zero, suc}
 use Rattle.std.proofs.lemmas.Bool.{eqb-true}
-use Rattle.std.specs.Option.{option_map}
-use Rattle.dma_insn.specs.declared.control.BeatSize.{BeatSize}
+use Rattle.std.specs.{Option.option_map, Prelude.IfOk}
 use Rattle.dma_insn.specs.declared.control.BeatSize.TheVariants.{One, Two, Four, Eight, Sixteen}
-use Rattle.dma_insn.specs.declared.control.BurstEnd.{BurstEnd}
-use Rattle.dma_insn.specs.declared.control.Control.{Control}
-use Rattle.dma_insn.specs.declared.control.ControlFault.{ControlFault}
 use Rattle.dma_insn.specs.declared.control.ControlFault.TheVariants.{Swap, Bit31}
-use Rattle.std.specs.Prelude.{IfOk}
 use Rattle.dma_insn.specs.ControlWord.{field, flag, size_code, size_of, end_with, end_at, end_bits, with_ends, control_of, bits_of, HasEndRanges, HasFields}
+use Rattle.dma_insn.specs.{declared.control.BeatSize.BeatSize, declared.control.BurstEnd.BurstEnd, declared.control.Control.Control}
+use Rattle.dma_insn.specs.{declared.control.ControlFault.ControlFault}
 
 pub size_of_size_code : (s : BeatSize) → size_of (size_code s) ≡ Some s
 size_of_size_code One = refl
@@ -26,7 +24,8 @@ size_code_le Eight = omega arith
 size_code_le Sixteen = omega arith
 
 -- one test of the chain of size codes
-by_code : (n c : ℕ) (s t : BeatSize) (rest : Option BeatSize) (b : Bool) → eqb n c ≡ b → size_code t ≡ c → (rest ≡ Some s → size_code s ≡ n) → cond b (Some t) rest ≡ Some s → size_code s ≡ n
+by_code : (n c : ℕ) (s t : BeatSize) (rest : Option BeatSize) (b : Bool) → eqb n c ≡ b → size_code t ≡ c → (rest ≡ Some s → size_code s ≡ n)
+    → cond b (Some t) rest ≡ Some s → size_code s ≡ n
 by_code n c s t rest true is code more e =
     let same : t ≡ s = cc in
     ap size_code (sym same) ∙ code ∙ sym (eqb-true n c is)
@@ -121,8 +120,10 @@ control_of_fields w c h =
 pub control_of_again : (w : ℕ) (c : Control) → HasFields w c → control_of w ≡ Ok c
 unfolding control_of
 control_of_again w c h =
-    let src = end_again 0 w c.src (record { increments = h.src_increments; size = h.src_size; beats = h.src_beats; protection = h.src_protection; cache = h.src_cache }) in
-    let dst = end_again 14 w c.dst (record { increments = h.dst_increments; size = h.dst_size; beats = h.dst_beats; protection = h.dst_protection; cache = h.dst_cache }) in
+    let src = end_again 0 w c.src
+    (record { increments = h.src_increments; size = h.src_size; beats = h.src_beats; protection = h.src_protection; cache = h.src_cache }) in
+    let dst = end_again 14 w c.dst
+    (record { increments = h.dst_increments; size = h.dst_size; beats = h.dst_beats; protection = h.dst_protection; cache = h.dst_cache }) in
     rw (src, dst, h.swap, h.bit31) refl
 
 -- The fields give the word back.

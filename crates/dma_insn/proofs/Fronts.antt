@@ -1,17 +1,14 @@
 -- Fronts of bytes that are joined encodings.
-use Rattle.std.proofs.Common.{◌≡◌, ℕ, ◌+◌, ◌<◌, ◌≤◌, zero, suc, List, [], ◌∷◌, ◌++◌, length, take, drop, refl, sym, ap, ◌∙◌, subst, arith, append_assoc, append-nil, length-append, drop-drop, ◌-◌, ◌⊎◌, inl, inr}
+use Rattle.std.proofs.Common.{◌≡◌, ℕ, ◌+◌, ◌<◌, ◌≤◌, zero, suc, List, [], ◌∷◌, ◌++◌, length, take, drop, refl, sym, ap, ◌∙◌, subst, arith, append_assoc}
+use Rattle.std.proofs.Common.{append-nil, length-append, drop-drop, ◌-◌, ◌⊎◌, inl, inr}
 use Rattle.std.specs.Prelude.{Ok, Err}
 use Rattle.std.proofs.lemmas.List.{take-append-drop, take_rest, drop_all, length-drop, get_or-drop, flat_map_more}
 use Rattle.std.proofs.Math.Seq.{take-append_seam}
-use Rattle.dma_insn.specs.declared.insn.Insn.{Insn}
-use Rattle.dma_insn.specs.declared.codec.DecodeFault.{DecodeFault}
 use Rattle.dma_insn.specs.Spelling.{spelling, HasRanges, IsSpelledAt, IsRefusedFor}
-use Rattle.dma_insn.specs.Decoding.{Decoded, decoded}
-use Rattle.dma_insn.specs.AssemblyText.{joined}
 use Rattle.dma_insn.specs.Disassembly.{AllInRange, insn_text, text_of, AreSpelled, Disassembles, StopsAt, DisassemblyReports, line_of}
+use Rattle.dma_insn.specs.{declared.insn.Insn.Insn, declared.codec.DecodeFault.DecodeFault, Decoding.Decoded, Decoding.decoded, AssemblyText.joined}
 use Rattle.dma_insn.proofs.Laws.{IsBytes, Right, one_front, spelling_some, spelled_within, decoded_right, none_spelled}
-use Rattle.dma_insn.proofs.Texts.{disassembles}
-use Rattle.dma_insn.proofs.OneText.{one_way}
+use Rattle.dma_insn.proofs.{Texts.disassembles, OneText.one_way}
 
 -- the bytes before a place are spellings joined
 pub record Front (bytes : List ℕ) (offset : ℕ) : Type 0 where
@@ -35,15 +32,18 @@ joined_push is i = sym (flat_map_more spelling [] is i)
 text_push : (is : List Insn) (i : Insn) → text_of (is ++ i ∷ []) ≡ text_of is ++ (insn_text i ++ 10 ∷ [])
 text_push is i = sym (flat_map_more line_of [] is i)
 
-front_bytes : (bytes : List ℕ) (offset : ℕ) (is : List Insn) (i : Insn) (n : ℕ) → bytes ≡ joined is ++ drop offset bytes → IsSpelledAt (drop offset bytes) i n → bytes ≡ joined (is ++ i ∷ []) ++ drop (offset + n) bytes
+front_bytes : (bytes : List ℕ) (offset : ℕ) (is : List Insn) (i : Insn) (n : ℕ) → bytes ≡ joined is ++ drop offset bytes → IsSpelledAt (drop offset bytes) i n
+    → bytes ≡ joined (is ++ i ∷ []) ++ drop (offset + n) bytes
 front_bytes bytes offset is i n e h =
     let rest = drop offset bytes in
     let split : rest ≡ spelling i ++ drop n rest = sym (take-append-drop n rest) ∙ ap (λ (front : List ℕ). front ++ drop n rest) h.bytes_are in
     let later : drop n rest ≡ drop (offset + n) bytes = drop-drop n offset bytes in
-    e ∙ ap (λ (l : List ℕ). joined is ++ l) (split ∙ ap (λ (l : List ℕ). spelling i ++ l) later) ∙ sym (append_assoc (joined is) (spelling i) (drop (offset + n) bytes))
+    e ∙ ap (λ (l : List ℕ). joined is ++ l) (split ∙ ap (λ (l : List ℕ). spelling i ++ l) later)
+    ∙ sym (append_assoc (joined is) (spelling i) (drop (offset + n) bytes))
     ∙ ap (λ (l : List ℕ). l ++ drop (offset + n) bytes) (sym (joined_push is i))
 
-front_offset : (offset : ℕ) (is : List Insn) (i : Insn) (n : ℕ) → offset ≡ length (joined is) → n ≡ length (spelling i) → offset + n ≡ length (joined (is ++ i ∷ []))
+front_offset : (offset : ℕ) (is : List Insn) (i : Insn) (n : ℕ) → offset ≡ length (joined is) → n ≡ length (spelling i)
+    → offset + n ≡ length (joined (is ++ i ∷ []))
 front_offset offset is i n e c = rw (joined_push is i) (omega (arith, length-append (joined is) (spelling i)))
 
 pub front_more : (bytes : List ℕ) (offset : ℕ) (i : Insn) (n : ℕ) → Front bytes offset → IsSpelledAt (drop offset bytes) i n → Front bytes (offset + n)
@@ -59,7 +59,8 @@ front_all bytes offset all f =
     let none : drop offset bytes ≡ [] = drop_all offset bytes all in
     record { insns = f.insns; in_range = f.in_range; bytes_are = f.bytes_are ∙ ap (λ (l : List ℕ). joined f.insns ++ l) none ∙ append-nil (joined f.insns) }
 
-pub written_more : (bytes text new : List ℕ) (offset : ℕ) (i : Insn) (n : ℕ) → WrittenFront bytes offset text → IsSpelledAt (drop offset bytes) i n → new ≡ text ++ (insn_text i ++ 10 ∷ []) → WrittenFront bytes (offset + n) new
+pub written_more : (bytes text new : List ℕ) (offset : ℕ) (i : Insn) (n : ℕ) → WrittenFront bytes offset text → IsSpelledAt (drop offset bytes) i n
+    → new ≡ text ++ (insn_text i ++ 10 ∷ []) → WrittenFront bytes (offset + n) new
 unfolding front_more
 written_more bytes text new offset i n f h e = record {
   front = front_more bytes offset i n f.front h;
@@ -73,10 +74,12 @@ written_all bytes text offset all f =
     disassembles bytes text spelled.insns spelled.in_range spelled.bytes_are f.text_is
 
 -- the same of a slice from the place on
-pub front_step : (bytes : List ℕ) (offset : ℕ) (i : Insn) (n : ℕ) → Front bytes offset → IsSpelledAt (take (length bytes - offset) (drop offset bytes)) i n → Front bytes (offset + n)
+pub front_step : (bytes : List ℕ) (offset : ℕ) (i : Insn) (n : ℕ) → Front bytes offset → IsSpelledAt (take (length bytes - offset) (drop offset bytes)) i n
+    → Front bytes (offset + n)
 front_step bytes offset i n f h = front_more bytes offset i n f (subst (λ (l : List ℕ). IsSpelledAt l i n) (take_rest bytes offset) h)
 
-pub written_step : (bytes text new : List ℕ) (offset : ℕ) (i : Insn) (n : ℕ) → WrittenFront bytes offset text → IsSpelledAt (take (length bytes - offset) (drop offset bytes)) i n → new ≡ text ++ (insn_text i ++ 10 ∷ []) → WrittenFront bytes (offset + n) new
+pub written_step : (bytes text new : List ℕ) (offset : ℕ) (i : Insn) (n : ℕ) → WrittenFront bytes offset text
+    → IsSpelledAt (take (length bytes - offset) (drop offset bytes)) i n → new ≡ text ++ (insn_text i ++ 10 ∷ []) → WrittenFront bytes (offset + n) new
 written_step bytes text new offset i n f h e = written_more bytes text new offset i n f (subst (λ (l : List ℕ). IsSpelledAt l i n) (take_rest bytes offset) h) e
 
 spelled_front : (i : Insn) (rest more : List ℕ) → HasRanges i → rest ≡ spelling i ++ more → IsSpelledAt rest i (length (spelling i))
@@ -84,19 +87,22 @@ spelled_front i rest more h e =
     record { in_range = h; count_is = refl; bytes_are = ap (take (length (spelling i))) e ∙ take-append_seam (spelling i) more }
 
 -- If no instruction begins behind a front of joined spellings, no other such front is longer.
-longest_front : (is js : List Insn) (rest more : List ℕ) → AllInRange is → AllInRange js → joined is ++ rest ≡ joined js ++ more → ((i : Insn) (n : ℕ) → IsSpelledAt rest i n → ⊥) → length (joined js) ≤ length (joined is)
+longest_front : (is js : List Insn) (rest more : List ℕ) → AllInRange is → AllInRange js → joined is ++ rest ≡ joined js ++ more
+    → ((i : Insn) (n : ℕ) → IsSpelledAt rest i n → ⊥) → length (joined js) ≤ length (joined is)
 longest_front is [] rest more hi hj e none = omega arith
 longest_front [] (j ∷ js) rest more hi hj e none =
     absurd (none j (length (spelling j)) (spelled_front j rest (joined js ++ more) hj.0 (e ∙ append_assoc (spelling j) (joined js) more)))
 longest_front (i ∷ is) (j ∷ js) rest more hi hj e none =
-    let regrouped : spelling i ++ (joined is ++ rest) ≡ spelling j ++ (joined js ++ more) = sym (append_assoc (spelling i) (joined is) rest) ∙ e ∙ append_assoc (spelling j) (joined js) more in
+    let regrouped : spelling i ++ (joined is ++ rest) ≡ spelling j ++ (joined js ++ more) = sym (append_assoc (spelling i) (joined is) rest) ∙ e
+    ∙ append_assoc (spelling j) (joined js) more in
     let same = one_front i j (joined is ++ rest) (joined js ++ more) hi.0 hj.0 regrouped in
     let first : length (spelling i) ≡ length (spelling j) = ap (λ (k : Insn). length (spelling k)) same.0 in
     let rest_of = longest_front is js rest more hi.1 hj.1 same.1 none in
     omega (arith, length-append (spelling i) (joined is), length-append (spelling j) (joined js))
 
 -- If no instruction begins behind the front, it is the longest.
-pub stops : (bytes : List ℕ) (offset : ℕ) (fault : DecodeFault) → offset < length bytes → Front bytes offset → Err fault ≡ decoded (take (length bytes - offset) (drop offset bytes)) → IsRefusedFor (take (length bytes - offset) (drop offset bytes)) fault
+pub stops : (bytes : List ℕ) (offset : ℕ) (fault : DecodeFault) → offset < length bytes → Front bytes offset
+    → Err fault ≡ decoded (take (length bytes - offset) (drop offset bytes)) → IsRefusedFor (take (length bytes - offset) (drop offset bytes)) fault
     → ((i : Insn) (n : ℕ) → IsSpelledAt (take (length bytes - offset) (drop offset bytes)) i n → ⊥) → StopsAt bytes offset fault
 stops bytes offset fault within f fault_is refused none =
     let rest = drop offset bytes in
@@ -210,7 +216,8 @@ breaks_stops bytes b =
       longest = λ others more ranges e. longest_front b.insns others b.rest more b.in_range ranges (sym b.bytes_are ∙ e) none;
     }
 
-one_or_other : (bytes : List ℕ) → AreSpelled bytes ⊎ BreaksOff bytes → ((text : List ℕ) × Disassembles bytes text) ⊎ ((offset : ℕ) × (fault : DecodeFault) × StopsAt bytes offset fault)
+one_or_other : (bytes : List ℕ) → AreSpelled bytes ⊎ BreaksOff bytes → ((text : List ℕ) × Disassembles bytes text)
+    ⊎ ((offset : ℕ) × (fault : DecodeFault) × StopsAt bytes offset fault)
 one_or_other bytes (inl s) = inl (has_text bytes s)
 one_or_other bytes (inr b) = inr (length (joined b.insns), b.fault, breaks_stops bytes b)
 

@@ -1,21 +1,17 @@
 -- How decoding and encoding are related.
-use Rattle.std.proofs.Common.{◌≡◌, ℕ, ◌+◌, ◌-◌, ◌*◌, ◌/◌, ◌%◌, ◌^◌, ◌<◌, ◌≤◌, Bool, true, false, List, [], ◌∷◌, ◌++◌, length, drop, take, get_or, refl, sym, ap, ◌∙◌, subst, Ok, Err, arith, cond, eqb, ltb, suc}
-use Rattle.std.proofs.lemmas.Nat.{div-mul-add, mod-mul-add}
+use Rattle.std.proofs.Common.{◌≡◌, ℕ, ◌+◌, ◌-◌, ◌*◌, ◌/◌, ◌%◌, ◌^◌, ◌<◌, ◌≤◌, Bool, true, false, List, [], ◌∷◌, ◌++◌, length, drop, take, get_or, refl, sym, ap}
+use Rattle.std.proofs.Common.{◌∙◌, subst, Ok, Err, arith, cond, eqb, ltb, suc}
 use Rattle.std.proofs.lemmas.Bool.{eqb-true, le-ltb, ltb-false, ltb-true, false≢true}
-use Rattle.std.proofs.lemmas.List.{take-append-drop, append_cancel_left, length-take}
-use Rattle.byteorder.specs.Numbers.{little_number-reads_back}
-use Rattle.std.specs.Prelude.{MatchResult, IfOk, IfErr}
-use Rattle.byteorder.specs.Endian.{little_bytes, little_number}
-use Rattle.dma_insn.specs.declared.insn.Reg.{Reg}
+use Rattle.std.proofs.{lemmas.Nat.div-mul-add, lemmas.Nat.mod-mul-add, lemmas.List.take-append-drop, lemmas.List.append_cancel_left, lemmas.List.length-take}
+use Rattle.byteorder.specs.{Numbers.little_number-reads_back, Endian.little_bytes, Endian.little_number}
+use Rattle.std.specs.{Prelude.MatchResult, Prelude.IfOk, Prelude.IfErr, List.list_any}
 use Rattle.dma_insn.specs.declared.insn.Reg.TheVariants.{Sar, Ccr, Dar}
-use Rattle.dma_insn.specs.declared.insn.Counter.{Counter}
-use Rattle.dma_insn.specs.declared.insn.Counter.TheVariants.{Lc0, Lc1}
-use Rattle.dma_insn.specs.declared.insn.Insn.{Insn}
 use Rattle.dma_insn.specs.declared.insn.Insn.TheVariants.{Mov, Ld, St, Rmb, Wmb, Nop, End, Lp, LpEnd, Sev, Wfe}
-use Rattle.dma_insn.specs.declared.codec.DecodeFault.TheVariants.{Cut, BadField}
-use Rattle.dma_insn.specs.Spelling.{spelling, HasRanges, IsSpelledAt, BeginsWith, IsRefusedFor, register_byte, loop_byte, loop_end_byte, invalid_bits, NoSpellingBeginsAnother}
+use Rattle.dma_insn.specs.Spelling.{spelling, HasRanges, IsSpelledAt, BeginsWith, IsRefusedFor, register_byte, loop_byte, loop_end_byte, invalid_bits}
+use Rattle.dma_insn.specs.Spelling.{NoSpellingBeginsAnother}
 use Rattle.dma_insn.specs.Decoding.{Decoded, by_second, signal_at, wait_at, set_at, set_by, decoded}
-use Rattle.std.specs.List.{list_any}
+use Rattle.dma_insn.specs.{declared.insn.Reg.Reg, declared.insn.Counter.Counter, declared.insn.Counter.TheVariants.Lc0, declared.insn.Counter.TheVariants.Lc1}
+use Rattle.dma_insn.specs.{declared.insn.Insn.Insn, declared.codec.DecodeFault.TheVariants.Cut, declared.codec.DecodeFault.TheVariants.BadField}
 
 abbrev pub IsBytes : List ℕ → Type 0
 IsBytes bytes = (i : ℕ) → get_or bytes i 0 < 256
@@ -38,7 +34,8 @@ set_again : (r : Reg) (v : ℕ) (rest : List ℕ) → v < 2 ^ 32 → set_by (reg
 set_again r v rest h =
     let bytes = register_byte r ∷ (little_bytes 4 v ++ rest) in
     let long : 5 ≤ length bytes = omega arith in
-    rw (le-ltb (length bytes) 5 long, little_number-reads_back 4 v rest h) (elim r as (λ q. set_at (register_byte q) v ≡ Ok (Mov q v, 6)) [ Sar ↦ refl | Ccr ↦ refl | Dar ↦ refl ])
+    rw (le-ltb (length bytes) 5 long, little_number-reads_back 4 v rest h)
+    (elim r as (λ q. set_at (register_byte q) v ≡ Ok (Mov q v, 6)) [ Sar ↦ refl | Ccr ↦ refl | Dar ↦ refl ])
 
 -- an encoded instruction is decoded, whatever follows
 pub decoded_spelling : (i : Insn) (rest : List ℕ) → HasRanges i → decoded (spelling i ++ rest) ≡ Ok (i, length (spelling i))
@@ -117,7 +114,8 @@ signal_right : (rest : List ℕ) → IsBytes rest → Right (0x34 ∷ rest) (by_
 signal_right [] h = cut_one (Sev 0) 0x34 0 (omega arith) refl
 signal_right (b ∷ rest) h =
     by_test (0x34 ∷ b ∷ rest) (eqb (b % 8) 0) _ _ (λ t. let e : b % 8 ≡ 0 = eqb-true (b % 8) 0 t in let l : b < 256 = h 0 in
-    two (Sev (b / 8)) rest 0x34 b (omega arith) (let s : b / 8 * 8 ≡ b = omega arith in ap (λ (m : ℕ). 0x34 ∷ m ∷ []) s)) (λ t. bad_two (Sev 0) 0x34 0 b rest (omega arith) refl)
+    two (Sev (b / 8)) rest 0x34 b (omega arith) (let s : b / 8 * 8 ≡ b = omega arith in ap (λ (m : ℕ). 0x34 ∷ m ∷ []) s))
+    (λ t. bad_two (Sev 0) 0x34 0 b rest (omega arith) refl)
 
 wait_right : (rest : List ℕ) → IsBytes rest → Right (0x36 ∷ rest) (by_second rest wait_at)
 wait_right [] h = cut_one (Wfe 0 false) 0x36 0 (omega arith) refl
@@ -125,7 +123,8 @@ wait_right (b ∷ rest) h =
     by_test (0x36 ∷ b ∷ rest) (eqb (b % 8) 0) _ _ (λ t. let e : b % 8 ≡ 0 = eqb-true (b % 8) 0 t in let l : b < 256 = h 0 in
     two (Wfe (b / 8) false) rest 0x36 b (omega arith) (let s : b / 8 * 8 + 0 ≡ b = omega arith in ap (λ (m : ℕ). 0x36 ∷ m ∷ []) s)) (λ t.
     by_test (0x36 ∷ b ∷ rest) (eqb (b % 8) 2) _ _ (λ t. let e : b % 8 ≡ 2 = eqb-true (b % 8) 2 t in let l : b < 256 = h 0 in
-    two (Wfe (b / 8) true) rest 0x36 b (omega arith) (let s : b / 8 * 8 + 2 ≡ b = omega arith in ap (λ (m : ℕ). 0x36 ∷ m ∷ []) s)) (λ t. bad_two (Wfe 0 false) 0x36 0 b rest (omega arith) refl))
+    two (Wfe (b / 8) true) rest 0x36 b (omega arith) (let s : b / 8 * 8 + 2 ≡ b = omega arith in ap (λ (m : ℕ). 0x36 ∷ m ∷ []) s))
+    (λ t. bad_two (Wfe 0 false) 0x36 0 b rest (omega arith) refl))
 
 -- The bytes of the number that four bytes read as, the lowest first, are those bytes again.
 pub little_bytes_little_number : (bytes : List ℕ) → IsBytes bytes → 4 ≤ length bytes → little_bytes 4 (little_number 4 bytes) ≡ take 4 bytes
@@ -164,9 +163,12 @@ set_field a rest h n =
     let bytes = 0xbc ∷ a ∷ rest in
     let long : 5 ≤ length (a ∷ rest) = ltb-false _ 5 n in
     let four : 4 ≤ length rest = omega arith in
-    by_test bytes (eqb a 0) _ _ (λ t. subst (λ (k : ℕ). IsSpelledAt (0xbc ∷ k ∷ rest) (Mov Sar (little_number 4 rest)) 6) (sym (eqb-true a 0 t)) (set_whole Sar rest h four)) (λ n0.
-    by_test bytes (eqb a 1) _ _ (λ t. subst (λ (k : ℕ). IsSpelledAt (0xbc ∷ k ∷ rest) (Mov Ccr (little_number 4 rest)) 6) (sym (eqb-true a 1 t)) (set_whole Ccr rest h four)) (λ n1.
-    by_test bytes (eqb a 2) _ _ (λ t. subst (λ (k : ℕ). IsSpelledAt (0xbc ∷ k ∷ rest) (Mov Dar (little_number 4 rest)) 6) (sym (eqb-true a 2 t)) (set_whole Dar rest h four)) (λ n2.
+    by_test bytes (eqb a 0) _ _
+    (λ t. subst (λ (k : ℕ). IsSpelledAt (0xbc ∷ k ∷ rest) (Mov Sar (little_number 4 rest)) 6) (sym (eqb-true a 0 t)) (set_whole Sar rest h four)) (λ n0.
+    by_test bytes (eqb a 1) _ _
+    (λ t. subst (λ (k : ℕ). IsSpelledAt (0xbc ∷ k ∷ rest) (Mov Ccr (little_number 4 rest)) 6) (sym (eqb-true a 1 t)) (set_whole Ccr rest h four)) (λ n1.
+    by_test bytes (eqb a 2) _ _
+    (λ t. subst (λ (k : ℕ). IsSpelledAt (0xbc ∷ k ∷ rest) (Mov Dar (little_number 4 rest)) 6) (sym (eqb-true a 2 t)) (set_whole Dar rest h four)) (λ n2.
     set_bad (a ∷ rest) long)))
 
 set_right : (rest : List ℕ) → IsBytes rest → Right (0xbc ∷ rest) (set_by rest)
@@ -252,6 +254,7 @@ spelled_within bytes i n h =
     let taken = length-take n bytes in
     (omega arith, omega arith)
 
-pub within_ok : (bytes : List ℕ) (r : Decoded) → IfOk r (λ found. IsSpelledAt bytes found.0 found.1) → IfOk r (λ found. (0 < found.1) × (found.1 ≤ length bytes))
+pub within_ok : (bytes : List ℕ) (r : Decoded) → IfOk r (λ found. IsSpelledAt bytes found.0 found.1)
+    → IfOk r (λ found. (0 < found.1) × (found.1 ≤ length bytes))
 within_ok bytes (Ok x) h = spelled_within bytes x.0 x.1 h
 within_ok bytes (Err fault) h = tt

@@ -1,7 +1,7 @@
 pub mod Laws
 pub mod ChipLaws
 pub mod ControlLaws
-mod TextLines
+mod FirstWords
 mod Numbers
 mod LineLaws
 pub mod ProgramLaws

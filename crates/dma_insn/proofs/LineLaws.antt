@@ -1,20 +1,17 @@
 -- The result of reading a line, compared with the statement of its words.
-use Rattle.std.proofs.Common.{◌≡◌, ℕ, ◌^◌, ◌<◌, ◌≤◌, Bool, true, false, ◌&&◌, List, [], ◌∷◌, refl, sym, ap, ◌∙◌, subst, Option, Some, None, Result, Ok, Err, cond, leb, arith, inl, inr}
-use Rattle.std.specs.Prelude.{codes}
+use Rattle.std.proofs.Common.{◌≡◌, ℕ, ◌^◌, ◌<◌, ◌≤◌, Bool, true, false, ◌&&◌, List, [], ◌∷◌, refl, sym, ap, ◌∙◌, subst, Option, Some, None, Result, Ok, Err}
+use Rattle.std.proofs.Common.{cond, leb, arith, inl, inr}
+use Rattle.std.specs.{Prelude.codes, Option.option_and_then, Option.ok_or, Str.bytes_eq, Cmp.Lexicographic.same_text, List.list_any}
 use Rattle.std.proofs.lemmas.Bool.{ne_eqb, le-leb, lt-leb, cases_lt}
-use Rattle.std.specs.Option.{option_and_then, ok_or}
-use Rattle.std.specs.Str.{bytes_eq}
-use Rattle.std.specs.Cmp.Lexicographic.{same_text}
-use Rattle.dma_insn.specs.declared.insn.Reg.{Reg}
 use Rattle.dma_insn.specs.declared.insn.Reg.TheVariants.{Sar, Ccr, Dar}
-use Rattle.dma_insn.specs.declared.insn.Counter.{Counter}
-use Rattle.dma_insn.specs.declared.insn.Insn.{Insn}
 use Rattle.dma_insn.specs.declared.insn.Insn.TheVariants.{Ld, St, Rmb, Wmb, Nop, End, Lp, LpEnd, Sev, Wfe}
-use Rattle.dma_insn.specs.declared.assembler.AsmCause.{AsmCause}
 use Rattle.dma_insn.specs.declared.assembler.AsmCause.TheVariants.{Mnemonic, Operand, Range}
-use Rattle.dma_insn.specs.AssemblyText.{Statement, dmaend, dmald, dmast, dmarmb, dmawmb, dmanop, dmalp, dmalpend, dmasev, dmawfe, dmamov, IsDecimal, IsWritten, insn_of, counter_of, register_word, value_word, names, first_of, HasTwoNumbers}
-use Rattle.std.specs.List.{list_any}
-use Rattle.dma_insn.specs.LineReading.{◌>>=◌, capped, number_of, value_of, register_of, counter_at, times_at, back_at, event_at, loop_line, loop_end_line, signal_line, wait_line, set_line, bare_line, line_in, two_numbers, number_at}
+use Rattle.dma_insn.specs.AssemblyText.{Statement, dmaend, dmald, dmast, dmarmb, dmawmb, dmanop, dmalp, dmalpend, dmasev, dmawfe, dmamov, IsDecimal, IsWritten}
+use Rattle.dma_insn.specs.AssemblyText.{insn_of, counter_of, register_word, value_word, names, first_of, HasTwoNumbers}
+use Rattle.dma_insn.specs.LineReading.{capped, number_of, value_of, register_of, counter_at, times_at, back_at, event_at, loop_line, loop_end_line, signal_line}
+use Rattle.dma_insn.specs.LineReading.{wait_line, set_line, bare_line, line_in, two_numbers, number_at}
+use Rattle.dma_insn.specs.{declared.insn.Reg.Reg, declared.insn.Counter.Counter, declared.insn.Insn.Insn, declared.assembler.AsmCause.AsmCause}
+use Rattle.dma_text.specs.Results.{◌>>=◌}
 use Rattle.dma_insn.proofs.Numbers.{number_of_reads, number_of_decimal, value_of_reads, value_of_word}
 
 -- the ranges treat a number above 65,535 as 65,535
@@ -39,7 +36,8 @@ event_capped : (k : ℕ) → event_at (capped k) ≡ event_at k
 event_capped k = same_capped event_at (λ j h. rw (lt-leb j 31 (omega arith)) refl) k
 
 -- the ranges tested one after another, and as a statement has them
-loop_ranges : (g : Counter → ℕ → Insn) (o : Option Counter) (t : Bool) (m : ℕ) → (ok_or o Range >>= λ c. (cond t (Ok m) (Err Range) >>= λ k. Ok (g c k))) ≡ ok_or (option_and_then (λ c. cond t (Some (g c m)) None) o) Range
+loop_ranges : (g : Counter → ℕ → Insn) (o : Option Counter) (t : Bool) (m : ℕ)
+    → (ok_or o Range >>= λ c. (cond t (Ok m) (Err Range) >>= λ k. Ok (g c k))) ≡ ok_or (option_and_then (λ c. cond t (Some (g c m)) None) o) Range
 loop_ranges g None t m = refl
 loop_ranges g (Some c) true m = refl
 loop_ranges g (Some c) false m = refl
@@ -114,7 +112,8 @@ reported_insn words s (Some i) e h = (s, h, e)
 reported_written : (words : List (List ℕ)) (s : Statement) (r : Result Insn AsmCause) → IsWritten words s → r ≡ ok_or (insn_of s) Range → IsReported words r
 reported_written words s r h e = subst (IsReported words) (sym e) (reported_insn words s (insn_of s) refl h)
 
-bare_reported : (name : List ℕ) (i : Insn) (words : List (List ℕ)) → list_any (λ x. bytes_eq name x) names ≡ true → IsReported (name ∷ []) (Ok i) → IsReported (name ∷ words) (bare_line i words)
+bare_reported : (name : List ℕ) (i : Insn) (words : List (List ℕ)) → list_any (λ x. bytes_eq name x) names ≡ true → IsReported (name ∷ []) (Ok i)
+    → IsReported (name ∷ words) (bare_line i words)
 bare_reported name i [] known h = h
 bare_reported name i (a ∷ rest) known h = known
 
@@ -128,7 +127,8 @@ module _ (name : List ℕ) (f : ℕ × ℕ → Result Insn AsmCause) (s : ℕ �
   two_reported_by a b (Some k) (Some l) p q =
       let m = number_of_reads a k p in
       let n = number_of_reads b l q in
-      let words : HasTwoNumbers (name ∷ a ∷ b ∷ []) name m.number n.number = record { first = a; second = b; words_are = refl; first_number = m.is_decimal; second_number = n.is_decimal } in
+      let words : HasTwoNumbers (name ∷ a ∷ b ∷ []) name m.number n.number =
+      record { first = a; second = b; words_are = refl; first_number = m.is_decimal; second_number = n.is_decimal } in
       reported_written (name ∷ a ∷ b ∷ []) (s m.number n.number) _ (written _ m.number n.number words) (read a b m.number n.number m.is_decimal n.is_decimal)
 
   two_reported : (words : List (List ℕ)) → IsReported (name ∷ words) (two_numbers words >>= f)
@@ -138,8 +138,10 @@ module _ (name : List ℕ) (f : ℕ × ℕ → Result Insn AsmCause) (s : ℕ �
   two_reported (a ∷ b ∷ c ∷ rest) = known
 
 -- and one number
-number_reported : (words : List (List ℕ)) (a : List ℕ) (s : ℕ → Statement) (f : ℕ → Result Insn AsmCause) (x : Option ℕ) → number_of a ≡ x → list_any (λ name. bytes_eq (first_of words) name) names ≡ true
-    → ((n : ℕ) → IsDecimal a n → IsWritten words (s n)) → ((n : ℕ) → IsDecimal a n → (number_at a >>= f) ≡ ok_or (insn_of (s n)) Range) → IsReported words (number_at a >>= f)
+number_reported : (words : List (List ℕ)) (a : List ℕ) (s : ℕ → Statement) (f : ℕ → Result Insn AsmCause) (x : Option ℕ) → number_of a ≡ x
+    → list_any (λ name. bytes_eq (first_of words) name) names ≡ true
+    → ((n : ℕ) → IsDecimal a n → IsWritten words (s n)) → ((n : ℕ) → IsDecimal a n → (number_at a >>= f) ≡ ok_or (insn_of (s n)) Range)
+    → IsReported words (number_at a >>= f)
 number_reported words a s f None p known written read = rw p known
 number_reported words a s f (Some k) p known written read =
     let n = number_of_reads a k p in
@@ -148,20 +150,23 @@ number_reported words a s f (Some k) p known written read =
 signal_reported : (words : List (List ℕ)) → IsReported (codes "DMASEV" ∷ words) (signal_line words)
 signal_reported [] = refl
 signal_reported (a ∷ []) =
-    number_reported (codes "DMASEV" ∷ a ∷ []) a (λ e. dmasev e) (λ k. event_at k >>= λ e. Ok (Sev e)) (number_of a) refl refl (λ n h. record { word = a; words_are = refl; number = h }) (signal_read a)
+    number_reported (codes "DMASEV" ∷ a ∷ []) a (λ e. dmasev e) (λ k. event_at k >>= λ e. Ok (Sev e)) (number_of a) refl refl
+    (λ n h. record { word = a; words_are = refl; number = h }) (signal_read a)
 signal_reported (a ∷ b ∷ rest) = refl
 
 wait_two_reported : (a b : List ℕ) (t : Bool) → bytes_eq b (codes "invalid") ≡ t → IsReported (codes "DMAWFE" ∷ a ∷ b ∷ []) (wait_line (a ∷ b ∷ []))
 wait_two_reported a b true e =
     let same : b ≡ codes "invalid" = same_text b (codes "invalid") (sym e) in
     subst (λ (w : List ℕ). IsReported (codes "DMAWFE" ∷ a ∷ w ∷ []) (wait_line (a ∷ w ∷ []))) (sym same)
-    (number_reported (codes "DMAWFE" ∷ a ∷ codes "invalid" ∷ []) a (λ e. dmawfe e true) (λ k. event_at k >>= λ e. Ok (Wfe e true)) (number_of a) refl refl (λ n h. record { word = a; words_are = refl; number = h }) (wait_invalid_read a))
+    (number_reported (codes "DMAWFE" ∷ a ∷ codes "invalid" ∷ []) a (λ e. dmawfe e true) (λ k. event_at k >>= λ e. Ok (Wfe e true)) (number_of a) refl refl
+    (λ n h. record { word = a; words_are = refl; number = h }) (wait_invalid_read a))
 wait_two_reported a b false e = rw e refl
 
 wait_reported : (words : List (List ℕ)) → IsReported (codes "DMAWFE" ∷ words) (wait_line words)
 wait_reported [] = refl
 wait_reported (a ∷ []) =
-    number_reported (codes "DMAWFE" ∷ a ∷ []) a (λ e. dmawfe e false) (λ k. event_at k >>= λ e. Ok (Wfe e false)) (number_of a) refl refl (λ n h. record { word = a; words_are = refl; number = h }) (wait_read a)
+    number_reported (codes "DMAWFE" ∷ a ∷ []) a (λ e. dmawfe e false) (λ k. event_at k >>= λ e. Ok (Wfe e false)) (number_of a) refl refl
+    (λ n h. record { word = a; words_are = refl; number = h }) (wait_read a)
 wait_reported (a ∷ b ∷ []) = wait_two_reported a b (bytes_eq b (codes "invalid")) refl
 wait_reported (a ∷ b ∷ c ∷ rest) = refl
 
@@ -173,7 +178,8 @@ register_is word r false true z p q s e = let same : Ccr ≡ r = cc in same_text
 register_is word r false false true p q s e = let same : Dar ≡ r = cc in same_text word (codes "DAR") (sym s) ∙ ap register_word same
 register_is word r false false false p q s e = absurd (cc)
 
-set_reported_by : (a b : List ℕ) (x : Option Reg) (y : Option ℕ) → register_of a ≡ x → value_of b ≡ y → IsReported (codes "DMAMOV" ∷ a ∷ b ∷ []) (set_line (a ∷ b ∷ []))
+set_reported_by : (a b : List ℕ) (x : Option Reg) (y : Option ℕ) → register_of a ≡ x → value_of b ≡ y
+    → IsReported (codes "DMAMOV" ∷ a ∷ b ∷ []) (set_line (a ∷ b ∷ []))
 set_reported_by a b None y p q = rw p refl
 set_reported_by a b (Some r) None p q = rw (p, q) refl
 set_reported_by a b (Some r) (Some v) p q =
@@ -205,8 +211,12 @@ line_in_reported (word ∷ words) =
     name_step word words (codes "DMARMB") _ _ _ refl (bare_reported (codes "DMARMB") Rmb words refl (dmarmb, refl, refl)) (λ n3.
     name_step word words (codes "DMAWMB") _ _ _ refl (bare_reported (codes "DMAWMB") Wmb words refl (dmawmb, refl, refl)) (λ n4.
     name_step word words (codes "DMANOP") _ _ _ refl (bare_reported (codes "DMANOP") Nop words refl (dmanop, refl, refl)) (λ n5.
-    name_step word words (codes "DMALP") _ _ _ refl (two_reported (codes "DMALP") (λ n. counter_at n.0 >>= λ c. (times_at n.1 >>= λ t. Ok (Lp c t))) (λ m n. dmalp m n) refl (λ ws m n h. h) loop_read words) (λ n6.
-    name_step word words (codes "DMALPEND") _ _ _ refl (two_reported (codes "DMALPEND") (λ n. counter_at n.0 >>= λ c. (back_at n.1 >>= λ b. Ok (LpEnd c b))) (λ m n. dmalpend m n) refl (λ ws m n h. h) loop_end_read words) (λ n7.
+    name_step word words (codes "DMALP") _ _ _ refl
+    (two_reported (codes "DMALP") (λ n. counter_at n.0 >>= λ c. (times_at n.1 >>= λ t. Ok (Lp c t))) (λ m n. dmalp m n) refl (λ ws m n h. h) loop_read
+    words) (λ n6.
+    name_step word words (codes "DMALPEND") _ _ _ refl
+    (two_reported (codes "DMALPEND") (λ n. counter_at n.0 >>= λ c. (back_at n.1 >>= λ b. Ok (LpEnd c b))) (λ m n. dmalpend m n) refl (λ ws m n h. h)
+    loop_end_read words) (λ n7.
     name_step word words (codes "DMASEV") _ _ _ refl (signal_reported words) (λ n8.
     name_step word words (codes "DMAWFE") _ _ _ refl (wait_reported words) (λ n9.
     name_step word words (codes "DMAMOV") _ _ _ refl (set_reported words) (λ n10.

@@ -1,11 +1,9 @@
 -- The numbers that words write.
-use Rattle.std.proofs.Common.{◌≡◌, ℕ, ◌+◌, ◌-◌, ◌*◌, ◌/◌, ◌%◌, ◌^◌, ◌<◌, ◌≤◌, Bool, true, false, ◌&&◌, List, [], ◌∷◌, length, get_or, refl, sym, ap, ◌∙◌, Option, Some, None, cond, eqb, leb, arith, inl, inr}
+use Rattle.std.proofs.Common.{◌≡◌, ℕ, ◌+◌, ◌-◌, ◌*◌, ◌/◌, ◌%◌, ◌^◌, ◌<◌, ◌≤◌, Bool, true, false, ◌&&◌, List, [], ◌∷◌, length, get_or, refl, sym, ap, ◌∙◌}
+use Rattle.std.proofs.Common.{Option, Some, None, cond, eqb, leb, arith, inl, inr}
 use Rattle.std.proofs.lemmas.Bool.{eqb-true, eqb-false, ne_eqb, leb-true, le-leb, lt-leb, le-ltb, lt-ltb, cases_lt, and_parts}
-use Rattle.std.specs.Option.{option_and_then}
-use Rattle.std.specs.Str.{all_ascii_digits}
-use Rattle.std.specs.Char.{is_ascii_digit, digit_value}
-use Rattle.std.specs.Str.Parse.{digits_value, digits_value_after}
-use Rattle.std.specs.Fmt.{digit_glyph}
+use Rattle.std.specs.{Option.option_and_then, Str.all_ascii_digits, Char.is_ascii_digit, Char.digit_value, Str.Parse.digits_value, Str.Parse.digits_value_after}
+use Rattle.std.specs.{Fmt.digit_glyph}
 use Rattle.dma_insn.specs.AssemblyText.{IsDecimal, value_word}
 use Rattle.dma_insn.specs.LineReading.{capped, digits_from, number_of, hex_digit_of, hex_from, value_of}
 
@@ -27,7 +25,8 @@ digits_read v (c ∷ cs) h =
     rw (t.0, same) (digits_read (v * 10 + digit_value c) cs t.1)
 
 -- what is read is digits
-digits_only_by : (b : Bool) (v k c : ℕ) (cs : List ℕ) → ((w : ℕ) → digits_from w cs ≡ Some k → all_ascii_digits cs ≡ true) → option_and_then (λ d. digits_from (capped (v * 10 + d)) cs) (cond b (Some (c - 48)) None) ≡ Some k → (b && all_ascii_digits cs) ≡ true
+digits_only_by : (b : Bool) (v k c : ℕ) (cs : List ℕ) → ((w : ℕ) → digits_from w cs ≡ Some k → all_ascii_digits cs ≡ true)
+    → option_and_then (λ d. digits_from (capped (v * 10 + d)) cs) (cond b (Some (c - 48)) None) ≡ Some k → (b && all_ascii_digits cs) ≡ true
 digits_only_by true v k c cs rest e = rest (capped (v * 10 + (c - 48))) e
 digits_only_by false v k c cs rest e = absurd (cc)
 
@@ -78,7 +77,15 @@ hex_digit_glyph d small = elim (cases_lt d 10) [
       rw (lt-ltb d 10 low, le-leb 48 (48 + d) (omega arith), le-leb (48 + d) 57 (omega arith), same) refl
   | inr high ↦
       let same : 55 + d - 55 ≡ d = omega arith in
-      rw (le-ltb d 10 high, le-leb 48 (55 + d) (omega arith), lt-leb (55 + d) 57 (omega arith), le-leb 65 (55 + d) (omega arith), le-leb (55 + d) 70 (omega arith), same) refl
+      rw (
+        le-ltb d 10 high,
+        le-leb 48 (55 + d) (omega arith),
+        lt-leb (55 + d) 57 (omega arith),
+        le-leb 65 (55 + d) (omega arith),
+        le-leb (55 + d) 70
+            (omega arith),
+        same,
+      ) refl
 ]
 
 -- A character that is a hexadecimal digit is the glyph of its value.
@@ -86,7 +93,8 @@ pub record IsHexDigit (c d : ℕ) : Type 0 where
   pub small : d < 16
   pub glyph : c ≡ digit_glyph true d
 
-hex_by : (c d : ℕ) (s t : Bool) → (leb 48 c && leb c 57) ≡ s → (leb 65 c && leb c 70) ≡ t → cond s (Some (c - 48)) (cond t (Some (c - 55)) None) ≡ Some d → IsHexDigit c d
+hex_by : (c d : ℕ) (s t : Bool) → (leb 48 c && leb c 57) ≡ s → (leb 65 c && leb c 70) ≡ t → cond s (Some (c - 48)) (cond t (Some (c - 55)) None) ≡ Some d
+    → IsHexDigit c d
 hex_by c d true t a b e =
     let value : c - 48 ≡ d = some_same (c - 48) d e in
     let parts = and_parts (leb 48 c) (leb c 57) a in
@@ -108,7 +116,8 @@ pub record HexStep (value c : ℕ) (rest : List ℕ) (v : ℕ) : Type 0 where
   pub is : IsHexDigit c digit
   pub more : hex_from (value * 16 + digit) rest ≡ Some v
 
-hex_step_by : (value c : ℕ) (rest : List ℕ) (v : ℕ) (o : Option ℕ) → hex_digit_of c ≡ o → option_and_then (λ d. hex_from (value * 16 + d) rest) o ≡ Some v → HexStep value c rest v
+hex_step_by : (value c : ℕ) (rest : List ℕ) (v : ℕ) (o : Option ℕ) → hex_digit_of c ≡ o → option_and_then (λ d. hex_from (value * 16 + d) rest) o ≡ Some v
+    → HexStep value c rest v
 hex_step_by value c rest v None is e = absurd (cc)
 hex_step_by value c rest v (Some d) is e = record { digit = d; is = hex_digit_is c d is; more = e }
 
@@ -122,7 +131,8 @@ pub record IsValueWord (word : List ℕ) (v : ℕ) : Type 0 where
 
 value_word_from : (p q r s t u w x v a b c d e f g h : ℕ)
     → IsHexDigit a p → IsHexDigit b q → IsHexDigit c r → IsHexDigit d s → IsHexDigit e t → IsHexDigit f u → IsHexDigit g w → IsHexDigit h x
-    → (((((((0 * 16 + p) * 16 + q) * 16 + r) * 16 + s) * 16 + t) * 16 + u) * 16 + w) * 16 + x ≡ v → IsValueWord (48 ∷ 120 ∷ a ∷ b ∷ c ∷ d ∷ e ∷ f ∷ g ∷ h ∷ []) v
+    → (((((((0 * 16 + p) * 16 + q) * 16 + r) * 16 + s) * 16 + t) * 16 + u) * 16 + w) * 16 + x ≡ v
+    → IsValueWord (48 ∷ 120 ∷ a ∷ b ∷ c ∷ d ∷ e ∷ f ∷ g ∷ h ∷ []) v
 value_word_from p q r s t u w x v a b c d e f g h i0 i1 i2 i3 i4 i5 i6 i7 value =
     let b0 : p < 16 = i0.small in let b1 : q < 16 = i1.small in let b2 : r < 16 = i2.small in let b3 : s < 16 = i3.small in
     let b4 : t < 16 = i4.small in let b5 : u < 16 = i5.small in let b6 : w < 16 = i6.small in let b7 : x < 16 = i7.small in
@@ -139,7 +149,8 @@ value_word_from p q r s t u w x v a b c d e f g h i0 i1 i2 i3 i4 i5 i6 i7 value 
       small = omega arith;
     }
 
-eight_digits : (a b c d e f g h v : ℕ) → hex_from 0 (a ∷ b ∷ c ∷ d ∷ e ∷ f ∷ g ∷ h ∷ []) ≡ Some v → IsValueWord (48 ∷ 120 ∷ a ∷ b ∷ c ∷ d ∷ e ∷ f ∷ g ∷ h ∷ []) v
+eight_digits : (a b c d e f g h v : ℕ) → hex_from 0 (a ∷ b ∷ c ∷ d ∷ e ∷ f ∷ g ∷ h ∷ []) ≡ Some v
+    → IsValueWord (48 ∷ 120 ∷ a ∷ b ∷ c ∷ d ∷ e ∷ f ∷ g ∷ h ∷ []) v
 eight_digits a b c d e f g h v read =
     let s0 = hex_step 0 a (b ∷ c ∷ d ∷ e ∷ f ∷ g ∷ h ∷ []) v read in
     let s1 = hex_step (0 * 16 + s0.digit) b (c ∷ d ∷ e ∷ f ∷ g ∷ h ∷ []) v s0.more in
@@ -148,9 +159,11 @@ eight_digits a b c d e f g h v read =
     let s4 = hex_step ((((0 * 16 + s0.digit) * 16 + s1.digit) * 16 + s2.digit) * 16 + s3.digit) e (f ∷ g ∷ h ∷ []) v s3.more in
     let s5 = hex_step (((((0 * 16 + s0.digit) * 16 + s1.digit) * 16 + s2.digit) * 16 + s3.digit) * 16 + s4.digit) f (g ∷ h ∷ []) v s4.more in
     let s6 = hex_step ((((((0 * 16 + s0.digit) * 16 + s1.digit) * 16 + s2.digit) * 16 + s3.digit) * 16 + s4.digit) * 16 + s5.digit) g (h ∷ []) v s5.more in
-    let s7 = hex_step (((((((0 * 16 + s0.digit) * 16 + s1.digit) * 16 + s2.digit) * 16 + s3.digit) * 16 + s4.digit) * 16 + s5.digit) * 16 + s6.digit) h [] v s6.more in
+    let s7 = hex_step (((((((0 * 16 + s0.digit) * 16 + s1.digit) * 16 + s2.digit) * 16 + s3.digit) * 16 + s4.digit) * 16 + s5.digit) * 16 + s6.digit) h [] v
+    s6.more in
     value_word_from s0.digit s1.digit s2.digit s3.digit s4.digit s5.digit s6.digit s7.digit v a b c d e f g h s0.is s1.is s2.is s3.is s4.is s5.is s6.is s7.is
-    (some_same ((((((((0 * 16 + s0.digit) * 16 + s1.digit) * 16 + s2.digit) * 16 + s3.digit) * 16 + s4.digit) * 16 + s5.digit) * 16 + s6.digit) * 16 + s7.digit) v s7.more)
+    (some_same ((((((((0 * 16 + s0.digit) * 16 + s1.digit) * 16 + s2.digit) * 16 + s3.digit) * 16 + s4.digit) * 16 + s5.digit) * 16 + s6.digit) * 16 + s7.digit)
+    v s7.more)
 
 -- the same of eight digits
 eight_of : (digits : List ℕ) (v : ℕ) → length digits ≡ 8 → hex_from 0 digits ≡ Some v → IsValueWord (48 ∷ 120 ∷ digits) v
@@ -166,7 +179,8 @@ eight_of (a ∷ b ∷ c ∷ d ∷ g ∷ h ∷ i ∷ j ∷ []) v n e = eight_digi
 eight_of (a ∷ b ∷ c ∷ d ∷ g ∷ h ∷ i ∷ j ∷ k ∷ rest) v n e = absurd (omega arith)
 
 -- A word that is read as a value is the value's.
-value_of_by : (x y z : Bool) (a b : ℕ) (digits : List ℕ) (v : ℕ) → eqb a 48 ≡ x → eqb b 120 ≡ y → eqb (length digits) 8 ≡ z → cond (x && (y && z)) (hex_from 0 digits) None ≡ Some v → IsValueWord (a ∷ b ∷ digits) v
+value_of_by : (x y z : Bool) (a b : ℕ) (digits : List ℕ) (v : ℕ) → eqb a 48 ≡ x → eqb b 120 ≡ y → eqb (length digits) 8 ≡ z
+    → cond (x && (y && z)) (hex_from 0 digits) None ≡ Some v → IsValueWord (a ∷ b ∷ digits) v
 value_of_by true true true a b digits v x y z e =
     rw (eqb-true a 48 x, eqb-true b 120 y) (eight_of digits v (eqb-true (length digits) 8 z) e)
 value_of_by true true false a b digits v x y z e = absurd (cc)
@@ -181,6 +195,18 @@ value_of_reads (a ∷ b ∷ digits) v e = value_of_by (eqb a 48) (eqb b 120) (eq
 -- The word of a value is read as it.
 pub value_of_word : (v : ℕ) → v < 2 ^ 32 → value_of (value_word v) ≡ Some v
 value_of_word v small =
-    let whole : (((((((0 * 16 + v / 0x10000000 % 16) * 16 + v / 0x1000000 % 16) * 16 + v / 0x100000 % 16) * 16 + v / 0x10000 % 16) * 16 + v / 0x1000 % 16) * 16 + v / 0x100 % 16) * 16 + v / 0x10 % 16) * 16 + v / 0x1 % 16 ≡ v = omega arith in
-    rw (hex_digit_glyph (v / 0x10000000 % 16) (omega arith), hex_digit_glyph (v / 0x1000000 % 16) (omega arith), hex_digit_glyph (v / 0x100000 % 16) (omega arith), hex_digit_glyph (v / 0x10000 % 16) (omega arith), hex_digit_glyph (v / 0x1000 % 16) (omega arith), hex_digit_glyph (v / 0x100 % 16) (omega arith), hex_digit_glyph (v / 0x10 % 16) (omega arith), hex_digit_glyph (v / 0x1 % 16) (omega arith))
+    let whole : (((((((0 * 16 + v / 0x10000000 % 16) * 16 + v / 0x1000000 % 16) * 16 + v / 0x100000 % 16) * 16 + v / 0x10000 % 16) * 16 + v / 0x1000 % 16) * 16
+    + v / 0x100 % 16) * 16 + v / 0x10 % 16) * 16 + v / 0x1 % 16 ≡ v = omega arith in
+    rw (
+      hex_digit_glyph (v / 0x10000000 % 16) (omega arith),
+      hex_digit_glyph (v / 0x1000000 % 16) (omega arith),
+      hex_digit_glyph (v / 0x100000 % 16)
+          (omega arith),
+      hex_digit_glyph (v / 0x10000 % 16) (omega arith),
+      hex_digit_glyph (v / 0x1000 % 16) (omega arith),
+      hex_digit_glyph (v / 0x100 % 16)
+          (omega arith),
+      hex_digit_glyph (v / 0x10 % 16) (omega arith),
+      hex_digit_glyph (v / 0x1 % 16) (omega arith),
+    )
     (ap Some whole)

@@ -1,17 +1,13 @@
 -- A program has only one text in which no line is skipped and each is ended.
 use Rattle.std.proofs.Common.{◌≡◌, ℕ, ◌^◌, ◌<◌, Bool, true, false, List, [], ◌∷◌, ◌++◌, map, refl, sym, ap, ◌∙◌, subst, Some, None, cond, eqb, arith, drop}
-use Rattle.std.specs.Prelude.{codes, decimal, flat_map, MatchBool}
-use Rattle.std.specs.List.{list_any}
-use Rattle.std.specs.Option.{option_and_then}
-use Rattle.std.proofs.lemmas.Bool.{eqb-true, false≢true, or_parts}
-use Rattle.std.proofs.lemmas.Fmt.{decimal-digits_value}
-use Rattle.dma_insn.specs.declared.insn.Counter.{Counter}
-use Rattle.dma_insn.specs.declared.insn.Counter.TheVariants.{Lc0, Lc1}
-use Rattle.dma_insn.specs.declared.insn.Insn.{Insn}
+use Rattle.std.specs.{Prelude.codes, Prelude.decimal, Prelude.flat_map, Prelude.MatchBool, List.list_any, List.onto_first, Option.option_and_then}
+use Rattle.std.proofs.{lemmas.Bool.eqb-true, lemmas.Bool.false≢true, lemmas.Bool.or_parts, lemmas.Fmt.decimal-digits_value}
 use Rattle.dma_insn.specs.declared.insn.Insn.TheVariants.{Mov, Ld, St, Rmb, Wmb, Nop, End, Lp, LpEnd, Sev, Wfe}
-use Rattle.dma_insn.specs.Spelling.{HasRanges}
-use Rattle.dma_insn.specs.AssemblyText.{onto_first, text_lines, words_of, is_skipped, IsDecimal, Statement, dmaend, dmald, dmast, dmarmb, dmawmb, dmanop, dmalp, dmalpend, dmasev, dmawfe, dmamov, HasNumber, HasTwoNumbers, IsWritten, insn_of, Writes, WritesFirst, WriteAll, ProgramText}
-use Rattle.dma_insn.specs.Disassembly.{AllInRange, counter_number, insn_text, text_of}
+use Rattle.dma_insn.specs.AssemblyText.{words_of, is_skipped, IsDecimal, Statement, dmaend, dmald, dmast, dmarmb, dmawmb, dmanop, dmalp, dmalpend, dmasev}
+use Rattle.dma_insn.specs.AssemblyText.{dmawfe, dmamov, HasNumber, HasTwoNumbers, IsWritten, insn_of, Writes, WritesFirst, WriteAll, ProgramText}
+use Rattle.dma_insn.specs.{declared.insn.Counter.Counter, declared.insn.Counter.TheVariants.Lc0, declared.insn.Counter.TheVariants.Lc1, declared.insn.Insn.Insn}
+use Rattle.dma_insn.specs.{Spelling.HasRanges, Disassembly.AllInRange, Disassembly.counter_number, Disassembly.insn_text, Disassembly.text_of}
+use Rattle.dma_text.specs.Lines.{text_lines}
 use Rattle.dma_insn.proofs.Texts.{own, insn_text_writes, lines_ended}
 
 -- words with a space before each
@@ -22,7 +18,8 @@ spaced_onto : (b : ℕ) (ws : List (List ℕ)) (rest : List ℕ) → spaced ws �
 spaced_onto b [] rest e = cc
 spaced_onto b (w ∷ ws) rest e = let more : w ++ spaced ws ≡ rest = cc in ap (λ (l : List ℕ). 32 ∷ b ∷ l) more
 
-spaced_by : (b : ℕ) (rest : List ℕ) (t : Bool) → eqb b 32 ≡ t → spaced (words_of rest) ≡ 32 ∷ rest → spaced (cond t ([] ∷ words_of rest) (onto_first b (words_of rest))) ≡ 32 ∷ b ∷ rest
+spaced_by : (b : ℕ) (rest : List ℕ) (t : Bool) → eqb b 32 ≡ t → spaced (words_of rest) ≡ 32 ∷ rest
+    → spaced (cond t ([] ∷ words_of rest) (onto_first b (words_of rest))) ≡ 32 ∷ b ∷ rest
 spaced_by b rest true e again = ap (λ (l : List ℕ). 32 ∷ l) again ∙ ap (λ (k : ℕ). 32 ∷ k ∷ rest) (sym (eqb-true b 32 e))
 spaced_by b rest false e again = spaced_onto b (words_of rest) rest again
 
@@ -117,9 +114,11 @@ written_of line i w = subst (IsWritten (words_of line)) (statement_is w.statemen
 
 -- An instruction has one line.
 line_is : (line : List ℕ) (i : Insn) → HasRanges i → Writes line i → line ≡ insn_text i
-line_is line i r w = same_line line (insn_text i) (same_words i (words_of line) (words_of (insn_text i)) r (written_of line i w) (written_of (insn_text i) i (insn_text_writes i r)))
+line_is line i r w = same_line line (insn_text i)
+    (same_words i (words_of line) (words_of (insn_text i)) r (written_of line i w) (written_of (insn_text i) i (insn_text_writes i r)))
 
-lines_by : (line : List ℕ) (lines : List (List ℕ)) (is : List Insn) (t : Bool) → t ≡ false → MatchBool t (WriteAll lines is) (WritesFirst line is (λ rest. WriteAll lines rest)) → AllInRange is
+lines_by : (line : List ℕ) (lines : List (List ℕ)) (is : List Insn) (t : Bool) → t ≡ false
+    → MatchBool t (WriteAll lines is) (WritesFirst line is (λ rest. WriteAll lines rest)) → AllInRange is
     → ((js : List Insn) → WriteAll lines js → AllInRange js → lines ≡ map insn_text js) → line ∷ lines ≡ map insn_text is
 lines_by line lines is true e h r more = absurd (false≢true (sym e))
 lines_by line lines is false e h r more =
@@ -133,6 +132,7 @@ lines_are (line ∷ lines) is h r none =
     let parts = or_parts (is_skipped line) (list_any is_skipped lines) none in
     lines_by line lines is (is_skipped line) parts.0 h r (λ js written ranges. lines_are lines js written ranges parts.1)
 
-pub one_way : (text : List ℕ) (is : List Insn) → AllInRange is → ProgramText text is → list_any is_skipped (text_lines text) ≡ false → text ≡ flat_map (λ line. line ++ 10 ∷ []) (text_lines text) → text ≡ text_of is
+pub one_way : (text : List ℕ) (is : List Insn) → AllInRange is → ProgramText text is → list_any is_skipped (text_lines text) ≡ false
+    → text ≡ flat_map (λ line. line ++ 10 ∷ []) (text_lines text) → text ≡ text_of is
 one_way text is r h none ended =
     ended ∙ ap (flat_map (λ line. line ++ 10 ∷ [])) (lines_are (text_lines text) is h r none) ∙ sym (lines_ended is)

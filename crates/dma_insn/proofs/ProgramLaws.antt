@@ -1,18 +1,16 @@
 -- The result of reading a text, line after line, compared with what its lines write.
-use Rattle.std.proofs.Common.{◌≡◌, ℕ, ◌+◌, ◌<◌, ◌≤◌, Bool, true, false, List, [], ◌∷◌, ◌++◌, ◌≢◌, length, refl, sym, ap, ◌∙◌, subst, Option, Some, None, Result, Ok, Err, cond, leb, arith, append_assoc, append-nil, length-append, inl, inr, ◌⊎◌}
-use Rattle.std.specs.Prelude.{MatchResult, MatchBool, IfOk, IfErr, IsOk}
-use Rattle.std.specs.Option.{ok_or}
-use Rattle.std.specs.List.{list_any}
-use Rattle.std.specs.Str.{bytes_eq}
+use Rattle.std.proofs.Common.{◌≡◌, ℕ, ◌+◌, ◌<◌, ◌≤◌, Bool, true, false, List, [], ◌∷◌, ◌++◌, ◌≢◌, length, refl, sym, ap, ◌∙◌, subst, Option, Some, None, Result}
+use Rattle.std.proofs.Common.{Ok, Err, cond, leb, arith, append_assoc, append-nil, length-append, inl, inr, ◌⊎◌}
+use Rattle.std.specs.{Prelude.MatchResult, Prelude.MatchBool, Prelude.IfOk, Prelude.IfErr, Prelude.IsOk, Option.ok_or, List.list_any, Str.bytes_eq}
 use Rattle.std.proofs.lemmas.Bool.{leb-true, leb-false, le-leb, lt-leb, false≢true}
-use Rattle.dma_insn.specs.Spelling.{spelling}
-use Rattle.dma_insn.specs.declared.insn.Insn.{Insn}
-use Rattle.dma_insn.specs.declared.assembler.AsmCause.{AsmCause}
 use Rattle.dma_insn.specs.declared.assembler.AsmCause.TheVariants.{Mnemonic, Operand, Range}
-use Rattle.dma_insn.specs.declared.assembler.AsmFault.{AsmFault}
 use Rattle.dma_insn.specs.declared.assembler.AsmFault.TheVariants.{Line, ProgramTooLong, NoMemory}
-use Rattle.dma_insn.specs.AssemblyText.{text_lines, words_of, is_skipped, Statement, dmaend, dmald, dmast, dmarmb, dmawmb, dmanop, dmalp, dmalpend, dmasev, dmawfe, dmamov, IsWritten, insn_of, names, first_of, Writes, IsCause, HasCause, WritesFirst, WriteAll, joined, most_program_bytes, Assembles, IsLineAt, IsFirstFault}
-use Rattle.dma_insn.specs.LineReading.{◌>>=◌, at_line, with_insn, line_in, after_line, after_lines, assembled, ReadingReports, ResultIsOrNoMemory}
+use Rattle.dma_insn.specs.AssemblyText.{words_of, is_skipped, Statement, dmaend, dmald, dmast, dmarmb, dmawmb, dmanop, dmalp, dmalpend, dmasev, dmawfe, dmamov}
+use Rattle.dma_insn.specs.AssemblyText.{IsWritten, insn_of, names, first_of, Writes, IsCause, HasCause, WritesFirst, WriteAll, joined, most_program_bytes}
+use Rattle.dma_insn.specs.AssemblyText.{Assembles, IsLineAt, IsFirstFault}
+use Rattle.dma_insn.specs.LineReading.{at_line, with_insn, line_in, after_line, after_lines, assembled, ReadingReports, ResultIsOrNoMemory}
+use Rattle.dma_insn.specs.{Spelling.spelling, declared.insn.Insn.Insn, declared.assembler.AsmCause.AsmCause, declared.assembler.AsmFault.AsmFault}
+use Rattle.dma_text.specs.{Lines.text_lines, Results.◌>>=◌}
 use Rattle.dma_insn.proofs.LineLaws.{IsReported, line_in_reported, line_in_written}
 
 not_operand : (o : Option Insn) → ok_or o Range ≡ Err Operand → ⊥
@@ -82,7 +80,8 @@ record Adds (program next line : List ℕ) (front : List Insn) : Type 0 where
   writes : (lines : List (List ℕ)) (is : List Insn) → WriteAll lines is → WriteAll (line ∷ lines) (front ++ is)
   joins : (is : List Insn) → next ++ joined is ≡ program ++ joined (front ++ is)
 
-place_behind : (n m : ℕ) (program next line at : List ℕ) (lines : List (List ℕ)) (front insns : List Insn) → Adds program next line front → Place (n + 1) next lines at m insns → Place n program (line ∷ lines) at m (front ++ insns)
+place_behind : (n m : ℕ) (program next line at : List ℕ) (lines : List (List ℕ)) (front insns : List Insn) → Adds program next line front
+    → Place (n + 1) next lines at m insns → Place n program (line ∷ lines) at m (front ++ insns)
 place_behind n m program next line at lines front insns adds p = record {
   before = line ∷ p.before;
   after = p.after;
@@ -102,11 +101,18 @@ place_here n program line lines small = record {
   fits = let same = length-append program [] in omega arith;
 }
 
-outcome_behind : (n : ℕ) (program next line : List ℕ) (lines : List (List ℕ)) (front : List Insn) (r : Result (List ℕ) AsmFault) → Adds program next line front → Outcome (n + 1) next lines r → Outcome n program (line ∷ lines) r
+outcome_behind : (n : ℕ) (program next line : List ℕ) (lines : List (List ℕ)) (front : List Insn) (r : Result (List ℕ) AsmFault) → Adds program next line front
+    → Outcome (n + 1) next lines r → Outcome n program (line ∷ lines) r
 outcome_behind n program next line lines front (Ok bytes) adds h =
     record { insns = front ++ h.insns; writes = adds.writes lines h.insns h.writes; bytes_are = h.bytes_are ∙ adds.joins h.insns; fits = h.fits }
 outcome_behind n program next line lines front (Err (Line m cause)) adds h =
-    record { line = h.line; insns = front ++ h.insns; place = place_behind n m program next line h.line lines front h.insns adds h.place; cause_is = h.cause_is }
+    record {
+      line = h.line;
+      insns = front ++ h.insns;
+      place = place_behind n m program next line h.line lines front h.insns adds h.place;
+      cause_is =
+          h.cause_is;
+    }
 outcome_behind n program next line lines front (Err (ProgramTooLong m)) adds h =
     record {
       line = h.line;
@@ -119,20 +125,23 @@ outcome_behind n program next line lines front (Err (ProgramTooLong m)) adds h =
 outcome_behind n program next line lines front (Err NoMemory) adds h = h
 
 -- a line that is not skipped, by what its words are read as, and whether there is room
-outcome_room : (n : ℕ) (program line : List ℕ) (lines : List (List ℕ)) (i : Insn) (b : Bool) → leb (length program + length (spelling i)) 8192 ≡ b → length program ≤ most_program_bytes → Writes line i
+outcome_room : (n : ℕ) (program line : List ℕ) (lines : List (List ℕ)) (i : Insn) (b : Bool) → leb (length program + length (spelling i)) 8192 ≡ b
+    → length program ≤ most_program_bytes → Writes line i
     → ((next : List ℕ) → length next ≤ most_program_bytes → Outcome (n + 1) next lines (after_lines (n + 1) next lines))
     → Outcome n program (line ∷ lines) (cond b (Ok (program ++ spelling i)) (Err (ProgramTooLong (n + 1))) >>= λ next. after_lines (n + 1) next lines)
 outcome_room n program line lines i true e small w more =
     let room : length program + length (spelling i) ≤ 8192 = leb-true _ 8192 e in
     let same = length-append program (spelling i) in
     outcome_behind n program (program ++ spelling i) line lines (i ∷ []) _
-    (record { writes = λ ls is h. write_more line ls i is w h; joins = λ is. append_assoc program (spelling i) (joined is) }) (more (program ++ spelling i) (omega arith))
+    (record { writes = λ ls is h. write_more line ls i is w h; joins = λ is. append_assoc program (spelling i) (joined is) })
+    (more (program ++ spelling i) (omega arith))
 outcome_room n program line lines i false e small w more =
     let none : 8192 < length program + length (spelling i) = leb-false _ 8192 e in
     let same = length-append program [] in
     record { line = line; insns = []; insn = i; place = place_here n program line lines small; writes = w; long = omega arith }
 
-outcome_line : (n : ℕ) (program line : List ℕ) (lines : List (List ℕ)) (r : Result Insn AsmCause) → line_in (words_of line) ≡ r → length program ≤ most_program_bytes → is_skipped line ≡ false
+outcome_line : (n : ℕ) (program line : List ℕ) (lines : List (List ℕ)) (r : Result Insn AsmCause) → line_in (words_of line) ≡ r
+    → length program ≤ most_program_bytes → is_skipped line ≡ false
     → ((next : List ℕ) → length next ≤ most_program_bytes → Outcome (n + 1) next lines (after_lines (n + 1) next lines))
     → Outcome n program (line ∷ lines) ((at_line (n + 1) r >>= with_insn (n + 1) program) >>= λ next. after_lines (n + 1) next lines)
 outcome_line n program line lines (Err cause) e small taken more =
@@ -142,7 +151,8 @@ outcome_line n program line lines (Ok i) e small taken more =
 
 outcome_by : (n : ℕ) (program line : List ℕ) (lines : List (List ℕ)) (b : Bool) → is_skipped line ≡ b → length program ≤ most_program_bytes
     → ((next : List ℕ) → length next ≤ most_program_bytes → Outcome (n + 1) next lines (after_lines (n + 1) next lines))
-    → Outcome n program (line ∷ lines) (cond b (Ok program) (at_line (n + 1) (line_in (words_of line)) >>= with_insn (n + 1) program) >>= λ next. after_lines (n + 1) next lines)
+    → Outcome n program (line ∷ lines)
+    (cond b (Ok program) (at_line (n + 1) (line_in (words_of line)) >>= with_insn (n + 1) program) >>= λ next. after_lines (n + 1) next lines)
 outcome_by n program line lines true e small more =
     outcome_behind n program program line lines [] _ (record { writes = λ ls is h. rw e h; joins = λ is. refl }) (more program small)
 outcome_by n program line lines false e small more = outcome_line n program line lines (line_in (words_of line)) refl small e more
@@ -156,7 +166,8 @@ outcome (line ∷ lines) n program small =
     outcome_by n program line lines (is_skipped line) refl small (λ next fits. outcome lines (n + 1) next fits)
 
 -- The lines that write some instructions are read as them, if there is room.
-read_room : (n : ℕ) (program : List ℕ) (line : List ℕ) (i : Insn) → is_skipped line ≡ false → line_in (words_of line) ≡ Ok i → length program + length (spelling i) ≤ 8192 → after_line n program line ≡ Ok (program ++ spelling i)
+read_room : (n : ℕ) (program : List ℕ) (line : List ℕ) (i : Insn) → is_skipped line ≡ false → line_in (words_of line) ≡ Ok i
+    → length program + length (spelling i) ≤ 8192 → after_line n program line ≡ Ok (program ++ spelling i)
 unfolding after_line
 read_room n program line i taken e room = rw (taken, e, le-leb _ 8192 room) refl
 
@@ -164,29 +175,35 @@ read_skipped : (n : ℕ) (program line : List ℕ) → is_skipped line ≡ true 
 unfolding after_line
 read_skipped n program line e = rw e refl
 
-read_fault : (n : ℕ) (program line : List ℕ) (cause : AsmCause) → is_skipped line ≡ false → line_in (words_of line) ≡ Err cause → after_line n program line ≡ Err (Line n cause)
+read_fault : (n : ℕ) (program line : List ℕ) (cause : AsmCause) → is_skipped line ≡ false → line_in (words_of line) ≡ Err cause
+    → after_line n program line ≡ Err (Line n cause)
 unfolding after_line
 read_fault n program line cause taken e = rw (taken, e) refl
 
-read_long : (n : ℕ) (program line : List ℕ) (i : Insn) → is_skipped line ≡ false → line_in (words_of line) ≡ Ok i → 8192 < length program + length (spelling i) → after_line n program line ≡ Err (ProgramTooLong n)
+read_long : (n : ℕ) (program line : List ℕ) (i : Insn) → is_skipped line ≡ false → line_in (words_of line) ≡ Ok i → 8192 < length program + length (spelling i)
+    → after_line n program line ≡ Err (ProgramTooLong n)
 unfolding after_line
 read_long n program line i taken e long = rw (taken, e, lt-leb _ 8192 long) refl
 
 -- the same, in front of further lines
 again_by : (b : Bool) (line : List ℕ) (lines after : List (List ℕ)) (n : ℕ) (program : List ℕ) (is : List Insn) → is_skipped line ≡ b
     → MatchBool b (WriteAll lines is) (WritesFirst line is (λ rest. WriteAll lines rest))
-    → ((next : List ℕ) (js : List Insn) → WriteAll lines js → length (next ++ joined js) ≤ most_program_bytes → after_lines (n + 1) next (lines ++ after) ≡ after_lines (n + 1 + length lines) (next ++ joined js) after)
-    → length (program ++ joined is) ≤ most_program_bytes → after_lines n program (line ∷ (lines ++ after)) ≡ after_lines (n + 1 + length lines) (program ++ joined is) after
+    → ((next : List ℕ) (js : List Insn) → WriteAll lines js → length (next ++ joined js) ≤ most_program_bytes
+    → after_lines (n + 1) next (lines ++ after) ≡ after_lines (n + 1 + length lines) (next ++ joined js) after)
+    → length (program ++ joined is) ≤ most_program_bytes
+    → after_lines n program (line ∷ (lines ++ after)) ≡ after_lines (n + 1 + length lines) (program ++ joined is) after
 again_by true line lines after n program is e h more room = rw (read_skipped (n + 1) program line e) (more program is h room)
 again_by false line lines after n program is e h more room =
-    let all : program ++ joined is ≡ (program ++ spelling h.first) ++ joined h.rest = ap (λ (js : List Insn). program ++ joined js) h.are ∙ sym (append_assoc program (spelling h.first) (joined h.rest)) in
+    let all : program ++ joined is ≡ (program ++ spelling h.first) ++ joined h.rest = ap (λ (js : List Insn). program ++ joined js) h.are
+    ∙ sym (append_assoc program (spelling h.first) (joined h.rest)) in
     let size : length (program ++ joined is) ≡ length ((program ++ spelling h.first) ++ joined h.rest) = ap length all in
     let first = length-append program (spelling h.first) in
     let rest = length-append (program ++ spelling h.first) (joined h.rest) in
     rw (read_room (n + 1) program line h.first e (writes_read line h.first h.writes) (omega arith))
     (more (program ++ spelling h.first) h.rest h.more (omega arith) ∙ ap (λ (p : List ℕ). after_lines (n + 1 + length lines) p after) (sym all))
 
-again_before : (lines after : List (List ℕ)) (n : ℕ) (program : List ℕ) (is : List Insn) → WriteAll lines is → length (program ++ joined is) ≤ most_program_bytes
+again_before : (lines after : List (List ℕ)) (n : ℕ) (program : List ℕ) (is : List Insn) → WriteAll lines is
+    → length (program ++ joined is) ≤ most_program_bytes
     → after_lines n program (lines ++ after) ≡ after_lines (n + length lines) (program ++ joined is) after
 again_before [] after n program is h room =
     let e : n ≡ n + 0 = omega arith in
@@ -196,7 +213,8 @@ again_before (line ∷ lines) after n program is h room =
     again_by (is_skipped line) line lines after n program is refl h (λ next js written fits. again_before lines after (n + 1) next js written fits) room
     ∙ ap (λ (m : ℕ). after_lines m (program ++ joined is) after) e
 
-again : (lines : List (List ℕ)) (n : ℕ) (program : List ℕ) (is : List Insn) → WriteAll lines is → length (program ++ joined is) ≤ most_program_bytes → after_lines n program lines ≡ Ok (program ++ joined is)
+again : (lines : List (List ℕ)) (n : ℕ) (program : List ℕ) (is : List Insn) → WriteAll lines is → length (program ++ joined is) ≤ most_program_bytes
+    → after_lines n program lines ≡ Ok (program ++ joined is)
 again lines n program is h room = ap (after_lines n program) (sym (append-nil lines)) ∙ again_before lines [] n program is h room
 
 -- A text that assembles is read as its bytes.
@@ -236,7 +254,8 @@ some_bytes text (Ok bytes) e ok = (bytes, assembled_ok text bytes e)
 some_bytes text (Err fault) e ok = absurd (false≢true ok)
 
 -- The clauses of `assemble`, by what reading the text gives.
-pub if_program : {X : Type 0} (view : X → List ℕ) (text : List ℕ) (r : Result X AsmFault) → ResultIsOrNoMemory view r (assembled text) → IfOk r (λ x. Assembles text (view x))
+pub if_program : {X : Type 0} (view : X → List ℕ) (text : List ℕ) (r : Result X AsmFault) → ResultIsOrNoMemory view r (assembled text)
+    → IfOk r (λ x. Assembles text (view x))
 if_program view text (Ok x) h = assembled_ok text (view x) h
 if_program view text (Err fault) h = tt
 
@@ -244,18 +263,21 @@ fault_by : (text : List ℕ) (fault : AsmFault) → ((assembled text ≡ Err fau
 fault_by text fault (inl e) = assembled_err text fault e
 fault_by text fault (inr h) = subst (IsFirstFault text) (sym h.0) (some_bytes text (assembled text) refl h.1)
 
-pub if_fault : {X : Type 0} (view : X → List ℕ) (text : List ℕ) (r : Result X AsmFault) → ResultIsOrNoMemory view r (assembled text) → IfErr r (λ fault. IsFirstFault text fault)
+pub if_fault : {X : Type 0} (view : X → List ℕ) (text : List ℕ) (r : Result X AsmFault) → ResultIsOrNoMemory view r (assembled text)
+    → IfErr r (λ fault. IsFirstFault text fault)
 if_fault view text (Ok x) h = tt
 if_fault view text (Err fault) h = fault_by text fault h
 
 ok_same : (r : Result (List ℕ) AsmFault) (a b : List ℕ) → r ≡ Ok a → r ≡ Ok b → a ≡ b
 ok_same r a b p q = cc
 
-only_by : (text bytes : List ℕ) (fault : AsmFault) → assembled text ≡ Ok bytes → ((assembled text ≡ Err fault) ⊎ ((fault ≡ NoMemory) × IsOk (assembled text))) → fault ≡ NoMemory
+only_by : (text bytes : List ℕ) (fault : AsmFault) → assembled text ≡ Ok bytes → ((assembled text ≡ Err fault) ⊎ ((fault ≡ NoMemory) × IsOk (assembled text)))
+    → fault ≡ NoMemory
 only_by text bytes fault e (inl f) = absurd (let bad : Ok bytes ≡ Err fault = sym e ∙ f in cc)
 only_by text bytes fault e (inr h) = h.0
 
-pub if_only : {X : Type 0} (view : X → List ℕ) (text : List ℕ) (r : Result X AsmFault) → ResultIsOrNoMemory view r (assembled text) → (bytes : List ℕ) → Assembles text bytes → MatchResult r (λ x. view x ≡ bytes) (λ fault. fault ≡ NoMemory)
+pub if_only : {X : Type 0} (view : X → List ℕ) (text : List ℕ) (r : Result X AsmFault) → ResultIsOrNoMemory view r (assembled text) → (bytes : List ℕ)
+    → Assembles text bytes → MatchResult r (λ x. view x ≡ bytes) (λ fault. fault ≡ NoMemory)
 if_only view text (Ok x) h bytes a = ok_same (assembled text) (view x) bytes h (assembled_again text bytes a)
 if_only view text (Err fault) h bytes a = only_by text bytes fault (assembled_again text bytes a) h
 
@@ -279,7 +301,8 @@ written_name words (dmawfe e true) h = rw h.words_are refl
 written_name words (dmamov r v) h = rw h.words_are refl
 
 -- What a line with a cause is read as.
-cause_by : (line : List ℕ) (cause : AsmCause) (r : Result Insn AsmCause) → line_in (words_of line) ≡ r → IsReported (words_of line) r → IsCause line cause → r ≡ Err cause
+cause_by : (line : List ℕ) (cause : AsmCause) (r : Result Insn AsmCause) → line_in (words_of line) ≡ r → IsReported (words_of line) r → IsCause line cause
+    → r ≡ Err cause
 cause_by line Mnemonic (Ok i) e reported h = absurd (false≢true (sym h ∙ written_name (words_of line) reported.0 reported.1))
 cause_by line Mnemonic (Err Mnemonic) e reported h = refl
 cause_by line Mnemonic (Err Operand) e reported h = absurd (false≢true (sym h ∙ reported))
@@ -294,7 +317,8 @@ cause_read : (line : List ℕ) (cause : AsmCause) → IsCause line cause → lin
 cause_read line cause h = cause_by line cause (line_in (words_of line)) refl (line_in_reported (words_of line)) h
 
 -- The lines before a place are read as what they write.
-read_before : (text line : List ℕ) (n : ℕ) (insns : List Insn) (at : IsLineAt text line n insns) → assembled text ≡ after_lines (length at.before) (joined insns) (line ∷ at.after)
+read_before : (text line : List ℕ) (n : ℕ) (insns : List Insn) (at : IsLineAt text line n insns)
+    → assembled text ≡ after_lines (length at.before) (joined insns) (line ∷ at.after)
 read_before text line n insns at =
     let e : 0 + length at.before ≡ length at.before = omega arith in
     ap (after_lines 0 []) at.lines_are ∙ again_before at.before (line ∷ at.after) 0 [] insns at.writes at.fits
@@ -304,18 +328,21 @@ read_before text line n insns at =
 fault_read : (text : List ℕ) (fault : AsmFault) → fault ≢ NoMemory → IsFirstFault text fault → assembled text ≡ Err fault
 fault_read text (Line n cause) other h =
     let at = h.2 in
-    let here : after_line (length at.before + 1) (joined h.1) h.0 ≡ Err (Line (length at.before + 1) cause) = read_fault _ (joined h.1) h.0 cause h.3.taken (cause_read h.0 cause h.3.cause_is) in
+    let here : after_line (length at.before + 1) (joined h.1) h.0 ≡ Err (Line (length at.before + 1) cause) =
+    read_fault _ (joined h.1) h.0 cause h.3.taken (cause_read h.0 cause h.3.cause_is) in
     read_before text h.0 n h.1 at ∙ rw here (ap (λ (m : ℕ). Err (Line m cause)) (sym at.number))
 fault_read text (ProgramTooLong n) other h =
     let at = h.3 in
-    let here : after_line (length at.before + 1) (joined h.1) h.0 ≡ Err (ProgramTooLong (length at.before + 1)) = read_long _ (joined h.1) h.0 h.2 h.4.taken (writes_read h.0 h.2 h.4) h.5 in
+    let here : after_line (length at.before + 1) (joined h.1) h.0 ≡ Err (ProgramTooLong (length at.before + 1)) =
+    read_long _ (joined h.1) h.0 h.2 h.4.taken (writes_read h.0 h.2 h.4) h.5 in
     read_before text h.0 n h.1 at ∙ rw here (ap (λ (m : ℕ). Err (ProgramTooLong m)) (sym at.number))
 fault_read text NoMemory other h = absurd (other refl)
 
 -- Reading never gives `NoMemory`.
 no_memory_never : (text : List ℕ) (fault : AsmFault) → assembled text ≡ Err fault → fault ≢ NoMemory
 no_memory_never text fault e is =
-    let bad : Outcome 0 [] (text_lines text) (Err NoMemory) = subst (Outcome 0 [] (text_lines text)) (e ∙ ap Err is) (outcome (text_lines text) 0 [] (omega arith)) in
+    let bad : Outcome 0 [] (text_lines text) (Err NoMemory) =
+    subst (Outcome 0 [] (text_lines text)) (e ∙ ap Err is) (outcome (text_lines text) 0 [] (omega arith)) in
     bad
 
 pub reading_reports : ReadingReports

@@ -1,21 +1,19 @@
 -- The text that instructions are written as is the text of these instructions.
-use Rattle.std.proofs.Common.{◌≡◌, ℕ, ◌+◌, ◌/◌, ◌%◌, ◌^◌, ◌<◌, ◌≤◌, Bool, true, false, List, [], ◌∷◌, ◌++◌, map, length, get_or, refl, sym, ap, ◌∙◌, subst, Some, ltb, arith, append_assoc, append-nil, inl, inr}
-use Rattle.std.specs.Prelude.{codes, decimal, flat_map}
-use Rattle.std.specs.List.{list_all, list_any}
-use Rattle.std.specs.Str.{all_ascii_digits}
-use Rattle.std.specs.Str.Parse.{digits_value}
-use Rattle.std.specs.Fmt.{digit_glyph}
+use Rattle.std.proofs.Common.{◌≡◌, ℕ, ◌+◌, ◌/◌, ◌%◌, ◌^◌, ◌<◌, ◌≤◌, Bool, true, false, List, [], ◌∷◌, ◌++◌, map, length, get_or, refl, sym, ap, ◌∙◌, subst}
+use Rattle.std.proofs.Common.{Some, ltb, arith, append_assoc, append-nil, inl, inr}
+use Rattle.std.specs.{Prelude.codes, Prelude.decimal, Prelude.flat_map, List.list_all, List.list_any, List.onto_first, Str.all_ascii_digits}
+use Rattle.std.specs.{Str.Parse.digits_value, Fmt.digit_glyph}
 use Rattle.std.proofs.lemmas.Bool.{and_parts, and_from, ltb-true, lt-ltb, le-ltb, ne_eqb, le-leb, cases_lt}
 use Rattle.std.proofs.lemmas.Str.Parse.{IsNumeralModel, numerals_by_value, tells_all_ascii_digits}
 use Rattle.std.proofs.lemmas.Fmt.{decimal_by_steps, decimal_nonempty, first_decimal, decimal_digit, digits_decimal, digits_value-decimal}
 use Rattle.dma_insn.specs.declared.insn.Reg.TheVariants.{Sar, Ccr, Dar}
-use Rattle.dma_insn.specs.declared.insn.Counter.TheVariants.{Lc0, Lc1}
-use Rattle.dma_insn.specs.declared.insn.Insn.{Insn}
 use Rattle.dma_insn.specs.declared.insn.Insn.TheVariants.{Mov, Ld, St, Rmb, Wmb, Nop, End, Lp, LpEnd, Sev, Wfe}
-use Rattle.dma_insn.specs.Spelling.{HasRanges}
-use Rattle.dma_text.specs.Digits.{hex_digits}
-use Rattle.dma_insn.specs.AssemblyText.{onto_first, text_lines, words_of, is_skipped, IsDecimal, value_word, Statement, dmaend, dmald, dmast, dmarmb, dmawmb, dmanop, dmalp, dmalpend, dmasev, dmawfe, dmamov, IsWritten, insn_of, Writes, WriteAll, ProgramText, joined, most_program_bytes, Assembles, HasTwoNumbers}
+use Rattle.dma_insn.specs.AssemblyText.{words_of, is_skipped, IsDecimal, value_word, Statement, dmaend, dmald, dmast, dmarmb, dmawmb, dmanop, dmalp, dmalpend}
+use Rattle.dma_insn.specs.AssemblyText.{dmasev, dmawfe, dmamov, IsWritten, insn_of, Writes, WriteAll, ProgramText, joined, most_program_bytes, Assembles}
+use Rattle.dma_insn.specs.AssemblyText.{HasTwoNumbers}
 use Rattle.dma_insn.specs.Disassembly.{AllInRange, insn_text, text_of, Disassembles, DisassemblyAssembles}
+use Rattle.dma_insn.specs.{declared.insn.Counter.TheVariants.Lc0, declared.insn.Counter.TheVariants.Lc1, declared.insn.Insn.Insn, Spelling.HasRanges}
+use Rattle.dma_text.specs.{Digits.hex_digits, Lines.text_lines}
 use Rattle.dma_insn.proofs.ProgramLaws.{write_more, assembles_once}
 
 -- each byte is above k
@@ -88,7 +86,8 @@ above_glyph k d low =
 above_digits : (k : ℕ) (places : List ℕ) (v : ℕ) → k < 48 → above k (map (λ place. digit_glyph true (v / place % 16)) places) ≡ true
 above_digits k [] v low = refl
 above_digits k (place ∷ places) v low =
-    above_append k (digit_glyph true (v / place % 16) ∷ []) (map (λ p. digit_glyph true (v / p % 16)) places) (above_glyph k (v / place % 16) low) (above_digits k places v low)
+    above_append k (digit_glyph true (v / place % 16) ∷ []) (map (λ p. digit_glyph true (v / p % 16)) places) (above_glyph k (v / place % 16) low)
+    (above_digits k places v low)
 
 above_value : (k v : ℕ) → k < 48 → above k (value_word v) ≡ true
 above_value k v low =
@@ -98,12 +97,14 @@ above_value k v low =
 -- two numbers behind a name
 two_above : (m n : ℕ) → m < 2 ^ 64 → n < 2 ^ 64 → above 10 (decimal m ++ 32 ∷ (decimal n ++ [])) ≡ true
 two_above m n hm hn =
-    above_append 10 (decimal m) (32 ∷ (decimal n ++ [])) (above_decimal 10 m (omega arith) hm) (above_append 10 (decimal n) [] (above_decimal 10 n (omega arith) hn) refl)
+    above_append 10 (decimal m) (32 ∷ (decimal n ++ [])) (above_decimal 10 m (omega arith) hm)
+    (above_append 10 (decimal n) [] (above_decimal 10 n (omega arith) hn) refl)
 
 two_words_are : (m n : ℕ) → m < 2 ^ 64 → n < 2 ^ 64 → words_of (decimal m ++ 32 ∷ (decimal n ++ [])) ≡ decimal m ∷ decimal n ∷ []
 two_words_are m n hm hn =
     words_space (decimal m) (decimal n ++ []) (above_decimal 32 m (omega arith) hm)
-    ∙ ap (λ (w : List ℕ). decimal m ∷ words_of w) (append-nil (decimal n)) ∙ ap (λ (ws : List (List ℕ)). decimal m ∷ ws) (words_plain (decimal n) (above_decimal 32 n (omega arith) hn))
+    ∙ ap (λ (w : List ℕ). decimal m ∷ words_of w) (append-nil (decimal n))
+    ∙ ap (λ (ws : List (List ℕ)). decimal m ∷ ws) (words_plain (decimal n) (above_decimal 32 n (omega arith) hn))
 
 one_above : (n : ℕ) → n < 2 ^ 64 → above 10 (decimal n ++ []) ≡ true
 one_above n h = above_append 10 (decimal n) [] (above_decimal 10 n (omega arith) h) refl
@@ -160,29 +161,47 @@ insn_text_writes St h = bare_writes St dmast refl refl refl
 insn_text_writes Rmb h = bare_writes Rmb dmarmb refl refl refl
 insn_text_writes Wmb h = bare_writes Wmb dmawmb refl refl refl
 insn_text_writes Nop h = bare_writes Nop dmanop refl refl refl
-insn_text_writes (Lp Lc0 n) h = bare_writes (Lp Lc0 n) (dmalp 0 n) refl (loop_words (codes "DMALP") 0 n (omega arith) (omega (arith, h.1))) (rw (le-leb 1 n h.0, le-leb n 256 h.1) refl)
-insn_text_writes (Lp Lc1 n) h = bare_writes (Lp Lc1 n) (dmalp 1 n) refl (loop_words (codes "DMALP") 1 n (omega arith) (omega (arith, h.1))) (rw (le-leb 1 n h.0, le-leb n 256 h.1) refl)
-insn_text_writes (LpEnd Lc0 b) h = bare_writes (LpEnd Lc0 b) (dmalpend 0 b) refl (loop_words (codes "DMALPEND") 0 b (omega arith) (omega arith)) (rw (le-leb b 255 (omega arith)) refl)
-insn_text_writes (LpEnd Lc1 b) h = bare_writes (LpEnd Lc1 b) (dmalpend 1 b) refl (loop_words (codes "DMALPEND") 1 b (omega arith) (omega arith)) (rw (le-leb b 255 (omega arith)) refl)
+insn_text_writes (Lp Lc0 n) h =
+    bare_writes (Lp Lc0 n) (dmalp 0 n) refl (loop_words (codes "DMALP") 0 n (omega arith) (omega (arith, h.1))) (rw (le-leb 1 n h.0, le-leb n 256 h.1) refl)
+insn_text_writes (Lp Lc1 n) h =
+    bare_writes (Lp Lc1 n) (dmalp 1 n) refl (loop_words (codes "DMALP") 1 n (omega arith) (omega (arith, h.1))) (rw (le-leb 1 n h.0, le-leb n 256 h.1) refl)
+insn_text_writes (LpEnd Lc0 b) h =
+    bare_writes (LpEnd Lc0 b) (dmalpend 0 b) refl (loop_words (codes "DMALPEND") 0 b (omega arith) (omega arith)) (rw (le-leb b 255 (omega arith)) refl)
+insn_text_writes (LpEnd Lc1 b) h =
+    bare_writes (LpEnd Lc1 b) (dmalpend 1 b) refl (loop_words (codes "DMALPEND") 1 b (omega arith) (omega arith)) (rw (le-leb b 255 (omega arith)) refl)
 insn_text_writes (Sev e) h =
     let he : e < 2 ^ 64 = omega arith in
-    bare_writes (Sev e) (dmasev e) refl (record { word = decimal e; words_are = ap (λ (ws : List (List ℕ)). codes "DMASEV" ∷ ws) (one_word_is e he); number = decimal_is e he }) (rw (le-leb e 31 (omega arith)) refl)
+    bare_writes (Sev e) (dmasev e) refl
+    (record { word = decimal e; words_are = ap (λ (ws : List (List ℕ)). codes "DMASEV" ∷ ws) (one_word_is e he); number = decimal_is e he })
+    (rw (le-leb e 31 (omega arith)) refl)
 insn_text_writes (Wfe e false) h =
     let he : e < 2 ^ 64 = omega arith in
-    bare_writes (Wfe e false) (dmawfe e false) refl (record { word = decimal e; words_are = ap (λ (ws : List (List ℕ)). codes "DMAWFE" ∷ ws) (one_word_is e he); number = decimal_is e he }) (rw (le-leb e 31 (omega arith)) refl)
+    bare_writes (Wfe e false) (dmawfe e false) refl
+    (record { word = decimal e; words_are = ap (λ (ws : List (List ℕ)). codes "DMAWFE" ∷ ws) (one_word_is e he); number = decimal_is e he })
+    (rw (le-leb e 31 (omega arith)) refl)
 insn_text_writes (Wfe e true) h =
     let he : e < 2 ^ 64 = omega arith in
-    bare_writes (Wfe e true) (dmawfe e true) refl (record { word = decimal e; words_are = ap (λ (ws : List (List ℕ)). codes "DMAWFE" ∷ ws) (invalid_words_are e he); number = decimal_is e he }) (rw (le-leb e 31 (omega arith)) refl)
-insn_text_writes (Mov Sar v) h = bare_writes (Mov Sar v) (dmamov Sar v) refl (record { words_are = ap (λ (ws : List (List ℕ)). codes "DMAMOV" ∷ codes "SAR" ∷ ws) (value_words_are v); in_range = h }) refl
-insn_text_writes (Mov Ccr v) h = bare_writes (Mov Ccr v) (dmamov Ccr v) refl (record { words_are = ap (λ (ws : List (List ℕ)). codes "DMAMOV" ∷ codes "CCR" ∷ ws) (value_words_are v); in_range = h }) refl
-insn_text_writes (Mov Dar v) h = bare_writes (Mov Dar v) (dmamov Dar v) refl (record { words_are = ap (λ (ws : List (List ℕ)). codes "DMAMOV" ∷ codes "DAR" ∷ ws) (value_words_are v); in_range = h }) refl
+    bare_writes (Wfe e true) (dmawfe e true) refl
+    (record { word = decimal e; words_are = ap (λ (ws : List (List ℕ)). codes "DMAWFE" ∷ ws) (invalid_words_are e he); number = decimal_is e he })
+    (rw (le-leb e 31 (omega arith)) refl)
+insn_text_writes (Mov Sar v) h =
+    bare_writes (Mov Sar v) (dmamov Sar v) refl
+    (record { words_are = ap (λ (ws : List (List ℕ)). codes "DMAMOV" ∷ codes "SAR" ∷ ws) (value_words_are v); in_range = h }) refl
+insn_text_writes (Mov Ccr v) h =
+    bare_writes (Mov Ccr v) (dmamov Ccr v) refl
+    (record { words_are = ap (λ (ws : List (List ℕ)). codes "DMAMOV" ∷ codes "CCR" ∷ ws) (value_words_are v); in_range = h }) refl
+insn_text_writes (Mov Dar v) h =
+    bare_writes (Mov Dar v) (dmamov Dar v) refl
+    (record { words_are = ap (λ (ws : List (List ℕ)). codes "DMAMOV" ∷ codes "DAR" ∷ ws) (value_words_are v); in_range = h }) refl
 
 -- The text of instructions is that of these instructions.
 text_of_written : (is : List Insn) → AllInRange is → ProgramText (text_of is) is
 text_of_written [] h = refl
 text_of_written (i ∷ is) h =
-    let lines : text_lines (text_of (i ∷ is)) ≡ insn_text i ∷ text_lines (text_of is) = ap text_lines (append_assoc (insn_text i) (10 ∷ []) (text_of is)) ∙ lines_feed (insn_text i) (text_of is) (insn_text_above i h.0) in
-    subst (λ (ls : List (List ℕ)). WriteAll ls (i ∷ is)) (sym lines) (write_more (insn_text i) (text_lines (text_of is)) i is (insn_text_writes i h.0) (text_of_written is h.1))
+    let lines : text_lines (text_of (i ∷ is)) ≡ insn_text i ∷ text_lines (text_of is) = ap text_lines (append_assoc (insn_text i) (10 ∷ []) (text_of is))
+    ∙ lines_feed (insn_text i) (text_of is) (insn_text_above i h.0) in
+    subst (λ (ls : List (List ℕ)). WriteAll ls (i ∷ is)) (sym lines)
+    (write_more (insn_text i) (text_lines (text_of is)) i is (insn_text_writes i h.0) (text_of_written is h.1))
 
 text_of_lines : (is : List Insn) → AllInRange is → text_lines (text_of is) ≡ map insn_text is
 text_of_lines [] h = refl

@@ -1,41 +1,24 @@
 -- The text of channel programs (profile; the names of instructions and registers are those of the PL330 manual), as a
 -- relation between lines and instructions. The relation doesn't depend on how text is read or written.
-use Rattle.std.specs.Prelude.{◌≡◌, ℕ, ◌+◌, ◌^◌, ◌<◌, ◌≤◌, Bool, true, false, ◌==◌, ◌||◌, ◌&&◌, if◌then◌else◌, List, [], ◌∷◌, ◌++◌, length, slice_index, flat_map, Option, Some, None, codes, nat_le, MatchBool}
-use Rattle.std.specs.List.{list_all, list_any}
-use Rattle.std.specs.Option.{option_and_then}
-use Rattle.std.specs.Str.{all_ascii_digits, bytes_eq}
-use Rattle.std.specs.Str.Parse.{digits_value}
-use Rattle.dma_text.specs.Digits.{hex_digits}
-use Rattle.dma_insn.specs.Spelling.{spelling}
-use Rattle.dma_insn.specs.declared.insn.Reg.{Reg}
+use Rattle.std.specs.Prelude.{◌≡◌, ℕ, ◌+◌, ◌^◌, ◌<◌, ◌≤◌, Bool, true, false, ◌==◌, ◌||◌, ◌&&◌, if◌then◌else◌, List, [], ◌∷◌, ◌++◌, length, slice_index}
+use Rattle.std.specs.Prelude.{flat_map, Option, Some, None, codes, nat_le, MatchBool}
+use Rattle.std.specs.{List.list_any, List.slice_split, Option.option_and_then, Str.all_ascii_digits, Str.bytes_eq, Str.Parse.digits_value}
+use Rattle.dma_text.specs.{Digits.hex_digits, Lines.is_all_spaces, Lines.text_lines}
 use Rattle.dma_insn.specs.declared.insn.Reg.TheVariants.{Sar, Ccr, Dar}
-use Rattle.dma_insn.specs.declared.insn.Counter.{Counter}
 use Rattle.dma_insn.specs.declared.insn.Counter.TheVariants.{Lc0, Lc1}
-use Rattle.dma_insn.specs.declared.insn.Insn.{Insn}
 use Rattle.dma_insn.specs.declared.insn.Insn.TheVariants.{Mov, Ld, St, Rmb, Wmb, Nop, End, Lp, LpEnd, Sev, Wfe}
-use Rattle.dma_insn.specs.declared.assembler.AsmCause.{AsmCause}
 use Rattle.dma_insn.specs.declared.assembler.AsmCause.TheVariants.{Mnemonic, Operand, Range}
-use Rattle.dma_insn.specs.declared.assembler.AsmFault.{AsmFault}
+use Rattle.dma_insn.specs.{Spelling.spelling, declared.insn.Reg.Reg, declared.insn.Counter.Counter, declared.insn.Insn.Insn}
+use Rattle.dma_insn.specs.{declared.assembler.AsmCause.AsmCause, declared.assembler.AsmFault.AsmFault}
 use Rattle.dma_insn.specs.declared.assembler.AsmFault.TheVariants as faults
-
--- a byte put before the first of some parts; without parts, one part of that byte
-abbrev pub onto_first : ℕ → List (List ℕ) → List (List ℕ)
-onto_first b [] = (b ∷ []) ∷ []
-onto_first b (part ∷ parts) = (b ∷ part) ∷ parts
-
--- the lines of a text: a line feed ends each, and the last may lack it
-abbrev pub text_lines : List ℕ → List (List ℕ)
-text_lines [] = []
-text_lines (b ∷ rest) = if b == 10 then [] ∷ text_lines rest else onto_first b (text_lines rest)
 
 -- the words of a line: the parts between its spaces, which may be empty
 abbrev pub words_of : List ℕ → List (List ℕ)
-words_of [] = [] ∷ []
-words_of (b ∷ rest) = if b == 32 then [] ∷ words_of rest else onto_first b (words_of rest)
+words_of line = slice_split (λ b. b == 32) line
 
 -- whether a line is skipped: it is empty, has only spaces, or its first byte is #
 abbrev pub is_skipped : List ℕ → Bool
-is_skipped line = list_all (λ b. b == 32) line || (slice_index line 0 == 35)
+is_skipped line = is_all_spaces line || (slice_index line 0 == 35)
 
 -- The word is the number n in decimal digits, one or more, without leading zeros.
 pub record IsDecimal (word : List ℕ) (n : ℕ) : Type 0 where

@@ -1,18 +1,15 @@
 -- The instructions of a chip's channels: those of the model, and the bytes of four more (PL330 manual, instruction
 -- chapter).
-use Rattle.std.specs.Prelude.{◌≡◌, ℕ, ◌+◌, ◌-◌, ◌*◌, ◌^◌, ◌<◌, ◌≤◌, ◌==◌, Bool, true, false, List, [], ◌∷◌, length, take, drop, slice_index, nat_lt, if◌then◌else◌, Result, Ok, Err}
+use Rattle.std.specs.Prelude.{◌≡◌, ℕ, ◌+◌, ◌-◌, ◌*◌, ◌^◌, ◌<◌, ◌≤◌, ◌==◌, Bool, true, false, List, [], ◌∷◌, length, take, drop, slice_index, nat_lt}
+use Rattle.std.specs.Prelude.{if◌then◌else◌, Result, Ok, Err}
 use Rattle.byteorder.specs.Endian.{little_bytes, little_number}
-use Rattle.dma_insn.specs.declared.chip.ChipInsn.{ChipInsn}
 use Rattle.dma_insn.specs.declared.chip.ChipInsn.TheVariants.{Mov, Ld, St, Rmb, Wmb, Nop, End, Lp, LpEnd, Sev, Wfe, StoreZeros, AddHalfword, LoopAgain}
-use Rattle.dma_insn.specs.declared.chip.Address.{Address}
-use Rattle.dma_insn.specs.declared.chip.Address.TheVariants.{Source, Destination}
-use Rattle.dma_insn.specs.declared.insn.Insn.{Insn}
-use Rattle.dma_insn.specs.declared.insn.Counter.{Counter}
-use Rattle.dma_insn.specs.declared.insn.Counter.TheVariants.{Lc0, Lc1}
-use Rattle.dma_insn.specs.declared.insn.Insn.TheVariants.{Mov as CoreMov, Ld as CoreLd, St as CoreSt, Rmb as CoreRmb, Wmb as CoreWmb, Nop as CoreNop, End as CoreEnd, Lp as CoreLp, LpEnd as CoreLpEnd, Sev as CoreSev, Wfe as CoreWfe}
-use Rattle.dma_insn.specs.declared.codec.DecodeFault.{DecodeFault}
 use Rattle.dma_insn.specs.declared.codec.DecodeFault.TheVariants.{Cut, Unknown, BadField}
 use Rattle.dma_insn.specs.Spelling.{register_byte, loop_byte, loop_end_byte, invalid_bits}
+use Rattle.dma_insn.specs.{declared.chip.ChipInsn.ChipInsn, declared.chip.Address.Address, declared.chip.Address.TheVariants.Source}
+use Rattle.dma_insn.specs.{declared.chip.Address.TheVariants.Destination, declared.insn.Insn.Insn, declared.insn.Counter.Counter}
+use Rattle.dma_insn.specs.{declared.insn.Counter.TheVariants.Lc0, declared.insn.Counter.TheVariants.Lc1, declared.codec.DecodeFault.DecodeFault}
+use Rattle.dma_insn.specs.declared.insn.Insn.TheVariants.{Mov as CoreMov, Ld as CoreLd, St as CoreSt, Rmb as CoreRmb, Wmb as CoreWmb, Nop as CoreNop, End as CoreEnd, Lp as CoreLp, LpEnd as CoreLpEnd, Sev as CoreSev, Wfe as CoreWfe}
 use Rattle.dma_insn.specs.Decoding.{Decoded as CoreDecoded, decoded as core_decoded}
 
 -- an instruction of the model as one of a chip

@@ -1,12 +1,11 @@
 -- The channel control word (PL330 manual, channel control registers).
-use Rattle.std.specs.Prelude.{◌≡◌, ℕ, ◌+◌, ◌-◌, ◌*◌, ◌/◌, ◌%◌, ◌^◌, ◌<◌, ◌≤◌, Bool, true, false, ◌==◌, if◌then◌else◌, Option, Some, None, Result, Ok, Err, is_ok}
+use Rattle.std.specs.Prelude.{◌≡◌, ℕ, ◌+◌, ◌-◌, ◌*◌, ◌/◌, ◌%◌, ◌^◌, ◌<◌, ◌≤◌, Bool, true, false, ◌==◌, if◌then◌else◌, Option, Some, None, Result, Ok, Err}
+use Rattle.std.specs.Prelude.{is_ok}
 use Rattle.std.specs.Option.{option_map}
-use Rattle.dma_insn.specs.declared.control.BeatSize.{BeatSize}
 use Rattle.dma_insn.specs.declared.control.BeatSize.TheVariants.{One, Two, Four, Eight, Sixteen}
-use Rattle.dma_insn.specs.declared.control.BurstEnd.{BurstEnd}
-use Rattle.dma_insn.specs.declared.control.Control.{Control}
-use Rattle.dma_insn.specs.declared.control.ControlFault.{ControlFault}
 use Rattle.dma_insn.specs.declared.control.ControlFault.TheVariants.{ReservedSize, Swap, Bit31}
+use Rattle.dma_insn.specs.{declared.control.BeatSize.BeatSize, declared.control.BurstEnd.BurstEnd, declared.control.Control.Control}
+use Rattle.dma_insn.specs.{declared.control.ControlFault.ControlFault}
 
 -- n bits of a word, from bit k up
 abbrev pub field : ℕ → ℕ → ℕ → ℕ

@@ -2,15 +2,12 @@
 use Rattle.std.specs.Prelude.{◌≡◌, ℕ, ◌<◌, ◌≤◌, true, false, ◌⊎◌, List, [], ◌∷◌, ◌++◌, length, slice_index, flat_map, codes, decimal, Err}
 use Rattle.std.specs.List.{concat, list_any}
 use Rattle.dma_insn.specs.Spelling.{HasRanges, IsSpelledAt, IsRefusedFor}
-use Rattle.dma_insn.specs.Decoding.{decoded}
-use Rattle.dma_insn.specs.AssemblyText.{register_word, value_word, text_lines, is_skipped, ProgramText, joined, most_program_bytes, Assembles}
-use Rattle.dma_insn.specs.declared.insn.Counter.{Counter}
-use Rattle.dma_insn.specs.declared.insn.Counter.TheVariants.{Lc0, Lc1}
-use Rattle.dma_insn.specs.declared.insn.Insn.{Insn}
+use Rattle.dma_insn.specs.AssemblyText.{register_word, value_word, is_skipped, ProgramText, joined, most_program_bytes, Assembles}
 use Rattle.dma_insn.specs.declared.insn.Insn.TheVariants.{Mov, Ld, St, Rmb, Wmb, Nop, End, Lp, LpEnd, Sev, Wfe}
-use Rattle.dma_insn.specs.declared.codec.DecodeFault.{DecodeFault}
-use Rattle.dma_insn.specs.declared.disassembler.DisFault.{DisFault}
-use Rattle.dma_insn.specs.declared.disassembler.DisFault.TheVariants.{Decode, NoMemory}
+use Rattle.dma_insn.specs.{Decoding.decoded, declared.insn.Counter.Counter, declared.insn.Counter.TheVariants.Lc0, declared.insn.Counter.TheVariants.Lc1}
+use Rattle.dma_insn.specs.{declared.insn.Insn.Insn, declared.codec.DecodeFault.DecodeFault, declared.disassembler.DisFault.DisFault}
+use Rattle.dma_insn.specs.{declared.disassembler.DisFault.TheVariants.Decode, declared.disassembler.DisFault.TheVariants.NoMemory}
+use Rattle.dma_text.specs.Lines.{text_lines}
 
 -- All instructions have their fields in range.
 abbrev pub AllInRange : List Insn → Type 0

@@ -1,25 +1,16 @@
 -- Reading assembly text, as functions of the bytes. `AssemblyText` defines the meaning of a text; the law
 -- `ReadingReports` is that `assembled` agrees with it on every text.
-use Rattle.std.specs.Prelude.{◌≡◌, ◌≢◌, ◌↔◌, ℕ, ◌+◌, ◌-◌, ◌*◌, Bool, true, false, ◌==◌, ◌&&◌, if◌then◌else◌, List, [], ◌∷◌, ◌++◌, length, Option, Some, None, Result, Ok, Err, IsOk, ◌⊎◌, codes, nat_le, min}
-use Rattle.std.specs.Option.{option_and_then, ok_or}
-use Rattle.std.specs.Str.{bytes_eq}
-use Rattle.dma_insn.specs.Spelling.{spelling}
-use Rattle.dma_insn.specs.AssemblyText.{words_of, text_lines, is_skipped, counter_of, most_program_bytes, Assembles, IsFirstFault}
-use Rattle.dma_insn.specs.declared.insn.Reg.{Reg}
+use Rattle.std.specs.Prelude.{◌≡◌, ◌≢◌, ◌↔◌, ℕ, ◌+◌, ◌-◌, ◌*◌, Bool, true, false, ◌==◌, ◌&&◌, if◌then◌else◌, List, [], ◌∷◌, ◌++◌, length, Option, Some, None}
+use Rattle.std.specs.Prelude.{Result, Ok, Err, IsOk, ◌⊎◌, codes, nat_le, min}
+use Rattle.std.specs.{Option.option_and_then, Option.ok_or, Str.bytes_eq}
+use Rattle.dma_text.specs.{Results.◌>>=◌, Lines.text_lines}
+use Rattle.dma_insn.specs.AssemblyText.{words_of, is_skipped, counter_of, most_program_bytes, Assembles, IsFirstFault}
 use Rattle.dma_insn.specs.declared.insn.Reg.TheVariants.{Sar, Ccr, Dar}
-use Rattle.dma_insn.specs.declared.insn.Counter.{Counter}
-use Rattle.dma_insn.specs.declared.insn.Insn.{Insn}
 use Rattle.dma_insn.specs.declared.insn.Insn.TheVariants.{Mov, Ld, St, Rmb, Wmb, Nop, End, Lp, LpEnd, Sev, Wfe}
-use Rattle.dma_insn.specs.declared.assembler.AsmCause.{AsmCause}
 use Rattle.dma_insn.specs.declared.assembler.AsmCause.TheVariants.{Mnemonic, Operand, Range}
-use Rattle.dma_insn.specs.declared.assembler.AsmFault.{AsmFault}
 use Rattle.dma_insn.specs.declared.assembler.AsmFault.TheVariants.{Line, ProgramTooLong, NoMemory}
-
--- the next step, given the value of a result; a fault of the result is kept
-infixl 10 ◌>>=◌
-abbrev pub ◌>>=◌ : {A B E : Type 0} → Result A E → (A → Result B E) → Result B E
-(Ok x) >>= f = f x
-(Err e) >>= f = Err e
+use Rattle.dma_insn.specs.{Spelling.spelling, declared.insn.Reg.Reg, declared.insn.Counter.Counter, declared.insn.Insn.Insn}
+use Rattle.dma_insn.specs.{declared.assembler.AsmCause.AsmCause, declared.assembler.AsmFault.AsmFault}
 
 -- The result that a function returned, with `view` applied to a value, equals `read`.
 abbrev pub ResultIs : {X Y E : Type 0} → (X → Y) → Result X E → Result Y E → Type 0

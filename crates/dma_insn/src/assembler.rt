@@ -6,8 +6,9 @@ ghost use Rattle.dma_insn.specs.LineReading.{ResultIsOrNoMemory, ReadingReports,
 ghost use Rattle.dma_insn.specs.declared.assembler.AsmFault.TheVariants.{NoMemory};
 
 use crate::codec::encode;
-use crate::line::{is_skipped, read_line, split_line};
+use crate::line::{is_skipped, read_line};
 use arrayvec::ArrayVec;
+use dma_text::lines::split_line;
 use std::alloc::{AllocError, Global};
 use thiserror::Error;
 

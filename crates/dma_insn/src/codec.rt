@@ -55,8 +55,8 @@ pub fn encode(insn: Insn, out: &mut [u8; 6]) -> usize
     }
 }
 
-// Writes an instruction of one byte.
-fn write_one(first: u8, out: &mut [u8; 6]) -> usize
+/// Writes an instruction of one byte.
+pub fn write_one(first: u8, out: &mut [u8; 6]) -> usize
     ensures count { result ≡ 1 }
     ensures bytes { out.new ≡ first ∷ drop 1 out.old }
 {
@@ -64,8 +64,8 @@ fn write_one(first: u8, out: &mut [u8; 6]) -> usize
     1
 }
 
-// Writes the first two bytes of an instruction.
-fn write_two(first: u8, second: u8, out: &mut [u8; 6]) -> usize
+/// Writes the first two bytes of an instruction.
+pub fn write_two(first: u8, second: u8, out: &mut [u8; 6]) -> usize
     ensures count { result ≡ 2 }
     ensures bytes { out.new ≡ first ∷ second ∷ drop 2 out.old }
 {
@@ -145,7 +145,7 @@ fn read(bytes: &[u8]) -> Result<(Insn, usize), DecodeFault>
         0x3c => loop_end(Counter::Lc1, rest),
         0x34 => signal(rest),
         0x36 => wait(rest),
-        0xbc => set_register(rest),
+        0xbc => decode_mov(rest),
         other => Err(DecodeFault::Unknown(other)),
     }
 }
@@ -195,7 +195,7 @@ fn wait(rest: &[u8]) -> Result<(Insn, usize), DecodeFault>
 
 /// Decodes DMAMOV from its second byte.
 #[inline(always)]
-pub fn set_register(rest: &[u8]) -> Result<(Insn, usize), DecodeFault>
+pub fn decode_mov(rest: &[u8]) -> Result<(Insn, usize), DecodeFault>
     ensures { result ≡ set_by rest.now }
 {
     if rest.len() < 5 {

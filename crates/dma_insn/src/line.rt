@@ -1,25 +1,13 @@
 //! Parses one line of assembly text into its words and its instruction.
 
-ghost use Rattle.std.specs.Prelude.{◌≡◌, ◌+◌, ◌<◌, ◌==◌, ◌∷◌, [], length, Option, MatchOption, IfSome, Result, Ok};
-ghost use Rattle.std.specs.List.{list_all};
-ghost use Rattle.dma_insn.specs.AssemblyText.{text_lines, words_of, is_skipped};
+ghost use Rattle.std.specs.Prelude.{◌≡◌, ◌+◌, ◌<◌, ◌∷◌, [], length, Option, MatchOption, IfSome, Result, Ok};
+ghost use Rattle.dma_insn.specs.AssemblyText.{words_of, is_skipped};
 ghost use Rattle.dma_insn.specs.LineReading.{ResultIs, words_after, no_word, one_word, two_words, wait_words, digit_of, digits_from, number_at, hex_digit_of, hex_from, value_at, register_at, counter_at, times_at, back_at, event_at, two_numbers, loop_line, loop_end_line, signal_line, wait_line, set_line, bare_line, line_by, line_in};
 
 use crate::assembler::AsmCause;
 use crate::insn::{Counter, Event, Insn, Reg, Times};
 use dma_text::bytes::{is_text, position_of};
-
-/// Returns the first line of a text, without its line feed, and the rest of the text.
-pub fn split_line(text: &[u8]) -> (&[u8], &[u8])
-    requires { 0 < length text.now }
-    ensures first { text_lines text.now ≡ result.0.now ∷ text_lines result.1.now }
-    ensures shorter { length result.1.now < length text.now }
-{
-    match position_of(b'\n', text) {
-        Some(end) => (&text[..end], &text[end + 1..]),
-        None => (text, &[]),
-    }
-}
+use dma_text::lines::is_all_spaces;
 
 // Returns the first word, and the rest of the line, which is empty or begins with the space after the word.
 fn split_word(text: &[u8]) -> (&[u8], &[u8])
@@ -46,14 +34,7 @@ fn next_word(rest: &[u8]) -> Option<(&[u8], &[u8])>
 pub fn is_skipped(line: &[u8]) -> bool
     ensures { result ≡ is_skipped line.now }
 {
-    is_blank(line) || line.first() == Some(&b'#')
-}
-
-// Returns whether a line is empty or has only spaces.
-fn is_blank(line: &[u8]) -> bool
-    ensures { result ≡ list_all (λ b. b == 32) line.now }
-{
-    line.iter().all(|b| *b == b' ')
+    is_all_spaces(line) || line.first() == Some(&b'#')
 }
 
 // Succeeds if no word is left. Fails with `Operand` otherwise.

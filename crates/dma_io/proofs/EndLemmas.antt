@@ -7,14 +7,17 @@ use Rattle.std.proofs.KnownBytes.{Appends-nil}
 use Rattle.dma_io.specs.Command.{Printed, Ends, EndsUnread, Failures, Unfailed, Wrote, reader_failed, too_long, no_memory, complete, out_of_memory, input_fault, output_fault, MayAnswer, may_print_within, printed_text, refusal, longest_input}
 
 -- Something may be printed for an input of any length.
-within_some : (may : List ℕ → Printed → Type 0) → ((input : List ℕ) → (printed : Printed) × may input printed × (0 < length printed.groups)) → (input : List ℕ) → (printed : Printed) × may_print_within may input printed × (0 < length printed.groups)
+within_some : (may : List ℕ → Printed → Type 0) → ((input : List ℕ) → (printed : Printed) × may input printed × (0 < length printed.groups)) → (input : List ℕ)
+    → (printed : Printed) × may_print_within may input printed × (0 < length printed.groups)
 within_some may some input = elim (cases_lt longest_input (length input)) [
   | inl long ↦ (refusal (codes "line 0: InputTooLong"), inl (long, refl), lit< tt)
   | inr short ↦ let one = some input in (one.0, inr (short, one.1), one.2)
 ]
 
 -- A call that has no input to run.
-pub unread : (known : Option (List ℕ)) (reader writer : Failures) (may : List ℕ → Printed → Type 0) (old new : Option (List ℕ)) (status : ℕ) → ((input : List ℕ) → (printed : Printed) × may input printed × (0 < length printed.groups)) → EndsUnread known reader writer old new status → IfSome known (λ input. Ends reader writer (may_print_within may input) old new status)
+pub unread : (known : Option (List ℕ)) (reader writer : Failures) (may : List ℕ → Printed → Type 0) (old new : Option (List ℕ)) (status : ℕ)
+    → ((input : List ℕ) → (printed : Printed) × may input printed × (0 < length printed.groups)) → EndsUnread known reader writer old new status
+    → IfSome known (λ input. Ends reader writer (may_print_within may input) old new status)
 unread None reader writer may old new status some ends = tt
 unread (Some input) reader writer may old new status some (reader_failed after (inl wrote)) = input_fault after wrote.1.1 wrote.1.0 wrote.0
 unread (Some input) reader writer may old new status some (reader_failed after (inr failed)) = output_fault failed.1 failed.0
@@ -26,9 +29,13 @@ unread (Some input) reader writer may old new status some (no_memory kept_reader
     out_of_memory kept_reader kept_writer one.0 one.1 0 one.2 (subst (λ n. Appends old n []) (sym same) (Appends-nil old)) three
 
 -- A call whose answer was built and sent.
-pub answered : {E : Type 0} (known : Option (List ℕ)) (reader writer : Failures) (may : List ℕ → Printed → Type 0) (old new : Option (List ℕ)) (input before built sent : List ℕ) (answer : Result ℕ E) (status result : ℕ) → IfSome known (λ all. input ≡ all) → length input ≤ longest_input → before ≡ [] → MayAnswer (may input) answer before built → status ≡ result_unwrap_or answer 3 → sent ≡ built → Unfailed reader → Wrote writer old new sent status result → IfSome known (λ all. Ends reader writer (may_print_within may all) old new result)
+pub answered : {E : Type 0} (known : Option (List ℕ)) (reader writer : Failures) (may : List ℕ → Printed → Type 0) (old new : Option (List ℕ))
+    (input before built sent : List ℕ) (answer : Result ℕ E) (status result : ℕ) → IfSome known (λ all. input ≡ all) → length input ≤ longest_input
+    → before ≡ [] → MayAnswer (may input) answer before built → status ≡ result_unwrap_or answer 3 → sent ≡ built → Unfailed reader
+    → Wrote writer old new sent status result → IfSome known (λ all. Ends reader writer (may_print_within may all) old new result)
 answered None reader writer may old new input before built sent answer status result e short none a exit same kept wrote = tt
-answered (Some all) reader writer may old new input before built sent answer status result e short none a exit same kept (inr failed) = output_fault failed.1 failed.0
+answered (Some all) reader writer may old new input before built sent answer status result e short none a exit same kept (inr failed) =
+    output_fault failed.1 failed.0
 answered (Some all) reader writer may old new input before built sent (Ok s) status result e short none a exit same kept (inl wrote) =
     let within : may_print_within may all a.printed = subst (λ i. may_print_within may i a.printed) e (inr (short, a.allowed)) in
     let text = same ∙ a.answers.text ∙ ap (λ front. front ++ printed_text a.printed.groups) none in

@@ -1,10 +1,9 @@
 -- Reading hexadecimal text from one byte to the next.
 use Rattle.std.proofs.Common.{◌≡◌, refl, sym, ◌∙◌, ap, ℕ, ◌+◌, ◌<◌, List, ◌∷◌, ◌++◌, drop, length, slice_index_or, Option, Some, Result, Ok, Err}
 use Rattle.std.proofs.lemmas.List.{append_assoc, at_drop_more}
-use Rattle.dma_insn.specs.LineReading.{◌>>=◌}
+use Rattle.dma_text.specs.Results.{◌>>=◌}
 use Rattle.dma_io.specs.Hexadecimal.{next_of, number_bytes, read_from}
-use Rattle.dma_io.specs.declared.hexadecimal.Notation.{Notation}
-use Rattle.dma_io.specs.declared.hexadecimal.Reading.{Reading}
+use Rattle.dma_io.specs.{declared.hexadecimal.Notation.Notation, declared.hexadecimal.Reading.Reading}
 
 -- the bytes of a text behind these
 abbrev pub followed : List ℕ → Result (List ℕ) ℕ → Result (List ℕ) ℕ

@@ -1,12 +1,10 @@
 -- What a call of a program prints, and how it is written.
 use Rattle.std.specs.Prelude.{◌≡◌, ◌⊎◌, ◌||◌, ℕ, nat_lt, Bool, if◌then◌else◌, List, [], ◌∷◌, ◌++◌, length, Option, Result, Ok, Err}
-use Rattle.dma_io.specs.Command.{Failures, Written}
-use Rattle.dma_io.specs.declared.output.OutputFailed.{OutputFailed}
-use Rattle.dma_io.specs.declared.answer.Answer.{Answer}
+use Rattle.dma_io.specs.{Command.Failures, Command.WroteAll, declared.output.OutputFailed.OutputFailed, declared.answer.Answer.Answer}
 
 -- What a call prints: to standard output, to standard error, and into the file that an option names; and whether it
 -- succeeds.
-pub record Reply : Type 0 where
+pub record Prints : Type 0 where
   pub out : List ℕ
   pub err : List ℕ
   pub file : List ℕ
@@ -14,15 +12,15 @@ pub record Reply : Type 0 where
 
 -- Whether the file that an option names is written: if the call succeeds, or if it fails and has bytes for the file, as
 -- a failed trace has, and a race with an expect line that fails.
-abbrev pub writes_file : Reply → Bool
+abbrev pub writes_file : Prints → Bool
 writes_file p = p.succeeds || nat_lt 0 (length p.file)
 
 -- what an answer prints
-abbrev pub reply_of : Answer → Reply
-reply_of a = record { out = a.out.items; err = a.err.items; file = a.file.items; succeeds = a.succeeds }
+abbrev pub prints_of : Answer → Prints
+prints_of a = record { out = a.out.items; err = a.err.items; file = a.file.items; succeeds = a.succeeds }
 
 -- the same with a note after the message on standard error
-abbrev pub with_note : Reply → List ℕ → Reply
+abbrev pub with_note : Prints → List ℕ → Prints
 with_note p note = record p { err = p.err ++ note }
 
 -- a message after the name of the input and a colon; an empty message stays empty
@@ -31,14 +29,14 @@ named name [] = []
 named name (b ∷ message) = name ++ 58 ∷ [] ++ (b ∷ message)
 
 -- the same with the name of the input before the message on standard error
-abbrev pub under_name : List ℕ → Reply → Reply
+abbrev pub under_name : List ℕ → Prints → Prints
 under_name name p = record p { err = named name p.err }
 
 -- How a call ends (profile): both texts are written, and the status is 0 if the call succeeds, else 1; or a write
 -- failed. `old` and `new` are the bytes that a writer held before and holds now.
 abbrev pub Delivers
-    : Reply → Failures → Failures → Option (List ℕ) → Option (List ℕ) → Option (List ℕ) → Option (List ℕ)
+    : Prints → Failures → Failures → Option (List ℕ) → Option (List ℕ) → Option (List ℕ) → Option (List ℕ)
     → Result ℕ OutputFailed → Type 0
 Delivers p out err old_out new_out old_err new_err (Ok status) =
-    (status ≡ (if p.succeeds then 0 else 1)) × Written out old_out new_out p.out × Written err old_err new_err p.err
+    (status ≡ (if p.succeeds then 0 else 1)) × WroteAll out old_out new_out p.out × WroteAll err old_err new_err p.err
 Delivers p out err old_out new_out old_err new_err (Err failed) = out.after ⊎ err.after

@@ -85,13 +85,13 @@ pub data Ends (reader writer : Failures) (may : Printed → Type 0) (old new : O
   output_fault : writer.after → status ≡ 1 → Ends reader writer may old new status
 
 -- The text was written, and no write failed.
-abbrev pub Written : Failures → Option (List ℕ) → Option (List ℕ) → List ℕ → Type 0
-Written writer old new text = Appends old new text × Unfailed writer
+abbrev pub WroteAll : Failures → Option (List ℕ) → Option (List ℕ) → List ℕ → Type 0
+WroteAll writer old new text = Appends old new text × Unfailed writer
 
 -- The text was written, and the exit status is `status`; or a write has failed, and it is 1.
 abbrev pub Wrote : Failures → Option (List ℕ) → Option (List ℕ) → List ℕ → ℕ → ℕ → Type 0
 Wrote writer old new text status result =
-    ((result ≡ status) × Written writer old new text) ⊎ ((result ≡ 1) × writer.after)
+    ((result ≡ status) × WroteAll writer old new text) ⊎ ((result ≡ 1) × writer.after)
 
 -- How a call ends that has no input to run. `reader_failed`: a read has failed, and `Wrote` holds for the line
 -- `input failed` and status 1. `too_long`: the input, if it is known, is longer than `longest_input`, no read failed,

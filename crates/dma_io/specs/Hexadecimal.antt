@@ -2,16 +2,13 @@
 -- first. A number may have a mark `0x` before it. Gaps and comments are between numbers; a comment is from a `#` that
 -- is outside a number to the end of the line. Only after a pair without a mark may a number begin without a gap or a
 -- comment. The lowest byte of a word comes first in memory.
-use Rattle.std.specs.Prelude.{ℕ, ◌+◌, ◌*◌, ◌%◌, ◌^◌, Bool, true, false, not, ◌==◌, ◌||◌, ◌&&◌, nat_le, nat_lt, if◌then◌else◌, List, [], ◌∷◌, ◌++◌, take, Option, Some, None, Result, Ok, Err, count_by, fold}
-use Rattle.std.specs.Char.{digit_value}
-use Rattle.std.specs.Int.{w32, to_le_bytes}
-use Rattle.std.specs.Option.{ok_or}
-use Rattle.dma_insn.specs.LineReading.{◌>>=◌}
-use Rattle.dma_io.specs.Addresses.{is_digit, without_addresses}
-use Rattle.dma_io.specs.declared.hexadecimal.Notation.{Notation}
-use Rattle.dma_io.specs.declared.hexadecimal.Notation.TheVariants.{Pairs, Words}
-use Rattle.dma_io.specs.declared.hexadecimal.Reading.{Reading}
+use Rattle.std.specs.Prelude.{ℕ, ◌+◌, ◌*◌, ◌%◌, ◌^◌, Bool, true, false, not, ◌==◌, ◌||◌, ◌&&◌, nat_le, nat_lt, if◌then◌else◌, List, [], ◌∷◌, ◌++◌, take, Option}
+use Rattle.std.specs.Prelude.{Some, None, Result, Ok, Err, count_by, fold}
+use Rattle.std.specs.{Char.digit_value, Int.w32, Int.to_le_bytes, Option.ok_or}
+use Rattle.dma_text.specs.Results.{◌>>=◌}
 use Rattle.dma_io.specs.declared.hexadecimal.Reading.TheVariants.{Between, Comment, Number}
+use Rattle.dma_io.specs.{Addresses.is_digit, Addresses.without_addresses, declared.hexadecimal.Notation.Notation}
+use Rattle.dma_io.specs.{declared.hexadecimal.Notation.TheVariants.Pairs, declared.hexadecimal.Notation.TheVariants.Words, declared.hexadecimal.Reading.Reading}
 
 -- a space, a tab, a carriage return, a line feed or a comma
 abbrev pub is_gap : ℕ → Bool

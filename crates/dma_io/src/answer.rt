@@ -1,7 +1,7 @@
 //! What a call of a program prints, and how it is written.
-ghost use Rattle.std.specs.Prelude.{◌≡◌, [], IfOk};
+ghost use Rattle.std.specs.Prelude.{◌≡◌, IfOk};
 ghost use Rattle.dma_io.specs.Command.{failures};
-ghost use Rattle.dma_io.specs.Answer.{Delivers, named, reply_of, under_name, with_note, writes_file};
+ghost use Rattle.dma_io.specs.Answer.{Delivers, named, prints_of, under_name, with_note, writes_file};
 
 use crate::command::{FAULT, SUCCESS};
 use crate::output::{OutputFailed, Sink, write_output};
@@ -33,12 +33,15 @@ fn named(alloc: Global, name: &str, message: &[u8]) -> Result<Vec<u8>, AllocErro
 }
 
 impl Answer {
-    /// Returns an answer that writes no file.
-    pub fn printed(alloc: Global, out: Vec<u8>, err: Vec<u8>, succeeds: bool) -> Answer
-        ensures { reply_of result
-            ≡ record { out = out.items; err = err.items; file = []; succeeds = succeeds } }
+    /// Returns the answer with these texts.
+    pub fn new(out: Vec<u8>, err: Vec<u8>, file: Vec<u8>, succeeds: bool) -> Answer
+        ensures { prints_of result ≡ record {
+          out = out.items;
+          err = err.items;
+          file = file.items;
+          succeeds = succeeds;
+        } }
     {
-        let file = Vec::new(alloc);
         Answer {
             out,
             err,
@@ -49,7 +52,7 @@ impl Answer {
 
     /// Returns the answer with a note after its message. Fails if memory runs out.
     pub fn with_note(mut self, note: &str) -> Result<Answer, AllocError>
-        ensures { IfOk result (λ shown. reply_of shown ≡ with_note (reply_of self) note.now) }
+        ensures { IfOk result (λ shown. prints_of shown ≡ with_note (prints_of self) note.now) }
     {
         print(&mut self.err, &note)?;
         Ok(self)
@@ -57,7 +60,7 @@ impl Answer {
 
     /// Returns the answer with the name of the input before its message. Fails if memory runs out.
     pub fn under_name(mut self, alloc: Global, name: &str) -> Result<Answer, AllocError>
-        ensures { IfOk result (λ shown. reply_of shown ≡ under_name name.now (reply_of self)) }
+        ensures { IfOk result (λ shown. prints_of shown ≡ under_name name.now (prints_of self)) }
     {
         self.err = named(alloc, name, &self.err)?;
         Ok(self)
@@ -65,7 +68,7 @@ impl Answer {
 
     /// Returns whether the file that an option names is written.
     pub fn writes_file(&self) -> bool
-        ensures { result ≡ writes_file (reply_of self.now) }
+        ensures { result ≡ writes_file (prints_of self.now) }
     {
         self.succeeds || !self.file.is_empty()
     }
@@ -78,7 +81,7 @@ pub fn deliver<O: Sink, E: Sink>(
     out: &mut O,
     err: &mut E,
 ) -> Result<u8, OutputFailed>
-    ensures { Delivers (reply_of answer.now)
+    ensures { Delivers (prints_of answer.now)
         (failures O.has_failed out.old out.new) (failures E.has_failed err.old err.new)
         (O.contents out.old) (O.contents out.new) (E.contents err.old) (E.contents err.new) result }
 {

@@ -2,12 +2,12 @@
 //!
 //! Contracts see a reader and a writer as the bytes that they give and take, and whether a call of them has failed.
 //!
-//! Proved: unless a stream fails, `serve` writes all of the output with its status, or, if out of memory, whole lines of
-//! it with status 3, and `deliver` writes an answer; `read_hexadecimal` returns the bytes that a text spells, or the
+//! Proved: unless a stream fails, `serve` writes all of the output with its status, or, if out of memory, whole lines
+//! of it with status 3, and `deliver` writes an answer; `read_hexadecimal` returns the bytes that a text spells, or the
 //! offset of its first fault.
 //!
 //! Not proved: that standard input and output make one call of the system for each call. These streams can't say in a
-//! contract whether they failed.
+//! contract whether they failed. `Progress` has no contract: it receives reports of long calls.
 #![tactic(auto)]
 
 mod addresses;
@@ -18,3 +18,4 @@ pub mod hexadecimal;
 pub mod input;
 pub mod output;
 pub mod printing;
+pub mod progress;

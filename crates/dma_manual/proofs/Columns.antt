@@ -1,40 +1,29 @@
 -- No text of an instruction passes the column of the comments.
-use Rattle.std.proofs.Common.{◌≡◌, ℕ, ◌+◌, ◌*◌, ◌<◌, ◌≤◌, Bool, true, false, List, [], ◌∷◌, ◌++◌, length, refl, Option, Some, None, Result, Ok, Err, cond, eqb, nat_le, arith, min, replicate, codes, decimal, length-append}
+use Rattle.std.proofs.Common.{◌≡◌, ℕ, ◌+◌, ◌*◌, ◌<◌, ◌≤◌, Bool, true, false, List, [], ◌∷◌, ◌++◌, length, refl, Option, Some, None, Result, Ok, Err, cond, eqb}
+use Rattle.std.proofs.Common.{nat_le, arith, min, replicate, codes, decimal, length-append}
 use Rattle.std.specs.Fmt.{digits}
-use Rattle.std.proofs.lemmas.Bool.{leb-true}
-use Rattle.std.proofs.lemmas.List.{length-drop}
+use Rattle.std.proofs.{lemmas.Bool.leb-true, lemmas.List.length-drop}
 use Rattle.dma_insn.specs.ControlWord.{HasEndRanges, beat_bytes, control_of}
-use Rattle.dma_insn.proofs.ControlLaws.{control_of_fields}
-use Rattle.dma_insn.specs.Chip.{HasRanges as HasChipRanges}
-use Rattle.dma_insn.specs.declared.control.BeatSize.{BeatSize}
-use Rattle.dma_insn.specs.declared.control.BeatSize.TheVariants.{One}
-use Rattle.dma_insn.specs.declared.control.BurstEnd.{BurstEnd}
-use Rattle.dma_insn.specs.declared.control.Control.{Control}
-use Rattle.dma_insn.specs.declared.control.ControlFault.{ControlFault}
 use Rattle.dma_insn.specs.declared.insn.Reg.TheVariants.{Sar, Ccr, Dar}
-use Rattle.dma_insn.specs.declared.insn.Counter.{Counter}
-use Rattle.dma_insn.specs.declared.insn.Counter.TheVariants.{Lc0, Lc1}
-use Rattle.dma_insn.specs.declared.chip.ChipInsn.{ChipInsn}
 use Rattle.dma_insn.specs.declared.chip.ChipInsn.TheVariants.{Mov, Lp, LpEnd, Sev, Wfe, AddHalfword, LoopAgain}
+use Rattle.dma_insn.specs.{declared.control.BeatSize.BeatSize, declared.control.BeatSize.TheVariants.One, declared.control.BurstEnd.BurstEnd}
+use Rattle.dma_insn.specs.{declared.control.Control.Control, declared.control.ControlFault.ControlFault, declared.insn.Counter.Counter}
+use Rattle.dma_insn.specs.{declared.insn.Counter.TheVariants.Lc0, declared.insn.Counter.TheVariants.Lc1, declared.chip.ChipInsn.ChipInsn}
+use Rattle.dma_insn.proofs.ControlLaws.{control_of_fields}
+use Rattle.dma_manual.specs.declared.insns.OtherInsn.TheVariants.{LdIf, StIf, OfPeripheral, LpEndIf, LoopAgainIf, Go}
+use Rattle.dma_manual.specs.ManualText.{cache_signals, control_text_of, counter_name, end_name, end_text, field_text, flag_text, increment_name, letter}
+use Rattle.dma_manual.specs.ManualText.{manual_text, other_text}
+use Rattle.dma_manual.specs.{declared.insns.ManualInsn.ManualInsn, declared.insns.ManualInsn.TheVariants.Chip, declared.insns.ManualInsn.TheVariants.Other}
+use Rattle.dma_manual.specs.{declared.insns.OtherInsn.OtherInsn, declared.insns.Request.Request, declared.insns.Request.TheVariants.Single}
+use Rattle.dma_manual.specs.{declared.insns.Request.TheVariants.Burst, declared.listing.Jump.Jump, declared.manual.Side.Side}
+use Rattle.dma_manual.specs.{declared.manual.Side.TheVariants.Source, declared.manual.Side.TheVariants.Destination, Insns.HasOtherRanges, Insns.HasRanges}
+use Rattle.dma_manual.specs.{Listing.blanks_behind, Listing.indented, Listing.jump_of, Listing.label_name, Listing.statement_text, Laws.CommentsStandInColumns}
+use Rattle.dma_text.specs.Digits.{hex_digits}
+use Rattle.dma_manual.proofs.{Numerals.each, Numerals.each_at, ControlTexts.ranges_of, ControlTexts.signals_le}
+use Rattle.dma_insn.specs.Chip.{HasRanges as HasChipRanges}
 use Rattle.dma_insn.specs.declared.chip.Address.TheVariants as address
 use Rattle.dma_manual.specs.declared.insns.Action.TheVariants as action
 use Rattle.dma_manual.specs.declared.insns.Awaited.TheVariants as awaited
-use Rattle.dma_manual.specs.declared.insns.ManualInsn.{ManualInsn}
-use Rattle.dma_manual.specs.declared.insns.ManualInsn.TheVariants.{Chip, Other}
-use Rattle.dma_manual.specs.declared.insns.OtherInsn.{OtherInsn}
-use Rattle.dma_manual.specs.declared.insns.OtherInsn.TheVariants.{LdIf, StIf, OfPeripheral, LpEndIf, LoopAgainIf, Go}
-use Rattle.dma_manual.specs.declared.insns.Request.{Request}
-use Rattle.dma_manual.specs.declared.insns.Request.TheVariants.{Single, Burst}
-use Rattle.dma_manual.specs.declared.listing.Jump.{Jump}
-use Rattle.dma_manual.specs.declared.manual.Side.{Side}
-use Rattle.dma_manual.specs.declared.manual.Side.TheVariants.{Source, Destination}
-use Rattle.dma_text.specs.Digits.{hex_digits}
-use Rattle.dma_manual.specs.Insns.{HasOtherRanges, HasRanges}
-use Rattle.dma_manual.specs.ManualText.{cache_signals, control_text_of, counter_name, end_name, end_text, field_text, flag_text, increment_name, letter, manual_text, other_text}
-use Rattle.dma_manual.specs.Listing.{blanks_behind, indented, jump_of, label_name, statement_text}
-use Rattle.dma_manual.specs.Laws.{CommentsStandInColumns}
-use Rattle.dma_manual.proofs.Numerals.{each, each_at}
-use Rattle.dma_manual.proofs.ControlTexts.{ranges_of, signals_le}
 
 -- the digits of a number
 three_digits : each 257 (λ n. nat_le (length (decimal n)) 3) ≡ each 257 (λ n. true)
@@ -117,7 +106,14 @@ control_by v (Ok c) is =
     let destination = signals_le Destination c.dst.cache ranges.1.cache in
     let most_source : length (decimal (cache_signals Source c.src.cache)) ≤ 1 = one c.src.cache (omega arith) in
     let most_destination : length (decimal (cache_signals Destination c.dst.cache)) ≤ 2 = two (cache_signals Destination c.dst.cache) (omega arith) in
-    omega (arith, length-append (end_text Source c.src) (end_text Destination c.dst), end_le Source c.src ranges.0, end_le Destination c.dst ranges.1, most_source, most_destination)
+    omega (
+      arith,
+      length-append (end_text Source c.src) (end_text Destination c.dst),
+      end_le Source c.src ranges.0,
+      end_le Destination c.dst ranges.1,
+      most_source,
+      most_destination,
+    )
 
 -- the text of an instruction
 chip_le : (i : ChipInsn) → HasChipRanges i → length (manual_text i) ≤ 58
@@ -145,7 +141,14 @@ peripheral_le p flag small few = let most : length (decimal p) ≤ 2 = two p (om
 go_le : (c a : ℕ) (flag : List ℕ) → c < 8 → length flag ≤ 4 → length ((decimal c ++ codes ", 0x") ++ (hex_digits a ++ flag)) ≤ 17
 go_le c a flag small few =
     let most : length (decimal c) ≤ 1 = one c (omega arith) in
-    omega (arith, most, length-append (decimal c ++ codes ", 0x") (hex_digits a ++ flag), length-append (decimal c) (codes ", 0x"), length-append (hex_digits a) flag)
+    omega (
+      arith,
+      most,
+      length-append (decimal c ++ codes ", 0x") (hex_digits a ++ flag),
+      length-append (decimal c) (codes ", 0x"),
+      length-append (hex_digits a)
+          flag,
+    )
 
 back_le : (b : ℕ) → b < 256 → length (decimal b) ≤ 3
 back_le b small = three b (omega arith)

@@ -1,31 +1,22 @@
 -- The printed fields of a control word, which the assembler reads back.
-use Rattle.std.proofs.Common.{◌≡◌, ℕ, ◌*◌, ◌^◌, ◌<◌, ◌≤◌, Bool, true, false, List, [], ◌∷◌, ◌++◌, map, length, zero, suc, refl, sym, ap, ap₂, ◌∙◌, subst, Some, None, Option, Result, Ok, Err, cond, eqb, arith, codes, decimal, append_assoc, length-append, unwrap_or}
-use Rattle.std.specs.List.{list_all}
-use Rattle.std.specs.Fmt.{digits}
-use Rattle.std.proofs.lemmas.List.{map-append, length-map}
-use Rattle.std.proofs.lemmas.Bool.{and_from, le-leb}
+use Rattle.std.proofs.Common.{◌≡◌, ℕ, ◌*◌, ◌^◌, ◌<◌, ◌≤◌, Bool, true, false, List, [], ◌∷◌, ◌++◌, map, length, zero, suc, refl, sym, ap, ap₂, ◌∙◌, subst, Some}
+use Rattle.std.proofs.Common.{None, Option, Result, Ok, Err, cond, eqb, arith, codes, decimal, append_assoc, length-append, unwrap_or}
+use Rattle.std.specs.{List.list_all, Fmt.digits}
+use Rattle.std.proofs.{lemmas.List.map-append, lemmas.List.length-map, lemmas.Bool.and_from, lemmas.Bool.le-leb}
 use Rattle.dma_insn.specs.ControlWord.{HasEndRanges, HasFields, beat_bytes, bits_of, control_of}
+use Rattle.dma_insn.specs.{declared.control.BeatSize.BeatSize, declared.control.BeatSize.TheVariants.One, declared.control.BurstEnd.BurstEnd}
+use Rattle.dma_insn.specs.{declared.control.Control.Control, declared.control.ControlFault.ControlFault, declared.insn.Reg.TheVariants.Ccr}
+use Rattle.dma_insn.specs.{declared.chip.ChipInsn.TheVariants.Mov}
 use Rattle.dma_insn.proofs.ControlLaws.{bits_of_fields, control_of_fields}
-use Rattle.dma_insn.specs.declared.control.BeatSize.{BeatSize}
-use Rattle.dma_insn.specs.declared.control.BeatSize.TheVariants.{One}
-use Rattle.dma_insn.specs.declared.control.BurstEnd.{BurstEnd}
-use Rattle.dma_insn.specs.declared.control.Control.{Control}
-use Rattle.dma_insn.specs.declared.control.ControlFault.{ControlFault}
-use Rattle.dma_insn.specs.declared.insn.Reg.TheVariants.{Ccr}
-use Rattle.dma_insn.specs.declared.chip.ChipInsn.TheVariants.{Mov}
-use Rattle.dma_manual.specs.declared.insns.ManualInsn.TheVariants.{Chip}
-use Rattle.dma_manual.specs.declared.manual.Side.{Side}
-use Rattle.dma_manual.specs.declared.manual.Side.TheVariants.{Source, Destination}
-use Rattle.dma_manual.specs.declared.fields.EndFields.{EndFields}
-use Rattle.dma_manual.specs.declared.fields.Fields.{Fields}
-use Rattle.dma_manual.specs.declared.statements.Statement.TheVariants as says
 use Rattle.dma_manual.specs.ManualText.{cache_signals, control_text, control_text_of, end_text, field_text, flag_text, increment_name, letter}
-use Rattle.dma_manual.specs.Words.{is_word_byte, next_of, plain_byte}
 use Rattle.dma_manual.specs.Fields.{cache_of, end_of, fields_at, fields_from, no_end, no_fields, set_end, set_field, word_of}
-use Rattle.dma_manual.specs.Statements.{control_line}
+use Rattle.dma_manual.specs.{declared.insns.ManualInsn.TheVariants.Chip, declared.manual.Side.Side, declared.manual.Side.TheVariants.Source}
+use Rattle.dma_manual.specs.{declared.manual.Side.TheVariants.Destination, declared.fields.EndFields.EndFields, declared.fields.Fields.Fields}
+use Rattle.dma_manual.specs.{Words.is_word_byte, Words.next_of, Words.plain_byte, Statements.control_line}
 use Rattle.dma_manual.proofs.Cuts.{all_append, gap_spaces, has_bytes, is_gap, is_inline, is_space, next_none, next_space, next_word}
 use Rattle.dma_manual.proofs.Numerals.{decimal_read, each, each_at, hex_words, plain, plain_append_law}
 use Rattle.dma_manual.proofs.Said.{control_fields, control_said}
+use Rattle.dma_manual.specs.declared.statements.Statement.TheVariants as says
 
 -- words, each after a space, in front of a tail
 abbrev pub spaced : List (List ℕ) → List ℕ → List ℕ
@@ -84,10 +75,12 @@ key Destination = 100
 abbrev with_key : Side → List (List ℕ) → List (List ℕ)
 with_key side names = map (λ name. key side ∷ name) names
 
-source_word : (f : Fields) (name rest : List ℕ) (e : EndFields) → set_end f.src Source name (115 ∷ name) rest ≡ Ok e → set_field f (115 ∷ name) rest ≡ Ok (record f { src = e })
+source_word : (f : Fields) (name rest : List ℕ) (e : EndFields) → set_end f.src Source name (115 ∷ name) rest ≡ Ok e
+    → set_field f (115 ∷ name) rest ≡ Ok (record f { src = e })
 source_word f name rest e h = rw h refl
 
-destination_word : (f : Fields) (name rest : List ℕ) (e : EndFields) → set_end f.dst Destination name (100 ∷ name) rest ≡ Ok e → set_field f (100 ∷ name) rest ≡ Ok (record f { dst = e })
+destination_word : (f : Fields) (name rest : List ℕ) (e : EndFields) → set_end f.dst Destination name (100 ∷ name) rest ≡ Ok e
+    → set_field f (100 ∷ name) rest ≡ Ok (record f { dst = e })
 destination_word f name rest e h = rw h refl
 
 source_set : (names : List (List ℕ)) (f : Fields) (d : EndFields) → EndSet Source f.src names d → AreSet f (with_key Source names) (record f { src = d })
@@ -95,7 +88,8 @@ source_set [] f d a = ap (λ (x : EndFields). record f { src = x }) a
 source_set (name ∷ names) f d a =
     (record f { src = a.0 }, refl, a.1, λ rest. source_word f name rest a.0 (a.2 (115 ∷ name) rest), source_set names (record f { src = a.0 }) d a.3)
 
-destination_set : (names : List (List ℕ)) (f : Fields) (d : EndFields) → EndSet Destination f.dst names d → AreSet f (with_key Destination names) (record f { dst = d })
+destination_set : (names : List (List ℕ)) (f : Fields) (d : EndFields) → EndSet Destination f.dst names d
+    → AreSet f (with_key Destination names) (record f { dst = d })
 destination_set [] f d a = ap (λ (x : EndFields). record f { dst = x }) a
 destination_set (name ∷ names) f d a =
     (record f { dst = a.0 }, refl, a.1, λ rest. destination_word f name rest a.0 (a.2 (100 ∷ name) rest), destination_set names (record f { dst = a.0 }) d a.3)
@@ -115,7 +109,13 @@ flag_name_le k n = elim (eqb n 0) as (λ (t : Bool). length (cond t [] ((k ∷ p
 
 names_of_le : (side : Side) (e : BurstEnd) → length (names_of side e) ≤ 5
 names_of_le side e =
-    omega (arith, length-append (flag_name 112 e.protection) (flag_name 99 (cache_signals side e.cache)), flag_name_le 112 e.protection, flag_name_le 99 (cache_signals side e.cache))
+    omega (
+      arith,
+      length-append (flag_name 112 e.protection) (flag_name 99 (cache_signals side e.cache)),
+      flag_name_le 112 e.protection,
+      flag_name_le 99
+          (cache_signals side e.cache),
+    )
 
 -- some fields of an end
 abbrev with_three : ℕ → BeatSize → Bool → Option ℕ → Option ℕ → EndFields
@@ -132,7 +132,8 @@ beats_set side n word rest low high =
     rw (value, le-leb 1 n low, le-leb n 16 high) refl
 
 size_set : (side : Side) (b : ℕ) (s : BeatSize) (word rest : List ℕ)
-    → set_end (record no_end { beats = Some b }) side (115 ∷ plain (decimal (8 * beat_bytes s))) word rest ≡ Ok (record no_end { beats = Some b; size = Some s })
+    → set_end (record no_end { beats = Some b }) side (115 ∷ plain (decimal (8 * beat_bytes s))) word rest ≡ Ok
+    (record no_end { beats = Some b; size = Some s })
 unfolding digits
 size_set side b One word rest = refl
 size_set side b _ word rest = refl
@@ -161,7 +162,12 @@ first_set side e h =
         record no_end { beats = Some e.beats; size = Some e.size },
         size_word e.size,
         λ word rest. size_set side e.beats e.size word rest,
-        (with_three e.beats e.size e.increments None None, increments_word e.increments, λ word rest. increments_set side e.beats e.size e.increments word rest, refl),
+        (
+          with_three e.beats e.size e.increments None None,
+          increments_word e.increments,
+          λ word rest. increments_set side e.beats e.size e.increments word rest,
+          refl,
+        ),
       ),
     )
 
@@ -183,7 +189,8 @@ protection_flag : (side : Side) (b : ℕ) (s : BeatSize) (i : Bool) (p : ℕ) �
     → EndSet side (with_three b s i None None) (flag_name 112 p) (with_three b s i (flag p p) None)
 protection_flag side b s i p small =
     let r = decimal_read p (omega arith) in
-    elim (eqb p 0) as (λ (t : Bool). EndSet side (with_three b s i None None) (cond t [] ((112 ∷ plain (decimal p)) ∷ [])) (with_three b s i (cond t None (Some p)) None)) [
+    elim (eqb p 0) as (λ (t : Bool). EndSet side (with_three b s i None None) (cond t [] ((112 ∷ plain (decimal p)) ∷ []))
+    (with_three b s i (cond t None (Some p)) None)) [
       | true ↦ refl
       | false ↦ (with_three b s i (Some p) None, r.word, λ word rest. protection_set side b s i p word rest small, refl)
     ]
@@ -192,7 +199,8 @@ cache_flag : (side : Side) (b : ℕ) (s : BeatSize) (i : Bool) (p : Option ℕ) 
     → EndSet side (with_three b s i p None) (flag_name 99 n) (with_three b s i p (flag n c))
 cache_flag side b s i p n c small back =
     let r = decimal_read n (omega arith) in
-    elim (eqb n 0) as (λ (t : Bool). EndSet side (with_three b s i p None) (cond t [] ((99 ∷ plain (decimal n)) ∷ [])) (with_three b s i p (cond t None (Some c)))) [
+    elim (eqb n 0) as (λ (t : Bool). EndSet side (with_three b s i p None) (cond t [] ((99 ∷ plain (decimal n)) ∷ []))
+    (with_three b s i p (cond t None (Some c)))) [
       | true ↦ refl
       | false ↦ (with_three b s i p (Some c), r.word, λ word rest. cache_set side b s i p n c word rest small back, refl)
     ]
@@ -224,8 +232,10 @@ end_set : (side : Side) (e : BurstEnd) → HasEndRanges e → EndSet side no_end
 end_set side e h =
     let n = cache_signals side e.cache in
     let p = flag e.protection e.protection in
-    end_set_append side (first_names e) (flag_name 112 e.protection ++ flag_name 99 n) no_end (with_three e.beats e.size e.increments None None) (fields_of side e) (first_set side e h)
-    (end_set_append side (flag_name 112 e.protection) (flag_name 99 n) (with_three e.beats e.size e.increments None None) (with_three e.beats e.size e.increments p None) (fields_of side e)
+    end_set_append side (first_names e) (flag_name 112 e.protection ++ flag_name 99 n) no_end (with_three e.beats e.size e.increments None None)
+    (fields_of side e) (first_set side e h)
+    (end_set_append side (flag_name 112 e.protection) (flag_name 99 n) (with_three e.beats e.size e.increments None None)
+    (with_three e.beats e.size e.increments p None) (fields_of side e)
     (protection_flag side e.beats e.size e.increments e.protection h.protection)
     (cache_flag side e.beats e.size e.increments p n e.cache (signals_le side e.cache h.cache) (cache_back side e.cache h.cache)))
 
@@ -237,18 +247,22 @@ end_of_fields side e h =
 five : (b s a p c rest : List ℕ) → plain ((((b ++ s) ++ a) ++ p) ++ c) ++ rest ≡ plain b ++ (plain s ++ (plain a ++ (plain p ++ (plain c ++ rest))))
 five b s a p c rest = simp (map-append, append_assoc)
 
-field_plain : (side : Side) (name : ℕ) (value rest : List ℕ) → plain (field_text (letter side) (name ∷ []) value) ++ rest ≡ 32 ∷ ((key side ∷ plain_byte name ∷ plain value) ++ rest)
+field_plain : (side : Side) (name : ℕ) (value rest : List ℕ)
+    → plain (field_text (letter side) (name ∷ []) value) ++ rest ≡ 32 ∷ ((key side ∷ plain_byte name ∷ plain value) ++ rest)
 field_plain Source name value rest = refl
 field_plain Destination name value rest = refl
 
-flag_plain : (side : Side) (name n : ℕ) (rest : List ℕ) → plain (flag_text (letter side) (name ∷ []) n) ++ rest ≡ spaced (with_key side (flag_name (plain_byte name) n)) rest
+flag_plain : (side : Side) (name n : ℕ) (rest : List ℕ)
+    → plain (flag_text (letter side) (name ∷ []) n) ++ rest ≡ spaced (with_key side (flag_name (plain_byte name) n)) rest
 flag_plain side name n rest =
-    elim (eqb n 0) as (λ (t : Bool). plain (cond t [] (field_text (letter side) (name ∷ []) (decimal n))) ++ rest ≡ spaced (with_key side (cond t [] ((plain_byte name ∷ plain (decimal n)) ∷ []))) rest) [
+    elim (eqb n 0) as (λ (t : Bool). plain (cond t [] (field_text (letter side) (name ∷ []) (decimal n))) ++ rest ≡ spaced
+    (with_key side (cond t [] ((plain_byte name ∷ plain (decimal n)) ∷ []))) rest) [
       | true ↦ refl
       | false ↦ field_plain side name (decimal n) rest
     ]
 
-increments_plain : (side : Side) (i : Bool) (rest : List ℕ) → plain (codes " " ++ letter side ++ increment_name i) ++ rest ≡ 32 ∷ ((key side ∷ plain (increment_name i)) ++ rest)
+increments_plain : (side : Side) (i : Bool) (rest : List ℕ)
+    → plain (codes " " ++ letter side ++ increment_name i) ++ rest ≡ 32 ∷ ((key side ∷ plain (increment_name i)) ++ rest)
 increments_plain Source i rest = refl
 increments_plain Destination i rest = refl
 
@@ -266,8 +280,10 @@ end_plain side e rest =
     ap (λ (l : List ℕ). plain p ++ l) (flag_plain side 67 n rest) ∙ flag_plain side 80 e.protection (spaced cs rest) ∙ sym (spaced_append ps cs rest)
     ∙ ap (λ (l : List (List ℕ)). spaced l rest) (sym (map-append (λ name. key side ∷ name) (flag_name 112 e.protection) (flag_name 99 n))) in
     five b s a p c rest ∙ field_plain side 66 (decimal e.beats) (plain s ++ (plain a ++ (plain p ++ (plain c ++ rest))))
-    ∙ ap (λ (l : List ℕ). 32 ∷ ((key side ∷ 98 ∷ plain (decimal e.beats)) ++ l)) (field_plain side 83 (decimal (8 * beat_bytes e.size)) (plain a ++ (plain p ++ (plain c ++ rest)))
-    ∙ ap (λ (l : List ℕ). 32 ∷ ((key side ∷ 115 ∷ plain (decimal (8 * beat_bytes e.size))) ++ l)) (increments_plain side e.increments (plain p ++ (plain c ++ rest))
+    ∙ ap (λ (l : List ℕ). 32 ∷ ((key side ∷ 98 ∷ plain (decimal e.beats)) ++ l))
+    (field_plain side 83 (decimal (8 * beat_bytes e.size)) (plain a ++ (plain p ++ (plain c ++ rest)))
+    ∙ ap (λ (l : List ℕ). 32 ∷ ((key side ∷ 115 ∷ plain (decimal (8 * beat_bytes e.size))) ++ l))
+    (increments_plain side e.increments (plain p ++ (plain c ++ rest))
     ∙ ap (λ (l : List ℕ). 32 ∷ ((key side ∷ plain (increment_name e.increments)) ++ l)) flags_are))
 
 control_plain : (c : Control) (tail : List ℕ) → plain (end_text Source c.src ++ end_text Destination c.dst) ++ tail
@@ -275,15 +291,18 @@ control_plain : (c : Control) (tail : List ℕ) → plain (end_text Source c.src
 control_plain c tail =
     let s = end_text Source c.src in
     let d = end_text Destination c.dst in
-    plain_append_law s d tail ∙ ap (λ (l : List ℕ). plain s ++ l) (end_plain Destination c.dst tail) ∙ end_plain Source c.src (spaced (with_key Destination (names_of Destination c.dst)) tail)
+    plain_append_law s d tail ∙ ap (λ (l : List ℕ). plain s ++ l) (end_plain Destination c.dst tail)
+    ∙ end_plain Source c.src (spaced (with_key Destination (names_of Destination c.dst)) tail)
     ∙ sym (spaced_append (with_key Source (names_of Source c.src)) (with_key Destination (names_of Destination c.dst)) tail)
 
 -- The words of a control word's ends set its fields.
 ends_set : (c : Control) → HasEndRanges c.src → HasEndRanges c.dst
-    → AreSet no_fields (with_key Source (names_of Source c.src) ++ with_key Destination (names_of Destination c.dst)) (record { src = fields_of Source c.src; dst = fields_of Destination c.dst; swap = false })
+    → AreSet no_fields (with_key Source (names_of Source c.src) ++ with_key Destination (names_of Destination c.dst))
+    (record { src = fields_of Source c.src; dst = fields_of Destination c.dst; swap = false })
 ends_set c s d =
     let f = record no_fields { src = fields_of Source c.src } in
-    are_set_append (with_key Source (names_of Source c.src)) (with_key Destination (names_of Destination c.dst)) no_fields f (record f { dst = fields_of Destination c.dst })
+    are_set_append (with_key Source (names_of Source c.src)) (with_key Destination (names_of Destination c.dst)) no_fields f
+    (record f { dst = fields_of Destination c.dst })
     (source_set (names_of Source c.src) no_fields (fields_of Source c.src) (end_set Source c.src s))
     (destination_set (names_of Destination c.dst) f (fields_of Destination c.dst) (end_set Destination c.dst d))
 
@@ -293,9 +312,18 @@ ends_read c tail s d spaces =
     let ss = with_key Source (names_of Source c.src) in
     let ds = with_key Destination (names_of Destination c.dst) in
     let fits : length (ss ++ ds) ≤ 11 =
-    omega (arith, length-append ss ds, length-map (names_of Source c.src) (λ name. key Source ∷ name), length-map (names_of Destination c.dst) (λ name. key Destination ∷ name), names_of_le Source c.src, names_of_le Destination c.dst) in
+    omega (
+      arith,
+      length-append ss ds,
+      length-map (names_of Source c.src) (λ name. key Source ∷ name),
+      length-map (names_of Destination c.dst)
+          (λ name. key Destination ∷ name),
+      names_of_le Source c.src,
+      names_of_le Destination c.dst,
+    ) in
     fields_space 11 no_fields (spaced (ss ++ ds) tail)
-    ∙ fields_read (ss ++ ds) 11 no_fields (record { src = fields_of Source c.src; dst = fields_of Destination c.dst; swap = false }) tail fits (ends_set c s d) spaces
+    ∙ fields_read (ss ++ ds) 11 no_fields (record { src = fields_of Source c.src; dst = fields_of Destination c.dst; swap = false }) tail fits (ends_set c s d)
+    spaces
     ∙ ap₂ (λ (x y : BurstEnd). Ok (bits_of (record { src = x; dst = y }))) (end_of_fields Source c.src s) (end_of_fields Destination c.dst d)
 
 -- an accepted word has its ends in range
@@ -316,8 +344,11 @@ control_by v tail (Ok c) is small spaces =
     let words = with_key Source (names_of Source c.src) ++ with_key Destination (names_of Destination c.dst) in
     let r = decimal_read c.src.beats (let most = ranges.0.beats in omega arith) in
     let first = 115 ∷ 98 ∷ plain (decimal c.src.beats) in
-    let more = spaced (with_key Source ((115 ∷ plain (decimal (8 * beat_bytes c.src.size))) ∷ plain (increment_name c.src.increments) ∷ (flag_name 112 c.src.protection ++ flag_name 99 (cache_signals Source c.src.cache))) ++ with_key Destination (names_of Destination c.dst)) tail in
-    let next : next_of (32 ∷ spaced words tail) ≡ Some (first, more) = next_space (32 ∷ (first ++ more)) ∙ next_space (first ++ more) ∙ next_word first more refl r.word refl in
+    let more = spaced (with_key Source
+    ((115 ∷ plain (decimal (8 * beat_bytes c.src.size))) ∷ plain (increment_name c.src.increments) ∷
+    (flag_name 112 c.src.protection ++ flag_name 99 (cache_signals Source c.src.cache))) ++ with_key Destination (names_of Destination c.dst)) tail in
+    let next : next_of (32 ∷ spaced words tail) ≡ Some (first, more) = next_space (32 ∷ (first ++ more)) ∙ next_space (first ++ more)
+    ∙ next_word first more refl r.word refl in
     ap (λ (l : List ℕ). control_line (codes "ccr") (32 ∷ l)) (control_plain c tail)
     ∙ control_fields (codes "ccr") (32 ∷ spaced words tail) first more (bits_of c) next refl (ends_read c tail ranges.0 ranges.1 spaces)
     ∙ ap (λ (n : ℕ). Ok (says.Plain (Chip (Mov Ccr n)))) (bits_of_fields v c small fields)

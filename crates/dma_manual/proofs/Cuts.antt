@@ -3,7 +3,8 @@ use Rattle.std.proofs.Common.{◌≡◌, ℕ, Bool, true, false, not, ◌&&◌, 
 use Rattle.std.specs.List.{list_all, position_or_len}
 use Rattle.std.proofs.lemmas.Bool.{and_parts, and_from, cases_lt, lt-ltb, le-ltb, eqb-true, ne_eqb, false≢true}
 use Rattle.std.proofs.lemmas.List.{take_min, drop_min}
-use Rattle.dma_insn.specs.AssemblyText.{onto_first, text_lines}
+use Rattle.std.specs.List.{onto_first}
+use Rattle.dma_text.specs.Lines.{text_lines}
 use Rattle.dma_manual.specs.Words.{begins_comment, code_of, cut_at_gap, is_word_byte, next_of, place_or_len}
 
 pub all_append : (p : ℕ → Bool) (xs ys : List ℕ) → list_all p xs ≡ true → list_all p ys ≡ true → list_all p (xs ++ ys) ≡ true
@@ -108,7 +109,8 @@ split_is : (n m : ℕ) (bytes : List ℕ) → n ≡ min m (length bytes)
     → ◌≡◌ {A = Option (List ℕ × List ℕ)} (Some (take n bytes, drop n bytes)) (Some (take m bytes, drop m bytes))
 split_is n m bytes e = rw (e, take_min m bytes, drop_min m bytes) refl
 
-cut_some : (b : ℕ) (bytes : List ℕ) → cut_at_gap (b ∷ bytes) ≡ Some (take (position_or_len is_space (b ∷ bytes)) (b ∷ bytes), drop (position_or_len is_space (b ∷ bytes)) (b ∷ bytes))
+cut_some : (b : ℕ) (bytes : List ℕ)
+    → cut_at_gap (b ∷ bytes) ≡ Some (take (position_or_len is_space (b ∷ bytes)) (b ∷ bytes), drop (position_or_len is_space (b ∷ bytes)) (b ∷ bytes))
 cut_some b bytes =
     let n = place_or_len (position is_space (b ∷ bytes)) (b ∷ bytes) in
     let long : eqb (length (b ∷ bytes)) 0 ≡ false = ne_eqb (length (b ∷ bytes)) 0 (λ z. omega arith) in

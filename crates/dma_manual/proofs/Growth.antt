@@ -1,34 +1,22 @@
 -- What a line of a text adds to what is read.
 use Rattle.std.proofs.Common.{◌≡◌, ℕ, ◌+◌, ◌≤◌, ◌||◌, List, [], ◌∷◌, ◌++◌, length, refl, Option, Some, None, Result, Ok}
 use Rattle.std.proofs.lemmas.Bool.{le-leb}
-use Rattle.dma_insn.specs.AssemblyText.{most_program_bytes, text_lines}
-use Rattle.dma_insn.specs.declared.insn.Counter.{Counter}
+use Rattle.dma_text.specs.Lines.{text_lines}
 use Rattle.dma_insn.specs.declared.insn.Counter.TheVariants.{Lc0, Lc1}
 use Rattle.dma_insn.specs.declared.chip.ChipInsn.TheVariants.{Lp, LpEnd, LoopAgain}
-use Rattle.dma_manual.specs.declared.insns.ManualInsn.{ManualInsn}
-use Rattle.dma_manual.specs.declared.insns.ManualInsn.TheVariants.{Chip, Other}
-use Rattle.dma_manual.specs.declared.insns.OtherInsn.TheVariants.{LpEndIf, LoopAgainIf}
-use Rattle.dma_manual.specs.declared.insns.Request.{Request}
-use Rattle.dma_manual.specs.Insns.{spelling}
-use Rattle.dma_manual.specs.Listing.{is_end}
-use Rattle.dma_manual.specs.Words.{code_of, next_of}
-use Rattle.dma_manual.specs.Statements.{statement_at}
-use Rattle.dma_manual.specs.Assembled.{Read, after_statement, again_of, assembled, condition_of, empty, end_of, ended_loop, first_stray, is_closed_by, is_free_or_closed, jump_of, label_in, place_of, slot, take_line, take_lines, with_bytes, with_loop, with_statement}
-use Rattle.dma_manual.specs.declared.assembler.Located.{Located}
-use Rattle.dma_manual.specs.declared.assembler.Place.{Place}
-use Rattle.dma_manual.specs.declared.loops.LoopKind.{LoopKind}
-use Rattle.dma_manual.specs.declared.loops.LoopKind.TheVariants.{Counted, Endless}
-use Rattle.dma_manual.specs.declared.loops.Loops.{Loops}
-use Rattle.dma_manual.specs.declared.loops.Open.{Open}
-use Rattle.dma_manual.specs.declared.statements.Again.{Again}
-use Rattle.dma_manual.specs.declared.statements.Again.TheVariants.{Always, If}
+use Rattle.dma_insn.specs.{AssemblyText.most_program_bytes, declared.insn.Counter.Counter}
+use Rattle.dma_manual.specs.Assembled.{Read, after_statement, again_of, assembled, condition_of, empty, end_of, ended_loop, first_stray, is_closed_by}
+use Rattle.dma_manual.specs.Assembled.{is_free_or_closed, jump_of, label_in, place_of, slot, take_line, take_lines, with_bytes, with_loop, with_statement}
+use Rattle.dma_manual.specs.{declared.insns.ManualInsn.ManualInsn, declared.insns.ManualInsn.TheVariants.Chip, declared.insns.ManualInsn.TheVariants.Other}
+use Rattle.dma_manual.specs.{declared.insns.OtherInsn.TheVariants.LpEndIf, declared.insns.OtherInsn.TheVariants.LoopAgainIf, declared.insns.Request.Request}
+use Rattle.dma_manual.specs.{Insns.spelling, Listing.is_end, Words.code_of, Words.next_of, Statements.statement_at, declared.assembler.Located.Located}
+use Rattle.dma_manual.specs.{declared.assembler.Place.Place, declared.loops.LoopKind.LoopKind, declared.loops.LoopKind.TheVariants.Counted}
+use Rattle.dma_manual.specs.{declared.loops.LoopKind.TheVariants.Endless, declared.loops.Loops.Loops, declared.loops.Open.Open, declared.statements.Again.Again}
+use Rattle.dma_manual.specs.{declared.statements.Again.TheVariants.Always, declared.statements.Again.TheVariants.If, declared.statements.Statement.Statement}
+use Rattle.dma_manual.proofs.{Numerals.plain, Said.Says, Said.says_read, InsnTexts.statement_of}
 use Rattle.dma_manual.specs.declared.statements.End.{End as LoopTo}
 use Rattle.dma_manual.specs.declared.statements.End.TheVariants as ends
-use Rattle.dma_manual.specs.declared.statements.Statement.{Statement}
 use Rattle.dma_manual.specs.declared.statements.Statement.TheVariants as says
-use Rattle.dma_manual.proofs.Numerals.{plain}
-use Rattle.dma_manual.proofs.Said.{Says, says_read}
-use Rattle.dma_manual.proofs.InsnTexts.{statement_of}
 
 -- No loop has to be ended.
 abbrev pub Quiet : Loops → Type 0
@@ -50,9 +38,17 @@ pub record Grown (r : Read) (bytes : List ℕ) (result : Result Read Located) : 
 bytes_fit : (code bytes : List ℕ) (place : Place) → length code + length bytes ≤ most_program_bytes → with_bytes code bytes place ≡ Ok (code ++ bytes)
 bytes_fit code bytes place fits = rw (le-leb (length code + length bytes) most_program_bytes fits) refl
 
-plain_grown : (r : Read) (i : ManualInsn) (place : Place) → length r.code + length (spelling i) ≤ most_program_bytes → Quiet r.loops → Grown r (spelling i) (after_statement r (says.Plain i) place)
+plain_grown : (r : Read) (i : ManualInsn) (place : Place) → length r.code + length (spelling i) ≤ most_program_bytes → Quiet r.loops
+    → Grown r (spelling i) (after_statement r (says.Plain i) place)
 plain_grown r i place fits q =
-    record { next = record r { code = r.code ++ spelling i; stops = r.stops || is_end i }; is = rw (bytes_fit r.code (spelling i) place fits) refl; code = refl; labels = refl; quiet = q }
+    record {
+      next = record r { code = r.code ++ spelling i; stops = r.stops || is_end i };
+      is = rw (bytes_fit r.code (spelling i) place fits) refl;
+      code =
+          refl;
+      labels = refl;
+      quiet = q;
+    }
 
 loop_grown : (r : Read) (c : Counter) (n : ℕ) (place : Place) → length r.code + length (spelling (Chip (Lp c n))) ≤ most_program_bytes → Quiet r.loops
     → Grown r (spelling (Chip (Lp c n))) (after_statement r (says.Loop (Some c) n) place)
@@ -67,7 +63,8 @@ loop_grown r c n place fits q =
       quiet = quiet_with r.loops (Counted c) loop refl q;
     }
 
-pub end_grown : (r : Read) (c : Counter) (condition : Option Request) (b : ℕ) (end : LoopTo) (place : Place) → jump_of r.loops (length r.code) end place ≡ Ok (Counted c, b)
+pub end_grown : (r : Read) (c : Counter) (condition : Option Request) (b : ℕ) (end : LoopTo) (place : Place)
+    → jump_of r.loops (length r.code) end place ≡ Ok (Counted c, b)
     → length r.code + length (spelling (end_of (Counted c) condition b)) ≤ most_program_bytes → Quiet r.loops
     → Grown r (spelling (end_of (Counted c) condition b)) (after_statement r (says.LoopEnd condition end) place)
 end_grown r c condition b end place jump fits q =
@@ -76,7 +73,8 @@ end_grown r c condition b end place jump fits q =
       next = record r {
         code = r.code ++ bytes;
         loops = with_loop r.loops (Counted c) None;
-        stray = first_stray r.stray (is_closed_by (slot r.loops (Counted c)) (length r.code) b) (record { place = place; kind = Counted c; condition = condition });
+        stray = first_stray r.stray (is_closed_by (slot r.loops (Counted c)) (length r.code) b)
+            (record { place = place; kind = Counted c; condition = condition });
       };
       is = rw (jump, bytes_fit r.code bytes place fits) refl;
       code = refl;
@@ -92,7 +90,8 @@ again_grown r again b place fits q =
       next = record r {
         code = r.code ++ bytes;
         loops = with_loop r.loops Endless None;
-        stray = first_stray r.stray (is_free_or_closed r.loops.endless (length r.code) b) (record { place = place; kind = Endless; condition = condition_of again });
+        stray = first_stray r.stray (is_free_or_closed r.loops.endless (length r.code) b)
+            (record { place = place; kind = Endless; condition = condition_of again });
       };
       is = rw (bytes_fit r.code bytes place fits) refl;
       code = refl;
@@ -100,7 +99,8 @@ again_grown r again b place fits q =
       quiet = quiet_with r.loops Endless None refl q;
     }
 
-pub insn_grown : (r : Read) (i : ManualInsn) (place : Place) → length r.code + length (spelling i) ≤ most_program_bytes → Quiet r.loops → Grown r (spelling i) (after_statement r (statement_of i) place)
+pub insn_grown : (r : Read) (i : ManualInsn) (place : Place) → length r.code + length (spelling i) ≤ most_program_bytes → Quiet r.loops
+    → Grown r (spelling i) (after_statement r (statement_of i) place)
 insn_grown r (Chip (Lp c n)) place fits q = loop_grown r c n place fits q
 insn_grown r (Chip (LpEnd c b)) place fits q = end_grown r c None b (ends.Back c b) place refl fits q
 insn_grown r (Chip (LoopAgain c b)) place fits q = again_grown r (Always c) b place fits q
@@ -114,7 +114,8 @@ said_line : (r : Read) (n : ℕ) (line : List ℕ) (s : Statement) → label_in 
 unfolding with_statement
 said_line r n line s none said = rw (none, said) refl
 
-pub says_line : (r : Read) (n : ℕ) (line : List ℕ) (s : Statement) → Says r.labels line s → take_line r n line ≡ after_statement r s (place_of n (length line) (next_of line))
+pub says_line : (r : Read) (n : ℕ) (line : List ℕ) (s : Statement) → Says r.labels line s
+    → take_line r n line ≡ after_statement r s (place_of n (length line) (next_of line))
 says_line r n line s h = let read = says_read r.labels line s h in said_line r n line s read.0 read.1
 
 pub lines_step : (r next : Read) (n : ℕ) (line : List ℕ) (lines : List (List ℕ)) → take_line r (n + 1) (plain (code_of line)) ≡ Ok next

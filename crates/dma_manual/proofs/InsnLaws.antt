@@ -1,28 +1,25 @@
 -- How decoding and encoding of the manual's instructions are related.
-use Rattle.std.proofs.Common.{◌≡◌, ℕ, ◌*◌, ◌/◌, ◌%◌, ◌^◌, ◌<◌, ◌≤◌, Bool, true, false, List, [], ◌∷◌, ◌++◌, length, drop, take, refl, sym, ap, ◌∙◌, subst, Ok, Err, arith, cond, eqb, ltb, suc, get_or}
+use Rattle.std.proofs.Common.{◌≡◌, ℕ, ◌*◌, ◌/◌, ◌%◌, ◌^◌, ◌<◌, ◌≤◌, Bool, true, false, List, [], ◌∷◌, ◌++◌, length, drop, take, refl, sym, ap, ◌∙◌, subst, Ok}
+use Rattle.std.proofs.Common.{Err, arith, cond, eqb, ltb, suc, get_or}
 use Rattle.std.proofs.lemmas.Bool.{eqb-true, lt-ltb, le-ltb, ltb-true, ltb-false, false≢true}
 use Rattle.std.proofs.lemmas.List.{take-append-drop, length-take}
-use Rattle.std.specs.List.{list_any}
-use Rattle.std.specs.Prelude.{MatchResult, IfOk, IfErr}
-use Rattle.byteorder.specs.Numbers.{little_number-reads_back}
-use Rattle.byteorder.specs.Endian.{little_bytes, little_number}
+use Rattle.std.specs.{List.list_any, Prelude.MatchResult, Prelude.IfOk, Prelude.IfErr}
+use Rattle.byteorder.specs.{Numbers.little_number-reads_back, Endian.little_bytes, Endian.little_number}
 use Rattle.dma_insn.specs.declared.codec.DecodeFault.TheVariants.{Cut, Unknown, BadField}
-use Rattle.dma_insn.specs.declared.insn.Counter.{Counter}
 use Rattle.dma_insn.specs.declared.insn.Counter.TheVariants.{Lc0, Lc1}
-use Rattle.dma_insn.specs.declared.chip.ChipInsn.{ChipInsn}
-use Rattle.dma_insn.specs.Chip.{BeginsWith as ChipBegins, Decoded as ChipDecoded, decoded as chip_decoded}
+use Rattle.dma_insn.specs.{declared.insn.Counter.Counter, declared.chip.ChipInsn.ChipInsn}
 use Rattle.dma_insn.proofs.Laws.{IsBytes, little_bytes_little_number}
+use Rattle.dma_manual.specs.declared.insns.OtherInsn.TheVariants.{Kill, LdIf, StIf, OfPeripheral, LpEndIf, LoopAgainIf, Go}
+use Rattle.dma_manual.specs.Insns.{BeginsWith, Decoded, HasOtherRanges, HasRanges, IsRefusedFor, IsSpelledAt, OtherDecoded, action_byte, again_if}
+use Rattle.dma_manual.specs.Insns.{again_if_byte, as_other, decoded, end_if, end_if_byte, go_byte, go_of, of_peripheral, or_other, other_decoded}
+use Rattle.dma_manual.specs.Insns.{other_spelling, spelling}
+use Rattle.dma_manual.specs.{declared.insns.Action.Action, declared.insns.ManualInsn.ManualInsn, declared.insns.ManualInsn.TheVariants.Chip}
+use Rattle.dma_manual.specs.{declared.insns.ManualInsn.TheVariants.Other, declared.insns.OtherInsn.OtherInsn, declared.insns.Request.Request}
+use Rattle.dma_manual.specs.{declared.insns.Request.TheVariants.Single, declared.insns.Request.TheVariants.Burst}
+use Rattle.dma_insn.specs.Chip.{BeginsWith as ChipBegins, Decoded as ChipDecoded, decoded as chip_decoded}
 use Rattle.dma_insn.proofs.ChipLaws.{Right as ChipRight, decoded_right as chip_right, decoded_spelling as chip_again, spelling_some as chip_some}
-use Rattle.dma_manual.specs.declared.insns.Action.{Action}
 use Rattle.dma_manual.specs.declared.insns.Action.TheVariants as action
 use Rattle.dma_manual.specs.declared.insns.Awaited.TheVariants as awaited
-use Rattle.dma_manual.specs.declared.insns.ManualInsn.{ManualInsn}
-use Rattle.dma_manual.specs.declared.insns.ManualInsn.TheVariants.{Chip, Other}
-use Rattle.dma_manual.specs.declared.insns.OtherInsn.{OtherInsn}
-use Rattle.dma_manual.specs.declared.insns.OtherInsn.TheVariants.{Kill, LdIf, StIf, OfPeripheral, LpEndIf, LoopAgainIf, Go}
-use Rattle.dma_manual.specs.declared.insns.Request.{Request}
-use Rattle.dma_manual.specs.declared.insns.Request.TheVariants.{Single, Burst}
-use Rattle.dma_manual.specs.Insns.{BeginsWith, Decoded, HasOtherRanges, HasRanges, IsRefusedFor, IsSpelledAt, OtherDecoded, action_byte, again_if, again_if_byte, as_other, decoded, end_if, end_if_byte, go_byte, go_of, of_peripheral, or_other, other_decoded, other_spelling, spelling}
 
 -- ---- an encoded instruction is decoded, whatever follows
 
@@ -86,16 +83,19 @@ decoded_at bytes i n h =
 abbrev pub Right : List ℕ → Decoded → Type 0
 Right bytes read = MatchResult read (λ found. IsSpelledAt bytes found.0 found.1) (λ fault. IsRefusedFor bytes fault)
 
-by_test : (bytes : List ℕ) (t : Bool) (x y : OtherDecoded) → (t ≡ true → Right bytes (as_other x)) → (t ≡ false → Right bytes (as_other y)) → Right bytes (as_other (cond t x y))
+by_test : (bytes : List ℕ) (t : Bool) (x y : OtherDecoded) → (t ≡ true → Right bytes (as_other x)) → (t ≡ false → Right bytes (as_other y))
+    → Right bytes (as_other (cond t x y))
 by_test bytes true x y f g = f refl
 by_test bytes false x y f g = g refl
 
 -- by whether the first byte is this
-first_is : (b : ℕ) (rest : List ℕ) (c : ℕ) (x y : OtherDecoded) → Right (c ∷ rest) (as_other x) → (eqb b c ≡ false → Right (b ∷ rest) (as_other y)) → Right (b ∷ rest) (as_other (cond (eqb b c) x y))
+first_is : (b : ℕ) (rest : List ℕ) (c : ℕ) (x y : OtherDecoded) → Right (c ∷ rest) (as_other x) → (eqb b c ≡ false → Right (b ∷ rest) (as_other y))
+    → Right (b ∷ rest) (as_other (cond (eqb b c) x y))
 first_is b rest c x y f g =
     by_test (b ∷ rest) (eqb b c) x y (λ t. subst (λ (k : ℕ). Right (k ∷ rest) (as_other x)) (sym (eqb-true b c t)) f) g
 
-spelled : (i : OtherInsn) (rest : List ℕ) (bytes : List ℕ) (n : ℕ) → HasOtherRanges i → n ≡ length (other_spelling i) → take n bytes ≡ other_spelling i → IsSpelledAt bytes (Other i) n
+spelled : (i : OtherInsn) (rest : List ℕ) (bytes : List ℕ) (n : ℕ) → HasOtherRanges i → n ≡ length (other_spelling i) → take n bytes ≡ other_spelling i
+    → IsSpelledAt bytes (Other i) n
 spelled i rest bytes n h count is = record { in_range = h; count_is = count; bytes_are = is }
 
 -- an instruction with this first byte lacks some of its bytes, or has a field that is wrong
@@ -104,7 +104,8 @@ cut i b rest tail h e few =
     let long : length (other_spelling i) ≡ length (b ∷ tail) = ap length e in
     (Other i, record { in_range = h; tail = tail; bytes_are = e }, omega (arith, few))
 
-bad : (i : OtherInsn) (b : ℕ) (rest tail : List ℕ) → HasOtherRanges i → other_spelling i ≡ b ∷ tail → length tail ≤ length rest → IsRefusedFor (b ∷ rest) BadField
+bad : (i : OtherInsn) (b : ℕ) (rest tail : List ℕ) → HasOtherRanges i → other_spelling i ≡ b ∷ tail → length tail ≤ length rest
+    → IsRefusedFor (b ∷ rest) BadField
 bad i b rest tail h e more =
     let long : length (other_spelling i) ≡ length (b ∷ tail) = ap length e in
     (Other i, record { in_range = h; tail = tail; bytes_are = e }, omega (arith, more))
@@ -257,6 +258,7 @@ spelled_within bytes i n h =
     let taken = length-take n bytes in
     (omega arith, omega arith)
 
-pub within_ok : (bytes : List ℕ) (r : Decoded) → IfOk r (λ found. IsSpelledAt bytes found.0 found.1) → IfOk r (λ found. (0 < found.1) × (found.1 ≤ length bytes))
+pub within_ok : (bytes : List ℕ) (r : Decoded) → IfOk r (λ found. IsSpelledAt bytes found.0 found.1)
+    → IfOk r (λ found. (0 < found.1) × (found.1 ≤ length bytes))
 within_ok bytes (Ok x) h = spelled_within bytes x.0 x.1 h
 within_ok bytes (Err fault) h = tt

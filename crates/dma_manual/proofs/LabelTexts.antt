@@ -1,16 +1,12 @@
 -- The labels of a listing, which the assembler finds again.
-use Rattle.std.proofs.Common.{◌≡◌, ℕ, ◌<◌, ◌≤◌, Bool, true, false, ◌&&◌, ◌||◌, ◌==◌, List, [], ◌∷◌, ◌++◌, length, map, drop, refl, sym, ap, ◌∙◌, Some, None, Ok, eqb, nat_le, nat_lt, arith, codes, inl, inr}
-use Rattle.std.specs.List.{list_all, list_any}
-use Rattle.std.specs.Str.{bytes_eq}
+use Rattle.std.proofs.Common.{◌≡◌, ℕ, ◌<◌, ◌≤◌, Bool, true, false, ◌&&◌, ◌||◌, ◌==◌, List, [], ◌∷◌, ◌++◌, length, map, drop, refl, sym, ap, ◌∙◌, Some, None, Ok}
+use Rattle.std.proofs.Common.{eqb, nat_le, nat_lt, arith, codes, inl, inr}
+use Rattle.std.specs.{List.list_all, List.list_any, Str.bytes_eq}
 use Rattle.std.proofs.lemmas.Bool.{and_parts, and_from, or_cases, leb-true, le-leb, ltb-true, eqb-true, false≢true}
 use Rattle.std.proofs.lemmas.Slice.Eq.{bytes_eq-Decides}
-use Rattle.dma_manual.specs.Words.{code_of, is_word_byte}
-use Rattle.dma_manual.specs.Operands.{digits_in}
-use Rattle.dma_manual.specs.Statements.{Label, label_of}
-use Rattle.dma_manual.specs.Listing.{label_name}
 use Rattle.dma_manual.specs.Assembled.{Read, label_by, label_in, take_line, with_statement}
-use Rattle.dma_manual.proofs.Cuts.{all_append, code_all, is_inline, next_word}
-use Rattle.dma_manual.proofs.Numerals.{four_words, pairs_read, plain}
+use Rattle.dma_manual.specs.{Words.code_of, Words.is_word_byte, Operands.digits_in, Statements.Label, Statements.label_of, Listing.label_name}
+use Rattle.dma_manual.proofs.{Cuts.all_append, Cuts.code_all, Cuts.is_inline, Cuts.next_word, Numerals.four_words, Numerals.pairs_read, Numerals.plain}
 
 abbrev pub label_word : ℕ → List ℕ
 label_word o = plain (label_name o)
@@ -38,7 +34,8 @@ same_label a b p q e =
     let same : Some a ≡ Some b = sym (label_back a p) ∙ ap (λ (w : List ℕ). digits_in 16 (drop 5 w)) e ∙ label_back b q in cc
 
 -- one of the labels
-found_by : (l o : ℕ) (ls : List ℕ) (t : Bool) → bytes_eq (label_word l) (label_word o) ≡ t → l < 65536 → o < 65536 → (eqb l o || list_any (λ m. m == o) ls) ≡ true
+found_by : (l o : ℕ) (ls : List ℕ) (t : Bool) → bytes_eq (label_word l) (label_word o) ≡ t → l < 65536 → o < 65536
+    → (eqb l o || list_any (λ m. m == o) ls) ≡ true
     → (list_any (λ m. m == o) ls ≡ true → label_of (map named_at ls) (label_word o) ≡ Some o) → label_of (map named_at (l ∷ ls)) (label_word o) ≡ Some o
 found_by l o ls true is p q any more =
     let same : l ≡ o = same_label l o p q ((bytes_eq-Decides (label_word l) (label_word o)).0 is) in
@@ -50,7 +47,8 @@ found_by l o ls false is p q any more =
       | inr later ↦ more later
     ])
 
-pub label_found : (o p : ℕ) (ls : List ℕ) → o < 65536 → are_labels p ls ≡ true → list_any (λ m. m == o) ls ≡ true → label_of (map named_at ls) (label_word o) ≡ Some o
+pub label_found : (o p : ℕ) (ls : List ℕ) → o < 65536 → are_labels p ls ≡ true → list_any (λ m. m == o) ls ≡ true
+    → label_of (map named_at ls) (label_word o) ≡ Some o
 label_found o p [] small h any = absurd (false≢true any)
 label_found o p (l ∷ ls) small h any =
     let parts = and_parts (nat_le l p && nat_lt l 65536) (are_labels p ls) h in

@@ -1,5 +1,4 @@
 mod Listings
-mod TextLines
 mod Readings
 mod Cuts
 mod Numerals

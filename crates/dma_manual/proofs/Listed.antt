@@ -1,40 +1,30 @@
 -- What a program is disassembled to assembles to its bytes, line by line.
-use Rattle.std.proofs.Common.{◌≡◌, ℕ, ◌+◌, ◌-◌, ◌%◌, ◌^◌, ◌<◌, ◌≤◌, ◌⊎◌, Bool, true, false, ◌&&◌, ◌==◌, List, [], ◌∷◌, ◌++◌, length, map, take, drop, min, replicate, zero, suc, refl, sym, ap, ◌∙◌, subst, Option, Some, None, Ok, cond, eqb, nat_le, arith, codes, decimal, append_assoc, append-nil, length-append, take_at, inl, inr}
-use Rattle.std.specs.List.{list_all, list_any}
+use Rattle.std.proofs.Common.{◌≡◌, ℕ, ◌+◌, ◌-◌, ◌%◌, ◌^◌, ◌<◌, ◌≤◌, ◌⊎◌, Bool, true, false, ◌&&◌, ◌==◌, List, [], ◌∷◌, ◌++◌, length, map, take, drop, min}
+use Rattle.std.proofs.Common.{replicate, zero, suc, refl, sym, ap, ◌∙◌, subst, Option, Some, None, Ok, cond, eqb, nat_le, arith, codes, decimal, append_assoc}
+use Rattle.std.proofs.Common.{append-nil, length-append, take_at, inl, inr}
+use Rattle.std.specs.{List.list_all, List.list_any, Option.option_map}
 use Rattle.std.proofs.lemmas.Bool.{and_parts, and_from, le-leb, lt-ltb, leb-true, eqb-true}
 use Rattle.std.proofs.lemmas.List.{map-append}
-use Rattle.dma_text.specs.Digits.{hex_digits, spaced_bytes}
-use Rattle.dma_insn.specs.AssemblyText.{most_program_bytes, text_lines}
-use Rattle.std.specs.Option.{option_map}
-use Rattle.dma_insn.specs.declared.insn.Counter.{Counter}
-use Rattle.dma_insn.specs.declared.insn.Counter.TheVariants.{Lc0, Lc1}
-use Rattle.dma_insn.specs.declared.chip.ChipInsn.TheVariants.{Lp, LpEnd}
-use Rattle.dma_manual.specs.declared.insns.ManualInsn.{ManualInsn}
-use Rattle.dma_manual.specs.declared.insns.ManualInsn.TheVariants.{Chip, Other}
-use Rattle.dma_manual.specs.declared.insns.OtherInsn.TheVariants.{LpEndIf}
-use Rattle.dma_manual.specs.declared.insns.Request.{Request}
-use Rattle.dma_manual.specs.declared.insns.Request.TheVariants.{Single, Burst}
-use Rattle.dma_manual.specs.Insns.{HasRanges, spelling}
-use Rattle.dma_manual.specs.ManualText.{counter_name, end_name, insn_text}
-use Rattle.dma_manual.specs.Words.{code_of, next_of, plain_byte}
-use Rattle.dma_manual.specs.Statements.{Label, label_of}
-use Rattle.dma_manual.specs.Listing.{Ending, follow, stop, blanks_behind, follow_words, is_executed, jump_of, label_behind, label_name, label_text, line_text, listed, mark, more_labels, rest_text, statement_text, target_of, target_text}
-use Rattle.dma_manual.specs.Assembled.{Read, after_statement, empty, end_of, jump_of as jump_from, place_of, take_line, take_lines, with_statement}
-use Rattle.dma_manual.specs.Laws.{ListingsAssemble, shown}
-use Rattle.dma_manual.specs.declared.assembler.Place.{Place}
-use Rattle.dma_manual.specs.declared.loops.LoopKind.TheVariants.{Counted}
-use Rattle.dma_manual.specs.declared.loops.Loops.{Loops}
-use Rattle.dma_manual.specs.declared.statements.End.TheVariants as ends
-use Rattle.dma_manual.specs.declared.statements.Statement.{Statement}
-use Rattle.dma_manual.specs.declared.statements.Statement.TheVariants as says
+use Rattle.dma_text.specs.{Digits.hex_digits, Digits.spaced_bytes, Lines.text_lines}
+use Rattle.dma_insn.specs.{AssemblyText.most_program_bytes, declared.insn.Counter.Counter, declared.insn.Counter.TheVariants.Lc0}
+use Rattle.dma_insn.specs.{declared.insn.Counter.TheVariants.Lc1, declared.chip.ChipInsn.TheVariants.Lp, declared.chip.ChipInsn.TheVariants.LpEnd}
+use Rattle.dma_manual.specs.Listing.{Ending, follow, stop, blanks_behind, follow_words, is_executed, jump_of, label_behind, label_name, label_text, line_text}
+use Rattle.dma_manual.specs.Listing.{listed, mark, more_labels, rest_text, statement_text, target_of, target_text}
+use Rattle.dma_manual.specs.{declared.insns.ManualInsn.ManualInsn, declared.insns.ManualInsn.TheVariants.Chip, declared.insns.ManualInsn.TheVariants.Other}
+use Rattle.dma_manual.specs.{declared.insns.OtherInsn.TheVariants.LpEndIf, declared.insns.Request.Request, declared.insns.Request.TheVariants.Single}
+use Rattle.dma_manual.specs.{declared.insns.Request.TheVariants.Burst, Insns.HasRanges, Insns.spelling, ManualText.counter_name, ManualText.end_name}
+use Rattle.dma_manual.specs.{ManualText.insn_text, Words.code_of, Words.next_of, Words.plain_byte, Statements.Label, Statements.label_of, Laws.ListingsAssemble}
+use Rattle.dma_manual.specs.{Laws.shown, declared.assembler.Place.Place, declared.loops.LoopKind.TheVariants.Counted, declared.loops.Loops.Loops}
+use Rattle.dma_manual.specs.{declared.statements.Statement.Statement}
 use Rattle.dma_manual.proofs.Cuts.{all_append, code_before, inline_no_feed, is_inline, is_space, lines_feed, no_feed}
-use Rattle.dma_manual.proofs.Numerals.{decimal_feed, hex_feed, plain, spaced_feed}
-use Rattle.dma_manual.proofs.Said.{Says, end_label, says_end, says_spaced}
-use Rattle.dma_manual.proofs.InsnLaws.{spelling_some}
-use Rattle.dma_manual.proofs.InsnTexts.{insn_inline, insn_says, statement_of}
 use Rattle.dma_manual.proofs.Growth.{Grown, Quiet, end_grown, insn_grown, lines_step, read_whole, says_line}
 use Rattle.dma_manual.proofs.LabelTexts.{are_labels, label_found, label_inline, label_taken, label_word, label_words, labels_later, named_at}
-use Rattle.dma_manual.proofs.ListedLines.{AllInRange, joined, lines_of, listed_lines}
+use Rattle.dma_manual.proofs.{Numerals.decimal_feed, Numerals.hex_feed, Numerals.plain, Numerals.spaced_feed, Said.Says, Said.end_label, Said.says_end}
+use Rattle.dma_manual.proofs.{Said.says_spaced, InsnLaws.spelling_some, InsnTexts.insn_inline, InsnTexts.insn_says, InsnTexts.statement_of}
+use Rattle.dma_manual.proofs.{ListedLines.AllInRange, ListedLines.joined, ListedLines.lines_of, ListedLines.listed_lines}
+use Rattle.dma_manual.specs.Assembled.{Read, after_statement, empty, end_of, jump_of as jump_from, place_of, take_line, take_lines, with_statement}
+use Rattle.dma_manual.specs.declared.statements.End.TheVariants as ends
+use Rattle.dma_manual.specs.declared.statements.Statement.TheVariants as says
 
 -- What is read when the instruction at an offset follows.
 record IsAt (r : Read) (labels : List ℕ) (o : ℕ) : Type 0 where
@@ -62,20 +52,27 @@ text_said r i h fits q = record {
 abbrev end_text : Option Request → Counter → ℕ → List ℕ
 end_text condition c o = end_name condition ++ codes " " ++ counter_name c ++ (codes ", " ++ label_name o)
 
-end_says : (labels : List Label) (condition : Option Request) (c : Counter) (o : ℕ) (tail : List ℕ) → label_of labels (label_word o) ≡ Some o → list_all is_space tail ≡ true
+end_says : (labels : List Label) (condition : Option Request) (c : Counter) (o : ℕ) (tail : List ℕ) → label_of labels (label_word o) ≡ Some o
+    → list_all is_space tail ≡ true
     → Says labels (plain (end_text condition c o) ++ tail) (says.LoopEnd condition (ends.To c o))
 end_says labels None Lc0 o tail found spaces =
-    says_end labels tail spaces None Lc0 (codes "lc0") (label_word o) (ends.To Lc0 o) refl refl refl refl refl (label_words o) (end_label labels Lc0 (label_word o) tail o refl found)
+    says_end labels tail spaces None Lc0 (codes "lc0") (label_word o) (ends.To Lc0 o) refl refl refl refl refl (label_words o)
+    (end_label labels Lc0 (label_word o) tail o refl found)
 end_says labels None Lc1 o tail found spaces =
-    says_end labels tail spaces None Lc1 (codes "lc1") (label_word o) (ends.To Lc1 o) refl refl refl refl refl (label_words o) (end_label labels Lc1 (label_word o) tail o refl found)
+    says_end labels tail spaces None Lc1 (codes "lc1") (label_word o) (ends.To Lc1 o) refl refl refl refl refl (label_words o)
+    (end_label labels Lc1 (label_word o) tail o refl found)
 end_says labels (Some Single) Lc0 o tail found spaces =
-    says_end labels tail spaces (Some Single) Lc0 (codes "lc0") (label_word o) (ends.To Lc0 o) refl refl refl refl refl (label_words o) (end_label labels Lc0 (label_word o) tail o refl found)
+    says_end labels tail spaces (Some Single) Lc0 (codes "lc0") (label_word o) (ends.To Lc0 o) refl refl refl refl refl (label_words o)
+    (end_label labels Lc0 (label_word o) tail o refl found)
 end_says labels (Some Single) Lc1 o tail found spaces =
-    says_end labels tail spaces (Some Single) Lc1 (codes "lc1") (label_word o) (ends.To Lc1 o) refl refl refl refl refl (label_words o) (end_label labels Lc1 (label_word o) tail o refl found)
+    says_end labels tail spaces (Some Single) Lc1 (codes "lc1") (label_word o) (ends.To Lc1 o) refl refl refl refl refl (label_words o)
+    (end_label labels Lc1 (label_word o) tail o refl found)
 end_says labels (Some Burst) Lc0 o tail found spaces =
-    says_end labels tail spaces (Some Burst) Lc0 (codes "lc0") (label_word o) (ends.To Lc0 o) refl refl refl refl refl (label_words o) (end_label labels Lc0 (label_word o) tail o refl found)
+    says_end labels tail spaces (Some Burst) Lc0 (codes "lc0") (label_word o) (ends.To Lc0 o) refl refl refl refl refl (label_words o)
+    (end_label labels Lc0 (label_word o) tail o refl found)
 end_says labels (Some Burst) Lc1 o tail found spaces =
-    says_end labels tail spaces (Some Burst) Lc1 (codes "lc1") (label_word o) (ends.To Lc1 o) refl refl refl refl refl (label_words o) (end_label labels Lc1 (label_word o) tail o refl found)
+    says_end labels tail spaces (Some Burst) Lc1 (codes "lc1") (label_word o) (ends.To Lc1 o) refl refl refl refl refl (label_words o)
+    (end_label labels Lc1 (label_word o) tail o refl found)
 
 end_inline : (condition : Option Request) (c : Counter) (o : ℕ) → list_all is_inline (end_text condition c o) ≡ true
 end_inline None Lc0 o = label_inline o
@@ -85,11 +82,14 @@ end_inline (Some Single) Lc1 o = label_inline o
 end_inline (Some Burst) Lc0 o = label_inline o
 end_inline (Some Burst) Lc1 o = label_inline o
 
-jump_to : (loops : Loops) (c : Counter) (here start back : ℕ) (place : Place) → start ≤ here → here - start ≡ back → back ≤ 255 → jump_from loops here (ends.To c start) place ≡ Ok (Counted c, back)
+jump_to : (loops : Loops) (c : Counter) (here start back : ℕ) (place : Place) → start ≤ here → here - start ≡ back → back ≤ 255
+    → jump_from loops here (ends.To c start) place ≡ Ok (Counted c, back)
 jump_to loops c here start back place before is small = rw (is, le-leb start here before, le-leb back 255 small) refl
 
-end_said : (r : Read) (labels : List ℕ) (o : ℕ) (condition : Option Request) (c : Counter) (b : ℕ) → IsAt r labels o → b < 256 → b ≤ o → list_any (λ l. l == (o - b)) labels ≡ true
-    → o < 65536 → length r.code + length (spelling (end_of (Counted c) condition b)) ≤ most_program_bytes → IsSaid r (end_of (Counted c) condition b) (end_text condition c (o - b))
+end_said : (r : Read) (labels : List ℕ) (o : ℕ) (condition : Option Request) (c : Counter) (b : ℕ) → IsAt r labels o → b < 256 → b ≤ o
+    → list_any (λ l. l == (o - b)) labels ≡ true
+    → o < 65536 → length r.code + length (spelling (end_of (Counted c) condition b)) ≤ most_program_bytes
+    → IsSaid r (end_of (Counted c) condition b) (end_text condition c (o - b))
 end_said r labels o condition c b at small within any below fits =
     let found : label_of r.labels (label_word (o - b)) ≡ Some (o - b) =
     ap (λ (l : List Label). label_of l (label_word (o - b))) at.labels_are ∙ label_found (o - b) o labels (omega arith) at.before any in
@@ -98,21 +98,28 @@ end_said r labels o condition c b at small within any below fits =
       statement = says.LoopEnd condition (ends.To c (o - b));
       says = λ tail spaces. end_says r.labels condition c (o - b) tail found spaces;
       inline = end_inline condition c (o - b);
-      grown = λ place. end_grown r c condition b (ends.To c (o - b)) place (jump_to r.loops c (length r.code) (o - b) b place (omega arith) (omega arith) (omega arith)) fits at.quiet;
+      grown = λ place. end_grown r c condition b (ends.To c (o - b)) place
+          (jump_to r.loops c (length r.code) (o - b) b place (omega arith) (omega arith) (omega arith)) fits at.quiet;
     }
 
 -- an instruction as its line has it
-end_by : (r : Read) (labels : List ℕ) (o : ℕ) (condition : Option Request) (c : Counter) (b : ℕ) (t u : Bool) → nat_le b o ≡ t → list_any (λ l. l == (o - b)) labels ≡ u → IsAt r labels o
+end_by : (r : Read) (labels : List ℕ) (o : ℕ) (condition : Option Request) (c : Counter) (b : ℕ) (t u : Bool) → nat_le b o ≡ t
+    → list_any (λ l. l == (o - b)) labels ≡ u → IsAt r labels o
     → HasRanges (end_of (Counted c) condition b) → b < 256 → o < 65536 → length r.code + length (spelling (end_of (Counted c) condition b)) ≤ most_program_bytes
-    → IsSaid r (end_of (Counted c) condition b) (statement_text (option_map (λ label. record { condition = condition; counter = c; label = label }) (cond (t && u) (Some (o - b)) None)) (end_of (Counted c) condition b))
+    → IsSaid r (end_of (Counted c) condition b)
+    (statement_text (option_map (λ label. record { condition = condition; counter = c; label = label }) (cond (t && u) (Some (o - b)) None))
+    (end_of (Counted c) condition b))
 end_by r labels o condition c b true true within any at h small below fits = end_said r labels o condition c b at small (leb-true b o within) any below fits
 end_by r labels o condition c b true false within any at h small below fits = text_said r (end_of (Counted c) condition b) h fits at.quiet
 end_by r labels o condition c b false u within any at h small below fits = text_said r (end_of (Counted c) condition b) h fits at.quiet
 
-insn_said : (r : Read) (labels : List ℕ) (o : ℕ) (i : ManualInsn) → IsAt r labels o → HasRanges i → o < 65536 → length r.code + length (spelling i) ≤ most_program_bytes
+insn_said : (r : Read) (labels : List ℕ) (o : ℕ) (i : ManualInsn) → IsAt r labels o → HasRanges i → o < 65536
+    → length r.code + length (spelling i) ≤ most_program_bytes
     → IsSaid r i (statement_text (jump_of labels o i) i)
-insn_said r labels o (Chip (LpEnd c b)) at h below fits = end_by r labels o None c b (nat_le b o) (list_any (λ l. l == (o - b)) labels) refl refl at h h below fits
-insn_said r labels o (Other (LpEndIf q c b)) at h below fits = end_by r labels o (Some q) c b (nat_le b o) (list_any (λ l. l == (o - b)) labels) refl refl at h h below fits
+insn_said r labels o (Chip (LpEnd c b)) at h below fits =
+    end_by r labels o None c b (nat_le b o) (list_any (λ l. l == (o - b)) labels) refl refl at h h below fits
+insn_said r labels o (Other (LpEndIf q c b)) at h below fits =
+    end_by r labels o (Some q) c b (nat_le b o) (list_any (λ l. l == (o - b)) labels) refl refl at h h below fits
 insn_said r labels o i at h below fits = text_said r i h fits at.quiet
 
 -- the spaces behind a text
@@ -147,18 +154,21 @@ line_split text blanks address bytes more = simp append_assoc
 abbrev code_front : List ℕ → List ℕ
 code_front text = (codes "    " ++ text) ++ gap_behind (length (codes "    " ++ text))
 
-front_says : (labels : List Label) (text : List ℕ) (s : Statement) → ((tail : List ℕ) → list_all is_space tail ≡ true → Says labels (plain text ++ tail) s) → Says labels (plain (code_front text)) s
+front_says : (labels : List Label) (text : List ℕ) (s : Statement) → ((tail : List ℕ) → list_all is_space tail ≡ true → Says labels (plain text ++ tail) s)
+    → Says labels (plain (code_front text)) s
 front_says labels text s h =
     let gap = gap_behind (length (codes "    " ++ text)) in
     let tail = plain gap in
     let split : plain (text ++ gap) ≡ plain text ++ tail = map-append plain_byte text gap in
-    let said : Says labels (plain (text ++ gap)) s = subst (λ (l : List ℕ). Says labels l s) (sym split) (h tail (spaces_plain gap (gap_is (length (codes "    " ++ text))))) in
+    let said : Says labels (plain (text ++ gap)) s =
+    subst (λ (l : List ℕ). Says labels l s) (sym split) (h tail (spaces_plain gap (gap_is (length (codes "    " ++ text))))) in
     says_spaced labels (32 ∷ 32 ∷ 32 ∷ plain (text ++ gap)) s (says_spaced labels (32 ∷ 32 ∷ plain (text ++ gap)) s
     (says_spaced labels (32 ∷ plain (text ++ gap)) s (says_spaced labels (plain (text ++ gap)) s said)))
 
 front_inline : (text : List ℕ) → list_all is_inline text ≡ true → list_all is_inline (code_front text) ≡ true
 front_inline text h =
-    all_append is_inline (codes "    " ++ text) (gap_behind (length (codes "    " ++ text))) (all_append is_inline (codes "    ") text refl h) (spaces_inline (gap_behind (length (codes "    " ++ text))) (gap_is (length (codes "    " ++ text))))
+    all_append is_inline (codes "    " ++ text) (gap_behind (length (codes "    " ++ text))) (all_append is_inline (codes "    ") text refl h)
+    (spaces_inline (gap_behind (length (codes "    " ++ text))) (gap_is (length (codes "    " ++ text))))
 
 -- The line of an instruction adds its bytes.
 abbrev words_of : ℕ → List ℕ → ℕ → ManualInsn → List ℕ
@@ -188,7 +198,8 @@ record ReadsLine (r : Read) (n : ℕ) (text more bytes : List ℕ) : Type 0 wher
   labels : next.labels ≡ r.labels
   quiet : Quiet next.loops
 
-line_read : (r : Read) (n at : ℕ) (labels : List ℕ) (o : ℕ) (i : ManualInsn) (more : List ℕ) → IsSaid r i (statement_text (jump_of labels o i) i) → ReadsLine r n (line_text at labels o i) more (spelling i)
+line_read : (r : Read) (n at : ℕ) (labels : List ℕ) (o : ℕ) (i : ManualInsn) (more : List ℕ) → IsSaid r i (statement_text (jump_of labels o i) i)
+    → ReadsLine r n (line_text at labels o i) more (spelling i)
 line_read r n at labels o i more h =
     let text = statement_text (jump_of labels o i) i in
     let front = code_front text in
@@ -201,10 +212,12 @@ line_read r n at labels o i more h =
     let place = place_of (n + 1) (length (plain front)) (next_of (plain front)) in
     let g = h.grown place in
     let took : take_line r (n + 1) (plain (code_of line)) ≡ Ok g.next =
-    ap (λ (l : List ℕ). take_line r (n + 1) (plain l)) (code_before front comment inline) ∙ says_line r (n + 1) (plain front) h.statement (front_says r.labels text h.statement h.says) ∙ g.is in
+    ap (λ (l : List ℕ). take_line r (n + 1) (plain l)) (code_before front comment inline)
+    ∙ says_line r (n + 1) (plain front) h.statement (front_says r.labels text h.statement h.says) ∙ g.is in
     record {
       next = g.next;
-      is = ap (λ (l : List ℕ). take_lines r n (text_lines l)) split ∙ ap (take_lines r n) (lines_feed line more feed) ∙ lines_step r g.next n line (text_lines more) took;
+      is = ap (λ (l : List ℕ). take_lines r n (text_lines l)) split ∙ ap (take_lines r n) (lines_feed line more feed)
+          ∙ lines_step r g.next n line (text_lines more) took;
       code = g.code;
       labels = g.labels;
       quiet = g.quiet;
@@ -222,7 +235,8 @@ label_behind_by : (i : ManualInsn) (o : ℕ) → o < 65536 → (label_behind i o
 label_behind_by (Chip (Lp c n)) o small = inr (rw (lt-ltb o 65536 small) refl)
 label_behind_by _ o small = inl refl
 
-label_read : (r : Read) (n : ℕ) (labels : List ℕ) (p o : ℕ) (more : List ℕ) (behind : Option ℕ) → length r.code ≡ o → r.labels ≡ map named_at labels → are_labels p labels ≡ true
+label_read : (r : Read) (n : ℕ) (labels : List ℕ) (p o : ℕ) (more : List ℕ) (behind : Option ℕ) → length r.code ≡ o → r.labels ≡ map named_at labels
+    → are_labels p labels ≡ true
     → Quiet r.loops → p < o → o < 65536 → (behind ≡ None) ⊎ (behind ≡ Some o) → ReadsLabel r n (more_labels labels behind) o (label_text behind) more
 label_read r n labels p o more behind here is before quiet later small (inl none) =
     subst (λ (b : Option ℕ). ReadsLabel r n (more_labels labels b) o (label_text b) more) (sym none) (record {
@@ -246,7 +260,8 @@ label_read r n labels p o more behind here is before quiet later small (inr some
       at = record {
         here = here;
         labels_are = ap (λ (l : List Label). l ++ named_at o ∷ []) is ∙ sym (map-append named_at labels (o ∷ []));
-        before = all_append _ labels (o ∷ []) (labels_later p o labels (omega arith) before) (and_from _ _ (and_from _ _ (le-leb o o (omega arith)) (lt-ltb o 65536 small)) refl);
+        before = all_append _ labels (o ∷ []) (labels_later p o labels (omega arith) before)
+            (and_from _ _ (and_from _ _ (le-leb o o (omega arith)) (lt-ltb o 65536 small)) refl);
         quiet = quiet;
       };
     })
@@ -259,7 +274,8 @@ record ReadsLines (r : Read) (n : ℕ) (text more bytes : List ℕ) : Type 0 whe
   code : next.code ≡ r.code ++ bytes
   quiet : Quiet next.loops
 
-lines_read : (insns : List ManualInsn) (r : Read) (n at : ℕ) (labels : List ℕ) (o : ℕ) (more : List ℕ) → AllInRange insns → IsAt r labels o → o + length (joined insns) ≤ most_program_bytes
+lines_read : (insns : List ManualInsn) (r : Read) (n at : ℕ) (labels : List ℕ) (o : ℕ) (more : List ℕ) → AllInRange insns → IsAt r labels o
+    → o + length (joined insns) ≤ most_program_bytes
     → ReadsLines r n (lines_of at labels o insns) more (joined insns)
 lines_read [] r n at labels o more range here fits =
     record { next = r; number = n; is = refl; code = sym (append-nil r.code); quiet = here.quiet }
@@ -272,11 +288,13 @@ lines_read (i ∷ insns) r n at labels o more range here fits =
     let rest = lines_of at (more_labels labels behind) end insns in
     let line = line_read r n at labels o i (label_text behind ++ (rest ++ more)) (insn_said r labels o i here range.0 (omega arith) (omega arith)) in
     let long : length line.next.code ≡ end = ap length line.code ∙ (omega (arith, length-append r.code (spelling i))) in
-    let label = label_read line.next (n + 1) labels o end (rest ++ more) behind long (line.labels ∙ here.labels_are) here.before line.quiet (omega arith) (omega arith)
+    let label = label_read line.next (n + 1) labels o end (rest ++ more) behind long (line.labels ∙ here.labels_are) here.before line.quiet (omega arith)
+    (omega arith)
     (label_behind_by i end (omega arith)) in
     let after = lines_read insns label.next label.number at (more_labels labels behind) end more range.1 label.at (omega arith) in
     let split : (line_text at labels o i ++ (label_text behind ++ rest)) ++ more ≡ line_text at labels o i ++ (label_text behind ++ (rest ++ more)) =
-    append_assoc (line_text at labels o i) (label_text behind ++ rest) more ∙ ap (λ (l : List ℕ). line_text at labels o i ++ l) (append_assoc (label_text behind) rest more) in
+    append_assoc (line_text at labels o i) (label_text behind ++ rest) more
+    ∙ ap (λ (l : List ℕ). line_text at labels o i ++ l) (append_assoc (label_text behind) rest more) in
     record {
       next = after.next;
       number = after.number;
@@ -290,7 +308,8 @@ no_line : (r : Read) (n : ℕ) → take_line r n [] ≡ Ok r
 unfolding with_statement
 no_line r n = refl
 
-last_read : (r : Read) (n count : ℕ) (words : List ℕ) → list_all no_feed words ≡ true → (t : Bool) → take_lines r n (text_lines (cond t [] (codes "; " ++ decimal count ++ words ++ codes "\n"))) ≡ Ok r
+last_read : (r : Read) (n count : ℕ) (words : List ℕ) → list_all no_feed words ≡ true → (t : Bool)
+    → take_lines r n (text_lines (cond t [] (codes "; " ++ decimal count ++ words ++ codes "\n"))) ≡ Ok r
 unfolding take_lines
 last_read r n count words plain_words true = refl
 last_read r n count words plain_words false =

@@ -30,8 +30,10 @@ listed_from_first at labels o (suc n) (x ∷ xs) i is some within =
     let e : o + 1 + n ≡ o + suc n = omega arith in
     let more = more_labels labels (label_behind i (o + suc n)) in
     let rest : listed_from at more (o + 1) (suc n - 1) xs ≡ listed_from at more (o + suc n) 0 (drop n xs) =
-    ap (λ k. listed_from at more (o + 1) k xs) less ∙ listed_from_skipped at more (o + 1) n xs (omega arith) ∙ ap (λ p. listed_from at more p 0 (drop n xs)) e in
-    rw is (ap (λ (l : Listing). with_text (line_text at labels o i) (cond (is_end i) (record { text = []; ending = follow (length (x ∷ xs) - suc n) }) (with_text (label_text (label_behind i (o + suc n))) l))) rest)
+    ap (λ k. listed_from at more (o + 1) k xs) less ∙ listed_from_skipped at more (o + 1) n xs (omega arith)
+    ∙ ap (λ p. listed_from at more p 0 (drop n xs)) e in
+    rw is (ap (λ (l : Listing). with_text (line_text at labels o i)
+    (cond (is_end i) (record { text = []; ending = follow (length (x ∷ xs) - suc n) }) (with_text (label_text (label_behind i (o + suc n))) l))) rest)
 
 -- the lines of an instruction that is not DMAEND
 pub listed_step : (at : ℕ) (labels : List ℕ) (o n : ℕ) (xs : List ℕ) (i : ManualInsn) (out one two after more : List ℕ)
@@ -44,9 +46,11 @@ listed_step at labels o n xs i out one two after more read some within goes show
     let label = label_text (label_behind i (o + n)) in
     let rest = listed_from at (more_labels labels (label_behind i (o + n))) (o + n) 0 (drop n xs) in
     let whole : listed_from at labels o 0 xs ≡ with_text line (with_text label rest) = rw (listed_from_first at labels o n xs i read some within, goes) refl in
-    let same : listed_from at more (o + n) 0 after ≡ rest = ap (λ (m : List ℕ). listed_from at m (o + n) 0 after) g ∙ ap (λ (a : List ℕ). listed_from at (more_labels labels (label_behind i (o + n))) (o + n) 0 a) h in
+    let same : listed_from at more (o + n) 0 after ≡ rest = ap (λ (m : List ℕ). listed_from at m (o + n) 0 after) g
+    ∙ ap (λ (a : List ℕ). listed_from at (more_labels labels (label_behind i (o + n))) (o + n) 0 a) h in
     let made : two ≡ (out ++ line) ++ label = f ∙ ap (λ (l : List ℕ). l ++ label) (e ∙ ap (λ (ls : List ℕ). out ++ line_text at ls o i) also) in
-    let joined : ((out ++ line) ++ label) ++ rest.text ≡ out ++ (line ++ (label ++ rest.text)) = append_assoc (out ++ line) label rest.text ∙ append_assoc out line (label ++ rest.text) in (
+    let joined : ((out ++ line) ++ label) ++ rest.text ≡ out ++ (line ++ (label ++ rest.text)) = append_assoc (out ++ line) label rest.text
+    ∙ append_assoc out line (label ++ rest.text) in (
       ap (λ (l : Listing). two ++ l.text) same ∙ ap (λ (l : List ℕ). l ++ rest.text) made ∙ joined ∙ ap (λ (l : Listing). out ++ l.text) (sym whole),
       ap (λ (l : Listing). l.ending) same ∙ ap (λ (l : Listing). l.ending) (sym whole),
     )
@@ -59,12 +63,14 @@ pub listed_last : (at : ℕ) (labels : List ℕ) (o n : ℕ) (xs : List ℕ) (i 
 listed_last at labels o n xs i out one two start l left read some within ends shown also e size f text ending =
     let line = line_text at labels o i in
     let rest = listed_from at labels o 0 xs in
-    let whole : rest ≡ with_text line (record { text = []; ending = follow (length xs - n) }) = rw (listed_from_first at labels o n xs i read some within, ends) refl in
+    let whole : rest ≡ with_text line (record { text = []; ending = follow (length xs - n) }) =
+    rw (listed_from_first at labels o n xs i read some within, ends) refl in
     let text_is : rest.text ≡ line = ap (λ (m : Listing). m.text) whole ∙ append-nil line in
     let ending_is : rest.ending ≡ follow left = ap (λ (m : Listing). m.ending) whole ∙ ap follow (sym size) in
     f ∙ ap (λ (x : List ℕ). x ++ rest_text (follow left)) (e ∙ ap (λ (ls : List ℕ). out ++ line_text at ls o i) also)
     ∙ ap (λ (x : List ℕ). (out ++ x) ++ rest_text (follow left)) (sym text_is) ∙ ap (λ (m : Ending). (out ++ rest.text) ++ rest_text m) (sym ending_is)
-    ∙ ap (λ (x : List ℕ). x ++ rest_text rest.ending) text ∙ ap (λ (m : Ending). (start ++ l.text) ++ rest_text m) ending ∙ append_assoc start l.text (rest_text l.ending)
+    ∙ ap (λ (x : List ℕ). x ++ rest_text rest.ending) text ∙ ap (λ (m : Ending). (start ++ l.text) ++ rest_text m) ending
+    ∙ append_assoc start l.text (rest_text l.ending)
 
 -- a line is its text and a comment behind it
 joined : (old text two : List ℕ) (width : ℕ) (comment : ℕ → List ℕ) → two ≡ old ++ text → width ≡ length two - length old

@@ -1,13 +1,11 @@
 -- Numbers in decimal and hexadecimal digits, which the assembler reads back.
-use Rattle.std.proofs.Common.{◌≡◌, ℕ, ◌+◌, ◌*◌, ◌/◌, ◌%◌, ◌^◌, ◌<◌, ◌≤◌, Bool, true, false, ◌&&◌, List, [], ◌∷◌, ◌++◌, map, min, nat_lt, zero, suc, refl, sym, ap, ◌∙◌, Some, eqb, cond, arith, decimal, append_assoc, inl, inr}
+use Rattle.std.proofs.Common.{◌≡◌, ℕ, ◌+◌, ◌*◌, ◌/◌, ◌%◌, ◌^◌, ◌<◌, ◌≤◌, Bool, true, false, ◌&&◌, List, [], ◌∷◌, ◌++◌, map, min, nat_lt, zero, suc, refl, sym}
+use Rattle.std.proofs.Common.{ap, ◌∙◌, Some, eqb, cond, arith, decimal, append_assoc, inl, inr}
 use Rattle.std.proofs.lemmas.List.{map-append}
-use Rattle.std.specs.List.{list_all}
-use Rattle.std.specs.Fmt.{digits, digits_onto, digit_glyph}
-use Rattle.std.specs.Char.{digit_value}
 use Rattle.std.proofs.lemmas.Bool.{and_parts, and_from, cases_lt, cond_both, lt-leb, ne_eqb}
+use Rattle.std.specs.{List.list_all, Fmt.digits, Fmt.digits_onto, Fmt.digit_glyph, Char.digit_value}
 use Rattle.dma_text.specs.Digits.{hex_digits, hex_pair, spaced_bytes}
-use Rattle.dma_manual.specs.Words.{is_word_byte, plain_byte}
-use Rattle.dma_manual.specs.Operands.{digits_from, digits_in, number_of}
+use Rattle.dma_manual.specs.{Words.is_word_byte, Words.plain_byte, Operands.digits_from, Operands.digits_in, Operands.number_of}
 use Rattle.dma_manual.proofs.Cuts.{all_append, is_inline, no_feed, has_bytes}
 
 -- a printed text as the assembler takes it: in lower case, with spaces in place of commas
@@ -83,7 +81,8 @@ glyph_word : (d : ℕ) → d < 16 → (is_word_byte (glyph d) ≡ true) × (is_i
 glyph_word d small = and_parts (is_word_byte (glyph d)) (is_inline (digit_glyph true d)) (each_at glyph_passes (λ d. true) 16 d glyph_words small)
 
 -- one more digit
-hex_more : (value d next : ℕ) (rest : List ℕ) → d < 16 → value * 16 + d ≡ next → next ≤ 2 ^ 32 → digits_from 16 value (glyph d ∷ rest) ≡ digits_from 16 next rest
+hex_more : (value d next : ℕ) (rest : List ℕ) → d < 16 → value * 16 + d ≡ next → next ≤ 2 ^ 32
+    → digits_from 16 value (glyph d ∷ rest) ≡ digits_from 16 next rest
 hex_more value d next rest small e most =
     let capped : min (value * 16 + d) (2 ^ 32) ≡ next = omega arith in
     rw (glyph_value d small, lt-leb 16 d small, capped) refl
@@ -91,9 +90,12 @@ hex_more value d next rest small e most =
 pub hex_read : (v : ℕ) → v < 2 ^ 32 → number_of (48 ∷ 120 ∷ plain (hex_digits v)) ≡ Some v
 hex_read v small =
     let g = λ (w : ℕ). glyph (v / w % 16) in
-    hex_more 0 (v / 0x10000000 % 16) (v / 0x10000000) (g 0x1000000 ∷ g 0x100000 ∷ g 0x10000 ∷ g 0x1000 ∷ g 0x100 ∷ g 0x10 ∷ g 0x1 ∷ []) (omega arith) (omega arith) (omega arith)
-    ∙ hex_more (v / 0x10000000) (v / 0x1000000 % 16) (v / 0x1000000) (g 0x100000 ∷ g 0x10000 ∷ g 0x1000 ∷ g 0x100 ∷ g 0x10 ∷ g 0x1 ∷ []) (omega arith) (omega arith) (omega arith)
-    ∙ hex_more (v / 0x1000000) (v / 0x100000 % 16) (v / 0x100000) (g 0x10000 ∷ g 0x1000 ∷ g 0x100 ∷ g 0x10 ∷ g 0x1 ∷ []) (omega arith) (omega arith) (omega arith)
+    hex_more 0 (v / 0x10000000 % 16) (v / 0x10000000) (g 0x1000000 ∷ g 0x100000 ∷ g 0x10000 ∷ g 0x1000 ∷ g 0x100 ∷ g 0x10 ∷ g 0x1 ∷ []) (omega arith)
+    (omega arith) (omega arith)
+    ∙ hex_more (v / 0x10000000) (v / 0x1000000 % 16) (v / 0x1000000) (g 0x100000 ∷ g 0x10000 ∷ g 0x1000 ∷ g 0x100 ∷ g 0x10 ∷ g 0x1 ∷ []) (omega arith)
+    (omega arith) (omega arith)
+    ∙ hex_more (v / 0x1000000) (v / 0x100000 % 16) (v / 0x100000) (g 0x10000 ∷ g 0x1000 ∷ g 0x100 ∷ g 0x10 ∷ g 0x1 ∷ []) (omega arith) (omega arith)
+    (omega arith)
     ∙ hex_more (v / 0x100000) (v / 0x10000 % 16) (v / 0x10000) (g 0x1000 ∷ g 0x100 ∷ g 0x10 ∷ g 0x1 ∷ []) (omega arith) (omega arith) (omega arith)
     ∙ hex_more (v / 0x10000) (v / 0x1000 % 16) (v / 0x1000) (g 0x100 ∷ g 0x10 ∷ g 0x1 ∷ []) (omega arith) (omega arith) (omega arith)
     ∙ hex_more (v / 0x1000) (v / 0x100 % 16) (v / 0x100) (g 0x10 ∷ g 0x1 ∷ []) (omega arith) (omega arith) (omega arith)
@@ -118,7 +120,8 @@ pair_words b small =
     (and_from _ _ high.0 (and_from _ _ low.0 refl), and_from _ _ high.1 (and_from _ _ low.1 refl))
 
 -- the same of two bytes
-pub four_words : (o : ℕ) → (list_all is_word_byte (plain (hex_pair (o / 256 % 256) ++ hex_pair (o % 256))) ≡ true) × (list_all is_inline (hex_pair (o / 256 % 256) ++ hex_pair (o % 256)) ≡ true)
+pub four_words : (o : ℕ) → (list_all is_word_byte (plain (hex_pair (o / 256 % 256) ++ hex_pair (o % 256))) ≡ true)
+    × (list_all is_inline (hex_pair (o / 256 % 256) ++ hex_pair (o % 256)) ≡ true)
 four_words o =
     let high = pair_words (o / 256 % 256) (omega arith) in
     let low = pair_words (o % 256) (omega arith) in (
@@ -140,14 +143,17 @@ later_feed : (b : ℕ) → 10 < b → no_feed b ≡ true
 later_feed b more = rw (ne_eqb b 10 (λ z. omega arith)) refl
 
 glyph_feed : (upper : Bool) (d : ℕ) → no_feed (digit_glyph upper d) ≡ true
-glyph_feed true d = cond_both (nat_lt d 10) (48 + d) (55 + d) (λ b. no_feed b ≡ true) (λ _. later_feed (48 + d) (omega arith)) (λ _. later_feed (55 + d) (omega arith))
-glyph_feed false d = cond_both (nat_lt d 10) (48 + d) (87 + d) (λ b. no_feed b ≡ true) (λ _. later_feed (48 + d) (omega arith)) (λ _. later_feed (87 + d) (omega arith))
+glyph_feed true d = cond_both (nat_lt d 10) (48 + d) (55 + d) (λ b. no_feed b ≡ true) (λ _. later_feed (48 + d) (omega arith))
+    (λ _. later_feed (55 + d) (omega arith))
+glyph_feed false d = cond_both (nat_lt d 10) (48 + d) (87 + d) (λ b. no_feed b ≡ true) (λ _. later_feed (48 + d) (omega arith))
+    (λ _. later_feed (87 + d) (omega arith))
 
 digits_feed : (k n : ℕ) (bytes : List ℕ) → list_all no_feed bytes ≡ true → list_all no_feed (digits_onto k 10 false n bytes) ≡ true
 digits_feed zero n bytes h = h
 digits_feed (suc k) n bytes h =
     let one = and_from (no_feed (digit_glyph false (n % 10))) (list_all no_feed bytes) (glyph_feed false (n % 10)) h in
-    elim (eqb (n / 10) 0) as (λ (t : Bool). list_all no_feed (cond t (digit_glyph false (n % 10) ∷ bytes) (digits_onto k 10 false (n / 10) (digit_glyph false (n % 10) ∷ bytes))) ≡ true) [
+    elim (eqb (n / 10) 0) as (λ (t : Bool). list_all no_feed
+    (cond t (digit_glyph false (n % 10) ∷ bytes) (digits_onto k 10 false (n / 10) (digit_glyph false (n % 10) ∷ bytes))) ≡ true) [
       | true ↦ one
       | false ↦ digits_feed k (n / 10) (digit_glyph false (n % 10) ∷ bytes) one
     ]

@@ -2,26 +2,18 @@
 use Rattle.std.proofs.Common.{◌≡◌, ℕ, ◌≤◌, true, false, List, [], ◌∷◌, length, refl, ap, ◌∙◌, subst, Ok, arith, append-nil}
 use Rattle.std.specs.List.{list_all}
 use Rattle.std.proofs.lemmas.Bool.{false≢true}
-use Rattle.dma_insn.specs.AssemblyText.{most_program_bytes, text_lines}
-use Rattle.dma_insn.specs.declared.insn.Reg.TheVariants.{Sar}
-use Rattle.dma_insn.specs.declared.chip.ChipInsn.{ChipInsn}
+use Rattle.dma_text.specs.Lines.{text_lines}
 use Rattle.dma_insn.specs.declared.chip.ChipInsn.TheVariants.{Mov, End, Wfe, AddHalfword}
-use Rattle.dma_manual.specs.declared.insns.Action.TheVariants as action
-use Rattle.dma_manual.specs.declared.insns.ManualInsn.{ManualInsn}
-use Rattle.dma_manual.specs.declared.insns.ManualInsn.TheVariants.{Chip, Other}
-use Rattle.dma_manual.specs.declared.insns.OtherInsn.{OtherInsn}
+use Rattle.dma_insn.specs.{AssemblyText.most_program_bytes, declared.insn.Reg.TheVariants.Sar, declared.chip.ChipInsn.ChipInsn}
 use Rattle.dma_manual.specs.declared.insns.OtherInsn.TheVariants.{Kill, LdIf, StIf, OfPeripheral, LpEndIf, LoopAgainIf}
-use Rattle.dma_manual.specs.declared.insns.Request.TheVariants.{Single}
-use Rattle.dma_manual.specs.Insns.{spelling}
-use Rattle.dma_manual.specs.ManualText.{insn_text, manual_text, other_text}
-use Rattle.dma_manual.specs.Words.{code_of, next_of}
 use Rattle.dma_manual.specs.Assembled.{empty, place_of, take_line, take_lines}
-use Rattle.dma_manual.specs.Laws.{TextsAssemble}
+use Rattle.dma_manual.specs.{declared.insns.ManualInsn.ManualInsn, declared.insns.ManualInsn.TheVariants.Chip, declared.insns.ManualInsn.TheVariants.Other}
+use Rattle.dma_manual.specs.{declared.insns.OtherInsn.OtherInsn, declared.insns.Request.TheVariants.Single, Insns.spelling, ManualText.insn_text}
+use Rattle.dma_manual.specs.{ManualText.manual_text, ManualText.other_text, Words.code_of, Words.next_of, Laws.TextsAssemble}
 use Rattle.dma_manual.proofs.Cuts.{code_all, has_bytes, inline_no_feed, line_alone, no_feed}
-use Rattle.dma_manual.proofs.Numerals.{plain}
-use Rattle.dma_manual.proofs.Said.{Says}
-use Rattle.dma_manual.proofs.InsnTexts.{insn_inline, insn_says, statement_of}
 use Rattle.dma_manual.proofs.Growth.{insn_grown, lines_done, lines_step, read_whole, says_line}
+use Rattle.dma_manual.proofs.{Numerals.plain, Said.Says, InsnTexts.insn_inline, InsnTexts.insn_says, InsnTexts.statement_of}
+use Rattle.dma_manual.specs.declared.insns.Action.TheVariants as action
 
 one_line : (text : List ℕ) → has_bytes text ≡ true → list_all no_feed text ≡ true → text_lines text ≡ text ∷ []
 one_line [] some h = absurd (false≢true some)
@@ -58,7 +50,8 @@ texts_assemble i h =
     let inline = insn_inline i h in
     let fits = spelling_le i in
     let line : text_lines text ≡ text ∷ [] = one_line text (text_some i) (inline_no_feed text inline) in
-    let said : Says [] (plain text) (statement_of i) = subst (λ (l : List ℕ). Says [] l (statement_of i)) (append-nil (plain text)) (insn_says [] i [] h refl) in
+    let said : Says [] (plain text) (statement_of i) =
+    subst (λ (l : List ℕ). Says [] l (statement_of i)) (append-nil (plain text)) (insn_says [] i [] h refl) in
     let g = insn_grown empty i (place_of 1 (length (plain text)) (next_of (plain text))) (omega arith) (refl, refl, refl) in
     let took : take_line empty 1 (plain (code_of text)) ≡ Ok g.next =
     ap (λ (l : List ℕ). take_line empty 1 (plain l)) (code_all text inline) ∙ says_line empty 1 (plain text) (statement_of i) said ∙ g.is in

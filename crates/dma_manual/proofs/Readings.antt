@@ -1,14 +1,10 @@
 -- Words and lines that are read one after another.
 use Rattle.std.proofs.Common.{◌≡◌, ℕ, ◌+◌, ◌-◌, ◌<◌, List, [], ◌∷◌, length, map, refl, ap, sym, ◌∙◌, arith, zero, suc, Some, None, Result, Ok, Err}
-use Rattle.dma_insn.specs.AssemblyText.{text_lines}
-use Rattle.dma_manual.specs.Words.{code_of, next_of, plain_byte}
-use Rattle.dma_manual.specs.Operands.{fault_at}
+use Rattle.dma_text.specs.Lines.{text_lines}
 use Rattle.dma_manual.specs.Fields.{fields_from, next_field, set_field, word_of}
-use Rattle.dma_manual.specs.Assembled.{Read, take_line, take_lines}
+use Rattle.dma_manual.specs.{Words.code_of, Words.next_of, Words.plain_byte, Operands.fault_at, Assembled.Read, Assembled.take_line, Assembled.take_lines}
+use Rattle.dma_manual.specs.{declared.assembler.Fault.Fault, declared.assembler.Located.Located, declared.fields.Fields.Fields}
 use Rattle.dma_manual.specs.declared.assembler.AsmCause.TheVariants as causes
-use Rattle.dma_manual.specs.declared.assembler.Fault.{Fault}
-use Rattle.dma_manual.specs.declared.assembler.Located.{Located}
-use Rattle.dma_manual.specs.declared.fields.Fields.{Fields}
 
 -- one more field, if some are left
 fields_step : (n : ℕ) (f : Fields) (rest : List ℕ) → 0 < n → fields_from n f rest ≡ next_field (next_of rest) f (λ g after. fields_from (n - 1) g after)
@@ -18,7 +14,8 @@ fields_step (suc n) f rest some =
     let less : suc n - 1 ≡ n = omega arith in
     ap (λ (m : ℕ). next_field (next_of rest) f (λ g after. fields_from m g after)) (sym less)
 
-pub fields_none : (n : ℕ) (f : Fields) (rest : List ℕ) (whole : Result ℕ Fault) → 0 < n → fields_from n f rest ≡ whole → next_of rest ≡ None → Ok (word_of f) ≡ whole
+pub fields_none : (n : ℕ) (f : Fields) (rest : List ℕ) (whole : Result ℕ Fault) → 0 < n → fields_from n f rest ≡ whole → next_of rest ≡ None
+    → Ok (word_of f) ≡ whole
 fields_none n f rest whole some is none =
     let step : fields_from n f rest ≡ Ok (word_of f) = rw (fields_step n f rest some, none) refl in
     sym step ∙ is
@@ -35,7 +32,8 @@ fields_more n f g rest word after whole some is next set =
     let step : fields_from n f rest ≡ fields_from (n - 1) g after = rw (fields_step n f rest some, next, set) refl in
     sym step ∙ is
 
-pub fields_last : (n : ℕ) (f : Fields) (rest : List ℕ) (whole : Result ℕ Fault) → n ≡ 0 → fields_from n f rest ≡ whole → next_of rest ≡ None → Ok (word_of f) ≡ whole
+pub fields_last : (n : ℕ) (f : Fields) (rest : List ℕ) (whole : Result ℕ Fault) → n ≡ 0 → fields_from n f rest ≡ whole → next_of rest ≡ None
+    → Ok (word_of f) ≡ whole
 unfolding fields_from
 fields_last n f rest whole zero_n is none =
     let step : fields_from 0 f rest ≡ Ok (word_of f) = rw none refl in
@@ -50,7 +48,8 @@ fields_extra n f rest word after whole zero_n is next =
 
 -- one more line
 pub lines_more : (r new : Read) (n : ℕ) (text line after plain : List ℕ) (whole : Result Read Located) → take_lines r n (text_lines text) ≡ whole
-    → text_lines text ≡ line ∷ text_lines after → plain ≡ map plain_byte (code_of line) → take_line r (n + 1) plain ≡ Ok new → take_lines new (n + 1) (text_lines after) ≡ whole
+    → text_lines text ≡ line ∷ text_lines after → plain ≡ map plain_byte (code_of line) → take_line r (n + 1) plain ≡ Ok new
+    → take_lines new (n + 1) (text_lines after) ≡ whole
 unfolding take_lines
 lines_more r new n text line after plain whole is lines same took =
     let took' : take_line r (n + 1) (map plain_byte (code_of line)) ≡ Ok new = ap (take_line r (n + 1)) (sym same) ∙ took in

@@ -1,9 +1,7 @@
 -- Control words: rows computed from the definition of `dma_insn`, which has no rows of its own.
 use Rattle.std.proofs.Common.{◌≡◌, Bool, true, false, [], ◌∷◌, map, Ok, Err, refl}
-use Rattle.dma_insn.specs.ControlWord.{control_of, end_at}
-use Rattle.dma_insn.specs.declared.control.BeatSize.TheVariants.{Eight}
-use Rattle.dma_insn.specs.declared.control.BurstEnd.{BurstEnd}
 use Rattle.dma_insn.specs.declared.control.ControlFault.TheVariants.{ReservedSize, Swap, Bit31}
+use Rattle.dma_insn.specs.{ControlWord.control_of, ControlWord.end_at, declared.control.BeatSize.TheVariants.Eight, declared.control.BurstEnd.BurstEnd}
 
 -- 16 beats of eight bytes, with all bits of the protection and the cache
 longest : Bool → BurstEnd

@@ -1,33 +1,22 @@
 -- What the words of a printed line say.
 use Rattle.std.proofs.Common.{◌≡◌, ℕ, ◌^◌, ◌<◌, ◌≤◌, Bool, true, false, List, ◌∷◌, ◌++◌, refl, ap, ◌∙◌, Option, Some, None, Ok, arith, codes, decimal}
-use Rattle.std.specs.Prelude.{nat_eq}
-use Rattle.std.specs.List.{list_all, starts_with}
+use Rattle.std.specs.{Prelude.nat_eq, List.list_all, List.starts_with}
 use Rattle.std.proofs.lemmas.Bool.{le-leb}
 use Rattle.dma_text.specs.Digits.{hex_digits}
-use Rattle.dma_manual.specs.ManualText.{end_name, half_digits}
-use Rattle.dma_insn.specs.declared.insn.Reg.{Reg}
-use Rattle.dma_insn.specs.declared.insn.Reg.TheVariants.{Ccr}
-use Rattle.dma_insn.specs.declared.insn.Counter.{Counter}
-use Rattle.dma_insn.specs.declared.chip.ChipInsn.TheVariants.{Mov, Sev, Wfe, AddHalfword}
-use Rattle.dma_insn.specs.declared.chip.Address.{Address}
-use Rattle.dma_insn.specs.declared.insn.Counter.TheVariants.{Lc0, Lc1}
-use Rattle.dma_manual.specs.declared.insns.ManualInsn.{ManualInsn}
-use Rattle.dma_manual.specs.declared.insns.ManualInsn.TheVariants.{Chip}
-use Rattle.dma_manual.specs.declared.insns.Request.{Request}
-use Rattle.dma_manual.specs.declared.insns.Request.TheVariants.{Single, Burst}
-use Rattle.dma_manual.specs.Words.{is_word_byte, next_of}
 use Rattle.dma_manual.specs.Operands.{event_at, flag_at, number_of}
-use Rattle.dma_manual.specs.Fields.{fields_at}
-use Rattle.dma_manual.specs.Statements.{Label, add_line, address_line, address_of as register_of, again_at, by_name, by_other_name, control_line, counter_of, end_at, event_line, is_numeral, label_of, loop_end_line, loop_line, set_by, set_line, statement_at, statement_by, wait_line}
-use Rattle.dma_manual.specs.Assembled.{label_by, label_in}
-use Rattle.dma_manual.specs.declared.statements.Again.{Again}
-use Rattle.dma_manual.specs.declared.statements.Again.TheVariants.{Always, If}
-use Rattle.dma_manual.specs.declared.statements.End.{End as LoopTo}
-use Rattle.dma_manual.specs.declared.statements.End.TheVariants as ends
-use Rattle.dma_manual.specs.declared.statements.Statement.{Statement}
-use Rattle.dma_manual.specs.declared.statements.Statement.TheVariants as says
+use Rattle.dma_manual.specs.{ManualText.end_name, ManualText.half_digits, declared.insns.ManualInsn.ManualInsn, declared.insns.ManualInsn.TheVariants.Chip}
+use Rattle.dma_manual.specs.{declared.insns.Request.Request, declared.insns.Request.TheVariants.Single, declared.insns.Request.TheVariants.Burst}
+use Rattle.dma_manual.specs.{Words.is_word_byte, Words.next_of, Fields.fields_at, Assembled.label_by, Assembled.label_in, declared.statements.Again.Again}
+use Rattle.dma_manual.specs.{declared.statements.Again.TheVariants.Always, declared.statements.Again.TheVariants.If, declared.statements.Statement.Statement}
+use Rattle.dma_insn.specs.declared.chip.ChipInsn.TheVariants.{Mov, Sev, Wfe, AddHalfword}
+use Rattle.dma_insn.specs.declared.insn.Counter.TheVariants.{Lc0, Lc1}
+use Rattle.dma_insn.specs.{declared.insn.Reg.Reg, declared.insn.Reg.TheVariants.Ccr, declared.insn.Counter.Counter, declared.chip.Address.Address}
 use Rattle.dma_manual.proofs.Cuts.{gap_spaces, has_bytes, is_gap, is_inline, is_space, next_none, next_space, next_word}
 use Rattle.dma_manual.proofs.Numerals.{decimal_read, four_words, hex_read, hex_words, pairs_read, plain}
+use Rattle.dma_manual.specs.Statements.{Label, add_line, address_line, address_of as register_of, again_at, by_name, by_other_name, control_line, counter_of, end_at, event_line, is_numeral, label_of, loop_end_line, loop_line, set_by, set_line, statement_at, statement_by, wait_line}
+use Rattle.dma_manual.specs.declared.statements.End.{End as LoopTo}
+use Rattle.dma_manual.specs.declared.statements.End.TheVariants as ends
+use Rattle.dma_manual.specs.declared.statements.Statement.TheVariants as says
 
 -- The line has no label and says the statement.
 pub record Says (labels : List Label) (line : List ℕ) (s : Statement) : Type 0 where
@@ -54,11 +43,13 @@ pub loop_of : (c : Counter) (name rest a b u w : List ℕ) (n : ℕ) → next_of
     → number_of w ≡ Some n → 1 ≤ n → n ≤ 256 → next_of b ≡ None → loop_line name rest ≡ Ok (says.Loop (Some c) n)
 loop_of c name rest a b u w n p q r s low high t = rw (p, q, r, s, le-leb 1 n low, le-leb n 256 high, t) refl
 
-pub loop_end_of : (labels : List Label) (condition : Option Request) (c : Counter) (rest a b u w : List ℕ) (end : LoopTo) → next_of rest ≡ Some (u, a) → starts_with nat_eq u (codes "-") ≡ false → counter_of u ≡ Some c
+pub loop_end_of : (labels : List Label) (condition : Option Request) (c : Counter) (rest a b u w : List ℕ) (end : LoopTo) → next_of rest ≡ Some (u, a)
+    → starts_with nat_eq u (codes "-") ≡ false → counter_of u ≡ Some c
     → next_of a ≡ Some (w, b) → end_at labels c w b ≡ Ok end → next_of b ≡ None → loop_end_line labels condition rest ≡ Ok (says.LoopEnd condition end)
 loop_end_of labels condition c rest a b u w end p bare q r s t = rw (p, bare, q, r, s, t) refl
 
-end_back : (labels : List Label) (c : Counter) (digits rest : List ℕ) (b : ℕ) → number_of digits ≡ Some b → b ≤ 255 → end_at labels c (45 ∷ digits) rest ≡ Ok (ends.Back c b)
+end_back : (labels : List Label) (c : Counter) (digits rest : List ℕ) (b : ℕ) → number_of digits ≡ Some b → b ≤ 255
+    → end_at labels c (45 ∷ digits) rest ≡ Ok (ends.Back c b)
 end_back labels c digits rest b h small = rw (h, le-leb 0 b (omega arith), le-leb b 255 small) refl
 
 pub end_label : (labels : List Label) (c : Counter) (word rest : List ℕ) (o : ℕ) → starts_with nat_eq word (codes "-") ≡ false → label_of labels word ≡ Some o
@@ -68,7 +59,8 @@ end_label labels c word rest o p q = rw (p, q) refl
 event_of : (digits rest : List ℕ) (e : ℕ) → number_of digits ≡ Some e → e ≤ 31 → event_at (101 ∷ digits) rest ≡ Ok e
 event_of digits rest e h small = rw (h, le-leb 0 e (omega arith), le-leb e 31 small) refl
 
-signal_of : (name rest w b : List ℕ) (e : ℕ) → next_of rest ≡ Some (w, b) → event_at w b ≡ Ok e → next_of b ≡ None → event_line name rest ≡ Ok (says.Plain (Chip (Sev e)))
+signal_of : (name rest w b : List ℕ) (e : ℕ) → next_of rest ≡ Some (w, b) → event_at w b ≡ Ok e → next_of b ≡ None
+    → event_line name rest ≡ Ok (says.Plain (Chip (Sev e)))
 signal_of name rest w b e p q t = rw (p, q, t) refl
 
 wait_of : (name rest w b : List ℕ) (e : ℕ) (v : Bool) → next_of rest ≡ Some (w, b) → event_at w b ≡ Ok e → flag_at (codes "invalid") b ≡ Ok v
@@ -101,10 +93,12 @@ half_read : (half : ℕ) → half < 2 ^ 16 → number_of (48 ∷ 120 ∷ plain (
 half_read half small = pairs_read half (omega arith)
 
 add_of : (negative : Bool) (a : Address) (name rest u after w b : List ℕ) (half : ℕ) → next_of rest ≡ Some (u, after) → register_of u ≡ Some a
-    → next_of after ≡ Some (w, b) → number_of w ≡ Some half → half ≤ 0xffff → next_of b ≡ None → add_line negative name rest ≡ Ok (says.Plain (Chip (AddHalfword a half negative)))
+    → next_of after ≡ Some (w, b) → number_of w ≡ Some half → half ≤ 0xffff → next_of b ≡ None
+    → add_line negative name rest ≡ Ok (says.Plain (Chip (AddHalfword a half negative)))
 add_of negative a name rest u after w b half p q r s small t = rw (p, q, r, s, le-leb 0 half (omega arith), le-leb half 0xffff small, t) refl
 
-again_of : (labels : List Label) (condition : Option Request) (rest digits b : List ℕ) (again : Again) (back : ℕ) → next_of rest ≡ Some (45 ∷ digits, b) → number_of digits ≡ Some back → back ≤ 255
+again_of : (labels : List Label) (condition : Option Request) (rest digits b : List ℕ) (again : Again) (back : ℕ) → next_of rest ≡ Some (45 ∷ digits, b)
+    → number_of digits ≡ Some back → back ≤ 255
     → again_at condition b ≡ Ok again → loop_end_line labels condition rest ≡ Ok (says.LoopAgain again back)
 again_of labels condition rest digits b again back p q small r = rw (p, q, le-leb 0 back (omega arith), le-leb back 255 small, r) refl
 
@@ -127,14 +121,16 @@ end_unlabelled None rest = refl
 end_unlabelled (Some Single) rest = refl
 end_unlabelled (Some Burst) rest = refl
 
-end_named : (labels : List Label) (condition : Option Request) (rest : List ℕ) → by_name labels (plain (end_name condition)) rest ≡ loop_end_line labels condition rest
+end_named : (labels : List Label) (condition : Option Request) (rest : List ℕ)
+    → by_name labels (plain (end_name condition)) rest ≡ loop_end_line labels condition rest
 unfolding by_name by_other_name
 end_named labels None rest = refl
 end_named labels (Some Single) rest = refl
 end_named labels (Some Burst) rest = refl
 
 -- DMAMOV with a register and what follows it
-pub says_set : (labels : List Label) (reg rest : List ℕ) (s : Statement) → has_bytes reg ≡ true → list_all is_word_byte reg ≡ true → is_gap rest ≡ true → set_by reg rest ≡ Ok s
+pub says_set : (labels : List Label) (reg rest : List ℕ) (s : Statement) → has_bytes reg ≡ true → list_all is_word_byte reg ≡ true → is_gap rest ≡ true
+    → set_by reg rest ≡ Ok s
     → Says labels (codes "dmamov " ++ (reg ++ rest)) s
 unfolding by_name
 says_set labels reg rest s some word gap said =
@@ -145,7 +141,8 @@ says_set labels reg rest s some word gap said =
 module _ (labels : List Label) (tail : List ℕ) (spaces : list_all is_space tail ≡ true) where
   pub says_bare : (name : List ℕ) (i : ManualInsn) → has_bytes name ≡ true → list_all is_word_byte name ≡ true → label_by (Some (name, tail)) ≡ None
       → (next_of tail ≡ None → by_name labels name tail ≡ Ok (says.Plain i)) → Says labels (name ++ tail) (says.Plain i)
-  says_bare name i some word unlabelled said = named labels name tail (says.Plain i) some word (gap_spaces tail spaces) unlabelled (said (next_none tail spaces))
+  says_bare name i some word unlabelled said =
+      named labels name tail (says.Plain i) some word (gap_spaces tail spaces) unlabelled (said (next_none tail spaces))
 
   loop_said : (c : Counter) (name counter : List ℕ) (n : ℕ) → has_bytes counter ≡ true → list_all is_word_byte counter ≡ true → counter_of counter ≡ Some c
       → 1 ≤ n → n ≤ 256 → loop_line name (32 ∷ (counter ++ 32 ∷ 32 ∷ (plain (decimal n) ++ tail))) ≡ Ok (says.Loop (Some c) n)
@@ -154,7 +151,8 @@ module _ (labels : List Label) (tail : List ℕ) (spaces : list_all is_space tai
       let last = plain (decimal n) ++ tail in
       loop_of c name (32 ∷ (counter ++ 32 ∷ 32 ∷ last)) (32 ∷ 32 ∷ last) tail counter (plain (decimal n)) n
       (next_space (counter ++ 32 ∷ 32 ∷ last) ∙ next_word counter (32 ∷ 32 ∷ last) some word refl) is
-      (next_space (32 ∷ last) ∙ next_space last ∙ next_word (plain (decimal n)) tail r.some r.word (gap_spaces tail spaces)) r.value low high (next_none tail spaces)
+      (next_space (32 ∷ last) ∙ next_space last ∙ next_word (plain (decimal n)) tail r.some r.word (gap_spaces tail spaces)) r.value low high
+      (next_none tail spaces)
 
   pub says_loop : (c : Counter) (counter : List ℕ) (n : ℕ) → has_bytes counter ≡ true → list_all is_word_byte counter ≡ true → counter_of counter ≡ Some c
       → 1 ≤ n → n ≤ 256 → Says labels (codes "dmalp " ++ (counter ++ 32 ∷ 32 ∷ (plain (decimal n) ++ tail))) (says.Loop (Some c) n)
@@ -164,22 +162,27 @@ module _ (labels : List Label) (tail : List ℕ) (spaces : list_all is_space tai
       (loop_said c (codes "dmalp") counter n some word is low high)
 
   -- the last word of a DMALPEND
-  pub says_end : (condition : Option Request) (c : Counter) (counter w : List ℕ) (end : LoopTo) → has_bytes counter ≡ true → list_all is_word_byte counter ≡ true → starts_with nat_eq counter (codes "-") ≡ false → counter_of counter ≡ Some c
+  pub says_end : (condition : Option Request) (c : Counter) (counter w : List ℕ) (end : LoopTo) → has_bytes counter ≡ true
+      → list_all is_word_byte counter ≡ true → starts_with nat_eq counter (codes "-") ≡ false → counter_of counter ≡ Some c
       → has_bytes w ≡ true → list_all is_word_byte w ≡ true → end_at labels c w tail ≡ Ok end
       → Says labels (plain (end_name condition) ++ 32 ∷ (counter ++ 32 ∷ 32 ∷ (w ++ tail))) (says.LoopEnd condition end)
   says_end condition c counter w end some word bare is some_w word_w to =
       let last = w ++ tail in
       let rest = 32 ∷ (counter ++ 32 ∷ 32 ∷ last) in
-      named labels (plain (end_name condition)) rest (says.LoopEnd condition end) (end_some condition) (end_word condition) refl (end_unlabelled condition rest) (end_named labels condition rest
+      named labels (plain (end_name condition)) rest (says.LoopEnd condition end) (end_some condition) (end_word condition) refl (end_unlabelled condition rest)
+      (end_named labels condition rest
       ∙ loop_end_of labels condition c rest (32 ∷ 32 ∷ last) tail counter w end
       (next_space (counter ++ 32 ∷ 32 ∷ last) ∙ next_word counter (32 ∷ 32 ∷ last) some word refl) bare is
       (next_space (32 ∷ last) ∙ next_space last ∙ next_word w tail some_w word_w (gap_spaces tail spaces)) to (next_none tail spaces))
 
-  pub says_back : (condition : Option Request) (c : Counter) (counter : List ℕ) (b : ℕ) → has_bytes counter ≡ true → list_all is_word_byte counter ≡ true → starts_with nat_eq counter (codes "-") ≡ false → counter_of counter ≡ Some c
-      → b ≤ 255 → Says labels (plain (end_name condition) ++ 32 ∷ (counter ++ 32 ∷ 32 ∷ 45 ∷ (plain (decimal b) ++ tail))) (says.LoopEnd condition (ends.Back c b))
+  pub says_back : (condition : Option Request) (c : Counter) (counter : List ℕ) (b : ℕ) → has_bytes counter ≡ true → list_all is_word_byte counter ≡ true
+      → starts_with nat_eq counter (codes "-") ≡ false → counter_of counter ≡ Some c
+      → b ≤ 255 → Says labels (plain (end_name condition) ++ 32 ∷ (counter ++ 32 ∷ 32 ∷ 45 ∷ (plain (decimal b) ++ tail)))
+      (says.LoopEnd condition (ends.Back c b))
   says_back condition c counter b some word bare is small =
       let r = decimal_read b (omega arith) in
-      says_end condition c counter (45 ∷ plain (decimal b)) (ends.Back c b) some word bare is refl r.word (end_back labels c (plain (decimal b)) tail b r.value small)
+      says_end condition c counter (45 ∷ plain (decimal b)) (ends.Back c b) some word bare is refl r.word
+      (end_back labels c (plain (decimal b)) tail b r.value small)
 
   pub says_signal : (e : ℕ) → e ≤ 31 → Says labels (codes "dmasev e" ++ (plain (decimal e) ++ tail)) (says.Plain (Chip (Sev e)))
   unfolding by_name
@@ -207,10 +210,14 @@ module _ (labels : List Label) (tail : List ℕ) (spaces : list_all is_space tai
   says_invalid e small =
       let last = codes "invalid" ++ tail in
       wait_said e true (32 ∷ 32 ∷ last) small refl
-      (flag_of (32 ∷ 32 ∷ last) tail (next_space (32 ∷ last) ∙ next_space last ∙ next_word (codes "invalid") tail refl refl (gap_spaces tail spaces)) (next_none tail spaces))
+      (flag_of (32 ∷ 32 ∷ last) tail (next_space (32 ∷ last) ∙ next_space last ∙ next_word (codes "invalid") tail refl refl (gap_spaces tail spaces))
+      (next_none tail spaces))
 
-  add_said : (negative : Bool) (a : Address) (name register : List ℕ) (half : ℕ) → half < 2 ^ 16 → has_bytes register ≡ true → list_all is_word_byte register ≡ true
-      → register_of register ≡ Some a → add_line negative name (32 ∷ (register ++ 32 ∷ 32 ∷ 48 ∷ 120 ∷ (plain (half_digits half) ++ tail))) ≡ Ok (says.Plain (Chip (AddHalfword a half negative)))
+  add_said : (negative : Bool) (a : Address) (name register : List ℕ) (half : ℕ) → half < 2 ^ 16 → has_bytes register ≡ true
+      → list_all is_word_byte register ≡ true
+      → register_of register ≡ Some a
+      → add_line negative name (32 ∷ (register ++ 32 ∷ 32 ∷ 48 ∷ 120 ∷ (plain (half_digits half) ++ tail))) ≡ Ok
+      (says.Plain (Chip (AddHalfword a half negative)))
   add_said negative a name register half small some word is =
       let w = 48 ∷ 120 ∷ plain (half_digits half) in
       add_of negative a name (32 ∷ (register ++ 32 ∷ 32 ∷ (w ++ tail))) register (32 ∷ 32 ∷ (w ++ tail)) w tail half
@@ -218,18 +225,22 @@ module _ (labels : List Label) (tail : List ℕ) (spaces : list_all is_space tai
       (next_space (32 ∷ (w ++ tail)) ∙ next_space (w ++ tail) ∙ next_word w tail refl (four_words half).0 (gap_spaces tail spaces))
       (half_read half small) (omega arith) (next_none tail spaces)
 
-  pub says_add : (a : Address) (register : List ℕ) (half : ℕ) → half < 2 ^ 16 → has_bytes register ≡ true → list_all is_word_byte register ≡ true → register_of register ≡ Some a
+  pub says_add : (a : Address) (register : List ℕ) (half : ℕ) → half < 2 ^ 16 → has_bytes register ≡ true → list_all is_word_byte register ≡ true
+      → register_of register ≡ Some a
       → Says labels (codes "dmaaddh " ++ (register ++ 32 ∷ 32 ∷ 48 ∷ 120 ∷ (plain (half_digits half) ++ tail))) (says.Plain (Chip (AddHalfword a half false)))
   unfolding by_name
   says_add a register half small some word is =
-      named labels (codes "dmaaddh") (32 ∷ (register ++ 32 ∷ 32 ∷ 48 ∷ 120 ∷ (plain (half_digits half) ++ tail))) (says.Plain (Chip (AddHalfword a half false))) refl refl refl refl
+      named labels (codes "dmaaddh") (32 ∷ (register ++ 32 ∷ 32 ∷ 48 ∷ 120 ∷ (plain (half_digits half) ++ tail))) (says.Plain (Chip (AddHalfword a half false)))
+      refl refl refl refl
       (add_said false a (codes "dmaaddh") register half small some word is)
 
-  pub says_subtract : (a : Address) (register : List ℕ) (half : ℕ) → half < 2 ^ 16 → has_bytes register ≡ true → list_all is_word_byte register ≡ true → register_of register ≡ Some a
+  pub says_subtract : (a : Address) (register : List ℕ) (half : ℕ) → half < 2 ^ 16 → has_bytes register ≡ true → list_all is_word_byte register ≡ true
+      → register_of register ≡ Some a
       → Says labels (codes "dmaadnh " ++ (register ++ 32 ∷ 32 ∷ 48 ∷ 120 ∷ (plain (half_digits half) ++ tail))) (says.Plain (Chip (AddHalfword a half true)))
   unfolding by_name
   says_subtract a register half small some word is =
-      named labels (codes "dmaadnh") (32 ∷ (register ++ 32 ∷ 32 ∷ 48 ∷ 120 ∷ (plain (half_digits half) ++ tail))) (says.Plain (Chip (AddHalfword a half true))) refl refl refl refl
+      named labels (codes "dmaadnh") (32 ∷ (register ++ 32 ∷ 32 ∷ 48 ∷ 120 ∷ (plain (half_digits half) ++ tail))) (says.Plain (Chip (AddHalfword a half true)))
+      refl refl refl refl
       (add_said true a (codes "dmaadnh") register half small some word is)
 
   again_said : (condition : Option Request) (again : Again) (back : ℕ) (rest : List ℕ) → back ≤ 255 → is_gap rest ≡ true → again_at condition rest ≡ Ok again
@@ -237,20 +248,25 @@ module _ (labels : List Label) (tail : List ℕ) (spaces : list_all is_space tai
   again_said condition again back rest small gap flag =
       let r = decimal_read back (omega arith) in
       let w = 45 ∷ plain (decimal back) in
-      named labels (plain (end_name condition)) (32 ∷ (w ++ rest)) (says.LoopAgain again back) (end_some condition) (end_word condition) refl (end_unlabelled condition (32 ∷ (w ++ rest)))
+      named labels (plain (end_name condition)) (32 ∷ (w ++ rest)) (says.LoopAgain again back) (end_some condition) (end_word condition) refl
+      (end_unlabelled condition (32 ∷ (w ++ rest)))
       (end_named labels condition (32 ∷ (w ++ rest))
-      ∙ again_of labels condition (32 ∷ (w ++ rest)) (plain (decimal back)) rest again back (next_space (w ++ rest) ∙ next_word w rest refl r.word gap) r.value small flag)
+      ∙ again_of labels condition (32 ∷ (w ++ rest)) (plain (decimal back)) rest again back (next_space (w ++ rest) ∙ next_word w rest refl r.word gap) r.value
+      small flag)
 
   pub says_again : (back : ℕ) → back ≤ 255 → Says labels (codes "dmalpend -" ++ (plain (decimal back) ++ tail)) (says.LoopAgain (Always Lc0) back)
   says_again back small = again_said None (Always Lc0) back tail small (gap_spaces tail spaces) (rw (next_none tail spaces) refl)
 
-  pub says_again_flag : (back : ℕ) → back ≤ 255 → Says labels (codes "dmalpend -" ++ (plain (decimal back) ++ (codes "  lc1" ++ tail))) (says.LoopAgain (Always Lc1) back)
+  pub says_again_flag : (back : ℕ) → back ≤ 255
+      → Says labels (codes "dmalpend -" ++ (plain (decimal back) ++ (codes "  lc1" ++ tail))) (says.LoopAgain (Always Lc1) back)
   says_again_flag back small =
       let last = codes "lc1" ++ tail in
       again_said None (Always Lc1) back (32 ∷ 32 ∷ last) small refl
-      (again_flag_of (32 ∷ 32 ∷ last) tail (next_space (32 ∷ last) ∙ next_space last ∙ next_word (codes "lc1") tail refl refl (gap_spaces tail spaces)) (next_none tail spaces))
+      (again_flag_of (32 ∷ 32 ∷ last) tail (next_space (32 ∷ last) ∙ next_space last ∙ next_word (codes "lc1") tail refl refl (gap_spaces tail spaces))
+      (next_none tail spaces))
 
-  pub says_again_if : (request : Request) (back : ℕ) → back ≤ 255 → Says labels (plain (end_name (Some request)) ++ 32 ∷ 45 ∷ (plain (decimal back) ++ tail)) (says.LoopAgain (If request) back)
+  pub says_again_if : (request : Request) (back : ℕ) → back ≤ 255
+      → Says labels (plain (end_name (Some request)) ++ 32 ∷ 45 ∷ (plain (decimal back) ++ tail)) (says.LoopAgain (If request) back)
   says_again_if request back small = again_said (Some request) (If request) back tail small (gap_spaces tail spaces) (rw (next_none tail spaces) refl)
 
   -- a number in hexadecimal digits
@@ -259,12 +275,14 @@ module _ (labels : List Label) (tail : List ℕ) (spaces : list_all is_space tai
       let word = 48 ∷ 120 ∷ plain (hex_digits v) in
       next_space (32 ∷ (word ++ tail)) ∙ next_space (word ++ tail) ∙ next_word word tail refl (hex_words v).0 (gap_spaces tail spaces)
 
-  pub address_said : (reg : Reg) (name : List ℕ) (v : ℕ) → v < 2 ^ 32 → address_line reg name (32 ∷ 32 ∷ 48 ∷ 120 ∷ (plain (hex_digits v) ++ tail)) ≡ Ok (says.Plain (Chip (Mov reg v)))
+  pub address_said : (reg : Reg) (name : List ℕ) (v : ℕ) → v < 2 ^ 32
+      → address_line reg name (32 ∷ 32 ∷ 48 ∷ 120 ∷ (plain (hex_digits v) ++ tail)) ≡ Ok (says.Plain (Chip (Mov reg v)))
   address_said reg name v small =
       let word = 48 ∷ 120 ∷ plain (hex_digits v) in
       address_of reg name (32 ∷ 32 ∷ (word ++ tail)) word tail v (number_next v) (hex_read v small) (omega arith) (next_none tail spaces)
 
-  pub control_said : (v : ℕ) → v < 2 ^ 32 → control_line (codes "ccr") (32 ∷ 32 ∷ 48 ∷ 120 ∷ (plain (hex_digits v) ++ tail)) ≡ Ok (says.Plain (Chip (Mov Ccr v)))
+  pub control_said : (v : ℕ) → v < 2 ^ 32
+      → control_line (codes "ccr") (32 ∷ 32 ∷ 48 ∷ 120 ∷ (plain (hex_digits v) ++ tail)) ≡ Ok (says.Plain (Chip (Mov Ccr v)))
   control_said v small =
       let word = 48 ∷ 120 ∷ plain (hex_digits v) in
       control_number (codes "ccr") (32 ∷ 32 ∷ (word ++ tail)) word tail v (number_next v) refl (hex_read v small) (omega arith) (next_none tail spaces)

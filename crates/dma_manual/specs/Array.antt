@@ -1,13 +1,12 @@
 -- Bytes as an array (profile): numbers of at most two digits with `0x` in braces, with commas between them. A count
 -- may follow a number, as in `0x0 <repeats 12 times>`. What comes before and after the braces is left out.
-use Rattle.std.specs.Prelude.{ℕ, ◌+◌, ◌*◌, ◌%◌, Bool, true, false, ◌==◌, ◌||◌, ◌&&◌, nat_le, nat_lt, if◌then◌else◌, codes, slice_get, Option, Some, None, Result, Ok, Err}
+use Rattle.std.specs.Prelude.{ℕ, ◌+◌, ◌*◌, ◌%◌, Bool, true, false, ◌==◌, ◌||◌, ◌&&◌, nat_le, nat_lt, if◌then◌else◌, codes, slice_get, Option, Some, None}
+use Rattle.std.specs.Prelude.{Result, Ok, Err}
 use Rattle.std.specs.Char.{digit_value}
-use Rattle.dma_manual.specs.Forms.{is_blank, is_digit_in, is_x}
-use Rattle.dma_manual.specs.declared.array.ArrayPlace.{ArrayPlace}
+use Rattle.dma_text.specs.Lines.{is_blank}
+use Rattle.dma_manual.specs.{Forms.is_digit_in, Forms.is_x, declared.array.ArrayPlace.ArrayPlace, declared.dump.Effect.Effect, declared.dump.Cause.Cause}
 use Rattle.dma_manual.specs.declared.array.ArrayPlace.TheVariants.{Front, List as Items, Zero, Element, Behind, Lead, Count, Tail, Repeated, Rest}
-use Rattle.dma_manual.specs.declared.dump.Effect.{Effect}
 use Rattle.dma_manual.specs.declared.dump.Effect.TheVariants.{Nothing, Element as Ends}
-use Rattle.dma_manual.specs.declared.dump.Cause.{Cause}
 use Rattle.dma_manual.specs.declared.dump.Cause.TheVariants.{Byte, Large, Elided, Count as TooMany}
 
 -- whether a fault is of an array alone

@@ -1,35 +1,23 @@
 -- The program to which a text assembles, or the first fault of the text, with its place (profile).
-use Rattle.std.specs.Prelude.{◌≡◌, ℕ, ◌+◌, ◌-◌, Bool, true, false, ◌==◌, ◌&&◌, ◌||◌, if◌then◌else◌, List, [], ◌∷◌, ◌++◌, length, take, map, slice_index, nat_le, nat_lt, Option, Some, None, is_some, Result, Ok, Err, ok_or}
-use Rattle.dma_insn.specs.LineReading.{◌>>=◌}
-use Rattle.dma_insn.specs.AssemblyText.{most_program_bytes, text_lines}
-use Rattle.dma_insn.specs.declared.insn.Counter.{Counter}
+use Rattle.std.specs.Prelude.{◌≡◌, ℕ, ◌+◌, ◌-◌, Bool, true, false, ◌==◌, ◌&&◌, ◌||◌, if◌then◌else◌, List, [], ◌∷◌, ◌++◌, length, take, map, slice_index, nat_le}
+use Rattle.std.specs.Prelude.{nat_lt, Option, Some, None, is_some, Result, Ok, Err, ok_or}
+use Rattle.std.specs.Result.{result_unwrap_or}
+use Rattle.dma_text.specs.{Results.◌>>=◌, Lines.text_lines}
 use Rattle.dma_insn.specs.declared.insn.Counter.TheVariants.{Lc0, Lc1}
 use Rattle.dma_insn.specs.declared.chip.ChipInsn.TheVariants.{Lp, LpEnd, LoopAgain}
-use Rattle.dma_manual.specs.Insns.{spelling}
-use Rattle.dma_manual.specs.Listing.{is_end}
-use Rattle.dma_manual.specs.Words.{code_of, next_of, plain_byte}
+use Rattle.dma_insn.specs.{AssemblyText.most_program_bytes, declared.insn.Counter.Counter}
 use Rattle.dma_manual.specs.Statements.{Label, label_of, label_view, statement_at}
+use Rattle.dma_manual.specs.{Insns.spelling, Listing.is_end, Words.code_of, Words.next_of, Words.plain_byte, declared.assembler.Fault.Fault}
+use Rattle.dma_manual.specs.{declared.assembler.Located.Located, declared.assembler.Place.Place, declared.assembler.Stop.Stop}
+use Rattle.dma_manual.specs.{declared.assembler.Stop.TheVariants.NoMemory, declared.assembler.Stop.TheVariants.At, declared.draft.Draft.Draft}
+use Rattle.dma_manual.specs.{declared.insns.ManualInsn.ManualInsn, declared.insns.ManualInsn.TheVariants.Chip, declared.insns.ManualInsn.TheVariants.Other}
+use Rattle.dma_manual.specs.{declared.insns.OtherInsn.TheVariants.LpEndIf, declared.insns.OtherInsn.TheVariants.LoopAgainIf, declared.insns.Request.Request}
+use Rattle.dma_manual.specs.{declared.loops.LoopKind.LoopKind, declared.loops.LoopKind.TheVariants.Counted, declared.loops.LoopKind.TheVariants.Endless}
+use Rattle.dma_manual.specs.{declared.loops.Loops.Loops, declared.loops.Open.Open, declared.loops.Stray.Stray, declared.statements.Again.Again}
+use Rattle.dma_manual.specs.{declared.statements.Again.TheVariants.Always, declared.statements.Again.TheVariants.If, declared.statements.Statement.Statement}
 use Rattle.dma_manual.specs.declared.assembler.AsmCause.TheVariants as causes
-use Rattle.dma_manual.specs.declared.assembler.Fault.{Fault}
-use Rattle.dma_manual.specs.declared.assembler.Located.{Located}
-use Rattle.dma_manual.specs.declared.assembler.Place.{Place}
-use Rattle.dma_manual.specs.declared.assembler.Stop.{Stop}
-use Rattle.dma_manual.specs.declared.assembler.Stop.TheVariants.{NoMemory, At}
-use Rattle.dma_manual.specs.declared.draft.Draft.{Draft}
-use Rattle.dma_manual.specs.declared.insns.ManualInsn.{ManualInsn}
-use Rattle.dma_manual.specs.declared.insns.ManualInsn.TheVariants.{Chip, Other}
-use Rattle.dma_manual.specs.declared.insns.OtherInsn.TheVariants.{LpEndIf, LoopAgainIf}
-use Rattle.dma_manual.specs.declared.insns.Request.{Request}
-use Rattle.dma_manual.specs.declared.loops.LoopKind.{LoopKind}
-use Rattle.dma_manual.specs.declared.loops.LoopKind.TheVariants.{Counted, Endless}
-use Rattle.dma_manual.specs.declared.loops.Loops.{Loops}
-use Rattle.dma_manual.specs.declared.loops.Open.{Open}
-use Rattle.dma_manual.specs.declared.loops.Stray.{Stray}
-use Rattle.dma_manual.specs.declared.statements.Again.{Again}
-use Rattle.dma_manual.specs.declared.statements.Again.TheVariants.{Always, If}
 use Rattle.dma_manual.specs.declared.statements.End.{End as LoopTo}
 use Rattle.dma_manual.specs.declared.statements.End.TheVariants as ends
-use Rattle.dma_manual.specs.declared.statements.Statement.{Statement}
 use Rattle.dma_manual.specs.declared.statements.Statement.TheVariants as says
 
 -- What the lines so far say: the program's bytes, the labels, the loops that are open, whether an instruction is DMAEND
@@ -301,6 +289,10 @@ abbrev pub assembled : List ℕ → Result (List ℕ) Located
 assembled text = do
   r ← read_text text
   Ok r.code
+
+-- the program that a text describes; no bytes for a text with a fault
+abbrev pub program_of : List ℕ → List ℕ
+program_of text = result_unwrap_or (assembled text) []
 
 -- What a function returned, with `view` applied to a value, is `read`, unless memory ran out.
 abbrev pub ResultOr : {X Y : Type 0} → (X → Y) → Result X Stop → Result Y Located → Type 0

@@ -1,23 +1,18 @@
 -- What each byte of a dump is a part of (profile). A line has an address, groups of digits, and perhaps its bytes as
 -- text. Each address is where the bytes of the line before end.
-use Rattle.std.specs.Prelude.{ℕ, ◌+◌, ◌-◌, Bool, true, false, not, ◌==◌, ◌||◌, ◌&&◌, nat_le, nat_lt, if◌then◌else◌, List, [], ◌∷◌, drop, length, slice_get, Option, Some, None, is_some, Result, Ok, Err}
-use Rattle.std.specs.Char.{digit_value}
-use Rattle.std.specs.List.{list_all}
-use Rattle.std.specs.Option.{unwrap_or}
-use Rattle.dma_manual.specs.Array.{array_step}
-use Rattle.dma_manual.specs.declared.array.ArrayPlace.{ArrayPlace}
-use Rattle.dma_manual.specs.Forms.{digits_of, has_octal, has_spaced_text, is_blank, is_digit_in, is_octal, is_x, least_digits, size_of, with_digit}
-use Rattle.dma_manual.specs.declared.forms.Column.{Column}
-use Rattle.dma_manual.specs.declared.forms.Column.TheVariants.{Colon, Hex, Octal, Headed, Array as Braces}
-use Rattle.dma_manual.specs.declared.forms.Group.{Group as Size}
-use Rattle.dma_manual.specs.declared.forms.Group.TheVariants.{Byte as Bytes, Half, Word as Words, Long, Octal as Octals}
-use Rattle.dma_manual.specs.declared.forms.Form.{Form}
-use Rattle.dma_manual.specs.declared.dump.Scan.{Scan}
-use Rattle.dma_manual.specs.declared.dump.Place.{Place}
-use Rattle.dma_manual.specs.declared.dump.Place.TheVariants.{Start, Heading, Word, Break, Address, Open, Symbol, Closed, Lead, Zero, Gap, Behind, Group, Text, Array}
-use Rattle.dma_manual.specs.declared.dump.Effect.{Effect}
+use Rattle.std.specs.Prelude.{ℕ, ◌+◌, ◌-◌, Bool, true, false, not, ◌==◌, ◌||◌, ◌&&◌, nat_le, nat_lt, if◌then◌else◌, List, [], ◌∷◌, drop, length, slice_get}
+use Rattle.std.specs.Prelude.{Option, Some, None, is_some, Result, Ok, Err}
+use Rattle.std.specs.{Char.digit_value, Option.unwrap_or}
+use Rattle.dma_manual.specs.Forms.{digits_of, has_octal, has_spaced_text, is_digit_in, is_octal, is_x, least_digits, size_of, with_digit}
+use Rattle.dma_manual.specs.declared.forms.Column.TheVariants.{Colon, Headed}
+use Rattle.dma_manual.specs.declared.dump.Place.TheVariants.{Start, Heading, Word, Break, Address, Open, Symbol, Closed, Lead, Zero, Gap, Behind, Group, Text}
+use Rattle.dma_manual.specs.declared.dump.Place.TheVariants.{Array}
 use Rattle.dma_manual.specs.declared.dump.Effect.TheVariants.{Nothing, Number, Cut}
-use Rattle.dma_manual.specs.declared.dump.Cause.{Cause}
+use Rattle.dma_manual.specs.{Array.array_step, declared.array.ArrayPlace.ArrayPlace, declared.forms.Column.Column, declared.forms.Form.Form}
+use Rattle.dma_manual.specs.{declared.dump.Scan.Scan, declared.dump.Place.Place, declared.dump.Effect.Effect, declared.dump.Cause.Cause}
+use Rattle.dma_text.specs.Lines.{is_all_spaces, is_blank}
+use Rattle.dma_manual.specs.declared.forms.Group.{Group as Size}
+use Rattle.dma_manual.specs.declared.forms.Group.TheVariants.{Byte as Bytes}
 use Rattle.dma_manual.specs.declared.dump.Cause.TheVariants.{Byte, Address as BadAddress, Text as BadText, Star}
 
 -- how far a dump is read after a byte, and what the byte does; or what is wrong
@@ -27,26 +22,17 @@ Step = Result (Scan × Effect) Cause
 -- whether a colon ends each address
 abbrev pub has_colon : Column → Bool
 has_colon Colon = true
-has_colon Hex = false
-has_colon Octal = false
-has_colon Headed = false
-has_colon Braces = false
+has_colon other = false
 
 -- whether the addresses are below headings
 abbrev pub has_headings : Column → Bool
-has_headings Colon = false
-has_headings Hex = false
-has_headings Octal = false
 has_headings Headed = true
-has_headings Braces = false
+has_headings other = false
 
 -- whether a group is a pair of digits
 abbrev pub is_pair : Size → Bool
 is_pair Bytes = true
-is_pair Half = false
-is_pair Words = false
-is_pair Long = false
-is_pair Octals = false
+is_pair other = false
 
 -- whether the address v is where the n bytes before it end
 abbrev pub goes_on : Option ℕ → ℕ → ℕ → Bool
@@ -56,9 +42,6 @@ goes_on (Some f) n v = v == f + n
 -- how a byte is shown as text
 abbrev pub shown_as : ℕ → ℕ
 shown_as c = if nat_le 32 c && nat_le c 126 then c else 46
-
-abbrev pub is_all_spaces : List ℕ → Bool
-is_all_spaces line = list_all (λ b. b == 32) line
 
 -- how many spaces bytes begin with
 abbrev pub leading_spaces : List ℕ → ℕ

@@ -1,29 +1,19 @@
 -- How the first fault of a text is printed, or the first warning about a text without a fault.
-use Rattle.std.specs.Prelude.{◌≡◌, ℕ, ◌+◌, ◌-◌, Bool, true, false, ◌==◌, ◌||◌, if◌then◌else◌, List, [], ◌∷◌, ◌++◌, length, take, drop, map, min, nat_le, codes, decimal, Option, Some, None, Result, Ok, Err}
+use Rattle.std.specs.Prelude.{◌≡◌, ℕ, ◌+◌, ◌-◌, Bool, true, false, ◌==◌, ◌||◌, if◌then◌else◌, List, [], ◌∷◌, ◌++◌, length, take, drop, map, min, nat_le, codes}
+use Rattle.std.specs.Prelude.{decimal, Option, Some, None, Result, Ok, Err}
 use Rattle.std.specs.Str.{bytes_eq}
-use Rattle.dma_insn.specs.AssemblyText.{text_lines}
-use Rattle.dma_io.specs.Command.{text_of}
-use Rattle.dma_io.specs.Printing.{program_lines}
-use Rattle.dma_manual.specs.ManualText.{end_name}
-use Rattle.dma_manual.specs.Words.{code_of, has_sign, plain_byte}
-use Rattle.dma_manual.specs.Assembled.{Read, assembled, label_in}
-use Rattle.dma_manual.specs.declared.assembler.AsmCause.{AsmCause}
+use Rattle.dma_text.specs.Lines.{text_lines}
+use Rattle.dma_manual.specs.{ManualText.end_name, Words.code_of, Words.has_sign, Words.plain_byte, Assembled.Read, Assembled.assembled, Assembled.label_in}
+use Rattle.dma_manual.specs.{declared.assembler.AsmCause.AsmCause, declared.assembler.Field.Field, declared.assembler.Operand.Operand}
+use Rattle.dma_manual.specs.{declared.assembler.Located.Located, declared.assembler.Place.Place, declared.errors.AsmError.AsmError, declared.errors.Note.Note}
+use Rattle.dma_manual.specs.{declared.loops.LoopKind.LoopKind, declared.loops.LoopKind.TheVariants.Counted, declared.loops.LoopKind.TheVariants.Endless}
+use Rattle.dma_manual.specs.{declared.loops.Stray.Stray, declared.manual.Side.Side, declared.manual.Side.TheVariants.Source}
+use Rattle.dma_manual.specs.{declared.manual.Side.TheVariants.Destination}
 use Rattle.dma_manual.specs.declared.assembler.AsmCause.TheVariants as causes
-use Rattle.dma_manual.specs.declared.assembler.Field.{Field}
 use Rattle.dma_manual.specs.declared.assembler.Field.TheVariants as field
-use Rattle.dma_manual.specs.declared.assembler.Operand.{Operand}
 use Rattle.dma_manual.specs.declared.assembler.Operand.TheVariants as operand
-use Rattle.dma_manual.specs.declared.assembler.Located.{Located}
-use Rattle.dma_manual.specs.declared.assembler.Place.{Place}
-use Rattle.dma_manual.specs.declared.errors.AsmError.{AsmError}
 use Rattle.dma_manual.specs.declared.errors.AsmError.TheVariants as errors
-use Rattle.dma_manual.specs.declared.errors.Note.{Note}
 use Rattle.dma_manual.specs.declared.errors.Note.TheVariants as notes
-use Rattle.dma_manual.specs.declared.loops.LoopKind.{LoopKind}
-use Rattle.dma_manual.specs.declared.loops.LoopKind.TheVariants.{Counted, Endless}
-use Rattle.dma_manual.specs.declared.loops.Stray.{Stray}
-use Rattle.dma_manual.specs.declared.manual.Side.{Side}
-use Rattle.dma_manual.specs.declared.manual.Side.TheVariants.{Source, Destination}
 
 -- which operand an instruction lacks
 abbrev pub missing_message : Operand → List ℕ
@@ -179,11 +169,6 @@ warning_text (Some s) stops =
     ++ (codes "' does not jump to the instruction after its " ++ start_name s.kind ++ codes "\n"))
 warning_text None true = []
 warning_text None false = codes " warning: the text has no DMAEND\n"
-
--- what is written for a text: its program's bytes in hexadecimal digits, 16 to a line
-abbrev pub assembled_out : Result Read Located → List ℕ
-assembled_out (Ok r) = text_of (program_lines r.code)
-assembled_out (Err l) = []
 
 -- what is written to standard error for a text: its first fault, or the first warning about its program
 abbrev pub assembled_err : List ℕ → Result Read Located → List ℕ

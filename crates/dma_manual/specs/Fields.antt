@@ -1,21 +1,16 @@
 -- The fields of DMAMOV CCR (manual, assembler directives; a field may be given once, and a field that is absent has the
 -- manual's default: one beat of 8 bits at a growing address, protection 0, cache 0).
-use Rattle.std.specs.Prelude.{ℕ, ◌+◌, ◌*◌, ◌/◌, ◌%◌, Bool, true, false, ◌==◌, if◌then◌else◌, List, [], ◌∷◌, nat_lt, zero, suc, codes, Option, Some, None, is_some, unwrap_or, Result, Ok, Err, ok_or}
+use Rattle.std.specs.Prelude.{ℕ, ◌+◌, ◌*◌, ◌/◌, ◌%◌, Bool, true, false, ◌==◌, if◌then◌else◌, List, [], ◌∷◌, nat_lt, zero, suc, codes, Option, Some, None}
+use Rattle.std.specs.Prelude.{is_some, unwrap_or, Result, Ok, Err, ok_or}
 use Rattle.std.specs.Str.{bytes_eq}
-use Rattle.dma_insn.specs.LineReading.{◌>>=◌}
-use Rattle.dma_insn.specs.ControlWord.{bits_of}
-use Rattle.dma_insn.specs.declared.control.BeatSize.{BeatSize}
+use Rattle.dma_text.specs.Results.{◌>>=◌}
 use Rattle.dma_insn.specs.declared.control.BeatSize.TheVariants.{One, Two, Four, Eight, Sixteen}
-use Rattle.dma_insn.specs.declared.control.BurstEnd.{BurstEnd}
-use Rattle.dma_manual.specs.Words.{next_of}
+use Rattle.dma_insn.specs.{ControlWord.bits_of, declared.control.BeatSize.BeatSize, declared.control.BurstEnd.BurstEnd}
 use Rattle.dma_manual.specs.Operands.{fault_at, field_at, none_left}
+use Rattle.dma_manual.specs.{Words.next_of, declared.assembler.Fault.Fault, declared.manual.Side.Side, declared.manual.Side.TheVariants.Source}
+use Rattle.dma_manual.specs.{declared.manual.Side.TheVariants.Destination, declared.fields.EndFields.EndFields, declared.fields.Fields.Fields}
 use Rattle.dma_manual.specs.declared.assembler.AsmCause.TheVariants as causes
-use Rattle.dma_manual.specs.declared.assembler.Fault.{Fault}
 use Rattle.dma_manual.specs.declared.assembler.Field.TheVariants as field
-use Rattle.dma_manual.specs.declared.manual.Side.{Side}
-use Rattle.dma_manual.specs.declared.manual.Side.TheVariants.{Source, Destination}
-use Rattle.dma_manual.specs.declared.fields.EndFields.{EndFields}
-use Rattle.dma_manual.specs.declared.fields.Fields.{Fields}
 
 -- nothing is set
 abbrev pub no_end : EndFields

@@ -2,10 +2,8 @@
 -- and of text look, and how a group of digits spells bytes. The lowest byte of a group comes first in memory.
 use Rattle.std.specs.Prelude.{ℕ, ◌+◌, ◌*◌, ◌%◌, ◌^◌, Bool, true, false, ◌==◌, ◌||◌, nat_lt, if◌then◌else◌, List, [], ◌∷◌}
 use Rattle.std.specs.Char.{digit_value}
-use Rattle.dma_manual.specs.declared.forms.Column.{Column}
 use Rattle.dma_manual.specs.declared.forms.Column.TheVariants.{Colon, Hex, Octal, Headed, Array}
-use Rattle.dma_manual.specs.declared.forms.Form.{Form}
-use Rattle.dma_manual.specs.declared.forms.Group.{Group}
+use Rattle.dma_manual.specs.{declared.forms.Column.Column, declared.forms.Form.Form, declared.forms.Group.Group}
 use Rattle.dma_manual.specs.declared.forms.Group.TheVariants.{Byte, Half, Word, Long, Octal as Octals}
 
 -- how many bytes a group has
@@ -26,39 +24,25 @@ digits_of Octals = 6
 
 -- whether the digits of a group are octal
 abbrev pub is_octal : Group → Bool
-is_octal Byte = false
-is_octal Half = false
-is_octal Word = false
-is_octal Long = false
 is_octal Octals = true
+is_octal other = false
 
 -- whether addresses are octal
 abbrev pub has_octal : Column → Bool
-has_octal Colon = false
-has_octal Hex = false
 has_octal Octal = true
-has_octal Headed = false
-has_octal Array = false
+has_octal other = false
 
 -- the least number of digits of an address
 abbrev pub least_digits : Column → ℕ
-least_digits Colon = 4
 least_digits Hex = 6
 least_digits Octal = 6
-least_digits Headed = 4
-least_digits Array = 4
+least_digits other = 4
 
 -- whether two spaces, not a bar, come before the text
 abbrev pub has_spaced_text : Column → Bool
 has_spaced_text Colon = true
-has_spaced_text Hex = false
-has_spaced_text Octal = false
 has_spaced_text Headed = true
-has_spaced_text Array = false
-
--- a space or a tab
-abbrev pub is_blank : ℕ → Bool
-is_blank b = b == 32 || b == 9
+has_spaced_text other = false
 
 -- the letter of a mark `0x`
 abbrev pub is_x : ℕ → Bool

@@ -1,21 +1,18 @@
 -- The manual's instructions (ARM DDI 0424, instruction set): those that channels of the model execute, and the bytes of
 -- those that none executes.
-use Rattle.std.specs.Prelude.{◌≡◌, ℕ, ◌*◌, ◌/◌, ◌%◌, ◌^◌, ◌<◌, ◌≤◌, ◌==◌, Bool, true, false, List, [], ◌∷◌, length, take, drop, slice_index, nat_lt, if◌then◌else◌, Result, Ok, Err}
+use Rattle.std.specs.Prelude.{◌≡◌, ℕ, ◌*◌, ◌/◌, ◌%◌, ◌^◌, ◌<◌, ◌≤◌, ◌==◌, Bool, true, false, List, [], ◌∷◌, length, take, drop, slice_index, nat_lt}
+use Rattle.std.specs.Prelude.{if◌then◌else◌, Result, Ok, Err}
 use Rattle.byteorder.specs.Endian.{little_bytes, little_number}
-use Rattle.dma_insn.specs.declared.codec.DecodeFault.{DecodeFault}
 use Rattle.dma_insn.specs.declared.codec.DecodeFault.TheVariants.{Cut, Unknown, BadField}
-use Rattle.dma_insn.specs.declared.insn.Counter.{Counter}
 use Rattle.dma_insn.specs.declared.insn.Counter.TheVariants.{Lc0, Lc1}
+use Rattle.dma_insn.specs.{declared.codec.DecodeFault.DecodeFault, declared.insn.Counter.Counter}
+use Rattle.dma_manual.specs.declared.insns.OtherInsn.TheVariants.{Kill, LdIf, StIf, OfPeripheral, LpEndIf, LoopAgainIf, Go}
+use Rattle.dma_manual.specs.{declared.insns.Action.Action, declared.insns.ManualInsn.ManualInsn, declared.insns.ManualInsn.TheVariants.Chip}
+use Rattle.dma_manual.specs.{declared.insns.ManualInsn.TheVariants.Other, declared.insns.OtherInsn.OtherInsn, declared.insns.Request.Request}
+use Rattle.dma_manual.specs.{declared.insns.Request.TheVariants.Single, declared.insns.Request.TheVariants.Burst}
 use Rattle.dma_insn.specs.Chip.{Decoded as ChipDecoded, HasRanges as HasChipRanges, decoded as chip_decoded, spelling as chip_spelling}
-use Rattle.dma_manual.specs.declared.insns.Action.{Action}
 use Rattle.dma_manual.specs.declared.insns.Action.TheVariants as action
 use Rattle.dma_manual.specs.declared.insns.Awaited.TheVariants as awaited
-use Rattle.dma_manual.specs.declared.insns.ManualInsn.{ManualInsn}
-use Rattle.dma_manual.specs.declared.insns.ManualInsn.TheVariants.{Chip, Other}
-use Rattle.dma_manual.specs.declared.insns.OtherInsn.{OtherInsn}
-use Rattle.dma_manual.specs.declared.insns.OtherInsn.TheVariants.{Kill, LdIf, StIf, OfPeripheral, LpEndIf, LoopAgainIf, Go}
-use Rattle.dma_manual.specs.declared.insns.Request.{Request}
-use Rattle.dma_manual.specs.declared.insns.Request.TheVariants.{Single, Burst}
 
 -- the byte of DMALDS or DMALDB
 abbrev pub load_if_byte : Request → ℕ

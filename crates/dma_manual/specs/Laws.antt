@@ -1,11 +1,8 @@
 -- What the assembler makes of the texts of instructions and of programs.
 use Rattle.std.specs.Prelude.{◌≡◌, ℕ, ◌-◌, ◌<◌, ◌≤◌, ◌++◌, List, length, take, slice_index, Ok}
 use Rattle.dma_insn.specs.AssemblyText.{most_program_bytes}
-use Rattle.dma_manual.specs.Insns.{HasRanges, spelling}
-use Rattle.dma_manual.specs.declared.insns.ManualInsn.{ManualInsn}
 use Rattle.dma_manual.specs.Listing.{Ending, follow, stop, blanks_behind, indented, listed, rest_text, widest}
-use Rattle.dma_manual.specs.ManualText.{insn_text}
-use Rattle.dma_manual.specs.Assembled.{assembled}
+use Rattle.dma_manual.specs.{Insns.HasRanges, Insns.spelling, declared.insns.ManualInsn.ManualInsn, ManualText.insn_text, Assembled.assembled}
 
 -- The text of each instruction assembles to the instruction's bytes.
 abbrev pub TextsAssemble : Type 0

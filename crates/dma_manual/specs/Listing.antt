@@ -1,18 +1,15 @@
 -- The lines to which a program is disassembled.
-use Rattle.std.specs.Prelude.{ℕ, ◌+◌, ◌-◌, ◌/◌, ◌%◌, ◌^◌, Bool, true, false, ◌==◌, ◌&&◌, if◌then◌else◌, List, [], ◌∷◌, ◌++◌, length, take, drop, min, replicate, nat_le, nat_lt, codes, decimal, zero, suc, Option, Some, None, Ok, Err}
-use Rattle.std.specs.List.{list_any}
-use Rattle.std.specs.Option.{option_map}
+use Rattle.std.specs.Prelude.{ℕ, ◌+◌, ◌-◌, ◌/◌, ◌%◌, ◌^◌, Bool, true, false, ◌==◌, ◌&&◌, if◌then◌else◌, List, [], ◌∷◌, ◌++◌, length, take, drop, min, replicate}
+use Rattle.std.specs.Prelude.{nat_le, nat_lt, codes, decimal, zero, suc, Option, Some, None, Ok, Err}
+use Rattle.std.specs.{List.list_any, Option.option_map}
 use Rattle.dma_text.specs.Digits.{hex_digits, hex_pair, spaced_bytes}
 use Rattle.dma_insn.specs.declared.codec.DecodeFault.{DecodeFault}
 use Rattle.dma_insn.specs.declared.codec.DecodeFault.TheVariants.{Cut, Unknown, BadField}
 use Rattle.dma_insn.specs.declared.chip.ChipInsn.TheVariants.{End, Lp, LpEnd, LoopAgain}
-use Rattle.dma_manual.specs.Insns.{Decoded, decoded, spelling}
-use Rattle.dma_manual.specs.ManualText.{counter_name, end_name, insn_text}
-use Rattle.dma_manual.specs.declared.insns.ManualInsn.{ManualInsn}
-use Rattle.dma_manual.specs.declared.insns.ManualInsn.TheVariants.{Chip, Other}
-use Rattle.dma_manual.specs.declared.insns.OtherInsn.TheVariants.{LpEndIf, LoopAgainIf}
-use Rattle.dma_manual.specs.declared.listing.Jump.{Jump}
-use Rattle.dma_manual.specs.declared.remarks.Remarks.{Remarks}
+use Rattle.dma_manual.specs.{Insns.Decoded, Insns.decoded, Insns.spelling, ManualText.counter_name, ManualText.end_name, ManualText.insn_text}
+use Rattle.dma_manual.specs.{declared.insns.ManualInsn.ManualInsn, declared.insns.ManualInsn.TheVariants.Chip, declared.insns.ManualInsn.TheVariants.Other}
+use Rattle.dma_manual.specs.{declared.insns.OtherInsn.TheVariants.LpEndIf, declared.insns.OtherInsn.TheVariants.LoopAgainIf, declared.listing.Jump.Jump}
+use Rattle.dma_manual.specs.{declared.remarks.Remarks.Remarks}
 
 -- the label of the loop body at an offset: its four hexadecimal digits
 abbrev pub label_name : ℕ → List ℕ

@@ -1,28 +1,20 @@
 -- An instruction in the syntax of the DMA-330's manual (ARM DDI 0424, instruction set and assembler directives).
-use Rattle.std.specs.Prelude.{ℕ, ◌+◌, ◌*◌, ◌/◌, ◌%◌, Bool, true, false, ◌==◌, if◌then◌else◌, List, [], ◌++◌, codes, decimal, Option, Some, None, Result, Ok, Err}
+use Rattle.std.specs.Prelude.{ℕ, ◌+◌, ◌*◌, ◌/◌, ◌%◌, Bool, true, false, ◌==◌, if◌then◌else◌, List, [], ◌++◌, codes, decimal, Option, Some, None, Result, Ok}
+use Rattle.std.specs.Prelude.{Err}
 use Rattle.dma_text.specs.Digits.{hex_digits, hex_pair}
-use Rattle.dma_insn.specs.ControlWord.{beat_bytes, control_of}
-use Rattle.dma_insn.specs.declared.control.BurstEnd.{BurstEnd}
-use Rattle.dma_insn.specs.declared.control.Control.{Control}
-use Rattle.dma_insn.specs.declared.control.ControlFault.{ControlFault}
-use Rattle.dma_insn.specs.declared.insn.Counter.{Counter}
-use Rattle.dma_insn.specs.declared.insn.Counter.TheVariants.{Lc0, Lc1}
 use Rattle.dma_insn.specs.declared.insn.Reg.TheVariants.{Sar, Ccr, Dar}
-use Rattle.dma_insn.specs.declared.chip.ChipInsn.{ChipInsn}
 use Rattle.dma_insn.specs.declared.chip.ChipInsn.TheVariants.{Mov, Ld, St, Rmb, Wmb, Nop, End, Lp, LpEnd, Sev, Wfe, StoreZeros, AddHalfword, LoopAgain}
-use Rattle.dma_insn.specs.declared.chip.Address.{Address}
+use Rattle.dma_insn.specs.{ControlWord.beat_bytes, ControlWord.control_of, declared.control.BurstEnd.BurstEnd, declared.control.Control.Control}
+use Rattle.dma_insn.specs.{declared.control.ControlFault.ControlFault, declared.insn.Counter.Counter, declared.insn.Counter.TheVariants.Lc0}
+use Rattle.dma_insn.specs.{declared.insn.Counter.TheVariants.Lc1, declared.chip.ChipInsn.ChipInsn, declared.chip.Address.Address}
+use Rattle.dma_manual.specs.declared.insns.OtherInsn.TheVariants.{Kill, LdIf, StIf, OfPeripheral, LpEndIf, LoopAgainIf, Go}
+use Rattle.dma_manual.specs.{declared.insns.Action.Action, declared.insns.ManualInsn.ManualInsn, declared.insns.ManualInsn.TheVariants.Chip}
+use Rattle.dma_manual.specs.{declared.insns.ManualInsn.TheVariants.Other, declared.insns.OtherInsn.OtherInsn, declared.insns.Request.Request}
+use Rattle.dma_manual.specs.{declared.insns.Request.TheVariants.Single, declared.insns.Request.TheVariants.Burst, declared.manual.Side.Side}
+use Rattle.dma_manual.specs.{declared.manual.Side.TheVariants.Source, declared.manual.Side.TheVariants.Destination}
 use Rattle.dma_insn.specs.declared.chip.Address.TheVariants as address
-use Rattle.dma_manual.specs.declared.insns.Action.{Action}
 use Rattle.dma_manual.specs.declared.insns.Action.TheVariants as action
 use Rattle.dma_manual.specs.declared.insns.Awaited.TheVariants as awaited
-use Rattle.dma_manual.specs.declared.insns.ManualInsn.{ManualInsn}
-use Rattle.dma_manual.specs.declared.insns.ManualInsn.TheVariants.{Chip, Other}
-use Rattle.dma_manual.specs.declared.insns.OtherInsn.{OtherInsn}
-use Rattle.dma_manual.specs.declared.insns.OtherInsn.TheVariants.{Kill, LdIf, StIf, OfPeripheral, LpEndIf, LoopAgainIf, Go}
-use Rattle.dma_manual.specs.declared.insns.Request.{Request}
-use Rattle.dma_manual.specs.declared.insns.Request.TheVariants.{Single, Burst}
-use Rattle.dma_manual.specs.declared.manual.Side.{Side}
-use Rattle.dma_manual.specs.declared.manual.Side.TheVariants.{Source, Destination}
 
 -- the name of a loop counter
 abbrev pub counter_name : Counter → List ℕ

@@ -1,11 +1,9 @@
 -- Notes and warnings that follow the message of an answer (profile).
 use Rattle.std.specs.Prelude.{ℕ, Bool, false, ◌==◌, ◌||◌, ◌&&◌, not, nat_le, length, if◌then◌else◌, List, [], ◌∷◌, ◌++◌, Option, Some, None, codes}
 use Rattle.std.specs.List.{list_all}
-use Rattle.dma_manual.specs.declared.forms.Column.{Column}
 use Rattle.dma_manual.specs.declared.forms.Column.TheVariants.{Array, Octal}
-use Rattle.dma_manual.specs.declared.forms.Group.{Group}
+use Rattle.dma_manual.specs.{declared.forms.Column.Column, declared.forms.Group.Group, declared.forms.Form.Form}
 use Rattle.dma_manual.specs.declared.forms.Group.TheVariants.{Byte, Half, Word, Long, Octal as Octals}
-use Rattle.dma_manual.specs.declared.forms.Form.{Form}
 
 -- a printable byte, a tab or a line end
 abbrev pub is_text_byte : ℕ → Bool

@@ -1,13 +1,10 @@
 -- What the operands of an instruction say (profile; the names are the manual's).
-use Rattle.std.specs.Prelude.{ℕ, ◌+◌, ◌*◌, ◌^◌, Bool, true, false, ◌==◌, ◌&&◌, if◌then◌else◌, List, [], ◌∷◌, length, drop, min, nat_eq, nat_le, codes, Option, Some, None, Result, Ok, Err, ok_or}
-use Rattle.std.specs.List.{starts_with}
-use Rattle.std.specs.Char.{digit_value}
-use Rattle.std.specs.Str.{bytes_eq}
-use Rattle.dma_insn.specs.LineReading.{◌>>=◌}
-use Rattle.dma_manual.specs.Words.{next_of}
-use Rattle.dma_manual.specs.declared.assembler.AsmCause.{AsmCause}
+use Rattle.std.specs.Prelude.{ℕ, ◌+◌, ◌*◌, ◌^◌, Bool, true, false, ◌==◌, ◌&&◌, if◌then◌else◌, List, [], ◌∷◌, length, drop, min, nat_eq, nat_le, codes, Option}
+use Rattle.std.specs.Prelude.{Some, None, Result, Ok, Err, ok_or}
+use Rattle.std.specs.{List.starts_with, Char.digit_value, Str.bytes_eq}
+use Rattle.dma_text.specs.Results.{◌>>=◌}
+use Rattle.dma_manual.specs.{Words.next_of, declared.assembler.AsmCause.AsmCause, declared.assembler.Fault.Fault}
 use Rattle.dma_manual.specs.declared.assembler.AsmCause.TheVariants as causes
-use Rattle.dma_manual.specs.declared.assembler.Fault.{Fault}
 
 -- the fault of a word, which `rest` follows
 abbrev pub fault_at : AsmCause → List ℕ → List ℕ → Fault

@@ -1,33 +1,22 @@
 -- Programs that are pasted as text (profile): digits, or a dump, which is read in the first form of a list that fits.
-use Rattle.std.specs.Prelude.{ℕ, ◌+◌, Bool, true, false, not, ◌||◌, ◌&&◌, nat_le, nat_lt, if◌then◌else◌, List, [], ◌∷◌, ◌++◌, length, take, replicate, Option, Some, None, is_ok, Result, Ok, Err}
+use Rattle.std.specs.Prelude.{ℕ, ◌+◌, Bool, true, false, not, ◌||◌, ◌&&◌, nat_le, nat_lt, if◌then◌else◌, List, [], ◌∷◌, ◌++◌, length, take, replicate, Option}
+use Rattle.std.specs.Prelude.{Some, None, is_ok, Result, Ok, Err}
 use Rattle.std.specs.Int.{w64, to_le_bytes}
-use Rattle.dma_insn.specs.LineReading.{◌>>=◌}
-use Rattle.dma_manual.specs.Array.{is_of_array}
-use Rattle.dma_manual.specs.Dump.{Step, next_of}
+use Rattle.dma_text.specs.Results.{◌>>=◌}
 use Rattle.dma_manual.specs.Forms.{bytes_first, form, plain_forms, size_of, words_first}
-use Rattle.dma_io.specs.Hexadecimal.{spelled}
-use Rattle.dma_manual.specs.declared.array.ArrayPlace.{ArrayPlace}
-use Rattle.dma_manual.specs.declared.array.ArrayPlace.TheVariants.{Front, Rest}
-use Rattle.dma_manual.specs.Notes.{ends_at_once}
-use Rattle.dma_manual.specs.declared.dump.Cause.{Cause}
-use Rattle.dma_manual.specs.declared.dump.Cause.TheVariants.{Byte as BadByte, Address as BadAddress, Star, Long as TooLong}
-use Rattle.dma_manual.specs.declared.dump.Effect.{Effect}
-use Rattle.dma_manual.specs.declared.dump.Effect.TheVariants.{Nothing, Number, Element as Ends, Cut}
-use Rattle.dma_manual.specs.declared.dump.Place.{Place}
-use Rattle.dma_manual.specs.declared.dump.Place.TheVariants.{Start, Array as InArray}
-use Rattle.dma_manual.specs.declared.dump.Scan.{Scan}
-use Rattle.dma_manual.specs.declared.forms.Column.{Column}
 use Rattle.dma_manual.specs.declared.forms.Column.TheVariants.{Colon, Hex, Octal, Headed, Array}
-use Rattle.dma_manual.specs.declared.forms.Group.{Group}
-use Rattle.dma_manual.specs.declared.forms.Group.TheVariants.{Byte, Half, Word, Long, Octal as Octals}
-use Rattle.dma_manual.specs.declared.forms.Form.{Form}
-use Rattle.dma_io.specs.declared.hexadecimal.Notation.{Notation}
+use Rattle.dma_manual.specs.declared.forms.Group.TheVariants.{Byte, Half, Word, Long}
+use Rattle.dma_manual.specs.{Array.is_of_array, Dump.Step, Dump.next_of, declared.array.ArrayPlace.ArrayPlace, declared.array.ArrayPlace.TheVariants.Front}
+use Rattle.dma_manual.specs.{declared.array.ArrayPlace.TheVariants.Rest, Notes.ends_at_once, declared.dump.Cause.Cause, declared.dump.Effect.Effect}
+use Rattle.dma_manual.specs.{declared.dump.Place.Place, declared.dump.Scan.Scan, declared.forms.Column.Column, declared.forms.Group.Group}
+use Rattle.dma_manual.specs.{declared.forms.Form.Form, declared.pasted.Fault.Fault, declared.pasted.Refused.Refused, declared.pasted.Spelling.Spelling}
+use Rattle.dma_manual.specs.{declared.pasted.Spelling.TheVariants.Digits, declared.pasted.Spelling.TheVariants.Dump}
 use Rattle.dma_io.specs.declared.hexadecimal.Notation.TheVariants.{Pairs, Words}
-use Rattle.dma_manual.specs.declared.pasted.Fault.{Fault}
-use Rattle.dma_manual.specs.declared.pasted.Refused.{Refused}
+use Rattle.dma_io.specs.{Hexadecimal.spelled, declared.hexadecimal.Notation.Notation}
+use Rattle.dma_manual.specs.declared.dump.Cause.TheVariants.{Byte as BadByte, Address as BadAddress, Star, Long as TooLong}
+use Rattle.dma_manual.specs.declared.dump.Effect.TheVariants.{Nothing, Number, Element as Ends, Cut}
+use Rattle.dma_manual.specs.declared.dump.Place.TheVariants.{Start, Array as InArray}
 use Rattle.dma_manual.specs.declared.pasted.Refused.TheVariants.{Digits as BadDigits, Dump as BadDump, Ambiguous}
-use Rattle.dma_manual.specs.declared.pasted.Spelling.{Spelling}
-use Rattle.dma_manual.specs.declared.pasted.Spelling.TheVariants.{Digits, Dump}
 
 -- the bytes read so far, after what a byte of the text does to them
 abbrev pub applied : Group → Effect → List ℕ → List ℕ

@@ -1,13 +1,10 @@
 -- What is printed for a text that spells no program (profile).
-use Rattle.std.specs.Prelude.{ℕ, false, if◌then◌else◌, List, [], ◌++◌, Option, Some, None, codes, slice_get}
+use Rattle.std.specs.Prelude.{ℕ, false, if◌then◌else◌, List, [], ◌++◌, Option, Some, codes, slice_get}
 use Rattle.dma_text.specs.Digits.{hex_pair}
-use Rattle.dma_io.specs.Answer.{Reply}
-use Rattle.dma_io.specs.Faults.{fault_message, place_text}
-use Rattle.dma_manual.specs.declared.dump.Cause.{Cause}
-use Rattle.dma_manual.specs.declared.dump.Cause.TheVariants.{Byte as BadByte, Address, Text, Star, Large, Elided, Count, Long}
-use Rattle.dma_manual.specs.declared.pasted.Fault.{Fault}
-use Rattle.dma_manual.specs.declared.pasted.Refused.{Refused}
+use Rattle.dma_io.specs.{Answer.Prints, Faults.fault_message, Faults.place_text}
 use Rattle.dma_manual.specs.declared.pasted.Refused.TheVariants.{Digits, Dump, Ambiguous}
+use Rattle.dma_manual.specs.{declared.dump.Cause.Cause, declared.pasted.Fault.Fault, declared.pasted.Refused.Refused}
+use Rattle.dma_manual.specs.declared.dump.Cause.TheVariants.{Byte as BadByte, Address, Text, Star, Large, Elided, Count, Long}
 
 -- what is wrong with a dump, if it isn't a byte
 abbrev pub cause_message : Cause → List ℕ
@@ -43,5 +40,5 @@ why_text (Dump fault) text = dump_message text fault
 why_text Ambiguous text = ambiguous_message
 
 -- what is printed for a text that spells no program
-abbrev pub refusal : Refused → List ℕ → Reply
+abbrev pub refusal : Refused → List ℕ → Prints
 refusal why text = record { out = []; err = why_text why text; file = []; succeeds = false }

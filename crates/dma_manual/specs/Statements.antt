@@ -1,35 +1,24 @@
 -- What a line of assembly text says (profile; names and operands are the manual's).
 use Rattle.std.specs.Prelude.{ℕ, Bool, true, false, ◌&&◌, if◌then◌else◌, List, [], ◌∷◌, drop, nat_eq, nat_le, codes, Option, Some, None, Result, Ok, Err, ok_or}
-use Rattle.std.specs.List.{starts_with}
-use Rattle.std.specs.Str.{bytes_eq}
-use Rattle.dma_insn.specs.LineReading.{◌>>=◌}
-use Rattle.dma_insn.specs.declared.insn.Reg.{Reg}
+use Rattle.std.specs.{List.starts_with, Str.bytes_eq}
+use Rattle.dma_text.specs.Results.{◌>>=◌}
 use Rattle.dma_insn.specs.declared.insn.Reg.TheVariants.{Sar, Ccr, Dar}
-use Rattle.dma_insn.specs.declared.insn.Counter.{Counter}
-use Rattle.dma_insn.specs.declared.insn.Counter.TheVariants.{Lc0, Lc1}
 use Rattle.dma_insn.specs.declared.chip.ChipInsn.TheVariants.{Mov, Ld, St, Rmb, Wmb, Nop, End, Sev, Wfe, StoreZeros, AddHalfword}
-use Rattle.dma_insn.specs.declared.chip.Address.{Address}
-use Rattle.dma_insn.specs.declared.chip.Address.TheVariants.{Source, Destination}
-use Rattle.dma_manual.specs.Words.{next_of}
+use Rattle.dma_insn.specs.{declared.insn.Reg.Reg, declared.insn.Counter.Counter, declared.insn.Counter.TheVariants.Lc0, declared.insn.Counter.TheVariants.Lc1}
+use Rattle.dma_insn.specs.{declared.chip.Address.Address, declared.chip.Address.TheVariants.Source, declared.chip.Address.TheVariants.Destination}
 use Rattle.dma_manual.specs.Operands.{channel_at, event_at, fault_at, flag_at, no_more, number_at, peripheral_at, word_after}
-use Rattle.dma_manual.specs.Fields.{fields_at}
-use Rattle.dma_manual.specs.declared.assembler.AsmCause.TheVariants as causes
-use Rattle.dma_manual.specs.declared.assembler.Fault.{Fault}
-use Rattle.dma_manual.specs.declared.assembler.Operand.TheVariants as operand
-use Rattle.dma_manual.specs.declared.insns.Action.{Action}
-use Rattle.dma_manual.specs.declared.insns.Action.TheVariants as action
-use Rattle.dma_manual.specs.declared.insns.Awaited.{Awaited}
-use Rattle.dma_manual.specs.declared.insns.Awaited.TheVariants as awaited
-use Rattle.dma_manual.specs.declared.insns.ManualInsn.TheVariants.{Chip, Other}
 use Rattle.dma_manual.specs.declared.insns.OtherInsn.TheVariants.{Kill, LdIf, StIf, OfPeripheral, Go}
-use Rattle.dma_manual.specs.declared.insns.Request.{Request}
-use Rattle.dma_manual.specs.declared.insns.Request.TheVariants.{Single, Burst}
-use Rattle.dma_manual.specs.declared.statements.Again.{Again}
-use Rattle.dma_manual.specs.declared.statements.Again.TheVariants.{Always, If}
-use Rattle.dma_manual.specs.declared.statements.Named.{Named}
+use Rattle.dma_manual.specs.{Words.next_of, Fields.fields_at, declared.assembler.Fault.Fault, declared.insns.Action.Action, declared.insns.Awaited.Awaited}
+use Rattle.dma_manual.specs.{declared.insns.ManualInsn.TheVariants.Chip, declared.insns.ManualInsn.TheVariants.Other, declared.insns.Request.Request}
+use Rattle.dma_manual.specs.{declared.insns.Request.TheVariants.Single, declared.insns.Request.TheVariants.Burst, declared.statements.Again.Again}
+use Rattle.dma_manual.specs.{declared.statements.Again.TheVariants.Always, declared.statements.Again.TheVariants.If, declared.statements.Named.Named}
+use Rattle.dma_manual.specs.{declared.statements.Statement.Statement}
+use Rattle.dma_manual.specs.declared.assembler.AsmCause.TheVariants as causes
+use Rattle.dma_manual.specs.declared.assembler.Operand.TheVariants as operand
+use Rattle.dma_manual.specs.declared.insns.Action.TheVariants as action
+use Rattle.dma_manual.specs.declared.insns.Awaited.TheVariants as awaited
 use Rattle.dma_manual.specs.declared.statements.End.{End as LoopTo}
 use Rattle.dma_manual.specs.declared.statements.End.TheVariants as ends
-use Rattle.dma_manual.specs.declared.statements.Statement.{Statement}
 use Rattle.dma_manual.specs.declared.statements.Statement.TheVariants as says
 
 -- a label: its name and its offset

@@ -1,7 +1,6 @@
 -- The words of a line of assembly text (profile).
 use Rattle.std.specs.Prelude.{ℕ, Bool, ◌==◌, ◌||◌, not, if◌then◌else◌, List, length, take, drop, min, nat_eq, position, codes, unwrap_or, Option, Some, None}
-use Rattle.std.specs.List.{starts_with}
-use Rattle.std.specs.Char.{to_ascii_lowercase}
+use Rattle.std.specs.{List.starts_with, Char.to_ascii_lowercase}
 
 -- a byte in lower case; a tab, a carriage return and a comma as a space
 abbrev pub plain_byte : ℕ → ℕ

@@ -3,8 +3,9 @@ ghost use Rattle.std.specs.Prelude.{◌≡◌};
 ghost use Rattle.dma_manual.specs.Array.{array_step, count_step, element_end, element_step, ends_with, goes_to, is_of_array, is_space, lead_step, list_step, repeated_step, tail_step};
 
 use crate::dump::{Cause, Effect};
-use crate::forms::{is_blank, is_digit_in, is_x};
+use crate::forms::{is_digit_in, is_x};
 use dma_text::digits::digit_value;
+use dma_text::lines::is_blank;
 
 /// What gdb prints before the number of times that an element is repeated.
 const LEAD: [u8; 9] = *b"<repeats ";

@@ -1,16 +1,16 @@
 //! Assembles a text in the manual's syntax.
 
 ghost use Rattle.std.specs.Prelude.{◌≡◌, ◌++◌, OnOk, OnErr, IfOk, is_ok};
-ghost use Rattle.dma_manual.specs.Errors.{IsAssembled, assembled_err, assembled_out};
-ghost use Rattle.dma_manual.specs.Assembled.{ResultOr, draft_view, empty, read_text, take_lines};
-ghost use Rattle.dma_insn.specs.AssemblyText.{text_lines};
+ghost use Rattle.dma_manual.specs.Errors.{IsAssembled, assembled_err};
+ghost use Rattle.dma_manual.specs.Assembled.{ResultOr, draft_view, empty, program_of, read_text, take_lines};
+ghost use Rattle.dma_text.specs.Lines.{text_lines};
 
 use crate::draft::{Draft, take_line};
 use crate::errors::{AsmError, Wrong, note_of, word_at};
 use crate::manual::Side;
 use crate::warning::warning_of;
-use crate::words::{plain_line, split_line};
-use dma_io::printing::ProgramLines;
+use crate::words::plain_line;
+use dma_text::lines::split_line;
 use dma_text::text::print;
 use std::alloc::{AllocError, Global};
 
@@ -181,33 +181,24 @@ pub fn assemble(alloc: Global, text: &[u8]) -> Result<Vec<u8>, AsmError<'_>>
     }
 }
 
-/// Assembles a text. Appends the program's bytes in hexadecimal digits to `out`, 16 to a line, and to `err` the first
-/// warning, if there is one, and returns true; or appends the text's first fault to `err`, as
-/// `LINE:COLUMN: 'WORD' is ..`, and returns false. Appends nothing if memory runs out.
+/// Assembles a text. Returns the program's bytes, or none for a text with a fault, and whether it has no fault. Appends
+/// to `err` the first warning, if there is one, or the first fault, as `LINE:COLUMN: 'WORD' is ..`. Appends nothing if
+/// memory runs out.
 pub fn assemble_text(
     alloc: Global,
     text: &[u8],
-    out: &mut Vec<u8>,
     err: &mut Vec<u8>,
-) -> Result<bool, AllocError>
-    ensures out { OnOk result
-        (out.new.items ≡ out.old.items ++ assembled_out (read_text text.now)) }
+) -> Result<(Vec<u8>, bool), AllocError>
+    ensures program { IfOk result (λ found. found.0.items ≡ program_of text.now) }
+    ensures succeeded { IfOk result (λ found. found.1 ≡ is_ok (read_text text.now)) }
     ensures err { OnOk result
         (err.new.items ≡ err.old.items ++ assembled_err text.now (read_text text.now)) }
-    ensures succeeded { IfOk result (λ succeeded. succeeded ≡ is_ok (read_text text.now)) }
-    ensures out_kept { OnErr result (out.new.items ≡ out.old.items) }
     ensures err_kept { OnErr result (err.new.items ≡ err.old.items) }
 {
     match read_text(alloc, text) {
         Ok(draft) => {
-            let start = err.len();
             print(err, &warning_of(&draft))?;
-            let printed = print(out, &ProgramLines(&draft.code));
-            if printed.is_err() {
-                err.truncate(start);
-                return Err(AllocError);
-            }
-            Ok(true)
+            Ok((draft.code, true))
         }
         Err(Stop::At(located)) => {
             let word = word_at(text, located.place);
@@ -218,7 +209,7 @@ pub fn assemble_text(
                 note,
             };
             print(err, &(wrong, "\n"))?;
-            Ok(false)
+            Ok((Vec::new(alloc), false))
         }
         Err(Stop::NoMemory) => Err(AllocError),
     }

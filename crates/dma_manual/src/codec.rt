@@ -7,7 +7,7 @@ ghost use Rattle.dma_manual.specs.Insns.{HasRanges, IsRefusedFor, IsSpelledAt, a
 use crate::insns::{Action, Awaited, Channel, ManualInsn, OtherInsn, Peripheral, Request};
 use byteorder::{ByteOrder, LittleEndian};
 use dma_insn::chip::{decode_chip, encode_chip};
-use dma_insn::codec::DecodeFault;
+use dma_insn::codec::{DecodeFault, write_one, write_two};
 use dma_insn::insn::Counter;
 
 /// Writes the bytes of an instruction to the front of `out` and returns their number. The other bytes of `out` are
@@ -50,25 +50,6 @@ fn encode_other(insn: OtherInsn, out: &mut [u8; 6]) -> usize
             6
         }
     }
-}
-
-// Writes an instruction of one byte.
-fn write_one(first: u8, out: &mut [u8; 6]) -> usize
-    ensures count { result ≡ 1 }
-    ensures bytes { out.new ≡ first ∷ drop 1 out.old }
-{
-    out[0] = first;
-    1
-}
-
-// Writes the first two bytes of an instruction.
-fn write_two(first: u8, second: u8, out: &mut [u8; 6]) -> usize
-    ensures count { result ≡ 2 }
-    ensures bytes { out.new ≡ first ∷ second ∷ drop 2 out.old }
-{
-    out[0] = first;
-    out[1] = second;
-    2
 }
 
 // Returns the byte of DMALDS or DMALDB.

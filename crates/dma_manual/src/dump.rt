@@ -3,8 +3,9 @@ ghost use Rattle.std.specs.Prelude.{◌≡◌};
 ghost use Rattle.dma_manual.specs.Dump.{at_place, line_end, next_of, place_step};
 
 use crate::array::ArrayPlace;
-use crate::forms::{Form, is_blank};
+use crate::forms::Form;
 use crate::shown::behind;
+use dma_text::lines::is_blank;
 
 /// What the last byte of a text was a part of.
 #[derive(Clone, Copy)]

@@ -1,15 +1,16 @@
 //! What is wrong with a text, and how it is printed.
 
 ghost use Rattle.std.specs.Prelude.{◌≡◌, ◌<◌, IfOk, map};
-ghost use Rattle.dma_insn.specs.AssemblyText.{text_lines};
+ghost use Rattle.dma_text.specs.Lines.{text_lines};
 ghost use Rattle.dma_manual.specs.Errors.{error_text, field_message, has_label, is_label, is_missing, label_note, line_of, line_with, message, missing_message, named_by, note_of, note_text, sign_note, word_at};
 ghost use Rattle.dma_manual.specs.Words.{code_of, plain_byte};
 
 use crate::assembler::{AsmCause, Field, Located, Operand, Place};
 use crate::draft::label_in;
 use crate::manual::Side;
-use crate::words::{has_sign, plain_line, split_line};
+use crate::words::{has_sign, plain_line};
 use dma_text::bytes::is_text;
+use dma_text::lines::split_line;
 use dma_text::text::Text;
 use std::alloc::{AllocError, Global};
 

@@ -1,7 +1,7 @@
 //! The forms of dumps: what tools print around the digits of memory.
 ghost use Rattle.std.specs.Prelude.{◌≡◌, ◌≤◌, ◌<◌};
 ghost use Rattle.std.specs.Char.{digit_value};
-ghost use Rattle.dma_manual.specs.Forms.{bytes_first, digits_of, has_octal, has_spaced_text, is_blank, is_digit_in, is_octal, is_x, least_digits, plain_forms, size_of, with_digit, words_first};
+ghost use Rattle.dma_manual.specs.Forms.{bytes_first, digits_of, has_octal, has_spaced_text, is_digit_in, is_octal, is_x, least_digits, plain_forms, size_of, with_digit, words_first};
 
 use dma_text::digits::digit_value;
 
@@ -137,10 +137,7 @@ impl Column {
     pub fn has_spaced_text(self) -> bool
         ensures { result ≡ has_spaced_text self }
     {
-        match self {
-            Column::Colon | Column::Headed => true,
-            Column::Hex | Column::Octal | Column::Array => false,
-        }
+        matches!(self, Column::Colon | Column::Headed)
     }
 }
 
@@ -179,13 +176,6 @@ impl Group {
     {
         matches!(self, Group::Octal)
     }
-}
-
-/// Returns whether a byte is a space or a tab.
-pub fn is_blank(byte: u8) -> bool
-    ensures { result ≡ is_blank byte }
-{
-    matches!(byte, b' ' | b'\t')
 }
 
 /// Returns whether a byte is the letter of a mark `0x`.

@@ -3,9 +3,10 @@ ghost use Rattle.std.specs.Prelude.{◌≡◌};
 ghost use Rattle.dma_manual.specs.Dump.{behind_step, content, group_end, group_step, text_end, text_step};
 
 use crate::dump::{Cause, Effect, Place, Scan};
-use crate::forms::{Column, Form, Group, is_blank, is_digit_in, is_x, with_digit};
-use crate::shown::{behind, is_all_spaces, leading_spaces, shown_as};
+use crate::forms::{Column, Form, Group, is_digit_in, is_x, with_digit};
+use crate::shown::{behind, leading_spaces, shown_as};
 use dma_text::digits::digit_value;
+use dma_text::lines::{is_all_spaces, is_blank};
 
 impl Scan {
     /// Takes a byte after blanks: the line's end, a digit or a bar.

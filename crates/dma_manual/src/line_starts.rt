@@ -3,8 +3,9 @@ ghost use Rattle.std.specs.Prelude.{◌≡◌};
 ghost use Rattle.dma_manual.specs.Dump.{address_end, address_step, break_step, closed_step, cut_at, goes_on, lead_step, start_step, strange, symbol_step, with_address, word_step, zero_step};
 
 use crate::dump::{Cause, Effect, Place, Scan};
-use crate::forms::{Column, Form, Group, is_blank, is_digit_in, is_x, with_digit};
+use crate::forms::{Column, Form, Group, is_digit_in, is_x, with_digit};
 use dma_text::digits::digit_value;
+use dma_text::lines::is_blank;
 
 /// Returns whether an address is where the bytes before it end.
 fn goes_on(first: Option<u64>, len: usize, value: u64) -> bool

@@ -1,6 +1,6 @@
 //! Notes and warnings that follow the message of an answer.
 ghost use Rattle.std.specs.Prelude.{◌≡◌, IfOk};
-ghost use Rattle.dma_io.specs.Answer.{reply_of, with_note};
+ghost use Rattle.dma_io.specs.Answer.{prints_of, with_note};
 ghost use Rattle.dma_manual.specs.Notes.{end_warning, ends_at_once, form_note, hint, is_text, is_text_byte, left_out, units};
 
 use crate::forms::{Column, Form, Group};
@@ -78,8 +78,8 @@ fn left_out(column: Column) -> &'static str
 
 /// Returns the answer for a program with a note on the form of its dump, if it is one. Fails if memory runs out.
 pub fn with_form(mut answer: Answer, form: Option<Form>) -> Result<Answer, AllocError>
-    ensures { IfOk result (λ shown. reply_of shown
-        ≡ with_note (reply_of answer) (form_note form answer.err.items)) }
+    ensures { IfOk result (λ shown. prints_of shown
+        ≡ with_note (prints_of answer) (form_note form answer.err.items)) }
 {
     if let Some(form) = form {
         let (front, end) = if answer.err.is_empty() {

@@ -1,6 +1,6 @@
 //! What is printed for a text that spells no program.
 ghost use Rattle.std.specs.Prelude.{◌≡◌, ◌++◌, IfOk, OnOk};
-ghost use Rattle.dma_io.specs.Answer.{reply_of};
+ghost use Rattle.dma_io.specs.Answer.{prints_of};
 ghost use Rattle.dma_manual.specs.Refusal.{ambiguous_message, at_fault, cause_message, dump_message, refusal};
 
 use crate::dump::Cause;
@@ -68,12 +68,12 @@ fn ambiguous_message(alloc: Global) -> Result<Vec<u8>, AllocError>
 
 /// Returns what is printed for a text that spells no program.
 pub fn refusal(alloc: Global, why: Refused, text: &[u8]) -> Result<Answer, AllocError>
-    ensures { IfOk result (λ answer. reply_of answer ≡ refusal why text.now) }
+    ensures { IfOk result (λ answer. prints_of answer ≡ refusal why text.now) }
 {
     let err = match why {
         Refused::Digits { notation, at } => digits_message(alloc, notation, text, at)?,
         Refused::Dump(fault) => dump_message(alloc, text, fault)?,
         Refused::Ambiguous => ambiguous_message(alloc)?,
     };
-    Ok(Answer::printed(alloc, Vec::new(alloc), err, false))
+    Ok(Answer::new(Vec::new(alloc), err, Vec::new(alloc), false))
 }

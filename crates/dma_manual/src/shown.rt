@@ -1,6 +1,6 @@
 //! Bytes as the text of a dump shows them.
 ghost use Rattle.std.specs.Prelude.{◌≡◌, drop};
-ghost use Rattle.dma_manual.specs.Dump.{is_all_spaces, leading_spaces, shown_as};
+ghost use Rattle.dma_manual.specs.Dump.{leading_spaces, shown_as};
 
 /// Returns how a byte is shown as text.
 pub fn shown_as(byte: u8) -> u8
@@ -10,13 +10,6 @@ pub fn shown_as(byte: u8) -> u8
         b' '..=b'~' => byte,
         _ => b'.',
     }
-}
-
-/// Returns whether bytes are all spaces.
-pub fn is_all_spaces(bytes: &[u8]) -> bool
-    ensures { result ≡ is_all_spaces bytes.now }
-{
-    bytes.iter().all(|byte| *byte == b' ')
 }
 
 /// Returns the bytes from an index on.

@@ -1,23 +1,10 @@
-//! Cuts a text into lines, and a line into words.
+//! Cuts a line into words.
 
-ghost use Rattle.std.specs.Prelude.{◌≡◌, ◌∷◌, ◌<◌, ◌≤◌, IfOk, MatchOption, None, Some, length, map, position};
-ghost use Rattle.dma_insn.specs.AssemblyText.{text_lines};
+ghost use Rattle.std.specs.Prelude.{◌≡◌, ◌≤◌, IfOk, MatchOption, None, Some, length, map, position};
 ghost use Rattle.dma_manual.specs.Words.{begins_comment, code_of, comment_of, has_sign, is_word_byte, next_of, place_or_len, plain_byte};
 
 use dma_text::bytes::position_of;
 use std::alloc::{AllocError, Global};
-
-/// Returns the first line of a text, without its line feed, and the rest of the text.
-pub fn split_line(text: &[u8]) -> (&[u8], &[u8])
-    requires { 0 < length text.now }
-    ensures first { text_lines text.now ≡ result.0.now ∷ text_lines result.1.now }
-    ensures shorter { length result.1.now < length text.now }
-{
-    match position_of(b'\n', text) {
-        Some(end) => (&text[..end], &text[end + 1..]),
-        None => (text, &[]),
-    }
-}
 
 // Returns the place, or the length of the bytes if there is none.
 fn place_or_len(place: Option<usize>, bytes: &[u8]) -> usize

@@ -1,16 +1,13 @@
 -- Chunks that are made and whose lists have no bytes yet.
-use Rattle.std.proofs.Common.{◌≡◌, ℕ, ◌+◌, ◌-◌, ◌<◌, ◌≤◌, List, [], ◌∷◌, ◌++◌, length, get_or, replicate, drop, take, true, false, Option, Some, None, refl, ap, sym, ◌∙◌, arith, inl, inr}
-use Rattle.std.specs.Prelude.{unwrap_or, nat_eq}
-use Rattle.std.specs.Map.{lookup}
+use Rattle.std.proofs.Common.{◌≡◌, Vec, Global, vec_capacity, ℕ, ◌+◌, ◌-◌, ◌<◌, ◌≤◌, List, [], ◌∷◌, ◌++◌, length, get_or, replicate, drop, take, true, false}
+use Rattle.std.proofs.Common.{Option, Some, None, refl, ap, sym, ◌∙◌, arith, inl, inr}
+use Rattle.std.specs.{Prelude.unwrap_or, Prelude.nat_eq, Map.lookup, Vec.with_items}
 use Rattle.std.proofs.Math.Seq.{take-length}
 use Rattle.std.proofs.lemmas.Bool.{cases_lt, cases_eq, eq-eqb, ne_eqb, lt-ltb, cases_Bool}
 use Rattle.std.proofs.lemmas.List.{ext_get_or, length-replicate, append-nil, length-drop, length-take, nil_from_length}
-use Rattle.dma_mem.specs.Image.{put, bytes_at}
-use Rattle.dma_mem.specs.inner.Blocks.{filled}
-use Rattle.dma_mem.specs.inner.ChunkTable.{blank, bytes_shown, is_blank}
+use Rattle.dma_mem.specs.{Image.put, Image.bytes_at, inner.Blocks.filled, inner.ChunkTable.blank, inner.ChunkTable.bytes_shown, inner.ChunkTable.is_blank}
 use Rattle.dma_mem.proofs.BytesPut.{lookup_bytes_before, lookup_bytes_at, lookup_bytes_past}
-use Rattle.dma_mem.proofs.ChunkTables.{zero_at}
-use Rattle.dma_mem.proofs.ImagePut.{length_put, get_or_put}
+use Rattle.dma_mem.proofs.{ChunkTables.zero_at, ImagePut.length_put, ImagePut.get_or_put}
 
 -- ---- the zeros that a blank chunk shows
 
@@ -30,11 +27,14 @@ filled_blank start len =
     let zeros : List ℕ = replicate len 0 in
     ext_get_or 0 _ _ (length_put blank (bytes_at start zeros)) (λ k l.
     let m : k < length blank = omega (arith, length_put blank (bytes_at start zeros)) in
-    let shows : (o : Option ℕ) → lookup (nat_eq k) (bytes_at start zeros) ≡ o → unwrap_or o (get_or blank k 0) ≡ 0 → get_or (put blank (bytes_at start zeros)) k 0 ≡ get_or blank k 0 = λ o e z. get_or_put blank (bytes_at start zeros) k m ∙ ap (λ o. unwrap_or o (get_or blank k 0)) e ∙ z ∙ sym (blank_at k) in
+    let shows : (o : Option ℕ) → lookup (nat_eq k) (bytes_at start zeros) ≡ o → unwrap_or o (get_or blank k 0) ≡ 0
+    → get_or (put blank (bytes_at start zeros)) k 0 ≡ get_or blank k 0 = λ o e z. get_or_put blank (bytes_at start zeros) k m
+    ∙ ap (λ o. unwrap_or o (get_or blank k 0)) e ∙ z ∙ sym (blank_at k) in
     elim (cases_lt k start) [
       | inl before ↦ shows None (lookup_bytes_before start zeros k before) (blank_at k)
       | inr after ↦ elim (cases_lt k (start + length zeros)) [
-        | inl within ↦ shows (Some (get_or zeros (k - start) 0)) (lookup_bytes_at start zeros (k - start) k (omega arith) (omega arith)) (zero_at len (k - start))
+        | inl within ↦ shows (Some (get_or zeros (k - start) 0)) (lookup_bytes_at start zeros (k - start) k (omega arith) (omega arith))
+            (zero_at len (k - start))
         | inr past ↦ shows None (lookup_bytes_past start zeros k past) (blank_at k)
       ]
     ])
@@ -50,7 +50,8 @@ pub shown_items : (capacity : ℕ) (items : List ℕ) → 0 < length items → b
 shown_items capacity items some = rw (ne_eqb (length items) 0 (λ e. omega arith)) refl
 
 -- A chunk that shows a byte shows 16,384.
-pub length_shown : (capacity : ℕ) (items : List ℕ) → (0 < length items → 16384 ≤ length items) → length items ≤ 16384 → 0 < length (bytes_shown capacity items) → length (bytes_shown capacity items) ≡ 16384
+pub length_shown : (capacity : ℕ) (items : List ℕ) → (0 < length items → 16384 ≤ length items) → length items ≤ 16384 → 0 < length (bytes_shown capacity items)
+    → length (bytes_shown capacity items) ≡ 16384
 length_shown capacity items whole most some = elim (cases_Bool (is_blank capacity items)) [
   | inl e ↦ ap length (shown_blank capacity items e) ∙ length_blank
   | inr e ↦
@@ -60,7 +61,8 @@ length_shown capacity items whole most some = elim (cases_Bool (is_blank capacit
 ]
 
 -- A chunk with memory shows 16,384 bytes.
-pub length_with_memory : (capacity : ℕ) (items : List ℕ) → (0 < length items → 16384 ≤ length items) → length items ≤ 16384 → 0 < capacity → length (bytes_shown capacity items) ≡ 16384
+pub length_with_memory : (capacity : ℕ) (items : List ℕ) → (0 < length items → 16384 ≤ length items) → length items ≤ 16384 → 0 < capacity
+    → length (bytes_shown capacity items) ≡ 16384
 length_with_memory capacity items whole most some = elim (cases_eq (length items) 0) [
   | inl none ↦ ap length (shown_blank capacity items (rw (eq-eqb (length items) 0 none, lt-ltb 0 capacity some) refl)) ∙ length_blank
   | inr more ↦
@@ -100,12 +102,35 @@ replaced_all len all items e f =
     rw (rest, append-nil, long) (take-length all)
 
 -- After all bytes of a list are replaced, it shows the new ones.
-pub shown_replaced : (capacity len : ℕ) (all items : List ℕ) → len ≡ length items → length all ≡ length items → 0 < length items → bytes_shown capacity (take len (all ++ drop (length all) items)) ≡ all
+pub shown_replaced : (capacity len : ℕ) (all items : List ℕ) → len ≡ length items → length all ≡ length items → 0 < length items
+    → bytes_shown capacity (take len (all ++ drop (length all) items)) ≡ all
 shown_replaced capacity len all items e f some =
     let same : take len (all ++ drop (length all) items) ≡ all = replaced_all len all items e f in
     shown_items capacity (take len (all ++ drop (length all) items)) (omega (arith, ap length same, f)) ∙ same
 
 -- Once the list of a made chunk has its zeros, it has 16,384 items.
-pub length_with_zeros : (capacity : ℕ) (items new shown : List ℕ) → new ≡ bytes_shown capacity items → bytes_shown capacity items ≡ shown → (0 < length items → 16384 ≤ length items) → length items ≤ 16384 → 0 < length shown → length new ≡ 16384
+pub length_with_zeros : (capacity : ℕ) (items new shown : List ℕ) → new ≡ bytes_shown capacity items → bytes_shown capacity items ≡ shown
+    → (0 < length items → 16384 ≤ length items) → length items ≤ 16384 → 0 < length shown → length new ≡ 16384
 length_with_zeros capacity items new shown e view whole most some =
     ap length e ∙ length_shown capacity items whole most (omega (arith, ap length view))
+
+-- The list of a chunk that showed `shown` and was made, after these bytes were put into it.
+pub record HasPut (v : Vec ℕ Global) (shown : List ℕ) (es : List (ℕ × ℕ)) : Type 0 where
+  pub whole : length v.items ≡ 16384
+  pub room : 16384 ≤ vec_capacity v
+  pub all : length (bytes_shown (vec_capacity v) v.items) ≡ 16384
+  pub shows : bytes_shown (vec_capacity v) v.items ≡ put shown es
+
+pub has_put : (old new : Vec ℕ Global) (shown now all : List ℕ) (es : List (ℕ × ℕ)) → new.items ≡ bytes_shown (vec_capacity old) old.items
+    → bytes_shown (vec_capacity old) old.items ≡ shown → (0 < length old.items → 16384 ≤ length old.items) → length old.items ≤ 16384 → 0 < length shown
+    → now ≡ new.items → all ≡ put now es → HasPut (with_items new all) shown es
+has_put old new shown now all es adds view whole most some same writes =
+    let zeros = length_with_zeros (vec_capacity old) old.items new.items shown adds view whole most some in
+    let many : length all ≡ length new.items = ap length writes ∙ length_put now es ∙ ap length same in
+    let shows = shown_replaced (vec_capacity new) new.len all new.items (omega (arith, new.ok)) many (omega (arith, zeros)) in
+    record {
+      whole = ap length (replaced_all new.len all new.items (omega (arith, new.ok)) many) ∙ many ∙ zeros;
+      room = omega (arith, zeros, new.ok);
+      all = ap length shows ∙ many ∙ zeros;
+      shows = shows ∙ writes ∙ ap (λ xs. put xs es) (same ∙ adds ∙ view);
+    }

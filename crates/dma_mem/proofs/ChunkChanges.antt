@@ -2,9 +2,7 @@
 use Rattle.std.proofs.Common.{◌≡◌, ◌≢◌, ℕ, ◌+◌, ◌*◌, ◌/◌, ◌%◌, ◌<◌, ◌≤◌, List, [], length, get_or, set, take, drop, refl, ap, sym, ◌∙◌, arith, inl, inr}
 use Rattle.std.proofs.lemmas.Bool.{cases_eq}
 use Rattle.std.proofs.lemmas.List.{get_or-set_same, get_or-set_other, set-set, length-set, get_or-take, get_or-drop, length-take, length-drop}
-use Rattle.dma_mem.specs.Image.{put, bytes_at}
-use Rattle.dma_mem.specs.inner.Blocks.{CopiesBlock}
-use Rattle.dma_mem.specs.inner.ChunkTable.{chunk_at, flat, image_of}
+use Rattle.dma_mem.specs.{Image.put, Image.bytes_at, inner.Blocks.CopiesBlock, inner.ChunkTable.chunk_at, inner.ChunkTable.flat, inner.ChunkTable.image_of}
 use Rattle.dma_mem.proofs.ChunkTables.{within_chunks, chunk_found, group_within, others_kept, chunk_at_flat_same, length_flat_set, laid_put}
 use Rattle.dma_mem.proofs.ChunkImages.{image_of_laid, read_found}
 
@@ -15,18 +13,23 @@ pub record HasInstead (old new : List (List ℕ)) (n : ℕ) (chunk : List ℕ) :
   pub others : (p : ℕ) → p ≢ n → chunk_at new p ≡ chunk_at old p
 
 -- the group of a chunk with bytes is in the table
-pub group_found : (groups : List (List (List ℕ))) (chunks : List (List ℕ)) (n : ℕ) → flat groups ≡ chunks → 0 < length (chunk_at chunks n) → n / 256 < length groups
+pub group_found : (groups : List (List (List ℕ))) (chunks : List (List ℕ)) (n : ℕ) → flat groups ≡ chunks → 0 < length (chunk_at chunks n)
+    → n / 256 < length groups
 group_found groups chunks n v made = group_within groups chunks n v (within_chunks chunks n made)
 
 -- and the chunk is in the group
-pub chunk_in_group : (groups : List (List (List ℕ))) (chunks : List (List ℕ)) (n : ℕ) (group : List (List ℕ)) → flat groups ≡ chunks → 0 < length (chunk_at chunks n) → group ≡ get_or groups (n / 256) group → chunk_at group (n % 256) ≡ chunk_at chunks n
+pub chunk_in_group : (groups : List (List (List ℕ))) (chunks : List (List ℕ)) (n : ℕ) (group : List (List ℕ)) → flat groups ≡ chunks
+    → 0 < length (chunk_at chunks n) → group ≡ get_or groups (n / 256) group → chunk_at group (n % 256) ≡ chunk_at chunks n
 chunk_in_group groups chunks n group v made is = chunk_found groups chunks n n group v is (group_found groups chunks n v made) refl
 
-pub within_group : (groups : List (List (List ℕ))) (chunks : List (List ℕ)) (n : ℕ) (group : List (List ℕ)) → flat groups ≡ chunks → 0 < length (chunk_at chunks n) → group ≡ get_or groups (n / 256) group → n % 256 < length group
+pub within_group : (groups : List (List (List ℕ))) (chunks : List (List ℕ)) (n : ℕ) (group : List (List ℕ)) → flat groups ≡ chunks
+    → 0 < length (chunk_at chunks n) → group ≡ get_or groups (n / 256) group → n % 256 < length group
 within_group groups chunks n group v made is = within_chunks group (n % 256) (rw (chunk_in_group groups chunks n group v made is) made)
 
 -- a table in which one chunk was replaced
-pub replaced : (groups : List (List (List ℕ))) (chunks : List (List ℕ)) (n : ℕ) (group new : List (List ℕ)) (chunk : List ℕ) → flat groups ≡ chunks → 0 < length (chunk_at chunks n) → group ≡ get_or groups (n / 256) group → new ≡ set group (n % 256) chunk → HasInstead chunks (flat (set groups (n / 256) new)) n chunk
+pub replaced : (groups : List (List (List ℕ))) (chunks : List (List ℕ)) (n : ℕ) (group new : List (List ℕ)) (chunk : List ℕ) → flat groups ≡ chunks
+    → 0 < length (chunk_at chunks n) → group ≡ get_or groups (n / 256) group → new ≡ set group (n % 256) chunk
+    → HasInstead chunks (flat (set groups (n / 256) new)) n chunk
 replaced groups chunks n group new chunk v made is e =
     let h = group_found groups chunks n v made in
     let inside = within_group groups chunks n group v made is in
@@ -37,29 +40,39 @@ replaced groups chunks n group new chunk v made is e =
     }
 
 -- the group from which the chunk was taken
-pub taken_group : (groups : List (List (List ℕ))) (chunks : List (List ℕ)) (n : ℕ) (group taken : List (List ℕ)) → flat groups ≡ chunks → 0 < length (chunk_at chunks n) → group ≡ get_or (set groups (n / 256) taken) (n / 256) group → group ≡ taken
+pub taken_group : (groups : List (List (List ℕ))) (chunks : List (List ℕ)) (n : ℕ) (group taken : List (List ℕ)) → flat groups ≡ chunks
+    → 0 < length (chunk_at chunks n) → group ≡ get_or (set groups (n / 256) taken) (n / 256) group → group ≡ taken
 taken_group groups chunks n group taken v made is = is ∙ get_or-set_same groups (n / 256) taken group (group_found groups chunks n v made)
 
-pub within_taken : (groups : List (List (List ℕ))) (chunks : List (List ℕ)) (n : ℕ) (group taken again : List (List ℕ)) (empty : List ℕ) → flat groups ≡ chunks → 0 < length (chunk_at chunks n) → group ≡ get_or groups (n / 256) group → taken ≡ set group (n % 256) empty → again ≡ get_or (set groups (n / 256) taken) (n / 256) again → n % 256 < length again
+pub within_taken : (groups : List (List (List ℕ))) (chunks : List (List ℕ)) (n : ℕ) (group taken again : List (List ℕ)) (empty : List ℕ) → flat groups ≡ chunks
+    → 0 < length (chunk_at chunks n) → group ≡ get_or groups (n / 256) group → taken ≡ set group (n % 256) empty
+    → again ≡ get_or (set groups (n / 256) taken) (n / 256) again → n % 256 < length again
 within_taken groups chunks n group taken again empty v made is out back =
     let same : again ≡ set group (n % 256) empty = taken_group groups chunks n again taken v made back ∙ out in
     omega (arith, within_group groups chunks n group v made is, length-set group (n % 256) empty, ap length same)
 
 -- a chunk that was taken out and put back
-pub put_back : (groups : List (List (List ℕ))) (chunks : List (List ℕ)) (n : ℕ) (group taken again last : List (List ℕ)) (empty chunk : List ℕ) → flat groups ≡ chunks → 0 < length (chunk_at chunks n) → group ≡ get_or groups (n / 256) group → taken ≡ set group (n % 256) empty → again ≡ get_or (set groups (n / 256) taken) (n / 256) again → last ≡ set again (n % 256) chunk → HasInstead chunks (flat (set (set groups (n / 256) taken) (n / 256) last)) n chunk
+pub put_back : (groups : List (List (List ℕ))) (chunks : List (List ℕ)) (n : ℕ) (group taken again last : List (List ℕ)) (empty chunk : List ℕ)
+    → flat groups ≡ chunks → 0 < length (chunk_at chunks n) → group ≡ get_or groups (n / 256) group → taken ≡ set group (n % 256) empty
+    → again ≡ get_or (set groups (n / 256) taken) (n / 256) again → last ≡ set again (n % 256) chunk
+    → HasInstead chunks (flat (set (set groups (n / 256) taken) (n / 256) last)) n chunk
 put_back groups chunks n group taken again last empty chunk v made is out back in_place =
-    let same : last ≡ set group (n % 256) chunk = in_place ∙ ap (λ g. set g (n % 256) chunk) (taken_group groups chunks n again taken v made back ∙ out) ∙ set-set group (n % 256) empty chunk in
+    let same : last ≡ set group (n % 256) chunk = in_place ∙ ap (λ g. set g (n % 256) chunk) (taken_group groups chunks n again taken v made back ∙ out)
+    ∙ set-set group (n % 256) empty chunk in
     rw (set-set groups (n / 256) taken last) (replaced groups chunks n group last chunk v made is same)
 
 -- the lengths of all chunks stay where the new chunk is as long as the old one
-pub lengths_kept : (old new : List (List ℕ)) (n : ℕ) (chunk : List ℕ) → HasInstead old new n chunk → length chunk ≡ length (chunk_at old n) → (p : ℕ) → length (chunk_at new p) ≡ length (chunk_at old p)
+pub lengths_kept : (old new : List (List ℕ)) (n : ℕ) (chunk : List ℕ) → HasInstead old new n chunk → length chunk ≡ length (chunk_at old n) → (p : ℕ)
+    → length (chunk_at new p) ≡ length (chunk_at old p)
 lengths_kept old new n chunk change e p = elim (cases_eq p n) [
   | inl same ↦ ap (λ q. length (chunk_at new q)) same ∙ ap length change.at ∙ e ∙ ap (λ q. length (chunk_at old q)) (sym same)
   | inr other ↦ ap length (change.others p other)
 ]
 
 -- bytes that were put into the chunk are put into the image
-pub image_changed : (size : ℕ) (old new : List (List ℕ)) (start : ℕ) (chunk bs : List ℕ) → HasInstead old new (start / 16384) chunk → chunk ≡ put (chunk_at old (start / 16384)) (bytes_at (start % 16384) bs) → length (chunk_at old (start / 16384)) ≡ 16384 → start % 16384 + length bs ≤ 16384 → image_of size new ≡ put (image_of size old) (bytes_at start bs)
+pub image_changed : (size : ℕ) (old new : List (List ℕ)) (start : ℕ) (chunk bs : List ℕ) → HasInstead old new (start / 16384) chunk
+    → chunk ≡ put (chunk_at old (start / 16384)) (bytes_at (start % 16384) bs) → length (chunk_at old (start / 16384)) ≡ 16384
+    → start % 16384 + length bs ≤ 16384 → image_of size new ≡ put (image_of size old) (bytes_at start bs)
 image_changed size old new start chunk bs change is whole fits =
     let n = start / 16384 in
     let offset = start % 16384 in
@@ -70,7 +83,9 @@ image_changed size old new start chunk bs change is whole fits =
     ∙ ap (λ a. put (image_of size old) (bytes_at a bs)) at
 
 -- bytes read from one chunk are those of the image
-pub chunk_read : (size : ℕ) (chunks : List (List ℕ)) (from len : ℕ) (chunk : List ℕ) → length chunk ≡ 16384 → ((k : ℕ) → get_or chunk k 0 ≡ get_or (chunk_at chunks (from / 16384)) k 0) → from % 16384 + len ≤ 16384 → from + len ≤ size → take len (drop (from % 16384) chunk) ≡ take len (drop from (image_of size chunks))
+pub chunk_read : (size : ℕ) (chunks : List (List ℕ)) (from len : ℕ) (chunk : List ℕ) → length chunk ≡ 16384
+    → ((k : ℕ) → get_or chunk k 0 ≡ get_or (chunk_at chunks (from / 16384)) k 0) → from % 16384 + len ≤ 16384 → from + len ≤ size
+    → take len (drop (from % 16384) chunk) ≡ take len (drop from (image_of size chunks))
 chunk_read size chunks from len chunk whole bytes fits within =
     let part = take len (drop (from % 16384) chunk) in
     let long : length part ≡ len = omega (arith, length-take len (drop (from % 16384) chunk), length-drop (from % 16384) chunk, whole) in
@@ -89,7 +104,10 @@ pub record HasCopy (old : List (List ℕ)) (from to len : ℕ) (chunk : List ℕ
   pub kept : length chunk ≡ length (chunk_at old (to / 16384))
   pub is : (size : ℕ) → from + len ≤ size → chunk ≡ put (chunk_at old (to / 16384)) (bytes_at (to % 16384) (take len (drop from (image_of size old))))
 
-pub has_copy : (old : List (List ℕ)) (from to len : ℕ) (source chunk : List ℕ) → length source ≡ 16384 → ((k : ℕ) → get_or source k 0 ≡ get_or (chunk_at old (from / 16384)) k 0) → from % 16384 + len ≤ 16384 → length chunk ≡ 16384 → length chunk ≡ length (chunk_at old (to / 16384)) → chunk ≡ put (chunk_at old (to / 16384)) (bytes_at (to % 16384) (take len (drop (from % 16384) source))) → HasCopy old from to len chunk
+pub has_copy : (old : List (List ℕ)) (from to len : ℕ) (source chunk : List ℕ) → length source ≡ 16384
+    → ((k : ℕ) → get_or source k 0 ≡ get_or (chunk_at old (from / 16384)) k 0) → from % 16384 + len ≤ 16384 → length chunk ≡ 16384
+    → length chunk ≡ length (chunk_at old (to / 16384))
+    → chunk ≡ put (chunk_at old (to / 16384)) (bytes_at (to % 16384) (take len (drop (from % 16384) source))) → HasCopy old from to len chunk
 has_copy old from to len source chunk whole bytes fits long kept is = record {
   whole = long;
   kept = kept;
@@ -97,7 +115,9 @@ has_copy old from to len source chunk whole bytes fits long kept is = record {
 }
 
 -- with this chunk put back, the table shows a copy of the block
-pub block_copied : (old new : List (List ℕ)) (from to len : ℕ) (chunk : List ℕ) → HasInstead old new (to / 16384) chunk → HasCopy old from to len chunk → to % 16384 + len ≤ 16384 → CopiesBlock old new from to len
+pub block_copied : (old new : List (List ℕ)) (from to len : ℕ) (chunk : List ℕ) → HasInstead old new (to / 16384) chunk → HasCopy old from to len chunk
+    → to % 16384 + len ≤ 16384 → CopiesBlock old new from to len
 block_copied old new from to len chunk change copy fits size within _ =
     let part = take len (drop from (image_of size old)) in
-    image_changed size old new to chunk part change (copy.is size within) (sym copy.kept ∙ copy.whole) (omega (arith, length-take len (drop from (image_of size old)), fits))
+    image_changed size old new to chunk part change (copy.is size within) (sym copy.kept ∙ copy.whole)
+    (omega (arith, length-take len (drop from (image_of size old)), fits))

@@ -1,16 +1,15 @@
 -- The images that chunks show.
-use Rattle.std.proofs.Common.{◌≡◌, ◌≢◌, ℕ, ◌+◌, ◌-◌, ◌*◌, ◌/◌, ◌%◌, ◌<◌, ◌≤◌, List, [], ◌++◌, length, get_or, take, drop, replicate, ap, refl, sym, ◌∙◌, arith, inl, inr, ◌⊎◌}
-use Rattle.std.specs.Prelude.{unwrap_or, nat_eq}
-use Rattle.std.specs.Map.{lookup}
-use Rattle.std.proofs.lemmas.Bool.{cases_lt, cases_eq}
-use Rattle.std.proofs.lemmas.List.{length-replicate, get_or-replicate, ext_get_or, get_or-take, get_or-drop, get_or_append_left, get_or-append_right, length-append, length-take, length-drop}
-use Rattle.std.proofs.lemmas.List.FromFn.{length-map-range_with_len, get_or-map-range_with_len}
+use Rattle.std.proofs.Common.{◌≡◌, ◌≢◌, ℕ, ◌+◌, ◌-◌, ◌*◌, ◌/◌, ◌%◌, ◌<◌, ◌≤◌, List, [], ◌++◌, length, get_or, take, drop, replicate, ap, refl, sym, ◌∙◌, arith}
+use Rattle.std.proofs.Common.{inl, inr, ◌⊎◌}
+use Rattle.std.specs.{Prelude.unwrap_or, Prelude.nat_eq, Map.lookup}
+use Rattle.std.proofs.lemmas.List.{length-replicate, get_or-replicate, ext_get_or, get_or-take, get_or-drop, get_or_append_left, get_or-append_right}
+use Rattle.std.proofs.lemmas.List.{length-append, length-take, length-drop}
+use Rattle.std.proofs.{lemmas.Bool.cases_lt, lemmas.Bool.cases_eq, lemmas.List.FromFn.length-map-range_with_len, lemmas.List.FromFn.get_or-map-range_with_len}
+use Rattle.std.proofs.{Math.Seq.take-add}
 use Rattle.dma_mem.specs.Image.{put, bytes_at}
 use Rattle.dma_mem.specs.inner.ChunkTable.{AreBytesFrom, PutsInChunk, chunk_at, image_of}
-use Rattle.dma_mem.proofs.ImagePut.{length_put, get_or_put}
 use Rattle.dma_mem.proofs.BytesPut.{lookup_bytes_before, lookup_bytes_past, lookup_bytes_at, put_parts}
-use Rattle.std.proofs.Math.Seq.{take-add}
-use Rattle.dma_mem.proofs.BlockCopies.{byte_outside}
+use Rattle.dma_mem.proofs.{ImagePut.length_put, ImagePut.get_or_put, BlockCopies.byte_outside}
 
 -- ---- the image
 
@@ -18,12 +17,14 @@ pub length_image_of : (size : ℕ) (chunks : List (List ℕ)) → length (image_
 unfolding image_of
 length_image_of size chunks = length-map-range_with_len _ 0 size
 
-pub get_or_image_of : (size : ℕ) (chunks : List (List ℕ)) (a : ℕ) → a < size → get_or (image_of size chunks) a 0 ≡ get_or (chunk_at chunks (a / 16384)) (a % 16384) 0
+pub get_or_image_of : (size : ℕ) (chunks : List (List ℕ)) (a : ℕ) → a < size
+    → get_or (image_of size chunks) a 0 ≡ get_or (chunk_at chunks (a / 16384)) (a % 16384) 0
 unfolding image_of
 get_or_image_of size chunks a h = get_or-map-range_with_len _ 0 size a a 0 h (omega arith)
 
 -- chunks with the same bytes show the same
-pub image_of_same : (size : ℕ) (chunks others : List (List ℕ)) → ((p k : ℕ) → get_or (chunk_at chunks p) k 0 ≡ get_or (chunk_at others p) k 0) → image_of size chunks ≡ image_of size others
+pub image_of_same : (size : ℕ) (chunks others : List (List ℕ)) → ((p k : ℕ) → get_or (chunk_at chunks p) k 0 ≡ get_or (chunk_at others p) k 0)
+    → image_of size chunks ≡ image_of size others
 image_of_same size chunks others h =
     ext_get_or 0 _ _ (length_image_of size chunks ∙ sym (length_image_of size others)) (λ a l.
     let m : a < size = omega (arith, length_image_of size chunks) in
@@ -48,7 +49,9 @@ lookup_bytes_moved c a x bs = elim (cases_lt x a) [
 ]
 
 -- bytes laid into a chunk are put into the image
-pub image_of_laid : (size : ℕ) (chunks new : List (List ℕ)) (p offset : ℕ) (bs : List ℕ) → ((q : ℕ) → q ≢ p → chunk_at new q ≡ chunk_at chunks q) → PutsInChunk (chunk_at chunks p) offset bs (chunk_at new p) → offset + length bs ≤ 16384 → image_of size new ≡ put (image_of size chunks) (bytes_at (16384 * p + offset) bs)
+pub image_of_laid : (size : ℕ) (chunks new : List (List ℕ)) (p offset : ℕ) (bs : List ℕ) → ((q : ℕ) → q ≢ p → chunk_at new q ≡ chunk_at chunks q)
+    → PutsInChunk (chunk_at chunks p) offset bs (chunk_at new p) → offset + length bs ≤ 16384
+    → image_of size new ≡ put (image_of size chunks) (bytes_at (16384 * p + offset) bs)
 image_of_laid size chunks new p offset bs others laid fits =
     let image = image_of size chunks in
     let es = bytes_at (16384 * p + offset) bs in
@@ -61,8 +64,10 @@ image_of_laid size chunks new p offset bs others laid fits =
     elim (cases_eq (a / 16384) p) [
       | inl e ↦
           let at : 16384 * p + k ≡ a = omega arith in
-          let found : lookup (nat_eq k) (bytes_at offset bs) ≡ lookup (nat_eq a) es = sym (lookup_bytes_moved (16384 * p) offset k bs) ∙ ap (λ x. lookup (nat_eq x) es) at in
-          let before : get_or (chunk_at chunks p) k 0 ≡ get_or image a 0 = ap (λ x. get_or (chunk_at chunks x) k 0) (sym e) ∙ sym (get_or_image_of size chunks a m) in
+          let found : lookup (nat_eq k) (bytes_at offset bs) ≡ lookup (nat_eq a) es = sym (lookup_bytes_moved (16384 * p) offset k bs)
+          ∙ ap (λ x. lookup (nat_eq x) es) at in
+          let before : get_or (chunk_at chunks p) k 0 ≡ get_or image a 0 = ap (λ x. get_or (chunk_at chunks x) k 0) (sym e)
+          ∙ sym (get_or_image_of size chunks a m) in
           shown
           ∙ ap (λ n. get_or (chunk_at new n) k 0) e
           ∙ laid k
@@ -70,14 +75,16 @@ image_of_laid size chunks new p offset bs others laid fits =
           ∙ ap (unwrap_or (lookup (nat_eq a) es)) before
           ∙ sym wanted
       | inr n ↦
-          let out : (a < 16384 * p + offset) ⊎ (16384 * p + offset + length bs ≤ a) = elim (cases_lt a (16384 * p)) [ inl low ↦ inl (omega arith) | inr high ↦ inr (omega arith) ] in
+          let out : (a < 16384 * p + offset) ⊎ (16384 * p + offset + length bs ≤ a) =
+          elim (cases_lt a (16384 * p)) [ inl low ↦ inl (omega arith) | inr high ↦ inr (omega arith) ] in
           shown
           ∙ ap (λ x. get_or x k 0) (others (a / 16384) n)
           ∙ sym (get_or_image_of size chunks a m)
           ∙ sym (byte_outside image (16384 * p + offset) bs a within out)
     ])
 
-pub bytes_in_turn : (image : List ℕ) (a d n : ℕ) (bs : List ℕ) → d + n ≤ length bs → put (put image (bytes_at a (take d bs))) (bytes_at (a + d) (take n (drop d bs))) ≡ put image (bytes_at a (take (d + n) bs))
+pub bytes_in_turn : (image : List ℕ) (a d n : ℕ) (bs : List ℕ) → d + n ≤ length bs
+    → put (put image (bytes_at a (take d bs))) (bytes_at (a + d) (take n (drop d bs))) ≡ put image (bytes_at a (take (d + n) bs))
 bytes_in_turn image a d n bs h =
     let long : length (take d bs) ≡ d = omega (arith, length-take d bs) in
     ap (λ k. put (put image (bytes_at a (take d bs))) (bytes_at (a + k) (take n (drop d bs)))) (sym long)
@@ -85,17 +92,21 @@ bytes_in_turn image a d n bs h =
     ∙ ap (λ xs. put image (bytes_at a xs)) (sym (take-add d n bs))
 
 -- the bytes of the chunks from an address on are those of the image
-pub read_found : (size : ℕ) (chunks : List (List ℕ)) (addr n : ℕ) (buf : List ℕ) → length buf ≡ n → addr + n ≤ size → ((k : ℕ) → k < length buf → get_or buf k 0 ≡ get_or (chunk_at chunks ((addr + k) / 16384)) ((addr + k) % 16384) 0) → buf ≡ take n (drop addr (image_of size chunks))
+pub read_found : (size : ℕ) (chunks : List (List ℕ)) (addr n : ℕ) (buf : List ℕ) → length buf ≡ n → addr + n ≤ size
+    → ((k : ℕ) → k < length buf → get_or buf k 0 ≡ get_or (chunk_at chunks ((addr + k) / 16384)) ((addr + k) % 16384) 0)
+    → buf ≡ take n (drop addr (image_of size chunks))
 read_found size chunks addr n buf e h read =
     let image = image_of size chunks in
     let long : length (take n (drop addr image)) ≡ n = omega (arith, length-take n (drop addr image), length-drop addr image, length_image_of size chunks) in
     ext_get_or 0 buf (take n (drop addr image)) (e ∙ sym long) (λ k l.
-    read k l ∙ sym (get_or_image_of size chunks (addr + k) (omega arith)) ∙ sym (get_or-take n (drop addr image) k 0 (omega arith) ∙ get_or-drop addr image k 0))
+    read k l ∙ sym (get_or_image_of size chunks (addr + k) (omega arith))
+    ∙ sym (get_or-take n (drop addr image) k 0 (omega arith) ∙ get_or-drop addr image k 0))
 
 -- ---- bytes from an address on
 
 -- the bytes of a list that shows a chunk, up to the chunk's end at most
-pub part_from : (chunks : List (List ℕ)) (at n : ℕ) (chunk : List ℕ) → ((k : ℕ) → get_or chunk k 0 ≡ get_or (chunk_at chunks (at / 16384)) k 0) → at % 16384 + n ≤ 16384 → AreBytesFrom chunks at (take n (drop (at % 16384) chunk))
+pub part_from : (chunks : List (List ℕ)) (at n : ℕ) (chunk : List ℕ) → ((k : ℕ) → get_or chunk k 0 ≡ get_or (chunk_at chunks (at / 16384)) k 0)
+    → at % 16384 + n ≤ 16384 → AreBytesFrom chunks at (take n (drop (at % 16384) chunk))
 part_from chunks at n chunk shows fits k below =
     let few : k < n = omega (arith, length-take n (drop (at % 16384) chunk)) in
     let same : (at + k) / 16384 ≡ at / 16384 = omega arith in
@@ -103,7 +114,8 @@ part_from chunks at n chunk shows fits k below =
     rw (same, place) (get_or-take n (drop (at % 16384) chunk) k 0 few ∙ get_or-drop (at % 16384) chunk k 0 ∙ shows (at % 16384 + k))
 
 -- bytes that go on
-pub bytes_more : (chunks : List (List ℕ)) (start at : ℕ) (front more : List ℕ) → AreBytesFrom chunks start front → at ≡ start + length front → AreBytesFrom chunks at more → AreBytesFrom chunks start (front ++ more)
+pub bytes_more : (chunks : List (List ℕ)) (start at : ℕ) (front more : List ℕ) → AreBytesFrom chunks start front → at ≡ start + length front
+    → AreBytesFrom chunks at more → AreBytesFrom chunks start (front ++ more)
 bytes_more chunks start at front more begun is next k below = elim (cases_lt k (length front)) [
   | inl low ↦ get_or_append_left front more 0 k low ∙ begun k low
   | inr high ↦

@@ -1,13 +1,11 @@
 -- Chunks in groups.
-use Rattle.std.proofs.Common.{◌≡◌, ◌≢◌, ℕ, zero, suc, ◌+◌, ◌*◌, ◌/◌, ◌%◌, ◌<◌, ◌≤◌, List, [], ◌∷◌, ◌++◌, length, get_or, replicate, set, ap, refl, sym, ◌∙◌, arith, inl, inr}
-use Rattle.std.proofs.lemmas.Bool.{cases_lt, cases_eq}
+use Rattle.std.proofs.Common.{◌≡◌, ◌≢◌, ℕ, zero, suc, ◌+◌, ◌*◌, ◌/◌, ◌%◌, ◌<◌, ◌≤◌, List, [], ◌∷◌, ◌++◌, length, get_or, replicate, set, ap, refl, sym, ◌∙◌}
+use Rattle.std.proofs.Common.{arith, inl, inr}
 use Rattle.std.proofs.lemmas.List.{ext_get_or, length-set, get_or-set_same, get_or-set_other, get_or_past, get_or_default, length-replicate, get_or-replicate}
-use Rattle.std.proofs.lemmas.List.FromFn.{length-map-range_with_len, get_or-map-range_with_len}
+use Rattle.std.proofs.{lemmas.Bool.cases_lt, lemmas.Bool.cases_eq, lemmas.List.FromFn.length-map-range_with_len, lemmas.List.FromFn.get_or-map-range_with_len}
 use Rattle.std.specs.Prelude.{unwrap_or}
-use Rattle.dma_mem.specs.Image.{put, bytes_at}
-use Rattle.dma_mem.specs.inner.ChunkTable.{chunk_at, flat, PutsInChunk}
-use Rattle.dma_mem.proofs.ImagePut.{length_put, get_or_put}
-use Rattle.dma_mem.proofs.BytesPut.{lookup_bytes_past}
+use Rattle.dma_mem.specs.{Image.put, Image.bytes_at, inner.ChunkTable.chunk_at, inner.ChunkTable.flat, inner.ChunkTable.PutsInChunk}
+use Rattle.dma_mem.proofs.{ImagePut.length_put, ImagePut.get_or_put, BytesPut.lookup_bytes_past}
 
 -- a list of zeros has a zero at each place, and past its end
 pub zero_at : (n k : ℕ) → get_or {A = ℕ} (replicate n 0) k 0 ≡ 0
@@ -33,15 +31,19 @@ pub chunk_at_flat : (groups : List (List (List ℕ))) (p : ℕ) → chunk_at (fl
 unfolding flat
 chunk_at_flat groups p = elim (cases_lt p (256 * length groups)) [
   | inl l ↦ get_or-map-range_with_len _ 0 (256 * length groups) p p [] l (omega arith)
-  | inr l ↦ get_or_past (flat groups) p [] (omega (arith, length_flat groups)) ∙ sym (ap (λ g. chunk_at g (p % 256)) (get_or_past groups (p / 256) [] (omega arith)))
+  | inr l ↦ get_or_past (flat groups) p [] (omega (arith, length_flat groups))
+      ∙ sym (ap (λ g. chunk_at g (p % 256)) (get_or_past groups (p / 256) [] (omega arith)))
 ]
 
 -- a chunk of a group that was changed, and one of another group
-pub chunk_at_flat_same : (groups : List (List (List ℕ))) (g p : ℕ) (group : List (List ℕ)) → g < length groups → p / 256 ≡ g → chunk_at (flat (set groups g group)) p ≡ chunk_at group (p % 256)
+pub chunk_at_flat_same : (groups : List (List (List ℕ))) (g p : ℕ) (group : List (List ℕ)) → g < length groups → p / 256 ≡ g
+    → chunk_at (flat (set groups g group)) p ≡ chunk_at group (p % 256)
 chunk_at_flat_same groups g p group h e =
-    chunk_at_flat (set groups g group) p ∙ ap (λ n. chunk_at (get_or (set groups g group) n []) (p % 256)) e ∙ ap (λ x. chunk_at x (p % 256)) (get_or-set_same groups g group [] h)
+    chunk_at_flat (set groups g group) p ∙ ap (λ n. chunk_at (get_or (set groups g group) n []) (p % 256)) e
+    ∙ ap (λ x. chunk_at x (p % 256)) (get_or-set_same groups g group [] h)
 
-pub chunk_at_flat_other : (groups : List (List (List ℕ))) (g p : ℕ) (group : List (List ℕ)) → p / 256 ≢ g → chunk_at (flat (set groups g group)) p ≡ chunk_at (flat groups) p
+pub chunk_at_flat_other : (groups : List (List (List ℕ))) (g p : ℕ) (group : List (List ℕ)) → p / 256 ≢ g
+    → chunk_at (flat (set groups g group)) p ≡ chunk_at (flat groups) p
 chunk_at_flat_other groups g p group n =
     chunk_at_flat (set groups g group) p ∙ ap (λ x. chunk_at x (p % 256)) (get_or-set_other groups g (p / 256) group [] n) ∙ sym (chunk_at_flat groups p)
 
@@ -55,7 +57,8 @@ within_chunks chunks p h = elim (cases_lt p (length chunks)) [
   | inr l ↦ absurd (omega (arith, h, ap length (get_or_past chunks p [] l)))
 ]
 
-pub chunk_found : (groups : List (List (List ℕ))) (chunks : List (List ℕ)) (n p : ℕ) (group : List (List ℕ)) → flat groups ≡ chunks → group ≡ get_or groups (n / 256) group → n / 256 < length groups → p / 256 ≡ n / 256 → chunk_at group (p % 256) ≡ chunk_at chunks p
+pub chunk_found : (groups : List (List (List ℕ))) (chunks : List (List ℕ)) (n p : ℕ) (group : List (List ℕ)) → flat groups ≡ chunks
+    → group ≡ get_or groups (n / 256) group → n / 256 < length groups → p / 256 ≡ n / 256 → chunk_at group (p % 256) ≡ chunk_at chunks p
 chunk_found groups chunks n p group v is h e =
     ap (λ g. chunk_at g (p % 256)) (is ∙ get_or_default groups (n / 256) group [] h ∙ ap (λ i. get_or groups i []) (sym e))
     ∙ sym (chunk_at_flat groups p) ∙ ap (λ x. chunk_at x p) v
@@ -69,7 +72,8 @@ pub group_within : (groups : List (List (List ℕ))) (chunks : List (List ℕ)) 
 group_within groups chunks n v h = omega (arith, length_flat groups, ap length v)
 
 -- a group that is put back as it was
-pub put_back : (groups : List (List (List ℕ))) (chunks : List (List ℕ)) (n : ℕ) (group new : List (List ℕ)) → flat groups ≡ chunks → group ≡ get_or groups (n / 256) group → n / 256 < length groups → ((p : ℕ) → chunk_at new p ≡ chunk_at group p) → flat (set groups (n / 256) new) ≡ chunks
+pub put_back : (groups : List (List (List ℕ))) (chunks : List (List ℕ)) (n : ℕ) (group new : List (List ℕ)) → flat groups ≡ chunks
+    → group ≡ get_or groups (n / 256) group → n / 256 < length groups → ((p : ℕ) → chunk_at new p ≡ chunk_at group p) → flat (set groups (n / 256) new) ≡ chunks
 put_back groups chunks n group new v is h e =
     ext_get_or [] _ _ (length_flat_set groups (n / 256) new ∙ ap length v) (λ p l.
     elim (cases_eq (p / 256) (n / 256)) [
@@ -78,7 +82,9 @@ put_back groups chunks n group new v is h e =
     ])
 
 -- of a group of which one chunk was changed, the other chunks
-pub others_kept : (groups : List (List (List ℕ))) (chunks : List (List ℕ)) (n : ℕ) (group new : List (List ℕ)) → flat groups ≡ chunks → group ≡ get_or groups (n / 256) group → n / 256 < length groups → ((p : ℕ) → p ≢ n % 256 → chunk_at new p ≡ chunk_at group p) → (p : ℕ) → p ≢ n → chunk_at (flat (set groups (n / 256) new)) p ≡ chunk_at chunks p
+pub others_kept : (groups : List (List (List ℕ))) (chunks : List (List ℕ)) (n : ℕ) (group new : List (List ℕ)) → flat groups ≡ chunks
+    → group ≡ get_or groups (n / 256) group → n / 256 < length groups → ((p : ℕ) → p ≢ n % 256 → chunk_at new p ≡ chunk_at group p) → (p : ℕ) → p ≢ n
+    → chunk_at (flat (set groups (n / 256) new)) p ≡ chunk_at chunks p
 others_kept groups chunks n group new v is h e p other =
     elim (cases_eq (p / 256) (n / 256)) [
       | inl same ↦ chunk_at_flat_same groups (n / 256) p new h same ∙ e (p % 256) (λ q. other (omega arith)) ∙ chunk_found groups chunks n p group v is h same
@@ -86,7 +92,8 @@ others_kept groups chunks n group new v is h e p other =
     ]
 
 -- one more empty list
-pub none_more : {A : Type 0} → (lists : List (List A)) (more : List A) → more ≡ [] → ((p : ℕ) → get_or lists p [] ≡ []) → (p : ℕ) → get_or (lists ++ more ∷ []) p [] ≡ []
+pub none_more : {A : Type 0} → (lists : List (List A)) (more : List A) → more ≡ [] → ((p : ℕ) → get_or lists p [] ≡ []) → (p : ℕ)
+    → get_or (lists ++ more ∷ []) p [] ≡ []
 none_more [] more is none zero = is
 none_more [] more is none (suc p) = refl
 none_more (list ∷ lists) more is none zero = none 0

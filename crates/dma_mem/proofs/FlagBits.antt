@@ -1,12 +1,10 @@
 -- Flags as the bits of a number.
-use Rattle.std.proofs.Common.{◌≡◌, ◌≢◌, ℕ, ◌*◌, ◌%◌, ◌^◌, ◌<◌, Bool, true, false, length, get_or, set, inl, inr, refl, ap, sym, ◌∙◌, arith, bit_or, bit_and, w32, get_or-set_same, get_or-set_other}
-use Rattle.std.specs.Prelude.{nat_eq}
-use Rattle.std.specs.Int.{bit_at, bit_not}
-use Rattle.std.proofs.lemmas.Bool.{cases_eq}
-use Rattle.std.proofs.lemmas.List.{ext_get_or}
+use Rattle.std.proofs.Common.{◌≡◌, ◌≢◌, ℕ, ◌*◌, ◌%◌, ◌^◌, ◌<◌, Bool, true, false, length, get_or, set, inl, inr, refl, ap, sym, ◌∙◌, arith, bit_or, bit_and}
+use Rattle.std.proofs.Common.{w32, get_or-set_same, get_or-set_other}
+use Rattle.std.specs.{Prelude.nat_eq, Int.bit_at, Int.bit_not}
 use Rattle.std.proofs.lemmas.List.FromFn.{length-map-range_with_len, get_or-map-range_with_len}
 use Rattle.std.proofs.lemmas.Nat.Bits.{bit_at_set_same, bit_at_set_other, bit_at_clear_same, bit_at_clear_other}
-use Rattle.std.proofs.Math.ListN.{length-set}
+use Rattle.std.proofs.{lemmas.Bool.cases_eq, lemmas.List.ext_get_or, Math.ListN.length-set}
 use Rattle.dma_mem.specs.Flags.{all_clear, flags_of}
 
 pub length_flags_of : (n : ℕ) → length (flags_of n) ≡ 32
@@ -28,8 +26,10 @@ changed n m k b h here others =
     let below : i < 32 = omega (arith, length_flags_of m) in
     let long : k < length (flags_of n) = omega (arith, length_flags_of n) in
     elim (cases_eq i k) [
-      | inl e ↦ get_or_flags_of m i below ∙ ap (λ j. nat_eq (bit_at m j) 1) e ∙ here ∙ sym (ap (λ j. get_or (set (flags_of n) k b) j false) e ∙ get_or-set_same (flags_of n) k b false long)
-      | inr ne ↦ get_or_flags_of m i below ∙ ap (λ x. nat_eq x 1) (others i below ne) ∙ sym (get_or-set_other (flags_of n) k i b false ne ∙ get_or_flags_of n i below)
+      | inl e ↦ get_or_flags_of m i below ∙ ap (λ j. nat_eq (bit_at m j) 1) e ∙ here
+          ∙ sym (ap (λ j. get_or (set (flags_of n) k b) j false) e ∙ get_or-set_same (flags_of n) k b false long)
+      | inr ne ↦ get_or_flags_of m i below ∙ ap (λ x. nat_eq x 1) (others i below ne)
+          ∙ sym (get_or-set_other (flags_of n) k i b false ne ∙ get_or_flags_of n i below)
     ])
 
 pub flags_of_set : (n k : ℕ) → k < 32 → flags_of (bit_or n (1 * 2 ^ k % 2 ^ 32)) ≡ set (flags_of n) k true

@@ -1,14 +1,10 @@
 -- An image under running transfers: after a byte is stored, after a write of the host, after a transfer ends.
 use Rattle.std.proofs.Common.{◌≡◌, ℕ, ◌+◌, ◌<◌, List, [], ◌++◌, length, get_or, take, drop, ap, sym, ◌∙◌, arith}
-use Rattle.std.specs.Prelude.{slice_index}
-use Rattle.std.specs.List.{Contains, range_with_len}
-use Rattle.std.specs.Map.{keys_of, values_of}
+use Rattle.std.specs.{Prelude.slice_index, List.Contains, List.range_with_len, Map.keys_of, Map.values_of}
 use Rattle.std.proofs.lemmas.List.{map-append, append-nil, get_or-take, get_or-drop, length-take, length-drop, ext_get_or}
 use Rattle.std.proofs.lemmas.Map.Made.{keys_of-map_values}
-use Rattle.dma_mem.specs.Image.{put, after_moves, carried}
-use Rattle.dma_mem.specs.Places.{Apart}
-use Rattle.dma_mem.proofs.ImagePut.{put_put, put_exchange, carried_put, get_or_put_other, length_put}
-use Rattle.dma_mem.proofs.SharedPlaces.{in_range}
+use Rattle.dma_mem.specs.{Image.put, Image.after_moves, Image.carried, Places.Apart}
+use Rattle.dma_mem.proofs.{ImagePut.put_put, ImagePut.put_exchange, ImagePut.carried_put, ImagePut.get_or_put_other, ImagePut.length_put, SharedPlaces.in_range}
 
 -- ---- lists that are apart
 
@@ -24,7 +20,8 @@ carried_append image xs ys = map-append (λ (m : ℕ × ℕ). (m.0, slice_index 
 -- ---- the two laws
 
 -- bytes put below the moves may as well be put above them, where the moves neither write nor read them
-pub after_moves_put : (image : List ℕ) (bytes ms : List (ℕ × ℕ)) → Apart (values_of ms) (keys_of bytes) → Apart (keys_of ms) (keys_of bytes) → after_moves (put image bytes) ms ≡ put (after_moves image ms) bytes
+pub after_moves_put : (image : List ℕ) (bytes ms : List (ℕ × ℕ)) → Apart (values_of ms) (keys_of bytes) → Apart (keys_of ms) (keys_of bytes)
+    → after_moves (put image bytes) ms ≡ put (after_moves image ms) bytes
 unfolding after_moves
 after_moves_put image bytes ms reads writes =
     let c = carried image ms in
@@ -37,7 +34,8 @@ after_moves_put image bytes ms reads writes =
     ∙ sym (put_put image c bytes)
 
 -- more moves are made by putting what they carry, where no move before them in the list writes the same places
-pub after_moves_more : (image : List ℕ) (xs ms ys : List (ℕ × ℕ)) → Apart (keys_of ms) (keys_of xs) → after_moves image (xs ++ (ms ++ ys)) ≡ put (after_moves image (xs ++ ys)) (carried image ms)
+pub after_moves_more : (image : List ℕ) (xs ms ys : List (ℕ × ℕ)) → Apart (keys_of ms) (keys_of xs)
+    → after_moves image (xs ++ (ms ++ ys)) ≡ put (after_moves image (xs ++ ys)) (carried image ms)
 unfolding after_moves
 after_moves_more image xs ms ys h =
     let x = carried image xs in
@@ -50,7 +48,8 @@ after_moves_more image xs ms ys h =
     ∙ sym (put_put image (carried image (xs ++ ys)) m)
 
 -- a transfer that ends: its moves go from above the image into it
-pub after_moves_end : (image : List ℕ) (xs ms ys : List (ℕ × ℕ)) → Apart (keys_of ms) (keys_of (xs ++ ys)) → Apart (values_of (xs ++ ys)) (keys_of ms) → Apart (keys_of ms) (keys_of xs) → after_moves (after_moves image ms) (xs ++ ys) ≡ after_moves image (xs ++ (ms ++ ys))
+pub after_moves_end : (image : List ℕ) (xs ms ys : List (ℕ × ℕ)) → Apart (keys_of ms) (keys_of (xs ++ ys)) → Apart (values_of (xs ++ ys)) (keys_of ms)
+    → Apart (keys_of ms) (keys_of xs) → after_moves (after_moves image ms) (xs ++ ys) ≡ after_moves image (xs ++ (ms ++ ys))
 unfolding after_moves
 after_moves_end image xs ms ys writes reads before =
     let m = carried image ms in
@@ -68,7 +67,8 @@ unfolding after_moves
 length_after_moves image ms = length_put image (carried image ms)
 
 -- so the bytes from an address on are the image's, where no move writes them
-pub bytes_after_moves : (image : List ℕ) (ms : List (ℕ × ℕ)) (addr n : ℕ) → Apart (range_with_len addr n) (keys_of ms) → take n (drop addr (after_moves image ms)) ≡ take n (drop addr image)
+pub bytes_after_moves : (image : List ℕ) (ms : List (ℕ × ℕ)) (addr n : ℕ) → Apart (range_with_len addr n) (keys_of ms)
+    → take n (drop addr (after_moves image ms)) ≡ take n (drop addr image)
 bytes_after_moves image ms addr n h =
     ext_get_or 0 _ _ (simp (length-take, length-drop, length_after_moves)) (λ k l.
     let m : k < n = omega (arith, length-take n (drop addr (after_moves image ms))) in

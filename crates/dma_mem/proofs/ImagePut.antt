@@ -1,16 +1,10 @@
 -- What an image is after bytes were put into it.
-use Rattle.std.proofs.Common.{◌≡◌, ℕ, ◌<◌, List, [], ◌∷◌, ◌++◌, length, get_or, map, Option, Some, None, Bool, true, false, cond, refl, ap, sym, ◌∙◌, arith, inl, inr, ◌⊎◌}
-use Rattle.std.specs.Prelude.{unwrap_or, nat_eq, IsSome}
-use Rattle.std.specs.List.{Contains}
-use Rattle.std.specs.Map.{lookup, keys_of}
-use Rattle.std.specs.Option.{option_or}
-use Rattle.std.proofs.lemmas.Bool.{eqb-true, cases_lt}
-use Rattle.std.proofs.lemmas.List.{ext_get_or, get_or_past}
-use Rattle.std.proofs.lemmas.List.Elements.{Contains-append_right}
-use Rattle.std.proofs.lemmas.List.FromFn.{length-map-range_with_len, get_or-map-range_with_len}
-use Rattle.std.proofs.lemmas.Map.Views.{Contains-keys_from_lookup}
-use Rattle.dma_mem.specs.Image.{put, carried}
-use Rattle.dma_mem.specs.Places.{Apart}
+use Rattle.std.proofs.Common.{◌≡◌, ℕ, ◌<◌, List, [], ◌∷◌, ◌++◌, length, get_or, map, Option, Some, None, Bool, true, false, cond, refl, ap, sym, ◌∙◌, arith}
+use Rattle.std.proofs.Common.{inl, inr, ◌⊎◌}
+use Rattle.std.specs.{Prelude.unwrap_or, Prelude.nat_eq, Prelude.IsSome, List.Contains, Map.lookup, Map.keys_of, Option.option_or}
+use Rattle.std.proofs.{lemmas.Bool.eqb-true, lemmas.Bool.cases_lt, lemmas.List.ext_get_or, lemmas.List.get_or_past, lemmas.List.Elements.Contains-append_right}
+use Rattle.std.proofs.{lemmas.List.FromFn.length-map-range_with_len, lemmas.List.FromFn.get_or-map-range_with_len, lemmas.Map.Views.Contains-keys_from_lookup}
+use Rattle.dma_mem.specs.{Image.put, Image.carried, Places.Apart}
 
 -- ---- look-ups
 
@@ -25,7 +19,9 @@ lookup_append test (x ∷ xs) ys =
 -- nothing is found at an address, or it is a key
 lookup_cases : {X : Type 0} (es : List (ℕ × X)) (a : ℕ) → (lookup (nat_eq a) es ≡ None) ⊎ Contains (keys_of es) a
 lookup_cases {X} es a =
-    let by : (o : Option X) → (IsSome o → Contains (keys_of es) a) → (o ≡ None) ⊎ Contains (keys_of es) a = λ o. elim o as (λ o. (IsSome o → Contains (keys_of es) a) → (o ≡ None) ⊎ Contains (keys_of es) a) [ None ↦ λ _. inl refl | Some x ↦ λ f. inr (f refl) ] in
+    let by : (o : Option X) → (IsSome o → Contains (keys_of es) a) → (o ≡ None) ⊎ Contains (keys_of es) a =
+    λ o. elim o as (λ o. (IsSome o → Contains (keys_of es) a) → (o ≡ None) ⊎ Contains (keys_of es) a)
+    [ None ↦ λ _. inl refl | Some x ↦ λ f. inr (f refl) ] in
     by (lookup (nat_eq a) es) (Contains-keys_from_lookup eqb-true a es)
 
 lookup_none : {X : Type 0} (es : List (ℕ × X)) (a : ℕ) → ¬ Contains (keys_of es) a → lookup (nat_eq a) es ≡ None
@@ -41,7 +37,8 @@ pub length_put : (image : List ℕ) (es : List (ℕ × ℕ)) → length (put ima
 unfolding put
 length_put image es = length-map-range_with_len _ 0 (length image)
 
-pub get_or_put : (image : List ℕ) (es : List (ℕ × ℕ)) (a : ℕ) → a < length image → get_or (put image es) a 0 ≡ unwrap_or (lookup (nat_eq a) es) (get_or image a 0)
+pub get_or_put : (image : List ℕ) (es : List (ℕ × ℕ)) (a : ℕ) → a < length image
+    → get_or (put image es) a 0 ≡ unwrap_or (lookup (nat_eq a) es) (get_or image a 0)
 unfolding put
 get_or_put image es a h = get_or-map-range_with_len _ 0 (length image) a a 0 h (omega arith)
 
@@ -58,7 +55,8 @@ put_put image xs ys =
     ext_get_or 0 _ _ (simp length_put) (λ a l.
     let m : a < length image = omega (arith, length_put (put image xs) ys, length_put image xs) in
     let n : a < length (put image xs) = omega (arith, length_put image xs) in
-    let either : (o p : Option ℕ) (d : ℕ) → unwrap_or o (unwrap_or p d) ≡ unwrap_or (option_or o p) d = λ o p d. elim o as (λ o. unwrap_or o (unwrap_or p d) ≡ unwrap_or (option_or o p) d) [ None ↦ refl | Some x ↦ refl ] in
+    let either : (o p : Option ℕ) (d : ℕ) → unwrap_or o (unwrap_or p d) ≡ unwrap_or (option_or o p) d =
+    λ o p d. elim o as (λ o. unwrap_or o (unwrap_or p d) ≡ unwrap_or (option_or o p) d) [ None ↦ refl | Some x ↦ refl ] in
     get_or_put (put image xs) ys a n
     ∙ ap (unwrap_or (lookup (nat_eq a) ys)) (get_or_put image xs a m)
     ∙ either (lookup (nat_eq a) ys) (lookup (nat_eq a) xs) (get_or image a 0)
@@ -72,7 +70,9 @@ put_exchange image xs ys zs h =
     let x = lookup (nat_eq a) xs in
     let y = lookup (nat_eq a) ys in
     let z = lookup (nat_eq a) zs in
-    let either : (o p q : Option ℕ) → (o ≡ None) ⊎ (p ≡ None) → option_or o (option_or p q) ≡ option_or p (option_or o q) = λ o p q. elim o as (λ o. (o ≡ None) ⊎ (p ≡ None) → option_or o (option_or p q) ≡ option_or p (option_or o q)) [ None ↦ λ _. refl | Some x ↦ λ c. elim c [ inl n ↦ cc | inr n ↦ rw n refl ] ] in
+    let either : (o p q : Option ℕ) → (o ≡ None) ⊎ (p ≡ None) → option_or o (option_or p q) ≡ option_or p (option_or o q) =
+    λ o p q. elim o as (λ o. (o ≡ None) ⊎ (p ≡ None) → option_or o (option_or p q) ≡ option_or p (option_or o q))
+    [ None ↦ λ _. refl | Some x ↦ λ c. elim c [ inl n ↦ cc | inr n ↦ rw n refl ] ] in
     lookup_append (nat_eq a) xs (ys ++ zs) ∙ ap (option_or x) (lookup_append (nat_eq a) ys zs)
     ∙ either x y z (lookup_apart xs ys a h)
     ∙ sym (lookup_append (nat_eq a) ys (xs ++ zs) ∙ ap (option_or y) (lookup_append (nat_eq a) xs zs)))
@@ -87,7 +87,8 @@ get_or_put_other image es a h = elim (cases_lt a (length image)) [
 -- ---- what moves carry
 
 -- moves carry the same bytes from an image into which bytes were put at none of their sources
-pub carried_put : (image : List ℕ) (es ms : List (ℕ × ℕ)) → ((a : ℕ) → Contains (map (λ m. m.1) ms) a → ¬ Contains (keys_of es) a) → carried (put image es) ms ≡ carried image ms
+pub carried_put : (image : List ℕ) (es ms : List (ℕ × ℕ)) → ((a : ℕ) → Contains (map (λ m. m.1) ms) a → ¬ Contains (keys_of es) a)
+    → carried (put image es) ms ≡ carried image ms
 carried_put image es [] h = refl
 carried_put image es (m ∷ ms) h =
     let head : get_or (put image es) m.1 0 ≡ get_or image m.1 0 = get_or_put_other image es m.1 (h m.1 (0, omega arith, refl)) in

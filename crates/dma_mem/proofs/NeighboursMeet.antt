@@ -1,26 +1,18 @@
 -- Of segments that are sorted by their first addresses, two meet exactly if two neighbours do.
-use Rattle.std.proofs.Common.{◌≡◌, ℕ, ◌+◌, ◌<◌, ◌≤◌, List, [], ◌∷◌, length, get_or, Bool, true, false, ◌||◌, refl, ap, sym, ◌∙◌, arith, inl, inr, All, suc, cond}
-use Rattle.std.specs.Prelude.{AllPairs, None}
-use Rattle.std.specs.List.{list_any, sum_by}
-use Rattle.std.specs.List.Sorted.{IsPermutation, IsNonDecreasingBy}
+use Rattle.std.proofs.Common.{◌≡◌, ℕ, ◌+◌, ◌<◌, ◌≤◌, List, [], ◌∷◌, length, get_or, Bool, true, false, ◌||◌, refl, ap, sym, ◌∙◌, arith, inl, inr, All, suc}
+use Rattle.std.proofs.Common.{cond}
+use Rattle.std.specs.{Prelude.AllPairs, Prelude.None, List.list_any, List.sum_by, List.Sorted.IsPermutation, List.Sorted.IsNonDecreasingBy, Bool.then_some}
 use Rattle.std.proofs.lemmas.Bool.{cases_lt, true≢false, or_parts, cases_Bool, or_from, false_from_ne_true, true_from_ne_false}
-use Rattle.std.proofs.lemmas.List.{get_or_default}
-use Rattle.std.proofs.lemmas.List.Folds.{list_any_none}
-use Rattle.std.proofs.lemmas.List.Kept.{AllPairs-cons}
 use Rattle.std.proofs.lemmas.List.Sorted.{IsPermutation-sym, sum_by-IsPermutation, IsNonDecreasingBy-from_all_adjacent}
-use Rattle.dma_mem.specs.declared.segment.Segment.{Segment}
-use Rattle.dma_mem.specs.Meeting.{meets}
-use Rattle.dma_mem.specs.Places.{places, range_of, share}
-use Rattle.dma_mem.specs.inner.RangesInOrder.{IsOrdered}
-use Rattle.dma_mem.specs.Refusals.{some_meet, meets_any, overlap_of, cause}
-use Rattle.std.specs.Bool.{then_some}
-use Rattle.dma_mem.specs.declared.transfer.TransferFault.TheVariants.{DestinationsMeet, SourceMeetsDestination}
-use Rattle.dma_mem.proofs.SharedPlaces.{ranges_apart, ranges_meet, share_false, shared_by, share_right, share_each}
-use Rattle.dma_mem.proofs.MarkHits.{lies_in_from_contains, contains_from_lies_in}
-use Rattle.dma_mem.proofs.TransferRules.{All_from_none, meets_any_places}
-use Rattle.dma_mem.proofs.RangeSets.{nowhere, same_permuted}
 use Rattle.std.proofs.lemmas.List.Sums.{sum_by-cons, sum_by-le, get_or-le-sum_by}
-use Rattle.dma_mem.specs.Marking.{lies_in}
+use Rattle.std.proofs.{lemmas.List.get_or_default, lemmas.List.Folds.list_any_none, lemmas.List.Kept.AllPairs-cons}
+use Rattle.dma_mem.specs.Places.{places, range_of, share}
+use Rattle.dma_mem.specs.Refusals.{some_meet, meets_any, overlap_of, cause}
+use Rattle.dma_mem.specs.declared.transfer.TransferFault.TheVariants.{DestinationsMeet, SourceMeetsDestination}
+use Rattle.dma_mem.specs.{declared.segment.Segment.Segment, Meeting.meets, inner.RangesInOrder.IsOrdered, Marking.lies_in}
+use Rattle.dma_mem.proofs.SharedPlaces.{ranges_apart, ranges_meet, share_false, shared_by, share_right, share_each}
+use Rattle.dma_mem.proofs.{MarkHits.lies_in_from_contains, MarkHits.contains_from_lies_in, TransferRules.All_from_none, TransferRules.meets_any_places}
+use Rattle.dma_mem.proofs.{RangeSets.nowhere, RangeSets.same_permuted}
 
 -- ---- no two of a list meet
 
@@ -54,7 +46,10 @@ few_have (s ∷ rest) a h =
     let both = sum_by-cons (has_it a) s rest in
     elim (cases_Bool (lies_in a s)) [
       | inl here ↦
-          let none : All (λ t. has_it a t ≤ 0) rest = λ k d l. rw (false_from_ne_true _ (λ e. share_false _ _ (All_from_none (meets s) rest parts.0 k d l) a (contains_from_lies_in a s here) (contains_from_lies_in a (get_or rest k d) e))) (omega arith) in
+          let none : All (λ t. has_it a t ≤ 0) rest =
+          λ k d l. rw (false_from_ne_true _
+          (λ e. share_false _ _ (All_from_none (meets s) rest parts.0 k d l) a (contains_from_lies_in a s here)
+          (contains_from_lies_in a (get_or rest k d) e))) (omega arith) in
           omega (arith, both, sum_by-le (has_it a) 0 rest none, ap {B = ℕ} (λ b. cond b 1 0) here)
       | inr out ↦ omega (arith, both, few_have rest a parts.1, ap {B = ℕ} (λ b. cond b 1 0) out)
     ]
@@ -94,11 +89,14 @@ none_overlap l h up = none_meet l (λ i j d m n.
     ranges_apart (get_or l i d).addr (get_or l i d).len (get_or l j d).addr (get_or l j d).len (λ x a b c e.
     omega (arith, a, b, c, e, below, later, ap (λ (s : Segment). s.addr + s.len) here, ap (λ (s : Segment). s.addr) next)))
 
-pub some_overlap : (l : List Segment) (k : ℕ) (d : Segment) → All (λ s. 0 < s.len) l → IsNonDecreasingBy (λ (s : Segment). s.addr) l → k + 1 < length l → (get_or l (k + 1) d).addr < (get_or l k d).addr + (get_or l k d).len → some_meet l ≡ true
+pub some_overlap : (l : List Segment) (k : ℕ) (d : Segment) → All (λ s. 0 < s.len) l → IsNonDecreasingBy (λ (s : Segment). s.addr) l → k + 1 < length l
+    → (get_or l (k + 1) d).addr < (get_or l k d).addr + (get_or l k d).len → some_meet l ≡ true
 some_overlap l k d filled up h over =
     let s = get_or l k d in
     let t = get_or l (k + 1) d in
-    let met : meets s t ≡ true = ranges_meet s.addr s.len t.addr t.len (filled k d (omega arith)) (filled (k + 1) d h) (omega (arith, up k (k + 1) d (omega arith) h, filled (k + 1) d h)) over in
+    let met : meets s t ≡ true =
+    ranges_meet s.addr s.len t.addr t.len (filled k d (omega arith)) (filled (k + 1) d h)
+    (omega (arith, up k (k + 1) d (omega arith) h, filled (k + 1) d h)) over in
     true_from_ne_false (some_meet l) (λ none. true≢false (sym met ∙ pairs_miss l none k (k + 1) d (omega arith) h))
 
 -- sorted segments of which no two meet are in order for a binary search
@@ -106,10 +104,11 @@ pub ordered_apart : (l : List Segment) → All (λ s. 0 < s.len) l → IsNonDecr
 ordered_apart l filled up none = record {
   filled = filled;
   starts = up;
-  ends = IsNonDecreasingBy-from_all_adjacent (λ (s : Segment). s.addr + s.len) l (λ k d h. elim (cases_lt (get_or l (k + 1) d).addr ((get_or l k d).addr + (get_or l k d).len)) [
-    | inr past ↦ omega (arith, past)
-    | inl over ↦ absurd (true≢false (sym (some_overlap l k d filled up h over) ∙ none))
-  ]);
+  ends = IsNonDecreasingBy-from_all_adjacent (λ (s : Segment). s.addr + s.len) l
+      (λ k d h. elim (cases_lt (get_or l (k + 1) d).addr ((get_or l k d).addr + (get_or l k d).len)) [
+        | inr past ↦ omega (arith, past)
+        | inl over ↦ absurd (true≢false (sym (some_overlap l k d filled up h over) ∙ none))
+      ]);
 }
 
 -- one segment alone meets no other of its list
@@ -121,12 +120,15 @@ short_none (s ∷ t ∷ rest) h = absurd (omega arith)
 -- ---- two lists, one of them sorted
 
 -- the tests of the sorted destinations are those of the destinations
-pub overlap_sorted : (src dst sorted : List Segment) (met touched : Bool) → IsPermutation dst sorted → met ≡ some_meet sorted → touched ≡ list_any (λ s. share (range_of s) (places sorted)) src → overlap_of src dst ≡ cause met DestinationsMeet (cause touched SourceMeetsDestination None)
+pub overlap_sorted : (src dst sorted : List Segment) (met touched : Bool) → IsPermutation dst sorted → met ≡ some_meet sorted
+    → touched ≡ list_any (λ s. share (range_of s) (places sorted)) src
+    → overlap_of src dst ≡ cause met DestinationsMeet (cause touched SourceMeetsDestination None)
 overlap_sorted src dst sorted met touched p m t =
     let same = same_permuted dst sorted p in
     let first : some_meet dst ≡ met = some_meet_permutation dst sorted p ∙ sym m in
     let second : meets_any src dst ≡ touched =
-    meets_any_places src dst ∙ share_right (places src) (places dst) (places sorted) (λ a. ((same a).1, (same a).0)) ∙ sym (share_each src (places sorted)) ∙ sym t in
+    meets_any_places src dst ∙ share_right (places src) (places dst) (places sorted) (λ a. ((same a).1, (same a).0)) ∙ sym (share_each src (places sorted))
+    ∙ sym t in
     ap (λ b. cause b DestinationsMeet (cause (meets_any src dst) SourceMeetsDestination None)) first
     ∙ ap (λ b. cause met DestinationsMeet (cause b SourceMeetsDestination None)) second
 

@@ -1,20 +1,15 @@
 -- What bytes written to one piece make of the image.
-use Rattle.std.proofs.Common.{◌≡◌, ℕ, ◌+◌, ◌-◌, ◌<◌, ◌≤◌, List, [], ◌∷◌, ◌++◌, length, get_or, take, drop, set, replicate, true, false, ◌&&◌, refl, ap, sym, ◌∙◌, arith, inl, inr, zero, suc, append_assoc}
+use Rattle.std.proofs.Common.{◌≡◌, ℕ, ◌+◌, ◌-◌, ◌<◌, ◌≤◌, List, [], ◌∷◌, ◌++◌, length, get_or, take, drop, set, replicate, true, false, ◌&&◌, refl, ap, sym}
+use Rattle.std.proofs.Common.{◌∙◌, arith, inl, inr, zero, suc, append_assoc}
 use Rattle.std.specs.Prelude.{nat_le, ◌==◌, if◌then◌else◌}
-use Rattle.std.proofs.Math.Seq.{take-append-add, drop-append-add, map-set_same}
-use Rattle.std.proofs.lemmas.List.{length-append, length-replicate, length-map, take-append-le, drop-append-le, map-set, set-get_or, length-drop, length-take-le, get_or-take, get_or-drop, nil_from_length}
-use Rattle.dma_mem.specs.declared.regions.Region.{Region}
-use Rattle.dma_mem.specs.declared.segment.Segment.{Segment}
-use Rattle.std.proofs.lemmas.Bool.{cases_lt}
-use Rattle.dma_mem.specs.Lent.{lies_in_any}
-use Rattle.dma_mem.specs.Image.{put, bytes_at}
-use Rattle.dma_mem.specs.Pages.{all_made}
+use Rattle.std.proofs.lemmas.List.{length-append, length-replicate, length-map, take-append-le, drop-append-le, map-set, set-get_or, length-drop}
+use Rattle.std.proofs.lemmas.List.{length-take-le, get_or-take, get_or-drop, nil_from_length}
+use Rattle.std.proofs.{Math.Seq.take-append-add, Math.Seq.drop-append-add, Math.Seq.map-set_same, lemmas.Bool.cases_lt}
 use Rattle.dma_mem.specs.Regions.{Piece, end_of, piece_of, pieces_of, rises_from, in_order, bytes_above, image_of, gaps_above, gaps_of, has}
 use Rattle.dma_mem.specs.inner.Rewritten.{nowhere, piece_at, Holds, Writable, Rewritten, rest_from}
-use Rattle.dma_mem.proofs.ImagePut.{length_put}
-use Rattle.dma_mem.proofs.BytesPut.{put_bytes_at, put_parts}
-use Rattle.dma_mem.proofs.PageImages.{put_none}
+use Rattle.dma_mem.specs.{declared.regions.Region.Region, declared.segment.Segment.Segment, Lent.lies_in_any, Image.put, Image.bytes_at, Pages.all_made}
 use Rattle.dma_mem.proofs.Pieces.{first, no_region, piece_at_of, found, length_bytes_above, image_of_most, has_parts, rest_is, zero_shown}
+use Rattle.dma_mem.proofs.{ImagePut.length_put, BytesPut.put_bytes_at, BytesPut.put_parts, PageImages.put_none}
 
 -- the piece at an index with other bytes
 abbrev pub with_bytes : List Piece → ℕ → List ℕ → Piece
@@ -55,31 +50,38 @@ context at (p ∷ ps) (suc i) h l =
     }
 
 -- the order and the gaps are those of the addresses and lengths
-pub same_order : (at : ℕ) (ps : List Piece) (i : ℕ) (bs : List ℕ) → i < length ps → length bs ≡ length (piece_at ps i).bytes → rises_from at (set ps i (with_bytes ps i bs)) ≡ rises_from at ps
+pub same_order : (at : ℕ) (ps : List Piece) (i : ℕ) (bs : List ℕ) → i < length ps → length bs ≡ length (piece_at ps i).bytes
+    → rises_from at (set ps i (with_bytes ps i bs)) ≡ rises_from at ps
 same_order at [] i bs l e = absurd (omega arith)
 same_order at (p ∷ ps) zero bs l e = ap (λ (n : ℕ). nat_le at p.addr && (nat_le (p.addr + n) 4294967296 && rises_from (p.addr + n) ps)) e
 same_order at (p ∷ ps) (suc i) bs l e =
     let next = same_order (end_of p) ps i bs (omega arith) e in
     rw next refl
 
-pub same_gaps : (at : ℕ) (ps : List Piece) (i : ℕ) (bs : List ℕ) → i < length ps → length bs ≡ length (piece_at ps i).bytes → gaps_above at (set ps i (with_bytes ps i bs)) ≡ gaps_above at ps
+pub same_gaps : (at : ℕ) (ps : List Piece) (i : ℕ) (bs : List ℕ) → i < length ps → length bs ≡ length (piece_at ps i).bytes
+    → gaps_above at (set ps i (with_bytes ps i bs)) ≡ gaps_above at ps
 same_gaps at [] i bs l e = absurd (omega arith)
 same_gaps at (p ∷ ps) zero bs l e = ap (λ (n : ℕ). record { addr = at; len = p.addr - at } ∷ gaps_above (p.addr + n) ps) e
 same_gaps at (p ∷ ps) (suc i) bs l e = ap (λ gaps. record { addr = at; len = p.addr - at } ∷ gaps) (same_gaps (end_of p) ps i bs (omega arith) e)
 
 -- bytes put into the middle of an image
-pub put_middle : (left old right : List ℕ) (start : ℕ) (bs : List ℕ) → start + length bs ≤ length old → left ++ (put old (bytes_at start bs) ++ right) ≡ put (left ++ (old ++ right)) (bytes_at (length left + start) bs)
+pub put_middle : (left old right : List ℕ) (start : ℕ) (bs : List ℕ) → start + length bs ≤ length old
+    → left ++ (put old (bytes_at start bs) ++ right) ≡ put (left ++ (old ++ right)) (bytes_at (length left + start) bs)
 put_middle left old right start bs h =
     let n = start + length bs in
-    let long : length (left ++ (old ++ right)) ≡ length left + (length old + length right) = omega (arith, length-append left (old ++ right), length-append old right) in
-    let front : take (length left + start) (left ++ (old ++ right)) ≡ left ++ take start old = take-append-add left (old ++ right) start ∙ ap (λ (xs : List ℕ). left ++ xs) (take-append-le start old right (omega arith)) in
+    let long : length (left ++ (old ++ right)) ≡ length left + (length old + length right) =
+    omega (arith, length-append left (old ++ right), length-append old right) in
+    let front : take (length left + start) (left ++ (old ++ right)) ≡ left ++ take start old = take-append-add left (old ++ right) start
+    ∙ ap (λ (xs : List ℕ). left ++ xs) (take-append-le start old right (omega arith)) in
     let same : length left + start + length bs ≡ length left + n = omega arith in
-    let back : drop (length left + start + length bs) (left ++ (old ++ right)) ≡ drop n old ++ right = ap (λ (k : ℕ). drop k (left ++ (old ++ right))) same ∙ drop-append-add left (old ++ right) n ∙ drop-append-le n old right h in
+    let back : drop (length left + start + length bs) (left ++ (old ++ right)) ≡ drop n old ++ right = ap (λ (k : ℕ). drop k (left ++ (old ++ right))) same
+    ∙ drop-append-add left (old ++ right) n ∙ drop-append-le n old right h in
     ap (λ (xs : List ℕ). left ++ (xs ++ right)) (put_bytes_at old start bs h)
     ∙ simp append_assoc (sym (put_bytes_at (left ++ (old ++ right)) (length left + start) bs (omega (arith, long)) ∙ rw (front, back) (simp append_assoc)))
 
 -- the image around a piece
-around : (ps : List Piece) (i : ℕ) (h : in_order ps ≡ true) (l : i < length ps) → image_of ps ≡ (context 0 ps i h l).left ++ ((piece_at ps i).bytes ++ (context 0 ps i h l).right)
+around : (ps : List Piece) (i : ℕ) (h : in_order ps ≡ true) (l : i < length ps)
+    → image_of ps ≡ (context 0 ps i h l).left ++ ((piece_at ps i).bytes ++ (context 0 ps i h l).right)
 around ps i h l = sym (ap image_of (set-get_or ps i nowhere)) ∙ (context 0 ps i h l).is (piece_at ps i).bytes refl
 
 -- each piece ends below the size
@@ -91,7 +93,8 @@ ends_within ps i h l =
     omega (arith, ap length (around ps i h l), length-append c.left (p.bytes ++ c.right), length-append p.bytes c.right)
 
 -- bytes put into a piece are put into the image
-pub put_piece : (ps : List Piece) (i start : ℕ) (bs : List ℕ) → in_order ps ≡ true → i < length ps → start + length bs ≤ length (piece_at ps i).bytes → image_of (set ps i (with_bytes ps i (put (piece_at ps i).bytes (bytes_at start bs)))) ≡ put (image_of ps) (bytes_at ((piece_at ps i).addr + start) bs)
+pub put_piece : (ps : List Piece) (i start : ℕ) (bs : List ℕ) → in_order ps ≡ true → i < length ps → start + length bs ≤ length (piece_at ps i).bytes
+    → image_of (set ps i (with_bytes ps i (put (piece_at ps i).bytes (bytes_at start bs)))) ≡ put (image_of ps) (bytes_at ((piece_at ps i).addr + start) bs)
 put_piece ps i start bs h l fits =
     let c = context 0 ps i h l in
     let old = (piece_at ps i).bytes in
@@ -102,7 +105,8 @@ put_piece ps i start bs h l fits =
     ∙ ap (λ (n : ℕ). put (image_of ps) (bytes_at (n + start) bs)) first_of
 
 -- what a piece has, the image has
-pub piece_shown : (ps : List Piece) (i a n : ℕ) → in_order ps ≡ true → i < length ps → Holds ps i a n → take n (drop (a - (piece_at ps i).addr) (piece_at ps i).bytes) ≡ take n (drop a (image_of ps))
+pub piece_shown : (ps : List Piece) (i a n : ℕ) → in_order ps ≡ true → i < length ps → Holds ps i a n
+    → take n (drop (a - (piece_at ps i).addr) (piece_at ps i).bytes) ≡ take n (drop a (image_of ps))
 piece_shown ps i a n h l holds =
     let c = context 0 ps i h l in
     let p = piece_at ps i in
@@ -122,7 +126,8 @@ rest_shown ps a n h some = elim (rest_is ps a) [
   | inr w ↦
       let p = piece_at ps w.0 in
       let parts = has_parts a p w.2 in
-      let holds : Holds ps w.0 a n = record { first = parts.0; last = omega (arith, parts.0, parts.1, some, ap length w.3, length-drop (a - p.addr) p.bytes) } in
+      let holds : Holds ps w.0 a n =
+      record { first = parts.0; last = omega (arith, parts.0, parts.1, some, ap length w.3, length-drop (a - p.addr) p.bytes) } in
       ap (take n) w.3 ∙ piece_shown ps w.0 a n h w.1 holds
 ]
 
@@ -146,14 +151,18 @@ byte_shown ps a h = elim (cases_lt 0 (length (rest_from ps a))) [
 abbrev read_only_segment : Region → Segment
 read_only_segment r = record { addr = r.addr; len = if r.read_only == 0 then 0 else length r.bytes.now }
 
-same_segment : (a b : Region) → a.addr ≡ b.addr → a.read_only ≡ b.read_only → length a.bytes.now ≡ length b.bytes.now → read_only_segment a ≡ read_only_segment b
+same_segment : (a b : Region) → a.addr ≡ b.addr → a.read_only ≡ b.read_only → length a.bytes.now ≡ length b.bytes.now
+    → read_only_segment a ≡ read_only_segment b
 same_segment a b addr access long =
     ap (λ (n : ℕ). record { addr = n; len = if a.read_only == 0 then 0 else length a.bytes.now }) addr
     ∙ ap (λ (n : ℕ). record { addr = b.addr; len = if n == 0 then 0 else length a.bytes.now }) access
     ∙ ap (λ (n : ℕ). record { addr = b.addr; len = if b.read_only == 0 then 0 else n }) long
 
 -- a write to one region is a write to the memory
-pub rewritten_at : (rs : List Region) (i addr : ℕ) (new : Region) (bs : List ℕ) → in_order (pieces_of rs) ≡ true → i < length rs → Holds (pieces_of rs) i addr (length bs) → new.addr ≡ (get_or rs i no_region).addr → new.bytes.ghost_name ≡ (get_or rs i no_region).bytes.ghost_name → new.read_only ≡ (get_or rs i no_region).read_only → new.bytes.now ≡ put (get_or rs i no_region).bytes.now (bytes_at (addr - (get_or rs i no_region).addr) bs) → Rewritten rs (set rs i new) addr bs
+pub rewritten_at : (rs : List Region) (i addr : ℕ) (new : Region) (bs : List ℕ) → in_order (pieces_of rs) ≡ true → i < length rs
+    → Holds (pieces_of rs) i addr (length bs) → new.addr ≡ (get_or rs i no_region).addr → new.bytes.ghost_name ≡ (get_or rs i no_region).bytes.ghost_name
+    → new.read_only ≡ (get_or rs i no_region).read_only
+    → new.bytes.now ≡ put (get_or rs i no_region).bytes.now (bytes_at (addr - (get_or rs i no_region).addr) bs) → Rewritten rs (set rs i new) addr bs
 rewritten_at rs i addr new bs order l holds same name access is =
     let r = get_or rs i no_region in
     let ps = pieces_of rs in
@@ -168,7 +177,8 @@ rewritten_at rs i addr new bs order l holds same name access is =
     map-set piece_of rs i new ∙ ap (λ (n : ℕ). set ps i (record { addr = n; bytes = new.bytes.now })) (same ∙ sym begins) in
     let place : (piece_at ps i).addr + start ≡ addr = omega (arith, holds.first) in
     record {
-      image = ap image_of (pieces ∙ ap (λ (xs : List ℕ). set ps i (with_bytes ps i xs)) bytes) ∙ put_piece ps i start bs order inside fits ∙ ap (λ (n : ℕ). put (image_of ps) (bytes_at n bs)) place;
+      image = ap image_of (pieces ∙ ap (λ (xs : List ℕ). set ps i (with_bytes ps i xs)) bytes) ∙ put_piece ps i start bs order inside fits
+          ∙ ap (λ (n : ℕ). put (image_of ps) (bytes_at n bs)) place;
       order = ap in_order pieces ∙ same_order 0 ps i new.bytes.now inside keeps;
       gaps = ap gaps_of pieces ∙ same_gaps 0 ps i new.bytes.now inside keeps;
       names = map-set_same (λ (x : Region). x.bytes.ghost_name) rs i new no_region name;
@@ -176,7 +186,8 @@ rewritten_at rs i addr new bs order l holds same name access is =
     }
 
 -- what a region has, the image has
-pub region_shown : (rs : List Region) (i a n : ℕ) → in_order (pieces_of rs) ≡ true → i < length rs → Holds (pieces_of rs) i a n → take n (drop (a - (get_or rs i no_region).addr) (get_or rs i no_region).bytes.now) ≡ take n (drop a (image_of (pieces_of rs)))
+pub region_shown : (rs : List Region) (i a n : ℕ) → in_order (pieces_of rs) ≡ true → i < length rs → Holds (pieces_of rs) i a n
+    → take n (drop (a - (get_or rs i no_region).addr) (get_or rs i no_region).bytes.now) ≡ take n (drop a (image_of (pieces_of rs)))
 region_shown rs i a n order l holds =
     let ps = pieces_of rs in
     let here = piece_at_of rs i in
@@ -188,7 +199,8 @@ pub rewritten_none : (rs : List Region) (addr : ℕ) → Rewritten rs rs addr []
 rewritten_none rs addr = record { image = sym (put_none (image_of (pieces_of rs))); order = refl; gaps = refl; names = refl; read_only = refl }
 
 -- a write, and one behind it
-pub rewritten_more : (old mid new : List Region) (addr next : ℕ) (front back : List ℕ) → Rewritten old mid addr front → Rewritten mid new next back → next ≡ addr + length front → Rewritten old new addr (front ++ back)
+pub rewritten_more : (old mid new : List Region) (addr next : ℕ) (front back : List ℕ) → Rewritten old mid addr front → Rewritten mid new next back
+    → next ≡ addr + length front → Rewritten old new addr (front ++ back)
 rewritten_more old mid new addr next front back f g e = record {
   image = g.image
       ∙ ap (λ (image : List ℕ). put image (bytes_at next back)) f.image
@@ -219,28 +231,33 @@ writable_after old new addr len place bs w r =
     }
 
 -- the region that has an address that may be written is one of them
-pub place_found : (rs : List Region) (addr len i : ℕ) → Writable rs addr len → 0 < len → i ≤ length rs → ((k : ℕ) → k < i → has addr (piece_at (pieces_of rs) k) ≡ false) → i < length rs
+pub place_found : (rs : List Region) (addr len i : ℕ) → Writable rs addr len → 0 < len → i ≤ length rs
+    → ((k : ℕ) → k < i → has addr (piece_at (pieces_of rs) k) ≡ false) → i < length rs
 place_found rs addr len i w some within none = elim (cases_lt i (length rs)) [
   | inl less ↦ less
   | inr past ↦
       let ps = pieces_of rs in
       let inside = w.within in
-      absurd (found 0 ps addr w.order (omega arith) (omega (arith, length_bytes_above 0 ps w.order)) (w.gaps addr (omega arith) (omega arith)) (λ k l. none k (omega (arith, length-map rs piece_of))))
+      absurd (found 0 ps addr w.order (omega arith) (omega (arith, length_bytes_above 0 ps w.order)) (w.gaps addr (omega arith) (omega arith))
+      (λ k l. none k (omega (arith, length-map rs piece_of))))
 ]
 
 -- addresses that may be written fit 32 bits
 pub writable_most : (rs : List Region) (addr len : ℕ) → Writable rs addr len → addr + len ≤ 4294967296
 writable_most rs addr len w = let inside = w.within in omega (arith, image_of_most (pieces_of rs) w.order)
 
-pub rewritten_length : (old new : List Region) (addr : ℕ) (bs : List ℕ) → Rewritten old new addr bs → length (image_of (pieces_of new)) ≡ length (image_of (pieces_of old))
+pub rewritten_length : (old new : List Region) (addr : ℕ) (bs : List ℕ) → Rewritten old new addr bs
+    → length (image_of (pieces_of new)) ≡ length (image_of (pieces_of old))
 rewritten_length old new addr bs r = ap length r.image ∙ length_put (image_of (pieces_of old)) (bytes_at addr bs)
 
 -- all pages of a memory are made, before a write and after it
-pub rewritten_made : (old new : List Region) (addr : ℕ) (bs : List ℕ) → Rewritten old new addr bs → all_made (length (image_of (pieces_of new))) ≡ all_made (length (image_of (pieces_of old)))
+pub rewritten_made : (old new : List Region) (addr : ℕ) (bs : List ℕ) → Rewritten old new addr bs
+    → all_made (length (image_of (pieces_of new))) ≡ all_made (length (image_of (pieces_of old)))
 rewritten_made old new addr bs r = ap all_made (rewritten_length old new addr bs r)
 
 -- the image has as many bytes there
-pub ends_in : (rs : List Region) (i a n : ℕ) → in_order (pieces_of rs) ≡ true → i < length rs → Holds (pieces_of rs) i a n → length (take n (drop a (image_of (pieces_of rs)))) ≡ n
+pub ends_in : (rs : List Region) (i a n : ℕ) → in_order (pieces_of rs) ≡ true → i < length rs → Holds (pieces_of rs) i a n
+    → length (take n (drop a (image_of (pieces_of rs)))) ≡ n
 ends_in rs i a n order l holds =
     let ps = pieces_of rs in
     let below = ends_within ps i order (omega (arith, length-map rs piece_of)) in

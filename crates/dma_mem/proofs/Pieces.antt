@@ -41,18 +41,21 @@ first at p ps h =
     record { after = leb-true at p.addr one.0; most = leb-true (end_of p) 4294967296 two.0; rest = two.1 }
 
 -- the pieces from an index on rise where those after it do, from the end of its piece
-pub rises_more : (ps : List Piece) (p : Piece) (i at : ℕ) → i < length ps → piece_at ps i ≡ p → at ≤ p.addr → end_of p ≤ 4294967296 → rises_from at (drop i ps) ≡ rises_from (end_of p) (drop (i + 1) ps)
+pub rises_more : (ps : List Piece) (p : Piece) (i at : ℕ) → i < length ps → piece_at ps i ≡ p → at ≤ p.addr → end_of p ≤ 4294967296
+    → rises_from at (drop i ps) ≡ rises_from (end_of p) (drop (i + 1) ps)
 rises_more ps p i at h is after most =
     ap (rises_from at) (drop_at ps i h)
     ∙ ap (λ (q : Piece). rises_from at (q ∷ drop (i + 1) ps)) is
     ∙ rw (le-leb at p.addr after, le-leb (end_of p) 4294967296 most) refl
 
 -- and don't, where it begins too low or ends too high
-pub rises_not : (ps : List Piece) (p : Piece) (i at : ℕ) → i < length ps → piece_at ps i ≡ p → (p.addr < at) ⊎ (4294967296 < end_of p) → rises_from at (drop i ps) ≡ false
+pub rises_not : (ps : List Piece) (p : Piece) (i at : ℕ) → i < length ps → piece_at ps i ≡ p → (p.addr < at) ⊎ (4294967296 < end_of p)
+    → rises_from at (drop i ps) ≡ false
 rises_not ps p i at h is bad =
     ap (rises_from at) (drop_at ps i h)
     ∙ ap (λ (q : Piece). rises_from at (q ∷ drop (i + 1) ps)) is
-    ∙ false_from_ne_true _ (λ e. let f = first at p (drop (i + 1) ps) e in elim bad [ inl low ↦ omega (arith, low, f.after) | inr high ↦ omega (arith, high, f.most) ])
+    ∙ false_from_ne_true _ (λ e. let f = first at p (drop (i + 1) ps) e in
+    elim bad [ inl low ↦ omega (arith, low, f.after) | inr high ↦ omega (arith, high, f.most) ])
 
 -- what holds of the piece at an index of pieces that rise from there
 pub first_at : (ps : List Piece) (p : Piece) (i at : ℕ) → i < length ps → piece_at ps i ≡ p → rises_from at (drop i ps) ≡ true → First at p (drop (i + 1) ps)
@@ -113,11 +116,13 @@ pub in_first_gap : (at : ℕ) (p : Piece) (ps : List Piece) (a : ℕ) → at ≤
 in_first_gap at p ps a low high = rw (le-leb at a low, lt-ltb a (at + (p.addr - at)) (omega arith)) refl
 
 -- an address that the first gap doesn't have lies in a gap where it lies in a later one
-pub past_first_gap : (at : ℕ) (p : Piece) (ps : List Piece) (a : ℕ) → (a < at) ⊎ (p.addr ≤ a) → at ≤ p.addr → lies_in_any (gaps_above at (p ∷ ps)) a ≡ lies_in_any (gaps_above (end_of p) ps) a
+pub past_first_gap : (at : ℕ) (p : Piece) (ps : List Piece) (a : ℕ) → (a < at) ⊎ (p.addr ≤ a) → at ≤ p.addr
+    → lies_in_any (gaps_above at (p ∷ ps)) a ≡ lies_in_any (gaps_above (end_of p) ps) a
 past_first_gap at p ps a out after =
     rw (false_from_ne_true (lies_in a (record { addr = at; len = p.addr - at })) (λ e.
     let parts = and_parts (nat_le at a) (nat_lt a (at + (p.addr - at))) e in
-    elim out [ inl below ↦ omega (arith, below, leb-true at a parts.0) | inr above ↦ omega (arith, above, after, ltb-true a (at + (p.addr - at)) parts.1) ])) refl
+    elim out [ inl below ↦ omega (arith, below, leb-true at a parts.0) | inr above ↦ omega (arith, above, after, ltb-true a (at + (p.addr - at)) parts.1) ]))
+    refl
 
 -- ---- the piece that has an address
 
@@ -133,7 +138,8 @@ pub has_parts : (a : ℕ) (p : Piece) → has a p ≡ true → (p.addr ≤ a) ×
 has_parts a p h = let parts = and_parts (nat_le p.addr a) (nat_lt a (end_of p)) h in (leb-true p.addr a parts.0, ltb-true a (end_of p) parts.1)
 
 -- an address below the size that no gap has lies in a piece
-pub found : (at : ℕ) (ps : List Piece) (a : ℕ) → rises_from at ps ≡ true → at ≤ a → a < end_from at ps → lies_in_any (gaps_above at ps) a ≡ false → ((k : ℕ) → k < length ps → has a (piece_at ps k) ≡ false) → ⊥
+pub found : (at : ℕ) (ps : List Piece) (a : ℕ) → rises_from at ps ≡ true → at ≤ a → a < end_from at ps → lies_in_any (gaps_above at ps) a ≡ false
+    → ((k : ℕ) → k < length ps → has a (piece_at ps k) ≡ false) → ⊥
 unfolding end_from
 found at [] a h low high gaps none = omega arith
 found at (p ∷ ps) a h low high gaps none =
@@ -148,7 +154,8 @@ found at (p ∷ ps) a h low high gaps none =
 
 -- ---- the bytes from an address on
 
-pub rest_at : (ps : List Piece) (i a : ℕ) → i < length ps → ((k : ℕ) → k < i → has a (piece_at ps k) ≡ false) → has a (piece_at ps i) ≡ true → rest_from ps a ≡ drop (a - (piece_at ps i).addr) (piece_at ps i).bytes
+pub rest_at : (ps : List Piece) (i a : ℕ) → i < length ps → ((k : ℕ) → k < i → has a (piece_at ps k) ≡ false) → has a (piece_at ps i) ≡ true
+    → rest_from ps a ≡ drop (a - (piece_at ps i).addr) (piece_at ps i).bytes
 rest_at [] i a h before here = absurd (omega arith)
 rest_at (p ∷ ps) zero a h before here = rw here refl
 rest_at (p ∷ ps) (suc i) a h before here =
@@ -162,7 +169,8 @@ rest_none (p ∷ ps) a none =
     rw no (rest_none ps a (λ k l. none (suc k) (omega arith)))
 
 -- there are none, or a piece has the address
-pub rest_is : (ps : List Piece) (a : ℕ) → (rest_from ps a ≡ []) ⊎ ((i : ℕ) × (i < length ps) × (has a (piece_at ps i) ≡ true) × (rest_from ps a ≡ drop (a - (piece_at ps i).addr) (piece_at ps i).bytes))
+pub rest_is : (ps : List Piece) (a : ℕ) → (rest_from ps a ≡ [])
+    ⊎ ((i : ℕ) × (i < length ps) × (has a (piece_at ps i) ≡ true) × (rest_from ps a ≡ drop (a - (piece_at ps i).addr) (piece_at ps i).bytes))
 rest_is [] a = inl refl
 rest_is (p ∷ ps) a = elim (cases_Bool (has a p)) [
   | inl here ↦ inr (0, omega arith, here, rw here refl)

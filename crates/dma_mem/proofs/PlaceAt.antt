@@ -1,12 +1,10 @@
 -- The place at a position of a list of segments.
 use Rattle.std.proofs.Common.{◌≡◌, ℕ, ◌+◌, ◌-◌, ◌<◌, ◌≤◌, List, ◌++◌, length, get_or, drop, Some, refl, ap, sym, ◌∙◌, arith, inl, inr}
 use Rattle.std.specs.List.{range_with_len, slice_get}
-use Rattle.std.proofs.lemmas.Bool.{cases_lt}
 use Rattle.std.proofs.lemmas.List.{length-append, get_or_append_left, get_or-append_right, at_drop_more}
-use Rattle.std.proofs.lemmas.List.FromFn.{length-range_with_len, get_or-range_with_len}
-use Rattle.std.proofs.lemmas.Option.{slice_get-get_or, slice_get_past}
-use Rattle.dma_mem.specs.declared.segment.Segment.{Segment}
-use Rattle.dma_mem.specs.Places.{places}
+use Rattle.std.proofs.{lemmas.Bool.cases_lt, lemmas.List.FromFn.length-range_with_len, lemmas.List.FromFn.get_or-range_with_len, lemmas.Option.slice_get-get_or}
+use Rattle.std.proofs.{lemmas.Option.slice_get_past}
+use Rattle.dma_mem.specs.{declared.segment.Segment.Segment, Places.places}
 
 pub slice_get_append_left : (xs ys : List ℕ) (p : ℕ) → p < length xs → slice_get (xs ++ ys) p ≡ slice_get xs p
 slice_get_append_left xs ys p h =
@@ -26,7 +24,8 @@ slice_get_append_right xs ys p h = elim (cases_lt p (length (xs ++ ys))) [
 ]
 
 -- a position within the segment at i
-pub place_within : (list : List Segment) (i p : ℕ) (d : Segment) → i < length list → p < (get_or list i d).len → slice_get (places (drop i list)) p ≡ Some ((get_or list i d).addr + p)
+pub place_within : (list : List Segment) (i p : ℕ) (d : Segment) → i < length list → p < (get_or list i d).len
+    → slice_get (places (drop i list)) p ≡ Some ((get_or list i d).addr + p)
 place_within list i p d h l =
     let s = get_or list i d in
     let range = range_with_len s.addr s.len in
@@ -37,7 +36,8 @@ place_within list i p d h l =
     ∙ ap Some (get_or-range_with_len s.addr s.len p 0 l)
 
 -- a position past it
-pub place_past : (list : List Segment) (i p : ℕ) (d : Segment) → i < length list → (get_or list i d).len ≤ p → slice_get (places (drop i list)) p ≡ slice_get (places (drop (i + 1) list)) (p - (get_or list i d).len)
+pub place_past : (list : List Segment) (i p : ℕ) (d : Segment) → i < length list → (get_or list i d).len ≤ p
+    → slice_get (places (drop i list)) p ≡ slice_get (places (drop (i + 1) list)) (p - (get_or list i d).len)
 place_past list i p d h l =
     let s = get_or list i d in
     let range = range_with_len s.addr s.len in

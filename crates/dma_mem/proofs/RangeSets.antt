@@ -1,21 +1,18 @@
 -- Ranges in order, and the addresses of segments.
-use Rattle.std.proofs.Common.{◌≡◌, ℕ, ◌+◌, ◌-◌, ◌<◌, ◌≤◌, ◌⊎◌, List, [], ◌∷◌, length, get_or, max, Bool, true, false, ◌||◌, refl, ap, sym, ◌∙◌, subst, arith, inl, inr, zero, suc, All}
-use Rattle.std.specs.Prelude.{MatchBool, not}
-use Rattle.std.specs.List.{Contains}
+use Rattle.std.proofs.Common.{◌≡◌, ℕ, ◌+◌, ◌-◌, ◌<◌, ◌≤◌, ◌⊎◌, List, [], ◌∷◌, length, get_or, max, Bool, true, false, ◌||◌, refl, ap, sym, ◌∙◌, subst, arith}
+use Rattle.std.proofs.Common.{inl, inr, zero, suc, All}
 use Rattle.std.specs.List.Sorted.{IsPermutation, IsNonDecreasingBy, IsPartitionPoint}
-use Rattle.std.specs.List.Retain.{DedupsFrom, IsDeduped}
-use Rattle.std.proofs.lemmas.Bool.{leb-true, leb-false, cases_lt}
-use Rattle.std.proofs.lemmas.List.Elements.{All-head, All-tail, All-cons, All-weaker, Contains-append_left, Contains-append_right, Contains-append_cases, Contains-get_or}
-use Rattle.std.proofs.lemmas.List.Kept.{AllPairs-cons}
-use Rattle.std.proofs.lemmas.List.Sorted.{Contains-permutation, IsPermutation-sym, IsNonDecreasingBy-from_all_adjacent}
-use Rattle.dma_mem.specs.declared.segment.Segment.{Segment}
+use Rattle.std.specs.{Prelude.MatchBool, Prelude.not, List.Contains, List.Retain.DedupsFrom, List.Retain.IsDeduped}
+use Rattle.std.proofs.lemmas.List.Elements.{All-head, All-tail, All-cons, All-weaker, Contains-append_left, Contains-append_right, Contains-append_cases}
+use Rattle.std.proofs.lemmas.List.Elements.{Contains-get_or}
+use Rattle.std.proofs.{lemmas.Bool.leb-true, lemmas.Bool.leb-false, lemmas.Bool.cases_lt, lemmas.List.Kept.AllPairs-cons}
+use Rattle.std.proofs.{lemmas.List.Sorted.Contains-permutation, lemmas.List.Sorted.IsPermutation-sym, lemmas.List.Sorted.IsNonDecreasingBy-from_all_adjacent}
 use Rattle.dma_mem.specs.Places.{Descriptor, places, share, range_of, sources, destinations, writes, touches, is_free_of}
-use Rattle.dma_mem.specs.Rules.{IsTransfer}
-use Rattle.dma_mem.specs.Ranges.{IsCoalesced, HasSources, SameAddresses}
-use Rattle.dma_mem.specs.inner.RangesInOrder.{IsOrdered, IsClearOf, Joins}
+use Rattle.dma_mem.specs.{declared.segment.Segment.Segment, Rules.IsTransfer, Ranges.IsCoalesced, Ranges.HasSources, Ranges.SameAddresses}
+use Rattle.dma_mem.specs.{inner.RangesInOrder.IsOrdered, inner.RangesInOrder.IsClearOf, inner.RangesInOrder.Joins}
 use Rattle.dma_mem.proofs.SharedPlaces.{share_true, share_none, shared_by, in_range, range_in, same_bool}
-pub use Rattle.dma_mem.proofs.SharedPlaces.{share_right}
 use Rattle.dma_mem.proofs.TransferRules.{same_sources}
+pub use Rattle.dma_mem.proofs.SharedPlaces.{share_right}
 
 -- ---- the addresses of a list
 
@@ -65,8 +62,10 @@ moved xs ys d a w i = in_places ys i.0 (get_or xs w.k d) a i.1 (subst (λ (t : S
 pub same_permuted : (xs ys : List Segment) → IsPermutation xs ys → SameAddresses ys xs
 same_permuted xs ys p = λ a.
     let back = IsPermutation-sym xs ys p in (
-      λ i. let w = places_in ys nowhere a i in moved ys xs nowhere a w (Contains-permutation ys xs (get_or ys w.k nowhere) back (Contains-get_or ys w.k nowhere w.within)),
-      λ i. let w = places_in xs nowhere a i in moved xs ys nowhere a w (Contains-permutation xs ys (get_or xs w.k nowhere) p (Contains-get_or xs w.k nowhere w.within)),
+      λ i. let w = places_in ys nowhere a i in
+          moved ys xs nowhere a w (Contains-permutation ys xs (get_or ys w.k nowhere) back (Contains-get_or ys w.k nowhere w.within)),
+      λ i. let w = places_in xs nowhere a i in
+          moved xs ys nowhere a w (Contains-permutation xs ys (get_or xs w.k nowhere) p (Contains-get_or xs w.k nowhere w.within)),
     )
 
 pub same_trans : (xs ys zs : List Segment) → SameAddresses xs ys → SameAddresses ys zs → SameAddresses xs zs
@@ -87,7 +86,8 @@ Rising_lower : (low high : ℕ) (xs : List Segment) → low ≤ high → Rising 
 Rising_lower low high [] h r = tt
 Rising_lower low high (s ∷ rest) h r = (omega (arith, r.0), r.1, r.2, r.3)
 
-pub rising_from : (low : ℕ) (xs : List Segment) → All (λ s. low ≤ s.addr) xs → All (λ s. 0 < s.len) xs → All (λ s. s.addr + s.len ≤ 4294967295) xs → IsNonDecreasingBy (λ (s : Segment). s.addr) xs → Rising low xs
+pub rising_from : (low : ℕ) (xs : List Segment) → All (λ s. low ≤ s.addr) xs → All (λ s. 0 < s.len) xs → All (λ s. s.addr + s.len ≤ 4294967295) xs
+    → IsNonDecreasingBy (λ (s : Segment). s.addr) xs → Rising low xs
 rising_from low [] l f w r = tt
 rising_from low (s ∷ rest) l f w r =
     let later : All (λ (t : Segment). s.addr ≤ t.addr) rest = λ k d m. r 0 (suc k) d (omega arith) (omega arith) in
@@ -109,9 +109,11 @@ spread_from low [] h = record {
 }
 spread_from low (s ∷ rest) h =
     let more = spread_from (s.addr + s.len + 1) rest h.2 in
-    let past : All (λ (t : Segment). s.addr + s.len < t.addr) rest = All-weaker (λ (t : Segment). s.addr + s.len + 1 ≤ t.addr) (λ t. s.addr + s.len < t.addr) (λ t l. omega (arith, l)) rest more.above in
+    let past : All (λ (t : Segment). s.addr + s.len < t.addr) rest =
+    All-weaker (λ (t : Segment). s.addr + s.len + 1 ≤ t.addr) (λ t. s.addr + s.len < t.addr) (λ t l. omega (arith, l)) rest more.above in
     record {
-      above = All-cons (λ (t : Segment). low ≤ t.addr) s rest h.0 (All-weaker (λ (t : Segment). s.addr + s.len + 1 ≤ t.addr) (λ t. low ≤ t.addr) (λ t l. omega (arith, l, h.0)) rest more.above);
+      above = All-cons (λ (t : Segment). low ≤ t.addr) s rest h.0
+          (All-weaker (λ (t : Segment). s.addr + s.len + 1 ≤ t.addr) (λ t. low ≤ t.addr) (λ t l. omega (arith, l, h.0)) rest more.above);
       coalesced = record {
         filled = All-cons (λ (t : Segment). 0 < t.len) s rest h.1 more.coalesced.filled;
         apart = AllPairs-cons (λ (t u : Segment). t.addr + t.len < u.addr) s rest past more.coalesced.apart;
@@ -133,7 +135,8 @@ pub record Coalesces (low : ℕ) (ys given : List Segment) : Type 0 where
   pub same : SameAddresses ys given
 
 -- the range that takes in the next segment has the addresses of both
-same_longer : (ys rest : List Segment) (k k' x : Segment) → SameAddresses ys (k' ∷ rest) → k.addr ≤ x.addr → x.addr ≤ k.addr + k.len → k'.addr ≡ k.addr → k'.addr + k'.len ≡ max (k.addr + k.len) (x.addr + x.len) → SameAddresses ys (k ∷ x ∷ rest)
+same_longer : (ys rest : List Segment) (k k' x : Segment) → SameAddresses ys (k' ∷ rest) → k.addr ≤ x.addr → x.addr ≤ k.addr + k.len → k'.addr ≡ k.addr
+    → k'.addr + k'.len ≡ max (k.addr + k.len) (x.addr + x.len) → SameAddresses ys (k ∷ x ∷ rest)
 same_longer ys rest k k' x h order near start end = λ a. (
   λ i. elim (places_cons k' rest a ((h a).0 i)) [
     | inl here ↦ elim (cases_lt a (k.addr + k.len)) [
@@ -157,8 +160,10 @@ same_apart ys zs rest k x e h = subst (λ l. SameAddresses l (k ∷ x ∷ rest))
   λ i. elim (places_cons k (x ∷ rest) a i) [ inl here ↦ place_here k zs a here | inr later ↦ place_later k zs a ((h a).1 later) ],
 ))
 
-module _ {S : Type 0} (R : S → Segment → Segment → Bool → S → Segment → Segment → Type 0) (reports : (s : S) (x k : Segment) (b : Bool) (t : S) (x' k' : Segment) → R s x k b t x' k' → Joins x k b x' k') where
-  pub coalesces_from : (s : S) (k : Segment) (xs ys : List Segment) (low : ℕ) → DedupsFrom R s k xs ys → low ≤ k.addr → 0 < k.len → k.addr + k.len ≤ 4294967295 → Rising k.addr xs → Coalesces low ys (k ∷ xs)
+module _ {S : Type 0} (R : S → Segment → Segment → Bool → S → Segment → Segment → Type 0)
+    (reports : (s : S) (x k : Segment) (b : Bool) (t : S) (x' k' : Segment) → R s x k b t x' k' → Joins x k b x' k') where
+  pub coalesces_from : (s : S) (k : Segment) (xs ys : List Segment) (low : ℕ) → DedupsFrom R s k xs ys → low ≤ k.addr → 0 < k.len → k.addr + k.len ≤ 4294967295
+      → Rising k.addr xs → Coalesces low ys (k ∷ xs)
   coalesces_from s k [] ys low h l f w r = record {
     spaced = subst (Spaced low) (sym h) (l, f, tt);
     same = subst (λ zs. SameAddresses zs (k ∷ [])) (sym h) (λ a. (λ i. i, λ i. i));
@@ -169,7 +174,8 @@ module _ {S : Type 0} (R : S → Segment → Segment → Bool → S → Segment 
         | inl (yes_, more) ↦
             let near : x.addr ≤ k.addr + k.len = leb-true x.addr (k.addr + k.len) (sym j.value ∙ yes_) in
             let end : h.3.addr + h.3.len ≡ max (k.addr + k.len) (x.addr + x.len) = omega (arith, j.end yes_, r.2, w) in
-            let rest = coalesces_from h.1 h.3 xs ys low more (omega (arith, j.start, l)) (omega (arith, end, j.start, f)) (omega (arith, end, r.2, w)) (Rising_lower h.3.addr x.addr xs (omega (arith, j.start, r.0)) r.3) in
+            let rest = coalesces_from h.1 h.3 xs ys low more (omega (arith, j.start, l)) (omega (arith, end, j.start, f)) (omega (arith, end, r.2, w))
+            (Rising_lower h.3.addr x.addr xs (omega (arith, j.start, r.0)) r.3) in
             record { spaced = rest.spaced; same = same_longer ys xs k h.3 x rest.same r.0 near j.start end }
         | inr (no_, more) ↦
             let far : k.addr + k.len < x.addr = leb-false x.addr (k.addr + k.len) (sym j.value ∙ no_) in
@@ -197,7 +203,8 @@ EndBy end rs past = IsPartitionPoint (λ (r : Segment). r.addr + r.len ≤ end) 
 
 -- the ranges that end at or below the segment's first address have none of its addresses; if one of the others has one,
 -- so does the first of them, since it begins no higher
-pub meets_first : (rs : List Segment) (first : ℕ) (s : Segment) → IsOrdered rs → EndBy s.addr rs first → first < length rs → share (range_of s) (range_of (get_or rs first nowhere)) ≡ share (range_of s) (places rs)
+pub meets_first : (rs : List Segment) (first : ℕ) (s : Segment) → IsOrdered rs → EndBy s.addr rs first → first < length rs
+    → share (range_of s) (range_of (get_or rs first nowhere)) ≡ share (range_of s) (places rs)
 meets_first rs first s o p within =
     let r = get_or rs first nowhere in
     let filled : 0 < r.len = o.filled first nowhere within in
@@ -213,7 +220,8 @@ meets_first rs first s o p within =
       | inr later ↦
           let order = o.starts first at.k nowhere later at.within in
           let a = max s.addr r.addr in
-          share_true _ _ a (in_range s.addr s.len a (omega arith) (omega (arith, in_s.0, in_s.1, order, at.lies.0))) (in_range r.addr r.len a (omega arith) (omega (arith, after, filled)))
+          share_true _ _ a (in_range s.addr s.len a (omega arith) (omega (arith, in_s.0, in_s.1, order, at.lies.0)))
+          (in_range r.addr r.len a (omega arith) (omega (arith, after, filled)))
     ])
 
 pub meets_none : (rs : List Segment) (first : ℕ) (s : Segment) → EndBy s.addr rs first → length rs ≤ first → share (range_of s) (places rs) ≡ false
@@ -223,7 +231,8 @@ meets_none rs first s p past =
     omega (arith, p.0 at.k nowhere (omega arith) (omega (arith, at.within)), (range_in s.addr s.len a i).0, at.lies.1))
 
 -- from `addr` on, no address below the first range that ends above `addr` is in a range
-pub clear_before : (rs : List Segment) (first : ℕ) (addr len : ℕ) → IsOrdered rs → EndBy addr rs first → first < length rs → len ≤ (get_or rs first nowhere).addr - addr → IsClearOf rs addr len
+pub clear_before : (rs : List Segment) (first : ℕ) (addr len : ℕ) → IsOrdered rs → EndBy addr rs first → first < length rs
+    → len ≤ (get_or rs first nowhere).addr - addr → IsClearOf rs addr len
 clear_before rs first addr len o p within low a above below i =
     let at = places_in rs nowhere a i in
     elim (cases_lt at.k first) [
@@ -234,7 +243,8 @@ clear_before rs first addr len o p within low a above below i =
     ]
 
 -- the first address from `addr` on that isn't below that range is in it
-pub next_in : (rs : List Segment) (first : ℕ) (addr len : ℕ) → IsOrdered rs → EndBy addr rs first → first < length rs → len ≡ (get_or rs first nowhere).addr - addr → Contains (places rs) (addr + len)
+pub next_in : (rs : List Segment) (first : ℕ) (addr len : ℕ) → IsOrdered rs → EndBy addr rs first → first < length rs
+    → len ≡ (get_or rs first nowhere).addr - addr → Contains (places rs) (addr + len)
 next_in rs first addr len o p within is =
     let r = get_or rs first nowhere in
     let filled : 0 < r.len = o.filled first nowhere within in
@@ -256,7 +266,8 @@ below_all rs s o low =
     omega (arith, low, first, at.lies.0, (range_in s.addr s.len a i).1))
 
 -- and where it begins at the last range's end or above it
-pub above_all : (rs : List Segment) (s : Segment) → IsOrdered rs → (get_or rs (length rs - 1) nowhere).addr + (get_or rs (length rs - 1) nowhere).len ≤ s.addr → share (range_of s) (places rs) ≡ false
+pub above_all : (rs : List Segment) (s : Segment) → IsOrdered rs → (get_or rs (length rs - 1) nowhere).addr + (get_or rs (length rs - 1) nowhere).len ≤ s.addr
+    → share (range_of s) (places rs) ≡ false
 above_all rs s o high =
     share_none _ _ (λ a i j.
     let at = places_in rs nowhere a j in
@@ -350,11 +361,13 @@ sources_from src t h same =
 pub writes_ranges : (u : Descriptor) (s : Segment) (dst : List Segment) → SameAddresses dst u.dst → share (range_of s) (places dst) ≡ writes u s
 writes_ranges u s dst d = share_right (range_of s) (places dst) (destinations u) d
 
-pub touches_ranges : (u : Descriptor) (s : Segment) (src dst : List Segment) → HasSources src u → SameAddresses dst u.dst → (share (range_of s) (places dst) || share (range_of s) (places src)) ≡ touches u s
+pub touches_ranges : (u : Descriptor) (s : Segment) (src dst : List Segment) → HasSources src u → SameAddresses dst u.dst
+    → (share (range_of s) (places dst) || share (range_of s) (places src)) ≡ touches u s
 touches_ranges u s src dst h d =
     ap (λ b. b || share (range_of s) (places src)) (writes_ranges u s dst d) ∙ ap (λ b. writes u s || b) (share_right (range_of s) (places src) (sources u) h)
 
-pub is_free_of_ranges : (t u : Descriptor) (src dst : List Segment) → HasSources src u → SameAddresses dst u.dst → not (share (destinations t) (places dst) || (share (destinations t) (places src) || share (sources t) (places dst))) ≡ is_free_of t u
+pub is_free_of_ranges : (t u : Descriptor) (src dst : List Segment) → HasSources src u → SameAddresses dst u.dst
+    → not (share (destinations t) (places dst) || (share (destinations t) (places src) || share (sources t) (places dst))) ≡ is_free_of t u
 is_free_of_ranges t u src dst h d =
     let one = share_right (destinations t) (places dst) (destinations u) d in
     let two = share_right (destinations t) (places src) (sources u) h in

@@ -1,27 +1,22 @@
 -- Rows computed from the definitions: the limits, as numbers, and the code's own constants; fills; sets of addresses;
 -- pages.
-use Rattle.std.proofs.Common.{◌≡◌, ℕ, ◌+◌, ◌*◌, ◌/◌, ◌<◌, ◌≤◌, List, [], ◌∷◌, Option, Some, None, Bool, true, false, length, map, get_or, inl, inr, refl, sym, ap, subst, ◌∙◌, arith}
-use Rattle.std.specs.Prelude.{nat_eq}
-use Rattle.std.specs.List.{Contains, list_all, list_any, range_with_len}
-use Rattle.dma_mem.specs.declared.segment.Segment.{Segment}
+use Rattle.std.proofs.Common.{◌≡◌, ℕ, ◌+◌, ◌*◌, ◌/◌, ◌<◌, ◌≤◌, List, [], ◌∷◌, Option, Some, None, Bool, true, false, length, map, get_or, inl, inr, refl, sym}
+use Rattle.std.proofs.Common.{ap, subst, ◌∙◌, arith}
+use Rattle.std.specs.{Prelude.nat_eq, List.Contains, List.list_all, List.list_any, List.range_with_len}
 use Rattle.dma_mem.specs.declared.transfer.TransferFault.TheVariants.{TooManySegments, SegmentWraps, TooLong, SourceMeetsDestination, BadEvent}
-use Rattle.dma_mem.specs.declared.limits.TheConstants as code
-use Rattle.dma_mem.specs.Limits as limits
 use Rattle.dma_mem.specs.Pages.{Paged, AllMade, Keeps, MakesNoOther, has_page, is_made}
 use Rattle.dma_mem.specs.Places.{Descriptor, filling, moves, places, range_of, share, sources}
-use Rattle.dma_mem.specs.Ranges.{IsCoalesced, SameAddresses}
-use Rattle.dma_mem.specs.Flags.{all_clear}
-use Rattle.dma_mem.specs.Image.{is_size}
-use Rattle.dma_mem.specs.Refusals.{refusal_of}
-use Rattle.dma_mem.specs.Rules.{IsTransfer, IsSegmentList}
+use Rattle.dma_mem.specs.{declared.segment.Segment.Segment, Ranges.IsCoalesced, Ranges.SameAddresses, Flags.all_clear, Image.is_size, Refusals.refusal_of}
+use Rattle.dma_mem.specs.{Rules.IsTransfer, Rules.IsSegmentList}
 use Rattle.dma_mem.proofs.TransferRules.{copy_from_no_refusal, length_places, meets_any_places, once_places}
 use Rattle.dma_mem.proofs.PageImages.{is_made_from, is_made_parts, segment_made, segment_not_made}
 use Rattle.dma_mem.proofs.RangeSets.{coalesced_same, same_trans, spread_from}
 use Rattle.dma_mem.proofs.SharedPlaces.{in_range, range_in, share_false, share_none}
 use Rattle.std.proofs.lemmas.Bool.{cases_lt, eqb-true, false_from_ne_true, true≢false}
 use Rattle.std.proofs.lemmas.List.FromFn.{length-range_with_len, get_or-range_with_len}
-use Rattle.std.proofs.lemmas.List.Sums.{AllPass-from_list_all}
-use Rattle.std.proofs.lemmas.Map.Views.{Contains-from_any}
+use Rattle.std.proofs.{lemmas.List.Sums.AllPass-from_list_all, lemmas.Map.Views.Contains-from_any}
+use Rattle.dma_mem.specs.declared.limits.TheConstants as code
+use Rattle.dma_mem.specs.Limits as limits
 
 -- ---- the code's constants
 

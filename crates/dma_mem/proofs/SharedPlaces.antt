@@ -1,18 +1,14 @@
 -- The tests of `Places` as facts about addresses.
-use Rattle.std.proofs.Common.{◌≡◌, ℕ, ◌+◌, ◌-◌, ◌<◌, ◌≤◌, max, arith, ◌∷◌, ◌++◌, [], List, length, inl, inr, ◌⊎◌, get_or, true, false, Bool, refl, ap, sym, ◌∙◌, ◌||◌}
-use Rattle.std.specs.Prelude.{nat_eq, nat_lt, IsTrue, ◌↔◌}
-use Rattle.std.specs.List.{Contains, list_any, range_with_len}
+use Rattle.std.proofs.Common.{◌≡◌, ℕ, ◌+◌, ◌-◌, ◌<◌, ◌≤◌, max, arith, ◌∷◌, ◌++◌, [], List, length, inl, inr, ◌⊎◌, get_or, true, false, Bool, refl, ap, sym, ◌∙◌}
+use Rattle.std.proofs.Common.{◌||◌}
+use Rattle.std.specs.{Prelude.nat_eq, Prelude.nat_lt, Prelude.IsTrue, Prelude.◌↔◌, List.Contains, List.list_any, List.range_with_len}
 use Rattle.std.proofs.lemmas.Bool.{cases_lt, leb-true, lt-ltb, le-ltb, true≢false, or_parts, not-true, false_from_ne_true, eqb-true}
-use Rattle.std.proofs.lemmas.Cmp.{nat_eq_equiv}
-use Rattle.std.proofs.lemmas.List.FromFn.{length-range_with_len, get_or-range_with_len}
 use Rattle.std.proofs.lemmas.List.Folds.{list_any_at, list_any_none, list_any-append, Any-from_list_any}
-use Rattle.std.proofs.lemmas.Map.Views.{list_any-from_Contains, Contains-from_any}
-use Rattle.std.proofs.lemmas.List.Elements.{Contains-get_or}
-use Rattle.std.proofs.lemmas.List.Sums.{AllPass-from_list_all}
-use Rattle.dma_mem.specs.declared.segment.Segment.{Segment}
+use Rattle.std.proofs.{lemmas.Cmp.nat_eq_equiv, lemmas.List.FromFn.length-range_with_len, lemmas.List.FromFn.get_or-range_with_len}
+use Rattle.std.proofs.{lemmas.Map.Views.list_any-from_Contains, lemmas.Map.Views.Contains-from_any, lemmas.List.Elements.Contains-get_or}
+use Rattle.std.proofs.{lemmas.List.Sums.AllPass-from_list_all, lemmas.Bool.Decides.same_from_decides}
 use Rattle.dma_mem.specs.Places.{Apart, Descriptor, all_below, share, is_free_of, touches, writes, places, sources, destinations}
-use Rattle.dma_mem.specs.Meeting.{IsFree}
-use Rattle.std.proofs.lemmas.Bool.Decides.{same_from_decides}
+use Rattle.dma_mem.specs.{declared.segment.Segment.Segment, Meeting.IsFree}
 
 pub share_false : (xs ys : List ℕ) → share xs ys ≡ false → Apart xs ys
 unfolding share
@@ -24,7 +20,8 @@ share_false xs ys h = λ a (i : Contains xs a) (j : Contains ys a).
 pub share_none : (xs ys : List ℕ) → Apart xs ys → share xs ys ≡ false
 unfolding share
 share_none xs ys h =
-    list_any_none (λ b. list_any (nat_eq b) ys) xs (λ k d l. false_from_ne_true _ (λ e. h (get_or xs k d) (Contains-get_or xs k d l) (Contains-from_any eqb-true (get_or xs k d) ys e)))
+    list_any_none (λ b. list_any (nat_eq b) ys) xs
+    (λ k d l. false_from_ne_true _ (λ e. h (get_or xs k d) (Contains-get_or xs k d l) (Contains-from_any eqb-true (get_or xs k d) ys e)))
 
 pub is_free_of_true : (t u : Descriptor) → is_free_of t u ≡ true → IsFree t u
 is_free_of_true t u h =
@@ -39,7 +36,16 @@ is_free_of_true t u h =
 
 -- an answer that is the test's is true exactly where the transfer is free of the other
 pub is_free_of_iff : (t u : Descriptor) (r : Bool) → r ≡ is_free_of t u → IsTrue r ↔ IsFree t u
-is_free_of_iff t u r e = (λ h. is_free_of_true t u (sym e ∙ h), λ f. e ∙ rw (share_none (destinations t) (destinations u) f.writes_none, share_none (destinations t) (sources u) f.writes_no_source, share_none (sources t) (destinations u) f.reads_none) refl)
+is_free_of_iff t u r e = (
+  λ h. is_free_of_true t u (sym e ∙ h),
+  λ f. e
+      ∙ rw (
+        share_none (destinations t) (destinations u) f.writes_none,
+        share_none (destinations t) (sources u) f.writes_no_source,
+        share_none (sources t)
+            (destinations u) f.reads_none,
+      ) refl,
+)
 
 -- the transfer writes one of these addresses; it writes or reads one
 abbrev pub Writes : Descriptor → List ℕ → Type 0
@@ -51,7 +57,10 @@ Touches t range = (a : ℕ) × Contains range a × (Contains (destinations t) a 
 pub touches_false : (t : Descriptor) (s : Segment) → touches t s ≡ false → ¬ Touches t (range_with_len s.addr s.len)
 touches_false t s h = λ (a, i, j).
     let parts = or_parts _ _ h in
-    elim j [ inl d ↦ share_false (range_with_len s.addr s.len) (destinations t) parts.0 a i d | inr r ↦ share_false (range_with_len s.addr s.len) (sources t) parts.1 a i r ]
+    elim j [
+      | inl d ↦ share_false (range_with_len s.addr s.len) (destinations t) parts.0 a i d
+      | inr r ↦ share_false (range_with_len s.addr s.len) (sources t) parts.1 a i r
+    ]
 
 pub writes_false : (t : Descriptor) (s : Segment) → writes t s ≡ false → ¬ Writes t (range_with_len s.addr s.len)
 writes_false t s h = λ (a, i, j). share_false (range_with_len s.addr s.len) (destinations t) h a i j
@@ -79,7 +88,8 @@ share_sym xs ys =
 
 pub share_right : (xs ys zs : List ℕ) → ((a : ℕ) → Contains ys a ↔ Contains zs a) → share xs ys ≡ share xs zs
 share_right xs ys zs h =
-    same_bool _ _ (λ e. let w = shared_by xs ys e in share_true xs zs w.0 w.1 ((h w.0).0 w.2)) (λ e. let w = shared_by xs zs e in share_true xs ys w.0 w.1 ((h w.0).1 w.2))
+    same_bool _ _ (λ e. let w = shared_by xs ys e in share_true xs zs w.0 w.1 ((h w.0).0 w.2))
+    (λ e. let w = shared_by xs zs e in share_true xs ys w.0 w.1 ((h w.0).1 w.2))
 
 -- two ranges of addresses
 pub in_range : (a n x : ℕ) → a ≤ x → x < a + n → Contains (range_with_len a n) x
@@ -134,5 +144,6 @@ share_each (s ∷ rest) ys =
     ap (λ b. share (range_with_len s.addr s.len) ys || b) (share_each rest ys) ∙ sym (share_append_left (range_with_len s.addr s.len) (places rest) ys)
 
 -- each segment of a list that lies below a size ends there at most
-pub ends_below : (list : List Segment) (size i : ℕ) (d : Segment) → all_below list size ≡ true → i < length list → (get_or list i d).addr + (get_or list i d).len ≤ size
+pub ends_below : (list : List Segment) (size i : ℕ) (d : Segment) → all_below list size ≡ true → i < length list
+    → (get_or list i d).addr + (get_or list i d).len ≤ size
 ends_below list size i d h l = leb-true _ size (AllPass-from_list_all _ list h i d l)

@@ -55,7 +55,8 @@ taken_stops goes_on (suc most) =
     ]
 
 -- a number with these three properties is the number of steps that are taken
-pub taken_is : (goes_on : ℕ → Bool) (most n : ℕ) → n ≤ most → ((k : ℕ) → k < n → goes_on k ≡ true) → (n ≡ most) ⊎ (goes_on n ≡ false) → taken_in goes_on most ≡ n
+pub taken_is : (goes_on : ℕ → Bool) (most n : ℕ) → n ≤ most → ((k : ℕ) → k < n → goes_on k ≡ true) → (n ≡ most) ⊎ (goes_on n ≡ false)
+    → taken_in goes_on most ≡ n
 taken_is goes_on most n few on stops =
     let most_few = taken_few goes_on most in
     elim (cases_lt (taken_in goes_on most) n) [
@@ -82,7 +83,8 @@ pub taken_rest : (goes_on : ℕ → Bool) (most k : ℕ) → k ≤ taken_in goes
 taken_rest goes_on most k within =
     let few = taken_few goes_on most in
     let rest : taken_in (λ (j : ℕ). goes_on (k + j)) (most - k) ≡ taken_in goes_on most - k =
-    taken_is (λ (j : ℕ). goes_on (k + j)) (most - k) (taken_in goes_on most - k) (omega arith) (λ j less. taken_on goes_on most (k + j) (omega arith)) (elim (taken_stops goes_on most) [
+    taken_is (λ (j : ℕ). goes_on (k + j)) (most - k) (taken_in goes_on most - k) (omega arith) (λ j less. taken_on goes_on most (k + j) (omega arith))
+    (elim (taken_stops goes_on most) [
       | inl all ↦ inl (omega arith)
       | inr stop ↦
           let here : k + (taken_in goes_on most - k) ≡ taken_in goes_on most = omega arith in

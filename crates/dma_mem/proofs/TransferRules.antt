@@ -1,24 +1,19 @@
 -- Two lists and two events that no rule refuses make a transfer.
-use Rattle.std.proofs.Common.{◌≡◌, ◌≢◌, ℕ, ◌+◌, ◌<◌, ◌≤◌, List, [], ◌∷◌, ◌++◌, length, Option, Some, None, Bool, true, false, ◌||◌, ◌&&◌, nat_lt, refl, zero, suc, ap, sym, ◌∙◌, arith, inl, inr, IfSome, get_or}
+use Rattle.std.proofs.Common.{◌≡◌, ◌≢◌, ℕ, ◌+◌, ◌<◌, ◌≤◌, List, [], ◌∷◌, ◌++◌, length, Option, Some, None, Bool, true, false, ◌||◌, ◌&&◌, nat_lt, refl, zero}
+use Rattle.std.proofs.Common.{suc, ap, sym, ◌∙◌, arith, inl, inr, IfSome, get_or}
 use Rattle.std.specs.Prelude.{◌==◌, ◌↔◌, All, AllPairs, not, if◌then◌else◌}
-use Rattle.std.specs.Bool.{then_some}
-use Rattle.std.specs.List.{Contains, list_any, range_with_len, flat_map, slice_get}
+use Rattle.std.specs.{Bool.then_some, List.Contains, List.list_any, List.range_with_len, List.flat_map, List.slice_get}
 use Rattle.std.proofs.lemmas.Bool.{true≢false, or_parts, not-false, ltb-false, false_from_ne_true, eqb-true, cases_lt, lt-ltb, le-ltb}
-use Rattle.std.proofs.lemmas.List.{length-append}
-use Rattle.std.proofs.lemmas.List.Elements.{All-weaker, All-head, Contains-get_or, Contains-append_cases, Contains-append_left, All-append, Contains-append_right}
-use Rattle.std.proofs.lemmas.List.Sums.{sum_by-cons}
-use Rattle.std.proofs.lemmas.Bool.Decides.{nat_tests}
-use Rattle.std.proofs.lemmas.List.FromFn.{length-range_with_len, get_or-range_with_len}
-use Rattle.std.proofs.lemmas.List.Folds.{list_any_at}
-use Rattle.std.proofs.lemmas.Option.{slice_get_past}
-use Rattle.dma_mem.specs.declared.segment.Segment.{Segment}
-use Rattle.dma_mem.specs.declared.transfer.TransferFault.{TransferFault}
+use Rattle.std.proofs.lemmas.List.Elements.{All-weaker, All-head, Contains-get_or, Contains-append_cases, Contains-append_left, All-append}
+use Rattle.std.proofs.lemmas.List.Elements.{Contains-append_right}
+use Rattle.std.proofs.{lemmas.List.length-append, lemmas.List.Sums.sum_by-cons, lemmas.Bool.Decides.nat_tests, lemmas.List.FromFn.length-range_with_len}
+use Rattle.std.proofs.{lemmas.List.FromFn.get_or-range_with_len, lemmas.List.Folds.list_any_at, lemmas.Option.slice_get_past, lemmas.List.Kept.AllPairs-cons}
 use Rattle.dma_mem.specs.Places.{Apart, Descriptor, filling, places, sources, destinations, size_of, share, touches, is_free_of}
-use Rattle.dma_mem.specs.Meeting.{meets}
 use Rattle.dma_mem.specs.Rules.{IsTransfer, IsSegmentList, HasOneByte}
-use Rattle.dma_mem.specs.Refusals.{refusal_of, cause, total, some_meet, meets_any, is_bad_event, is_empty_list, has_too_many, has_empty_segment, has_wrapping_segment}
+use Rattle.dma_mem.specs.Refusals.{refusal_of, cause, total, some_meet, meets_any, is_bad_event, is_empty_list, has_too_many, has_empty_segment}
+use Rattle.dma_mem.specs.Refusals.{has_wrapping_segment}
+use Rattle.dma_mem.specs.{declared.segment.Segment.Segment, declared.transfer.TransferFault.TransferFault, Meeting.meets}
 use Rattle.dma_mem.proofs.SharedPlaces.{share_false, share_places, share_sym, share_right, share_each}
-use Rattle.std.proofs.lemmas.List.Kept.{AllPairs-cons}
 
 -- ---- lists of segments
 
@@ -29,17 +24,26 @@ All_from_none p xs h = λ k d l. false_from_ne_true _ (λ e. true≢false (sym (
 pub length_places : (list : List Segment) → length (places list) ≡ total list
 length_places [] = refl
 length_places (s ∷ rest) =
-    omega (arith, length-append (range_with_len s.addr s.len) (places rest), length-range_with_len s.addr s.len, length_places rest, sum_by-cons (λ (t : Segment). t.len) s rest)
+    omega (
+      arith,
+      length-append (range_with_len s.addr s.len) (places rest),
+      length-range_with_len s.addr s.len,
+      length_places rest,
+      sum_by-cons
+          (λ (t : Segment). t.len) s rest,
+    )
 
 -- segments of two lists meet where a place is in both
 pub meets_any_places : (list others : List Segment) → meets_any list others ≡ share (places list) (places others)
 meets_any_places list others = simp share_places (share_each list (places others))
 
-pub AllPairs_append : {X : Type 0} (R : X → X → Type 0) (xs ys : List X) → AllPairs R xs → AllPairs R ys → ((x y : X) → Contains xs x → Contains ys y → R x y) → AllPairs R (xs ++ ys)
+pub AllPairs_append : {X : Type 0} (R : X → X → Type 0) (xs ys : List X) → AllPairs R xs → AllPairs R ys → ((x y : X) → Contains xs x → Contains ys y → R x y)
+    → AllPairs R (xs ++ ys)
 AllPairs_append R [] ys p q cross = q
 AllPairs_append R (x ∷ xs) ys p q cross =
     AllPairs-cons R x (xs ++ ys)
-    (All-append (R x) xs ys (λ k d l. p 0 (suc k) d (omega arith) (omega arith)) (λ k d l. cross x (get_or ys k d) (0, omega arith, refl) (Contains-get_or ys k d l)))
+    (All-append (R x) xs ys (λ k d l. p 0 (suc k) d (omega arith) (omega arith))
+    (λ k d l. cross x (get_or ys k d) (0, omega arith, refl) (Contains-get_or ys k d l)))
     (AllPairs_append R xs ys (λ i j d l m. p (suc i) (suc j) d (omega arith) (omega arith)) q (λ y z i j. cross y z (Contains-append_right (x ∷ []) xs y i) j))
 
 once_range : (a n : ℕ) → AllPairs (λ x y. x ≢ y) (range_with_len a n)
@@ -64,12 +68,15 @@ once_places (s ∷ rest) h =
 nonempty : (n : ℕ) → (n == 0) ≡ false → 0 < n
 nonempty n h = grind (arith, nat_tests)
 
-is_segment_list : (list : List Segment) → is_empty_list list ≡ false → has_too_many list ≡ false → has_empty_segment list ≡ false → has_wrapping_segment list ≡ false → IsSegmentList list
+is_segment_list : (list : List Segment) → is_empty_list list ≡ false → has_too_many list ≡ false → has_empty_segment list ≡ false
+    → has_wrapping_segment list ≡ false → IsSegmentList list
 is_segment_list list empty many none wraps = record {
   some = nonempty (length list) empty;
   few = ltb-false 64 (length list) many;
-  filled = All-weaker (λ (s : Segment). (s.len == 0) ≡ false) (λ s. 0 < s.len) (λ s h. nonempty s.len h) list (All_from_none (λ (s : Segment). s.len == 0) list none);
-  within = All-weaker (λ (s : Segment). nat_lt 4294967296 (s.addr + s.len) ≡ false) (λ s. s.addr + s.len ≤ 4294967296) (λ s h. ltb-false 4294967296 (s.addr + s.len) h) list (All_from_none (λ (s : Segment). nat_lt 4294967296 (s.addr + s.len)) list wraps);
+  filled = All-weaker (λ (s : Segment). (s.len == 0) ≡ false) (λ s. 0 < s.len) (λ s h. nonempty s.len h) list
+      (All_from_none (λ (s : Segment). s.len == 0) list none);
+  within = All-weaker (λ (s : Segment). nat_lt 4294967296 (s.addr + s.len) ≡ false) (λ s. s.addr + s.len ≤ 4294967296)
+      (λ s h. ltb-false 4294967296 (s.addr + s.len) h) list (All_from_none (λ (s : Segment). nat_lt 4294967296 (s.addr + s.len)) list wraps);
 }
 
 good_event : (event : Option ℕ) → is_bad_event event ≡ false → IfSome event (λ e. e ≤ 31)
@@ -95,7 +102,9 @@ again_length : (a : ℕ) (ds : List ℕ) → length (flat_map (λ (d : ℕ). a �
 again_length a [] = refl
 again_length a (d ∷ ds) = ap suc (again_length a ds)
 
-as_many_by : (fill : Bool) (src dst : List Segment) → (fill ≡ true → (a : ℕ) × (src ≡ record { addr = a; len = 1 } ∷ [])) → (not fill && not (total src == total dst)) ≡ false → length (if fill then flat_map (λ (d : ℕ). places src) (places dst) else places src) ≡ length (places dst)
+as_many_by : (fill : Bool) (src dst : List Segment) → (fill ≡ true → (a : ℕ) × (src ≡ record { addr = a; len = 1 } ∷ []))
+    → (not fill && not (total src == total dst)) ≡ false
+    → length (if fill then flat_map (λ (d : ℕ). places src) (places dst) else places src) ≡ length (places dst)
 as_many_by true src dst one h =
     let w = one refl in
     rw w.1 (again_length w.0 (places dst))
@@ -142,11 +151,14 @@ IsTransfer_from_no_refusal t one h =
     }
 
 -- the two kinds of transfers
-pub copy_from_no_refusal : (src dst : List Segment) (wait signal : Option ℕ) → refusal_of (record { fill = false; src = src; dst = dst; wait = wait; signal = signal }) ≡ None → IsTransfer (record { fill = false; src = src; dst = dst; wait = wait; signal = signal })
+pub copy_from_no_refusal : (src dst : List Segment) (wait signal : Option ℕ)
+    → refusal_of (record { fill = false; src = src; dst = dst; wait = wait; signal = signal }) ≡ None
+    → IsTransfer (record { fill = false; src = src; dst = dst; wait = wait; signal = signal })
 copy_from_no_refusal src dst wait signal h =
     IsTransfer_from_no_refusal (record { fill = false; src = src; dst = dst; wait = wait; signal = signal }) (λ e. absurd (cc)) h
 
-pub fill_from_no_refusal : (src : ℕ) (dst : List Segment) (wait signal : Option ℕ) → refusal_of (filling src dst wait signal) ≡ None → IsTransfer (filling src dst wait signal)
+pub fill_from_no_refusal : (src : ℕ) (dst : List Segment) (wait signal : Option ℕ) → refusal_of (filling src dst wait signal) ≡ None
+    → IsTransfer (filling src dst wait signal)
 fill_from_no_refusal src dst wait signal h =
     IsTransfer_from_no_refusal (filling src dst wait signal) (λ e. (src, refl)) h
 
@@ -154,7 +166,13 @@ fill_from_no_refusal src dst wait signal h =
 pub places_some : (list : List Segment) → IsSegmentList list → 1 ≤ length (places list)
 places_some [] h = omega (arith, h.some)
 places_some (s ∷ rest) h =
-    omega (arith, All-head (λ (t : Segment). 0 < t.len) s rest h.filled, length-append (range_with_len s.addr s.len) (places rest), length-range_with_len s.addr s.len)
+    omega (
+      arith,
+      All-head (λ (t : Segment). 0 < t.len) s rest h.filled,
+      length-append (range_with_len s.addr s.len) (places rest),
+      length-range_with_len s.addr
+          s.len,
+    )
 
 pub size_of_some : (t : Descriptor) → IsTransfer t → 1 ≤ size_of t
 size_of_some t h = places_some t.dst h.destination_list
@@ -178,11 +196,13 @@ share_sources zs t h = share_right zs (sources t) (places t.src) (λ a. ((same_s
 pub sources_share : (t : Descriptor) (zs : List ℕ) → IsTransfer t → share (sources t) zs ≡ share (places t.src) zs
 sources_share t zs h = share_sym (sources t) zs ∙ share_sources zs t h ∙ share_sym zs (places t.src)
 
-pub touches_lists : (t : Descriptor) (s : Segment) → IsTransfer t → touches t s ≡ (share (range_with_len s.addr s.len) (destinations t) || list_any (meets s) t.src)
+pub touches_lists : (t : Descriptor) (s : Segment) → IsTransfer t
+    → touches t s ≡ (share (range_with_len s.addr s.len) (destinations t) || list_any (meets s) t.src)
 touches_lists t s h =
     ap (λ b. share (range_with_len s.addr s.len) (destinations t) || b) (share_sources (range_with_len s.addr s.len) t h ∙ sym (share_places _ t.src))
 
-pub is_free_of_lists : (t u : Descriptor) → IsTransfer t → IsTransfer u → is_free_of t u ≡ not (meets_any t.dst u.dst || (meets_any t.dst u.src || meets_any t.src u.dst))
+pub is_free_of_lists : (t u : Descriptor) → IsTransfer t → IsTransfer u
+    → is_free_of t u ≡ not (meets_any t.dst u.dst || (meets_any t.dst u.src || meets_any t.src u.dst))
 is_free_of_lists t u h i =
     let theirs : share (destinations t) (sources u) ≡ share (destinations t) (places u.src) = share_sources (destinations t) u i in
     let own : share (sources t) (destinations u) ≡ share (places t.src) (destinations u) = sources_share t (destinations u) h in
@@ -203,12 +223,15 @@ place_below a p ds =
           ∙ sym (slice_get_past (flat_map (λ (d : ℕ). a ∷ []) ds) p (omega (arith, past, again_length a ds)))
     ]
 
-place_of_fill_by : (fill : Bool) (src : List Segment) (ds : List ℕ) (s : Segment) (p : ℕ) → fill ≡ true → src ≡ s ∷ [] → (a : ℕ) × (src ≡ record { addr = a; len = 1 } ∷ []) → then_some (nat_lt p (length ds)) s.addr ≡ slice_get (if fill then flat_map (λ (d : ℕ). places src) ds else places src) p
+place_of_fill_by : (fill : Bool) (src : List Segment) (ds : List ℕ) (s : Segment) (p : ℕ) → fill ≡ true → src ≡ s ∷ [] → (a : ℕ)
+    × (src ≡ record { addr = a; len = 1 } ∷ [])
+    → then_some (nat_lt p (length ds)) s.addr ≡ slice_get (if fill then flat_map (λ (d : ℕ). places src) ds else places src) p
 place_of_fill_by true src ds s p e is w =
     let same : s.addr ≡ w.0 = ap (λ (list : List Segment). (get_or list 0 s).addr) (sym is ∙ w.1) in
     rw w.1 (ap (λ (a : ℕ). then_some (nat_lt p (length ds)) a) same ∙ place_below w.0 p ds)
 place_of_fill_by false src ds s p e is w = absurd (true≢false (sym e))
 
 -- a fill reads its one place at every position
-pub place_of_fill : (t : Descriptor) (s : Segment) (p : ℕ) → IsTransfer t → t.fill ≡ true → t.src ≡ s ∷ [] → then_some (nat_lt p (size_of t)) s.addr ≡ slice_get (sources t) p
+pub place_of_fill : (t : Descriptor) (s : Segment) (p : ℕ) → IsTransfer t → t.fill ≡ true → t.src ≡ s ∷ []
+    → then_some (nat_lt p (size_of t)) s.addr ≡ slice_get (sources t) p
 place_of_fill t s p h e is = place_of_fill_by t.fill t.src (destinations t) s p e is (h.one_byte e)

@@ -1,12 +1,9 @@
 -- A memory in which each page is made: each address below its size is ready.
 use Rattle.std.proofs.Common.{◌≡◌, ℕ, ◌+◌, ◌/◌, ◌<◌, ◌≤◌, List, length, get_or, true, false, refl, arith, sym, ◌∙◌, inl, inr}
-use Rattle.std.specs.List.{range_with_len, list_all}
-use Rattle.std.proofs.lemmas.Bool.{lt-ltb, cases_lt, le-leb}
-use Rattle.std.proofs.lemmas.List.{get_or-replicate}
+use Rattle.std.specs.{List.range_with_len, List.list_all, Prelude.nat_le}
+use Rattle.std.proofs.{lemmas.Bool.lt-ltb, lemmas.Bool.cases_lt, lemmas.Bool.le-leb, lemmas.List.get_or-replicate}
 use Rattle.dma_mem.specs.Pages.{AllMade, has_page, is_made, whole, all_made}
-use Rattle.dma_mem.proofs.SharedPlaces.{range_in}
-use Rattle.std.specs.Prelude.{nat_le}
-use Rattle.dma_mem.proofs.PageImages.{segment_made, not_made_tested}
+use Rattle.dma_mem.proofs.{SharedPlaces.range_in, PageImages.segment_made, PageImages.not_made_tested}
 
 page_of : (size a : ℕ) → a < size → get_or (all_made size) (a / 4096) false ≡ true
 unfolding all_made

@@ -1,7 +1,5 @@
 -- Event flags.
-use Rattle.std.specs.Prelude.{ℕ, Bool, false, nat_eq, List, map, replicate}
-use Rattle.std.specs.List.{range_with_len}
-use Rattle.std.specs.Int.{bit_at}
+use Rattle.std.specs.{Prelude.ℕ, Prelude.Bool, Prelude.false, Prelude.nat_eq, Prelude.List, Prelude.map, Prelude.replicate, List.range_with_len, Int.bit_at}
 
 -- The flags of the events 0 to 31, all clear (PL330 manual, DMASEV and DMAWFE: 32 events).
 unfoldable pub all_clear : List Bool

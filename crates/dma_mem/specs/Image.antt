@@ -1,9 +1,7 @@
 -- Images of a memory, and copies laid over them.
 use Rattle.std.specs.Prelude.{ℕ, Bool, ◌&&◌, List, length, map, slice_index, unwrap_or, nat_eq, nat_le}
-use Rattle.std.specs.List.{flat_map, range_with_len, zip}
-use Rattle.std.specs.Map.{lookup}
-use Rattle.dma_mem.specs.Limits.{largest_size}
-use Rattle.dma_mem.specs.Places.{Descriptor, moves}
+use Rattle.std.specs.{List.flat_map, List.range_with_len, List.zip, Map.lookup}
+use Rattle.dma_mem.specs.{Limits.largest_size, Places.Descriptor, Places.moves}
 
 -- An image is a list with one byte for each address below its length, the size of the memory.
 

@@ -1,10 +1,8 @@
 -- Memory that a caller lends: the loans through which it is reached, and the addresses at which it has no bytes.
 use Rattle.std.specs.Prelude.{◌≡◌, ℕ, ◌+◌, ◌≤◌, ◌<◌, Bool, false, List, [], ◌∷◌, ◌++◌, map}
 use Rattle.std.specs.List.{flat_map, list_any}
-use Rattle.dma_mem.specs.declared.segment.Segment.{Segment}
-use Rattle.dma_mem.specs.declared.marks.MarkKind.{MarkKind}
-use Rattle.dma_mem.specs.declared.marks.MarkKind.TheVariants.{Reading, Writing}
-use Rattle.dma_mem.specs.Marking.{MarkList, lies_in}
+use Rattle.dma_mem.specs.{declared.segment.Segment.Segment, declared.marks.MarkKind.MarkKind, declared.marks.MarkKind.TheVariants.Reading}
+use Rattle.dma_mem.specs.{declared.marks.MarkKind.TheVariants.Writing, Marking.MarkList, Marking.lies_in}
 
 -- What no call changes of a memory: the names of the loans through which it is reached, if it is lent, its gaps, which
 -- are the segments below its size in which it has no bytes, and the segments that are read-only.

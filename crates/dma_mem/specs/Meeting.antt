@@ -1,10 +1,7 @@
 -- Segments that meet: two of them, one and a mark, two transfers.
-use Rattle.std.specs.Prelude.{ℕ, Bool, ◌&&◌}
-use Rattle.std.specs.List.{range_with_len, Contains, list_any}
-use Rattle.dma_mem.specs.declared.segment.Segment.{Segment}
-use Rattle.dma_mem.specs.declared.marks.MarkKind.{MarkKind}
+use Rattle.std.specs.{Prelude.ℕ, Prelude.Bool, Prelude.◌&&◌, List.range_with_len, List.Contains, List.list_any}
 use Rattle.dma_mem.specs.Places.{Descriptor, Apart, share, sources, destinations}
-use Rattle.dma_mem.specs.Marking.{MarkList, same_kind}
+use Rattle.dma_mem.specs.{declared.segment.Segment.Segment, declared.marks.MarkKind.MarkKind, Marking.MarkList, Marking.same_kind}
 
 -- Two segments meet if they share an address; an empty segment meets nothing.
 abbrev pub Meets : Segment → Segment → Type 0

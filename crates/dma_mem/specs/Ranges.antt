@@ -1,8 +1,6 @@
 -- Sets of addresses as ranges.
-use Rattle.std.specs.Prelude.{ℕ, ◌+◌, ◌<◌, ◌↔◌, List, All, AllPairs}
-use Rattle.std.specs.List.{Contains}
-use Rattle.dma_mem.specs.declared.segment.Segment.{Segment}
-use Rattle.dma_mem.specs.Places.{Descriptor, places, sources}
+use Rattle.std.specs.{Prelude.ℕ, Prelude.◌+◌, Prelude.◌<◌, Prelude.◌↔◌, Prelude.List, Prelude.All, Prelude.AllPairs, List.Contains}
+use Rattle.dma_mem.specs.{declared.segment.Segment.Segment, Places.Descriptor, Places.places, Places.sources}
 
 -- The two lists of segments have the same addresses.
 abbrev pub SameAddresses : List Segment → List Segment → Type 0

@@ -1,12 +1,10 @@
 -- The refusals of two lists of segments and two events, in their order: one for each rule of a transfer.
 use Rattle.std.specs.Prelude.{◌+◌, ℕ, List, [], ◌∷◌, length, Option, Some, None, Bool, false, ◌||◌, ◌&&◌, not, ◌==◌, nat_lt, if◌then◌else◌, sum_by}
 use Rattle.std.specs.List.{list_any}
-use Rattle.dma_mem.specs.declared.segment.Segment.{Segment}
-use Rattle.dma_mem.specs.declared.transfer.TransferFault.{TransferFault}
-use Rattle.dma_mem.specs.declared.transfer.TransferFault.TheVariants.{EmptyList, TooManySegments, EmptySegment, SegmentWraps, TotalsDiffer, TooLong, DestinationsMeet, SourceMeetsDestination, BadEvent}
-use Rattle.dma_mem.specs.Limits.{last_event, most_segments, most_transfer_bytes}
-use Rattle.dma_mem.specs.Places.{Descriptor, end_of_addresses}
-use Rattle.dma_mem.specs.Meeting.{meets}
+use Rattle.dma_mem.specs.declared.transfer.TransferFault.TheVariants.{EmptyList, TooManySegments, EmptySegment, SegmentWraps, TotalsDiffer, TooLong}
+use Rattle.dma_mem.specs.declared.transfer.TransferFault.TheVariants.{DestinationsMeet, SourceMeetsDestination, BadEvent}
+use Rattle.dma_mem.specs.{declared.segment.Segment.Segment, declared.transfer.TransferFault.TransferFault, Limits.last_event, Limits.most_segments}
+use Rattle.dma_mem.specs.{Limits.most_transfer_bytes, Places.Descriptor, Places.end_of_addresses, Meeting.meets}
 
 -- whether a test holds of the sources or of the destinations
 abbrev pub of_either_list : (List Segment → Bool) → Descriptor → Bool

@@ -1,7 +1,6 @@
 -- Memory that a caller lends in several regions.
 use Rattle.std.specs.Prelude.{ℕ, ◌+◌, ◌-◌, ◌==◌, Bool, true, ◌&&◌, nat_le, nat_lt, List, [], ◌∷◌, ◌++◌, length, drop, map, replicate, if◌then◌else◌}
-use Rattle.dma_mem.specs.declared.regions.Region.{Region}
-use Rattle.dma_mem.specs.declared.segment.Segment.{Segment}
+use Rattle.dma_mem.specs.{declared.regions.Region.Region, declared.segment.Segment.Segment}
 
 -- the largest end of a region: the end of the 32-bit addresses, 2 ^ 32
 abbrev pub largest_end : ℕ

@@ -1,8 +1,7 @@
 -- The rules of a transfer.
 use Rattle.std.specs.Prelude.{◌≡◌, ◌≢◌, ◌+◌, ◌<◌, ◌≤◌, ℕ, List, [], ◌∷◌, length, true, All, AllPairs, IfSome}
-use Rattle.dma_mem.specs.declared.segment.Segment.{Segment}
-use Rattle.dma_mem.specs.Limits.{last_event, most_segments, most_transfer_bytes}
 use Rattle.dma_mem.specs.Places.{Descriptor, Apart, end_of_addresses, sources, destinations, size_of}
+use Rattle.dma_mem.specs.{declared.segment.Segment.Segment, Limits.last_event, Limits.most_segments, Limits.most_transfer_bytes}
 
 -- A list has 1 to 64 segments, none of them empty, and none ends above 2 ^ 32.
 pub record IsSegmentList (list : List Segment) : Type 0 where

@@ -1,6 +1,6 @@
 //! A memory of bytes.
 
-ghost use Rattle.std.specs.Prelude.{◌≡◌, ◌≢◌, ℕ, ◌+◌, ◌%◌, ◌/◌, ◌<◌, ◌≤◌, ◌⊎◌, ◌++◌, length, take, drop, replicate, slice_get, nat_lt, true, false, if◌then◌else◌, IsTrue, IfOk, IfErr, IfSome, IsSome, OnOk, OnErr};
+ghost use Rattle.std.specs.Prelude.{◌≡◌, ◌≢◌, ℕ, ◌+◌, ◌%◌, ◌/◌, ◌<◌, ◌≤◌, ◌⊎◌, length, take, drop, replicate, slice_get, nat_lt, true, false, if◌then◌else◌, IsTrue, IfOk, IfErr, IfSome, IsSome, OnOk, OnErr};
 ghost use Rattle.std.specs.List.{list_all, range_with_len};
 ghost use Rattle.dma_mem.specs.Places.{range_of, places, all_below};
 ghost use Rattle.dma_mem.specs.Limits.{largest_size};
@@ -240,17 +240,15 @@ impl Memory {
         block
     }
 
-    /// Writes the bytes of `front` and then those of `back` from `addr` on. Their pages are already made.
+    /// Writes the bytes from `addr` on. Their pages are already made.
     #[inline(always)]
-    pub fn write_parts(&mut self, addr: u32, front: &[u8], back: &[u8])
-        requires within { addr + length front.now + length back.now ≤ length self.old.image }
-        requires made { AllMade self.old
-            (range_with_len addr (length front.now + length back.now)) }
-        ensures image { self.new.image
-            ≡ put self.old.image (bytes_at addr (front.now ++ back.now)) }
+    pub fn put(&mut self, addr: u32, bytes: &[u8])
+        requires within { addr + length bytes.now ≤ length self.old.image }
+        requires made { AllMade self.old (range_with_len addr (length bytes.now)) }
+        ensures image { self.new.image ≡ put self.old.image (bytes_at addr bytes.now) }
         ensures made { self.new.made ≡ self.old.made }
     {
-        self.table.put_parts(addr as usize, front, back);
+        self.table.put(addr as usize, bytes);
     }
 
     /// Copies `len` bytes from `from` to `to`. The pages of the destination are already made, and the two ranges share
@@ -303,7 +301,7 @@ impl Memory {
         let Ok(()) = self.prepare(Segment { addr, len }) else {
             return Err(MemFault::NoMemory);
         };
-        self.write_parts(addr, bytes, &[]);
+        self.put(addr, bytes);
         Ok(())
     }
 

@@ -1,6 +1,6 @@
 //! The memory that a channel's bursts read and write, as a trait, and the trait for bytes that a caller lends.
 
-ghost use Rattle.std.specs.Prelude.{◌≡◌, ℕ, ◌+◌, ◌^◌, ◌≤◌, ◌<◌, ◌⊎◌, ◌++◌, [], ◌∷◌, length, take, drop, replicate, nat_lt, true, IfOk, IfErr, OnOk, OnErr, IsTrue};
+ghost use Rattle.std.specs.Prelude.{◌≡◌, ℕ, ◌+◌, ◌^◌, ◌≤◌, ◌<◌, ◌⊎◌, [], ◌∷◌, length, take, drop, replicate, nat_lt, true, IfOk, IfErr, OnOk, OnErr, IsTrue};
 ghost use Rattle.std.specs.List.{list_all, range_with_len};
 ghost use Rattle.dma_mem.specs.Places.{range_of};
 ghost use Rattle.dma_mem.specs.Limits.{largest_size};
@@ -12,7 +12,7 @@ use crate::marks::MarkKind;
 use crate::memory::{MemFault, Memory};
 use crate::segment::Segment;
 use crate::table::blocks::{copy_bytes_apart, fill_bytes};
-use crate::table::put_parts;
+use crate::table::put_bytes;
 
 /// A memory that bursts read and write. It has a byte at each address below its size that isn't in a gap. Only the
 /// pages that are made can be written, and no burst writes what is read-only.
@@ -67,15 +67,13 @@ pub trait Ram {
             → paged self.new ≡ paged self.old }
         ensures loan { loan self.new ≡ loan self.old };
 
-    /// Writes the bytes of `front` and then those of `back` from `addr` on. Their pages are already made.
-    fn write_parts(&mut self, addr: u32, front: &[u8], back: &[u8])
-        requires within { addr + length front.now + length back.now
-            ≤ length (paged self.old).image }
-        requires made { AllMade (paged self.old)
-            (range_with_len addr (length front.now + length back.now)) }
-        requires gaps { Avoids (loan self.old).gaps addr (length front.now + length back.now) }
+    /// Writes the bytes from `addr` on. Their pages are already made.
+    fn put(&mut self, addr: u32, bytes: &[u8])
+        requires within { addr + length bytes.now ≤ length (paged self.old).image }
+        requires made { AllMade (paged self.old) (range_with_len addr (length bytes.now)) }
+        requires gaps { Avoids (loan self.old).gaps addr (length bytes.now) }
         ensures image { (paged self.new).image
-            ≡ put (paged self.old).image (bytes_at addr (front.now ++ back.now)) }
+            ≡ put (paged self.old).image (bytes_at addr bytes.now) }
         ensures made { (paged self.new).made ≡ (paged self.old).made }
         ensures loan { loan self.new ≡ loan self.old };
 
@@ -137,8 +135,8 @@ impl Ram for Memory {
     }
 
     #[inline(always)]
-    fn write_parts(&mut self, addr: u32, front: &[u8], back: &[u8]) {
-        Memory::write_parts(self, addr, front, back);
+    fn put(&mut self, addr: u32, bytes: &[u8]) {
+        Memory::put(self, addr, bytes);
     }
 
     #[inline(always)]
@@ -212,8 +210,8 @@ impl Ram for LentRam<'_> {
     }
 
     #[inline(always)]
-    fn write_parts(&mut self, addr: u32, front: &[u8], back: &[u8]) {
-        put_parts(self.bytes, addr as usize, front, back);
+    fn put(&mut self, addr: u32, bytes: &[u8]) {
+        put_bytes(self.bytes, addr as usize, bytes);
     }
 
     fn copy_apart(&mut self, from: u32, to: u32, len: u32) {

@@ -3,7 +3,7 @@
 mod copies;
 mod search;
 
-ghost use Rattle.std.specs.Prelude.{◌≡◌, ◌+◌, ◌-◌, ◌<◌, ◌≤◌, ◌⊎◌, ◌++◌, ◌∷◌, [], ◌&&◌, ◌||◌, nat_lt, length, take, drop, replicate, IsTrue, slice_index, vec_capacity};
+ghost use Rattle.std.specs.Prelude.{◌≡◌, ◌+◌, ◌-◌, ◌<◌, ◌≤◌, ◌⊎◌, ◌∷◌, [], ◌&&◌, ◌||◌, nat_lt, length, take, drop, replicate, IsTrue, slice_index, vec_capacity};
 ghost use Rattle.dma_mem.specs.Regions.{in_order, pieces_of, piece_of, end_of, has, image_of, largest_end, run_from};
 ghost use Rattle.dma_mem.specs.inner.Rewritten.{bars, Holds, Writable, Rewritten, rest_from};
 
@@ -14,7 +14,7 @@ use crate::regions::copies::copy;
 use crate::regions::search::{clear_of, place, region_with_range, size_of};
 use crate::segment::Segment;
 use crate::table::blocks::fill_bytes;
-use crate::table::put_parts;
+use crate::table::put_bytes;
 
 // The largest end of a region: the end of the 32-bit addresses.
 const LARGEST_END: u64 = 1 << 32;
@@ -148,16 +148,16 @@ fn gather(regions: &[Region<'_>], addr: u32, block: &mut [u8])
     }
 }
 
-// Writes the bytes of `front` and then those of `back` to the region at an index.
-fn put_in_region(regions: &mut [Region<'_>], index: usize, addr: u32, front: &[u8], back: &[u8])
+// Writes bytes to the region at an index, from `addr` on.
+fn put_in_region(regions: &mut [Region<'_>], index: usize, addr: u32, bytes: &[u8])
     requires order { IsTrue (in_order (pieces_of regions.old)) }
     requires index { index < length regions.old }
-    requires holds { Holds (pieces_of regions.old) index addr (length front.now + length back.now) }
-    ensures { Rewritten regions.old regions.new addr (front.now ++ back.now) }
+    requires holds { Holds (pieces_of regions.old) index addr (length bytes.now) }
+    ensures { Rewritten regions.old regions.new addr bytes.now }
 {
     let region = &mut regions[index];
     let start = (addr - region.addr) as usize;
-    put_parts(region.bytes, start, front, back);
+    put_bytes(region.bytes, start, bytes);
 }
 
 // Writes a byte.
@@ -166,7 +166,7 @@ fn put_byte(regions: &mut [Region<'_>], addr: u32, byte: u8)
     ensures { Rewritten regions.old regions.new addr (byte ∷ []) }
 {
     let index = place(regions, addr);
-    put_in_region(regions, index, addr, &[byte], &[]);
+    put_in_region(regions, index, addr, &[byte]);
 }
 
 // Writes bytes from `addr` on, one at a time.
@@ -179,19 +179,16 @@ fn put_by_bytes(regions: &mut [Region<'_>], addr: u32, bytes: &[u8])
     }
 }
 
-// Writes the bytes of `front` and then those of `back` from `addr` on.
-pub(crate) fn write(regions: &mut [Region<'_>], addr: u32, front: &[u8], back: &[u8])
-    requires { Writable regions.old addr (length front.now + length back.now) }
-    ensures { Rewritten regions.old regions.new addr (front.now ++ back.now) }
+// Writes bytes from `addr` on.
+pub(crate) fn write(regions: &mut [Region<'_>], addr: u32, bytes: &[u8])
+    requires { Writable regions.old addr (length bytes.now) }
+    ensures { Rewritten regions.old regions.new addr bytes.now }
 {
-    let index = region_with_range(regions, addr, front.len() + back.len());
+    let index = region_with_range(regions, addr, bytes.len());
     if index < regions.len() {
-        put_in_region(regions, index, addr, front, back);
+        put_in_region(regions, index, addr, bytes);
     } else {
-        put_by_bytes(regions, addr, front);
-        if !back.is_empty() {
-            put_by_bytes(regions, addr + front.len() as u32, back);
-        }
+        put_by_bytes(regions, addr, bytes);
     }
 }
 
@@ -313,8 +310,8 @@ impl Ram for LentRegions<'_, '_> {
         Ok(())
     }
 
-    fn write_parts(&mut self, addr: u32, front: &[u8], back: &[u8]) {
-        write(self.regions, addr, front, back);
+    fn put(&mut self, addr: u32, bytes: &[u8]) {
+        write(self.regions, addr, bytes);
     }
 
     #[inline(always)]

@@ -1,6 +1,6 @@
 //! A table of chunks, by number. A chunk is four pages in one piece, and is made when one of them is first made.
 
-ghost use Rattle.std.specs.Prelude.{◌≡◌, ◌≢◌, ℕ, ◌+◌, ◌*◌, ◌/◌, ◌%◌, ◌<◌, ◌≤◌, ◌++◌, [], length, take, slice_index, slice_index_or, vec_capacity, IsTrue, IfOk, OnOk, OnErr};
+ghost use Rattle.std.specs.Prelude.{◌≡◌, ◌≢◌, ℕ, ◌+◌, ◌*◌, ◌/◌, ◌%◌, ◌<◌, ◌≤◌, [], length, take, slice_index, slice_index_or, vec_capacity, IsTrue, IfOk, OnOk, OnErr};
 ghost use Rattle.dma_mem.specs.Image.{put, bytes_at};
 ghost use Rattle.dma_mem.specs.inner.ChunkTable.{bytes_shown, chunk_size, group_size, chunk_at, is_blank, PutsInChunk, OthersStay, SameBytes};
 
@@ -26,20 +26,6 @@ pub(crate) fn put_bytes(all: &mut [u8], start: usize, bytes: &[u8])
     ensures { all.new ≡ put all.old (bytes_at start bytes.now) }
 {
     all[start..start + bytes.len()].copy_from_slice(bytes);
-}
-
-// Writes the bytes of `front` and then those of `back` from index `start` on.
-#[inline(always)]
-#[tactic(auto, using(crate::proofs::BytesPut::put_parts))]
-pub(crate) fn put_parts(all: &mut [u8], start: usize, front: &[u8], back: &[u8])
-    requires { start + length front.now + length back.now ≤ length all.old }
-    ensures { all.new ≡ put all.old (bytes_at start (front.now ++ back.now)) }
-{
-    put_bytes(all, start, front);
-    // `back` is mostly empty, and a copy of no bytes would still be a call.
-    if !back.is_empty() {
-        put_bytes(all, start + front.len(), back);
-    }
 }
 
 // Returns whether the list of a chunk has memory but no bytes.
@@ -130,17 +116,17 @@ impl Chunk {
         Ok(())
     }
 
-    // Writes the bytes of `front` and then those of `back` from an offset on. The chunk is already made.
+    // Writes the bytes from an offset on. The chunk is already made.
     #[inline(always)]
-    fn put(&mut self, offset: usize, front: &[u8], back: &[u8])
-        requires fits { offset + length front.now + length back.now ≤ chunk_size }
+    fn put(&mut self, offset: usize, bytes: &[u8])
+        requires fits { offset + length bytes.now ≤ chunk_size }
         requires made { 0 < length self.old }
         ensures whole { length self.new ≡ chunk_size }
         ensures len { length self.new ≡ length self.old }
-        ensures bytes { self.new ≡ put self.old (bytes_at offset (front.now ++ back.now)) }
+        ensures bytes { self.new ≡ put self.old (bytes_at offset bytes.now) }
     {
         add_zeros(&mut self.bytes);
-        put_parts(&mut self.bytes, offset, front, back);
+        put_bytes(&mut self.bytes, offset, bytes);
     }
 
     // Returns a copy of the chunk.
@@ -239,18 +225,18 @@ impl Group {
         chunk.make()
     }
 
-    // Writes the bytes of `front` and then those of `back` to a chunk that is already made, from an offset on.
+    // Writes the bytes to a chunk that is already made, from an offset on.
     #[inline(always)]
-    fn put(&mut self, index: usize, offset: usize, front: &[u8], back: &[u8])
-        requires fits { offset + length front.now + length back.now ≤ chunk_size }
+    fn put(&mut self, index: usize, offset: usize, bytes: &[u8])
+        requires fits { offset + length bytes.now ≤ chunk_size }
         requires made { 0 < length (chunk_at self.old index) }
         ensures len { length (chunk_at self.new index) ≡ length (chunk_at self.old index) }
-        ensures bytes { PutsInChunk (chunk_at self.old index) offset (front.now ++ back.now)
+        ensures bytes { PutsInChunk (chunk_at self.old index) offset bytes.now
             (chunk_at self.new index) }
         ensures others { OthersStay self.old self.new index }
     {
         let chunk = &mut self.chunks[index];
-        chunk.put(offset, front, back);
+        chunk.put(offset, bytes);
     }
 
     // Returns a copy of the group.
@@ -328,19 +314,19 @@ impl Table {
         group.make(number % GROUP_SIZE)
     }
 
-    // Writes the bytes of `front` and then those of `back` to a chunk that is already made, from an offset on.
+    // Writes the bytes to a chunk that is already made, from an offset on.
     #[inline(always)]
-    fn put_in_chunk(&mut self, number: usize, offset: usize, front: &[u8], back: &[u8])
-        requires fits { offset + length front.now + length back.now ≤ chunk_size }
+    fn put_in_chunk(&mut self, number: usize, offset: usize, bytes: &[u8])
+        requires fits { offset + length bytes.now ≤ chunk_size }
         requires made { 0 < length (chunk_at self.old number) }
         ensures count { length self.new ≡ length self.old }
         ensures len { length (chunk_at self.new number) ≡ length (chunk_at self.old number) }
-        ensures bytes { PutsInChunk (chunk_at self.old number) offset (front.now ++ back.now)
+        ensures bytes { PutsInChunk (chunk_at self.old number) offset bytes.now
             (chunk_at self.new number) }
         ensures others { OthersStay self.old self.new number }
     {
         let group = &mut self.groups[number / GROUP_SIZE];
-        group.put(number % GROUP_SIZE, offset, front, back);
+        group.put(number % GROUP_SIZE, offset, bytes);
     }
 
     /// Returns a copy of the table.

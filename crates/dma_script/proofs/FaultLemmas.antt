@@ -1,33 +1,30 @@
 -- Each reader reports the fault of the first faulty line of a whole script.
-use Rattle.std.proofs.Common.{◌≡◌, ℕ, ◌+◌, Bool, true, false, not, ◌&&◌, ◌||◌, nat_lt, if◌then◌else◌, List, [], ◌∷◌, ◌++◌, length, refl, ap, subst, arith, length-append, ◌∙◌, sym, Option, Some, None, Result, Ok, Err, is_some}
-use Rattle.std.specs.List.{list_all, list_any}
-use Rattle.std.specs.Option.{ok_or, option_map, option_or}
-use Rattle.std.specs.Str.Lines.{lines}
-use Rattle.dma_script.specs.Words.{words_of, is_plain}
-use Rattle.dma_script.specs.Lines.{◌>>=◌, after_line, after_lines, at_line, first_number, is_skipped}
-use Rattle.dma_script.specs.Plan.{transfer_line, plan_step, plan_of}
+use Rattle.std.proofs.Common.{◌≡◌, ℕ, ◌+◌, Bool, true, false, not, ◌&&◌, ◌||◌, nat_lt, if◌then◌else◌, List, [], ◌∷◌, ◌++◌, length, refl, ap, subst, arith}
+use Rattle.std.proofs.Common.{length-append, ◌∙◌, sym, Option, Some, None, Result, Ok, Err, is_some}
+use Rattle.std.specs.{List.list_all, List.list_any, Option.ok_or, Option.option_map, Option.option_or, Str.Lines.lines}
+use Rattle.dma_script.specs.Lines.{after_line, after_lines, at_line, first_number, is_skipped}
 use Rattle.dma_script.specs.Race.{RaceRead, where_holds, nothing_read, race_keyword_of, is_early, job_line, next_race_line, no_words, race_step, race_script_of}
 use Rattle.dma_script.specs.Statements.{keyword_of, first_line, later_line, next_line, run_step, run_script_of}
-use Rattle.dma_script.specs.Causes.{cause_reported, line_reported, run_asks, plan_asks, is_taken, first_fault, behind_after, no_line_fault, fault_reported, race_asks, RaceSide, side_of, race_command_of, is_go, after_command, race_after, at_start, no_go_fault, FirstFaultsAreReported}
-use Rattle.dma_script.specs.declared.fault.Cause.{Cause}
-use Rattle.dma_script.specs.declared.fault.Cause.TheVariants as causes
-use Rattle.dma_script.specs.declared.fault.Fault.{Fault}
-use Rattle.dma_script.specs.declared.transfer_line.PlanLine.{PlanLine}
-use Rattle.dma_script.specs.declared.transfer_line.TransferLine.{TransferLine}
-use Rattle.dma_script.specs.declared.statements.Keyword.{Keyword}
-use Rattle.dma_script.specs.declared.statements.RunScript.{RunScript}
-use Rattle.dma_script.specs.declared.statements.Statement.{Statement}
-use Rattle.dma_script.specs.declared.race.JobLine.{JobLine}
-use Rattle.dma_script.specs.declared.race.RaceKeyword.{RaceKeyword}
-use Rattle.dma_script.specs.declared.race.RaceKeyword.TheVariants as race_keywords
-use Rattle.dma_script.specs.declared.race.RaceScript.{RaceScript}
+use Rattle.dma_script.specs.Causes.{cause_reported, line_reported, run_asks, plan_asks, is_taken, first_fault, behind_after, no_line_fault, fault_reported}
+use Rattle.dma_script.specs.Causes.{race_asks, RaceSide, side_of, race_command_of, is_go, after_command, race_after, at_start, no_go_fault}
+use Rattle.dma_script.specs.Causes.{FirstFaultsAreReported}
+use Rattle.dma_script.specs.{Words.words_of, Words.is_plain, Plan.transfer_line, Plan.plan_step, Plan.plan_of, declared.fault.Cause.Cause}
+use Rattle.dma_script.specs.{declared.fault.Fault.Fault, declared.transfer_line.PlanLine.PlanLine, declared.transfer_line.TransferLine.TransferLine}
+use Rattle.dma_script.specs.{declared.statements.Keyword.Keyword, declared.statements.RunScript.RunScript, declared.statements.Statement.Statement}
+use Rattle.dma_script.specs.{declared.race.JobLine.JobLine, declared.race.RaceKeyword.RaceKeyword, declared.race.RaceScript.RaceScript}
+use Rattle.dma_text.specs.Results.{◌>>=◌}
 use Rattle.dma_script.proofs.CauseLemmas.{run_line, race_line, plan_line}
+use Rattle.dma_script.specs.declared.fault.Cause.TheVariants as causes
+use Rattle.dma_script.specs.declared.race.RaceKeyword.TheVariants as race_keywords
 
 -- one line, for which a fault is reported or not, and what follows it
-one_line : {S : Type 0} (n : ℕ) (r : Result S Cause) (f : S → Result S Fault) (test : Option Cause) (rest : Option Fault) → cause_reported r ≡ test → ((next : S) → r ≡ Ok next → fault_reported (f next) ≡ rest)
+one_line : {S : Type 0} (n : ℕ) (r : Result S Cause) (f : S → Result S Fault) (test : Option Cause) (rest : Option Fault) → cause_reported r ≡ test
+    → ((next : S) → r ≡ Ok next → fault_reported (f next) ≡ rest)
     → fault_reported (at_line n r >>= f) ≡ option_or (option_map (λ cause. let fault : Fault = record { line = n; cause = cause } in fault) test) rest
-one_line n (Ok next) f test rest same more = more next refl ∙ ap (λ t. option_or (option_map (λ cause. let fault : Fault = record { line = n; cause = cause } in fault) t) rest) same
-one_line n (Err cause) f test rest same more = ap (λ t. option_or (option_map (λ cause. let fault : Fault = record { line = n; cause = cause } in fault) t) rest) same
+one_line n (Ok next) f test rest same more = more next refl
+    ∙ ap (λ t. option_or (option_map (λ cause. let fault : Fault = record { line = n; cause = cause } in fault) t) rest) same
+one_line n (Err cause) f test rest same more =
+    ap (λ t. option_or (option_map (λ cause. let fault : Fault = record { line = n; cause = cause } in fault) t) rest) same
 
 -- The fault of some lines, for any reader whose report on a line depends on the position in the script.
 lines_reported : {S K : Type 0} (step : S → List (List ℕ) → Result S Cause) (side : S → K) (test : K → List ℕ → Option Cause) (after : K → List ℕ → K)
@@ -36,7 +33,8 @@ lines_reported : {S K : Type 0} (step : S → List (List ℕ) → Result S Cause
     → (n : ℕ) (read : S) (rest : List (List ℕ)) → fault_reported (after_lines step n read rest) ≡ first_fault test after (side read) n rest
 lines_reported step side test after reports goes n read [] = refl
 lines_reported step side test after reports goes n read (line ∷ rest) =
-    one_line (n + 1) (after_line step read line) (λ next. after_lines step (n + 1) next rest) (test (side read) line) (first_fault test after (after (side read) line) (n + 1) rest) (reports read line)
+    one_line (n + 1) (after_line step read line) (λ next. after_lines step (n + 1) next rest) (test (side read) line)
+    (first_fault test after (after (side read) line) (n + 1) rest) (reports read line)
     (λ next is. lines_reported step side test after reports goes (n + 1) next rest ∙ ap (λ k. first_fault test after k (n + 1) rest) (goes read line next is))
 
 or_false : (b : Bool) → b ≡ (b || false)
@@ -59,10 +57,12 @@ some_made : {A B : Type 0} (r : Result A Cause) (f : A → B) (next : Option B) 
 some_made (Ok a) f next is = let same : Some (f a) ≡ next = cc in ap (λ r. is_some r) (sym same)
 some_made (Err cause) f next is = absurd (let bad : Err cause ≡ Ok next = is in cc)
 
-run_next : (read : Option RunScript) (found : Option Keyword) (words : List (List ℕ)) (next : Option RunScript) → (ok_or found causes.Command >>= (λ keyword. next_line read keyword words)) ≡ Ok next → is_some next ≡ true
+run_next : (read : Option RunScript) (found : Option Keyword) (words : List (List ℕ)) (next : Option RunScript)
+    → (ok_or found causes.Command >>= (λ keyword. next_line read keyword words)) ≡ Ok next → is_some next ≡ true
 run_next read None words next is = absurd (let bad : Err causes.Command ≡ Ok next = is in cc)
 run_next None (Some keyword) words next is = some_made (first_line keyword words) (λ script. script) next is
-run_next (Some script) (Some keyword) words next is = some_made (later_line keyword words) (λ statement. record script { statements = script.statements ++ statement ∷ [] }) next is
+run_next (Some script) (Some keyword) words next is =
+    some_made (later_line keyword words) (λ statement. record script { statements = script.statements ++ statement ∷ [] }) next is
 
 run_some : (read : Option RunScript) (words : List (List ℕ)) (next : Option RunScript) → run_step read words ≡ Ok next → is_some next ≡ true
 run_some read [] next is = absurd (let bad : Err causes.Command ≡ Ok next = is in cc)
@@ -78,7 +78,8 @@ reached after side [] = side
 reached after side (line ∷ rest) = reached after (after side line) rest
 
 -- One line that is read, and then those that follow.
-one_read : {S P : Type 0} (n : ℕ) (r : Result S Cause) (f : S → Result S Fault) (final : S) → (at_line n r >>= f) ≡ Ok final → ((next : S) → r ≡ Ok next → f next ≡ Ok final → P) → P
+one_read : {S P : Type 0} (n : ℕ) (r : Result S Cause) (f : S → Result S Fault) (final : S) → (at_line n r >>= f) ≡ Ok final
+    → ((next : S) → r ≡ Ok next → f next ≡ Ok final → P) → P
 one_read n (Ok next) f final is then_ = then_ next refl is
 one_read n (Err cause) f final is then_ = absurd (let fault : Fault = record { line = n; cause = cause } in let bad : Err fault ≡ Ok final = is in cc)
 
@@ -103,28 +104,45 @@ behind_all behind [] = or_false behind
 behind_all behind (line ∷ rest) = behind_all (behind || is_taken line) rest ∙ or_assoc behind (is_taken line) (list_any is_taken rest)
 
 -- The fault reported for a whole script, for whose lines a fault is reported or not.
-whole_reported : {A B : Type 0} (r : Result (Option A) Fault) (end : Option A → Result B Fault) (fault : Fault) (of_lines : Option Fault) (some : Bool) → fault_reported (end None) ≡ Some fault → ((a : A) → fault_reported (end (Some a)) ≡ None)
-    → fault_reported r ≡ of_lines → ((final : Option A) → r ≡ Ok final → is_some final ≡ some) → fault_reported (r >>= end) ≡ option_or of_lines (if some then None else Some fault)
-whole_reported (Ok None) end fault of_lines some none_reported some_reported same final = let e : false ≡ some = final None refl in rw (← same, ← e) none_reported
-whole_reported (Ok (Some a)) end fault of_lines some none_reported some_reported same final = let e : true ≡ some = final (Some a) refl in rw (← same, ← e) (some_reported a)
+whole_reported : {A B : Type 0} (r : Result (Option A) Fault) (end : Option A → Result B Fault) (fault : Fault) (of_lines : Option Fault) (some : Bool)
+    → fault_reported (end None) ≡ Some fault → ((a : A) → fault_reported (end (Some a)) ≡ None)
+    → fault_reported r ≡ of_lines → ((final : Option A) → r ≡ Ok final → is_some final ≡ some)
+    → fault_reported (r >>= end) ≡ option_or of_lines (if some then None else Some fault)
+whole_reported (Ok None) end fault of_lines some none_reported some_reported same final = let e : false ≡ some = final None refl in
+    rw (← same, ← e) none_reported
+whole_reported (Ok (Some a)) end fault of_lines some none_reported some_reported same final = let e : true ≡ some = final (Some a) refl in
+    rw (← same, ← e) (some_reported a)
 whole_reported (Err other) end fault of_lines some none_reported some_reported same final = ap (λ t. option_or t (if some then None else Some fault)) same
 
-run_goes : (read : Option RunScript) (line : List ℕ) (next : Option RunScript) → after_line run_step read line ≡ Ok next → is_some next ≡ behind_after (is_some read) line
-run_goes read line next is = goes_behind (is_skipped (words_of line)) (list_all is_plain line) read next (run_step read (words_of line)) (run_some read (words_of line) next) is
+run_goes : (read : Option RunScript) (line : List ℕ) (next : Option RunScript) → after_line run_step read line ≡ Ok next
+    → is_some next ≡ behind_after (is_some read) line
+run_goes read line next is =
+    goes_behind (is_skipped (words_of line)) (list_all is_plain line) read next (run_step read (words_of line)) (run_some read (words_of line) next) is
 
-plan_goes : (read : Option TransferLine) (line : List ℕ) (next : Option TransferLine) → after_line plan_step read line ≡ Ok next → is_some next ≡ behind_after (is_some read) line
-plan_goes read line next is = goes_behind (is_skipped (words_of line)) (list_all is_plain line) read next (plan_step read (words_of line)) (plan_some read (words_of line) next) is
+plan_goes : (read : Option TransferLine) (line : List ℕ) (next : Option TransferLine) → after_line plan_step read line ≡ Ok next
+    → is_some next ≡ behind_after (is_some read) line
+plan_goes read line next is =
+    goes_behind (is_skipped (words_of line)) (list_all is_plain line) read next (plan_step read (words_of line)) (plan_some read (words_of line) next) is
 
-run_faults : (input : List ℕ) → fault_reported (run_script_of input) ≡ option_or (first_fault (λ behind line. line_reported (run_asks behind) line) behind_after false 0 (lines input)) (no_line_fault input)
+run_faults : (input : List ℕ)
+    → fault_reported (run_script_of input) ≡ option_or (first_fault (λ behind line. line_reported (run_asks behind) line) behind_after false 0 (lines input))
+    (no_line_fault input)
 run_faults input =
-    whole_reported (after_lines run_step 0 None (lines input)) (λ script. ok_or script (record { line = 0; cause = causes.First })) (record { line = 0; cause = causes.First }) _ (list_any is_taken (lines input)) refl (λ a. refl)
+    whole_reported (after_lines run_step 0 None (lines input)) (λ script. ok_or script (record { line = 0; cause = causes.First }))
+    (record { line = 0; cause = causes.First }) _ (list_any is_taken (lines input)) refl (λ a. refl)
     (lines_reported run_step (λ read. is_some read) (λ behind line. line_reported (run_asks behind) line) behind_after run_line run_goes 0 None (lines input))
     (λ final is. lines_reach run_step (λ read. is_some read) behind_after run_goes 0 None (lines input) final is ∙ behind_all false (lines input))
 
-plan_faults : (input : List ℕ) → fault_reported (plan_of input) ≡ option_or (first_fault (λ behind line. line_reported (plan_asks behind) line) behind_after false 0 (lines input)) (no_line_fault input)
+plan_faults : (input : List ℕ)
+    → fault_reported (plan_of input) ≡ option_or (first_fault (λ behind line. line_reported (plan_asks behind) line) behind_after false 0 (lines input))
+    (no_line_fault input)
 plan_faults input =
-    whole_reported (after_lines plan_step 0 None (lines input)) (λ read. ok_or read (record { line = 0; cause = causes.First }) >>= (λ line. let plan : PlanLine = record { line = first_number input; transfer = line } in Ok plan)) (record { line = 0; cause = causes.First }) _ (list_any is_taken (lines input)) refl (λ a. refl)
-    (lines_reported plan_step (λ read. is_some read) (λ behind line. line_reported (plan_asks behind) line) behind_after plan_line plan_goes 0 None (lines input))
+    whole_reported (after_lines plan_step 0 None (lines input))
+    (λ read. ok_or read (record { line = 0; cause = causes.First }) >>=
+    (λ line. let plan : PlanLine = record { line = first_number input; transfer = line } in Ok plan)) (record { line = 0; cause = causes.First }) _
+    (list_any is_taken (lines input)) refl (λ a. refl)
+    (lines_reported plan_step (λ read. is_some read) (λ behind line. line_reported (plan_asks behind) line) behind_after plan_line plan_goes 0 None
+    (lines input))
     (λ final is. lines_reach plan_step (λ read. is_some read) behind_after plan_goes 0 None (lines input) final is ∙ behind_all false (lines input))
 
 -- ---- race scripts
@@ -137,45 +155,60 @@ IsSound read = is_some read.after ≡ true → is_some read.before ≡ true
 abbrev Moves : RaceRead → Option RaceKeyword → RaceRead → Type 0
 Moves read found next = (side_of next ≡ after_command (side_of read) found) × (IsSound read → IsSound next)
 
-early_made : (jobs : List JobLine) (before : Option RunScript) (keyword : Keyword) (early : Bool) (r : Result (Option RunScript) Cause) (next : RaceRead) → ((b : Option RunScript) → r ≡ Ok b → is_some b ≡ true)
-    → (if early then (r >>= (λ b. let read : RaceRead = record { before = b; jobs = jobs; after = None } in Ok read)) else Err causes.Command) ≡ Ok next → Moves (record { before = before; jobs = jobs; after = None }) (Some (race_keywords.Line keyword)) next
+early_made : (jobs : List JobLine) (before : Option RunScript) (keyword : Keyword) (early : Bool) (r : Result (Option RunScript) Cause) (next : RaceRead)
+    → ((b : Option RunScript) → r ≡ Ok b → is_some b ≡ true)
+    → (if early then (r >>= (λ b. let read : RaceRead = record { before = b; jobs = jobs; after = None } in Ok read)) else Err causes.Command) ≡ Ok next
+    → Moves (record { before = before; jobs = jobs; after = None }) (Some (race_keywords.Line keyword)) next
 early_made jobs before keyword true (Ok b) next some is =
     let made : RaceRead = record { before = b; jobs = jobs; after = None } in
     let same : made ≡ next = cc in
     let has : is_some b ≡ true = some b refl in
-    subst (λ n. Moves (record { before = before; jobs = jobs; after = None }) (Some (race_keywords.Line keyword)) n) same (ap (λ x. let side : RaceSide = record { behind = x || false; after_go = false; jobs = length jobs } in side) has, λ sound after. has)
+    subst (λ n. Moves (record { before = before; jobs = jobs; after = None }) (Some (race_keywords.Line keyword)) n) same
+    (ap (λ x. let side : RaceSide = record { behind = x || false; after_go = false; jobs = length jobs } in side) has, λ sound after. has)
 early_made jobs before keyword true (Err cause) next some is = absurd (let bad : Err cause ≡ Ok next = is in cc)
 early_made jobs before keyword false r next some is = absurd (let bad : Err causes.Command ≡ Ok next = is in cc)
 
 later_made : (jobs : List JobLine) (before : Option RunScript) (l : List Statement) (keyword : Keyword) (r : Result Statement Cause) (next : RaceRead)
-    → (r >>= (λ statement. let read : RaceRead = record { before = before; jobs = jobs; after = Some (l ++ statement ∷ []) } in Ok read)) ≡ Ok next → Moves (record { before = before; jobs = jobs; after = Some l }) (Some (race_keywords.Line keyword)) next
+    → (r >>= (λ statement. let read : RaceRead = record { before = before; jobs = jobs; after = Some (l ++ statement ∷ []) } in Ok read)) ≡ Ok next
+    → Moves (record { before = before; jobs = jobs; after = Some l }) (Some (race_keywords.Line keyword)) next
 later_made jobs before l keyword (Ok statement) next is =
     let made : RaceRead = record { before = before; jobs = jobs; after = Some (l ++ statement ∷ []) } in
     let same : made ≡ next = cc in
-    subst (λ n. Moves (record { before = before; jobs = jobs; after = Some l }) (Some (race_keywords.Line keyword)) n) same (ap (λ x. let side : RaceSide = record { behind = x; after_go = true; jobs = length jobs } in side) (sym (or_true (is_some before))), λ sound after. sound refl)
+    subst (λ n. Moves (record { before = before; jobs = jobs; after = Some l }) (Some (race_keywords.Line keyword)) n) same (
+      ap (λ x. let side : RaceSide = record { behind = x; after_go = true; jobs = length jobs } in side) (sym (or_true (is_some before))),
+      λ sound after.
+          sound refl,
+    )
 later_made jobs before l keyword (Err cause) next is = absurd (let bad : Err cause ≡ Ok next = is in cc)
 
 job_made : (jobs : List JobLine) (script : RunScript) (r : Result JobLine Cause) (few : Bool) (next : RaceRead)
-    → (r >>= (λ job. where_holds few causes.Range >>= (λ few. let read : RaceRead = record { before = Some script; jobs = jobs ++ job ∷ []; after = None } in Ok read))) ≡ Ok next → Moves (record { before = Some script; jobs = jobs; after = None }) (Some race_keywords.Job) next
+    → (r >>= (λ job. where_holds few causes.Range >>=
+    (λ few. let read : RaceRead = record { before = Some script; jobs = jobs ++ job ∷ []; after = None } in Ok read))) ≡ Ok next
+    → Moves (record { before = Some script; jobs = jobs; after = None }) (Some race_keywords.Job) next
 job_made jobs script (Ok job) true next is =
     let made : RaceRead = record { before = Some script; jobs = jobs ++ job ∷ []; after = None } in
     let same : made ≡ next = cc in
     let more : length (jobs ++ job ∷ []) ≡ length jobs + 1 = omega (arith, length-append jobs (job ∷ [])) in
-    subst (λ n. Moves (record { before = Some script; jobs = jobs; after = None }) (Some race_keywords.Job) n) same (ap (λ x. let side : RaceSide = record { behind = true; after_go = false; jobs = x } in side) more, λ sound after. refl)
+    subst (λ n. Moves (record { before = Some script; jobs = jobs; after = None }) (Some race_keywords.Job) n) same
+    (ap (λ x. let side : RaceSide = record { behind = true; after_go = false; jobs = x } in side) more, λ sound after. refl)
 job_made jobs script (Ok job) false next is = absurd (let bad : Err causes.Range ≡ Ok next = is in cc)
 job_made jobs script (Err cause) few next is = absurd (let bad : Err cause ≡ Ok next = is in cc)
 
 go_made : (jobs : List JobLine) (script : RunScript) (words : List (List ℕ)) (next : RaceRead)
-    → (no_words words >>= (λ bare. let read : RaceRead = record { before = Some script; jobs = jobs; after = Some [] } in Ok read)) ≡ Ok next → Moves (record { before = Some script; jobs = jobs; after = None }) (Some race_keywords.Go) next
+    → (no_words words >>= (λ bare. let read : RaceRead = record { before = Some script; jobs = jobs; after = Some [] } in Ok read)) ≡ Ok next
+    → Moves (record { before = Some script; jobs = jobs; after = None }) (Some race_keywords.Go) next
 go_made jobs script [] next is =
     let made : RaceRead = record { before = Some script; jobs = jobs; after = Some [] } in
     let same : made ≡ next = cc in
     subst (λ n. Moves (record { before = Some script; jobs = jobs; after = None }) (Some race_keywords.Go) n) same (refl, λ sound after. refl)
 go_made jobs script (word ∷ words) next is = absurd (let bad : Err causes.Words ≡ Ok next = is in cc)
 
-race_moves : (before : Option RunScript) (jobs : List JobLine) (after : Option (List Statement)) (found : Option RaceKeyword) (words : List (List ℕ)) (next : RaceRead)
-    → (ok_or found causes.Command >>= (λ keyword. next_race_line (record { before = before; jobs = jobs; after = after }) keyword words)) ≡ Ok next → Moves (record { before = before; jobs = jobs; after = after }) found next
-race_moves before jobs None (Some (race_keywords.Line keyword)) words next is = early_made jobs before keyword (is_early keyword) (next_line before keyword words) next (λ b. run_next before (Some keyword) words b) is
+race_moves : (before : Option RunScript) (jobs : List JobLine) (after : Option (List Statement)) (found : Option RaceKeyword) (words : List (List ℕ))
+    (next : RaceRead)
+    → (ok_or found causes.Command >>= (λ keyword. next_race_line (record { before = before; jobs = jobs; after = after }) keyword words)) ≡ Ok next
+    → Moves (record { before = before; jobs = jobs; after = after }) found next
+race_moves before jobs None (Some (race_keywords.Line keyword)) words next is =
+    early_made jobs before keyword (is_early keyword) (next_line before keyword words) next (λ b. run_next before (Some keyword) words b) is
 race_moves before jobs (Some l) (Some (race_keywords.Line keyword)) words next is = later_made jobs before l keyword (later_line keyword words) next is
 race_moves (Some script) jobs None (Some race_keywords.Job) words next is = job_made jobs script (job_line words) (nat_lt (length jobs) 16) next is
 race_moves (Some script) jobs None (Some race_keywords.Go) words next is = go_made jobs script words next is
@@ -185,27 +218,36 @@ race_stepped : (read : RaceRead) (words : List (List ℕ)) (next : RaceRead) →
 race_stepped read [] next is = absurd (let bad : Err causes.Command ≡ Ok next = is in cc)
 race_stepped read (word ∷ words) next is = race_moves read.before read.jobs read.after (race_keyword_of word) words next is
 
-race_lined : (skipped plain : Bool) (read next : RaceRead) (found : Option RaceKeyword) (stepped : Result RaceRead Cause) → (stepped ≡ Ok next → Moves read found next)
-    → (if skipped then Ok read else (if plain then stepped else Err causes.Byte)) ≡ Ok next → (side_of next ≡ (if not skipped then after_command (side_of read) found else side_of read)) × (IsSound read → IsSound next)
+race_lined : (skipped plain : Bool) (read next : RaceRead) (found : Option RaceKeyword) (stepped : Result RaceRead Cause)
+    → (stepped ≡ Ok next → Moves read found next)
+    → (if skipped then Ok read else (if plain then stepped else Err causes.Byte)) ≡ Ok next
+    → (side_of next ≡ (if not skipped then after_command (side_of read) found else side_of read)) × (IsSound read → IsSound next)
 race_lined true plain read next found stepped moves is = let same : read ≡ next = cc in (ap side_of (sym same), λ sound. subst IsSound same sound)
 race_lined false true read next found stepped moves is = moves is
 race_lined false false read next found stepped moves is = absurd (let bad : Err causes.Byte ≡ Ok next = is in cc)
 
-race_both : (read : RaceRead) (line : List ℕ) (next : RaceRead) → after_line race_step read line ≡ Ok next → (side_of next ≡ race_after (side_of read) line) × (IsSound read → IsSound next)
-race_both read line next is = race_lined (is_skipped (words_of line)) (list_all is_plain line) read next (race_command_of (words_of line)) (race_step read (words_of line)) (race_stepped read (words_of line) next) is
+race_both : (read : RaceRead) (line : List ℕ) (next : RaceRead) → after_line race_step read line ≡ Ok next → (side_of next ≡ race_after (side_of read) line)
+    × (IsSound read → IsSound next)
+race_both read line next is =
+    race_lined (is_skipped (words_of line)) (list_all is_plain line) read next (race_command_of (words_of line)) (race_step read (words_of line))
+    (race_stepped read (words_of line) next) is
 
 -- Lines keep what each line keeps.
-lines_keep : {S : Type 0} (step : S → List (List ℕ) → Result S Cause) (Keeps : S → Type 0) → ((read : S) (line : List ℕ) (next : S) → after_line step read line ≡ Ok next → Keeps read → Keeps next)
+lines_keep : {S : Type 0} (step : S → List (List ℕ) → Result S Cause) (Keeps : S → Type 0)
+    → ((read : S) (line : List ℕ) (next : S) → after_line step read line ≡ Ok next → Keeps read → Keeps next)
     → (n : ℕ) (read : S) (rest : List (List ℕ)) (final : S) → Keeps read → after_lines step n read rest ≡ Ok final → Keeps final
 lines_keep step Keeps keep n read [] final holds is = let same : read ≡ final = cc in subst Keeps same holds
 lines_keep step Keeps keep n read (line ∷ rest) final holds is =
-    one_read (n + 1) (after_line step read line) (λ next. after_lines step (n + 1) next rest) final is (λ next here more. lines_keep step Keeps keep (n + 1) next rest final (keep read line next here holds) more)
+    one_read (n + 1) (after_line step read line) (λ next. after_lines step (n + 1) next rest) final is
+    (λ next here more. lines_keep step Keeps keep (n + 1) next rest final (keep read line next here holds) more)
 
-one_behind : (side : RaceSide) (taken : Bool) (found : Option RaceKeyword) → (let next : RaceSide = if taken then after_command side found else side in next).behind ≡ (side.behind || taken)
+one_behind : (side : RaceSide) (taken : Bool) (found : Option RaceKeyword)
+    → (let next : RaceSide = if taken then after_command side found else side in next).behind ≡ (side.behind || taken)
 one_behind side true found = or_true side.behind
 one_behind side false found = or_false side.behind
 
-one_go : (side : RaceSide) (taken : Bool) (found : Option RaceKeyword) → (let next : RaceSide = if taken then after_command side found else side in next).after_go ≡ (side.after_go || (taken && is_go found))
+one_go : (side : RaceSide) (taken : Bool) (found : Option RaceKeyword)
+    → (let next : RaceSide = if taken then after_command side found else side in next).after_go ≡ (side.after_go || (taken && is_go found))
 one_go side true found = refl
 one_go side false found = or_false side.after_go
 
@@ -213,7 +255,8 @@ race_behind : (side : RaceSide) (rest : List (List ℕ)) → (reached race_after
 unfolding reached
 race_behind side [] = or_false side.behind
 race_behind side (line ∷ rest) =
-    race_behind (race_after side line) rest ∙ ap (λ b. b || list_any is_taken rest) (one_behind side (is_taken line) (race_command_of (words_of line))) ∙ or_assoc side.behind (is_taken line) (list_any is_taken rest)
+    race_behind (race_after side line) rest ∙ ap (λ b. b || list_any is_taken rest) (one_behind side (is_taken line) (race_command_of (words_of line)))
+    ∙ or_assoc side.behind (is_taken line) (list_any is_taken rest)
 
 -- a line that is `go`
 abbrev go_line : List ℕ → Bool
@@ -223,7 +266,8 @@ race_gone : (side : RaceSide) (rest : List (List ℕ)) → (reached race_after s
 unfolding reached
 race_gone side [] = or_false side.after_go
 race_gone side (line ∷ rest) =
-    race_gone (race_after side line) rest ∙ ap (λ b. b || list_any go_line rest) (one_go side (is_taken line) (race_command_of (words_of line))) ∙ or_assoc side.after_go (go_line line) (list_any go_line rest)
+    race_gone (race_after side line) rest ∙ ap (λ b. b || list_any go_line rest) (one_go side (is_taken line) (race_command_of (words_of line)))
+    ∙ or_assoc side.after_go (go_line line) (list_any go_line rest)
 
 sound_behind : (x y : Bool) → (y ≡ true → x ≡ true) → x ≡ (x || y)
 sound_behind true y sound = refl
@@ -232,29 +276,44 @@ sound_behind false false sound = refl
 
 -- the end of a race script that was read
 race_end : (jobs : List JobLine) (before : Option RunScript) (after : Option (List Statement))
-    → fault_reported (ok_or before (record { line = 0; cause = causes.First }) >>= (λ before. ok_or after (record { line = 0; cause = causes.Go }) >>= (λ after. let script : RaceScript = record { before = before; jobs = jobs; after = after } in Ok script)))
-    ≡ option_or (if is_some before then None else Some (record { line = 0; cause = causes.First })) (if is_some after then None else Some (record { line = 0; cause = causes.Go }))
+    → fault_reported (ok_or before (record { line = 0; cause = causes.First }) >>=
+    (λ before. ok_or after (record { line = 0; cause = causes.Go }) >>=
+    (λ after. let script : RaceScript = record { before = before; jobs = jobs; after = after } in Ok script)))
+    ≡ option_or (if is_some before then None else Some (record { line = 0; cause = causes.First }))
+    (if is_some after then None else Some (record { line = 0; cause = causes.Go }))
 race_end jobs (Some script) None = refl
 race_end jobs _ _ = refl
 
-whole_race : (r : Result RaceRead Fault) (of_lines : Option Fault) (some go : Bool) → fault_reported r ≡ of_lines → ((final : RaceRead) → r ≡ Ok final → (is_some final.before ≡ some) × (is_some final.after ≡ go))
-    → fault_reported (r >>= (λ read. ok_or read.before (record { line = 0; cause = causes.First }) >>= (λ before. ok_or read.after (record { line = 0; cause = causes.Go }) >>= (λ after. let script : RaceScript = record { before = before; jobs = read.jobs; after = after } in Ok script))))
-    ≡ option_or of_lines (option_or (if some then None else Some (record { line = 0; cause = causes.First })) (if go then None else Some (record { line = 0; cause = causes.Go })))
+whole_race : (r : Result RaceRead Fault) (of_lines : Option Fault) (some go : Bool) → fault_reported r ≡ of_lines
+    → ((final : RaceRead) → r ≡ Ok final → (is_some final.before ≡ some) × (is_some final.after ≡ go))
+    → fault_reported (r >>= (λ read. ok_or read.before (record { line = 0; cause = causes.First }) >>=
+    (λ before. ok_or read.after (record { line = 0; cause = causes.Go }) >>=
+    (λ after. let script : RaceScript = record { before = before; jobs = read.jobs; after = after } in Ok script))))
+    ≡ option_or of_lines (option_or (if some then None else Some (record { line = 0; cause = causes.First }))
+    (if go then None else Some (record { line = 0; cause = causes.Go })))
 whole_race (Ok final) of_lines some go same ends =
     let e = ends final refl in
     let b : is_some final.before ≡ some = e.0 in
     let a : is_some final.after ≡ go = e.1 in
     rw (← same, ← b, ← a) (race_end final.jobs final.before final.after)
-whole_race (Err fault) of_lines some go same ends = ap (λ t. option_or t (option_or (if some then None else Some (record { line = 0; cause = causes.First })) (if go then None else Some (record { line = 0; cause = causes.Go })))) same
+whole_race (Err fault) of_lines some go same ends =
+    ap (λ t. option_or t (option_or (if some then None else Some (record { line = 0; cause = causes.First }))
+    (if go then None else Some (record { line = 0; cause = causes.Go })))) same
 
-race_faults : (input : List ℕ) → fault_reported (race_script_of input) ≡ option_or (first_fault (λ side line. line_reported (race_asks side) line) race_after at_start 0 (lines input)) (option_or (no_line_fault input) (no_go_fault input))
+race_faults : (input : List ℕ)
+    → fault_reported (race_script_of input) ≡ option_or (first_fault (λ side line. line_reported (race_asks side) line) race_after at_start 0 (lines input))
+    (option_or (no_line_fault input) (no_go_fault input))
 race_faults input =
     whole_race (after_lines race_step 0 nothing_read (lines input)) _ (list_any is_taken (lines input)) (list_any go_line (lines input))
-    (lines_reported race_step side_of (λ side line. line_reported (race_asks side) line) race_after race_line (λ read line next is. (race_both read line next is).0) 0 nothing_read (lines input))
+    (lines_reported race_step side_of (λ side line. line_reported (race_asks side) line) race_after race_line
+    (λ read line next is. (race_both read line next is).0) 0 nothing_read (lines input))
     (λ final is.
     let side = lines_reach race_step side_of race_after (λ read line next is. (race_both read line next is).0) 0 nothing_read (lines input) final is in
-    let sound = lines_keep race_step IsSound (λ read line next is. (race_both read line next is).1) 0 nothing_read (lines input) final (λ after. after) is in
-    (sound_behind (is_some final.before) (is_some final.after) sound ∙ ap (λ (s : RaceSide). s.behind) side ∙ race_behind at_start (lines input), ap (λ (s : RaceSide). s.after_go) side ∙ race_gone at_start (lines input)))
+    let sound = lines_keep race_step IsSound (λ read line next is. (race_both read line next is).1) 0 nothing_read (lines input) final (λ after. after) is in (
+      sound_behind (is_some final.before) (is_some final.after) sound ∙ ap (λ (s : RaceSide). s.behind) side
+          ∙ race_behind at_start (lines input),
+      ap (λ (s : RaceSide). s.after_go) side ∙ race_gone at_start (lines input),
+    ))
 
 -- For each kind of script, the fault of the first faulty line is reported.
 pub first_faults_are_reported : FirstFaultsAreReported

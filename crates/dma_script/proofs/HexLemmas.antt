@@ -1,15 +1,11 @@
 -- The bytes of hexadecimal words, pair by pair.
-use Rattle.std.proofs.Common.{◌≡◌, ℕ, ◌<◌, ◌≤◌, ◌+◌, ◌*◌, inl, inr, true, false, not, ◌==◌, eqb, if◌then◌else◌, List, [], ◌∷◌, ◌++◌, length, drop, filter, get_or, slice_index, refl, ap, ◌∙◌, sym, arith, append_assoc, append-nil, Option, Some, None, Result, Ok, Err}
-use Rattle.std.proofs.lemmas.Bool.{cases_Bool, eqb-true, false_from_ne_true, or_cases}
-use Rattle.std.proofs.lemmas.Bool.Decides.{nat_tests}
-use Rattle.std.specs.List.{onto_first, slice_split}
-use Rattle.std.specs.Option.{ok_or, option_map, option_and_then}
-use Rattle.dma_script.specs.Words.{bytes_in, hex_digit_of, hex_pair_of, is_blank, words_of}
-use Rattle.dma_script.specs.Lines.{◌>>=◌}
-use Rattle.dma_script.specs.Arguments.{bytes_at}
-use Rattle.dma_script.specs.inner.Digits.{bytes_after}
-use Rattle.dma_script.specs.declared.fault.Cause.{Cause}
-use Rattle.dma_script.specs.declared.fault.Cause.TheVariants.{Hex}
+use Rattle.std.proofs.Common.{◌≡◌, ℕ, ◌<◌, ◌≤◌, ◌+◌, ◌*◌, inl, inr, true, false, not, ◌==◌, eqb, if◌then◌else◌, List, [], ◌∷◌, ◌++◌, length, drop, filter}
+use Rattle.std.proofs.Common.{get_or, slice_index, refl, ap, ◌∙◌, sym, arith, append_assoc, append-nil, Option, Some, None, Result, Ok, Err}
+use Rattle.std.proofs.{lemmas.Bool.cases_Bool, lemmas.Bool.eqb-true, lemmas.Bool.false_from_ne_true, lemmas.Bool.or_cases, lemmas.Bool.Decides.nat_tests}
+use Rattle.std.specs.{List.onto_first, List.slice_split, Option.ok_or, Option.option_map, Option.option_and_then}
+use Rattle.dma_text.specs.{Lines.is_blank, Results.◌>>=◌}
+use Rattle.dma_script.specs.Words.{bytes_in, hex_digit_of, hex_pair_of, words_of}
+use Rattle.dma_script.specs.{Arguments.bytes_at, inner.Digits.bytes_after, declared.fault.Cause.Cause, declared.fault.Cause.TheVariants.Hex}
 
 -- bytes read before, and then those of a hexadecimal word; `Hex` for any other word
 abbrev hex_after : List ℕ → List ℕ → Result (List ℕ) Cause
@@ -25,11 +21,17 @@ pub some_word : (a : ℕ) (word : List ℕ) → (length (a ∷ word) == 0) ≡ f
 some_word a word = grind (arith, nat_tests)
 
 -- One more word.
-bytes_after_word : (before word : List ℕ) (words : List (List ℕ)) → bytes_after before (word ∷ words) ≡ (hex_after before word >>= (λ bytes. bytes_after bytes words))
-bytes_after_word before word words = elim (ok_or (bytes_in word) Hex) as (λ r. ((r >>= (λ front. bytes_at words >>= (λ rest. Ok (front ++ rest)))) >>= (λ more. Ok (before ++ more))) ≡ ((r >>= (λ more. Ok (before ++ more))) >>= (λ bytes. bytes_after bytes words))) [
-  | Err cause ↦ refl
-  | Ok front ↦ elim (bytes_at words) as (λ r. ((r >>= (λ rest. Ok (front ++ rest))) >>= (λ more. Ok (before ++ more))) ≡ (r >>= (λ more. Ok ((before ++ front) ++ more)))) [ Err cause ↦ refl | Ok rest ↦ ap Ok (sym (append_assoc before front rest)) ]
-]
+bytes_after_word : (before word : List ℕ) (words : List (List ℕ))
+    → bytes_after before (word ∷ words) ≡ (hex_after before word >>= (λ bytes. bytes_after bytes words))
+bytes_after_word before word words =
+    elim (ok_or (bytes_in word) Hex) as
+    (λ r. ((r >>= (λ front. bytes_at words >>= (λ rest. Ok (front ++ rest)))) >>= (λ more. Ok (before ++ more))) ≡
+    ((r >>= (λ more. Ok (before ++ more))) >>= (λ bytes. bytes_after bytes words))) [
+      | Err cause ↦ refl
+      | Ok front ↦ elim (bytes_at words) as
+          (λ r. ((r >>= (λ rest. Ok (front ++ rest))) >>= (λ more. Ok (before ++ more))) ≡ (r >>= (λ more. Ok ((before ++ front) ++ more))))
+          [ Err cause ↦ refl | Ok rest ↦ ap Ok (sym (append_assoc before front rest)) ]
+    ]
 
 -- No bytes before.
 pub bytes_after_none : (words : List (List ℕ)) → bytes_after [] words ≡ bytes_at words
@@ -37,25 +39,33 @@ bytes_after_none words = elim (bytes_at words) as (λ r. (r >>= (λ more. Ok ([]
 
 -- ---- a pair of digits
 
-joined : (before : List ℕ) (b : ℕ) (rest : Option (List ℕ)) → (ok_or (option_map (λ more. b ∷ more) rest) Hex >>= (λ more. Ok (before ++ more))) ≡ (ok_or rest Hex >>= (λ more. Ok ((before ++ b ∷ []) ++ more)))
+joined : (before : List ℕ) (b : ℕ) (rest : Option (List ℕ))
+    → (ok_or (option_map (λ more. b ∷ more) rest) Hex >>= (λ more. Ok (before ++ more))) ≡ (ok_or rest Hex >>= (λ more. Ok ((before ++ b ∷ []) ++ more)))
 joined before b None = refl
 joined before b (Some more) = ap Ok (sym (append_assoc before (b ∷ []) more))
 
-pair_in : (a b byte : ℕ) (before word : List ℕ) (high low : Option ℕ) → hex_digit_of a ≡ high → hex_digit_of b ≡ low → option_and_then (λ h. option_map (λ l. 16 * h + l) low) high ≡ Some byte → hex_after before (a ∷ b ∷ word) ≡ hex_after (before ++ byte ∷ []) word
+pair_in : (a b byte : ℕ) (before word : List ℕ) (high low : Option ℕ) → hex_digit_of a ≡ high → hex_digit_of b ≡ low
+    → option_and_then (λ h. option_map (λ l. 16 * h + l) low) high ≡ Some byte → hex_after before (a ∷ b ∷ word) ≡ hex_after (before ++ byte ∷ []) word
 pair_in a b byte before word None low x y is = absurd (let bad : None ≡ Some byte = is in cc)
 pair_in a b byte before word (Some h) None x y is = absurd (let bad : None ≡ Some byte = is in cc)
 pair_in a b byte before word (Some h) (Some l) x y is = let same : 16 * h + l ≡ byte = cc in rw (x, y, same) (joined before byte (bytes_in word))
 
 -- The first part after a pair, which may be empty.
-part_after : (before part : List ℕ) (parts : List (List ℕ)) → (hex_after before part >>= (λ bytes. bytes_after bytes (full parts))) ≡ bytes_after before (full (part ∷ parts))
+part_after : (before part : List ℕ) (parts : List (List ℕ))
+    → (hex_after before part >>= (λ bytes. bytes_after bytes (full parts))) ≡ bytes_after before (full (part ∷ parts))
 part_after before [] parts = ap (λ bytes. bytes_after bytes (full parts)) (append-nil before)
 part_after before (a ∷ part) parts = rw (some_word a part) (sym (bytes_after_word before (a ∷ part) (full parts)))
 
-pair_parts : (a b byte : ℕ) (before part : List ℕ) (parts : List (List ℕ)) → hex_pair_of a b ≡ Some byte → bytes_after before (full ((a ∷ b ∷ part) ∷ parts)) ≡ bytes_after (before ++ byte ∷ []) (full (part ∷ parts))
+pair_parts : (a b byte : ℕ) (before part : List ℕ) (parts : List (List ℕ)) → hex_pair_of a b ≡ Some byte
+    → bytes_after before (full ((a ∷ b ∷ part) ∷ parts)) ≡ bytes_after (before ++ byte ∷ []) (full (part ∷ parts))
 pair_parts a b byte before part parts is =
-    rw (some_word a (b ∷ part)) (bytes_after_word before (a ∷ b ∷ part) (full parts) ∙ ap (λ r. r >>= (λ bytes. bytes_after bytes (full parts))) (pair_in a b byte before part _ _ refl refl is) ∙ part_after (before ++ byte ∷ []) part parts)
+    rw (some_word a (b ∷ part))
+    (bytes_after_word before (a ∷ b ∷ part) (full parts)
+    ∙ ap (λ r. r >>= (λ bytes. bytes_after bytes (full parts))) (pair_in a b byte before part _ _ refl refl is)
+    ∙ part_after (before ++ byte ∷ []) part parts)
 
-parts_after : (a b byte : ℕ) (before : List ℕ) (parts : List (List ℕ)) → hex_pair_of a b ≡ Some byte → bytes_after before (full (onto_first a (onto_first b parts))) ≡ bytes_after (before ++ byte ∷ []) (full parts)
+parts_after : (a b byte : ℕ) (before : List ℕ) (parts : List (List ℕ)) → hex_pair_of a b ≡ Some byte
+    → bytes_after before (full (onto_first a (onto_first b parts))) ≡ bytes_after (before ++ byte ∷ []) (full parts)
 parts_after a b byte before [] is = pair_parts a b byte before [] [] is
 parts_after a b byte before (part ∷ parts) is = pair_parts a b byte before part parts is
 
@@ -69,13 +79,15 @@ blank_is_no_digit b blank = elim (or_cases (eqb b 32) (eqb b 9) blank) [
 digit_is_no_blank : (b digit : ℕ) → hex_digit_of b ≡ Some digit → is_blank b ≡ false
 digit_is_no_blank b digit is = false_from_ne_true (is_blank b) (λ blank. absurd (let bad : None ≡ Some digit = sym (blank_is_no_digit b blank) ∙ is in cc))
 
-no_blanks : (a b byte : ℕ) (high low : Option ℕ) → hex_digit_of a ≡ high → hex_digit_of b ≡ low → option_and_then (λ h. option_map (λ l. 16 * h + l) low) high ≡ Some byte → (is_blank a ≡ false) × (is_blank b ≡ false)
+no_blanks : (a b byte : ℕ) (high low : Option ℕ) → hex_digit_of a ≡ high → hex_digit_of b ≡ low
+    → option_and_then (λ h. option_map (λ l. 16 * h + l) low) high ≡ Some byte → (is_blank a ≡ false) × (is_blank b ≡ false)
 no_blanks a b byte None low x y is = absurd (let bad : None ≡ Some byte = is in cc)
 no_blanks a b byte (Some h) None x y is = absurd (let bad : None ≡ Some byte = is in cc)
 no_blanks a b byte (Some h) (Some l) x y is = (digit_is_no_blank a h x, digit_is_no_blank b l y)
 
 -- One more pair.
-pub bytes_after_pair : (before rest : List ℕ) (byte : ℕ) → 2 ≤ length rest → hex_pair_of (get_or rest 0 0) (get_or rest 1 0) ≡ Some byte → bytes_after (before ++ byte ∷ []) (words_of (drop 2 rest)) ≡ bytes_after before (words_of rest)
+pub bytes_after_pair : (before rest : List ℕ) (byte : ℕ) → 2 ≤ length rest → hex_pair_of (get_or rest 0 0) (get_or rest 1 0) ≡ Some byte
+    → bytes_after (before ++ byte ∷ []) (words_of (drop 2 rest)) ≡ bytes_after before (words_of rest)
 bytes_after_pair before [] byte two is = absurd (omega arith)
 bytes_after_pair before (a ∷ []) byte two is = absurd (omega arith)
 bytes_after_pair before (a ∷ b ∷ rest) byte two is =
@@ -84,20 +96,26 @@ bytes_after_pair before (a ∷ b ∷ rest) byte two is =
 
 -- ---- faults
 
-none_in : (a b : ℕ) (word : List ℕ) (high low : Option ℕ) → hex_digit_of a ≡ high → hex_digit_of b ≡ low → option_and_then (λ h. option_map (λ l. 16 * h + l) low) high ≡ None → bytes_in (a ∷ b ∷ word) ≡ None
+none_in : (a b : ℕ) (word : List ℕ) (high low : Option ℕ) → hex_digit_of a ≡ high → hex_digit_of b ≡ low
+    → option_and_then (λ h. option_map (λ l. 16 * h + l) low) high ≡ None → bytes_in (a ∷ b ∷ word) ≡ None
 none_in a b word None low x y is = rw x refl
 none_in a b word (Some h) None x y is = rw (x, y) refl
 none_in a b word (Some h) (Some l) x y is = absurd (let bad : Some (16 * h + l) ≡ None = is in cc)
 
 no_part : (a b : ℕ) (before part : List ℕ) (parts : List (List ℕ)) → hex_pair_of a b ≡ None → bytes_after before (full ((a ∷ b ∷ part) ∷ parts)) ≡ Err Hex
-no_part a b before part parts is = rw (some_word a (b ∷ part)) (ap (λ o. (ok_or o Hex >>= (λ front. bytes_at (full parts) >>= (λ rest. Ok (front ++ rest)))) >>= (λ more. Ok (before ++ more))) (none_in a b part _ _ refl refl is))
+no_part a b before part parts is =
+    rw (some_word a (b ∷ part))
+    (ap (λ o. (ok_or o Hex >>= (λ front. bytes_at (full parts) >>= (λ rest. Ok (front ++ rest)))) >>= (λ more. Ok (before ++ more)))
+    (none_in a b part _ _ refl refl is))
 
-no_parts : (a b : ℕ) (before : List ℕ) (parts : List (List ℕ)) → hex_pair_of a b ≡ None → bytes_after before (full (onto_first a (onto_first b parts))) ≡ Err Hex
+no_parts : (a b : ℕ) (before : List ℕ) (parts : List (List ℕ)) → hex_pair_of a b ≡ None
+    → bytes_after before (full (onto_first a (onto_first b parts))) ≡ Err Hex
 no_parts a b before [] is = no_part a b before [] [] is
 no_parts a b before (part ∷ parts) is = no_part a b before part parts is
 
 -- Two bytes that are no pair, the first no blank.
-pub bytes_after_fault : (before rest : List ℕ) → 2 ≤ length rest → is_blank (get_or rest 0 0) ≡ false → hex_pair_of (get_or rest 0 0) (get_or rest 1 0) ≡ None → bytes_after before (words_of rest) ≡ Err Hex
+pub bytes_after_fault : (before rest : List ℕ) → 2 ≤ length rest → is_blank (get_or rest 0 0) ≡ false → hex_pair_of (get_or rest 0 0) (get_or rest 1 0) ≡ None
+    → bytes_after before (words_of rest) ≡ Err Hex
 bytes_after_fault before [] two plain is = absurd (omega arith)
 bytes_after_fault before (a ∷ []) two plain is = absurd (omega arith)
 bytes_after_fault before (a ∷ b ∷ rest) two plain is = elim (cases_Bool (is_blank b)) [
@@ -106,7 +124,8 @@ bytes_after_fault before (a ∷ b ∷ rest) two plain is = elim (cases_Bool (is_
 ]
 
 -- The end of a line, with no byte left or one that is no blank.
-pub bytes_after_end : (before rest : List ℕ) → length rest < 2 → (0 < length rest → is_blank (slice_index rest 0) ≡ false) → bytes_after before (words_of rest) ≡ (if length rest == 0 then Ok before else Err Hex)
+pub bytes_after_end : (before rest : List ℕ) → length rest < 2 → (0 < length rest → is_blank (slice_index rest 0) ≡ false)
+    → bytes_after before (words_of rest) ≡ (if length rest == 0 then Ok before else Err Hex)
 bytes_after_end before [] two plain = ap Ok (append-nil before)
 bytes_after_end before (a ∷ []) two plain = let is : is_blank a ≡ false = plain (omega arith) in rw is refl
 bytes_after_end before (a ∷ b ∷ rest) two plain = absurd (omega arith)

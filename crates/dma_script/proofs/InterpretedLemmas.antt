@@ -1,8 +1,7 @@
 -- Lines that run one after another.
 use Rattle.std.proofs.Common.{◌≡◌, ℕ, List, [], ◌∷◌, ◌++◌, refl, ap, sym, ◌∙◌, subst, suc, append_assoc, arith}
-use Rattle.std.proofs.lemmas.List.{append-nil}
+use Rattle.std.proofs.{lemmas.List.append-nil, lemmas.List.Concat.flat_map-append}
 use Rattle.std.specs.List.{All}
-use Rattle.std.proofs.lemmas.List.Concat.{flat_map-append}
 use Rattle.dma_io.specs.Command.{text_of, printed_text}
 use Rattle.dma_script.specs.Interpreted.{ActsInTurn, PrintsLine, PrintsLines}
 
@@ -10,24 +9,29 @@ pub printed_text_append : (xs ys : List (List (List ℕ))) → printed_text (xs 
 printed_text_append xs ys = flat_map-append text_of xs ys
 
 -- the text of one group more
-pub text_after : (old mid new : List ℕ) (groups : List (List (List ℕ))) (lines : List (List ℕ)) → mid ≡ old ++ printed_text groups → new ≡ mid ++ text_of lines → new ≡ old ++ printed_text (groups ++ lines ∷ [])
+pub text_after : (old mid new : List ℕ) (groups : List (List (List ℕ))) (lines : List (List ℕ)) → mid ≡ old ++ printed_text groups → new ≡ mid ++ text_of lines
+    → new ≡ old ++ printed_text (groups ++ lines ∷ [])
 text_after old mid new groups lines before more =
     more ∙ ap (λ o. o ++ text_of lines) before ∙ append_assoc old (printed_text groups) (text_of lines)
     ∙ ap (λ t. old ++ (printed_text groups ++ t)) (sym (append-nil (text_of lines))) ∙ ap (λ t. old ++ t) (sym (printed_text_append groups (lines ∷ [])))
 
 -- one more line runs
-acts_more : {S L : Type 0} (acts : S → L → List (List ℕ) → S → Type 0) (lines : List L) (line : L) (found between left : S) (groups : List (List (List ℕ))) (group : List (List ℕ)) → ActsInTurn acts lines found groups between → acts between line group left → ActsInTurn acts (lines ++ line ∷ []) found (groups ++ group ∷ []) left
+acts_more : {S L : Type 0} (acts : S → L → List (List ℕ) → S → Type 0) (lines : List L) (line : L) (found between left : S) (groups : List (List (List ℕ)))
+    (group : List (List ℕ)) → ActsInTurn acts lines found groups between → acts between line group left
+    → ActsInTurn acts (lines ++ line ∷ []) found (groups ++ group ∷ []) left
 acts_more acts [] line found between left [] group done act = (left, subst (λ s. acts s line group left) done act, refl)
 acts_more acts [] line found between left (g ∷ groups) group done act = absurd done
 acts_more acts (l ∷ lines) line found between left [] group done act = absurd done
-acts_more acts (l ∷ lines) line found between left (g ∷ groups) group done act = (done.0, done.1, acts_more acts lines line done.0 between left groups group done.2 act)
+acts_more acts (l ∷ lines) line found between left (g ∷ groups) group done act =
+    (done.0, done.1, acts_more acts lines line done.0 between left groups group done.2 act)
 
 -- no line has run yet
 pub prints_none : {S L : Type 0} (acts : S → L → List (List ℕ) → S → Type 0) (found : S) (old : List ℕ) → PrintsLines {L = L} acts found [] found old old
 prints_none acts found old = record { groups = []; acted = refl; text = sym (append-nil old) }
 
 -- one line more
-pub prints_more : {S L : Type 0} (acts : S → L → List (List ℕ) → S → Type 0) (lines : List L) (line : L) (found between left : S) (old mid new : List ℕ) → PrintsLines acts found lines between old mid → PrintsLine (acts between line) left mid new → PrintsLines acts found (lines ++ line ∷ []) left old new
+pub prints_more : {S L : Type 0} (acts : S → L → List (List ℕ) → S → Type 0) (lines : List L) (line : L) (found between left : S) (old mid new : List ℕ)
+    → PrintsLines acts found lines between old mid → PrintsLine (acts between line) left mid new → PrintsLines acts found (lines ++ line ∷ []) left old new
 prints_more acts lines line found between left old mid new before one = record {
   groups = before.groups ++ one.group ∷ [];
   acted = acts_more acts lines line found between left before.groups one.group before.acted one.acted;
@@ -45,7 +49,9 @@ pub ran_none : {S L : Type 0} (acts : S → L → List (List ℕ) → S → Type
 ran_none acts found all old = record { done = []; split = refl; printed = prints_none acts found old }
 
 -- One line more.
-pub ran_more : {S L : Type 0} (acts : S → L → List (List ℕ) → S → Type 0) (found : S) (all before : List L) (line : L) (left : List L) (between now : S) (old mid new : List ℕ) → RanSoFar acts found all before between old mid → before ≡ line ∷ left → PrintsLine (acts between line) now mid new → RanSoFar acts found all left now old new
+pub ran_more : {S L : Type 0} (acts : S → L → List (List ℕ) → S → Type 0) (found : S) (all before : List L) (line : L) (left : List L) (between now : S)
+    (old mid new : List ℕ) → RanSoFar acts found all before between old mid → before ≡ line ∷ left → PrintsLine (acts between line) now mid new
+    → RanSoFar acts found all left now old new
 ran_more acts found all before line left between now old mid new ran is one = record {
   done = ran.done ++ line ∷ [];
   split = ran.split ∙ ap (λ l. ran.done ++ l) is ∙ sym (append_assoc ran.done (line ∷ []) left);

@@ -1,4 +1,4 @@
--- Lemmas on lines, their words, and which are skipped, on parts of a line, on what a line means and what is read of it,
+-- Lemmas on lines, their words, and which are skipped, on what a line means and what is read of it,
 -- on the causes of faulty lines, on lines that run one after another, on numbers, hexadecimal words and lists of
 -- segments; worked scripts.
 pub mod Agreement
@@ -9,7 +9,6 @@ pub mod InterpretedLemmas
 pub mod LineLemmas
 pub mod NumberLemmas
 pub mod PairLemmas
-pub mod Parts
 pub mod PlainLines
 pub mod QueueLemmas
 pub mod Within

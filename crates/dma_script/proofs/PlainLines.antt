@@ -36,10 +36,11 @@ plain_front line n within plain = λ k d h. let size = length-take-le n line wit
 
 -- and without a carriage return
 plain_stripped : (line : List ℕ) → AllPass is_plain line → IsPlainLine (strip_carriage_return line)
-plain_stripped line plain = elim (eqb (slice_index line (length line - 1)) 13) as (λ b. list_all is_plain (if b then take (length line - 1) line else line) ≡ true) [
-  | true ↦ list_all-from_AllPass is_plain (take (length line - 1) line) (plain_front line (length line - 1) (omega arith) plain)
-  | false ↦ list_all-from_AllPass is_plain line plain
-]
+plain_stripped line plain =
+    elim (eqb (slice_index line (length line - 1)) 13) as (λ b. list_all is_plain (if b then take (length line - 1) line else line) ≡ true) [
+      | true ↦ list_all-from_AllPass is_plain (take (length line - 1) line) (plain_front line (length line - 1) (omega arith) plain)
+      | false ↦ list_all-from_AllPass is_plain line plain
+    ]
 
 lines_plain_within : (n : ℕ) (bytes : List ℕ) → length bytes ≤ n → AllPass is_plain_or_feed bytes → All IsPlainLine (lines bytes)
 lines_plain_within zero bytes short plain = let none : bytes ≡ [] = nil_from_length bytes (omega arith) in rw none (all_none IsPlainLine)
@@ -49,12 +50,19 @@ lines_plain_within (suc n) bytes short plain =
     elim (cases_lt at (length bytes)) [
       | inl less ↦
           let size = length-take-le at bytes (omega arith) in
-          let front : AllPass is_plain (before_first p bytes) = λ k d h. rw (get_or-take at bytes k d (omega arith)) (first_of_two (is_plain (get_or bytes k d)) (eqb (get_or bytes k d) 10) (plain k d (omega arith)) (fails_before_first p bytes k d (omega arith))) in
-          let rest : AllPass is_plain_or_feed (after_first p bytes) = λ k d h. rw (get_or-drop (at + 1) bytes k d) (plain (at + 1 + k) d (omega (arith, length-drop (at + 1) bytes))) in
-          rw (lines_first bytes less) (all_more IsPlainLine (strip_carriage_return (before_first p bytes)) (lines (after_first p bytes)) (plain_stripped (before_first p bytes) front) (lines_plain_within n (after_first p bytes) (omega (arith, length-drop (at + 1) bytes)) rest))
+          let front : AllPass is_plain (before_first p bytes) =
+          λ k d h. rw (get_or-take at bytes k d (omega arith))
+          (first_of_two (is_plain (get_or bytes k d)) (eqb (get_or bytes k d) 10) (plain k d (omega arith))
+          (fails_before_first p bytes k d (omega arith))) in
+          let rest : AllPass is_plain_or_feed (after_first p bytes) =
+          λ k d h. rw (get_or-drop (at + 1) bytes k d) (plain (at + 1 + k) d (omega (arith, length-drop (at + 1) bytes))) in
+          rw (lines_first bytes less)
+          (all_more IsPlainLine (strip_carriage_return (before_first p bytes)) (lines (after_first p bytes)) (plain_stripped (before_first p bytes) front)
+          (lines_plain_within n (after_first p bytes) (omega (arith, length-drop (at + 1) bytes)) rest))
       | inr more ↦ elim (cases_lt 0 (length bytes)) [
         | inl some ↦
-            let line : AllPass is_plain bytes = λ k d h. first_of_two (is_plain (get_or bytes k d)) (eqb (get_or bytes k d) 10) (plain k d h) (fails_before_first p bytes k d (omega arith)) in
+            let line : AllPass is_plain bytes =
+            λ k d h. first_of_two (is_plain (get_or bytes k d)) (eqb (get_or bytes k d) 10) (plain k d h) (fails_before_first p bytes k d (omega arith)) in
             rw (lines_last bytes some more) (all_more IsPlainLine bytes [] (list_all-from_AllPass is_plain bytes line) (all_none IsPlainLine))
         | inr empty ↦ let none : bytes ≡ [] = nil_from_length bytes (omega arith) in rw none (all_none IsPlainLine)
       ]

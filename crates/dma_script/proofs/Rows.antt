@@ -1,15 +1,11 @@
 -- Worked scripts, computed from the definitions.
 use Rattle.std.proofs.Common.{◌≡◌, List, ℕ, [], ◌∷◌, ◌++◌, codes, flat_map, Some, None, Ok, Err, refl}
 use Rattle.std.specs.List.{range_with_len}
-use Rattle.dma_script.specs.Words.{number_of}
-use Rattle.dma_script.specs.Statements.{run_script_of}
-use Rattle.dma_script.specs.Race.{race_script_of}
-use Rattle.dma_text.specs.Digits.{hex_digits, spaced_bytes}
-use Rattle.dma_script.specs.Pairs.{pairs_of}
-use Rattle.dma_script.specs.Plan.{plain, plan_of}
 use Rattle.dma_script.specs.declared.fault.Cause.TheVariants.{Byte, Command, First, Words, Number, Hex, Range, SizeOutOfRange, BadChannels, Go}
-use Rattle.dma_mem.specs.declared.call.Call.TheVariants as calls
+use Rattle.dma_script.specs.{Words.number_of, Statements.run_script_of, Race.race_script_of, Pairs.pairs_of, Plan.plain, Plan.plan_of}
+use Rattle.dma_text.specs.Digits.{hex_digits, spaced_bytes}
 use Rattle.dma_mem.specs.declared.marks.MarkKind.TheVariants.{Reading, Writing}
+use Rattle.dma_mem.specs.declared.call.Call.TheVariants as calls
 use Rattle.dma_script.specs.declared.transfer_line.Origin.TheVariants as origins
 use Rattle.dma_script.specs.declared.statements.Statement.TheVariants as statements
 
@@ -23,7 +19,15 @@ no_line = refl
 only_skipped : run_script_of (codes "# note" ++ 13 ∷ 10 ∷ 32 ∷ 9 ∷ []) ≡ Err (record { line = 0; cause = First })
 only_skipped = refl
 
-first_run : run_script_of (after_memory (codes "write 0x10 AA bb" ++ 13 ∷ 10 ∷ codes "copy 0x10+3 to 0x20+1,33+2" ++ 10 ∷ codes "read 0x1F+5" ++ 10 ∷ [])) ≡ Ok (record { size = 64; channels = 1; statements = statements.Call (calls.Write 16 (170 ∷ 187 ∷ [])) ∷ statements.Copy (plain (origins.List (record { addr = 16; len = 3 } ∷ [])) (record { addr = 32; len = 1 } ∷ record { addr = 33; len = 2 } ∷ [])) ∷ statements.Call (calls.Read 31 5) ∷ [] })
+first_run : run_script_of (after_memory (codes "write 0x10 AA bb" ++ 13 ∷ 10 ∷ codes "copy 0x10+3 to 0x20+1,33+2" ++ 10 ∷ codes "read 0x1F+5" ++ 10 ∷ [])) ≡ Ok
+    (record {
+      size = 64;
+      channels = 1;
+      statements =
+          statements.Call (calls.Write 16 (170 ∷ 187 ∷ [])) ∷ statements.Copy
+          (plain (origins.List (record { addr = 16; len = 3 } ∷ [])) (record { addr = 32; len = 1 } ∷ record { addr = 33; len = 2 } ∷ [])) ∷ statements.Call
+          (calls.Read 31 5) ∷ [];
+    })
 first_run = refl
 
 too_many_words : run_script_of (after_memory (codes "read 4+ 5")) ≡ Err (record { line = 2; cause = Words })
@@ -59,10 +63,31 @@ hex = refl
 return_at_the_end : run_script_of (after_memory (codes "read 0+1" ++ 13 ∷ [])) ≡ Err (record { line = 2; cause = Byte })
 return_at_the_end = refl
 
-channel_lines : run_script_of (after_memory (codes "submit 1 1+2 to 3+2 signal 255" ++ 10 ∷ codes "issue 1" ++ 10 ∷ codes "step 1" ++ 10 ∷ codes "step 1 1000000" ++ 10 ∷ codes "status 1 2" ++ 10 ∷ codes "result 2 1")) ≡ Ok (record { size = 64; channels = 1; statements = statements.Submit 1 (record { src = origins.List (record { addr = 1; len = 2 } ∷ []); dst = record { addr = 3; len = 2 } ∷ []; wait = None; signal = Some 255 }) ∷ statements.Call (calls.Issue 1) ∷ statements.Step 1 1 ∷ statements.Step 1 1000000 ∷ statements.Call (calls.Status 1 2) ∷ statements.Call (calls.Result 2 1) ∷ [] })
+channel_lines : run_script_of
+    (after_memory (codes "submit 1 1+2 to 3+2 signal 255" ++ 10 ∷ codes "issue 1" ++ 10 ∷ codes "step 1" ++ 10 ∷ codes "step 1 1000000" ++ 10 ∷ codes
+    "status 1 2" ++ 10 ∷ codes "result 2 1")) ≡ Ok
+    (record {
+      size = 64;
+      channels = 1;
+      statements =
+          statements.Submit 1 (record
+          { src = origins.List (record { addr = 1; len = 2 } ∷ []); dst = record { addr = 3; len = 2 } ∷ []; wait = None; signal = Some 255 }) ∷ statements.Call
+          (calls.Issue 1) ∷ statements.Step 1 1 ∷ statements.Step 1 1000000 ∷ statements.Call (calls.Status 1 2) ∷ statements.Call (calls.Result 2 1) ∷ [];
+    })
 channel_lines = refl
 
-other_lines : run_script_of (after_memory (codes "pause 1" ++ 10 ∷ codes "resume 2" ++ 10 ∷ codes "terminate 3" ++ 10 ∷ codes "mark read 1+2" ++ 10 ∷ codes "mark write 3+4" ++ 10 ∷ codes "unmark" ++ 10 ∷ codes "raise 255" ++ 10 ∷ codes "checkpoint" ++ 10 ∷ codes "totals")) ≡ Ok (record { size = 64; channels = 1; statements = statements.Call (calls.Pause 1) ∷ statements.Call (calls.Resume 2) ∷ statements.Call (calls.Terminate 3) ∷ statements.Call (calls.Mark Reading (record { addr = 1; len = 2 })) ∷ statements.Call (calls.Mark Writing (record { addr = 3; len = 4 })) ∷ statements.Call calls.Unmark ∷ statements.Call (calls.Raise 255) ∷ statements.Call calls.Checkpoint ∷ statements.Totals ∷ [] })
+other_lines : run_script_of
+    (after_memory (codes "pause 1" ++ 10 ∷ codes "resume 2" ++ 10 ∷ codes "terminate 3" ++ 10 ∷ codes "mark read 1+2" ++ 10 ∷ codes "mark write 3+4" ++ 10 ∷
+    codes "unmark" ++ 10 ∷ codes "raise 255" ++ 10 ∷ codes "checkpoint" ++ 10 ∷ codes "totals")) ≡ Ok
+    (record {
+      size = 64;
+      channels = 1;
+      statements =
+          statements.Call (calls.Pause 1) ∷ statements.Call (calls.Resume 2) ∷ statements.Call (calls.Terminate 3) ∷ statements.Call
+          (calls.Mark Reading (record { addr = 1; len = 2 })) ∷
+          statements.Call (calls.Mark Writing (record { addr = 3; len = 4 })) ∷ statements.Call calls.Unmark ∷
+          statements.Call (calls.Raise 255) ∷ statements.Call calls.Checkpoint ∷ statements.Totals ∷ [];
+    })
 other_lines = refl
 
 step_number_before_range : run_script_of (after_memory (codes "step 256 x")) ≡ Err (record { line = 2; cause = Number })
@@ -98,7 +123,12 @@ lone_digit = refl
 lone_digit_before_a_line_feed : pairs_of (codes "22" ++ 10 ∷ codes "3" ++ 10 ∷ codes "4") ≡ Err (record { line = 2; cause = Hex })
 lone_digit_before_a_line_feed = refl
 
-whole_plan : plan_of (codes "# one" ++ 10 ∷ codes "1+2 to 3+2 wait 3 signal 255") ≡ Ok (record { line = 2; transfer = record { src = origins.List (record { addr = 1; len = 2 } ∷ []); dst = record { addr = 3; len = 2 } ∷ []; wait = Some 3; signal = Some 255 } })
+whole_plan : plan_of (codes "# one" ++ 10 ∷ codes "1+2 to 3+2 wait 3 signal 255") ≡ Ok
+    (record {
+      line = 2;
+      transfer =
+          record { src = origins.List (record { addr = 1; len = 2 } ∷ []); dst = record { addr = 3; len = 2 } ∷ []; wait = Some 3; signal = Some 255 };
+    })
 whole_plan = refl
 
 no_plan : plan_of [] ≡ Err (record { line = 0; cause = First })
@@ -113,7 +143,14 @@ wait_signal = refl
 event_out_of_range : plan_of (codes "1+1 to 2+1 signal 256") ≡ Err (record { line = 1; cause = Range })
 event_out_of_range = refl
 
-fill_lines : run_script_of (after_memory (codes "fill 0x10 to 0x20+3,0x30+2" ++ 10 ∷ codes "submit 1 fill 5 to 8+4 wait 3 signal 255")) ≡ Ok (record { size = 64; channels = 1; statements = statements.Copy (plain (origins.Place 16) (record { addr = 32; len = 3 } ∷ record { addr = 48; len = 2 } ∷ [])) ∷ statements.Submit 1 (record { src = origins.Place 5; dst = record { addr = 8; len = 4 } ∷ []; wait = Some 3; signal = Some 255 }) ∷ [] })
+fill_lines : run_script_of (after_memory (codes "fill 0x10 to 0x20+3,0x30+2" ++ 10 ∷ codes "submit 1 fill 5 to 8+4 wait 3 signal 255")) ≡ Ok
+    (record {
+      size = 64;
+      channels = 1;
+      statements =
+          statements.Copy (plain (origins.Place 16) (record { addr = 32; len = 3 } ∷ record { addr = 48; len = 2 } ∷ [])) ∷ statements.Submit 1
+          (record { src = origins.Place 5; dst = record { addr = 8; len = 4 } ∷ []; wait = Some 3; signal = Some 255 }) ∷ [];
+    })
 fill_lines = refl
 
 fill_of_a_segment : run_script_of (after_memory (codes "fill 0x10+1 to 0x20+3")) ≡ Err (record { line = 2; cause = Number })
@@ -131,7 +168,8 @@ submit_fill_number_before_range = refl
 submit_fill_out_of_range : run_script_of (after_memory (codes "submit 256 fill 0x10 to 8+4 wait 300")) ≡ Err (record { line = 2; cause = Range })
 submit_fill_out_of_range = refl
 
-fill_plan : plan_of (codes "fill 0x10 to 0x20+20 signal 3") ≡ Ok (record { line = 1; transfer = record { src = origins.Place 16; dst = record { addr = 32; len = 20 } ∷ []; wait = None; signal = Some 3 } })
+fill_plan : plan_of (codes "fill 0x10 to 0x20+20 signal 3") ≡ Ok
+    (record { line = 1; transfer = record { src = origins.Place 16; dst = record { addr = 32; len = 20 } ∷ []; wait = None; signal = Some 3 } })
 fill_plan = refl
 
 fill_without_address : plan_of (codes "fill to 0x20+20") ≡ Err (record { line = 1; cause = Words })
@@ -143,7 +181,13 @@ list_of_the_word_fill = refl
 fill_before_go : race_script_of (after_memory (codes "fill x" ++ 10 ∷ codes "go")) ≡ Err (record { line = 2; cause = Command })
 fill_before_go = refl
 
-whole_race : race_script_of (after_memory (codes "job 0 1 20" ++ 10 ∷ codes "issue 1" ++ 10 ∷ codes "job 7 7 0" ++ 10 ∷ codes "go" ++ 10 ∷ codes "totals")) ≡ Ok (record { before = record { size = 64; channels = 1; statements = statements.Call (calls.Issue 1) ∷ [] }; jobs = record { first = 0; last = 1; turns = 20 } ∷ record { first = 7; last = 7; turns = 0 } ∷ []; after = statements.Totals ∷ [] })
+whole_race : race_script_of (after_memory (codes "job 0 1 20" ++ 10 ∷ codes "issue 1" ++ 10 ∷ codes "job 7 7 0" ++ 10 ∷ codes "go" ++ 10 ∷ codes "totals")) ≡ Ok
+    (record {
+      before = record { size = 64; channels = 1; statements = statements.Call (calls.Issue 1) ∷ [] };
+      jobs =
+          record { first = 0; last = 1; turns = 20 } ∷ record { first = 7; last = 7; turns = 0 } ∷ [];
+      after = statements.Totals ∷ [];
+    })
 whole_race = refl
 
 no_go : race_script_of (after_memory (codes "read 0+1")) ≡ Err (record { line = 0; cause = Go })
@@ -196,7 +240,8 @@ no_channel = refl
 too_many_channels : run_script_of (codes "memory 1 9") ≡ Err (record { line = 1; cause = BadChannels })
 too_many_channels = refl
 
-highest_channel : run_script_of (after_memory (codes "issue 255")) ≡ Ok (record { size = 64; channels = 1; statements = statements.Call (calls.Issue 255) ∷ [] })
+highest_channel : run_script_of (after_memory (codes "issue 255")) ≡ Ok
+    (record { size = 64; channels = 1; statements = statements.Call (calls.Issue 255) ∷ [] })
 highest_channel = refl
 
 channel_above : run_script_of (after_memory (codes "issue 256")) ≡ Err (record { line = 2; cause = Range })
@@ -208,7 +253,8 @@ event_above = refl
 no_step : run_script_of (after_memory (codes "step 0 0")) ≡ Err (record { line = 2; cause = Range })
 no_step = refl
 
-largest_segment : run_script_of (after_memory (codes "read 4294967295+4294967295")) ≡ Ok (record { size = 64; channels = 1; statements = statements.Call (calls.Read 4294967295 4294967295) ∷ [] })
+largest_segment : run_script_of (after_memory (codes "read 4294967295+4294967295")) ≡ Ok
+    (record { size = 64; channels = 1; statements = statements.Call (calls.Read 4294967295 4294967295) ∷ [] })
 largest_segment = refl
 
 last_channel_of_a_job : race_script_of (after_memory (codes "job 7 8 0" ++ 10 ∷ codes "go")) ≡ Err (record { line = 2; cause = Range })

@@ -1,18 +1,15 @@
 -- Numbers before a separator, and the segments of a list.
-use Rattle.std.proofs.Common.{◌≡◌, ◌∙◌, ℕ, zero, suc, ◌<◌, ◌≤◌, ◌+◌, ◌^◌, ◌&&◌, not, nat_lt, eqb, true, false, List, [], ◌∷◌, ◌++◌, length, map, take, drop, get_or, refl, sym, ap, subst, arith, Option, Some, None, position, cond, add-one, nat_eq, eq-eqb, unwrap_or, Bor}
+use Rattle.std.proofs.Common.{◌≡◌, ◌∙◌, ℕ, zero, suc, ◌<◌, ◌≤◌, ◌+◌, ◌^◌, ◌&&◌, not, nat_lt, eqb, true, false, List, [], ◌∷◌, ◌++◌, length, map, take, drop}
+use Rattle.std.proofs.Common.{get_or, refl, sym, ap, subst, arith, Option, Some, None, position, cond, add-one, nat_eq, eq-eqb, unwrap_or, Bor}
 use Rattle.std.specs.List.{list_all, starts_with, slice_split, onto_first}
-use Rattle.std.specs.Char.{digit_value}
-use Rattle.std.specs.Str.Parse.{digits_value}
-use Rattle.std.specs.Option.{option_map, option_and_then}
+use Rattle.std.specs.{Char.digit_value, Str.Parse.digits_value, Option.option_map, Option.option_and_then}
 use Rattle.std.proofs.lemmas.Bool.{and_right, ne_eqb, eqb-true, eqb-false, false≢true, ltb-true, and_parts}
 use Rattle.std.proofs.lemmas.List.{append_assoc, length-drop, length-take-le, take-take}
-use Rattle.std.proofs.lemmas.List.Folds.{list_all_at}
-use Rattle.std.proofs.lemmas.List.Quantifiers.{position-Some}
+use Rattle.std.proofs.{lemmas.List.Folds.list_all_at, lemmas.List.Quantifiers.position-Some}
 use Rattle.dma_mem.specs.declared.segment.Segment.{Segment}
 use Rattle.dma_script.specs.Words.{each_of, list_of, number_in, number_of, segment_of}
 use Rattle.dma_script.specs.inner.Digits.{behind, digits_before, front, number_before, segment_before}
-use Rattle.dma_script.proofs.LineLemmas.{first_at}
-use Rattle.dma_script.proofs.NumberLemmas.{number_in_above, number_in_whole}
+use Rattle.dma_script.proofs.{LineLemmas.first_at, NumberLemmas.number_in_above, NumberLemmas.number_in_whole}
 
 -- ---- the first separator
 
@@ -60,7 +57,8 @@ past_first : (stop b : ℕ) (w : List ℕ) (i : ℕ) → (b ≡ stop → ⊥) �
 past_first stop b w i not_first none zero less e = not_first e
 past_first stop b w i not_first none (suc k) less e = none k (omega arith) e
 
-front_keeps : (stop : ℕ) (ds : List ℕ) (i : ℕ) → i < length ds → NoStop stop ds (i + 1) → (i < length (front stop ds)) × (get_or (front stop ds) i 0 ≡ get_or ds i 0)
+front_keeps : (stop : ℕ) (ds : List ℕ) (i : ℕ) → i < length ds → NoStop stop ds (i + 1) → (i < length (front stop ds))
+    × (get_or (front stop ds) i 0 ≡ get_or ds i 0)
 front_keeps stop [] i within none = absurd (omega arith)
 front_keeps stop (b ∷ ds) zero within none = rw (ne_eqb b stop (none 0 (omega arith))) (omega arith, refl)
 front_keeps stop (b ∷ ds) (suc i) within none =
@@ -70,11 +68,15 @@ front_keeps stop (b ∷ ds) (suc i) within none =
 -- ---- the digits before the first separator
 
 -- The digits before the first separator spell a number.
-pub stop_at : (base stop : ℕ) (ds : List ℕ) (i value : ℕ) → 0 < i → i < length ds → get_or ds i 0 ≡ stop → NoStop stop ds i → list_all (λ c. nat_lt (digit_value c) base) (take i ds) ≡ true → value ≡ digits_value base (take i ds) → value < 2 ^ 32 → digits_before base stop ds ≡ Some (value, Some (drop (i + 1) ds))
+pub stop_at : (base stop : ℕ) (ds : List ℕ) (i value : ℕ) → 0 < i → i < length ds → get_or ds i 0 ≡ stop → NoStop stop ds i
+    → list_all (λ c. nat_lt (digit_value c) base) (take i ds) ≡ true → value ≡ digits_value base (take i ds) → value < 2 ^ 32
+    → digits_before base stop ds ≡ Some (value, Some (drop (i + 1) ds))
 stop_at base stop ds i value some within here none digits spelt small =
     let size : length (take i ds) ≡ i = length-take-le i ds (omega arith) in
     let same : take i (take i ds) ≡ take i ds = take-take i i ds (omega arith) in
-    let number : number_in base (take i ds) ≡ Some value = number_in_whole base value i (take i ds) (omega arith) (omega arith) (ap (list_all (λ c. nat_lt (digit_value c) base)) same ∙ digits) (spelt ∙ ap (digits_value base) (sym same)) small in
+    let number : number_in base (take i ds) ≡ Some value =
+    number_in_whole base value i (take i ds) (omega arith) (omega arith) (ap (list_all (λ c. nat_lt (digit_value c) base)) same ∙ digits)
+    (spelt ∙ ap (digits_value base) (sym same)) small in
     rw (front_at stop ds i within here none, behind_at stop ds i within here none, number, add-one i) refl
 
 -- Bytes that are not all digits are no number.
@@ -84,7 +86,8 @@ not_all_digits base ds i within wrong =
     ap (λ b. cond (b && nat_lt (digits_value base ds) (2 ^ 32)) (Some (digits_value base ds)) None) (and_right (not (eqb (length ds) 0)) _ some)
 
 -- A byte that is no digit, and no separator either.
-pub wrong_byte : (base stop : ℕ) (ds : List ℕ) (i : ℕ) → i < length ds → NoStop stop ds (i + 1) → nat_lt (digit_value (get_or ds i 0)) base ≡ false → digits_before base stop ds ≡ None
+pub wrong_byte : (base stop : ℕ) (ds : List ℕ) (i : ℕ) → i < length ds → NoStop stop ds (i + 1) → nat_lt (digit_value (get_or ds i 0)) base ≡ false
+    → digits_before base stop ds ≡ None
 wrong_byte base stop ds i within none wrong =
     let kept = front_keeps stop ds i within none in
     rw (not_all_digits base (front stop ds) i kept.0 (ap (λ b. nat_lt (digit_value b) base) kept.1 ∙ wrong)) refl
@@ -94,12 +97,15 @@ pub stop_first : (base stop : ℕ) (ds : List ℕ) → 0 < length ds → get_or 
 stop_first base stop ds some here = rw (front_at stop ds 0 some here (λ k less. absurd (omega arith))) refl
 
 -- Digits that spell too large a number.
-pub too_large : (base stop : ℕ) (ds : List ℕ) (i : ℕ) → 1 ≤ base → NoStop stop ds (i + 1) → 2 ^ 32 ≤ digits_value base (take (i + 1) ds) → digits_before base stop ds ≡ None
+pub too_large : (base stop : ℕ) (ds : List ℕ) (i : ℕ) → 1 ≤ base → NoStop stop ds (i + 1) → 2 ^ 32 ≤ digits_value base (take (i + 1) ds)
+    → digits_before base stop ds ≡ None
 too_large base stop ds i one none big =
     rw (number_in_above base (front stop ds) (i + 1) one (subst (λ xs. 2 ^ 32 ≤ digits_value base xs) (sym (front_takes stop ds (i + 1) none)) big)) refl
 
 -- Digits alone.
-pub no_stop : (base stop : ℕ) (ds : List ℕ) (i value : ℕ) → 0 < length ds → length ds ≤ i → NoStop stop ds i → list_all (λ c. nat_lt (digit_value c) base) (take i ds) ≡ true → value ≡ digits_value base (take i ds) → value < 2 ^ 32 → digits_before base stop ds ≡ Some (value, None)
+pub no_stop : (base stop : ℕ) (ds : List ℕ) (i value : ℕ) → 0 < length ds → length ds ≤ i → NoStop stop ds i
+    → list_all (λ c. nat_lt (digit_value c) base) (take i ds) ≡ true → value ≡ digits_value base (take i ds) → value < 2 ^ 32
+    → digits_before base stop ds ≡ Some (value, None)
 no_stop base stop ds i value some all none digits spelt small =
     let whole : NoStop stop ds (length ds) = λ k less. none k (omega arith) in
     rw (front_all stop ds whole, behind_none stop ds whole, number_in_whole base value i ds some all digits spelt small) refl
@@ -122,22 +128,27 @@ prefix_no stop (a ∷ b ∷ w) plain = elim (eqb a stop) as (λ e. starts_with n
 abbrev read_before : ℕ → List ℕ → Option (ℕ × Option (List ℕ))
 read_before stop word = option_map (λ n. (n, behind stop word)) (number_of (front stop word))
 
-hex_before : (stop : ℕ) (word : List ℕ) → digit_value stop ≡ 36 → starts_with nat_eq word (48 ∷ 120 ∷ []) ≡ true → read_before stop word ≡ digits_before 16 stop (drop 2 word)
+hex_before : (stop : ℕ) (word : List ℕ) → digit_value stop ≡ 36 → starts_with nat_eq word (48 ∷ 120 ∷ []) ≡ true
+    → read_before stop word ≡ digits_before 16 stop (drop 2 word)
 hex_before stop [] other hex = absurd (false≢true hex)
 hex_before stop (a ∷ []) other hex = absurd (false≢true (sym (and_right (eqb 48 a) false refl) ∙ hex))
 hex_before stop (a ∷ b ∷ ds) other hex =
     let first = and_parts (eqb 48 a) _ hex in
     let second = and_parts (eqb 120 b) true first.1 in
-    let no_a : a ≡ stop → ⊥ = λ e. let bad : digit_value 48 ≡ 36 = subst (λ c. digit_value c ≡ 36) (sym (eqb-true 48 a first.0 ∙ e)) other in omega (arith, bad) in
-    let no_b : b ≡ stop → ⊥ = λ e. let bad : digit_value 120 ≡ 36 = subst (λ c. digit_value c ≡ 36) (sym (eqb-true 120 b second.0 ∙ e)) other in omega (arith, bad) in
+    let no_a : a ≡ stop → ⊥ = λ e. let bad : digit_value 48 ≡ 36 = subst (λ c. digit_value c ≡ 36) (sym (eqb-true 48 a first.0 ∙ e)) other in
+    omega (arith, bad) in
+    let no_b : b ≡ stop → ⊥ = λ e. let bad : digit_value 120 ≡ 36 = subst (λ c. digit_value c ≡ 36) (sym (eqb-true 120 b second.0 ∙ e)) other in
+    omega (arith, bad) in
     rw (ne_eqb a stop no_a, ne_eqb b stop no_b, hex) refl
 
 -- It is read by its base.
 number_is : (stop : ℕ) (word : List ℕ) → digit_value stop ≡ 36 → number_before stop word ≡ read_before stop word
-number_is stop word other = elim (starts_with nat_eq word (48 ∷ 120 ∷ [])) as (λ e. starts_with nat_eq word (48 ∷ 120 ∷ []) ≡ e → cond e (digits_before 16 stop (drop 2 word)) (digits_before 10 stop word) ≡ read_before stop word) [
-  | true ↦ λ e. sym (hex_before stop word other e)
-  | false ↦ λ e. rw (prefix_no stop word e) refl
-] refl
+number_is stop word other =
+    elim (starts_with nat_eq word (48 ∷ 120 ∷ [])) as
+    (λ e. starts_with nat_eq word (48 ∷ 120 ∷ []) ≡ e → cond e (digits_before 16 stop (drop 2 word)) (digits_before 10 stop word) ≡ read_before stop word) [
+      | true ↦ λ e. sym (hex_before stop word other e)
+      | false ↦ λ e. rw (prefix_no stop word e) refl
+    ] refl
 
 -- ---- words
 
@@ -157,19 +168,26 @@ digits_none stop base (b ∷ ds) other small digits =
     rw (ne_eqb b stop (no_stop_digit stop base b other small (ltb-true _ _ both.0))) (digits_none stop base ds other small both.1)
 
 number_digits : (base : ℕ) (ds : List ℕ) (n : ℕ) → number_in base ds ≡ Some n → list_all (λ c. nat_lt (digit_value c) base) ds ≡ true
-number_digits base ds n is = elim (list_all (λ c. nat_lt (digit_value c) base) ds) as (λ e. cond (not (eqb (length ds) 0) && e && nat_lt (digits_value base ds) (2 ^ 32)) (Some (digits_value base ds)) None ≡ Some n → e ≡ true) [
-  | true ↦ λ is. refl
-  | false ↦ λ is. absurd (let bad : None ≡ Some n = sym (ap (λ b. cond (b && nat_lt (digits_value base ds) (2 ^ 32)) (Some (digits_value base ds)) None) (and_right (not (eqb (length ds) 0)) false refl)) ∙ is in cc)
-] is
+number_digits base ds n is =
+    elim (list_all (λ c. nat_lt (digit_value c) base) ds) as
+    (λ e. cond (not (eqb (length ds) 0) && e && nat_lt (digits_value base ds) (2 ^ 32)) (Some (digits_value base ds)) None ≡ Some n → e ≡ true) [
+      | true ↦ λ is. refl
+      | false ↦ λ is. absurd (let bad : None ≡ Some n =
+          sym (ap (λ b. cond (b && nat_lt (digits_value base ds) (2 ^ 32)) (Some (digits_value base ds)) None) (and_right (not (eqb (length ds) 0)) false refl))
+          ∙ is in cc)
+    ] is
 
-hex_none : (stop : ℕ) (w : List ℕ) (n : ℕ) → digit_value stop ≡ 36 → starts_with nat_eq w (48 ∷ 120 ∷ []) ≡ true → number_in 16 (drop 2 w) ≡ Some n → behind stop w ≡ None
+hex_none : (stop : ℕ) (w : List ℕ) (n : ℕ) → digit_value stop ≡ 36 → starts_with nat_eq w (48 ∷ 120 ∷ []) ≡ true → number_in 16 (drop 2 w) ≡ Some n
+    → behind stop w ≡ None
 hex_none stop [] n other hex is = absurd (false≢true hex)
 hex_none stop (a ∷ []) n other hex is = absurd (false≢true (sym (and_right (eqb 48 a) false refl) ∙ hex))
 hex_none stop (a ∷ b ∷ ds) n other hex is =
     let first = and_parts (eqb 48 a) _ hex in
     let second = and_parts (eqb 120 b) true first.1 in
-    let no_a : a ≡ stop → ⊥ = λ e. let bad : digit_value 48 ≡ 36 = subst (λ c. digit_value c ≡ 36) (sym (eqb-true 48 a first.0 ∙ e)) other in omega (arith, bad) in
-    let no_b : b ≡ stop → ⊥ = λ e. let bad : digit_value 120 ≡ 36 = subst (λ c. digit_value c ≡ 36) (sym (eqb-true 120 b second.0 ∙ e)) other in omega (arith, bad) in
+    let no_a : a ≡ stop → ⊥ = λ e. let bad : digit_value 48 ≡ 36 = subst (λ c. digit_value c ≡ 36) (sym (eqb-true 48 a first.0 ∙ e)) other in
+    omega (arith, bad) in
+    let no_b : b ≡ stop → ⊥ = λ e. let bad : digit_value 120 ≡ 36 = subst (λ c. digit_value c ≡ 36) (sym (eqb-true 120 b second.0 ∙ e)) other in
+    omega (arith, bad) in
     rw (ne_eqb a stop no_a, ne_eqb b stop no_b) (digits_none stop 16 ds other (omega arith) (number_digits 16 ds n is))
 
 -- A number has no separator.
@@ -208,9 +226,23 @@ record Found (stop : ℕ) (w rest : List ℕ) : Type 0 where
 found : (stop : ℕ) (w rest : List ℕ) → behind stop w ≡ Some rest → Found stop w rest
 found stop [] rest e = absurd (let bad : None ≡ Some rest = e in cc)
 found stop (b ∷ w) rest e = elim (eqb b stop) as (λ t. eqb b stop ≡ t → cond t (Some w) (behind stop w) ≡ Some rest → Found stop (b ∷ w) rest) [
-  | true ↦ λ t e. record { place = 0; within = omega arith; here = eqb-true b stop t; none = λ k less. absurd (omega arith); is = ap (λ o. unwrap_or o []) (sym e) }
+  | true ↦ λ t e. record {
+    place = 0;
+    within = omega arith;
+    here = eqb-true b stop t;
+    none = λ k less. absurd (omega arith);
+    is =
+        ap (λ o. unwrap_or o []) (sym e);
+  }
   | false ↦ λ t e. let more = found stop w rest e in
-      record { place = suc more.place; within = omega (arith, more.within); here = more.here; none = past_first stop b w more.place (eqb-false b stop t) more.none; is = more.is }
+      record {
+        place = suc more.place;
+        within = omega (arith, more.within);
+        here = more.here;
+        none =
+            past_first stop b w more.place (eqb-false b stop t) more.none;
+        is = more.is;
+      }
 ] refl e
 
 none_at : (stop : ℕ) (w : List ℕ) → behind stop w ≡ None → position (λ b. eqb b stop) w ≡ None
@@ -226,14 +258,18 @@ abbrev pub from_number : Option (ℕ × Option (List ℕ)) → Option Segment
 from_number read =
     option_and_then (λ r. option_and_then (λ rest. option_map (λ len. record { addr = r.0; len = len }) (number_of rest)) r.1) read
 
-segment_found : (w rest : List ℕ) (place : ℕ) → position (λ b. eqb b 43) w ≡ Some place → behind 43 w ≡ Some rest → front 43 w ≡ take place w → rest ≡ drop (suc place) w → segment_of w ≡ from_number (read_before 43 w)
+segment_found : (w rest : List ℕ) (place : ℕ) → position (λ b. eqb b 43) w ≡ Some place → behind 43 w ≡ Some rest → front 43 w ≡ take place w
+    → rest ≡ drop (suc place) w → segment_of w ≡ from_number (read_before 43 w)
 segment_found w rest place at e before is =
     rw (at, e, before, is, add-one place)
-    (elim (number_of (take place w)) as (λ o. option_and_then (λ addr. option_map (λ len. record { addr = addr; len = len }) (number_of (drop (suc place) w))) o ≡ from_number (option_map (λ n. (n, Some (drop (suc place) w))) o)) [ None ↦ refl | Some n ↦ refl ])
+    (elim (number_of (take place w)) as
+    (λ o. option_and_then (λ addr. option_map (λ len. record { addr = addr; len = len }) (number_of (drop (suc place) w))) o ≡ from_number
+    (option_map (λ n. (n, Some (drop (suc place) w))) o)) [ None ↦ refl | Some n ↦ refl ])
 
 read_segment : (w : List ℕ) → segment_of w ≡ from_number (read_before 43 w)
 read_segment w = elim (behind 43 w) as (λ o. behind 43 w ≡ o → segment_of w ≡ from_number (read_before 43 w)) [
-  | None ↦ λ e. rw (none_at 43 w e, e) (elim (number_of (front 43 w)) as (λ o. None ≡ from_number (option_map (λ n. (n, None)) o)) [ None ↦ refl | Some n ↦ refl ])
+  | None ↦ λ e. rw (none_at 43 w e, e)
+      (elim (number_of (front 43 w)) as (λ o. None ≡ from_number (option_map (λ n. (n, None)) o)) [ None ↦ refl | Some n ↦ refl ])
   | Some rest ↦ λ e.
       let at = found 43 w rest e in
       segment_found w rest at.place (first_at 43 w at.place at.within at.here at.none) e (front_at 43 w at.place at.within at.here at.none) at.is
@@ -243,7 +279,8 @@ pub segment_read : (w : List ℕ) (read : Option (ℕ × Option (List ℕ))) →
 segment_read w read e = ap from_number (e ∙ number_is 43 w refl) ∙ sym (read_segment w)
 
 -- A segment by its two numbers.
-pub segment_by_numbers : (w rest : List ℕ) (addr : ℕ) (len : Option ℕ) → Some (addr, Some rest) ≡ number_before 43 w → len ≡ number_of rest → option_map (λ len. record { addr = addr; len = len }) len ≡ segment_of w
+pub segment_by_numbers : (w rest : List ℕ) (addr : ℕ) (len : Option ℕ) → Some (addr, Some rest) ≡ number_before 43 w → len ≡ number_of rest
+    → option_map (λ len. record { addr = addr; len = len }) len ≡ segment_of w
 segment_by_numbers w rest addr len e f = ap (option_map {U = Segment} (λ len. record { addr = addr; len = len })) f ∙ segment_read w (Some (addr, Some rest)) e
 
 -- ---- lists
@@ -273,10 +310,11 @@ inner : (w rest : List ℕ) → behind 43 (front 44 w) ≡ Some rest → front 4
 inner [] rest e = refl
 inner (b ∷ w) rest e = elim (eqb b 44) as (λ u. behind 43 (cond u [] (b ∷ front 44 w)) ≡ Some rest → front 43 (cond u [] (b ∷ front 44 w)) ≡ front 43 (b ∷ w)) [
   | true ↦ λ bad. absurd (let wrong : None ≡ Some rest = bad in cc)
-  | false ↦ λ e. elim (eqb b 43) as (λ t. cond t (Some (front 44 w)) (behind 43 (front 44 w)) ≡ Some rest → cond t [] (b ∷ front 43 (front 44 w)) ≡ cond t [] (b ∷ front 43 w)) [
-    | true ↦ λ e. refl
-    | false ↦ λ e. ap (λ l. b ∷ l) (inner w rest e)
-  ] e
+  | false ↦ λ e. elim (eqb b 43) as
+      (λ t. cond t (Some (front 44 w)) (behind 43 (front 44 w)) ≡ Some rest → cond t [] (b ∷ front 43 (front 44 w)) ≡ cond t [] (b ∷ front 43 w)) [
+        | true ↦ λ e. refl
+        | false ↦ λ e. ap (λ l. b ∷ l) (inner w rest e)
+      ] e
 ] e
 
 -- A segment of a list by the numbers before the first plus and the first comma after it.
@@ -285,21 +323,28 @@ from_parts read =
     option_and_then (λ r. option_and_then (λ rest. option_map (λ l. (record { addr = r.0; len = l.0 }, l.1)) (number_before 44 rest)) r.1) read
 
 no_segment : (w : List ℕ) → number_of (front 43 w) ≡ None → segment_of (front 44 w) ≡ None
-no_segment w none = read_segment (front 44 w) ∙ elim (behind 43 (front 44 w)) as (λ o. behind 43 (front 44 w) ≡ o → from_number (option_map (λ n. (n, o)) (number_of (front 43 (front 44 w)))) ≡ None) [
-  | None ↦ λ e. elim (number_of (front 43 (front 44 w))) as (λ n. from_number (option_map (λ n. (n, None)) n) ≡ None) [ None ↦ refl | Some n ↦ refl ]
-  | Some rest ↦ λ e. rw (ap number_of (inner w rest e) ∙ none) refl
-] refl
+no_segment w none = read_segment (front 44 w)
+    ∙ elim (behind 43 (front 44 w)) as (λ o. behind 43 (front 44 w) ≡ o → from_number (option_map (λ n. (n, o)) (number_of (front 43 (front 44 w)))) ≡ None) [
+      | None ↦ λ e. elim (number_of (front 43 (front 44 w))) as (λ n. from_number (option_map (λ n. (n, None)) n) ≡ None) [ None ↦ refl | Some n ↦ refl ]
+      | Some rest ↦ λ e. rw (ap number_of (inner w rest e) ∙ none) refl
+    ] refl
 
 rest_parts : (v : ℕ) (rest : List ℕ) → option_map (λ s. (s, behind 44 rest)) (from_number (Some (v, Some (front 44 rest)))) ≡ from_parts (Some (v, Some rest))
-rest_parts v rest = rw (number_is 44 rest refl) (elim (number_of (front 44 rest)) as (λ n. option_map {U = Segment × Option (List ℕ)} (λ s. (s, behind 44 rest)) (option_map {U = Segment} (λ len. record { addr = v; len = len }) n) ≡ option_map {U = Segment × Option (List ℕ)} (λ l. (record { addr = v; len = l.0 }, l.1)) (option_map {U = ℕ × Option (List ℕ)} (λ n. (n, behind 44 rest)) n)) [ None ↦ refl | Some n ↦ refl ])
+rest_parts v rest = rw (number_is 44 rest refl)
+    (elim (number_of (front 44 rest)) as
+    (λ n. option_map {U = Segment × Option (List ℕ)} (λ s. (s, behind 44 rest)) (option_map {U = Segment} (λ len. record { addr = v; len = len }) n) ≡
+    option_map {U = Segment × Option (List ℕ)} (λ l. (record { addr = v; len = l.0 }, l.1)) (option_map {U = ℕ × Option (List ℕ)} (λ n. (n, behind 44 rest)) n))
+    [ None ↦ refl | Some n ↦ refl ])
 
 read_parts : (w : List ℕ) → segment_before w ≡ from_parts (read_before 43 w)
 read_parts w = elim (number_of (front 43 w)) as (λ o. number_of (front 43 w) ≡ o → segment_before w ≡ from_parts (option_map (λ n. (n, behind 43 w)) o)) [
   | None ↦ λ e. rw (no_segment w e) refl
   | Some v ↦ λ e.
       let at = nested w (number_none 44 (front 43 w) v refl e) in
-      let own : segment_of (front 44 w) ≡ from_number (Some (v, option_map (front 44) (behind 43 w))) = read_segment (front 44 w) ∙ rw (at.front_is, at.behind_is, e) refl in
-      rw (own, at.rest_is) (elim (behind 43 w) as (λ o. option_map (λ s. (s, option_and_then (behind 44) o)) (from_number (Some (v, option_map (front 44) o))) ≡ from_parts (Some (v, o))) [
+      let own : segment_of (front 44 w) ≡ from_number (Some (v, option_map (front 44) (behind 43 w))) = read_segment (front 44 w)
+      ∙ rw (at.front_is, at.behind_is, e) refl in
+      rw (own, at.rest_is) (elim (behind 43 w) as
+      (λ o. option_map (λ s. (s, option_and_then (behind 44) o)) (from_number (Some (v, option_map (front 44) o))) ≡ from_parts (Some (v, o))) [
         | None ↦ refl
         | Some rest ↦ rest_parts v rest
       ])
@@ -309,7 +354,8 @@ pub parts_read : (w : List ℕ) (read : Option (ℕ × Option (List ℕ))) → r
 parts_read w read e = ap from_parts (e ∙ number_is 43 w refl) ∙ sym (read_parts w)
 
 -- A segment of a list by its two numbers.
-pub parts_by_numbers : (w rest : List ℕ) (addr : ℕ) (len : Option (ℕ × Option (List ℕ))) → Some (addr, Some rest) ≡ number_before 43 w → len ≡ number_before 44 rest
+pub parts_by_numbers : (w rest : List ℕ) (addr : ℕ) (len : Option (ℕ × Option (List ℕ))) → Some (addr, Some rest) ≡ number_before 43 w
+    → len ≡ number_before 44 rest
     → option_map {U = Segment × Option (List ℕ)} (λ l. (record { addr = addr; len = l.0 }, l.1)) len ≡ segment_before w
 parts_by_numbers w rest addr len e f =
     ap (option_map {U = Segment × Option (List ℕ)} (λ l. (record { addr = addr; len = l.0 }, l.1))) f ∙ parts_read w (Some (addr, Some rest)) e
@@ -321,10 +367,12 @@ parts_behind (Some rest) = slice_split (λ b. eqb b 44) rest
 
 split_first : (w : List ℕ) → slice_split (λ b. eqb b 44) w ≡ front 44 w ∷ parts_behind (behind 44 w)
 split_first [] = refl
-split_first (b ∷ w) = elim (eqb b 44) as (λ u. cond u ([] ∷ slice_split (λ b. eqb b 44) w) (onto_first b (slice_split (λ b. eqb b 44) w)) ≡ cond u [] (b ∷ front 44 w) ∷ parts_behind (cond u (Some w) (behind 44 w))) [
-  | true ↦ refl
-  | false ↦ ap (onto_first b) (split_first w)
-]
+split_first (b ∷ w) = elim (eqb b 44) as
+    (λ u. cond u ([] ∷ slice_split (λ b. eqb b 44) w) (onto_first b (slice_split (λ b. eqb b 44) w)) ≡ cond u [] (b ∷ front 44 w) ∷ parts_behind
+    (cond u (Some w) (behind 44 w))) [
+      | true ↦ refl
+      | false ↦ ap (onto_first b) (split_first w)
+    ]
 
 -- The segments of a list from what its first part is and what follows.
 abbrev pub segments_from : Option (Segment × Option (List ℕ)) → Option (List Segment)
@@ -333,12 +381,16 @@ segments_from (Some (segment, None)) = Some (segment ∷ [])
 segments_from (Some (segment, Some rest)) = option_map (λ more. segment ∷ more) (list_of rest)
 
 pub list_first : (w : List ℕ) → list_of w ≡ segments_from (segment_before w)
-list_first w = ap (λ parts. each_of (map segment_of parts)) (split_first w) ∙ elim (segment_of (front 44 w)) as (λ o. each_of (o ∷ map segment_of (parts_behind (behind 44 w))) ≡ segments_from (option_map (λ s. (s, behind 44 w)) o)) [
-  | None ↦ refl
-  | Some segment ↦ elim (behind 44 w) as (λ o. each_of (Some segment ∷ map segment_of (parts_behind o)) ≡ segments_from (Some (segment, o))) [ None ↦ refl | Some rest ↦ refl ]
-]
+list_first w = ap (λ parts. each_of (map segment_of parts)) (split_first w)
+    ∙ elim (segment_of (front 44 w))
+    as (λ o. each_of (o ∷ map segment_of (parts_behind (behind 44 w))) ≡ segments_from (option_map (λ s. (s, behind 44 w)) o)) [
+      | None ↦ refl
+      | Some segment ↦ elim (behind 44 w) as (λ o. each_of (Some segment ∷ map segment_of (parts_behind o)) ≡ segments_from (Some (segment, o)))
+          [ None ↦ refl | Some rest ↦ refl ]
+    ]
 
-behind_of : (o : Option Segment) (r : Option (List ℕ)) (segment : Segment) (rest : List ℕ) → option_map {U = Segment × Option (List ℕ)} (λ s. (s, r)) o ≡ Some (segment, Some rest) → r ≡ Some rest
+behind_of : (o : Option Segment) (r : Option (List ℕ)) (segment : Segment) (rest : List ℕ)
+    → option_map {U = Segment × Option (List ℕ)} (λ s. (s, r)) o ≡ Some (segment, Some rest) → r ≡ Some rest
 behind_of None r segment rest e = absurd (let bad : None ≡ Some (segment, Some rest) = e in cc)
 behind_of (Some s) r segment rest e = ap (λ (o : Option (Segment × Option (List ℕ))). (unwrap_or {T = Segment × Option (List ℕ)} o (segment, None)).1) e
 
@@ -361,20 +413,24 @@ pub segment_none : (list : List Segment) (rest : List ℕ) → segment_before re
 segment_none list rest e = rw (list_first rest, e) refl
 
 -- One more segment.
-pub segment_more : (list : List Segment) (rest : List ℕ) (segment : Segment) (after : Option (List ℕ)) → segment_before rest ≡ Some (segment, after) → with_rest list (Some rest) ≡ with_rest (list ++ segment ∷ []) after
-segment_more list rest segment after e = rw (list_first rest, e) (elim after as (λ o. option_map (λ more. list ++ more) (segments_from (Some (segment, o))) ≡ with_rest (list ++ segment ∷ []) o) [
-  | None ↦ refl
-  | Some more ↦ elim (list_of more) as (λ o. option_map (λ more. list ++ more) (option_map (λ more. segment ∷ more) o) ≡ option_map (λ more. (list ++ segment ∷ []) ++ more) o) [
-    | None ↦ refl
-    | Some l ↦ ap Some (sym (append_assoc list (segment ∷ []) l))
-  ]
-])
+pub segment_more : (list : List Segment) (rest : List ℕ) (segment : Segment) (after : Option (List ℕ)) → segment_before rest ≡ Some (segment, after)
+    → with_rest list (Some rest) ≡ with_rest (list ++ segment ∷ []) after
+segment_more list rest segment after e =
+    rw (list_first rest, e) (elim after as (λ o. option_map (λ more. list ++ more) (segments_from (Some (segment, o))) ≡ with_rest (list ++ segment ∷ []) o) [
+      | None ↦ refl
+      | Some more ↦ elim (list_of more) as
+          (λ o. option_map (λ more. list ++ more) (option_map (λ more. segment ∷ more) o) ≡ option_map (λ more. (list ++ segment ∷ []) ++ more) o) [
+            | None ↦ refl
+            | Some l ↦ ap Some (sym (append_assoc list (segment ∷ []) l))
+          ]
+    ])
 
 -- How much is left to read: nothing, or a text with at least one part.
 abbrev pub left_of : Option (Bor (List ℕ)) → ℕ
 left_of None = 0
 left_of (Some rest) = length rest.now + 1
 
-pub left_less : (w : List ℕ) (segment : Segment) (after : Option (Bor (List ℕ))) → segment_before w ≡ Some (segment, option_map (λ rest. rest.now) after) → left_of after < length w + 1
+pub left_less : (w : List ℕ) (segment : Segment) (after : Option (Bor (List ℕ))) → segment_before w ≡ Some (segment, option_map (λ rest. rest.now) after)
+    → left_of after < length w + 1
 left_less w segment None e = omega arith
 left_less w segment (Some rest) e = omega (arith, shorter w rest.now segment e)

@@ -1,8 +1,8 @@
 -- Whether a line is skipped: it is if its first byte that is not a blank is #.
 use Rattle.std.proofs.Common.{◌≡◌, ℕ, ◌<◌, ◌==◌, not, false, List, [], ◌∷◌, length, filter, get_or, refl, arith}
 use Rattle.std.specs.List.{onto_first, slice_split}
-use Rattle.dma_script.specs.Words.{words_of, is_blank}
-use Rattle.dma_script.specs.Lines.{is_skipped}
+use Rattle.dma_text.specs.Lines.{is_blank}
+use Rattle.dma_script.specs.{Words.words_of, Lines.is_skipped}
 use Rattle.dma_script.proofs.HexLemmas.{some_word}
 
 part_skips : (a : ℕ) (parts : List (List ℕ)) → is_skipped (filter (λ word. not (length word == 0)) (onto_first a parts)) ≡ (a == 35)

@@ -1,224 +1,43 @@
 -- The cause that is reported for a faulty line (profile): the first that applies, where each cause is tested over all
--- words of the line, from the left, before the next one. The table doesn't depend on the order in which a line is read.
--- It shares with the readers the limits, and what a line, a keyword and a single word are: `lines`, `is_skipped`,
--- `is_plain`, `words_of`; `keyword_of`, `race_keyword_of`, `is_early`; `number_of`, `segment_of`, `list_of`,
--- `bytes_in`. All other tests are its own.
--- That the readers of run, race and plan scripts report the same is the law `FirstCausesAreReported` for every line,
--- and `FirstFaultsAreReported` for every script.
-use Rattle.std.specs.Prelude.{◌≡◌, ℕ, ◌+◌, Bool, true, false, not, ◌&&◌, ◌||◌, nat_le, nat_lt, if◌then◌else◌, List, [], ◌∷◌, length, map, Option, Some, None, Result, Ok, Err, is_some, unwrap_or, codes}
-use Rattle.std.specs.List.{list_all, list_any}
-use Rattle.std.specs.Option.{option_map, option_or}
-use Rattle.std.specs.Str.{bytes_eq}
-use Rattle.std.specs.Str.Lines.{lines}
-use Rattle.dma_mem.specs.Limits.{largest_size, last_channel, most_channels}
-use Rattle.dma_script.specs.Words.{words_of, is_plain, number_of, segment_of, list_of, bytes_in}
-use Rattle.dma_script.specs.Lines.{is_skipped, after_line}
-use Rattle.dma_script.specs.Statements.{keyword_of, most_line_steps, run_step, run_script_of}
-use Rattle.dma_script.specs.Plan.{plan_step, plan_of}
-use Rattle.dma_script.specs.Race.{RaceRead, most_jobs, race_keyword_of, is_early, race_step, race_script_of}
-use Rattle.dma_script.specs.declared.fault.Cause.{Cause}
+-- words of the line, from the left, before the next one. It doesn't depend on the order in which a line is read. The
+-- words after each command, and their causes, are those of `statement`, `memory`, `transfer` and `job`. That the
+-- readers of run, race and plan scripts report the same is the law `FirstCausesAreReported` for every line, and
+-- `FirstFaultsAreReported` for every script.
+use Rattle.std.specs.Prelude.{◌≡◌, ℕ, ◌+◌, Bool, true, false, not, ◌&&◌, ◌||◌, nat_le, nat_lt, if◌then◌else◌, List, [], ◌∷◌, length, Option, Some, None, Result}
+use Rattle.std.specs.Prelude.{Ok, Err, is_some}
+use Rattle.std.specs.{List.list_all, List.list_any, Option.option_map, Option.option_or, Str.Lines.lines}
+use Rattle.dma_mem.specs.Limits.{last_channel}
+use Rattle.dma_script.specs.Arguments.{where_not, first_reported, Operand, number_or_zero, makes, operands, words_cause}
+use Rattle.dma_script.specs.Statements.{keyword_of, memory, statement, run_step, run_script_of}
+use Rattle.dma_script.specs.Race.{RaceRead, most_jobs, race_keyword_of, is_early, job, race_step, race_script_of}
+use Rattle.dma_script.specs.{Words.words_of, Words.is_plain, Lines.is_skipped, Lines.after_line, Plan.transfer, Plan.plan_step, Plan.plan_of}
+use Rattle.dma_script.specs.{declared.fault.Cause.Cause, declared.fault.Fault.Fault, declared.transfer_line.TransferLine.TransferLine}
+use Rattle.dma_script.specs.{declared.statements.Keyword.Keyword, declared.statements.RunScript.RunScript, declared.race.RaceKeyword.RaceKeyword}
 use Rattle.dma_script.specs.declared.fault.Cause.TheVariants as causes
-use Rattle.dma_script.specs.declared.fault.Fault.{Fault}
-use Rattle.dma_script.specs.declared.transfer_line.TransferLine.{TransferLine}
-use Rattle.dma_script.specs.declared.statements.Keyword.{Keyword}
 use Rattle.dma_script.specs.declared.statements.Keyword.TheVariants as keywords
-use Rattle.dma_script.specs.declared.statements.RunScript.{RunScript}
-use Rattle.dma_script.specs.declared.race.RaceKeyword.{RaceKeyword}
 use Rattle.dma_script.specs.declared.race.RaceKeyword.TheVariants as race_keywords
-
--- no cause if a test holds, else this cause
-abbrev pub where_not : Bool → Cause → Option Cause
-where_not holds cause = if holds then None else Some cause
-
--- the first cause of a list of tests, each of which gives a cause or none
-abbrev pub first_reported : List (Option Cause) → Option Cause
-first_reported [] = None
-first_reported (test ∷ tests) = option_or test (first_reported tests)
-
--- ---- one word
-
--- What a word has to be: any number; a number of a channel or an event; a number of steps; the size of a memory; the
--- number of its channels; a segment; a list of segments; bytes in hexadecimal digits.
-pub data Form : Type 0 where
-  number : Form
-  byte : Form
-  steps : Form
-  size : Form
-  channels : Form
-  segment : Form
-  list : Form
-  hex : Form
-
--- a word, and what it has to be
-pub record Operand : Type 0 where
-  pub form : Form
-  pub word : List ℕ
-
--- the number that a word spells, or 0 if it spells none
-abbrev pub number_or_zero : List ℕ → ℕ
-number_or_zero word = unwrap_or (number_of word) 0
-
--- whether a number is at least `low` and at most `high`
-abbrev pub is_between : ℕ → ℕ → ℕ → Bool
-is_between low high n = nat_le low n && nat_le n high
-
--- `Number`, or `Hex` for hexadecimal digits, if a word is not in its form
-abbrev pub form_cause : Form → List ℕ → Option Cause
-form_cause segment word = where_not (is_some (segment_of word)) causes.Number
-form_cause list word = where_not (is_some (list_of word)) causes.Number
-form_cause hex word = where_not (is_some (bytes_in word)) causes.Hex
-form_cause _ word = where_not (is_some (number_of word)) causes.Number
-
--- `Range` for a channel or an event above 255, or a number of steps that is 0 or above 1,000,000
-abbrev pub range_cause : Form → List ℕ → Option Cause
-range_cause byte word = where_not (is_between 0 255 (number_or_zero word)) causes.Range
-range_cause steps word = where_not (is_between 1 most_line_steps (number_or_zero word)) causes.Range
-range_cause _ word = None
-
--- `SizeOutOfRange` for a size of 0 or above 4,294,963,200
-abbrev pub size_cause : Form → List ℕ → Option Cause
-size_cause size word = where_not (is_between 1 largest_size (number_or_zero word)) causes.SizeOutOfRange
-size_cause _ word = None
-
--- `BadChannels` for 0 or more than 8 channels
-abbrev pub channels_cause : Form → List ℕ → Option Cause
-channels_cause channels word = where_not (is_between 1 most_channels (number_or_zero word)) causes.BadChannels
-channels_cause _ word = None
-
--- the first cause of one test over all words, from the left
-abbrev pub first_over : (Form → List ℕ → Option Cause) → List Operand → Option Cause
-first_over test operands = first_reported (map (λ operand. test operand.form operand.word) operands)
 
 -- ---- one line
 
 -- What a kind of script requires of a line. `command`: its first word is a command that is allowed there, or the script
--- has no commands. `first`: it is the memory line exactly if that is required there. `operands`: its words except the
--- command and the fixed ones, each with its form; `None` if a word is missing, one is too many, or a fixed one is
--- wrong. `in_range`: the other conditions of the cause `Range` hold.
+-- has no commands. `first`: it is the memory line exactly if that is required there. `operands`: the causes of its
+-- words except the command and the fixed ones; `None` if a word is missing, one is too many, or a fixed one is wrong.
+-- `in_range`: the other conditions of the cause `Range` hold.
 pub record Asked : Type 0 where
   pub command : Bool
   pub first : Bool
   pub operands : Option (List Operand)
   pub in_range : Bool
 
--- The table: the tests of a line, in their order.
+-- the tests of a line, in their order
 abbrev pub tests : List ℕ → Asked → List (Option Cause)
 tests line asked =
-    let operands = unwrap_or asked.operands [] in
-    where_not (list_all is_plain line) causes.Byte
-    ∷ where_not asked.command causes.Command
-    ∷ where_not asked.first causes.First
-    ∷ where_not (is_some asked.operands) causes.Words
-    ∷ first_over form_cause operands
-    ∷ first_over range_cause operands
-    ∷ where_not asked.in_range causes.Range
-    ∷ first_over size_cause operands
-    ∷ first_over channels_cause operands
-    ∷ []
+    where_not (list_all is_plain line) causes.Byte ∷ where_not asked.command causes.Command ∷ where_not asked.first causes.First
+    ∷ words_cause asked.operands ∷ where_not asked.in_range causes.Range ∷ []
 
 -- The cause that is reported for a line, given what is required of its words; none for a line that is skipped.
 abbrev pub line_reported : (List (List ℕ) → Asked) → List ℕ → Option Cause
 line_reported asks line = if is_skipped (words_of line) then None else first_reported (tests line (asks (words_of line)))
-
--- ---- the words after the first
-
--- no operands; `None` if there is a word
-abbrev pub bare : List (List ℕ) → Option (List Operand)
-bare [] = Some []
-bare _ = None
-
--- one word of a form; `None` if there is not exactly one
-abbrev pub one : Form → List (List ℕ) → Option (List Operand)
-one form (a ∷ []) = Some (record { form = form; word = a } ∷ [])
-one form _ = None
-
--- two words, each of its form; `None` if there are not exactly two
-abbrev pub two : Form → Form → List (List ℕ) → Option (List Operand)
-two first second (a ∷ b ∷ []) = Some (record { form = first; word = a } ∷ record { form = second; word = b } ∷ [])
-two first second _ = None
-
--- `ADDR HEX`, with one word of digits or more
-abbrev pub address_and_bytes : List (List ℕ) → Option (List Operand)
-address_and_bytes (addr ∷ word ∷ more) =
-    Some (record { form = number; word = addr } ∷ map (λ w. record { form = hex; word = w }) (word ∷ more))
-address_and_bytes _ = None
-
--- a word of a form, and then `to LIST`; `None` for any other words
-abbrev pub one_to_list : Form → List (List ℕ) → Option (List Operand)
-one_to_list form (src ∷ to ∷ dst ∷ []) =
-    if bytes_eq to (codes "to")
-    then Some (record { form = form; word = src } ∷ record { form = list; word = dst } ∷ []) else None
-one_to_list form _ = None
-
--- `[wait E] [signal E]`
-abbrev pub events : List (List ℕ) → Option (List Operand)
-events [] = Some []
-events (fixed ∷ e ∷ []) =
-    if bytes_eq fixed (codes "wait") then Some (record { form = byte; word = e } ∷ []) else (
-    if bytes_eq fixed (codes "signal") then Some (record { form = byte; word = e } ∷ []) else None)
-events (wait ∷ e ∷ signal ∷ f ∷ []) =
-    if bytes_eq wait (codes "wait") && bytes_eq signal (codes "signal")
-    then Some (record { form = byte; word = e } ∷ record { form = byte; word = f } ∷ []) else None
-events _ = None
-
--- a word of a form, and then `to LIST [wait E] [signal E]`; `None` for any other words
-abbrev pub one_to_list_and_events : Form → List (List ℕ) → Option (List Operand)
-one_to_list_and_events form (src ∷ to ∷ dst ∷ more) =
-    if bytes_eq to (codes "to")
-    then option_map (λ rest. record { form = form; word = src } ∷ record { form = list; word = dst } ∷ rest) (events more)
-    else None
-one_to_list_and_events form _ = None
-
--- `LIST to LIST [wait E] [signal E]`, or `fill ADDR to LIST [wait E] [signal E]`: the word `fill` begins no list
-abbrev pub transfer : List (List ℕ) → Option (List Operand)
-transfer (word ∷ words) =
-    if bytes_eq word (codes "fill") then one_to_list_and_events number words else one_to_list_and_events list (word ∷ words)
-transfer [] = None
-
--- `CH`, and then a transfer
-abbrev pub channel_and_transfer : List (List ℕ) → Option (List Operand)
-channel_and_transfer (ch ∷ words) = option_map (λ rest. record { form = byte; word = ch } ∷ rest) (transfer words)
-channel_and_transfer _ = None
-
--- `CH [N]`
-abbrev pub channel_and_steps : List (List ℕ) → Option (List Operand)
-channel_and_steps (ch ∷ []) = Some (record { form = byte; word = ch } ∷ [])
-channel_and_steps (ch ∷ n ∷ []) = Some (record { form = byte; word = ch } ∷ record { form = steps; word = n } ∷ [])
-channel_and_steps _ = None
-
--- `read SEG` or `write SEG`
-abbrev pub kind_and_segment : List (List ℕ) → Option (List Operand)
-kind_and_segment (kind ∷ s ∷ []) =
-    if bytes_eq kind (codes "read") || bytes_eq kind (codes "write")
-    then Some (record { form = segment; word = s } ∷ []) else None
-kind_and_segment _ = None
-
--- `FIRST LAST TURNS`
-abbrev pub three_numbers : List (List ℕ) → Option (List Operand)
-three_numbers (a ∷ b ∷ c ∷ []) =
-    Some (record { form = number; word = a } ∷ record { form = number; word = b } ∷ record { form = number; word = c } ∷ [])
-three_numbers _ = None
-
--- the words after each command of a run script
-abbrev pub operands_of : Keyword → List (List ℕ) → Option (List Operand)
-operands_of keywords.Memory words = two size channels words
-operands_of keywords.Write words = address_and_bytes words
-operands_of keywords.Read words = one segment words
-operands_of keywords.Copy words = one_to_list list words
-operands_of keywords.Fill words = one_to_list number words
-operands_of keywords.Submit words = channel_and_transfer words
-operands_of keywords.Issue words = one byte words
-operands_of keywords.Pause words = one byte words
-operands_of keywords.Resume words = one byte words
-operands_of keywords.Terminate words = one byte words
-operands_of keywords.Step words = channel_and_steps words
-operands_of keywords.Status words = two byte number words
-operands_of keywords.Result words = two byte number words
-operands_of keywords.Mark words = kind_and_segment words
-operands_of keywords.Unmark words = bare words
-operands_of keywords.Raise words = one byte words
-operands_of keywords.Checkpoint words = bare words
-operands_of keywords.Totals words = bare words
 
 -- ---- what each kind of script requires
 
@@ -230,6 +49,10 @@ no_command = record { command = false; first = true; operands = None; in_range =
 abbrev pub is_memory : Keyword → Bool
 is_memory keywords.Memory = true
 is_memory _ = false
+
+-- the words after each command of a run script
+abbrev pub operands_of : Keyword → List (List ℕ) → Option (List Operand)
+operands_of keyword words = elim (statement keyword) [ Err cause ↦ operands memory words | Ok shape ↦ operands shape words ]
 
 -- what a run script requires of a line with this command, after a memory line or not: the first line is the memory
 -- line, and no other is
@@ -250,7 +73,7 @@ run_asks behind (word ∷ words) = elim (keyword_of word) [ None ↦ no_command 
 -- what a plan script requires of a line, after its first line or not: it has only one line, which has no command
 abbrev pub plan_asks : Bool → List (List ℕ) → Asked
 plan_asks behind words =
-    record { command = true; first = true; operands = if behind then None else transfer words; in_range = true }
+    record { command = true; first = true; operands = if behind then None else operands (transfer makes) words; in_range = true }
 
 -- whether FIRST is at most LAST, and LAST at most 7; true if there are not three words
 abbrev pub job_in_range : List (List ℕ) → Bool
@@ -273,11 +96,11 @@ race_asked side race_keywords.Job words =
     record {
       command = not side.after_go;
       first = side.behind;
-      operands = three_numbers words;
+      operands = operands job words;
       in_range = job_in_range words && nat_lt side.jobs most_jobs;
     }
 race_asked side race_keywords.Go words =
-    record { command = not side.after_go; first = side.behind; operands = bare words; in_range = true }
+    record { command = not side.after_go; first = side.behind; operands = operands {A = Unit {0}} (makes tt) words; in_range = true }
 
 -- what a race script requires of a line
 abbrev pub race_asks : RaceSide → List (List ℕ) → Asked

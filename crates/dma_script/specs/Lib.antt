@@ -1,4 +1,4 @@
--- What words spell, how a script is read up to its first fault, the meaning of the words after the first of a line, the
+-- What words spell, how a script is read up to its first fault, the shapes of the words after the first of a line, the
 -- line of a plan, the lines of a run script and of a race script, pairs of digits, the printed lines of faults, the
 -- table of causes, and lines that run one after another.
 pub mod Words

@@ -2,14 +2,11 @@
 -- what was read so far and of the words of the line, which gives what has been read after the line, or the cause of a
 -- fault. Each kind of script has its own step.
 use Rattle.std.specs.Prelude.{◌≡◌, ℕ, ◌+◌, Bool, true, ◌==◌, not, if◌then◌else◌, List, [], ◌∷◌, slice_index, Result, Ok, Err}
-use Rattle.std.specs.List.{list_all, position_or_len}
-use Rattle.std.specs.Str.Lines.{lines}
-use Rattle.dma_script.specs.Words.{words_of, is_plain}
-use Rattle.dma_script.specs.declared.fault.Cause.{Cause}
-use Rattle.dma_script.specs.declared.fault.Cause.TheVariants.{Byte}
+use Rattle.std.specs.{List.list_all, List.position_or_len, Str.Lines.lines}
+use Rattle.dma_text.specs.Results.{◌>>=◌}
+use Rattle.dma_script.specs.{Words.words_of, Words.is_plain, declared.fault.Cause.Cause, declared.fault.Cause.TheVariants.Byte}
+use Rattle.dma_script.specs.{declared.fault.ReadError.ReadError, declared.fault.ReadError.TheVariants.NoMemory, declared.fault.ReadError.TheVariants.Fault}
 use Rattle.dma_script.specs.declared.fault.Fault.{Fault as LineFault}
-use Rattle.dma_script.specs.declared.fault.ReadError.{ReadError}
-use Rattle.dma_script.specs.declared.fault.ReadError.TheVariants.{NoMemory, Fault}
 
 -- whether a line is skipped: it has no words, or its first word begins with #
 abbrev pub is_skipped : List (List ℕ) → Bool
@@ -27,12 +24,6 @@ after_line step read line =
 abbrev pub at_line : {S : Type 0} → ℕ → Result S Cause → Result S LineFault
 at_line n (Ok read) = Ok read
 at_line n (Err cause) = Err (record { line = n; cause = cause })
-
-infixl 10 ◌>>=◌
--- the next step, given the value of a result; a fault of the result is kept
-abbrev pub ◌>>=◌ : {A B E : Type 0} → Result A E → (A → Result B E) → Result B E
-(Ok x) >>= f = f x
-(Err e) >>= f = Err e
 
 -- What has been read after the lines that follow line n, or their first fault.
 abbrev pub after_lines : {S : Type 0} → (S → List (List ℕ) → Result S Cause) → ℕ → S → List (List ℕ) → Result S LineFault

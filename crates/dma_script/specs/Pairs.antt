@@ -1,9 +1,7 @@
 -- The input of `dis`: pairs of hexadecimal digits (profile).
 use Rattle.std.specs.Prelude.{ℕ, ◌+◌, ◌*◌, Bool, ◌==◌, ◌||◌, if◌then◌else◌, List, [], ◌∷◌, Option, Some, Result, Ok, Err}
-use Rattle.dma_script.specs.Words.{is_blank, hex_digit_of}
-use Rattle.dma_script.specs.Lines.{◌>>=◌}
-use Rattle.dma_script.specs.declared.fault.Cause.TheVariants.{Hex}
-use Rattle.dma_script.specs.declared.fault.Fault.{Fault}
+use Rattle.dma_text.specs.{Lines.is_blank, Results.◌>>=◌}
+use Rattle.dma_script.specs.{Words.hex_digit_of, declared.fault.Cause.TheVariants.Hex, declared.fault.Fault.Fault}
 
 -- whether a byte may separate pairs: a space, a tab, a carriage return or a line feed
 abbrev pub is_gap : ℕ → Bool

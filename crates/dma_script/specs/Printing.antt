@@ -1,10 +1,9 @@
 -- The printed lines of faults, without their line feeds (profile).
 use Rattle.std.specs.Prelude.{ℕ, ◌++◌, List, [], codes, decimal}
-use Rattle.dma_script.specs.declared.fault.Cause.{Cause}
 use Rattle.dma_script.specs.declared.fault.Cause.TheVariants.{Byte, Command, First, Words, Number, Hex, Range, SizeOutOfRange, BadChannels, Go}
-use Rattle.dma_script.specs.declared.fault.Fault.{Fault as ScriptFault}
-use Rattle.dma_script.specs.declared.fault.ReadError.{ReadError}
 use Rattle.dma_script.specs.declared.fault.ReadError.TheVariants.{Fault, NoMemory}
+use Rattle.dma_script.specs.{declared.fault.Cause.Cause, declared.fault.ReadError.ReadError}
+use Rattle.dma_script.specs.declared.fault.Fault.{Fault as ScriptFault}
 
 -- the name of a cause
 abbrev pub cause_name : Cause → List ℕ

@@ -1,26 +1,19 @@
 -- The lines of a race script (profile): those before `go`, with jobs among them, and those after it. The test for the
 -- side of `go` comes before the test for the first line.
-use Rattle.std.specs.Prelude.{ℕ, ◌≤◌, ◌&&◌, Bool, true, false, nat_le, nat_lt, if◌then◌else◌, List, [], ◌∷◌, ◌++◌, length, Option, Some, None, Result, Ok, Err, codes}
-use Rattle.std.specs.List.{All}
-use Rattle.std.specs.Option.{ok_or, option_map}
-use Rattle.std.specs.Str.{bytes_eq}
-use Rattle.dma_mem.specs.declared.call.Call.TheVariants as calls
+use Rattle.std.specs.Prelude.{ℕ, ◌≤◌, ◌&&◌, Bool, true, false, nat_le, nat_lt, if◌then◌else◌, List, [], ◌∷◌, ◌++◌, length, Option, Some, None, Result, Ok, Err}
+use Rattle.std.specs.Prelude.{codes}
+use Rattle.std.specs.{List.All, Option.ok_or, Option.option_map, Str.bytes_eq}
 use Rattle.dma_mem.specs.Limits.{last_channel}
-use Rattle.dma_script.specs.Lines.{◌>>=◌, after_script}
-use Rattle.dma_script.specs.Arguments.{number_at}
-use Rattle.dma_script.specs.Statements.{IsWithin, keyword_of, later_line, next_line}
-use Rattle.dma_script.specs.declared.fault.Cause.{Cause}
+use Rattle.dma_text.specs.Results.{◌>>=◌}
+use Rattle.dma_script.specs.{Lines.after_script, Arguments.Shape, Arguments.makes, Arguments.number, Arguments.meaning, Statements.IsWithin}
+use Rattle.dma_script.specs.{Statements.keyword_of, Statements.later_line, Statements.next_line, declared.fault.Cause.Cause, declared.fault.Fault.Fault}
+use Rattle.dma_script.specs.{declared.statements.Keyword.Keyword, declared.statements.Statement.Statement, declared.statements.RunScript.RunScript}
+use Rattle.dma_script.specs.{declared.race.JobLine.JobLine, declared.race.RaceKeyword.RaceKeyword, declared.race.RaceKeyword.TheVariants.Line}
+use Rattle.dma_script.specs.{declared.race.RaceKeyword.TheVariants.Job, declared.race.RaceKeyword.TheVariants.Go, declared.race.RaceScript.RaceScript}
+use Rattle.dma_mem.specs.declared.call.Call.TheVariants as calls
 use Rattle.dma_script.specs.declared.fault.Cause.TheVariants as causes
-use Rattle.dma_script.specs.declared.fault.Fault.{Fault}
-use Rattle.dma_script.specs.declared.statements.Keyword.{Keyword}
 use Rattle.dma_script.specs.declared.statements.Keyword.TheVariants.{Memory, Write, Read, Submit, Issue, Terminate, Status, Result as Outcome}
-use Rattle.dma_script.specs.declared.statements.Statement.{Statement}
 use Rattle.dma_script.specs.declared.statements.Statement.TheVariants as statements
-use Rattle.dma_script.specs.declared.statements.RunScript.{RunScript}
-use Rattle.dma_script.specs.declared.race.JobLine.{JobLine}
-use Rattle.dma_script.specs.declared.race.RaceKeyword.{RaceKeyword}
-use Rattle.dma_script.specs.declared.race.RaceKeyword.TheVariants.{Line, Job, Go}
-use Rattle.dma_script.specs.declared.race.RaceScript.{RaceScript}
 
 -- the command that a word spells: `job`, `go`, or a command of a run script
 abbrev pub race_keyword_of : List ℕ → Option RaceKeyword
@@ -48,15 +41,16 @@ where_holds holds cause = if holds then Ok tt else Err cause
 abbrev pub most_jobs : ℕ
 most_jobs = 16
 
--- the job of the words after `job`, `FIRST LAST TURNS`; `Range` if FIRST is above LAST, or LAST above 7
+-- `FIRST LAST TURNS`
+abbrev pub job : Shape JobLine
+job = number λ first. number λ last. number λ turns. makes (record { first = first; last = last; turns = turns })
+
+-- the job of the words after `job`; `Range` if FIRST is above LAST, or LAST above 7
 abbrev pub job_line : List (List ℕ) → Result JobLine Cause
-job_line (first ∷ last ∷ turns ∷ []) = do
-  first ← number_at first
-  last ← number_at last
-  turns ← number_at turns
-  in_range ← where_holds (nat_le first last && nat_le last last_channel) causes.Range
-  Ok (record { first = first; last = last; turns = turns })
-job_line _ = Err causes.Words
+job_line words = do
+  job ← meaning job words
+  in_range ← where_holds (nat_le job.first job.last && nat_le job.last last_channel) causes.Range
+  Ok job
 
 -- The part of a race script that was read so far: the memory line with the lines before `go`, the jobs, and, once `go`
 -- was read, the lines after it.

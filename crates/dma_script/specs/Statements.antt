@@ -1,23 +1,16 @@
 -- The lines of a run script (profile).
 use Rattle.std.specs.Prelude.{ℕ, ◌≤◌, if◌then◌else◌, List, [], ◌∷◌, ◌++◌, Option, Some, None, Result, Ok, Err, codes}
-use Rattle.std.specs.Option.{ok_or}
-use Rattle.std.specs.Str.{bytes_eq}
-use Rattle.dma_mem.specs.declared.call.Call.TheVariants as calls
+use Rattle.std.specs.{Option.ok_or, Str.bytes_eq}
 use Rattle.dma_mem.specs.Limits.{largest_size, most_channels}
-use Rattle.dma_mem.specs.declared.marks.MarkKind.{MarkKind}
-use Rattle.dma_mem.specs.declared.marks.MarkKind.TheVariants.{Reading, Writing}
-use Rattle.dma_script.specs.Lines.{◌>>=◌, after_script}
-use Rattle.dma_script.specs.Arguments.{one, both, after_fixed, number_at, within_at, byte_at, segment_at, list_at, to_list_at, bytes_at}
-use Rattle.dma_script.specs.Plan.{plain, transfer_line}
-use Rattle.dma_script.specs.declared.fault.Cause.{Cause}
+use Rattle.dma_text.specs.Results.{◌>>=◌}
+use Rattle.dma_script.specs.Arguments.{Shape, makes, number, within, byte, segment, list, steps, bytes, fixed, kind, meaning}
+use Rattle.dma_script.specs.{Lines.after_script, Plan.plain, Plan.transfer, declared.fault.Cause.Cause, declared.fault.Fault.Fault}
+use Rattle.dma_script.specs.{declared.statements.Keyword.Keyword, declared.statements.Statement.Statement, declared.statements.RunScript.RunScript}
+use Rattle.dma_mem.specs.declared.call.Call.TheVariants as calls
 use Rattle.dma_script.specs.declared.fault.Cause.TheVariants as causes
-use Rattle.dma_script.specs.declared.fault.Fault.{Fault}
 use Rattle.dma_script.specs.declared.transfer_line.Origin.TheVariants as origins
-use Rattle.dma_script.specs.declared.statements.Keyword.{Keyword}
 use Rattle.dma_script.specs.declared.statements.Keyword.TheVariants as keywords
-use Rattle.dma_script.specs.declared.statements.Statement.{Statement}
 use Rattle.dma_script.specs.declared.statements.Statement.TheVariants as statements
-use Rattle.dma_script.specs.declared.statements.RunScript.{RunScript}
 
 -- the command that a word spells
 abbrev pub keyword_of : List ℕ → Option Keyword
@@ -41,16 +34,11 @@ keyword_of word =
     if bytes_eq word (codes "checkpoint") then Some keywords.Checkpoint else (
     if bytes_eq word (codes "totals") then Some keywords.Totals else None)))))))))))))))))
 
--- the most steps of a step line (profile)
-abbrev pub most_line_steps : ℕ
-most_line_steps = 1000000
-
 -- `memory SIZE CHANNELS`: a script with no line after it yet
-abbrev pub memory_line : List (List ℕ) → Result RunScript Cause
-memory_line (size ∷ channels ∷ []) =
-    both (within_at 1 largest_size causes.SizeOutOfRange size) (within_at 1 most_channels causes.BadChannels channels)
-    (λ size channels. record { size = size; channels = channels; statements = [] })
-memory_line _ = Err causes.Words
+abbrev pub memory : Shape RunScript
+memory =
+    within 1 largest_size causes.SizeOutOfRange λ size. within 1 most_channels causes.BadChannels λ channels.
+    makes (record { size = size; channels = channels; statements = [] })
 
 -- the ranges of a memory line
 abbrev pub IsWithin : RunScript → Type 0
@@ -58,44 +46,37 @@ IsWithin script = (1 ≤ script.size) × (script.size ≤ largest_size) × (1 �
 
 -- The first line, by its keyword and the words after it: the memory line, or `First` for any other.
 abbrev pub first_line : Keyword → List (List ℕ) → Result RunScript Cause
-first_line keywords.Memory words = memory_line words
+first_line keywords.Memory words = meaning memory words
 first_line _ words = Err causes.First
 
--- the kind of a mark: loads fail at a `read` mark, stores at a `write` mark
-abbrev pub kind_at : List ℕ → Result MarkKind Cause
-kind_at word = if bytes_eq word (codes "read") then Ok Reading else after_fixed (codes "write") word (Ok Writing)
+-- The table: the words after each keyword, and the statement that they make. `First` for the memory line.
+abbrev pub statement : Keyword → Result (Shape Statement) Cause
+statement keywords.Memory = Err causes.First
+statement keywords.Write = Ok (number λ addr. bytes λ bytes. makes (statements.Call (calls.Write addr bytes)))
+statement keywords.Read = Ok (segment λ s. makes (statements.Call (calls.Read s.addr s.len)))
+statement keywords.Copy =
+    Ok (list λ src. fixed (codes "to") (list λ dst. makes (statements.Copy (plain (origins.List src) dst))))
+statement keywords.Fill =
+    Ok (number λ src. fixed (codes "to") (list λ dst. makes (statements.Copy (plain (origins.Place src) dst))))
+statement keywords.Submit = Ok (byte λ ch. transfer λ transfer. makes (statements.Submit ch transfer))
+statement keywords.Issue = Ok (byte λ ch. makes (statements.Call (calls.Issue ch)))
+statement keywords.Pause = Ok (byte λ ch. makes (statements.Call (calls.Pause ch)))
+statement keywords.Resume = Ok (byte λ ch. makes (statements.Call (calls.Resume ch)))
+statement keywords.Terminate = Ok (byte λ ch. makes (statements.Call (calls.Terminate ch)))
+statement keywords.Step = Ok (byte λ ch. steps λ count. makes (statements.Step ch count))
+statement keywords.Status = Ok (byte λ ch. number λ cookie. makes (statements.Call (calls.Status ch cookie)))
+statement keywords.Result = Ok (byte λ ch. number λ cookie. makes (statements.Call (calls.Result ch cookie)))
+statement keywords.Mark = Ok (kind λ kind. segment λ segment. makes (statements.Call (calls.Mark kind segment)))
+statement keywords.Unmark = Ok (makes (statements.Call calls.Unmark))
+statement keywords.Raise = Ok (byte λ event. makes (statements.Call (calls.Raise event)))
+statement keywords.Checkpoint = Ok (makes (statements.Call calls.Checkpoint))
+statement keywords.Totals = Ok (makes statements.Totals)
 
--- A line after the first, by its keyword and the words after it: `First` for the memory line, and `Words` if a word is
--- missing or one is too many.
+-- A line after the first, by its keyword and the words after it: `First` for the memory line.
 abbrev pub later_line : Keyword → List (List ℕ) → Result Statement Cause
-later_line keywords.Memory words = Err causes.First
-later_line keywords.Write (addr ∷ word ∷ words) =
-    both (number_at addr) (bytes_at (word ∷ words)) (λ addr bytes. statements.Call (calls.Write addr bytes))
-later_line keywords.Read (segment ∷ []) = one (segment_at segment) (λ s. statements.Call (calls.Read s.addr s.len))
-later_line keywords.Copy (src ∷ to ∷ dst ∷ []) =
-    both (list_at src) (to_list_at to dst) (λ src dst. statements.Copy (plain (origins.List src) dst))
-later_line keywords.Fill (src ∷ to ∷ dst ∷ []) =
-    both (number_at src) (to_list_at to dst) (λ src dst. statements.Copy (plain (origins.Place src) dst))
-later_line keywords.Submit (ch ∷ words) =
-    both (byte_at ch) (transfer_line words) (λ ch transfer. statements.Submit ch transfer)
-later_line keywords.Issue (ch ∷ []) = one (byte_at ch) (λ ch. statements.Call (calls.Issue ch))
-later_line keywords.Pause (ch ∷ []) = one (byte_at ch) (λ ch. statements.Call (calls.Pause ch))
-later_line keywords.Resume (ch ∷ []) = one (byte_at ch) (λ ch. statements.Call (calls.Resume ch))
-later_line keywords.Terminate (ch ∷ []) = one (byte_at ch) (λ ch. statements.Call (calls.Terminate ch))
-later_line keywords.Step (ch ∷ []) = one (byte_at ch) (λ ch. statements.Step ch 1)
-later_line keywords.Step (ch ∷ n ∷ []) =
-    both (byte_at ch) (within_at 1 most_line_steps causes.Range n) (λ ch n. statements.Step ch n)
-later_line keywords.Status (ch ∷ cookie ∷ []) =
-    both (byte_at ch) (number_at cookie) (λ ch cookie. statements.Call (calls.Status ch cookie))
-later_line keywords.Result (ch ∷ cookie ∷ []) =
-    both (byte_at ch) (number_at cookie) (λ ch cookie. statements.Call (calls.Result ch cookie))
-later_line keywords.Mark (kind ∷ segment ∷ []) =
-    both (kind_at kind) (segment_at segment) (λ kind segment. statements.Call (calls.Mark kind segment))
-later_line keywords.Unmark [] = Ok (statements.Call calls.Unmark)
-later_line keywords.Raise (event ∷ []) = one (byte_at event) (λ event. statements.Call (calls.Raise event))
-later_line keywords.Checkpoint [] = Ok (statements.Call calls.Checkpoint)
-later_line keywords.Totals [] = Ok statements.Totals
-later_line _ words = Err causes.Words
+later_line keyword words = do
+  shape ← statement keyword
+  meaning shape words
 
 -- The next line of a run script: its first line, if nothing was read before, or else a line after that.
 abbrev pub next_line : Option RunScript → Keyword → List (List ℕ) → Result (Option RunScript) Cause

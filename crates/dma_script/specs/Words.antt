@@ -1,18 +1,13 @@
 -- The words of a line, and what a word spells: a number, a segment, a list of segments, bytes (profile).
-use Rattle.std.specs.Prelude.{ℕ, ◌^◌, ◌+◌, ◌*◌, Bool, ◌==◌, ◌||◌, ◌&&◌, not, nat_eq, nat_lt, nat_le, if◌then◌else◌, List, [], ◌∷◌, length, map, filter, drop, take, position, Option, Some, None, codes}
-use Rattle.std.specs.List.{slice_split, list_all, starts_with}
-use Rattle.std.specs.Str.Parse.{digits_value}
-use Rattle.std.specs.Char.{digit_value}
-use Rattle.std.specs.Option.{option_map, option_and_then}
+use Rattle.std.specs.Prelude.{ℕ, ◌^◌, ◌+◌, ◌*◌, Bool, ◌==◌, ◌||◌, ◌&&◌, not, nat_eq, nat_lt, nat_le, if◌then◌else◌, List, [], ◌∷◌, length, map, filter, drop}
+use Rattle.std.specs.Prelude.{take, position, Option, Some, None, codes}
+use Rattle.std.specs.{List.slice_split, List.list_all, List.starts_with, Str.Parse.digits_value, Char.digit_value, Option.option_map, Option.option_and_then}
+use Rattle.dma_text.specs.Lines.{is_blank}
 use Rattle.dma_mem.specs.declared.segment.Segment.{Segment}
 
 -- the parts between the separators
 abbrev pub parts_at : ℕ → List ℕ → List (List ℕ)
 parts_at separator bytes = slice_split (λ b. b == separator) bytes
-
--- whether a byte is a space or a tab
-abbrev pub is_blank : ℕ → Bool
-is_blank b = b == 32 || b == 9
 
 -- whether a byte is printable ASCII, a space or a tab
 abbrev pub is_plain : ℕ → Bool

@@ -1,19 +1,19 @@
 //! Reads the words after the first of a line, one after another.
 ghost use Rattle.std.specs.Prelude.{◌≡◌, ◌==◌, ◌≤◌, [], if◌then◌else◌, Err, IfOk, Ok, OnOk, is_some, unwrap_or};
 ghost use Rattle.dma_script.specs.Words.{hex_pair_of, list_of, words_of};
-ghost use Rattle.dma_script.specs.Arguments.{bytes_at};
+ghost use Rattle.dma_script.specs.Arguments.{bytes_at, where_not};
 ghost use Rattle.dma_script.specs.inner.Reading.{LineRead, after_word, begins, bytes_from, byte_from, count_from, ended, event_from, fixed_from, kind_from, list_from, next_of, noted, number_from, segment_from, skip_from, to_list_from, unread, within_from};
-ghost use Rattle.dma_script.specs.Causes.{where_not};
 
 use crate::fault::Cause;
 use crate::pairs::spaced_pairs;
-use crate::words::{is_blank, next_word, number, segment_before, segment_in, without_blanks};
+use crate::words::{next_word, number, segment_before, segment_in, without_blanks};
 use dma_mem::limits::MAX_SEGMENTS;
 use dma_mem::lists::{Bytes, Segments};
 use dma_mem::marks::MarkKind;
 use dma_mem::segment::Segment;
 use dma_text::bytes::{is_text, position_of};
 use dma_text::digits::digit_value;
+use dma_text::lines::is_blank;
 use std::alloc::{AllocError, Global};
 use std::marker::Model;
 use std::mem;

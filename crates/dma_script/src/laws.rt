@@ -3,7 +3,7 @@
 ghost use Rattle.dma_script.specs.Causes.{FirstCausesAreReported, FirstFaultsAreReported};
 
 /// Law: for a faulty line, each reader reports the first cause that applies. Each cause is tested over all words of the
-/// line before the next one.
+/// line before the next one. The causes are those of the table that also defines what a line means.
 pub fn first_causes_are_reported()
     ensures { FirstCausesAreReported }
 {}

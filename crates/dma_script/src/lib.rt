@@ -3,8 +3,8 @@
 //! Contracts see a script as its statements, or its first fault with its line.
 //!
 //! Proved: what `read_run_script`, `read_race_script`, `read_plan` and `read_pairs` return is a function of the input;
-//! the reported fault is the first of a table of causes (`laws::first_faults_are_reported`); `Statements::run` runs all
-//! lines, or those before the one that is out of memory.
+//! the reported fault is the first of the table that also defines what lines mean (`laws::first_faults_are_reported`);
+//! `Statements::run` runs all lines, or those before the one that is out of memory.
 #![tactic(auto)]
 
 mod arguments;

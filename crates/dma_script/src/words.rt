@@ -2,7 +2,8 @@
 ghost use Rattle.std.specs.Prelude.{◌≡◌, ◌==◌, ◌||◌, ◌∷◌, [], ◌<◌, ◌≤◌, MatchOption, false, true, length, position, slice_index};
 ghost use Rattle.std.specs.List.{list_all};
 ghost use Rattle.std.specs.Str.Lines.{lines, strip_carriage_return};
-ghost use Rattle.dma_script.specs.Words.{is_blank, is_plain, segment_of, words_of, number_of};
+ghost use Rattle.dma_text.specs.Lines.{is_blank};
+ghost use Rattle.dma_script.specs.Words.{is_plain, segment_of, words_of, number_of};
 ghost use Rattle.dma_script.specs.inner.Reading.{NoBlank};
 ghost use Rattle.dma_script.specs.inner.Digits.{digits_before, number_before, segment_before};
 ghost use Rattle.std.specs.Option.{option_map};
@@ -11,6 +12,7 @@ ghost use Rattle.std.specs.Char.{digit_value};
 use dma_mem::segment::Segment;
 use dma_text::bytes::position_of;
 use dma_text::digits::digit_value;
+use dma_text::lines::is_blank;
 use memchr::memchr2;
 
 /// Returns the line without a carriage return at its end.
@@ -54,14 +56,6 @@ pub fn split_line(input: &[u8]) -> (&[u8], &[u8])
         Some(end) => (without_return(&input[..end]), &input[end + 1..]),
         None => (input, &[]),
     }
-}
-
-/// Returns whether a byte is a space or a tab. Most bytes of a line are above both, and take one comparison.
-#[inline(always)]
-pub(crate) fn is_blank(byte: u8) -> bool
-    ensures { result ≡ is_blank byte }
-{
-    byte <= b' ' && (byte == b' ' || byte == b'\t')
 }
 
 /// Returns a line without its leading blanks.

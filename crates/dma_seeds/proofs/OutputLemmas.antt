@@ -1,19 +1,13 @@
 -- How the outputs of seeds are counted, one seed after another.
-use Rattle.std.proofs.Common.{◌≡◌, ℕ, zero, suc, ◌+◌, ◌-◌, ◌<◌, ◌≤◌, ◌^◌, Bool, true, false, not, List, [], ◌∷◌, ◌++◌, length, get_or, set, Some, None, refl, ap, sym, ◌∙◌, subst, arith, append-nil, inl, inr, map}
+use Rattle.std.proofs.Common.{◌≡◌, ℕ, zero, suc, ◌+◌, ◌-◌, ◌<◌, ◌≤◌, ◌^◌, Bool, true, false, not, List, [], ◌∷◌, ◌++◌, length, get_or, set, Some, None, refl}
+use Rattle.std.proofs.Common.{ap, sym, ◌∙◌, subst, arith, append-nil, inl, inr, map}
 use Rattle.std.specs.Prelude.{◌||◌, count_by, filter, if◌then◌else◌, position}
-use Rattle.std.specs.List.{All, list_any, position_or_len, range_with_len}
-use Rattle.std.specs.Str.{bytes_eq}
-use Rattle.std.proofs.lemmas.Bool.{cases_Bool, cases_lt, false≢true, lt-ltb, true≢false}
-use Rattle.std.proofs.lemmas.List.{get_or-map, length-map, map-append}
-use Rattle.std.proofs.lemmas.List.Elements.{filter-append}
-use Rattle.std.proofs.lemmas.List.Folds.{list_any-append}
-use Rattle.std.proofs.lemmas.List.FromFn.{length-range_with_len}
-use Rattle.std.proofs.lemmas.List.Quantifiers.{position-Some}
-use Rattle.std.proofs.lemmas.List.Sums.{count_by-le-length, fails_before_first, sum_by-cons, sum_by_push}
-use Rattle.std.proofs.lemmas.Slice.Eq.{bytes_eq-Decides}
-use Rattle.dma_seeds.specs.Seeds.{is_new, output_of, outputs_of}
-use Rattle.dma_seeds.specs.declared.outputs.Output.{Output}
-use Rattle.dma_seeds.specs.inner.Counted.{counted, one_more}
+use Rattle.std.specs.{List.All, List.list_any, List.position_or_len, List.range_with_len, Str.bytes_eq}
+use Rattle.std.proofs.{lemmas.Bool.cases_Bool, lemmas.Bool.cases_lt, lemmas.Bool.false≢true, lemmas.Bool.lt-ltb, lemmas.Bool.true≢false, lemmas.List.get_or-map}
+use Rattle.std.proofs.{lemmas.List.length-map, lemmas.List.map-append, lemmas.List.Elements.filter-append, lemmas.List.Folds.list_any-append}
+use Rattle.std.proofs.{lemmas.List.FromFn.length-range_with_len, lemmas.List.Quantifiers.position-Some, lemmas.List.Sums.count_by-le-length}
+use Rattle.std.proofs.{lemmas.List.Sums.fails_before_first, lemmas.List.Sums.sum_by-cons, lemmas.List.Sums.sum_by_push, lemmas.Slice.Eq.bytes_eq-Decides}
+use Rattle.dma_seeds.specs.{Seeds.is_new, Seeds.output_of, Seeds.outputs_of, declared.outputs.Output.Output, inner.Counted.counted, inner.Counted.one_more}
 
 -- ---- one more output
 
@@ -21,7 +15,8 @@ use Rattle.dma_seeds.specs.inner.Counted.{counted, one_more}
 abbrev has_text : Output → Output → Bool
 has_text new output = bytes_eq output.text new.text
 
-counted_here : (os : List Output) (new d : Output) (k : ℕ) → k < length os → has_text new (get_or os k d) ≡ true → ((j : ℕ) → j < k → has_text new (get_or os j d) ≡ false) → counted os new ≡ set os k (one_more (get_or os k d))
+counted_here : (os : List Output) (new d : Output) (k : ℕ) → k < length os → has_text new (get_or os k d) ≡ true
+    → ((j : ℕ) → j < k → has_text new (get_or os j d) ≡ false) → counted os new ≡ set os k (one_more (get_or os k d))
 counted_here [] new d k less here before = absurd (omega arith)
 counted_here (o ∷ os) new d zero less here before = rw here refl
 counted_here (o ∷ os) new d (suc k) less here before =
@@ -32,7 +27,8 @@ counted_nowhere [] new d none = refl
 counted_nowhere (o ∷ os) new d none =
     rw (none zero (omega arith)) (ap (λ l. o ∷ l) (counted_nowhere os new d (λ j below. none (suc j) (omega arith))))
 
-pub counted_Some : (os : List Output) (new d : Output) (place : ℕ) → Some place ≡ position (has_text new) os → counted os new ≡ set os place (one_more (get_or os place d))
+pub counted_Some : (os : List Output) (new d : Output) (place : ℕ) → Some place ≡ position (has_text new) os
+    → counted os new ≡ set os place (one_more (get_or os place d))
 counted_Some os new d place is =
     let found = position-Some (has_text new) os place d (sym is) in
     counted_here os new d place found.0 found.1 found.2
@@ -167,7 +163,8 @@ module _ (text : ℕ → List ℕ) (a n : ℕ) where
   abbrev alone : ℕ → ℕ → List Output
   alone m s = map (output_of text a m) (filter (is_new text a) (s ∷ []))
 
-  all_push : (m k : ℕ) → map (output_of text a m) (filter (is_new text a) (range_with_len a (suc k))) ≡ map (output_of text a m) (filter (is_new text a) (range_with_len a k)) ++ alone m (a + k)
+  all_push : (m k : ℕ) → map (output_of text a m) (filter (is_new text a) (range_with_len a (suc k))) ≡ map (output_of text a m)
+      (filter (is_new text a) (range_with_len a k)) ++ alone m (a + k)
   all_push m k =
       ap (λ l. map (output_of text a m) (filter (is_new text a) l)) (range_push a k)
       ∙ ap (map (output_of text a m)) (filter-append (is_new text a) (range_with_len a k) ((a + k) ∷ []))
@@ -256,10 +253,12 @@ module _ (text : ℕ → List ℕ) (a n : ℕ) where
   -- the next output, if it was not seen
   next_alone : seen n ≡ false → output_of text a (suc n) (a + n) ≡ next_output
   next_alone never =
-      let none = any_same (λ other. bytes_eq (text (a + n)) (text other)) (λ e. bytes_eq (text e) (text (a + n))) (range_with_len a n) (λ e. bytes_eq_sym (text (a + n)) (text e)) ∙ never in
+      let none = any_same (λ other. bytes_eq (text (a + n)) (text other)) (λ e. bytes_eq (text e) (text (a + n))) (range_with_len a n)
+      (λ e. bytes_eq_sym (text (a + n)) (text e)) ∙ never in
       let same = (bytes_eq-Decides (text (a + n)) (text (a + n))).1 refl in
       let one : one_if (bytes_eq (text (a + n)) (text (a + n))) ≡ 1 = rw same refl in
-      let many : 1 ≡ (output_of text a (suc n) (a + n)).seeds = omega (arith, counts (a + n), count_none (λ other. bytes_eq (text (a + n)) (text other)) (range_with_len a n) none, one) in
+      let many : 1 ≡ (output_of text a (suc n) (a + n)).seeds =
+      omega (arith, counts (a + n), count_none (λ other. bytes_eq (text (a + n)) (text other)) (range_with_len a n) none, one) in
       sym (with_seeds (a + n) 1 many)
 
   -- The outputs of one more seed.
@@ -277,7 +276,8 @@ module _ (text : ℕ → List ℕ) (a n : ℕ) where
   ]
 
 -- the outputs of one more seed, given those of the seeds before
-pub outputs_next : (text : ℕ → List ℕ) (a s : ℕ) (os os' : List Output) (new : Output) → a ≤ s → os ≡ outputs_of text a (s - a) → new ≡ record { text = text s; seeds = 1; first = s } → os' ≡ counted os new → os' ≡ outputs_of text a (s + 1 - a)
+pub outputs_next : (text : ℕ → List ℕ) (a s : ℕ) (os os' : List Output) (new : Output) → a ≤ s → os ≡ outputs_of text a (s - a)
+    → new ≡ record { text = text s; seeds = 1; first = s } → os' ≡ counted os new → os' ≡ outputs_of text a (s + 1 - a)
 outputs_next text a s os os' new after so_far is more =
     let place : a + (s - a) ≡ s = omega arith in
     let next : suc (s - a) ≡ s + 1 - a = omega arith in

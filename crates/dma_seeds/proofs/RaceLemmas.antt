@@ -1,30 +1,19 @@
 -- What the lines and the turns of a race do.
-use Rattle.std.proofs.Common.{◌≡◌, ℕ, ◌+◌, ◌≤◌, List, [], ◌∷◌, ◌++◌, drop, length, length-append, map, Result, Ok, Err, inl, refl, ap, sym, subst, ◌∙◌, arith, append-nil, append_assoc}
+use Rattle.std.proofs.Common.{◌≡◌, ℕ, ◌+◌, ◌≤◌, List, [], ◌∷◌, ◌++◌, drop, length, length-append, map, Result, Ok, Err, inl, refl, ap, sym, subst, ◌∙◌, arith}
+use Rattle.std.proofs.Common.{append-nil, append_assoc}
 use Rattle.std.specs.List.{sum, sum_by}
-use Rattle.std.proofs.Math.Seq.{drop-append_seam, take-append_seam}
-use Rattle.std.proofs.lemmas.List.{map-append}
-use Rattle.std.proofs.lemmas.List.Sums.{sum_by-cons}
-use Rattle.dma_engine.specs.declared.fault.EngineFault.{EngineFault}
-use Rattle.dma_engine.specs.declared.turn.Turn.{Turn}
-use Rattle.dma_engine.specs.declared.turn.Turn.TheVariants.{Moved, Finished}
-use Rattle.dma_engine.specs.Interleaved.{JobTurn, turns_taken}
+use Rattle.std.proofs.{Math.Seq.drop-append_seam, Math.Seq.take-append_seam, lemmas.List.map-append, lemmas.List.Sums.sum_by-cons}
 use Rattle.dma_engine.specs.Turn.{Stepped, finishes_in, steps_in, turn}
-use Rattle.dma_engine.specs.View.{View}
+use Rattle.dma_engine.specs.{declared.fault.EngineFault.EngineFault, declared.turn.Turn.Turn, declared.turn.Turn.TheVariants.Moved}
+use Rattle.dma_engine.specs.{declared.turn.Turn.TheVariants.Finished, Interleaved.JobTurn, Interleaved.turns_taken, View.View}
 use Rattle.dma_io.specs.Command.{printed_text, text_of}
 use Rattle.dma_script.specs.Interpreted.{ActsInTurn, PrintsLines}
-use Rattle.dma_script.specs.Race.{race_script_of}
-use Rattle.dma_script.specs.declared.fault.Fault.{Fault}
-use Rattle.dma_script.specs.declared.race.RaceScript.{RaceScript}
-use Rattle.dma_script.specs.declared.statements.Statement.{Statement}
+use Rattle.dma_script.specs.{Race.race_script_of, declared.fault.Fault.Fault, declared.race.RaceScript.RaceScript, declared.statements.Statement.Statement}
 use Rattle.dma_script.proofs.InterpretedLemmas.{printed_text_append}
-use Rattle.dma_commands.specs.Left.{lines_left, view_after}
 use Rattle.dma_commands.specs.Raced.{EarlyPrints, first_view, from_go, go_line, race_prints_of, whole}
-use Rattle.dma_commands.specs.Run.{line_answer, lines_answered}
-use Rattle.dma_seeds.specs.Race.{SeedsAreRaces, early_lines, race_printed_of, raced}
-use Rattle.dma_seeds.specs.Seeds.{text_from_go}
-use Rattle.dma_seeds.specs.Turns.{turns_of_seed}
-use Rattle.dma_seeds.specs.inner.Measured.{Prints, lengths_of, pieces}
-use Rattle.dma_seeds.specs.inner.Started.{IsStarted}
+use Rattle.dma_commands.specs.{Left.lines_left, Left.view_after, Run.line_answer, Run.lines_answered}
+use Rattle.dma_seeds.specs.{Race.SeedsAreRaces, Race.early_lines, Race.race_printed_of, Race.raced, Seeds.text_from_go, Turns.turns_of_seed}
+use Rattle.dma_seeds.specs.{inner.Measured.Prints, inner.Measured.lengths_of, inner.Measured.pieces, inner.Started.IsStarted}
 use Rattle.dma_seeds.proofs.TurnLemmas.{seeds_interleave_law}
 
 -- ---- lines that were measured
@@ -40,7 +29,8 @@ pub record Measured (v w : View) (lines : List Statement) (groups : List (List (
   pub left : w ≡ lines_left v lines
   pub lengths_are : lengths' ≡ lengths ++ lengths_of groups
 
-pub measured_in_turn : {S : Type 0} (seen : S → View) (lengths : S → List ℕ) (lines : List Statement) (found left : S) (groups : List (List (List ℕ))) → ActsInTurn (MeasuresSeen seen lengths) lines found groups left → Measured (seen found) (seen left) lines groups (lengths found) (lengths left)
+pub measured_in_turn : {S : Type 0} (seen : S → View) (lengths : S → List ℕ) (lines : List Statement) (found left : S) (groups : List (List (List ℕ)))
+    → ActsInTurn (MeasuresSeen seen lengths) lines found groups left → Measured (seen found) (seen left) lines groups (lengths found) (lengths left)
 measured_in_turn seen lengths [] found left [] done =
     record { groups_are = refl; left = ap seen done; lengths_are = ap lengths done ∙ sym (append-nil (lengths found)) }
 measured_in_turn seen lengths [] found left (g ∷ groups) done = absurd done
@@ -54,7 +44,8 @@ measured_in_turn seen lengths (line ∷ lines) found left (g ∷ groups) (next, 
     }
 
 -- measured lines print their answers
-pub measured_prints : {S : Type 0} (seen : S → View) (lengths : S → List ℕ) (lines : List Statement) (found left : S) (old new : List ℕ) → PrintsLines (MeasuresSeen seen lengths) found lines left old new → Prints (lines_answered (seen found) lines) old new (lengths found) (lengths left)
+pub measured_prints : {S : Type 0} (seen : S → View) (lengths : S → List ℕ) (lines : List Statement) (found left : S) (old new : List ℕ)
+    → PrintsLines (MeasuresSeen seen lengths) found lines left old new → Prints (lines_answered (seen found) lines) old new (lengths found) (lengths left)
 measured_prints seen lengths lines found left old new done =
     let all = measured_in_turn seen lengths lines found left done.groups done.acted in
     record {
@@ -62,7 +53,8 @@ measured_prints seen lengths lines found left old new done =
       measured = all.lengths_are ∙ ap (λ g. lengths found ++ lengths_of g) all.groups_are;
     }
 
-pub measured_left : {S : Type 0} (seen : S → View) (lengths : S → List ℕ) (lines : List Statement) (found left : S) (old new : List ℕ) → PrintsLines (MeasuresSeen seen lengths) found lines left old new → seen left ≡ lines_left (seen found) lines
+pub measured_left : {S : Type 0} (seen : S → View) (lengths : S → List ℕ) (lines : List Statement) (found left : S) (old new : List ℕ)
+    → PrintsLines (MeasuresSeen seen lengths) found lines left old new → seen left ≡ lines_left (seen found) lines
 measured_left seen lengths lines found left old new done =
     (measured_in_turn seen lengths lines found left done.groups done.acted).left
 
@@ -86,14 +78,17 @@ counts _ = (omega arith, omega arith)
 abbrev Taken : Type 0
 Taken = List (Result Turn EngineFault) × View
 
-one_more : (w x : View) (t : JobTurn) (left : List JobTurn) (r : Result Turn EngineFault) → (r, x) ≡ turn w t.channel → turns_taken w (t ∷ left) ≡ (r ∷ (turns_taken x left).0, (turns_taken x left).1)
+one_more : (w x : View) (t : JobTurn) (left : List JobTurn) (r : Result Turn EngineFault) → (r, x) ≡ turn w t.channel
+    → turns_taken w (t ∷ left) ≡ (r ∷ (turns_taken x left).0, (turns_taken x left).1)
 one_more w x t left r is =
     ap {B = Taken} (λ (a : Stepped). (a.0 ∷ (turns_taken a.1 left).0, (turns_taken a.1 left).1)) (sym is)
 
 pub took_none : (v : View) (turns : List JobTurn) → TookSome v turns v turns 0 0
 took_none v turns = record { left = refl; steps_are = omega arith; finished_are = omega arith; few = omega arith; fewer = omega arith }
 
-pub took_more : (v w x : View) (turns rest left : List JobTurn) (t : JobTurn) (steps finished steps' finished' : ℕ) (r : Result Turn EngineFault) → TookSome v turns w rest steps finished → rest ≡ t ∷ left → (r, x) ≡ turn w t.channel → steps' ≡ steps + steps_in r → finished' ≡ finished + finishes_in r → TookSome v turns x left steps' finished'
+pub took_more : (v w x : View) (turns rest left : List JobTurn) (t : JobTurn) (steps finished steps' finished' : ℕ) (r : Result Turn EngineFault)
+    → TookSome v turns w rest steps finished → rest ≡ t ∷ left → (r, x) ≡ turn w t.channel → steps' ≡ steps + steps_in r → finished' ≡ finished + finishes_in r
+    → TookSome v turns x left steps' finished'
 took_more v w x turns rest left t steps finished steps' finished' r took split is more ends =
     let next = ap (turns_taken w) split ∙ one_more w x t left r is in
     let many = counts r in
@@ -148,17 +143,21 @@ pub lengths_fit : (groups : List (List (List ℕ))) (text lengths : List ℕ) �
 lengths_fit groups text lengths p = omega (arith, ap sum p.measured, ap length p.appended, lengths_add groups)
 
 -- what is printed from `go` on, in the words of the script
-started_from : (script : RaceScript) (seed : ℕ) (v : View) (turns : List JobTurn) (after : List Statement) → IsStarted script seed v turns after → from_go v turns after ≡ from_go (view_after script.before) (turns_of_seed script.jobs seed) script.after
+started_from : (script : RaceScript) (seed : ℕ) (v : View) (turns : List JobTurn) (after : List Statement) → IsStarted script seed v turns after
+    → from_go v turns after ≡ from_go (view_after script.before) (turns_of_seed script.jobs seed) script.after
 started_from script seed v turns after started = rw (started.view, started.turns_are, started.after_is) refl
 
 -- a race prints what its lines before `go` print, and then the rest
-pub raced_in_parts : (script : RaceScript) (seed : ℕ) (v : View) (turns : List JobTurn) (after : List Statement) (a b c l m n : List ℕ) → IsStarted script seed v turns after → Prints ([] ∷ early_lines script) a b l m → Prints (from_go v turns after) b c m n → Prints (raced script (turns_of_seed script.jobs seed)).groups a c l n
+pub raced_in_parts : (script : RaceScript) (seed : ℕ) (v : View) (turns : List JobTurn) (after : List Statement) (a b c l m n : List ℕ)
+    → IsStarted script seed v turns after → Prints ([] ∷ early_lines script) a b l m → Prints (from_go v turns after) b c m n
+    → Prints (raced script (turns_of_seed script.jobs seed)).groups a c l n
 raced_in_parts script seed v turns after a b c l m n started first last =
     subst (λ (g : List (List (List ℕ))). Prints ([] ∷ early_lines script ++ g) a c l n) (started_from script seed v turns after started)
     (prints_both ([] ∷ early_lines script) (from_go v turns after) a b c l m n first last)
 
 -- the memory line prints nothing
-pub started_prints : (script : RaceScript) (v : View) (a c l m n : List ℕ) → v ≡ first_view script → m ≡ l ++ 0 ∷ [] → Prints (lines_answered v script.before.statements) a c m n → Prints ([] ∷ early_lines script) a c l n
+pub started_prints : (script : RaceScript) (v : View) (a c l m n : List ℕ) → v ≡ first_view script → m ≡ l ++ 0 ∷ []
+    → Prints (lines_answered v script.before.statements) a c m n → Prints ([] ∷ early_lines script) a c l n
 started_prints script v a c l m n view first rest =
     subst (λ (x : View). Prints ([] ∷ lines_answered x script.before.statements) a c l n) view
     (record {
@@ -168,12 +167,14 @@ started_prints script v a c l m n view first rest =
     })
 
 -- the line of `go`, and then the lines after it
-pub go_and_after : (v w : View) (turns : List JobTurn) (after : List Statement) (a b c l m n : List ℕ) → w ≡ (turns_taken v turns).1 → Prints ((go_line (turns_taken v turns).0 ∷ []) ∷ []) a b l m → Prints (lines_answered w after) b c m n → Prints (from_go v turns after) a c l n
+pub go_and_after : (v w : View) (turns : List JobTurn) (after : List Statement) (a b c l m n : List ℕ) → w ≡ (turns_taken v turns).1
+    → Prints ((go_line (turns_taken v turns).0 ∷ []) ∷ []) a b l m → Prints (lines_answered w after) b c m n → Prints (from_go v turns after) a c l n
 go_and_after v w turns after a b c l m n left first last =
     prints_both _ _ a b c l m n first (subst (λ (x : View). Prints (lines_answered x after) b c m n) left last)
 
 -- what is printed from `go` on
-pub from_started : (script : RaceScript) (seed : ℕ) (v : View) (turns : List JobTurn) (after : List Statement) (a c l n : List ℕ) → IsStarted script seed v turns after → a ≡ [] → Prints (from_go v turns after) a c l n → c ≡ text_from_go (Ok script) seed
+pub from_started : (script : RaceScript) (seed : ℕ) (v : View) (turns : List JobTurn) (after : List Statement) (a c l n : List ℕ)
+    → IsStarted script seed v turns after → a ≡ [] → Prints (from_go v turns after) a c l n → c ≡ text_from_go (Ok script) seed
 from_started script seed v turns after a c l n started none p =
     p.appended ∙ ap (λ t. t ++ printed_text (from_go v turns after)) none ∙ ap printed_text (started_from script seed v turns after started)
 

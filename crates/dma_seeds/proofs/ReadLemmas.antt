@@ -1,32 +1,24 @@
 -- The script of `run` of a race is read as the lines of the race, with its turns as step lines.
-use Rattle.std.proofs.Common.{◌≡◌, ℕ, zero, suc, ◌+◌, ◌≤◌, true, false, List, [], ◌∷◌, ◌++◌, codes, Option, Some, None, Result, Ok, Err, refl, ap, sym, ◌∙◌, subst, arith, append_assoc, append-nil, inl, inr, map}
+use Rattle.std.proofs.Common.{◌≡◌, ℕ, zero, suc, ◌+◌, ◌≤◌, true, false, List, [], ◌∷◌, ◌++◌, codes, Option, Some, None, Result, Ok, Err, refl, ap, sym, ◌∙◌}
+use Rattle.std.proofs.Common.{subst, arith, append_assoc, append-nil, inl, inr, map}
 use Rattle.std.specs.Prelude.{◌⊎◌, decimal, flat_map, if◌then◌else◌, slice_index, ◌==◌, IfOk, nat_lt, length}
-use Rattle.std.specs.List.{list_all}
-use Rattle.std.specs.Option.{ok_or, option_map}
-use Rattle.std.specs.Str.{bytes_eq}
-use Rattle.std.specs.Str.Lines.{lines}
-use Rattle.std.proofs.lemmas.Bool.{cases_Bool}
-use Rattle.std.proofs.lemmas.Fmt.{decimal_digit}
-use Rattle.std.proofs.lemmas.Result.{IfOk-at_ok, IfOk-weaker}
+use Rattle.std.specs.{List.list_all, Option.ok_or, Option.option_map, Str.bytes_eq, Str.Lines.lines}
+use Rattle.std.proofs.{lemmas.Bool.cases_Bool, lemmas.Fmt.decimal_digit, lemmas.Result.IfOk-at_ok, lemmas.Result.IfOk-weaker}
 use Rattle.dma_io.specs.Command.{text_of}
-use Rattle.dma_script.specs.Lines.{◌>>=◌, after_line, after_lines, at_line, is_skipped}
-use Rattle.dma_script.specs.Race.{IsRace, RaceRead, behind_memory, is_early, job_line, most_jobs, no_words, nothing_read, race_script_of, race_step, where_holds}
+use Rattle.dma_text.specs.Results.{◌>>=◌}
+use Rattle.dma_script.specs.Lines.{after_line, after_lines, at_line, is_skipped}
+use Rattle.dma_script.specs.Race.{IsRace, RaceRead, behind_memory, is_early, job_line, most_jobs, no_words, nothing_read, race_script_of, race_step}
+use Rattle.dma_script.specs.Race.{where_holds}
 use Rattle.dma_script.specs.Statements.{keyword_of, later_line, next_line, run_script_of, run_step}
-use Rattle.dma_script.specs.Words.{is_plain, words_of}
-use Rattle.dma_script.specs.declared.fault.Cause.{Cause}
-use Rattle.dma_script.specs.declared.fault.Cause.TheVariants as causes
-use Rattle.dma_script.specs.declared.race.JobLine.{JobLine}
-use Rattle.dma_script.specs.declared.race.RaceScript.{RaceScript}
-use Rattle.dma_script.specs.declared.statements.Keyword.{Keyword}
-use Rattle.dma_script.specs.declared.statements.RunScript.{RunScript}
-use Rattle.dma_script.specs.declared.statements.Statement.{Statement}
-use Rattle.dma_script.specs.declared.statements.Statement.TheVariants as statements
+use Rattle.dma_script.specs.{Words.is_plain, Words.words_of, declared.fault.Cause.Cause, declared.race.JobLine.JobLine, declared.race.RaceScript.RaceScript}
+use Rattle.dma_script.specs.{declared.statements.Keyword.Keyword, declared.statements.RunScript.RunScript, declared.statements.Statement.Statement}
 use Rattle.dma_script.proofs.Within.{race_script_within}
 use Rattle.dma_engine.specs.Interleaved.{JobTurn}
-use Rattle.dma_seeds.specs.Script.{ScriptsAreRead, as_run, script_text_of, text_for, turn_line}
-use Rattle.dma_seeds.specs.Turns.{turns_of_seed}
+use Rattle.dma_seeds.specs.{Script.ScriptsAreRead, Script.as_run, Script.script_text_of, Script.text_for, Script.turn_line, Turns.turns_of_seed}
 use Rattle.dma_seeds.proofs.TextLemmas.{ArePlain, lines_text, plain_append, text_of_append}
 use Rattle.dma_seeds.proofs.TurnLemmas.{AreLow, seeds_low}
+use Rattle.dma_script.specs.declared.fault.Cause.TheVariants as causes
+use Rattle.dma_script.specs.declared.statements.Statement.TheVariants as statements
 
 -- ---- results
 
@@ -94,7 +86,8 @@ memory_there None u is = absurd cc
 memory_there (Some b) u is = (b, refl)
 
 -- a line that `run` knows
-module _ (line word : List ℕ) (words : List (List ℕ)) (are : words_of line ≡ word ∷ words) (kept : (slice_index word 0 == 35) ≡ false) (plain : list_all is_plain line ≡ true) (k : Keyword) (spelled : keyword_of word ≡ Some k) where
+module _ (line word : List ℕ) (words : List (List ℕ)) (are : words_of line ≡ word ∷ words) (kept : (slice_index word 0 == 35) ≡ false)
+    (plain : list_all is_plain line ≡ true) (k : Keyword) (spelled : keyword_of word ≡ Some k) where
   one_line : (r s : Option RunScript) → next_line r k words ≡ Ok s → after_line run_step r line ≡ Ok s
   one_line r s is = rw (are, kept, plain, spelled) is
 
@@ -104,16 +97,26 @@ module _ (turns : List (List ℕ)) (steps : List Statement) (as_steps : ReadAsSt
       subst (λ x. Reads x turns (state steps x (Some []))) (sym there)
       (subst (λ s. Reads (Some b) turns (Some (record b { statements = s }))) (sym (append-nil (b.statements ++ steps))) (as_steps b))
 
-  later_read : (b : RunScript) (after : List Statement) (st : Statement) (line : List ℕ) → after_line run_step (state steps (Some b) (Some after)) line ≡ Ok (Some (record b { statements = ((b.statements ++ steps) ++ after) ++ st ∷ [] })) → Reads (state steps (Some b) (Some after)) (line ∷ []) (state steps (Some b) (Some (after ++ st ∷ [])))
-  later_read b after st line one =
-      (Some (record b { statements = ((b.statements ++ steps) ++ after) ++ st ∷ [] }), one, ap (λ s. Some (record b { statements = s })) (sym (append_assoc (b.statements ++ steps) after (st ∷ []))))
+  later_read : (b : RunScript) (after : List Statement) (st : Statement) (line : List ℕ)
+      → after_line run_step (state steps (Some b) (Some after)) line ≡ Ok (Some (record b { statements = ((b.statements ++ steps) ++ after) ++ st ∷ [] }))
+      → Reads (state steps (Some b) (Some after)) (line ∷ []) (state steps (Some b) (Some (after ++ st ∷ [])))
+  later_read b after st line one = (
+    Some (record b { statements = ((b.statements ++ steps) ++ after) ++ st ∷ [] }),
+    one,
+    ap (λ s. Some (record b { statements = s }))
+        (sym (append_assoc (b.statements ++ steps) after (st ∷ []))),
+  )
 
-  step_follows : (before : Option RunScript) (jobs : List JobLine) (after : Option (List Statement)) (line word : List ℕ) (words : List (List ℕ)) → words_of line ≡ word ∷ words → (slice_index word 0 == 35) ≡ false → list_all is_plain line ≡ true → Begun before after → IfOk (race_step (record { before = before; jobs = jobs; after = after }) (word ∷ words)) (λ next. Follows steps before after (if bytes_eq word (codes "job") then [] else (if bytes_eq word (codes "go") then turns else line ∷ [])) next)
+  step_follows : (before : Option RunScript) (jobs : List JobLine) (after : Option (List Statement)) (line word : List ℕ) (words : List (List ℕ))
+      → words_of line ≡ word ∷ words → (slice_index word 0 == 35) ≡ false → list_all is_plain line ≡ true → Begun before after
+      → IfOk (race_step (record { before = before; jobs = jobs; after = after }) (word ∷ words))
+      (λ next. Follows steps before after (if bytes_eq word (codes "job") then [] else (if bytes_eq word (codes "go") then turns else line ∷ [])) next)
   step_follows before jobs None line word words are kept plain begun = elim (cases_Bool (bytes_eq word (codes "job"))) [
     | inl job ↦
         let P = λ (next : RaceRead). Follows steps before None [] next in
         rw job
-        (bind_eq P (behind_memory before) _ (λ u there. bind_eq P (job_line words) _ (λ j spelled. bind_eq P (where_holds (nat_lt (length jobs) most_jobs) causes.Range) _ (λ w few.
+        (bind_eq P (behind_memory before) _
+        (λ u there. bind_eq P (job_line words) _ (λ j spelled. bind_eq P (where_holds (nat_lt (length jobs) most_jobs) causes.Range) _ (λ w few.
         record { read = refl; begun = tt; plain = tt }))))
     | inr other_word ↦ rw other_word (elim (cases_Bool (bytes_eq word (codes "go"))) [
       | inl go ↦
@@ -157,7 +160,9 @@ module _ (turns : List (List ℕ)) (steps : List Statement) (as_steps : ReadAsSt
     ])
   ]
 
-  words_follow : (read : RaceRead) (line : List ℕ) (words : List (List ℕ)) → words_of line ≡ words → Begun read.before read.after → IfOk (if is_skipped words then Ok read else (if list_all is_plain line then race_step read words else Err causes.Byte)) (λ next. Follows steps read.before read.after (lines_for turns line words) next)
+  words_follow : (read : RaceRead) (line : List ℕ) (words : List (List ℕ)) → words_of line ≡ words → Begun read.before read.after
+      → IfOk (if is_skipped words then Ok read else (if list_all is_plain line then race_step read words else Err causes.Byte))
+      (λ next. Follows steps read.before read.after (lines_for turns line words) next)
   words_follow read line [] are begun = record { read = refl; begun = begun; plain = tt }
   words_follow read line (word ∷ words) are begun = elim (cases_Bool (slice_index word 0 == 35)) [
     | inl skip ↦ rw skip (record { read = refl; begun = begun; plain = tt })
@@ -167,16 +172,21 @@ module _ (turns : List (List ℕ)) (steps : List Statement) (as_steps : ReadAsSt
     ])
   ]
 
-  lines_follow : (n : ℕ) (ls : List (List ℕ)) (read : RaceRead) → Begun read.before read.after → IfOk (after_lines race_step n read ls) (λ final. Follows steps read.before read.after (flat_map (λ line. lines_for turns line (words_of line)) ls) final)
+  lines_follow : (n : ℕ) (ls : List (List ℕ)) (read : RaceRead) → Begun read.before read.after
+      → IfOk (after_lines race_step n read ls)
+      (λ final. Follows steps read.before read.after (flat_map (λ line. lines_for turns line (words_of line)) ls) final)
   lines_follow n [] read begun = record { read = refl; begun = begun; plain = tt }
   lines_follow n (line ∷ rest) read begun =
       let here = lines_for turns line (words_of line) in
       let others = flat_map (λ l. lines_for turns l (words_of l)) rest in
       bind_eq (λ final. Follows steps read.before read.after (here ++ others) final) (at_line (n + 1) (after_line race_step read line)) _ (λ next is.
-      let first = IfOk-at_ok (λ x. Follows steps read.before read.after here x) (from_line (n + 1) (after_line race_step read line) next is) (words_follow read line (words_of line) refl begun) in
-      IfOk-weaker (after_lines race_step (n + 1) next rest) (λ final. Follows steps next.before next.after others final) (λ final. Follows steps read.before read.after (here ++ others) final)
+      let first = IfOk-at_ok (λ x. Follows steps read.before read.after here x) (from_line (n + 1) (after_line race_step read line) next is)
+      (words_follow read line (words_of line) refl begun) in
+      IfOk-weaker (after_lines race_step (n + 1) next rest) (λ final. Follows steps next.before next.after others final)
+      (λ final. Follows steps read.before read.after (here ++ others) final)
       (λ final more. record {
-        read = reads_append (state steps read.before read.after) (state steps next.before next.after) (state steps final.before final.after) here others first.read more.read;
+        read = reads_append (state steps read.before read.after) (state steps next.before next.after) (state steps final.before final.after) here others
+            first.read more.read;
         begun = more.begun;
         plain = plain_append here others first.plain more.plain;
       }) (lines_follow (n + 1) rest next first.begun))
@@ -187,7 +197,9 @@ abbrev step_of : JobTurn → Statement
 step_of turn = statements.Step turn.channel 1
 
 -- a step of one of the first eight channels
-digit_read : (ch : ℕ) → ch ≤ 7 → (b : RunScript) → (after_line run_step (Some b) (codes "step " ++ (48 + ch) ∷ []) ≡ Ok (Some (record b { statements = b.statements ++ statements.Step ch 1 ∷ [] }))) × (list_all is_plain (codes "step " ++ (48 + ch) ∷ []) ≡ true)
+digit_read : (ch : ℕ) → ch ≤ 7 → (b : RunScript)
+    → (after_line run_step (Some b) (codes "step " ++ (48 + ch) ∷ []) ≡ Ok (Some (record b { statements = b.statements ++ statements.Step ch 1 ∷ [] })))
+    × (list_all is_plain (codes "step " ++ (48 + ch) ∷ []) ≡ true)
 digit_read zero low b = (refl, refl)
 digit_read (suc zero) low b = (refl, refl)
 digit_read (suc (suc zero)) low b = (refl, refl)
@@ -198,15 +210,23 @@ digit_read (suc (suc (suc (suc (suc (suc zero)))))) low b = (refl, refl)
 digit_read (suc (suc (suc (suc (suc (suc (suc zero))))))) low b = (refl, refl)
 digit_read (suc (suc (suc (suc (suc (suc (suc (suc n)))))))) low b = absurd (omega arith)
 
-turn_read : (ch : ℕ) → ch ≤ 7 → (b : RunScript) → (after_line run_step (Some b) (codes "step " ++ decimal ch) ≡ Ok (Some (record b { statements = b.statements ++ statements.Step ch 1 ∷ [] }))) × (list_all is_plain (codes "step " ++ decimal ch) ≡ true)
+turn_read : (ch : ℕ) → ch ≤ 7 → (b : RunScript)
+    → (after_line run_step (Some b) (codes "step " ++ decimal ch) ≡ Ok (Some (record b { statements = b.statements ++ statements.Step ch 1 ∷ [] })))
+    × (list_all is_plain (codes "step " ++ decimal ch) ≡ true)
 turn_read ch low b =
-    subst (λ (digits : List ℕ). (after_line run_step (Some b) (codes "step " ++ digits) ≡ Ok (Some (record b { statements = b.statements ++ statements.Step ch 1 ∷ [] }))) × (list_all is_plain (codes "step " ++ digits) ≡ true)) (sym (decimal_digit ch (omega arith))) (digit_read ch low b)
+    subst (λ (digits : List ℕ).
+    (after_line run_step (Some b) (codes "step " ++ digits) ≡ Ok (Some (record b { statements = b.statements ++ statements.Step ch 1 ∷ [] })))
+    × (list_all is_plain (codes "step " ++ digits) ≡ true)) (sym (decimal_digit ch (omega arith))) (digit_read ch low b)
 
 steps_read : (turns : List JobTurn) → AreLow turns → ReadAsSteps (map turn_line turns) (map step_of turns)
 steps_read [] low b = ap (λ s. Some (record b { statements = s })) (append-nil b.statements)
 steps_read (t ∷ turns) (low, rest) b =
-    let one = record b { statements = b.statements ++ step_of t ∷ [] } in
-    (Some one, (turn_read t.channel low b).0, subst (λ s. Reads (Some one) (map turn_line turns) (Some (record b { statements = s }))) (append_assoc b.statements (step_of t ∷ []) (map step_of turns)) (steps_read turns rest one))
+    let one = record b { statements = b.statements ++ step_of t ∷ [] } in (
+      Some one,
+      (turn_read t.channel low b).0,
+      subst (λ s. Reads (Some one) (map turn_line turns) (Some (record b { statements = s })))
+          (append_assoc b.statements (step_of t ∷ []) (map step_of turns)) (steps_read turns rest one),
+    )
 
 steps_plain : (turns : List JobTurn) (b : RunScript) → AreLow turns → ArePlain (map turn_line turns)
 steps_plain [] b low = tt
@@ -220,11 +240,13 @@ text_is turns line (word ∷ words) = elim (cases_Bool (slice_index word 0 == 35
   | inl skip ↦ rw skip refl
   | inr kept ↦ rw kept (elim (cases_Bool (bytes_eq word (codes "job"))) [
     | inl job ↦ rw job refl
-    | inr other_word ↦ rw other_word (elim (cases_Bool (bytes_eq word (codes "go"))) [ inl go ↦ rw go refl | inr other ↦ rw other (sym (append-nil (line ++ 10 ∷ []))) ])
+    | inr other_word ↦ rw other_word
+        (elim (cases_Bool (bytes_eq word (codes "go"))) [ inl go ↦ rw go refl | inr other ↦ rw other (sym (append-nil (line ++ 10 ∷ []))) ])
   ])
 ]
 
-texts_are : (turns : List (List ℕ)) (ls : List (List ℕ)) → flat_map (λ line. text_for (text_of turns) line (words_of line)) ls ≡ text_of (flat_map (λ line. lines_for turns line (words_of line)) ls)
+texts_are : (turns : List (List ℕ)) (ls : List (List ℕ))
+    → flat_map (λ line. text_for (text_of turns) line (words_of line)) ls ≡ text_of (flat_map (λ line. lines_for turns line (words_of line)) ls)
 texts_are turns [] = refl
 texts_are turns (line ∷ rest) =
     let here = lines_for turns line (words_of line) in
@@ -235,7 +257,9 @@ texts_are turns (line ∷ rest) =
 -- ---- whole scripts
 
 -- what a whole script gives, given the lines that were read
-from_read : (steps : List Statement) (input : List ℕ) (ls : List (List ℕ)) (read : RaceRead) (script : RaceScript) → read.before ≡ Some script.before → read.after ≡ Some script.after → Reads None ls (state steps read.before read.after) → after_lines run_step 0 None ls ≡ Ok (Some (record (script.before) { statements = (script.before.statements ++ steps) ++ script.after }))
+from_read : (steps : List Statement) (input : List ℕ) (ls : List (List ℕ)) (read : RaceRead) (script : RaceScript) → read.before ≡ Some script.before
+    → read.after ≡ Some script.after → Reads None ls (state steps read.before read.after)
+    → after_lines run_step 0 None ls ≡ Ok (Some (record (script.before) { statements = (script.before.statements ++ steps) ++ script.after }))
 from_read steps input ls read script before after reads =
     reads_lines 0 None (Some (record (script.before) { statements = (script.before.statements ++ steps) ++ script.after })) ls
     (subst (λ b. Reads None ls (state steps b (Some script.after))) before (subst (λ a. Reads None ls (state steps read.before a)) after reads))
@@ -253,7 +277,9 @@ from_some (Some x) e a is = cc
 
 parts_of : (input : List ℕ) → IfOk (race_script_of input) (ReadInParts input)
 parts_of input =
-    bind_eq (ReadInParts input) (after_lines race_step 0 nothing_read (lines input)) _ (λ read lines_are. bind_eq (ReadInParts input) (ok_or read.before _) _ (λ b before. bind_eq (ReadInParts input) (ok_or read.after _) _ (λ a after. record {
+    bind_eq (ReadInParts input) (after_lines race_step 0 nothing_read (lines input)) _
+    (λ read lines_are. bind_eq (ReadInParts input) (ok_or read.before _) _
+    (λ b before. bind_eq (ReadInParts input) (ok_or read.after _) _ (λ a after. record {
       read = read;
       lines_are = lines_are;
       before = from_some read.before _ b before;
@@ -270,7 +296,8 @@ scripts_are_read input script seed is =
     let ls = flat_map (λ line. lines_for (map turn_line turns) line (words_of line)) (lines input) in
     let follows = IfOk-at_ok (λ final. Follows steps None None ls final) parts.lines_are
     (lines_follow (map turn_line turns) steps (steps_read turns low) (steps_plain turns script.before low) 0 (lines input) nothing_read tt) in
-    let text : script_text_of (race_script_of input) input seed ≡ text_of ls = ap (λ r. script_text_of r input seed) is ∙ texts_are (map turn_line turns) (lines input) in
+    let text : script_text_of (race_script_of input) input seed ≡ text_of ls = ap (λ r. script_text_of r input seed) is
+    ∙ texts_are (map turn_line turns) (lines input) in
     let read : after_lines run_step 0 None (lines (text_of ls)) ≡ Ok (Some (as_run script turns)) =
     ap (λ l. after_lines run_step 0 None l) (lines_text ls follows.plain) ∙ from_read steps input ls parts.read script parts.before parts.after follows.read in
     ap run_script_of text ∙ rw read refl

@@ -1,16 +1,13 @@
 -- A race as a run.
 use Rattle.std.proofs.Common.{List, [], ◌∷◌, ◌++◌, ℕ, ◌≡◌, ap, append_assoc, map, refl, sym, ◌∙◌}
 use Rattle.std.proofs.lemmas.List.Concat.{flat_map-append}
-use Rattle.dma_engine.specs.Interleaved.{JobTurn, turns_taken}
-use Rattle.dma_engine.specs.View.{View}
+use Rattle.dma_engine.specs.{Interleaved.JobTurn, Interleaved.turns_taken, View.View}
 use Rattle.dma_io.specs.Command.{Printed, text_of}
 use Rattle.dma_script.specs.declared.statements.Statement.{Statement}
-use Rattle.dma_commands.specs.Left.{lines_left, view_after}
 use Rattle.dma_commands.specs.Raced.{first_view, step_groups, step_statements}
-use Rattle.dma_commands.specs.Run.{line_answer, lines_answered}
+use Rattle.dma_commands.specs.{Left.lines_left, Left.view_after, Run.line_answer, Run.lines_answered}
+use Rattle.dma_seeds.specs.{Race.early_lines, Script.RacesAreRuns, Script.turn_line, Script.turns_text}
 use Rattle.dma_commands.proofs.RacedLemmas.{races_are_runs as runs}
-use Rattle.dma_seeds.specs.Race.{early_lines}
-use Rattle.dma_seeds.specs.Script.{RacesAreRuns, turn_line, turns_text}
 
 lines_answered_append : (v : View) (xs ys : List Statement) → lines_answered v (xs ++ ys) ≡ lines_answered v xs ++ lines_answered (lines_left v xs) ys
 lines_answered_append v [] ys = refl
@@ -28,7 +25,8 @@ races_are_runs script turns =
     ∙ sym (append_assoc (early_lines script) (step_groups turns taken.0) (lines_answered taken.1 script.after)))
 
 -- the text so far, with the line of the next turn
-pub turn_more : (all now new : List ℕ) (turn : JobTurn) (turns left : List JobTurn) → all ≡ now ++ turns_text turns → turns ≡ turn ∷ left → new ≡ now ++ text_of (turn_line turn ∷ []) → all ≡ new ++ turns_text left
+pub turn_more : (all now new : List ℕ) (turn : JobTurn) (turns left : List JobTurn) → all ≡ now ++ turns_text turns → turns ≡ turn ∷ left
+    → new ≡ now ++ text_of (turn_line turn ∷ []) → all ≡ new ++ turns_text left
 turn_more all now new turn turns left so_far split more =
     so_far ∙ ap (λ l. now ++ turns_text l) split
     ∙ ap (λ l. now ++ l) (flat_map-append (λ line. line ++ 10 ∷ []) (turn_line turn ∷ []) (map turn_line left))

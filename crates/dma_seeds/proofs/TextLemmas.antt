@@ -1,13 +1,11 @@
 -- The lines of a text of lines.
-use Rattle.std.proofs.Common.{◌≡◌, ℕ, ◌+◌, ◌-◌, ◌<◌, true, false, List, [], ◌∷◌, ◌++◌, length, take, drop, get_or, refl, ap, sym, ◌∙◌, arith, append_assoc, inl, inr, eqb, length-append}
-use Rattle.std.specs.Prelude.{slice_index}
+use Rattle.std.proofs.Common.{◌≡◌, ℕ, ◌+◌, ◌-◌, ◌<◌, true, false, List, [], ◌∷◌, ◌++◌, length, take, drop, get_or, refl, ap, sym, ◌∙◌, arith, append_assoc, inl}
+use Rattle.std.proofs.Common.{inr, eqb, length-append}
 use Rattle.std.specs.List.{list_all, position_or_len, before_first, after_first}
-use Rattle.std.specs.Str.Lines.{lines, strip_carriage_return}
-use Rattle.std.proofs.Math.ListN.{get_or-append}
+use Rattle.std.specs.{Prelude.slice_index, Str.Lines.lines, Str.Lines.strip_carriage_return}
 use Rattle.std.proofs.Math.Seq.{drop-append-add, get_or-append_seam, take-append_seam}
 use Rattle.std.proofs.lemmas.Bool.{cases_lt, ne_eqb, true≢false}
-use Rattle.std.proofs.lemmas.List.{get_or_past}
-use Rattle.std.proofs.lemmas.List.Sums.{AllPass-from_list_all, position_or_len_is}
+use Rattle.std.proofs.{Math.ListN.get_or-append, lemmas.List.get_or_past, lemmas.List.Sums.AllPass-from_list_all, lemmas.List.Sums.position_or_len_is}
 use Rattle.dma_io.specs.Command.{text_of}
 use Rattle.dma_script.specs.Words.{is_plain}
 use Rattle.dma_script.proofs.LineLemmas.{lines_first}

@@ -1,19 +1,17 @@
 -- The turns that are drawn for a seed.
-use Rattle.std.proofs.Common.{◌≡◌, ℕ, zero, suc, ◌+◌, ◌-◌, ◌%◌, ◌<◌, ◌≤◌, List, [], ◌∷◌, ◌++◌, length, refl, ap, sym, ◌∙◌, subst, arith, inl, inr, map, add-one, append-nil, append_assoc}
-use Rattle.std.proofs.Math.Nat.{zero-mod}
-use Rattle.std.specs.Prelude.{if◌then◌else◌, nat_lt, slice_index_or, slice_set}
-use Rattle.std.specs.List.{All}
+use Rattle.std.proofs.Common.{◌≡◌, ℕ, zero, suc, ◌+◌, ◌-◌, ◌%◌, ◌<◌, ◌≤◌, List, [], ◌∷◌, ◌++◌, length, refl, ap, sym, ◌∙◌, subst, arith, inl, inr, map, add-one}
+use Rattle.std.proofs.Common.{append-nil, append_assoc}
 use Rattle.std.proofs.lemmas.Bool.{cases_eq, cases_lt, cond_both, eq-eqb, lt-ltb, le-ltb, ltb-true, ne_eqb}
 use Rattle.std.proofs.lemmas.List.{get_or-map, get_or-set_other, get_or-set_same, get_or_past, length-map, set_past}
-use Rattle.std.proofs.lemmas.List.Sums.{get_or-le-sum_by, sum_by-cons, sum_by-set}
+use Rattle.std.proofs.{Math.Nat.zero-mod, lemmas.List.Sums.get_or-le-sum_by, lemmas.List.Sums.sum_by-cons, lemmas.List.Sums.sum_by-set}
+use Rattle.std.specs.{Prelude.if◌then◌else◌, Prelude.nat_lt, Prelude.slice_index_or, Prelude.slice_set, List.All}
 use Rattle.dma_engine.specs.Interleaved.{JobTurn, channel_at, channels_of, rotation}
 use Rattle.dma_engine.proofs.Interleavings.{channel_again, channel_next}
 use Rattle.dma_commands.specs.Raced.{channels_of_line}
-use Rattle.dma_script.specs.Race.{IsJob}
-use Rattle.dma_script.specs.declared.race.JobLine.{JobLine}
+use Rattle.dma_script.specs.{Race.IsJob, declared.race.JobLine.JobLine}
 use Rattle.dma_seeds.specs.declared.turns.TurnsLeft.{TurnsLeft}
-use Rattle.rand_xoshiro.specs.SplitMix64.{mix_u64}
 use Rattle.dma_seeds.specs.Turns.{SeedsInterleave, after_turn, all_turns, drawn, following, job_at, next_word, no_turns, total_left, turns_of_seed}
+use Rattle.rand_xoshiro.specs.SplitMix64.{mix_u64}
 
 -- ---- the job of a turn
 
@@ -61,7 +59,9 @@ unfolding next_word
 word_is_law state = refl
 
 -- one turn is taken, with the generator's next word
-pub drawn_next : (left state word state' : ℕ) (jobs : List TurnsLeft) (k : ℕ) (job after : TurnsLeft) → 0 < left → (word, state') ≡ mix_u64 state → k ≡ job_at jobs (word % left) → job ≡ slice_index_or jobs k no_turns → after ≡ after_turn job → drawn left state jobs ≡ record { job = k; channel = job.next } ∷ drawn (left - 1) state' (slice_set jobs k after)
+pub drawn_next : (left state word state' : ℕ) (jobs : List TurnsLeft) (k : ℕ) (job after : TurnsLeft) → 0 < left → (word, state') ≡ mix_u64 state
+    → k ≡ job_at jobs (word % left) → job ≡ slice_index_or jobs k no_turns → after ≡ after_turn job
+    → drawn left state jobs ≡ record { job = k; channel = job.next } ∷ drawn (left - 1) state' (slice_set jobs k after)
 drawn_next zero state word state' jobs k job after some words at here fits = absurd (omega arith)
 drawn_next (suc n) state word state' jobs k job after some words at here fits =
     let fewer : suc n - 1 ≡ n = omega arith in
@@ -123,7 +123,8 @@ none_left jobs k none =
     ap (channels_from job.first job.last job.next) zero_left
 
 -- Each job takes the turns that it has left, in its order.
-pub drawn_each : (n state : ℕ) (jobs : List TurnsLeft) (k : ℕ) → total_left jobs ≡ n → channels_of k (drawn n state jobs) ≡ left_channels (slice_index_or jobs k no_turns)
+pub drawn_each : (n state : ℕ) (jobs : List TurnsLeft) (k : ℕ) → total_left jobs ≡ n
+    → channels_of k (drawn n state jobs) ≡ left_channels (slice_index_or jobs k no_turns)
 drawn_each zero state jobs k total = ap (channels_of k) (drawn_none state jobs) ∙ sym (none_left jobs k total)
 drawn_each (suc n) state jobs k total =
     let w = next_word state in
@@ -136,7 +137,8 @@ drawn_each (suc n) state jobs k total =
     ∙ elim (cases_eq at k) [
       | inl same ↦
           ap (λ b. if b then job.next ∷ channels_of k (drawn n w.1 rest) else channels_of k (drawn n w.1 rest)) (eq-eqb at k same)
-          ∙ ap (λ l. job.next ∷ l) (others ∙ ap left_channels (ap (λ i. slice_index_or rest i no_turns) (sym same) ∙ get_or-set_same jobs at (after_turn job) no_turns has.there))
+          ∙ ap (λ l. job.next ∷ l) (others
+          ∙ ap left_channels (ap (λ i. slice_index_or rest i no_turns) (sym same) ∙ get_or-set_same jobs at (after_turn job) no_turns has.there))
           ∙ sym (left_next job.first job.last job.next job.left has.some)
           ∙ ap (λ i. left_channels (slice_index_or jobs i no_turns)) same
       | inr apart ↦
@@ -172,7 +174,8 @@ following_low first last ch f l =
 after_low : (t : TurnsLeft) → IsLow t → IsLow (after_turn t)
 after_low t low = (low.0, low.1, following_low t.first t.last t.next low.0 low.1)
 
-set_low : (jobs : List TurnsLeft) (at : ℕ) (t : TurnsLeft) → IsLow t → ((k : ℕ) → IsLow (slice_index_or jobs k no_turns)) → (k : ℕ) → IsLow (slice_index_or (slice_set jobs at t) k no_turns)
+set_low : (jobs : List TurnsLeft) (at : ℕ) (t : TurnsLeft) → IsLow t → ((k : ℕ) → IsLow (slice_index_or jobs k no_turns)) → (k : ℕ)
+    → IsLow (slice_index_or (slice_set jobs at t) k no_turns)
 set_low jobs at t low each k = elim (cases_eq k at) [
   | inl same ↦ elim (cases_lt at (length jobs)) [
     | inl less ↦ subst IsLow (sym (ap (λ i. slice_index_or (slice_set jobs at t) i no_turns) same ∙ get_or-set_same jobs at t no_turns less)) low
@@ -187,7 +190,8 @@ drawn_low (suc n) state jobs each =
     let w = next_word state in
     let at = job_at jobs (w.0 % suc n) in
     let job = slice_index_or jobs at no_turns in
-    subst AreLow (sym (drawn_suc n state jobs)) ((each at).2, drawn_low n w.1 (slice_set jobs at (after_turn job)) (set_low jobs at (after_turn job) (after_low job (each at)) each))
+    subst AreLow (sym (drawn_suc n state jobs))
+    ((each at).2, drawn_low n w.1 (slice_set jobs at (after_turn job)) (set_low jobs at (after_turn job) (after_low job (each at)) each))
 
 -- The turns for a seed step channels that a job may name.
 pub seeds_low : (lines : List JobLine) (seed : ℕ) → All IsJob lines → AreLow (turns_of_seed lines seed)
@@ -197,7 +201,8 @@ seeds_low lines seed jobs =
       | inl less ↦
           let line = slice_index_or lines k (record { first = 0; last = 0; turns = 0 }) in
           let is = jobs k (record { first = 0; last = 0; turns = 0 }) less in
-          subst IsLow (sym (get_or-map all_turns lines k (record { first = 0; last = 0; turns = 0 }) no_turns less)) (omega (arith, is.0, is.1), is.1, omega (arith, is.0, is.1))
+          subst IsLow (sym (get_or-map all_turns lines k (record { first = 0; last = 0; turns = 0 }) no_turns less))
+          (omega (arith, is.0, is.1), is.1, omega (arith, is.0, is.1))
       | inr past ↦ subst IsLow (sym (get_or_past all k no_turns (omega (arith, past, length-map lines all_turns)))) (omega arith, omega arith, omega arith)
     ] in
     drawn_low (total_left all) seed all each

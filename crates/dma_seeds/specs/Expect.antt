@@ -1,20 +1,12 @@
 -- The lines `expect TEXT` of a race script (profile). Each compares its text with a line that was printed.
-use Rattle.std.specs.Prelude.{ℕ, ◌+◌, Bool, ◌==◌, ◌||◌, not, true, false, if◌then◌else◌, List, [], ◌∷◌, ◌++◌, flat_map, map, slice_index, Option, Some, None, Result, Ok, Err, codes, decimal}
-use Rattle.std.specs.List.{list_any}
-use Rattle.std.specs.Option.{is_some}
-use Rattle.std.specs.Str.{bytes_eq}
-use Rattle.std.specs.Str.Lines.{lines}
+use Rattle.std.specs.Prelude.{ℕ, ◌+◌, Bool, ◌==◌, ◌||◌, not, true, false, if◌then◌else◌, List, [], ◌∷◌, ◌++◌, flat_map, map, slice_index, Option, Some, None}
+use Rattle.std.specs.Prelude.{Result, Ok, Err, codes, decimal}
+use Rattle.std.specs.{List.list_any, Option.is_some, Str.bytes_eq, Str.Lines.lines}
 use Rattle.dma_io.specs.Command.{text_of}
-use Rattle.dma_script.specs.Lines.{◌>>=◌}
-use Rattle.dma_script.specs.Race.{race_script_of}
-use Rattle.dma_script.specs.Words.{words_of}
-use Rattle.dma_script.specs.declared.fault.Fault.{Fault}
-use Rattle.dma_script.specs.declared.race.RaceScript.{RaceScript}
-use Rattle.dma_seeds.specs.Race.{raced}
-use Rattle.dma_seeds.specs.Turns.{turns_of_seed}
-use Rattle.dma_seeds.specs.declared.expect.Missed.{Missed}
-use Rattle.dma_seeds.specs.declared.expect.Verdict.{Verdict}
+use Rattle.dma_text.specs.Results.{◌>>=◌}
+use Rattle.dma_script.specs.{Race.race_script_of, Words.words_of, declared.fault.Fault.Fault, declared.race.RaceScript.RaceScript}
 use Rattle.dma_seeds.specs.declared.expect.Verdict.TheVariants.{Holds, Misses, Refused}
+use Rattle.dma_seeds.specs.{Race.raced, Turns.turns_of_seed, declared.expect.Missed.Missed, declared.expect.Verdict.Verdict}
 
 -- words with a space between two
 abbrev pub spaced : List (List ℕ) → List ℕ

@@ -1,12 +1,9 @@
 -- The message for the first fault of a script (profile): the number of its line, the cause, and the line.
-use Rattle.std.specs.Prelude.{ℕ, ◌-◌, ◌==◌, ◌&&◌, nat_le, nat_lt, length, if◌then◌else◌, List, [], ◌++◌, map, take, slice_index_or, Result, Ok, Err, codes, decimal}
+use Rattle.std.specs.Prelude.{ℕ, ◌-◌, ◌==◌, ◌&&◌, nat_le, nat_lt, length, if◌then◌else◌, List, [], ◌++◌, map, take, slice_index_or, Result, Ok, Err, codes}
+use Rattle.std.specs.Prelude.{decimal}
 use Rattle.std.specs.Str.Lines.{lines}
-use Rattle.dma_script.specs.Printing.{cause_name}
-use Rattle.dma_script.specs.Race.{race_script_of}
-use Rattle.dma_script.specs.Statements.{run_script_of}
-use Rattle.dma_script.specs.declared.fault.Cause.{Cause}
-use Rattle.dma_script.specs.declared.fault.Cause.TheVariants.{Go}
-use Rattle.dma_script.specs.declared.fault.Fault.{Fault}
+use Rattle.dma_script.specs.{Printing.cause_name, Race.race_script_of, Statements.run_script_of, declared.fault.Cause.Cause}
+use Rattle.dma_script.specs.{declared.fault.Cause.TheVariants.Go, declared.fault.Fault.Fault}
 use Rattle.dma_seeds.specs.Expect.{without_expects}
 
 -- the byte that is shown for a byte of a line: itself if it is printable ASCII, a space for a tab, else a question mark

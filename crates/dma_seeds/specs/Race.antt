@@ -2,13 +2,8 @@
 use Rattle.std.specs.Prelude.{ℕ, List, Result, Ok, Err}
 use Rattle.dma_engine.specs.Interleaved.{JobTurn}
 use Rattle.dma_io.specs.Command.{Printed, refusal}
-use Rattle.dma_script.specs.Printing.{fault_line}
-use Rattle.dma_script.specs.Race.{race_script_of}
-use Rattle.dma_script.specs.declared.fault.Fault.{Fault}
-use Rattle.dma_script.specs.declared.race.RaceScript.{RaceScript}
-use Rattle.dma_commands.specs.Left.{view_after}
-use Rattle.dma_commands.specs.Raced.{first_view, race_may_print, raced_whole}
-use Rattle.dma_commands.specs.Run.{lines_answered}
+use Rattle.dma_script.specs.{Printing.fault_line, Race.race_script_of, declared.fault.Fault.Fault, declared.race.RaceScript.RaceScript}
+use Rattle.dma_commands.specs.{Left.view_after, Raced.first_view, Raced.race_may_print, Raced.raced_whole, Run.lines_answered}
 use Rattle.dma_seeds.specs.Turns.{turns_of_seed}
 
 -- what `run` prints for the lines before `go`, the same for all orders of the turns

@@ -1,20 +1,12 @@
 -- A race with its turns in a given order, as a script of `run` (profile).
 use Rattle.std.specs.Prelude.{◌≡◌, ◌==◌, ℕ, if◌then◌else◌, List, [], ◌∷◌, ◌++◌, flat_map, map, slice_index, Result, Ok, Err, codes, decimal}
-use Rattle.std.specs.Str.{bytes_eq}
-use Rattle.std.specs.Str.Lines.{lines}
+use Rattle.std.specs.{Str.bytes_eq, Str.Lines.lines}
 use Rattle.dma_engine.specs.Interleaved.{JobTurn, turns_taken}
 use Rattle.dma_io.specs.Command.{text_of}
-use Rattle.dma_script.specs.Race.{race_script_of}
-use Rattle.dma_script.specs.Statements.{run_script_of}
-use Rattle.dma_script.specs.Words.{words_of}
-use Rattle.dma_script.specs.declared.fault.Fault.{Fault}
-use Rattle.dma_script.specs.declared.race.RaceScript.{RaceScript}
-use Rattle.dma_script.specs.declared.statements.RunScript.{RunScript}
-use Rattle.dma_commands.specs.Left.{view_after}
-use Rattle.dma_commands.specs.Raced.{step_groups, step_statements}
-use Rattle.dma_commands.specs.Run.{lines_answered, printed_of}
-use Rattle.dma_seeds.specs.Turns.{turns_of_seed}
-use Rattle.dma_seeds.specs.Race.{early_lines}
+use Rattle.dma_script.specs.{Race.race_script_of, Statements.run_script_of, Words.words_of, declared.fault.Fault.Fault, declared.race.RaceScript.RaceScript}
+use Rattle.dma_script.specs.{declared.statements.RunScript.RunScript}
+use Rattle.dma_commands.specs.{Left.view_after, Raced.step_groups, Raced.step_statements, Run.lines_answered, Run.printed_of}
+use Rattle.dma_seeds.specs.{Turns.turns_of_seed, Race.early_lines}
 
 -- `step CH`, one step of the channel of a turn
 abbrev pub turn_line : JobTurn → List ℕ

@@ -1,22 +1,13 @@
 -- Which outputs the seeds of a range give, what is printed about them, and whether the expect lines hold (profile).
-use Rattle.std.specs.Prelude.{ℕ, zero, suc, ◌+◌, ◌-◌, Bool, ◌==◌, not, if◌then◌else◌, List, [], ◌∷◌, ◌++◌, count_by, filter, flat_map, length, map, Result, Ok, Err, codes, decimal}
-use Rattle.std.specs.List.{list_any, range_with_len}
-use Rattle.std.specs.Str.{bytes_eq}
-use Rattle.std.specs.Str.Lines.{lines}
+use Rattle.std.specs.Prelude.{ℕ, zero, suc, ◌+◌, ◌-◌, Bool, ◌==◌, not, if◌then◌else◌, List, [], ◌∷◌, ◌++◌, count_by, filter, flat_map, length, map, Result, Ok}
+use Rattle.std.specs.Prelude.{Err, codes, decimal}
+use Rattle.std.specs.{List.list_any, List.range_with_len, Str.bytes_eq, Str.Lines.lines}
 use Rattle.dma_io.specs.Command.{printed_text, text_of}
-use Rattle.dma_script.specs.Printing.{fault_line}
-use Rattle.dma_script.specs.Race.{race_script_of}
-use Rattle.dma_script.specs.declared.fault.Fault.{Fault}
-use Rattle.dma_script.specs.declared.race.RaceScript.{RaceScript}
-use Rattle.dma_commands.specs.Left.{view_after}
-use Rattle.dma_commands.specs.Raced.{from_go}
-use Rattle.dma_seeds.specs.Expect.{is_good, verdict, verdict_text, without_expects}
-use Rattle.dma_seeds.specs.Turns.{turns_of_seed}
-use Rattle.dma_seeds.specs.declared.expect.Verdict.{Verdict}
-use Rattle.dma_seeds.specs.declared.expect.Verdict.TheVariants.{Holds, Refused}
-use Rattle.dma_seeds.specs.declared.outputs.Output.{Output}
-use Rattle.dma_seeds.specs.declared.seeds.SeedRange.{SeedRange}
-use Rattle.dma_seeds.specs.declared.seeds.SeedsVerdict.{SeedsVerdict}
+use Rattle.dma_script.specs.{Printing.fault_line, Race.race_script_of, declared.fault.Fault.Fault, declared.race.RaceScript.RaceScript}
+use Rattle.dma_commands.specs.{Left.view_after, Raced.from_go}
+use Rattle.dma_seeds.specs.{Expect.is_good, Expect.verdict, Expect.verdict_text, Expect.without_expects, Turns.turns_of_seed, declared.expect.Verdict.Verdict}
+use Rattle.dma_seeds.specs.{declared.expect.Verdict.TheVariants.Holds, declared.expect.Verdict.TheVariants.Refused, declared.outputs.Output.Output}
+use Rattle.dma_seeds.specs.{declared.seeds.SeedRange.SeedRange, declared.seeds.SeedsVerdict.SeedsVerdict}
 
 -- what a parsed script prints for a seed from the line of `go` on; nothing for a script with a fault
 abbrev pub text_from_go : Result RaceScript Fault → ℕ → List ℕ

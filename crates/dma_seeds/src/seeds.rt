@@ -11,10 +11,10 @@ use crate::expect::{Verdict, has_expects, without_expects};
 use crate::outputs::{Output, Things, count_output, print_outputs};
 use crate::race::{race_by_seed, start};
 use dma_io::printing::print_line;
+use dma_io::progress::Progress;
 use dma_mem::lists::Bytes;
 use dma_script::fault::ScriptError;
 use dma_script::race::{RaceScript, read_race_script};
-use dma_text::progress::Progress;
 use std::alloc::{AllocError, Global};
 
 /// The seeds from a first one to a last one.

@@ -1,6 +1,6 @@
-//! Tests of what no contract says, no row of the top-level `tests/` shows, and no test in C or Rust reaches; and the
-//! example of the README. They have a crate of their own, because the gate proves a crate with tests twice, the second
-//! time with its tests.
+//! Tests of what no contract says, no row of the top-level `tests/` shows, and no test in C or Rust reaches; and an
+//! example of the calls in Rattle. They have a crate of their own, because the gate proves a crate with tests twice,
+//! the second time with its tests.
 #![tactic(auto)]
 
 #[cfg(test)]

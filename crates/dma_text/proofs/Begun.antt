@@ -1,7 +1,6 @@
 -- Lines that are begun at the end of a list, and then ended or removed.
 use Rattle.std.proofs.Common.{◌≡◌, ℕ, ◌≤◌, List, ◌++◌, length, take, ap, sym, ◌∙◌, arith, take_all}
-use Rattle.std.proofs.Math.Seq.{take-append_seam}
-use Rattle.std.proofs.lemmas.List.{length-take, take-take}
+use Rattle.std.proofs.{Math.Seq.take-append_seam, lemmas.List.length-take, lemmas.List.take-take}
 use Rattle.dma_text.specs.Text.{Begins}
 
 -- nothing was appended

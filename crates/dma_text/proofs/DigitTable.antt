@@ -1,8 +1,6 @@
 -- The table of digits, entry by entry the value of a digit.
 use Rattle.std.proofs.Common.{◌≡◌, ℕ, ◌<◌, List, map, refl, ap, ◌∙◌, sym, arith}
-use Rattle.std.specs.Prelude.{slice_index_or}
-use Rattle.std.specs.Char.{digit_value}
-use Rattle.std.specs.List.{range_with_len}
+use Rattle.std.specs.{Prelude.slice_index_or, Char.digit_value, List.range_with_len}
 use Rattle.std.proofs.lemmas.List.FromFn.{get_or-map-range_with_len}
 use Rattle.dma_text.specs.declared.digits.TheConstants.{DIGIT_VALUES}
 

@@ -3,7 +3,8 @@ use Rattle.std.proofs.Common.{◌≡◌, ℕ, ◌/◌, ◌%◌, ◌^◌, ◌<◌
 use Rattle.dma_text.specs.Digits.{hex_digits, hex_pair}
 
 -- the digits of the four bytes, joined
-pub pairs_joined : (v : ℕ) (a b c d : List ℕ) → v < 2 ^ 32 → a ≡ hex_pair (v / 16777216) → b ≡ hex_pair (v / 65536 % 256) → c ≡ hex_pair (v / 256 % 256) → d ≡ hex_pair (v % 256)
+pub pairs_joined : (v : ℕ) (a b c d : List ℕ) → v < 2 ^ 32 → a ≡ hex_pair (v / 16777216) → b ≡ hex_pair (v / 65536 % 256) → c ≡ hex_pair (v / 256 % 256)
+    → d ≡ hex_pair (v % 256)
     → get_or a 0 0 ∷ get_or a 1 0 ∷ get_or b 0 0 ∷ get_or b 1 0 ∷ get_or c 0 0 ∷ get_or c 1 0 ∷ get_or d 0 0 ∷ get_or d 1 0 ∷ [] ≡ hex_digits v
 pairs_joined v a b c d fits first second third last =
     let e1 : v / 16777216 / 16 ≡ v / 268435456 % 16 = omega arith in

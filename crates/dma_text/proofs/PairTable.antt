@@ -1,8 +1,6 @@
 -- The table of the two hexadecimal digits of each byte, entry by entry.
 use Rattle.std.proofs.Common.{◌≡◌, ℕ, ◌+◌, ◌*◌, ◌/◌, ◌%◌, ◌<◌, List, map, true, eqb, refl, ap, ◌∙◌, sym, arith}
-use Rattle.std.specs.Prelude.{slice_index_or, if◌then◌else◌}
-use Rattle.std.specs.Fmt.{digit_glyph}
-use Rattle.std.specs.List.{range_with_len}
+use Rattle.std.specs.{Prelude.slice_index_or, Prelude.if◌then◌else◌, Fmt.digit_glyph, List.range_with_len}
 use Rattle.std.proofs.lemmas.List.FromFn.{get_or-map-range_with_len}
 use Rattle.dma_text.specs.declared.digits.TheConstants.{PAIRS}
 

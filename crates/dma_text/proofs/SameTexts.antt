@@ -1,9 +1,7 @@
 -- Whether two texts are the same, byte by byte.
 use Rattle.std.proofs.Common.{◌≡◌, ◌≢◌, ℕ, ◌<◌, true, false, List, length, get_or, ap, arith}
 use Rattle.std.specs.Str.{bytes_eq}
-use Rattle.std.proofs.lemmas.Bool.{false_from_ne_true}
-use Rattle.std.proofs.lemmas.Grind.{same_number_lists}
-use Rattle.std.proofs.lemmas.Slice.Eq.{bytes_eq-Decides}
+use Rattle.std.proofs.{lemmas.Bool.false_from_ne_true, lemmas.Grind.same_number_lists, lemmas.Slice.Eq.bytes_eq-Decides}
 
 -- texts of two lengths
 pub other_length : (word text : List ℕ) → length word ≢ length text → bytes_eq word text ≡ false

@@ -1,6 +1,5 @@
 -- Bytes and numbers in hexadecimal digits, which are 0 to 9 and A to F.
-use Rattle.std.specs.Prelude.{ℕ, ◌/◌, ◌%◌, true, List, [], ◌∷◌, map, flat_map}
-use Rattle.std.specs.Fmt.{digit_glyph}
+use Rattle.std.specs.{Prelude.ℕ, Prelude.◌/◌, Prelude.◌%◌, Prelude.true, Prelude.List, Prelude.[], Prelude.◌∷◌, Prelude.map, Prelude.flat_map, Fmt.digit_glyph}
 
 -- a byte in two digits
 abbrev pub hex_pair : ℕ → List ℕ

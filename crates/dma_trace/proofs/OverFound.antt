@@ -2,18 +2,11 @@
 use Rattle.std.proofs.Common.{◌≡◌, ℕ, ◌+◌, ◌≤◌, List, Bool, sym, subst, inl}
 use Rattle.std.specs.Prelude.{All, IfOk, IsTrue, Result, Ok, Err, map}
 use Rattle.std.proofs.lemmas.List.Elements.{All-append, All-map}
-use Rattle.dma_mem.specs.declared.segment.Segment.{Segment}
-use Rattle.dma_mem.specs.Lent.{lies_in_any}
-use Rattle.dma_mem.specs.Places.{end_of_addresses}
-use Rattle.dma_mem.specs.Regions.{Piece, in_order}
-use Rattle.dma_chan.specs.declared.exec.Registers.{Registers}
-use Rattle.dma_explain.specs.declared.explain.Explained.{Explained}
-use Rattle.dma_explain.specs.declared.explain.Repeated.{Repeated}
-use Rattle.dma_chan.specs.Exec.{start_on}
-use Rattle.dma_explain.specs.Explains.{Finds}
-use Rattle.dma_trace.specs.declared.options.TraceOptions.{TraceOptions}
+use Rattle.dma_mem.specs.{declared.segment.Segment.Segment, Lent.lies_in_any, Places.end_of_addresses, Regions.Piece, Regions.in_order}
+use Rattle.dma_chan.specs.{declared.exec.Registers.Registers, Exec.start_on}
+use Rattle.dma_explain.specs.{declared.explain.Explained.Explained, declared.explain.Repeated.Repeated, Explains.Finds}
 use Rattle.dma_trace.specs.Found.{ShowsAlone, most_explained, ranges_of, zero_piece}
-use Rattle.dma_trace.specs.inner.Explaining.{ShowsOver}
+use Rattle.dma_trace.specs.{declared.options.TraceOptions.TraceOptions, inner.Explaining.ShowsOver}
 
 -- a range ends at or below 2 ^ 32
 abbrev Ends : Segment → Type 0

@@ -1,12 +1,7 @@
 -- RAM that is made at ranges.
 use Rattle.std.proofs.Common.{◌≡◌, ℕ, ◌+◌, ◌-◌, ◌<◌, List, [], ◌∷◌, ◌++◌, length, drop, take, map, replicate, get_or, ap, sym, ◌∙◌, arith, add-one}
-use Rattle.std.proofs.Math.Seq.{take-suc}
-use Rattle.std.proofs.lemmas.List.{drop-replicate, map-append, take-replicate}
-use Rattle.std.proofs.lemmas.List.Sums.{sum_by-drop_more}
-use Rattle.dma_mem.specs.declared.regions.Region.{Region}
-use Rattle.dma_mem.specs.declared.segment.Segment.{Segment}
-use Rattle.dma_mem.specs.Refusals.{total}
-use Rattle.dma_mem.specs.Regions.{Piece, piece_of, pieces_of}
+use Rattle.std.proofs.{Math.Seq.take-suc, lemmas.List.drop-replicate, lemmas.List.map-append, lemmas.List.take-replicate, lemmas.List.Sums.sum_by-drop_more}
+use Rattle.dma_mem.specs.{declared.regions.Region.Region, declared.segment.Segment.Segment, Refusals.total, Regions.Piece, Regions.piece_of, Regions.pieces_of}
 use Rattle.dma_trace.specs.Found.{zero_piece}
 
 -- what an index behind the end gives
@@ -39,7 +34,8 @@ pub one_more : (ranges : List Segment) (k : ℕ) (regions : List Region) (r : Re
     → pieces_of (regions ++ r ∷ []) ≡ map zero_piece (take (k + 1) ranges)
 one_more ranges k regions r h made at zeros =
     let s = get_or ranges k no_range in
-    let piece : piece_of r ≡ zero_piece s = ap (λ (a : ℕ). let p : Piece = record { addr = a; bytes = r.bytes.now } in p) at ∙ ap (λ (bs : List ℕ). let p : Piece = record { addr = s.addr; bytes = bs } in p) zeros in
+    let piece : piece_of r ≡ zero_piece s = ap (λ (a : ℕ). let p : Piece = record { addr = a; bytes = r.bytes.now } in p) at
+    ∙ ap (λ (bs : List ℕ). let p : Piece = record { addr = s.addr; bytes = bs } in p) zeros in
     map-append piece_of regions (r ∷ [])
     ∙ ap (λ (ps : List Piece). ps ++ piece_of r ∷ []) made
     ∙ ap (λ (p : Piece). map zero_piece (take k ranges) ++ p ∷ []) piece

@@ -1,29 +1,19 @@
 -- A run of a trace, step after step.
-use Rattle.std.proofs.Common.{◌≡◌, ◌≢◌, ℕ, suc, ◌+◌, ◌-◌, ◌<◌, ◌≤◌, Bool, true, false, ◌&&◌, List, [], ◌∷◌, ◌++◌, length, map, Option, Some, None, Result, Ok, refl, sym, ap, subst, ◌∙◌, arith, inl, inr, append_assoc, append-nil}
+use Rattle.std.proofs.Common.{◌≡◌, ◌≢◌, ℕ, suc, ◌+◌, ◌-◌, ◌<◌, ◌≤◌, Bool, true, false, ◌&&◌, List, [], ◌∷◌, ◌++◌, length, map, Option, Some, None, Result, Ok}
+use Rattle.std.proofs.Common.{refl, sym, ap, subst, ◌∙◌, arith, inl, inr, append_assoc, append-nil}
 use Rattle.std.specs.Prelude.{IsOk, flat_map, nat_le, nat_lt, slice_get}
 use Rattle.std.proofs.lemmas.Bool.{cases_lt, le-ltb, lt-ltb}
-use Rattle.dma_insn.specs.Chip.{spelling}
-use Rattle.dma_insn.specs.declared.chip.ChipInsn.{ChipInsn}
-use Rattle.dma_mem.specs.Flags.{flags_of}
-use Rattle.dma_mem.specs.Lent.{marks_at, stores_at}
-use Rattle.dma_mem.specs.Marking.{MarkList}
+use Rattle.dma_insn.specs.{Chip.spelling, declared.chip.ChipInsn.ChipInsn, AssemblyText.most_program_bytes}
 use Rattle.dma_mem.specs.Regions.{Piece, gaps_above, image_of, in_order, largest_end, pieces_of, read_only_of, rises_from}
-use Rattle.dma_mem.specs.declared.regions.Region.{Region}
-use Rattle.dma_mem.specs.declared.segment.Segment.{Segment}
-use Rattle.dma_chan.specs.declared.turn.ChanTurn.{ChanTurn}
-use Rattle.dma_chan.specs.declared.turn.ChanTurn.TheVariants.{Moved}
-use Rattle.dma_chan.specs.declared.turn.FaultKind.{FaultKind}
-use Rattle.dma_chan.specs.Channel.{ChannelValue, ahead_of, bytes_of_program, code_of, loaded_on}
-use Rattle.dma_chan.specs.Exec.{buffer_size, moved, start_on}
-use Rattle.dma_chan.specs.LentRegions.{segment_of, with_gaps_of}
-use Rattle.dma_chan.specs.Stepping.{Machine, after_step, after_steps, answer_at}
-use Rattle.dma_trace.specs.declared.front.Front.{Front}
-use Rattle.dma_trace.specs.declared.options.TraceOptions.{TraceOptions}
-use Rattle.dma_trace.specs.Front.{front_of, held_after, registers_of}
-use Rattle.dma_insn.specs.AssemblyText.{most_program_bytes}
-use Rattle.dma_trace.specs.Traced.{End, Shows, StopsAfter, dump_text, end_after, end_of, front_in, if_wave, last_answer, lines, marks_over, moment_in, opening, pieces_in, shown_line, tried, waveform}
-use Rattle.dma_trace.specs.Wave.{executing, last_text}
-use Rattle.dma_trace.specs.inner.Running.{Ends, Goes, Runs, Waves, machine_over}
+use Rattle.dma_mem.specs.{Flags.flags_of, Lent.marks_at, Lent.stores_at, Marking.MarkList, declared.regions.Region.Region, declared.segment.Segment.Segment}
+use Rattle.dma_chan.specs.{declared.turn.ChanTurn.ChanTurn, declared.turn.ChanTurn.TheVariants.Moved, declared.turn.FaultKind.FaultKind, Channel.ChannelValue}
+use Rattle.dma_chan.specs.{Channel.ahead_of, Channel.bytes_of_program, Channel.code_of, Channel.loaded_on, Exec.buffer_size, Exec.moved, Exec.start_on}
+use Rattle.dma_chan.specs.{LentRegions.segment_of, LentRegions.with_gaps_of, Stepping.Machine, Stepping.after_step, Stepping.after_steps, Stepping.answer_at}
+use Rattle.dma_trace.specs.Traced.{End, Shows, StopsAfter, dump_text, end_after, end_of, front_in, if_wave, last_answer, lines, marks_over, moment_in, opening}
+use Rattle.dma_trace.specs.Traced.{pieces_in, shown_line, tried, waveform}
+use Rattle.dma_trace.specs.inner.Running.{Ends, Fits, Goes, Runs, Waves, machine_over}
+use Rattle.dma_trace.specs.{declared.front.Front.Front, declared.options.TraceOptions.TraceOptions, Front.front_of, Front.held_after, Wave.executing}
+use Rattle.dma_trace.specs.{Wave.last_text}
 use Rattle.dma_trace.proofs.Steps.{Moves, fetched_there, front_moves, moves_on, pc_fits, pieces_are, room_moves}
 use Rattle.dma_trace.proofs.Waves.{wave_ends}
 
@@ -51,7 +41,8 @@ between_is at [] = refl
 between_is at (r ∷ rs) =
     ap (λ (ss : List Segment). record { addr = at; len = r.addr - at } ∷ ss) (between_is ((segment_of r).addr + (segment_of r).len) rs)
 
-pub marks_kept : (rs left : List Region) (marks given : MarkList) → map segment_of left ≡ map segment_of rs → read_only_of left ≡ read_only_of rs → given ≡ marks → with_gaps_of left given ≡ with_gaps_of rs marks
+pub marks_kept : (rs left : List Region) (marks given : MarkList) → map segment_of left ≡ map segment_of rs → read_only_of left ≡ read_only_of rs
+    → given ≡ marks → with_gaps_of left given ≡ with_gaps_of rs marks
 marks_kept rs left marks given same access is =
     ap (λ (ss : List Segment). marks_at ss ++ (stores_at (read_only_of left) ++ given)) (between_is 0 left ∙ ap (between 0) same ∙ sym (between_is 0 rs))
     ∙ ap (λ (ss : List Segment). marks_at (gaps_above 0 (pieces_of rs)) ++ (stores_at ss ++ given)) access
@@ -70,12 +61,13 @@ pub record Step (o : TraceOptions) (n : ℕ) (i : ChipInsn) (c : ChannelValue) (
   pub places : map segment_of left ≡ map segment_of rs
   pub read_only : read_only_of left ≡ read_only_of rs
   pub order : in_order (pieces_of left) ≡ true
-  pub registers : registers_of next ≡ moved i (registers_of front)
-  pub more : next.held ≡ held_after i (registers_of front) front.held
+  pub registers : next.registers ≡ moved i front.registers
+  pub more : next.held ≡ held_after i front.registers front.held
   pub text : new ≡ mid ++ shown_line o (n + 1) (Ok i) front next (pieces_of left)
 
 -- a run after n steps that moved
-module _ {o : TraceOptions} {marks : MarkList} {first : List Region} {s : Machine} {n : ℕ} {c : ChannelValue} {rs : List Region} {flags : List Bool} {front : Front} {old mid : List ℕ} (w : Goes o marks first s n c rs flags front old mid) where
+module _ {o : TraceOptions} {marks : MarkList} {first : List Region} {s : Machine} {n : ℕ} {c : ChannelValue} {rs : List Region} {flags : List Bool}
+    {front : Front} {old mid : List ℕ} (w : Goes o marks first s n c rs flags front old mid) where
   abbrev u : Machine
   u = after_steps marks s n
 
@@ -83,7 +75,9 @@ module _ {o : TraceOptions} {marks : MarkList} {first : List Region} {s : Machin
   ahead_there e = e ∙ ap (λ (m : Machine). ahead_of m.channel) w.at
 
   -- a step does the same by the marks over the regions before the run
-  pub took : (given : MarkList) (left : List Region) {d : ChannelValue} {after : List Bool} {turn : ChanTurn} → marks ≡ with_gaps_of first given → turn ≡ answer_at (with_gaps_of rs given) (machine_over c rs flags) → machine_over d left after ≡ after_step (with_gaps_of rs given) (machine_over c rs flags) → Took marks c d rs left flags after turn
+  pub took : (given : MarkList) (left : List Region) {d : ChannelValue} {after : List Bool} {turn : ChanTurn} → marks ≡ with_gaps_of first given
+      → turn ≡ answer_at (with_gaps_of rs given) (machine_over c rs flags)
+      → machine_over d left after ≡ after_step (with_gaps_of rs given) (machine_over c rs flags) → Took marks c d rs left flags after turn
   took given left same answer to =
       let kept = marks_kept first rs given given w.places w.read_only refl ∙ sym same in
       record {
@@ -96,15 +90,21 @@ module _ {o : TraceOptions} {marks : MarkList} {first : List Region} {s : Machin
   moment_there e = rw (ahead_there e, w.front_is) refl
 
   -- the end that is printed is that of the run
-  end_same : {turn : Option ChanTurn} {r : Result ChipInsn FaultKind} {steps stored : ℕ} → turn ≡ last_answer marks s o.limit n → steps ≡ n → r ≡ ahead_of c → stored ≡ c.stored → end_of turn (slice_get (code_of s.channel) front.pc) r steps front stored ≡ end_after o marks s n
+  end_same : {turn : Option ChanTurn} {r : Result ChipInsn FaultKind} {steps stored : ℕ} → turn ≡ last_answer marks s o.limit n → steps ≡ n → r ≡ ahead_of c
+      → stored ≡ c.stored → end_of turn (slice_get (code_of s.channel) front.registers.pc) r steps front stored ≡ end_after o marks s n
   end_same is number ahead bytes =
       let code : code_of s.channel ≡ code_of u.channel = sym (ap bytes_of_program w.program) ∙ ap (λ (m : Machine). code_of m.channel) w.at in
       rw (is, number, ahead_there ahead, bytes ∙ ap (λ (m : Machine). m.channel.stored) w.at, code, w.front_is) refl
 
   -- The run ends with this answer. Nothing was appended to `err` before.
-  finish : {turn : Option ChanTurn} {r : Result ChipInsn FaultKind} {steps stored : ℕ} {good : Bool} (after : List ℕ) {err now wave mid_wave new_out new_err new_wave : List ℕ} → turn ≡ last_answer marks s o.limit n → steps ≡ n → r ≡ ahead_of c → stored ≡ c.stored → StopsAfter marks s o.limit n → after ≡ (after_steps marks s (tried o.limit n)).image → now ≡ err → Ends (end_of turn (slice_get (code_of s.channel) front.pc) r steps front stored) good mid now new_out new_err → Waves o marks s n wave mid_wave → new_wave ≡ mid_wave ++ if_wave o (last_text (executing steps r front) turn) → Runs o marks (map segment_of first) s good after old err wave new_out new_err new_wave
+  finish : {turn : Option ChanTurn} {r : Result ChipInsn FaultKind} {steps stored : ℕ} {good : Bool} (after : List ℕ)
+      {err now wave mid_wave new_out new_err new_wave : List ℕ} → turn ≡ last_answer marks s o.limit n → steps ≡ n → r ≡ ahead_of c → stored ≡ c.stored
+      → StopsAfter marks s o.limit n → after ≡ (after_steps marks s (tried o.limit n)).image → now ≡ err
+      → Ends (end_of turn (slice_get (code_of s.channel) front.registers.pc) r steps front stored) good mid now new_out new_err
+      → Waves o marks s n wave mid_wave → new_wave ≡ mid_wave ++ if_wave o (last_text (executing steps r front) turn)
+      → Runs o marks (map segment_of first) s good after old err wave new_out new_err new_wave
   finish {turn} {r} {steps} {stored} {good} after {err} is number ahead bytes run memory clean e waves waved =
-      let end = end_of turn (slice_get (code_of s.channel) front.pc) r steps front stored in
+      let end = end_of turn (slice_get (code_of s.channel) front.registers.pc) r steps front stored in
       let same : end ≡ end_after o marks s n = end_same is number ahead bytes in
       record {
         count = n;
@@ -117,7 +117,11 @@ module _ {o : TraceOptions} {marks : MarkList} {first : List Region} {s : Machin
       }
 
   -- the limit is reached
-  pub ends : {r : Result ChipInsn FaultKind} {stored : ℕ} {good : Bool} {err now wave mid_wave new_out new_err new_wave : List ℕ} → n ≡ o.limit → r ≡ ahead_of c → stored ≡ c.stored → now ≡ err → Ends (end_of None (slice_get (code_of s.channel) front.pc) r o.limit front stored) good mid now new_out new_err → Waves o marks s n wave mid_wave → new_wave ≡ mid_wave ++ if_wave o (last_text (executing o.limit r front) None) → Runs o marks (map segment_of first) s good (image_of (pieces_of rs)) old err wave new_out new_err new_wave
+  pub ends : {r : Result ChipInsn FaultKind} {stored : ℕ} {good : Bool} {err now wave mid_wave new_out new_err new_wave : List ℕ} → n ≡ o.limit → r ≡ ahead_of c
+      → stored ≡ c.stored → now ≡ err
+      → Ends (end_of None (slice_get (code_of s.channel) front.registers.pc) r o.limit front stored) good mid now new_out new_err
+      → Waves o marks s n wave mid_wave → new_wave ≡ mid_wave ++ if_wave o (last_text (executing o.limit r front) None)
+      → Runs o marks (map segment_of first) s good (image_of (pieces_of rs)) old err wave new_out new_err new_wave
   ends limit ahead bytes clean e waves waved =
       let test : nat_lt n o.limit ≡ false = le-ltb n o.limit (omega (arith, limit)) in
       finish (image_of (pieces_of rs)) (rw test refl) (sym limit) ahead bytes
@@ -126,7 +130,9 @@ module _ {o : TraceOptions} {marks : MarkList} {first : List Region} {s : Machin
       clean e waves waved
 
 -- one more step
-module _ {o : TraceOptions} {marks : MarkList} {first : List Region} {s : Machine} {n : ℕ} {c : ChannelValue} {rs : List Region} {flags : List Bool} {front : Front} {old mid : List ℕ} {d : ChannelValue} {left : List Region} {after : List Bool} {turn : ChanTurn} (w : Goes o marks first s n c rs flags front old mid) (t : Took marks c d rs left flags after turn) where
+module _ {o : TraceOptions} {marks : MarkList} {first : List Region} {s : Machine} {n : ℕ} {c : ChannelValue} {rs : List Region} {flags : List Bool}
+    {front : Front} {old mid : List ℕ} {d : ChannelValue} {left : List Region} {after : List Bool} {turn : ChanTurn}
+    (w : Goes o marks first s n c rs flags front old mid) (t : Took marks c d rs left flags after turn) where
   abbrev v : Machine
   v = after_steps marks s n
 
@@ -153,14 +159,18 @@ module _ {o : TraceOptions} {marks : MarkList} {first : List Region} {s : Machin
       ∙ w.program
 
   -- the front has room for the instruction, which lies in the program
-  pub front_there : {i : ChipInsn} → ahead_of c ≡ Ok i → turn ≡ Moved → length (code_of s.channel) ≤ most_program_bytes → (front.pc + length (spelling i) ≤ most_program_bytes) × (held_after i (registers_of front) front.held ≤ buffer_size)
-  front_there ahead moves long =
-      let pc : front.pc ≡ c.registers.pc = ap (λ (f : Front). f.pc) w.front_is ∙ sym (ap (λ (m : Machine). m.channel.registers.pc) w.at) in (
+  pub front_there : {i : ChipInsn} → ahead_of c ≡ Ok i → turn ≡ Moved → length (code_of s.channel) ≤ most_program_bytes → Fits i front.registers
+      × (front.registers.pc + length (spelling i) ≤ most_program_bytes) × (held_after i front.registers front.held ≤ buffer_size)
+  front_there {i} ahead moves long =
+      let pc : front.registers.pc ≡ c.registers.pc =
+      ap (λ (f : Front). f.registers.pc) w.front_is ∙ sym (ap (λ (m : Machine). m.channel.registers.pc) w.at) in (
+        subst (λ (f : Front). Fits i f.registers) (sym w.front_is) (moves_there ahead moves).fits,
         omega (arith, pc, pc_fits _ c _ (ap bytes_of_program w.program) ahead, long),
         room_moves marks v _ front (moves_there ahead moves) w.front_is,
       )
 
-  pub goes_on : {i : ChipInsn} {next : Front} {new : List ℕ} → turn ≡ Moved → Step o n i c rs left front next mid new → Goes o marks first s (n + 1) d left after next old new
+  pub goes_on : {i : ChipInsn} {next : Front} {new : List ℕ} → turn ≡ Moved → Step o n i c rs left front next mid new
+      → Goes o marks first s (n + 1) d left after next old new
   goes_on {i} {next} moves x =
       let number : n + 1 ≡ suc n = omega arith in
       let m = moves_there x.ahead moves in
@@ -171,7 +181,8 @@ module _ {o : TraceOptions} {marks : MarkList} {first : List Region} {s : Machin
       let places = x.places ∙ w.places in
       let pieces : pieces_of left ≡ pieces_in (map segment_of first) (after_step marks v).image =
       pieces_are left x.order ∙ rw (places, ap (λ (m : Machine). m.image) to_there) refl in
-      let line : shown_line o (n + 1) (Ok i) front next (pieces_of left) ≡ shown_line o (suc n) (ahead_of v.channel) (front_in v) (front_in (after_step marks v)) (pieces_in (map segment_of first) (after_step marks v).image) =
+      let line : shown_line o (n + 1) (Ok i) front next (pieces_of left) ≡ shown_line o (suc n) (ahead_of v.channel) (front_in v)
+      (front_in (after_step marks v)) (pieces_in (map segment_of first) (after_step marks v).image) =
       rw (number, ahead_there w (sym x.ahead), w.front_is, front_next, pieces) refl in
       record {
         at = to_there ∙ ap (after_steps marks s) (sym number);
@@ -195,7 +206,11 @@ module _ {o : TraceOptions} {marks : MarkList} {first : List Region} {s : Machin
       }
 
   -- the step doesn't move
-  pub stops : {r : Result ChipInsn FaultKind} {stored : ℕ} {good : Bool} {err now wave mid_wave new_out new_err new_wave : List ℕ} → n < o.limit → turn ≢ Moved → r ≡ ahead_of c → stored ≡ c.stored → now ≡ err → Ends (end_of (Some turn) (slice_get (code_of s.channel) front.pc) r n front stored) good mid now new_out new_err → Waves o marks s n wave mid_wave → new_wave ≡ mid_wave ++ if_wave o (last_text (executing n r front) (Some turn)) → Runs o marks (map segment_of first) s good (image_of (pieces_of left)) old err wave new_out new_err new_wave
+  pub stops : {r : Result ChipInsn FaultKind} {stored : ℕ} {good : Bool} {err now wave mid_wave new_out new_err new_wave : List ℕ} → n < o.limit → turn ≢ Moved
+      → r ≡ ahead_of c → stored ≡ c.stored → now ≡ err
+      → Ends (end_of (Some turn) (slice_get (code_of s.channel) front.registers.pc) r n front stored) good mid now new_out new_err
+      → Waves o marks s n wave mid_wave → new_wave ≡ mid_wave ++ if_wave o (last_text (executing n r front) (Some turn))
+      → Runs o marks (map segment_of first) s good (image_of (pieces_of left)) old err wave new_out new_err new_wave
   stops less other ahead bytes clean e waves waved =
       let test : nat_lt n o.limit ≡ true = lt-ltb n o.limit less in
       finish w (image_of (pieces_of left)) (rw test (ap Some answer_there)) refl ahead bytes
@@ -208,7 +223,11 @@ module _ {o : TraceOptions} {marks : MarkList} {first : List Region} {s : Machin
 joined : (a b c d x z : List ℕ) → x ≡ (a ++ b) ++ c → z ≡ x ++ d → z ≡ a ++ ((b ++ c) ++ d)
 joined a b c d x z e f = f ∙ ap (λ (l : List ℕ). l ++ d) e ∙ simp append_assoc
 
-pub shows : (o : TraceOptions) (program : List ℕ) (first left : List Region) (good : Bool) (out err wave mid new_out new_err new_wave : List ℕ) → length program ≤ most_program_bytes → map segment_of left ≡ map segment_of first → in_order (pieces_of left) ≡ true → Runs o (marks_over o first) (map segment_of first) (opening o program (image_of (pieces_of first))) good (image_of (pieces_of left)) out err wave mid new_err new_wave → new_out ≡ mid ++ flat_map (dump_text (pieces_of left)) o.dumps.items → Shows o program first left good out err wave new_out new_err new_wave
+pub shows : (o : TraceOptions) (program : List ℕ) (first left : List Region) (good : Bool) (out err wave mid new_out new_err new_wave : List ℕ)
+    → length program ≤ most_program_bytes → map segment_of left ≡ map segment_of first → in_order (pieces_of left) ≡ true
+    → Runs o (marks_over o first) (map segment_of first) (opening o program (image_of (pieces_of first))) good (image_of (pieces_of left)) out err wave mid
+    new_err new_wave → new_out ≡ mid ++ flat_map (dump_text (pieces_of left)) o.dumps.items
+    → Shows o program first left good out err wave new_out new_err new_wave
 shows o program first left good out err wave mid new_out new_err new_wave long places order w dumped =
     let marks = marks_over o first in
     let s = opening o program (image_of (pieces_of first)) in
@@ -240,7 +259,9 @@ shows o program first left good out err wave mid new_out new_err new_wave long p
     }
 
 -- nothing has happened before the first step
-pub begins : (o : TraceOptions) (marks : MarkList) (program : List ℕ) (first : List Region) (c : ChannelValue) (flags : List Bool) (front : Front) (out : List ℕ) → c ≡ loaded_on o.bus (record { bytes = program; cost = None }) → flags ≡ flags_of o.events → front ≡ front_of (start_on o.bus) 0 → Goes o marks first (opening o program (image_of (pieces_of first))) 0 c first flags front out out
+pub begins : (o : TraceOptions) (marks : MarkList) (program : List ℕ) (first : List Region) (c : ChannelValue) (flags : List Bool) (front : Front)
+    (out : List ℕ) → c ≡ loaded_on o.bus (record { bytes = program; cost = None }) → flags ≡ flags_of o.events → front ≡ front_of (start_on o.bus) 0
+    → Goes o marks first (opening o program (image_of (pieces_of first))) 0 c first flags front out out
 begins o marks program first c flags front out channel events at = record {
   at = rw (channel, events) refl;
   moved = λ k less. absurd (omega (arith, less));

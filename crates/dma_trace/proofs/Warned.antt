@@ -1,11 +1,8 @@
 -- The warnings about bytes, by their first instruction.
-use Rattle.std.proofs.Common.{◌≡◌, ℕ, ◌+◌, ◌-◌, ◌<◌, ◌≤◌, false, true, List, [], ◌∷◌, ◌++◌, length, drop, Ok, Err, suc, zero, ap, ◌∙◌, refl, arith, append_assoc}
-use Rattle.dma_insn.specs.declared.chip.ChipInsn.{ChipInsn}
-use Rattle.dma_insn.specs.declared.codec.DecodeFault.{DecodeFault}
-use Rattle.dma_insn.specs.Chip.{decoded}
-use Rattle.dma_trace.specs.declared.warnings.Nest.{Nest}
-use Rattle.dma_trace.specs.declared.warnings.Warning.{Warning}
+use Rattle.std.proofs.Common.{◌≡◌, ℕ, ◌+◌, ◌-◌, ◌<◌, ◌≤◌, false, List, [], ◌∷◌, ◌++◌, length, drop, Ok, suc, zero, ap, ◌∙◌, arith, append_assoc}
+use Rattle.dma_insn.specs.{declared.chip.ChipInsn.ChipInsn, Chip.decoded}
 use Rattle.dma_trace.specs.Warnings.{doubt_of, ends_text, nest_after, warned_from, warning_at}
+use Rattle.dma_trace.specs.{declared.warnings.Nest.Nest, declared.warnings.Warning.Warning}
 
 -- bytes that are skipped are only counted
 skipped : (nest : Nest) (o k : ℕ) (xs : List ℕ) → k ≤ length xs → warned_from nest o k xs ≡ warned_from nest (o + k) 0 (drop k xs)
@@ -35,13 +32,3 @@ pub warned_step : (nest after : Nest) (o p n : ℕ) (xs rest : List ℕ) (i : Ch
 warned_step nest after o p n xs rest i found more is some within goes a e r m =
     rw (m, a, e, r, first nest o n xs i is some within goes)
     (append_assoc found (warning_at o (doubt_of i nest)) (warned_from (nest_after i nest) (o + n) 0 (drop n xs)))
-
--- no warning about bytes that begin with DMAEND
-pub warned_end : (nest : Nest) (o n : ℕ) (xs : List ℕ) (i : ChipInsn) → decoded xs ≡ Ok (i, n) → ends_text i ≡ true → warned_from nest o 0 xs ≡ []
-warned_end nest o n [] i is ends = refl
-warned_end nest o n (x ∷ xs) i is ends = rw (is, ends) refl
-
--- no warning about bytes that are no instruction
-pub warned_fault : (nest : Nest) (o : ℕ) (xs : List ℕ) (fault : DecodeFault) → decoded xs ≡ Err fault → warned_from nest o 0 xs ≡ []
-warned_fault nest o [] fault is = refl
-warned_fault nest o (x ∷ xs) fault is = rw is refl

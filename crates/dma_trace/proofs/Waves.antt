@@ -2,13 +2,9 @@
 use Rattle.std.proofs.Common.{◌≡◌, ℕ, suc, ◌+◌, Bool, true, false, List, [], ◌++◌, Option, refl, sym, ap, ◌∙◌, arith, append_assoc, append-nil}
 use Rattle.std.specs.Prelude.{if◌then◌else◌}
 use Rattle.dma_mem.specs.Marking.{MarkList}
-use Rattle.dma_chan.specs.declared.turn.ChanTurn.{ChanTurn}
-use Rattle.dma_chan.specs.Stepping.{Machine, after_steps}
-use Rattle.dma_trace.specs.declared.options.TraceOptions.{TraceOptions}
-use Rattle.dma_trace.specs.declared.wave.Moment.{Moment}
-use Rattle.dma_trace.specs.Traced.{changes, if_wave, last_answer, moment_in, wave_lines, waveform}
-use Rattle.dma_trace.specs.Wave.{change_text, first_text, last_text}
-use Rattle.dma_trace.specs.inner.Running.{Waves}
+use Rattle.dma_chan.specs.{declared.turn.ChanTurn.ChanTurn, Stepping.Machine, Stepping.after_steps}
+use Rattle.dma_trace.specs.{declared.options.TraceOptions.TraceOptions, declared.wave.Moment.Moment, Traced.changes, Traced.if_wave, Traced.last_answer}
+use Rattle.dma_trace.specs.{Traced.moment_in, Traced.wave_lines, Traced.waveform, Wave.change_text, Wave.first_text, Wave.last_text, inner.Running.Waves}
 
 by_flag : (b : Bool) (x y : List ℕ) → (if b then x else []) ++ (if b then y else []) ≡ (if b then x ++ y else [])
 by_flag true x y = refl
@@ -21,7 +17,8 @@ more o old mid new x y e f =
     ∙ ap (λ (xs : List ℕ). old ++ xs) (by_flag o.wave x y)
 
 -- before the first step
-pub wave_begins : (o : TraceOptions) (marks : MarkList) (s : Machine) (m : Moment) (old new : List ℕ) → m ≡ moment_in 0 s → new ≡ old ++ if_wave o (first_text m) → Waves o marks s 0 old new
+pub wave_begins : (o : TraceOptions) (marks : MarkList) (s : Machine) (m : Moment) (old new : List ℕ) → m ≡ moment_in 0 s
+    → new ≡ old ++ if_wave o (first_text m) → Waves o marks s 0 old new
 wave_begins o marks s m old new at e = record {
   text =
       e
@@ -30,7 +27,9 @@ wave_begins o marks s m old new at e = record {
 }
 
 -- after one more step
-pub wave_on : (o : TraceOptions) (marks : MarkList) (s : Machine) (n : ℕ) (m k : Moment) (old mid new : List ℕ) → Waves o marks s n old mid → m ≡ moment_in n (after_steps marks s n) → k ≡ moment_in (n + 1) (after_steps marks s (n + 1)) → new ≡ mid ++ if_wave o (change_text m k) → Waves o marks s (n + 1) old new
+pub wave_on : (o : TraceOptions) (marks : MarkList) (s : Machine) (n : ℕ) (m k : Moment) (old mid new : List ℕ) → Waves o marks s n old mid
+    → m ≡ moment_in n (after_steps marks s n) → k ≡ moment_in (n + 1) (after_steps marks s (n + 1)) → new ≡ mid ++ if_wave o (change_text m k)
+    → Waves o marks s (n + 1) old new
 wave_on o marks s n m k old mid new w at to e =
     let number : n + 1 ≡ suc n = omega arith in
     let line : change_text m k ≡ change_text (moment_in n (after_steps marks s n)) (moment_in (suc n) (after_steps marks s (suc n))) =
@@ -45,7 +44,9 @@ wave_on o marks s n m k old mid new w at to e =
     }
 
 -- the whole
-pub wave_ends : (o : TraceOptions) (marks : MarkList) (s : Machine) (n : ℕ) (m : Moment) (answer : Option ChanTurn) (old mid new : List ℕ) → Waves o marks s n old mid → m ≡ moment_in n (after_steps marks s n) → answer ≡ last_answer marks s o.limit n → new ≡ mid ++ if_wave o (last_text m answer) → new ≡ old ++ if_wave o (waveform marks s n (last_answer marks s o.limit n))
+pub wave_ends : (o : TraceOptions) (marks : MarkList) (s : Machine) (n : ℕ) (m : Moment) (answer : Option ChanTurn) (old mid new : List ℕ)
+    → Waves o marks s n old mid → m ≡ moment_in n (after_steps marks s n) → answer ≡ last_answer marks s o.limit n → new ≡ mid ++ if_wave o (last_text m answer)
+    → new ≡ old ++ if_wave o (waveform marks s n (last_answer marks s o.limit n))
 wave_ends o marks s n m answer old mid new w at is e =
     more o old mid new (wave_lines marks s n) (last_text m answer) w.text e
     ∙ ap (λ (k : Moment). old ++ if_wave o (wave_lines marks s n ++ last_text k answer)) at

@@ -2,21 +2,13 @@
 use Rattle.std.specs.Prelude.{◌≡◌, ℕ, ◌-◌, ◌==◌, ◌++◌, ◌<◌, ◌⊎◌, Bool, true, false, List, [], length, flat_map, slice_get, if◌then◌else◌, codes, decimal}
 use Rattle.dma_mem.specs.declared.segment.Segment.{Segment}
 use Rattle.dma_insn.specs.AssemblyText.{most_program_bytes}
-use Rattle.dma_chan.specs.declared.bus.Bus.{Bus}
-use Rattle.dma_explain.specs.declared.explain.Amounts.{Amounts}
-use Rattle.dma_explain.specs.declared.explain.BurstCounts.{BurstCounts}
-use Rattle.dma_explain.specs.declared.explain.Explained.{Explained}
-use Rattle.dma_explain.specs.declared.explain.Happening.{Happening}
-use Rattle.dma_explain.specs.declared.explain.Repeated.{Repeated}
-use Rattle.dma_explain.specs.declared.explain.Sync.{Sync}
-use Rattle.dma_explain.specs.declared.explain.Sync.TheVariants.{Waits, Signals}
-use Rattle.dma_explain.specs.declared.explain.Unexplained.{Unexplained}
-use Rattle.dma_chan.specs.Exec.{start_on}
+use Rattle.dma_chan.specs.{declared.bus.Bus.Bus, Exec.start_on}
 use Rattle.dma_explain.specs.Explains.{Finds, Refuses, bursts_in, next_in, traced}
-use Rattle.dma_trace.specs.Front.{front_at}
-use Rattle.dma_trace.specs.Touches.{conflict_text, touches_in}
-use Rattle.dma_trace.specs.Warnings.{warnings_of, warnings_text}
+use Rattle.dma_explain.specs.{declared.explain.Amounts.Amounts, declared.explain.BurstCounts.BurstCounts, declared.explain.Explained.Explained}
+use Rattle.dma_explain.specs.{declared.explain.Happening.Happening, declared.explain.Repeated.Repeated, declared.explain.Sync.Sync}
+use Rattle.dma_explain.specs.{declared.explain.Sync.TheVariants.Waits, declared.explain.Sync.TheVariants.Signals, declared.explain.Unexplained.Unexplained}
 use Rattle.dma_trace.specs.Words.{bytes_text, cause_text, count_text, line_feed, long_text, range_text, refusal_text}
+use Rattle.dma_trace.specs.{Front.front_at, Touches.conflict_text, Touches.touches_in, Warnings.warnings_of, Warnings.warnings_text}
 
 -- `  from 0x00002000 + 32 bytes, 64 times`
 abbrev pub source_line : Repeated → List ℕ

@@ -1,16 +1,11 @@
 -- What `trace` prints if no RAM is given to it (profile).
 use Rattle.std.specs.Prelude.{◌≡◌, ℕ, ◌++◌, ◌⊎◌, nat_lt, Bool, false, List, [], ◌∷◌, length, map, max, replicate, All, IsTrue, if◌then◌else◌, codes}
 use Rattle.dma_insn.specs.AssemblyText.{most_program_bytes}
-use Rattle.dma_mem.specs.declared.regions.Region.{Region}
-use Rattle.dma_mem.specs.declared.segment.Segment.{Segment}
-use Rattle.dma_mem.specs.Lent.{lies_in_any}
 use Rattle.dma_mem.specs.Regions.{Piece, in_order, pieces_of}
-use Rattle.dma_explain.specs.declared.explain.Explained.{Explained}
+use Rattle.dma_mem.specs.{declared.regions.Region.Region, declared.segment.Segment.Segment, Lent.lies_in_any}
+use Rattle.dma_explain.specs.{declared.explain.Explained.Explained, Explains.Finds}
 use Rattle.dma_chan.specs.Exec.{start_on}
-use Rattle.dma_explain.specs.Explains.{Finds}
-use Rattle.dma_trace.specs.declared.options.TraceOptions.{TraceOptions}
-use Rattle.dma_trace.specs.Explained.{Prints}
-use Rattle.dma_trace.specs.Traced.{Shows}
+use Rattle.dma_trace.specs.{declared.options.TraceOptions.TraceOptions, Explained.Prints, Traced.Shows}
 
 -- the ranges that a program reads, writes and sets to 0, by what `explain` finds
 abbrev pub ranges_of : Explained → List Segment

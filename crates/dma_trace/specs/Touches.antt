@@ -1,25 +1,19 @@
 -- Which instructions of a program load and store an address (profile). DMASTZ stores too.
-use Rattle.std.specs.Prelude.{ℕ, zero, suc, ◌+◌, ◌-◌, ◌++◌, ◌&&◌, nat_le, nat_lt, Bool, List, [], Option, Some, None, Result, Ok, Err, if◌then◌else◌, codes, decimal}
+use Rattle.std.specs.Prelude.{ℕ, zero, suc, ◌+◌, ◌-◌, ◌++◌, ◌&&◌, nat_le, nat_lt, Bool, List, [], Option, Some, None, Result, Ok, Err, if◌then◌else◌, codes}
+use Rattle.std.specs.Prelude.{decimal}
 use Rattle.std.specs.Option.{option_and, option_or}
 use Rattle.dma_text.specs.Digits.{hex_digits}
 use Rattle.dma_insn.specs.declared.chip.ChipInsn.{ChipInsn}
 use Rattle.dma_insn.specs.declared.chip.ChipInsn.TheVariants.{Ld, St, StoreZeros}
-use Rattle.dma_chan.specs.declared.bus.Bus.{Bus}
-use Rattle.dma_explain.specs.declared.explain.Cause.{Cause}
-use Rattle.dma_explain.specs.declared.explain.Cause.TheVariants.{StoresTwice, StoresSource}
-use Rattle.dma_chan.specs.declared.turn.FaultKind.{FaultKind}
 use Rattle.dma_chan.specs.Exec.{destination_of, source_of, start_on}
-use Rattle.dma_explain.specs.Explains.{next_in, traced}
-use Rattle.dma_trace.specs.declared.front.Front.{Front}
-use Rattle.dma_trace.specs.declared.front.Span.{Span}
-use Rattle.dma_trace.specs.declared.touches.Access.{Access}
-use Rattle.dma_trace.specs.declared.touches.Touches.{Touches}
-use Rattle.dma_trace.specs.Front.{front_at, registers_of, span_at}
-use Rattle.dma_trace.specs.Words.{offset_text}
+use Rattle.dma_chan.specs.{declared.bus.Bus.Bus, declared.turn.FaultKind.FaultKind, declared.bursts.Burst.Burst, Bursts.span_of}
+use Rattle.dma_explain.specs.{declared.explain.Cause.Cause, declared.explain.Cause.TheVariants.StoresTwice, declared.explain.Cause.TheVariants.StoresSource}
+use Rattle.dma_explain.specs.{Explains.next_in, Explains.traced}
+use Rattle.dma_trace.specs.{declared.front.Front.Front, declared.touches.Access.Access, declared.touches.Touches.Touches, Front.front_at, Words.offset_text}
 
 -- Returns whether a burst touches an address.
-abbrev pub has_addr : Span → ℕ → Bool
-has_addr s a = nat_le s.addr a && nat_lt (a - s.addr) s.len
+abbrev pub has_addr : Burst → ℕ → Bool
+has_addr b a = nat_le b.addr a && nat_lt (a - b.addr) (span_of b)
 
 -- No instruction loads or stores the address.
 abbrev pub untouched : Touches
@@ -39,13 +33,13 @@ with_store access t = record t {
 -- Adds a store by instruction number n, if it touches the address.
 abbrev pub after_store : ℕ → ℕ → Front → Touches → Touches
 after_store a n f t =
-    if has_addr (span_at (destination_of (registers_of f))) a then with_store (record { number = n; pc = f.pc }) t
+    if has_addr (destination_of f.registers) a then with_store (record { number = n; pc = f.registers.pc }) t
     else t
 
 -- Adds instruction number n, by the registers before it.
 abbrev pub after_touch : ChipInsn → ℕ → ℕ → Front → Touches → Touches
 after_touch Ld a n f t =
-    if has_addr (span_at (source_of (registers_of f))) a then with_load (record { number = n; pc = f.pc }) t else t
+    if has_addr (source_of f.registers) a then with_load (record { number = n; pc = f.registers.pc }) t else t
 after_touch St a n f t = after_store a n f t
 after_touch StoreZeros a n f t = after_store a n f t
 after_touch i a n f t = t

@@ -1,32 +1,21 @@
 -- What `trace` prints (profile): a function of the program, the memory and the options, by the steps of a channel.
-use Rattle.std.specs.Prelude.{◌≡◌, ◌≢◌, ℕ, zero, suc, ◌+◌, ◌-◌, ◌*◌, ◌/◌, ◌%◌, ◌^◌, ◌==◌, ◌<◌, ◌≤◌, ◌++◌, ◌&&◌, ◌⊎◌, nat_le, nat_lt, min, Bool, true, false, List, [], length, map, take, drop, flat_map, slice_get, Option, Some, None, Result, Ok, Err, if◌then◌else◌, codes, decimal}
+use Rattle.std.specs.Prelude.{◌≡◌, ◌≢◌, ℕ, zero, suc, ◌+◌, ◌-◌, ◌*◌, ◌/◌, ◌%◌, ◌^◌, ◌==◌, ◌<◌, ◌≤◌, ◌++◌, ◌&&◌, ◌⊎◌, nat_le, nat_lt, min, Bool, true, false}
+use Rattle.std.specs.Prelude.{List, [], length, map, take, drop, flat_map, slice_get, Option, Some, None, Result, Ok, Err, if◌then◌else◌, codes, decimal}
 use Rattle.std.specs.List.{range_with_len}
 use Rattle.dma_text.specs.Digits.{hex_digits, spaced_bytes}
-use Rattle.dma_insn.specs.declared.chip.ChipInsn.{ChipInsn}
 use Rattle.dma_insn.specs.declared.chip.ChipInsn.TheVariants.{Ld, St, StoreZeros}
-use Rattle.dma_insn.specs.AssemblyText.{most_program_bytes}
-use Rattle.dma_mem.specs.declared.segment.Segment.{Segment}
-use Rattle.dma_mem.specs.Flags.{flags_of}
-use Rattle.dma_mem.specs.Marking.{MarkList}
-use Rattle.dma_mem.specs.declared.regions.Region.{Region}
-use Rattle.dma_mem.specs.Lent.{marks_at}
+use Rattle.dma_insn.specs.{declared.chip.ChipInsn.ChipInsn, AssemblyText.most_program_bytes}
 use Rattle.dma_mem.specs.Regions.{Piece, image_of, pieces_of, run_from}
-use Rattle.dma_chan.specs.LentRegions.{segment_of, with_gaps_of}
-use Rattle.dma_explain.specs.declared.explain.Cause.TheVariants.{NoEnd}
-use Rattle.dma_chan.specs.declared.turn.ChanTurn.{ChanTurn}
+use Rattle.dma_mem.specs.{declared.segment.Segment.Segment, Flags.flags_of, Marking.MarkList, declared.regions.Region.Region, Lent.marks_at}
 use Rattle.dma_chan.specs.declared.turn.ChanTurn.TheVariants.{Moved, Waiting, Ended, Fault}
-use Rattle.dma_chan.specs.declared.turn.FaultKind.{FaultKind}
 use Rattle.dma_chan.specs.Channel.{ChannelValue, ahead_of, code_of, loaded_on}
-use Rattle.dma_chan.specs.Exec.{destination_of, source_of}
 use Rattle.dma_chan.specs.Stepping.{Machine, after_step, after_steps, answer_at, machine}
-use Rattle.dma_trace.specs.declared.front.Front.{Front}
-use Rattle.dma_trace.specs.declared.front.Span.{Span}
-use Rattle.dma_trace.specs.declared.options.TraceOptions.{TraceOptions}
-use Rattle.dma_trace.specs.declared.wave.Moment.{Moment}
-use Rattle.dma_trace.specs.Columns.{aligned, insn_column}
-use Rattle.dma_trace.specs.Front.{front_of, registers_of, span_at}
-use Rattle.dma_trace.specs.Wave.{change_text, executing, first_text, last_text}
+use Rattle.dma_chan.specs.{LentRegions.segment_of, LentRegions.with_gaps_of, declared.turn.ChanTurn.ChanTurn, declared.turn.FaultKind.FaultKind}
+use Rattle.dma_chan.specs.{declared.bursts.Burst.Burst, Bursts.span_of, Exec.destination_of, Exec.source_of}
+use Rattle.dma_explain.specs.declared.explain.Cause.TheVariants.{NoEnd}
 use Rattle.dma_trace.specs.Words.{cause_text, count_text, fault_text, front_text, line_feed, long_text, offset_text, refusal_text, span_text}
+use Rattle.dma_trace.specs.{declared.front.Front.Front, declared.options.TraceOptions.TraceOptions, declared.wave.Moment.Moment, Columns.aligned}
+use Rattle.dma_trace.specs.{Columns.insn_column, Front.front_of, Wave.change_text, Wave.executing, Wave.first_text, Wave.last_text}
 
 -- ---- memory
 
@@ -35,16 +24,16 @@ abbrev pub pieces_in : List Segment → List ℕ → List Piece
 pieces_in places image = map (λ s. record { addr = s.addr; bytes = take s.len (drop s.addr image) }) places
 
 -- Prints a burst with its first 16 bytes, as in `; loaded 0x00002000 + 32 bytes: 00 01 02`.
-unfoldable pub burst_text : List ℕ → Span → List Piece → List ℕ
-burst_text verb s pieces =
-    let bytes = take (min s.len 16) (run_from pieces s.addr) in
-    verb ++ span_text s ++ (codes ":" ++ spaced_bytes bytes ++ (if nat_lt 16 s.len then codes " .." else []))
+unfoldable pub burst_text : List ℕ → Burst → List Piece → List ℕ
+burst_text verb b pieces =
+    let bytes = take (min (span_of b) 16) (run_from pieces b.addr) in
+    verb ++ span_text b ++ (codes ":" ++ spaced_bytes bytes ++ (if nat_lt 16 (span_of b) then codes " .." else []))
 
 -- Prints what an instruction loads or stores, by the registers before it and the memory after it.
 unfoldable pub moves_text : ChipInsn → Front → List Piece → List ℕ
-moves_text Ld f pieces = burst_text (codes "; loaded ") (span_at (source_of (registers_of f))) pieces
-moves_text St f pieces = burst_text (codes "; stored ") (span_at (destination_of (registers_of f))) pieces
-moves_text StoreZeros f pieces = burst_text (codes "; stored ") (span_at (destination_of (registers_of f))) pieces
+moves_text Ld f pieces = burst_text (codes "; loaded ") (source_of f.registers) pieces
+moves_text St f pieces = burst_text (codes "; stored ") (destination_of f.registers) pieces
+moves_text StoreZeros f pieces = burst_text (codes "; stored ") (destination_of f.registers) pieces
 moves_text i f pieces = []
 
 -- ---- lines
@@ -56,7 +45,7 @@ step_text n i pc after =
 
 -- Prints the line of instruction number n: the same, and what the instruction loads or stores.
 abbrev pub line_text : ℕ → ChipInsn → Front → Front → List Piece → List ℕ
-line_text n i before after pieces = step_text n i before.pc after ++ moves_text i before pieces ++ line_feed
+line_text n i before after pieces = step_text n i before.registers.pc after ++ moves_text i before pieces ++ line_feed
 
 -- Returns the registers of a machine's channel, and how many bytes its buffer holds.
 abbrev pub front_in : Machine → Front

@@ -1,18 +1,12 @@
 -- The warnings about the loops of a program (profile), by the order of its bytes: no instruction is executed.
-use Rattle.std.specs.Prelude.{ℕ, zero, suc, ◌+◌, ◌-◌, Bool, true, false, nat_lt, List, [], ◌∷◌, ◌++◌, length, flat_map, Option, Some, None, Ok, Err, if◌then◌else◌, codes}
-use Rattle.dma_insn.specs.AssemblyText.{most_program_bytes}
-use Rattle.dma_insn.specs.Chip.{Decoded, decoded}
-use Rattle.dma_insn.specs.declared.chip.ChipInsn.{ChipInsn}
+use Rattle.std.specs.Prelude.{ℕ, zero, suc, ◌+◌, ◌-◌, Bool, true, false, nat_lt, List, [], ◌∷◌, ◌++◌, length, flat_map, Option, Some, None, Ok, Err}
+use Rattle.std.specs.Prelude.{if◌then◌else◌, codes}
 use Rattle.dma_insn.specs.declared.chip.ChipInsn.TheVariants.{End, Lp, LpEnd}
-use Rattle.dma_insn.specs.declared.insn.Counter.{Counter}
-use Rattle.dma_insn.specs.declared.insn.Counter.TheVariants.{Lc0, Lc1}
+use Rattle.dma_insn.specs.{AssemblyText.most_program_bytes, Chip.Decoded, Chip.decoded, declared.chip.ChipInsn.ChipInsn, declared.insn.Counter.Counter}
+use Rattle.dma_insn.specs.{declared.insn.Counter.TheVariants.Lc0, declared.insn.Counter.TheVariants.Lc1}
 use Rattle.dma_manual.specs.ManualText.{counter_name}
-use Rattle.dma_trace.specs.declared.warnings.Doubt.{Doubt}
-use Rattle.dma_trace.specs.declared.warnings.Doubt.TheVariants.{Reused, Unset}
-use Rattle.dma_trace.specs.declared.warnings.Loops.{Loops}
-use Rattle.dma_trace.specs.declared.warnings.Nest.{Nest}
-use Rattle.dma_trace.specs.declared.warnings.Warning.{Warning}
-use Rattle.dma_trace.specs.Words.{line_feed, offset_text}
+use Rattle.dma_trace.specs.{declared.warnings.Doubt.Doubt, declared.warnings.Doubt.TheVariants.Reused, declared.warnings.Doubt.TheVariants.Unset}
+use Rattle.dma_trace.specs.{declared.warnings.Loops.Loops, declared.warnings.Nest.Nest, declared.warnings.Warning.Warning, Words.line_feed, Words.offset_text}
 
 -- ---- the loops of the text
 

@@ -4,17 +4,10 @@
 use Rattle.std.specs.Prelude.{ℕ, ◌+◌, ◌^◌, ◌++◌, Bool, true, false, List, Option, Some, None, Result, Ok, codes, decimal}
 use Rattle.dma_insn.specs.declared.chip.ChipInsn.{ChipInsn}
 use Rattle.dma_insn.specs.declared.chip.ChipInsn.TheVariants.{Ld, St, Sev, StoreZeros, Wfe}
-use Rattle.dma_chan.specs.declared.turn.ChanTurn.{ChanTurn}
 use Rattle.dma_chan.specs.declared.turn.ChanTurn.TheVariants.{Moved, Waiting, Ended, Fault}
-use Rattle.dma_chan.specs.declared.turn.FaultKind.{FaultKind}
-use Rattle.dma_chan.specs.Bursts.{burst_len}
-use Rattle.dma_chan.specs.Exec.{destination_of, source_of}
-use Rattle.dma_trace.specs.declared.front.Front.{Front}
-use Rattle.dma_trace.specs.declared.wave.Moment.{Moment}
-use Rattle.dma_trace.specs.Front.{registers_of}
-use Rattle.dma_trace.specs.Vcd.{signal_line}
-use Rattle.dma_chan.specs.Exec.{fault_bit}
-use Rattle.dma_trace.specs.Words.{line_feed}
+use Rattle.dma_chan.specs.Exec.{destination_of, source_of, fault_bit}
+use Rattle.dma_chan.specs.{declared.turn.ChanTurn.ChanTurn, declared.turn.FaultKind.FaultKind, Bursts.burst_len}
+use Rattle.dma_trace.specs.{declared.front.Front.Front, declared.wave.Moment.Moment, Vcd.signal_line, Words.line_feed}
 
 -- ---- values
 
@@ -64,11 +57,11 @@ event_of next = 0
 
 -- how many bytes a DMALD loads with these registers
 abbrev pub load_bytes : Front → ℕ
-load_bytes f = burst_len (source_of (registers_of f))
+load_bytes f = burst_len (source_of f.registers)
 
 -- how many bytes a DMAST or DMASTZ stores with these registers
 abbrev pub store_bytes : Front → ℕ
-store_bytes f = burst_len (destination_of (registers_of f))
+store_bytes f = burst_len (destination_of f.registers)
 
 -- ---- lines
 
@@ -83,14 +76,14 @@ header_text =
 -- the status, the registers and the buffer
 unfoldable pub registers_text : Bool → Moment → Moment → List ℕ
 registers_text all b a =
-    (signal_line all (codes "a") 16 b.at.front.pc a.at.front.pc
+    (signal_line all (codes "a") 16 b.at.front.registers.pc a.at.front.registers.pc
     ++ signal_line all (codes "b") 4 (state_of b.answer) (state_of a.answer)
     ++ signal_line all (codes "c") 32 (ftr_of b.answer) (ftr_of a.answer))
-    ++ (signal_line all (codes "d") 32 b.at.front.sar a.at.front.sar
-    ++ signal_line all (codes "e") 32 b.at.front.dar a.at.front.dar
-    ++ signal_line all (codes "f") 32 b.at.front.ccr a.at.front.ccr)
-    ++ (signal_line all (codes "g") 8 b.at.front.lc0 a.at.front.lc0
-    ++ signal_line all (codes "h") 8 b.at.front.lc1 a.at.front.lc1
+    ++ (signal_line all (codes "d") 32 b.at.front.registers.sar a.at.front.registers.sar
+    ++ signal_line all (codes "e") 32 b.at.front.registers.dar a.at.front.registers.dar
+    ++ signal_line all (codes "f") 32 b.at.front.registers.ccr a.at.front.registers.ccr)
+    ++ (signal_line all (codes "g") 8 b.at.front.registers.lc0 a.at.front.registers.lc0
+    ++ signal_line all (codes "h") 8 b.at.front.registers.lc1 a.at.front.registers.lc1
     ++ signal_line all (codes "i") 9 b.at.front.held a.at.front.held)
 
 -- what the instruction does: bursts

@@ -1,27 +1,19 @@
 -- The words of explanations and traces (profile).
-use Rattle.std.specs.Prelude.{ℕ, false, true, Bool, ◌+◌, ◌*◌, ◌/◌, ◌%◌, ◌^◌, ◌==◌, ◌++◌, List, [], ◌∷◌, Option, Some, None, Result, Ok, Err, if◌then◌else◌, codes, decimal}
+use Rattle.std.specs.Prelude.{ℕ, false, true, Bool, ◌+◌, ◌*◌, ◌/◌, ◌%◌, ◌^◌, ◌==◌, ◌++◌, List, [], ◌∷◌, Option, Some, None, Result, Ok, Err, if◌then◌else◌}
+use Rattle.std.specs.Prelude.{codes, decimal}
 use Rattle.std.specs.Option.{option_and_then}
 use Rattle.dma_text.specs.Digits.{hex_digits, hex_pair}
-use Rattle.dma_insn.specs.declared.chip.ChipInsn.{ChipInsn}
-use Rattle.dma_insn.specs.declared.chip.ChipInsn.TheVariants.{Mov}
-use Rattle.dma_insn.specs.ControlWord.{control_of, field}
-use Rattle.dma_insn.specs.declared.control.Control.{Control}
-use Rattle.dma_insn.specs.declared.control.ControlFault.{ControlFault}
 use Rattle.dma_insn.specs.declared.control.ControlFault.TheVariants.{ReservedSize, Swap, Bit31}
-use Rattle.dma_manual.specs.ChipOnly.{chip_only_name, needs_chip_bus}
-use Rattle.dma_manual.specs.ManualText.{manual_text}
-use Rattle.dma_chan.specs.declared.bus.Bus.{Bus}
+use Rattle.dma_insn.specs.{declared.chip.ChipInsn.ChipInsn, declared.chip.ChipInsn.TheVariants.Mov, ControlWord.control_of, ControlWord.field}
+use Rattle.dma_insn.specs.{declared.control.Control.Control, declared.control.ControlFault.ControlFault}
+use Rattle.dma_manual.specs.{ChipOnly.chip_only_name, ChipOnly.needs_chip_bus, ManualText.manual_text}
+use Rattle.dma_chan.specs.declared.turn.FaultKind.TheVariants.{UndefInstr, OperandInvalid, MfifoErr, StDataUnavailable, InstrFetchErr, DataWriteErr}
+use Rattle.dma_chan.specs.declared.turn.FaultKind.TheVariants.{DataReadErr}
+use Rattle.dma_chan.specs.{declared.bus.Bus.Bus, declared.turn.FaultKind.FaultKind, declared.bursts.Burst.Burst, Bursts.burst_len, Bursts.span_of}
+use Rattle.dma_chan.specs.{Bus.widest_beat, Exec.destination_of, Exec.fault_bit, Exec.source_of}
 use Rattle.dma_explain.specs.declared.explain.Cause.{Cause}
+use Rattle.dma_trace.specs.{declared.front.Front.Front, Columns.aligned}
 use Rattle.dma_explain.specs.declared.explain.Cause.TheVariants as causes
-use Rattle.dma_chan.specs.declared.turn.FaultKind.{FaultKind}
-use Rattle.dma_chan.specs.declared.turn.FaultKind.TheVariants.{UndefInstr, OperandInvalid, MfifoErr, StDataUnavailable, InstrFetchErr, DataWriteErr, DataReadErr}
-use Rattle.dma_chan.specs.Bursts.{burst_len}
-use Rattle.dma_chan.specs.Bus.{widest_beat}
-use Rattle.dma_chan.specs.Exec.{destination_of, fault_bit, source_of}
-use Rattle.dma_trace.specs.declared.front.Front.{Front}
-use Rattle.dma_trace.specs.declared.front.Span.{Span}
-use Rattle.dma_trace.specs.Columns.{aligned}
-use Rattle.dma_trace.specs.Front.{registers_of, span_at}
 
 abbrev pub line_feed : List ℕ
 line_feed = 10 ∷ []
@@ -46,9 +38,9 @@ times_text n = if n == 1 then [] else codes ", " ++ decimal n ++ codes " times"
 unfoldable pub range_text : ℕ → ℕ → ℕ → List ℕ
 range_text addr len times = codes "0x" ++ hex_digits addr ++ (codes " + " ++ bytes_text len) ++ times_text times
 
--- the addresses of a burst
-abbrev pub span_text : Span → List ℕ
-span_text s = range_text s.addr s.len s.times
+-- the addresses of a burst, and how often it touches each of them
+abbrev pub span_text : Burst → List ℕ
+span_text b = range_text b.addr (span_of b) (if b.increments then 1 else b.beats)
 
 -- The fields of one end of a control word, whose lowest bit is bit 0, in the manual's words (DMA-330 manual, DMAMOV
 -- CCR): the number of beats, the bits of a beat, and whether the address rises, as `SB16 SS64 SAI`.
@@ -65,8 +57,8 @@ control_text w =
 -- the addresses, the loop counters and the buffer; each decimal number has spaces before it up to a width
 unfoldable pub front_text : ℕ → Front → List ℕ
 front_text width f =
-    (codes "SAR 0x" ++ hex_digits f.sar) ++ (codes " DAR 0x" ++ hex_digits f.dar)
-    ++ (codes " LC0 " ++ aligned width f.lc0 ++ codes " LC1 " ++ aligned width f.lc1)
+    (codes "SAR 0x" ++ hex_digits f.registers.sar) ++ (codes " DAR 0x" ++ hex_digits f.registers.dar)
+    ++ (codes " LC0 " ++ aligned width f.registers.lc0 ++ codes " LC1 " ++ aligned width f.registers.lc1)
     ++ (codes " buffer " ++ aligned width f.held)
 
 -- The name of the chip's instruction that begins with this byte, if no channel executes it on the ideal bus. `first`
@@ -115,7 +107,7 @@ operand_words i bus = codes "a field is outside its range"
 
 -- why an operand is refused
 abbrev pub refused_words : Result ChipInsn FaultKind → Front → List ℕ
-refused_words (Ok i) f = operand_words i f.bus
+refused_words (Ok i) f = operand_words i f.registers.bus
 refused_words (Err kind) f = codes "a field is outside its range"
 
 -- why no instruction is fetched: a jump, no byte here, or too few
@@ -137,14 +129,14 @@ unfoldable pub fault_words : FaultKind → Option ℕ → Result ChipInsn FaultK
 fault_words UndefInstr first next f = undefined_words (chip_only_at first) (on_chip_bus first)
 fault_words OperandInvalid first next f = refused_words next f
 fault_words MfifoErr first next f =
-    codes "the buffer holds " ++ bytes_text f.held ++ (codes ", the load adds " ++ decimal (burst_len (source_of (registers_of f))))
+    codes "the buffer holds " ++ bytes_text f.held ++ (codes ", the load adds " ++ decimal (burst_len (source_of f.registers)))
     ++ codes ", and 256 fit"
 fault_words StDataUnavailable first next f =
     codes "the buffer holds " ++ bytes_text f.held
-    ++ (codes ", the store needs " ++ decimal (burst_len (destination_of (registers_of f))))
+    ++ (codes ", the store needs " ++ decimal (burst_len (destination_of f.registers)))
 fault_words InstrFetchErr first next f = fetch_words first next
-fault_words DataWriteErr first next f = codes "it can't store " ++ span_text (span_at (destination_of (registers_of f)))
-fault_words DataReadErr first next f = codes "it can't load " ++ span_text (span_at (source_of (registers_of f)))
+fault_words DataWriteErr first next f = codes "it can't store " ++ span_text (destination_of f.registers)
+fault_words DataReadErr first next f = codes "it can't load " ++ span_text (source_of f.registers)
 
 -- the same after the fault's name and bit
 unfoldable pub fault_text : FaultKind → Option ℕ → Result ChipInsn FaultKind → Front → List ℕ
@@ -157,8 +149,8 @@ fault_text kind first next f =
 unfoldable pub cause_text : Cause → Option ℕ → Result ChipInsn FaultKind → ℕ → Front → List ℕ
 cause_text causes.TooLong first next n f = codes "the program has more than 8192 bytes"
 cause_text (causes.Fails kind) first next n f = fault_text kind first next f
-cause_text causes.LoadsPast first next n f = codes "the load ends above 2^32: " ++ span_text (span_at (source_of (registers_of f)))
-cause_text causes.StoresPast first next n f = codes "the store ends above 2^32: " ++ span_text (span_at (destination_of (registers_of f)))
+cause_text causes.LoadsPast first next n f = codes "the load ends above 2^32: " ++ span_text (source_of f.registers)
+cause_text causes.StoresPast first next n f = codes "the store ends above 2^32: " ++ span_text (destination_of f.registers)
 cause_text causes.StoresFixed first next n f = codes "the destination is fixed: each beat overwrites the one before"
 cause_text causes.DropsBytes first next n f = codes "a chip drops what the buffer holds: " ++ bytes_text f.held
 cause_text causes.BytesLeft first next n f = codes "left over in the buffer: " ++ bytes_text f.held
@@ -177,12 +169,12 @@ place_text first next pc n =
 -- the registers, on two lines, and how many bytes were stored: `  1024 bytes stored before`
 unfoldable pub state_text : Front → ℕ → List ℕ
 state_text f stored =
-    (codes "\n  " ++ front_text 0 f) ++ (codes "\n  " ++ control_text f.ccr) ++ (codes "\n  " ++ bytes_text stored ++ codes " stored before\n")
+    (codes "\n  " ++ front_text 0 f) ++ (codes "\n  " ++ control_text f.registers.ccr) ++ (codes "\n  " ++ bytes_text stored ++ codes " stored before\n")
 
 -- The lines of an instruction that is refused after n others: where it is and why, then the registers before it, and
 -- how many bytes were stored before it.
 abbrev pub refusal_text : List ℕ → Option ℕ → Result ChipInsn FaultKind → ℕ → Front → ℕ → List ℕ
-refusal_text why first next n f stored = place_text first next f.pc n ++ why ++ state_text f stored
+refusal_text why first next n f stored = place_text first next f.registers.pc n ++ why ++ state_text f stored
 
 -- the line of a program that is too long
 unfoldable pub long_text : List ℕ

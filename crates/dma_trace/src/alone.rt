@@ -7,18 +7,15 @@ ghost use Rattle.dma_text.specs.Text.{Begins};
 ghost use Rattle.dma_trace.specs.Found.{ShowsAlone, needs_ram, zero_piece};
 ghost use Rattle.dma_trace.specs.inner.Explaining.{ShowsOver};
 
-use crate::explain::find;
+use crate::explain::{USUAL_MOST, find};
 use crate::options::TraceOptions;
 use crate::ram::{ranges_found, regions_over, zeros_at};
 use crate::trace::trace_all;
 use dma_chan::program::MAX_PROGRAM_BYTES;
+use dma_io::progress::Progress;
 use dma_mem::segment::Segment;
-use dma_text::progress::Progress;
 use dma_text::text::Text;
 use std::alloc::{AllocError, Global};
-
-/// The ranges are found within this many instructions, as by `explain` alone, or the trace's limit if it is larger.
-const LEAST_EXPLAINED: u32 = 10_000_000;
 
 // Returns the line after the message of `explain`.
 fn needs_ram(program: &[u8]) -> &'static str
@@ -79,7 +76,8 @@ pub(crate) fn trace_found<P: Progress>(
     ensures begins_err { Begins err.new.items err.old.items }
     ensures begins_wave { Begins wave.new.items wave.old.items }
 {
-    let most = options.limit.max(LEAST_EXPLAINED);
+    // As many instructions as by `explain` alone, or the trace's limit if it is larger.
+    let most = options.limit.max(USUAL_MOST);
     match find(alloc, program, options.bus, most, err, progress)? {
         Some(found) => {
             let ranges = ranges_found(alloc, &found)?;

@@ -1,11 +1,12 @@
 //! Offsets, numbers of bytes and instructions, and ranges of addresses, as text.
 #![tactic(auto, using(dma_text::proofs::Begun::begins_same, dma_text::proofs::Begun::begins_appended, dma_text::proofs::Begun::begins_more))]
 
-ghost use Rattle.std.specs.Prelude.{◌≡◌, ◌++◌, OnOk};
-ghost use Rattle.dma_text.specs.Text.{Begins};
-ghost use Rattle.dma_trace.specs.Words.{bytes_text, count_text, offset_text, range_text, span_text, times_text};
+ghost use Rattle.std.specs.Prelude.{◌≡◌, ◌≤◌};
+ghost use Rattle.dma_chan.specs.Bursts.{span_of};
+ghost use Rattle.dma_chan.specs.inner.Spans.{MovesSome, rounds_of};
+ghost use Rattle.dma_trace.specs.Words.{bytes_text, count_text, offset_text, range_text, times_text};
 
-use crate::front::Span;
+use dma_chan::bursts::Burst;
 use dma_text::text::{Address, HexByte, Text};
 use std::alloc::AllocError;
 
@@ -76,6 +77,25 @@ pub struct Range {
     pub times: u32,
 }
 
+impl Range {
+    /// Returns the addresses that a burst touches, with how often it touches each of them.
+    pub fn of(burst: Burst) -> Range
+        requires some { MovesSome burst }
+        requires limit { (burst.size ≤ 16) × (burst.beats ≤ 16) }
+        ensures { result ≡ record {
+          addr = burst.addr;
+          len = span_of burst;
+          times = rounds_of burst;
+        } }
+    {
+        Range {
+            addr: burst.addr,
+            len: burst.span().len,
+            times: burst.rounds(),
+        }
+    }
+}
+
 impl Text for Range {
     ghost text = { λ range. range_text range.addr range.len range.times };
 
@@ -83,18 +103,5 @@ impl Text for Range {
     fn push(&self, out: &mut Vec<u8>) -> Result<(), AllocError> {
         let len = Bytes(u64::from(self.len));
         ("0x", Address(self.addr), (" + ", len), Times(self.times)).push(out)
-    }
-}
-
-impl Text for Span {
-    ghost text = { span_text };
-
-    fn push(&self, out: &mut Vec<u8>) -> Result<(), AllocError> {
-        let range = Range {
-            addr: self.addr,
-            len: self.len,
-            times: self.times,
-        };
-        range.push(out)
     }
 }

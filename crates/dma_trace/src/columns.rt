@@ -62,29 +62,30 @@ impl Text for InsnColumn {
 
 /// The addresses, the loop counters and the buffer. Each decimal number has spaces before it up to a width.
 #[derive(Drop)]
-pub struct Registers<'a> {
+pub struct FrontColumns<'a> {
     pub front: &'a Front,
     pub width: usize,
 }
 
-impl Text for Registers<'_> {
+impl Text for FrontColumns<'_> {
     ghost text = { λ r. front_text r.width r.front.now };
 
     #[tactic(auto, using(dma_text::proofs::Begun::begins_same, dma_text::proofs::Begun::begins_appended, dma_text::proofs::Begun::begins_more), unfolding(crate::specs::Words::front_text))]
     fn push(&self, out: &mut Vec<u8>) -> Result<(), AllocError> {
-        let Registers { front, width } = *self;
+        let FrontColumns { front, width } = *self;
+        let registers = &front.registers;
         let column = |number: u32| Aligned {
             number: u64::from(number),
             width,
         };
         (
-            ("SAR 0x", Address(front.sar)),
-            (" DAR 0x", Address(front.dar)),
+            ("SAR 0x", Address(registers.sar)),
+            (" DAR 0x", Address(registers.dar)),
             (
                 " LC0 ",
-                column(u32::from(front.lc0)),
+                column(u32::from(registers.lc0)),
                 " LC1 ",
-                column(u32::from(front.lc1)),
+                column(u32::from(registers.lc1)),
             ),
             (" buffer ", column(front.held)),
         )

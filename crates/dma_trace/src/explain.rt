@@ -10,7 +10,7 @@ ghost use Rattle.dma_text.specs.Text.{Begins};
 ghost use Rattle.dma_trace.specs.Explained.{Appends, amounts_text, bursts_text, unexplained_text, event_line, explained_text, segment_line, source_line};
 ghost use Rattle.dma_trace.specs.Front.{front_at};
 ghost use Rattle.dma_trace.specs.Touches.{touches_in};
-ghost use Rattle.dma_trace.specs.inner.Explaining.{Found, Works};
+ghost use Rattle.dma_trace.specs.inner.Explaining.{Found};
 
 use crate::amounts::{Bytes, Instructions, Range};
 use crate::front::Front;
@@ -27,10 +27,13 @@ use dma_explain::explain::{
 };
 use dma_insn::chip::{ChipInsn, decode_chip, decode_core};
 use dma_insn::codec::DecodeFault;
+use dma_io::progress::Progress;
 use dma_mem::segment::Segment;
-use dma_text::progress::Progress;
 use dma_text::text::Text;
 use std::alloc::{AllocError, Global};
+
+/// The most instructions that [`explain`] executes of a program, if no other number is given.
+pub const USUAL_MOST: u32 = 10_000_000;
 
 // Appends the line of an item that is read.
 fn push_source(item: Repeated, out: &mut Vec<u8>) -> Result<(), AllocError>
@@ -225,7 +228,7 @@ fn reached<P: Progress>(
     let mut touches = Touches::none();
     for done in 0..steps {
         report(progress, done);
-        let Ok(insn) = ahead(front.bus, program, front.pc) else {
+        let Ok(insn) = ahead(front.registers.bus, program, front.registers.pc) else {
             unreachable!()
         };
         touches.add(&insn, addr, done + 1, &front);
@@ -250,9 +253,9 @@ fn print_cause<P: Progress>(
     ensures begins { Begins err.new.items err.old.items }
 {
     let (front, touches) = reached(program, bus, found.steps, found.addr, progress);
-    let first = first_byte(program, front.pc);
+    let first = first_byte(program, front.registers.pc);
     let at = Point {
-        ahead: ahead(front.bus, program, front.pc),
+        ahead: ahead(front.registers.bus, program, front.registers.pc),
         steps: found.steps,
         front,
     };
@@ -301,32 +304,8 @@ pub(crate) fn find<P: Progress>(
     }
 }
 
-// Appends what a program copies, or why nothing explains it, and returns whether it is explained. May have appended a
-// part if memory runs out.
-fn print_work<P: Progress>(
-    alloc: Global,
-    program: &[u8],
-    bus: Bus,
-    most: u32,
-    out: &mut Vec<u8>,
-    err: &mut Vec<u8>,
-    progress: &mut P,
-) -> Result<bool, AllocError>
-    ensures ok { IfOk result (λ copies. Works bus program.now most copies
-        out.old.items err.old.items out.new.items err.new.items) }
-    ensures begins { Begins out.new.items out.old.items }
-    ensures begins_err { Begins err.new.items err.old.items }
-{
-    match find(alloc, program, bus, most, err, progress)? {
-        Some(explained) => {
-            Copies(&explained).push(out)?;
-            Ok(true)
-        }
-        None => Ok(false),
-    }
-}
-
-// Appends the same, and warnings about the program. May have appended a part if memory runs out.
+// Appends what a program copies, or why nothing explains it, and warnings about the program. Returns whether it is
+// explained. May have appended a part if memory runs out.
 fn explain_all<P: Progress>(
     alloc: Global,
     program: &[u8],
@@ -341,10 +320,18 @@ fn explain_all<P: Progress>(
     ensures begins { Begins out.new.items out.old.items }
     ensures begins_err { Begins err.new.items err.old.items }
 {
-    let copies = print_work(alloc, program, bus, most, out, err, progress)?;
     let warnings = warnings_of(alloc, program)?;
-    push_warnings(copies, &warnings, err)?;
-    Ok(copies)
+    match find(alloc, program, bus, most, err, progress)? {
+        Some(explained) => {
+            Copies(&explained).push(out)?;
+            push_warnings(true, &warnings, err)?;
+            Ok(true)
+        }
+        None => {
+            push_warnings(false, &warnings, err)?;
+            Ok(false)
+        }
+    }
 }
 
 /// Explains a program on a bus, executing at most `most` instructions: appends to `out` what it copies and sets to 0

@@ -1,16 +1,18 @@
 //! The lines of a trace.
 #![tactic(auto, using(dma_text::proofs::Begun::begins_same, dma_text::proofs::Begun::begins_appended, dma_text::proofs::Begun::begins_more))]
 
-ghost use Rattle.std.specs.Prelude.{◌≡◌, ◌+◌, ◌++◌, ◌<◌, ◌^◌, OnOk, IfOk, take, flat_map};
+ghost use Rattle.std.specs.Prelude.{◌≡◌, ◌+◌, ◌++◌, ◌<◌, ◌≤◌, ◌^◌, OnOk, IfOk, take, flat_map};
 ghost use Rattle.dma_text.specs.Text.{Begins};
+ghost use Rattle.dma_chan.specs.inner.Spans.{MovesSome};
 ghost use Rattle.dma_mem.specs.Regions.{pieces_of, run_from};
 ghost use Rattle.dma_trace.specs.Traced.{burst_text, dump_text, line_text, moves_text, row_bytes, row_text, shown_line, step_text};
 
-use crate::amounts::Offset;
-use crate::columns::{Aligned, InsnColumn, Registers};
-use crate::front::{Front, Span};
+use crate::amounts::{Offset, Range};
+use crate::columns::{Aligned, FrontColumns, InsnColumn};
+use crate::front::Front;
 use crate::options::TraceOptions;
 use crate::words::Point;
+use dma_chan::bursts::{Burst, destination_burst, source_burst};
 use dma_insn::chip::ChipInsn;
 use dma_mem::regions::{Region, copy_run};
 use dma_mem::segment::Segment;
@@ -46,17 +48,25 @@ fn bytes_from(
 fn push_burst(
     alloc: Global,
     verb: &str,
-    span: Span,
+    burst: Burst,
     regions: &[Region<'_>],
     out: &mut Vec<u8>,
 ) -> Result<(), AllocError>
+    requires some { MovesSome burst }
+    requires limit { (burst.size ≤ 16) × (burst.beats ≤ 16) }
     ensures ok { OnOk result
-        (out.new.items ≡ out.old.items ++ burst_text verb.now span (pieces_of regions.now)) }
+        (out.new.items ≡ out.old.items ++ burst_text verb.now burst (pieces_of regions.now)) }
     ensures begins { Begins out.new.items out.old.items }
 {
+    let span = burst.span();
     let bytes = bytes_from(alloc, regions, span.addr, span.len.min(ROW_BYTES) as usize)?;
     let more = if span.len > ROW_BYTES { " .." } else { "" };
-    (verb, span, (":", SpacedBytes(bytes.as_slice()), more)).push(out)
+    (
+        verb,
+        Range::of(burst),
+        (":", SpacedBytes(bytes.as_slice()), more),
+    )
+        .push(out)
 }
 
 // Appends what an instruction loaded or stored.
@@ -73,9 +83,13 @@ fn push_moves(
     ensures begins { Begins out.new.items out.old.items }
 {
     match *insn {
-        ChipInsn::Ld => push_burst(alloc, "; loaded ", before.loads(), regions, out),
+        ChipInsn::Ld => {
+            let burst = source_burst(&before.registers);
+            push_burst(alloc, "; loaded ", burst, regions, out)
+        }
         ChipInsn::St | ChipInsn::StoreZeros => {
-            push_burst(alloc, "; stored ", before.stores(), regions, out)
+            let burst = destination_burst(&before.registers);
+            push_burst(alloc, "; stored ", burst, regions, out)
         }
         _ => Ok(()),
     }
@@ -99,7 +113,7 @@ impl Text for Step<'_> {
             number: self.number,
             width: NUMBER_WIDTH,
         };
-        let registers = Registers {
+        let registers = FrontColumns {
             front: self.after,
             width: COUNTER_WIDTH,
         };
@@ -125,7 +139,7 @@ fn push_line<'a>(
     let step = Step {
         number,
         insn,
-        pc: before.pc,
+        pc: before.registers.pc,
         after,
     };
     step.push(out)?;

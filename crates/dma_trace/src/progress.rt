@@ -1,6 +1,6 @@
 //! Reports of how far a long run has come.
 
-use dma_text::progress::Progress;
+use dma_io::progress::Progress;
 
 /// How many instructions are executed from one report to the next.
 const INTERVAL: u32 = 1 << 22;

@@ -1,11 +1,13 @@
 //! Which instructions of a program load and store an address. DMASTZ stores too.
 #![tactic(auto, using(dma_text::proofs::Begun::begins_same, dma_text::proofs::Begun::begins_appended, dma_text::proofs::Begun::begins_more))]
 
-ghost use Rattle.std.specs.Prelude.{◌≡◌};
-ghost use Rattle.dma_trace.specs.Touches.{access_text, after_touch, conflict_text, untouched, with_load, with_store};
+ghost use Rattle.std.specs.Prelude.{◌≡◌, ◌≤◌};
+ghost use Rattle.dma_chan.specs.inner.Spans.{MovesSome};
+ghost use Rattle.dma_trace.specs.Touches.{access_text, after_touch, conflict_text, has_addr, untouched, with_load, with_store};
 
 use crate::amounts::Offset;
 use crate::front::Front;
+use dma_chan::bursts::{Burst, destination_burst, source_burst};
 use dma_explain::explain::Cause;
 use dma_insn::chip::ChipInsn;
 use dma_text::text::{Address, Text};
@@ -24,6 +26,15 @@ pub struct Touches {
     pub load: Option<Access>,
     pub store: Option<Access>,
     pub second_store: Option<Access>,
+}
+
+// Returns whether a burst touches an address.
+fn has_addr(burst: Burst, addr: u32) -> bool
+    requires some { MovesSome burst }
+    requires limit { (burst.size ≤ 16) × (burst.beats ≤ 16) }
+    ensures { result ≡ has_addr burst addr }
+{
+    burst.addr <= addr && addr - burst.addr < burst.span().len
 }
 
 impl Touches {
@@ -59,16 +70,16 @@ impl Touches {
     {
         let access = Access {
             number,
-            pc: before.pc,
+            pc: before.registers.pc,
         };
         match *insn {
             ChipInsn::Ld => {
-                if before.loads().has(addr) {
+                if has_addr(source_burst(&before.registers), addr) {
                     self.add_load(access);
                 }
             }
             ChipInsn::St | ChipInsn::StoreZeros => {
-                if before.stores().has(addr) {
+                if has_addr(destination_burst(&before.registers), addr) {
                     self.add_store(access);
                 }
             }

@@ -10,7 +10,7 @@ ghost use Rattle.dma_chan.specs.LentRegions.{segment_of, with_gaps_of};
 ghost use Rattle.dma_chan.specs.Stepping.{after_step, answer_at};
 ghost use Rattle.dma_text.specs.Text.{Begins};
 ghost use Rattle.dma_trace.specs.Found.{ShowsRam};
-ghost use Rattle.dma_trace.specs.Traced.{Shows, end_of, if_wave, marks_over, opening};
+ghost use Rattle.dma_trace.specs.Traced.{Shows, end_of, if_wave, opening};
 ghost use Rattle.dma_trace.specs.Wave.{executing, last_text};
 ghost use Rattle.dma_trace.specs.inner.Running.{Ends, Runs, machine_over};
 
@@ -29,11 +29,11 @@ use dma_chan::program::MAX_PROGRAM_BYTES;
 use dma_chan::turn::ChanTurn;
 use dma_explain::explain::Cause;
 use dma_insn::chip::ChipInsn;
+use dma_io::progress::Progress;
 use dma_mem::events::Events;
 use dma_mem::marks::{MarkKind, Marks};
 use dma_mem::regions::Region;
 use dma_mem::segment::Segment;
-use dma_text::progress::Progress;
 use dma_text::text::Text;
 use std::alloc::{AllocError, Global};
 
@@ -140,7 +140,8 @@ fn finish(
     err: &mut Vec<u8>,
     wave: &mut Vec<u8>,
 ) -> Result<bool, AllocError>
-    ensures ok { let first = slice_get program.now at.now.front.pc in IfOk result (λ good. Ends
+    ensures ok { let first = slice_get program.now at.now.front.registers.pc in
+        IfOk result (λ good. Ends
         (end_of turn.now first at.now.ahead at.now.steps at.now.front stored) good
         out.old.items err.old.items out.new.items err.new.items) }
     ensures wave { OnOk result (wave.new.items ≡ wave.old.items ++ if_wave options.now
@@ -150,13 +151,13 @@ fn finish(
     ensures begins_wave { Begins wave.new.items wave.old.items }
 {
     push_last(options, at, turn, wave)?;
-    let first = first_byte(program, at.front.pc);
+    let first = first_byte(program, at.front.registers.pc);
     push_end(turn, first, at, stored, out, err)
 }
 
 // Executes a loaded program until it ends, waits or fails, or until the limit. Loads and stores fail at these marks.
 // Appends the lines, the end and the waveform.
-fn run_loaded<P: Progress>(
+fn run<P: Progress>(
     alloc: Global,
     program: &[u8],
     channel: &mut Channel,
@@ -211,46 +212,6 @@ fn run_loaded<P: Progress>(
     finish(options, &None, program, &at, stored, out, err, wave)
 }
 
-// Executes a program until it ends, waits or fails, or until the limit. Appends the lines, the end and the waveform.
-fn run<P: Progress>(
-    alloc: Global,
-    program: &[u8],
-    regions: &mut [Region<'_>],
-    options: &TraceOptions,
-    out: &mut Vec<u8>,
-    err: &mut Vec<u8>,
-    wave: &mut Vec<u8>,
-    progress: &mut P,
-) -> Result<bool, AllocError>
-    requires long { length program.now ≤ most_program_bytes }
-    requires order { IsTrue (in_order (pieces_of regions.old)) }
-    ensures ok { IfOk result (λ good. Runs options.now (marks_over options.now regions.old)
-        (map segment_of regions.old) (opening options.now program.now
-        (image_of (pieces_of regions.old))) good (image_of (pieces_of regions.new))
-        out.old.items err.old.items wave.old.items
-        out.new.items err.new.items wave.new.items) }
-    ensures places { map segment_of regions.new ≡ map segment_of regions.old }
-    ensures begins { Begins out.new.items out.old.items }
-    ensures begins_err { Begins err.new.items err.old.items }
-    ensures begins_wave { Begins wave.new.items wave.old.items }
-{
-    let marks = failing_marks(alloc, &options.failing)?;
-    let mut channel = Channel::new(alloc)?;
-    channel.load_bytes(program, Registers::start(options.bus));
-    run_loaded(
-        alloc,
-        program,
-        &mut channel,
-        &marks,
-        regions,
-        options,
-        out,
-        err,
-        wave,
-        progress,
-    )
-}
-
 // Traces a program. If memory runs out, it may have appended a part.
 pub(crate) fn trace_all<P: Progress>(
     alloc: Global,
@@ -273,7 +234,21 @@ pub(crate) fn trace_all<P: Progress>(
         LongProgram.push(err)?;
         return Ok(false);
     }
-    let good = run(alloc, program, regions, options, out, err, wave, progress)?;
+    let marks = failing_marks(alloc, &options.failing)?;
+    let mut channel = Channel::new(alloc)?;
+    channel.load_bytes(program, Registers::start(options.bus));
+    let good = run(
+        alloc,
+        program,
+        &mut channel,
+        &marks,
+        regions,
+        options,
+        out,
+        err,
+        wave,
+        progress,
+    )?;
     push_dumps(alloc, regions, &options.dumps, out)?;
     Ok(good)
 }

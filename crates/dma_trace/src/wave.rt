@@ -11,6 +11,7 @@ use crate::front::Front;
 use crate::options::TraceOptions;
 use crate::vcd::SignalLine;
 use crate::words::Point;
+use dma_chan::bursts::{destination_burst, source_burst};
 use dma_chan::channel::Channel;
 use dma_chan::turn::{ChanTurn, FaultKind};
 use dma_insn::chip::ChipInsn;
@@ -101,14 +102,14 @@ fn event_of(ahead: &Result<ChipInsn, FaultKind>) -> u32
 fn load_bytes(front: &Front) -> u32
     ensures { result ≡ load_bytes front.now }
 {
-    front.loads().bytes()
+    source_burst(&front.registers).len()
 }
 
 // Returns how many bytes a DMAST stores with these registers.
 fn store_bytes(front: &Front) -> u32
     ensures { result ≡ store_bytes front.now }
 {
-    front.stores().bytes()
+    destination_burst(&front.registers).len()
 }
 
 // The signals, with their widths and codes.
@@ -168,7 +169,9 @@ impl Signals<'_> {
             ++ registers_text self.now.all self.now.before.now self.now.after.now) }
         ensures begins { Begins out.new.items out.old.items }
     {
-        let (before, after) = (&self.before.at.front, &self.after.at.front);
+        let (held, next_held) = (self.before.at.front.held, self.after.at.front.held);
+        let before = &self.before.at.front.registers;
+        let after = &self.after.at.front.registers;
         let status = (
             self.line("a", 16, before.pc, after.pc),
             self.line(
@@ -187,12 +190,12 @@ impl Signals<'_> {
         let addresses = (
             self.line("d", 32, before.sar, after.sar),
             self.line("e", 32, before.dar, after.dar),
-            self.line("f", 32, before.ccr, after.ccr),
+            self.line("f", 32, before.ccr.bits(), after.ccr.bits()),
         );
         let counts = (
             self.line("g", 8, u32::from(before.lc0), u32::from(after.lc0)),
             self.line("h", 8, u32::from(before.lc1), u32::from(after.lc1)),
-            self.line("i", 9, before.held, after.held),
+            self.line("i", 9, held, next_held),
         );
         (status, addresses, counts).push(out)
     }

@@ -8,9 +8,10 @@ ghost use Rattle.dma_chan.specs.declared.turn.FaultKind.{FaultKind};
 ghost use Rattle.dma_text.specs.Text.{Begins};
 ghost use Rattle.dma_trace.specs.Words.{cause_text, chip_only_at, control_text, control_words, end_text, fault_name, fault_text, fault_words, fetch_words, long_text, next_text, operand_words, on_chip_bus, place_text, refused_words, state_text, undefined_words};
 
-use crate::amounts::{Bytes, Instructions, Offset};
-use crate::columns::Registers;
+use crate::amounts::{Bytes, Instructions, Offset, Range};
+use crate::columns::FrontColumns;
 use crate::front::Front;
+use dma_chan::bursts::{destination_burst, source_burst};
 use dma_chan::bus::Bus;
 use dma_chan::turn::FaultKind;
 use dma_explain::explain::Cause;
@@ -173,7 +174,7 @@ fn push_refused(at: &Point, out: &mut Vec<u8>) -> Result<(), AllocError>
     ensures begins { Begins out.new.items out.old.items }
 {
     match at.ahead {
-        Ok(insn) => push_operand(at.front.bus, insn, out),
+        Ok(insn) => push_operand(at.front.registers.bus, insn, out),
         Err(_) => "a field is outside its range".push(out),
     }
 }
@@ -215,13 +216,13 @@ fn push_fault(
     ensures begins { Begins out.new.items out.old.items }
 {
     let held = Bytes(u64::from(at.front.held));
-    let loads = at.front.loads();
-    let stores = at.front.stores();
+    let loads = source_burst(&at.front.registers);
+    let stores = destination_burst(&at.front.registers);
     match kind {
         FaultKind::UndefInstr => undefined_words(first).push(out),
         FaultKind::OperandInvalid => push_refused(at, out),
         FaultKind::MfifoErr => {
-            let len = loads.bytes();
+            let len = loads.len();
             (
                 "the buffer holds ",
                 held,
@@ -231,12 +232,12 @@ fn push_fault(
                 .push(out)
         }
         FaultKind::StDataUnavailable => {
-            let len = stores.bytes();
+            let len = stores.len();
             ("the buffer holds ", held, (", the store needs ", len)).push(out)
         }
         FaultKind::InstrFetchErr => fetch_words(first, &at.ahead).push(out),
-        FaultKind::DataWriteErr => ("it can't store ", stores).push(out),
-        FaultKind::DataReadErr => ("it can't load ", loads).push(out),
+        FaultKind::DataWriteErr => ("it can't store ", Range::of(stores)).push(out),
+        FaultKind::DataReadErr => ("it can't load ", Range::of(loads)).push(out),
     }
 }
 
@@ -280,13 +281,13 @@ impl Text for Why<'_> {
     fn push(&self, out: &mut Vec<u8>) -> Result<(), AllocError> {
         let Why { first, at, .. } = *self;
         let held = Bytes(u64::from(at.front.held));
-        let loads = at.front.loads();
-        let stores = at.front.stores();
+        let loads = source_burst(&at.front.registers);
+        let stores = destination_burst(&at.front.registers);
         match self.cause {
             Cause::TooLong => "the program has more than 8192 bytes".push(out),
             Cause::Fails(kind) => Failure { kind, first, at }.push(out),
-            Cause::LoadsPast => ("the load ends above 2^32: ", loads).push(out),
-            Cause::StoresPast => ("the store ends above 2^32: ", stores).push(out),
+            Cause::LoadsPast => ("the load ends above 2^32: ", Range::of(loads)).push(out),
+            Cause::StoresPast => ("the store ends above 2^32: ", Range::of(stores)).push(out),
             Cause::StoresFixed => {
                 "the destination is fixed: each beat overwrites the one before".push(out)
             }
@@ -309,7 +310,8 @@ pub struct Place<'a> {
 }
 
 impl Text for Place<'_> {
-    ghost text = { λ p. place_text p.first p.at.now.ahead p.at.now.front.pc p.at.now.steps };
+    ghost text = { λ p. let at = p.at.now in
+        place_text p.first at.ahead at.front.registers.pc at.steps };
 
     #[tactic(auto, unfolding(crate::specs::Words::place_text))]
     fn push(&self, out: &mut Vec<u8>) -> Result<(), AllocError> {
@@ -320,7 +322,7 @@ impl Text for Place<'_> {
         };
         (
             " offset ",
-            Offset(self.at.front.pc),
+            Offset(self.at.front.registers.pc),
             (": ", ahead),
             (" (instruction ", number, "): "),
         )
@@ -340,11 +342,11 @@ impl Text for State<'_> {
 
     #[tactic(auto, unfolding(crate::specs::Words::state_text))]
     fn push(&self, out: &mut Vec<u8>) -> Result<(), AllocError> {
-        let registers = Registers {
+        let registers = FrontColumns {
             front: self.front,
             width: 0,
         };
-        let control = ControlText(self.front.ccr);
+        let control = ControlText(self.front.registers.ccr.bits());
         let stored = Bytes(self.stored);
         (
             ("\n  ", registers),

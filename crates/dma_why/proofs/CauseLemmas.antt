@@ -1,34 +1,27 @@
 -- Waits lead from each channel with an unfinished cookie to a cause, if no channel's step changes anything.
-use Rattle.std.proofs.Common.{◌≡◌, ℕ, ◌+◌, ◌<◌, ◌≤◌, zero, suc, List, [], ◌∷◌, ◌++◌, Option, Some, None, Bool, false, refl, ap, sym, subst, arith, inl, inr, ◌⊎◌}
+use Rattle.std.proofs.Common.{◌≡◌, ℕ, ◌+◌, ◌<◌, ◌≤◌, zero, suc, List, [], ◌∷◌, ◌++◌, Option, Some, None, Bool, false, refl, ap, sym, subst, arith, inl, inr}
+use Rattle.std.proofs.Common.{◌⊎◌}
 use Rattle.std.specs.Prelude.{◌==◌, if◌then◌else◌, is_some, length, nat_le, not, IsSome, Result, Ok, Err}
 use Rattle.std.specs.List.{All, Contains, list_all}
 use Rattle.std.proofs.lemmas.Bool.{cases_Bool, cases_lt, cases_order, cond_both, eqb-false, lt-leb, not-true}
-use Rattle.std.proofs.lemmas.List.{get_or_past}
-use Rattle.std.proofs.lemmas.Option.{slice_get_within}
 use Rattle.std.proofs.lemmas.List.Elements.{All-append, All-cons, All-nil, All-weaker}
+use Rattle.std.proofs.{lemmas.List.get_or_past, lemmas.Option.slice_get_within}
 use Rattle.dma_insn.specs.declared.chip.ChipInsn.{ChipInsn}
 use Rattle.dma_insn.specs.declared.chip.ChipInsn.TheVariants.{Ld, St, Wfe}
-use Rattle.dma_mem.specs.Places.{Descriptor, is_free_of}
-use Rattle.dma_mem.specs.Marking.{meets_mark}
-use Rattle.dma_mem.specs.declared.marks.MarkKind.TheVariants.{Reading, Writing}
+use Rattle.dma_mem.specs.{Places.Descriptor, Places.is_free_of, Marking.meets_mark, declared.marks.MarkKind.TheVariants.Reading}
+use Rattle.dma_mem.specs.{declared.marks.MarkKind.TheVariants.Writing}
 use Rattle.dma_chan.specs.Traffic.{member, read_places, written_places}
-use Rattle.dma_engine.specs.declared.fault.EngineFault.{EngineFault}
-use Rattle.dma_engine.specs.declared.fault.EngineFault.TheVariants.{StepsSpent}
-use Rattle.dma_engine.specs.declared.turn.Turn.{Turn}
 use Rattle.dma_engine.specs.declared.turn.Turn.TheVariants.{Halted, Paused, Waiting}
 use Rattle.dma_engine.specs.Object.{channel, empty_channel, front, is_set, issued_front, unfinished}
-use Rattle.dma_engine.specs.Room.{IsIdle}
 use Rattle.dma_engine.specs.Turn.{Stepped, first_conflicting, front_turn, insn_turn, last_step, start_turn, turn}
 use Rattle.dma_engine.specs.View.{RunningTransfer, View, channels, object_of, running, schedule_at}
+use Rattle.dma_engine.specs.{declared.fault.EngineFault.EngineFault, declared.fault.EngineFault.TheVariants.StepsSpent, declared.turn.Turn.Turn, Room.IsIdle}
 use Rattle.dma_engine.proofs.Queues.{front_issued}
-use Rattle.dma_why.specs.declared.waits.Cookie.{Cookie}
-use Rattle.dma_why.specs.declared.waits.Wait.{Wait}
-use Rattle.dma_why.specs.Circles.{IsWay, circle_from}
 use Rattle.dma_why.specs.Laws.{AreNotOnOneChannel, CausesAreNamed, IsCause}
 use Rattle.dma_why.specs.Waits.{event_wait, holder, holders, holders_of, signallers, waits_by, waits_of}
-use Rattle.dma_why.proofs.CircleLemmas.{circle_found}
-use Rattle.dma_why.proofs.Members.{filter_map_in, in_find, in_first, in_rest, map_in}
+use Rattle.dma_why.specs.{declared.waits.Cookie.Cookie, declared.waits.Wait.Wait, Circles.IsWay, Circles.circle_from}
 use Rattle.dma_why.proofs.ViewWaits.{holder_holds, runs_named, says, signaller_would, wait_of_view, wait_says, waits_below}
+use Rattle.dma_why.proofs.{CircleLemmas.circle_found, Members.filter_map_in, Members.in_find, Members.in_first, Members.in_rest, Members.map_in}
 
 -- ---- a channel whose step changes nothing has a cause, or waits for another
 
@@ -55,14 +48,16 @@ insn_why : (v : View) (ch n : ℕ) (t : Descriptor) (i : ChipInsn) → IsIdle (i
 insn_why v ch n t Ld =
     cond_both {A = Stepped} (meets_mark Reading (object_of v).marks (read_places t n)) _ _ (λ x. IsIdle x.0 → Why v ch x.0) (λ _ h. absurd h) (λ _ h. absurd h)
 insn_why v ch n t St =
-    cond_both {A = Stepped} (meets_mark Writing (object_of v).marks (written_places t n)) _ _ (λ x. IsIdle x.0 → Why v ch x.0) (λ _ h. absurd h) (λ _ h. absurd h)
+    cond_both {A = Stepped} (meets_mark Writing (object_of v).marks (written_places t n)) _ _ (λ x. IsIdle x.0 → Why v ch x.0) (λ _ h. absurd h)
+    (λ _ h. absurd h)
 insn_why v ch n t (Wfe event invalid) =
     cond_both {A = Stepped} (is_set (object_of v) event) _ (Ok (Waiting event), v) (λ x. IsIdle x.0 → Why v ch x.0) (λ _ h. absurd h)
     (λ _ _. why_event ch event (signallers (object_of v) event))
 insn_why v ch n t i = λ h. absurd h
 
 -- a front that is held: by the first that it isn't free of, among others
-start_why : (v : View) (ch : ℕ) (t : Descriptor) (x : Option RunningTransfer) → front (channel (object_of v) ch) ≡ Some t → first_conflicting v t ≡ x → IsIdle (start_turn v ch x).0 → Why v ch (start_turn v ch x).0
+start_why : (v : View) (ch : ℕ) (t : Descriptor) (x : Option RunningTransfer) → front (channel (object_of v) ch) ≡ Some t → first_conflicting v t ≡ x
+    → IsIdle (start_turn v ch x).0 → Why v ch (start_turn v ch x).0
 start_why v ch t None is found h = absurd h
 start_why v ch t (Some r) is found h =
     let f = in_find (λ y. not (is_free_of t y.transfer)) (running (object_of v) v.schedule) r found in
@@ -73,7 +68,8 @@ start_why v ch t (Some r) is found h =
     let mk : Cookie → Wait = λ by. record { ch = ch; event = None; by = by } in
     inr (mk by, map_in mk (holders v ch) by all)
 
-front_why : (v : View) (ch : ℕ) (x : Option Descriptor) (taken : Option ℕ) → issued_front (channel (object_of v) ch) ≡ x → 0 < unfinished (channel (object_of v) ch) → IsIdle (front_turn v ch x taken).0 → Why v ch (front_turn v ch x taken).0
+front_why : (v : View) (ch : ℕ) (x : Option Descriptor) (taken : Option ℕ) → issued_front (channel (object_of v) ch) ≡ x
+    → 0 < unfinished (channel (object_of v) ch) → IsIdle (front_turn v ch x taken).0 → Why v ch (front_turn v ch x taken).0
 front_why v ch None taken is works h = inl works
 front_why v ch (Some t) None is works h = start_why v ch t (first_conflicting v t) (front_issued (channel (object_of v) ch) t is) refl h
 front_why v ch (Some t) (Some n) is works h =
@@ -147,7 +143,8 @@ on v low w i above r = record {
 }
 
 -- a way back is a circle
-circle_done : (v : View) (low : ℕ) (w : Wait) (way : List Wait) → Contains (waits_of v) w → w.ch ≡ low → All (Contains (waits_of v)) way → IsWay w.by.ch low way → All (λ x. low + 1 ≤ x.ch) way → Done v low
+circle_done : (v : View) (low : ℕ) (w : Wait) (way : List Wait) → Contains (waits_of v) w → w.ch ≡ low → All (Contains (waits_of v)) way → IsWay w.by.ch low way
+    → All (λ x. low + 1 ≤ x.ch) way → Done v low
 circle_done v low w way i here waits leads above =
     let among = All-cons (Contains (waits_of v)) w way i waits in
     let higher = All-weaker (λ x. low + 1 ≤ x.ch) (λ x. low < x.ch) (λ x h. omega (arith, h)) way above in
@@ -155,7 +152,8 @@ circle_done v low w way i here waits leads above =
     inr (ap is_some f.1.1)
 
 -- From `low`, if each higher channel leads on over higher ones.
-from_low : (v : View) (low : ℕ) → ((ch : ℕ) → IsIdle (turn v ch).0) → ((ch : ℕ) → low < ch → 0 < unfinished (channel (object_of v) ch) → Leads v (low + 1) ch) → 0 < unfinished (channel (object_of v) low) → Leads v low low
+from_low : (v : View) (low : ℕ) → ((ch : ℕ) → IsIdle (turn v ch).0) → ((ch : ℕ) → low < ch → 0 < unfinished (channel (object_of v) ch) → Leads v (low + 1) ch)
+    → 0 < unfinished (channel (object_of v) low) → Leads v low low
 from_low v low idle later works = elim (why v low works (idle low)) [
   | inl cause ↦ at_once v low low (inl cause)
   | inr f ↦ by_wait f.0 (wait_of_view v low f.0 (works_there v low works) f.1) (says v low (turn v low).0 f.0 f.1).0
@@ -164,7 +162,8 @@ from_low v low idle later works = elim (why v low works (idle low)) [
   after w i here r =
       let wider = All-weaker (λ x. low + 1 ≤ x.ch) (λ x. low ≤ x.ch) (λ x h. omega (arith, h)) r.way r.above in
       let go : Done v r.end ⊎ ((r.end < low) × (0 < unfinished (channel (object_of v) r.end))) → Leads v low low = λ cause.
-      subst (Leads v low) here (on v low w i (omega (arith, here)) (record { end = r.end; way = r.way; waits = r.waits; leads = r.leads; above = wider; cause = cause })) in
+      subst (Leads v low) here (on v low w i (omega (arith, here))
+      (record { end = r.end; way = r.way; waits = r.waits; leads = r.leads; above = wider; cause = cause })) in
       elim r.cause [
         | inl done ↦ go (inl done)
         | inr past ↦ elim (cases_lt r.end low) [
@@ -179,12 +178,22 @@ from_low v low idle later works = elim (why v low works (idle low)) [
   by_wait w i here = elim (cases_order w.by.ch low) [
     | inl same ↦ at_once v low low (circle_done v low w [] i here (All-nil (Contains (waits_of v))) same (All-nil (λ x. low + 1 ≤ x.ch)))
     | inr (inl less) ↦
-        subst (Leads v low) here (on v low w i (omega (arith, here)) (record { end = w.by.ch; way = []; waits = All-nil (Contains (waits_of v)); leads = refl; above = All-nil (λ x. low ≤ x.ch); cause = inr (less, wait_works v w i) }))
+        subst (Leads v low) here (on v low w i (omega (arith, here))
+        (record {
+          end = w.by.ch;
+          way = [];
+          waits = All-nil (Contains (waits_of v));
+          leads = refl;
+          above = All-nil (λ x. low ≤ x.ch);
+          cause =
+              inr (less, wait_works v w i);
+        }))
     | inr (inr more) ↦ after w i here (later w.by.ch more (wait_works v w i))
   ]
 
 -- from each channel from `low` on, if each higher one leads on
-from_above : (v : View) (low : ℕ) → ((ch : ℕ) → IsIdle (turn v ch).0) → ((ch : ℕ) → low < ch → 0 < unfinished (channel (object_of v) ch) → Leads v (low + 1) ch) → (ch : ℕ) → low ≤ ch → 0 < unfinished (channel (object_of v) ch) → Leads v low ch
+from_above : (v : View) (low : ℕ) → ((ch : ℕ) → IsIdle (turn v ch).0) → ((ch : ℕ) → low < ch → 0 < unfinished (channel (object_of v) ch) → Leads v (low + 1) ch)
+    → (ch : ℕ) → low ≤ ch → 0 < unfinished (channel (object_of v) ch) → Leads v low ch
 from_above v low idle later ch above works = by (cases_lt low ch) where
   by : (low < ch) ⊎ (ch ≤ low) → Leads v low ch
   by (inr same) =
@@ -213,7 +222,8 @@ from_above v low idle later ch above works = by (cases_lt low ch) where
         ]
       ]
 
-all_lead : (v : View) → ((ch : ℕ) → IsIdle (turn v ch).0) → (n low : ℕ) → low + n ≡ channels v → (ch : ℕ) → low ≤ ch → 0 < unfinished (channel (object_of v) ch) → Leads v low ch
+all_lead : (v : View) → ((ch : ℕ) → IsIdle (turn v ch).0) → (n low : ℕ) → low + n ≡ channels v → (ch : ℕ) → low ≤ ch → 0 < unfinished (channel (object_of v) ch)
+    → Leads v low ch
 all_lead v idle zero low m ch above works = absurd (omega (arith, works_there v ch works, above, m))
 all_lead v idle (suc n) low m ch above works =
     from_above v low idle (λ d less there. all_lead v idle n (low + 1) (omega (arith, m)) d (omega (arith, less)) there) ch above works

@@ -1,14 +1,12 @@
 -- Ways of waits from a channel to another, and circles.
-use Rattle.std.proofs.Common.{◌≡◌, ◌≢◌, ℕ, ◌+◌, ◌-◌, ◌<◌, ◌≤◌, zero, suc, List, [], ◌∷◌, ◌++◌, Option, Some, None, refl, ap, sym, ◌∙◌, subst, arith, inl, inr, ◌⊎◌}
-use Rattle.std.specs.Prelude.{◌==◌, ◌&&◌}
-use Rattle.std.specs.Option.{option_map, option_or}
-use Rattle.std.specs.List.{All, AllPairs, Contains}
+use Rattle.std.proofs.Common.{◌≡◌, ◌≢◌, ℕ, ◌+◌, ◌-◌, ◌<◌, ◌≤◌, zero, suc, List, [], ◌∷◌, ◌++◌, Option, Some, None, refl, ap, sym, ◌∙◌, subst, arith, inl, inr}
+use Rattle.std.proofs.Common.{◌⊎◌}
+use Rattle.std.specs.{Prelude.◌==◌, Prelude.◌&&◌, Option.option_map, Option.option_or, List.All, List.AllPairs, List.Contains}
 use Rattle.std.proofs.lemmas.Bool.{and_from, and_parts, cases_lt, eq-eqb, eqb-true}
 use Rattle.std.proofs.lemmas.List.Elements.{All-nil, All-cons, All-contains, All-head, All-tail}
 use Rattle.std.proofs.lemmas.List.Kept.{AllPairs-cons}
 use Rattle.dma_mem.proofs.TransferRules.{AllPairs_append}
-use Rattle.dma_why.specs.declared.waits.Wait.{Wait}
-use Rattle.dma_why.specs.Circles.{IsCircle, IsWay, circle_from, joined, wait_between, way}
+use Rattle.dma_why.specs.{declared.waits.Wait.Wait, Circles.IsCircle, Circles.IsWay, Circles.circle_from, Circles.joined, Circles.wait_between, Circles.way}
 use Rattle.dma_why.proofs.Members.{All-from_in, find_in, in_cases, in_find, in_none}
 
 -- ---- ways over some channels
@@ -19,11 +17,13 @@ Over waits low high from to w [] = Contains waits w × (w.ch ≡ from) × (w.by.
 Over waits low high from to w (x ∷ more) =
     Contains waits w × (w.ch ≡ from) × (low ≤ w.by.ch) × (w.by.ch < high) × Over waits low high w.by.ch to x more
 
-over_wider : (waits : List Wait) (low high from to : ℕ) (w : Wait) (more : List Wait) → Over waits (low + 1) high from to w more → Over waits low high from to w more
+over_wider : (waits : List Wait) (low high from to : ℕ) (w : Wait) (more : List Wait) → Over waits (low + 1) high from to w more
+    → Over waits low high from to w more
 over_wider waits low high from to w [] o = o
 over_wider waits low high from to w (x ∷ more) o = (o.0, o.1, omega (arith, o.2), o.3, over_wider waits low high w.by.ch to x more o.4)
 
-over_joined : (waits : List Wait) (low high from mid to : ℕ) (w : Wait) (more : List Wait) (x : Wait) (rest : List Wait) → Over waits low high from mid w more → low ≤ mid → mid < high → Over waits low high mid to x rest → Over waits low high from to w (more ++ x ∷ rest)
+over_joined : (waits : List Wait) (low high from mid to : ℕ) (w : Wait) (more : List Wait) (x : Wait) (rest : List Wait) → Over waits low high from mid w more
+    → low ≤ mid → mid < high → Over waits low high mid to x rest → Over waits low high from to w (more ++ x ∷ rest)
 over_joined waits low high from mid to w [] x rest o l h p =
     (o.0, o.1, omega (arith, o.2, l), omega (arith, o.2, h), subst (λ c. Over waits low high c to x rest) (sym o.2) p)
 over_joined waits low high from mid to w (y ∷ more) x rest o l h p =
@@ -40,7 +40,8 @@ record Through (waits : List Wait) (low high from to : ℕ) (w : Wait) (mid : �
   above : low ≤ mid
   below : mid < high
 
-through : (waits : List Wait) (low high from to : ℕ) (w : Wait) (more : List Wait) → Over waits low high from to w more → (x : Wait) → Contains more x → Through waits low high from to w x.ch
+through : (waits : List Wait) (low high from to : ℕ) (w : Wait) (more : List Wait) → Over waits low high from to w more → (x : Wait) → Contains more x
+    → Through waits low high from to w x.ch
 through waits low high from to w [] o x i = absurd (in_none x i)
 through waits low high from to w (z ∷ more) o x i =
     let here = over_ch waits low high w.by.ch to z more o.4 in
@@ -66,7 +67,8 @@ through waits low high from to w (z ∷ more) o x i =
 -- ---- each way is found
 
 -- up to the first visit of `low`, or to the end
-before : (waits : List Wait) (low high from to : ℕ) (w : Wait) (more : List Wait) → Over waits low high from to w more → Over waits (low + 1) high from to w more ⊎ ((rest : List Wait) × Over waits (low + 1) high from low w rest)
+before : (waits : List Wait) (low high from to : ℕ) (w : Wait) (more : List Wait) → Over waits low high from to w more
+    → Over waits (low + 1) high from to w more ⊎ ((rest : List Wait) × Over waits (low + 1) high from low w rest)
 before waits low high from to w [] o = inl o
 before waits low high from to w (x ∷ more) o = elim (cases_lt low w.by.ch) [
   | inl less ↦ elim (before waits low high w.by.ch to x more o.4) [
@@ -77,7 +79,8 @@ before waits low high from to w (x ∷ more) o = elim (cases_lt low w.by.ch) [
 ]
 
 -- from the last visit of `low` on, or from the beginning
-behind : (waits : List Wait) (low high from to : ℕ) (w : Wait) (more : List Wait) → Over waits low high from to w more → Over waits (low + 1) high from to w more ⊎ ((x : Wait) × (rest : List Wait) × Over waits (low + 1) high low to x rest)
+behind : (waits : List Wait) (low high from to : ℕ) (w : Wait) (more : List Wait) → Over waits low high from to w more
+    → Over waits (low + 1) high from to w more ⊎ ((x : Wait) × (rest : List Wait) × Over waits (low + 1) high low to x rest)
 behind waits low high from to w [] o = inl o
 behind waits low high from to w (x ∷ more) o = elim (behind waits low high w.by.ch to x more o.4) [
   | inl p ↦ elim (cases_lt low w.by.ch) [
@@ -103,7 +106,8 @@ finds_later (Some p) b f = (p, refl)
 finds_both : (a b : Option (List Wait)) → Finds a → Finds b → Finds (joined a b)
 finds_both a b (p, e) (q, f) = (p ++ q, rw (e, f) refl)
 
-pub way_found : (waits : List Wait) (low high from to n : ℕ) (w : Wait) (more : List Wait) → low + n ≡ high → Over waits low high from to w more → Finds (way waits from to low n)
+pub way_found : (waits : List Wait) (low high from to n : ℕ) (w : Wait) (more : List Wait) → low + n ≡ high → Over waits low high from to w more
+    → Finds (way waits from to low n)
 way_found waits low high from to zero w [] m o =
     let f = find_in (λ w. w.ch == from && w.by.ch == to) waits w o.0 (and_from (w.ch == from) (w.by.ch == to) (eq-eqb w.ch from o.1) (eq-eqb w.by.ch to o.2)) in
     (f.0 ∷ [], ap (option_map (λ w. w ∷ [])) f.1)
@@ -142,7 +146,8 @@ abbrev NoneOver : List Wait → ℕ → ℕ → ℕ → ℕ → Type 0
 NoneOver waits low high from to = (w : Wait) (more : List Wait) → Over waits (low + 1) high from to w more → ⊥
 
 -- so ways to `low` and from there on have no channel in common
-apart : (waits : List Wait) (low high from to : ℕ) (w : Wait) (more : List Wait) (z : Wait) (rest : List Wait) → NoneOver waits low high from to → Over waits (low + 1) high from low w more → Over waits (low + 1) high low to z rest → (x y : Wait) → Contains more x → Contains (z ∷ rest) y → x.ch ≢ y.ch
+apart : (waits : List Wait) (low high from to : ℕ) (w : Wait) (more : List Wait) (z : Wait) (rest : List Wait) → NoneOver waits low high from to
+    → Over waits (low + 1) high from low w more → Over waits (low + 1) high low to z rest → (x y : Wait) → Contains more x → Contains (z ∷ rest) y → x.ch ≢ y.ch
 apart waits low high from to w more z rest none o p x y i j same =
     let t = through waits (low + 1) high from low w more o x i in
     elim (in_cases z rest y j) [
@@ -151,7 +156,8 @@ apart waits low high from to w more z rest none o p x y i j same =
           omega (arith, same, here, t.above)
       | inr later ↦
           let u = through waits (low + 1) high low to z rest p y later in
-          let on : Over waits (low + 1) high x.ch to u.from_mid.0 u.from_mid.1 = subst (λ c. Over waits (low + 1) high c to u.from_mid.0 u.from_mid.1) (sym same) u.from_mid.2 in
+          let on : Over waits (low + 1) high x.ch to u.from_mid.0 u.from_mid.1 =
+          subst (λ c. Over waits (low + 1) high c to u.from_mid.0 u.from_mid.1) (sym same) u.from_mid.2 in
           none w (t.to_mid.0 ++ u.from_mid.0 ∷ u.from_mid.1)
           (over_joined waits (low + 1) high from x.ch to w t.to_mid.0 u.from_mid.0 u.from_mid.1 t.to_mid.1 t.above t.below on)
     ]
@@ -162,12 +168,14 @@ above_first waits low high to z rest p = All-from_in (λ (y : Wait). z.ch ≢ y.
     let t = through waits (low + 1) high low to z rest p y i in
     omega (arith, same, over_ch waits (low + 1) high low to z rest p, t.above))
 
-both_over : (waits : List Wait) (low high from to : ℕ) (p q : List Wait) → low < high → NoneOver waits low high from to → IsOver waits (low + 1) high from low p → IsOver waits (low + 1) high low to q → IsOver waits low high from to (p ++ q)
+both_over : (waits : List Wait) (low high from to : ℕ) (p q : List Wait) → low < high → NoneOver waits low high from to → IsOver waits (low + 1) high from low p
+    → IsOver waits (low + 1) high low to q → IsOver waits low high from to (p ++ q)
 both_over waits low high from to p q h none f g = record {
   first = f.first;
   rest = f.rest ++ g.first ∷ g.rest;
   is = ap (λ l. l ++ q) f.is ∙ ap (λ l. (f.first ∷ f.rest) ++ l) g.is;
-  over = over_joined waits low high from low to f.first f.rest g.first g.rest (over_wider waits low high from low f.first f.rest f.over) (omega arith) h (over_wider waits low high low to g.first g.rest g.over);
+  over = over_joined waits low high from low to f.first f.rest g.first g.rest (over_wider waits low high from low f.first f.rest f.over) (omega arith) h
+      (over_wider waits low high low to g.first g.rest g.over);
   once = AllPairs_append (λ (x y : Wait). x.ch ≢ y.ch) f.rest (g.first ∷ g.rest) f.once
       (AllPairs-cons (λ (x y : Wait). x.ch ≢ y.ch) g.first g.rest (above_first waits low high to g.first g.rest g.over) g.once)
       (apart waits low high from to f.first f.rest g.first g.rest none f.over g.over);
@@ -177,19 +185,22 @@ both_over waits low high from to p q h none f g = record {
 abbrev pub Found : List Wait → ℕ → ℕ → ℕ → ℕ → Option (List Wait) → Type 0
 Found waits low high from to o = (path : List Wait) → o ≡ Some path → IsOver waits low high from to path
 
-found_joined : (waits : List Wait) (low high from to : ℕ) (a b : Option (List Wait)) → low < high → NoneOver waits low high from to → Found waits (low + 1) high from low a → Found waits (low + 1) high low to b → Found waits low high from to (joined a b)
+found_joined : (waits : List Wait) (low high from to : ℕ) (a b : Option (List Wait)) → low < high → NoneOver waits low high from to
+    → Found waits (low + 1) high from low a → Found waits (low + 1) high low to b → Found waits low high from to (joined a b)
 found_joined waits low high from to None b h none f g path e = absurd cc
 found_joined waits low high from to (Some p) None h none f g path e = absurd cc
 found_joined waits low high from to (Some p) (Some q) h none f g path e =
     let same : p ++ q ≡ path = cc in
     subst (IsOver waits low high from to) same (both_over waits low high from to p q h none (f p refl) (g q refl))
 
-found_or : (waits : List Wait) (low high from to : ℕ) (a b : Option (List Wait)) → Found waits (low + 1) high from to a → (a ≡ None → Found waits low high from to b) → Found waits low high from to (option_or a b)
+found_or : (waits : List Wait) (low high from to : ℕ) (a b : Option (List Wait)) → Found waits (low + 1) high from to a
+    → (a ≡ None → Found waits low high from to b) → Found waits low high from to (option_or a b)
 found_or waits low high from to None b f g path e = g refl path e
 found_or waits low high from to (Some p) b f g path e =
     let same : p ≡ path = cc in subst (IsOver waits low high from to) same (wider waits low high from to p (f p refl))
 
-one_wait : (waits : List Wait) (low high from to : ℕ) (x : Option Wait) → wait_between waits from to ≡ x → Found waits low high from to (option_map (λ w. w ∷ []) x)
+one_wait : (waits : List Wait) (low high from to : ℕ) (x : Option Wait) → wait_between waits from to ≡ x
+    → Found waits low high from to (option_map (λ w. w ∷ []) x)
 one_wait waits low high from to None is path e = absurd cc
 one_wait waits low high from to (Some w) is path e =
     let f = in_find (λ w. w.ch == from && w.by.ch == to) waits w is in
@@ -207,7 +218,8 @@ way_is waits low high from to (suc n) m path e =
     absurd cc
     in
     found_or waits low high from to _ _ (way_is waits (low + 1) high from to n next)
-    (λ no. found_joined waits low high from to _ _ (omega (arith, m)) (none no) (way_is waits (low + 1) high from low n next) (way_is waits (low + 1) high low to n next))
+    (λ no. found_joined waits low high from to _ _ (omega (arith, m)) (none no) (way_is waits (low + 1) high from low n next)
+    (way_is waits (low + 1) high low to n next))
     path e
 
 -- ---- circles
@@ -221,17 +233,24 @@ over_way : (waits : List Wait) (low high from to : ℕ) (w : Wait) (more : List 
 over_way waits low high from to w [] o = (o.1, o.2)
 over_way waits low high from to w (x ∷ more) o = (o.1, over_way waits low high w.by.ch to x more o.4)
 
-over_above : (waits : List Wait) (first high from to : ℕ) (w : Wait) (more : List Wait) → Over waits (first + 1) high from to w more → All (λ x. first < x.ch) more
+over_above : (waits : List Wait) (first high from to : ℕ) (w : Wait) (more : List Wait) → Over waits (first + 1) high from to w more
+    → All (λ x. first < x.ch) more
 over_above waits first high from to w [] o = All-nil (λ x. first < x.ch)
 over_above waits first high from to w (x ∷ more) o =
     let here = over_ch waits (first + 1) high w.by.ch to x more o.4 in
     All-cons (λ x. first < x.ch) x more (omega (arith, here, o.2)) (over_above waits first high w.by.ch to x more o.4)
 
-pub circle_over : (waits : List Wait) (first high : ℕ) (w : Wait) (more : List Wait) → Over waits (first + 1) high first first w more → IsCircle waits first (w ∷ more)
-circle_over waits first high w more o =
-    (over_among waits (first + 1) high first first w more o, over_way waits (first + 1) high first first w more o, over_above waits first high first first w more o)
+pub circle_over : (waits : List Wait) (first high : ℕ) (w : Wait) (more : List Wait) → Over waits (first + 1) high first first w more
+    → IsCircle waits first (w ∷ more)
+circle_over waits first high w more o = (
+  over_among waits (first + 1) high first first w more o,
+  over_way waits (first + 1) high first first w more o,
+  over_above waits first high first first w
+      more o,
+)
 
-pub way_over : (waits : List Wait) (first high from to : ℕ) (w : Wait) (more : List Wait) → All (λ x. x.ch < high) waits → All (Contains waits) (w ∷ more) → IsWay from to (w ∷ more) → All (λ x. first < x.ch) more → Over waits (first + 1) high from to w more
+pub way_over : (waits : List Wait) (first high from to : ℕ) (w : Wait) (more : List Wait) → All (λ x. x.ch < high) waits → All (Contains waits) (w ∷ more)
+    → IsWay from to (w ∷ more) → All (λ x. first < x.ch) more → Over waits (first + 1) high from to w more
 way_over waits first high from to w [] few among is above = (All-head (Contains waits) w [] among, is.0, is.1)
 way_over waits first high from to w (x ∷ more) few among is above =
     let rest = All-tail (Contains waits) w (x ∷ more) among in
@@ -246,7 +265,8 @@ way_over waits first high from to w (x ∷ more) few among is above =
 
 -- ---- a circle is named exactly if there is one
 
-pub circle_is : (waits : List Wait) (many first : ℕ) (circle : List Wait) → circle_from waits many first ≡ Some circle → IsCircle waits first circle × AreOnce circle
+pub circle_is : (waits : List Wait) (many first : ℕ) (circle : List Wait) → circle_from waits many first ≡ Some circle → IsCircle waits first circle
+    × AreOnce circle
 circle_is waits many first circle e =
     let high = first + 1 + (many - (first + 1)) in
     let f = way_is waits (first + 1) high first first (many - (first + 1)) refl circle e in
@@ -255,9 +275,13 @@ circle_is waits many first circle e =
       AllPairs-cons (λ (x y : Wait). x.ch ≢ y.ch) f.first f.rest (above_first waits first high first f.first f.rest f.over) f.once,
     )
 
-pub circle_found : (waits : List Wait) (many first : ℕ) (circle : List Wait) → All (λ x. x.ch < many) waits → IsCircle waits first circle → (first < many) × Finds (circle_from waits many first)
+pub circle_found : (waits : List Wait) (many first : ℕ) (circle : List Wait) → All (λ x. x.ch < many) waits → IsCircle waits first circle → (first < many)
+    × Finds (circle_from waits many first)
 circle_found waits many first [] few is = absurd is
 circle_found waits many first (w ∷ more) few is =
     let here = All-contains (λ x. x.ch < many) waits w few (All-head (Contains waits) w more is.0) in
-    let less : first < many = omega (arith, is.1.0, here) in
-    (less, way_found waits (first + 1) many first first (many - (first + 1)) w more (omega (arith, less)) (way_over waits first many first first w more few is.0 is.1 is.2))
+    let less : first < many = omega (arith, is.1.0, here) in (
+      less,
+      way_found waits (first + 1) many first first (many - (first + 1)) w more (omega (arith, less))
+          (way_over waits first many first first w more few is.0 is.1 is.2),
+    )

@@ -1,7 +1,6 @@
 -- What a list made of another contains.
 use Rattle.std.proofs.Common.{◌≡◌, zero, suc, List, [], ◌∷◌, map, Option, Some, None, Bool, true, false, refl, ap, sym, ◌∙◌, subst, arith, inl, inr, ◌⊎◌}
-use Rattle.std.specs.Prelude.{find}
-use Rattle.std.specs.List.{All, Contains, cons_option, filter, filter_map, flat_map}
+use Rattle.std.specs.{Prelude.find, List.All, List.Contains, List.cons_option, List.filter, List.filter_map, List.flat_map}
 use Rattle.std.proofs.lemmas.Bool.{cases_Bool}
 use Rattle.std.proofs.lemmas.List.Elements.{Contains-append_cases, Contains-append_left, Contains-append_right, Contains-get_or}
 

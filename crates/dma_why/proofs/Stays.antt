@@ -1,35 +1,23 @@
 -- No step moves a channel of a circle.
 use Rattle.std.proofs.Common.{◌≡◌, ◌≢◌, ℕ, ◌<◌, List, [], ◌∷◌, length, map, Option, Some, None, Bool, true, false, refl, ap, sym, ◌∙◌, subst, inl, inr, ◌⊎◌}
-use Rattle.std.specs.Prelude.{◌==◌, find, nat_le, not, Err}
-use Rattle.std.specs.List.{Contains}
+use Rattle.std.specs.{Prelude.◌==◌, Prelude.find, Prelude.nat_le, Prelude.not, Prelude.Err, List.Contains}
 use Rattle.std.proofs.lemmas.Bool.{cases_eq, cases_lt, cond_both, eqb-false, eqb-true, le-leb, lt-leb, true≢false}
 use Rattle.std.proofs.lemmas.List.Elements.{All-contains}
 use Rattle.dma_insn.specs.declared.chip.ChipInsn.TheVariants.{Wfe}
-use Rattle.dma_mem.specs.Places.{Descriptor, is_free_of}
-use Rattle.dma_mem.specs.declared.call.Call.TheVariants.{Step}
+use Rattle.dma_mem.specs.{Places.Descriptor, Places.is_free_of, declared.call.Call.TheVariants.Step}
 use Rattle.dma_chan.specs.Traffic.{member}
-use Rattle.dma_engine.specs.declared.call.Reply.{Reply}
-use Rattle.dma_engine.specs.declared.fault.EngineFault.TheVariants.{StepsSpent}
-use Rattle.dma_engine.specs.Answer.{AreAnswers, CallAnswers}
 use Rattle.dma_engine.specs.Object.{ChannelState, Object, channel, is_set, issued_front}
-use Rattle.dma_engine.specs.Room.{IsIdle}
 use Rattle.dma_engine.specs.Turn.{Stepped, first_conflicting, insn_turn, last_step, start_turn, turn}
 use Rattle.dma_engine.specs.View.{ChannelSchedule, IsSound, RunningTransfer, View, channels, object_of, running_in, runs, schedule_at}
-use Rattle.dma_engine.proofs.IdleSteps.{idle_steps_stay}
-use Rattle.dma_engine.proofs.Queues.{front_issued}
-use Rattle.dma_engine.proofs.StaysSound.{answers_stay_sound}
-use Rattle.dma_engine.proofs.Turns.{answer_is}
+use Rattle.dma_engine.specs.{declared.call.Reply.Reply, declared.fault.EngineFault.TheVariants.StepsSpent, Answer.AreAnswers, Answer.CallAnswers, Room.IsIdle}
 use Rattle.dma_engine.proofs.WhatRuns.{All_find, find_none_at}
+use Rattle.dma_engine.proofs.{IdleSteps.idle_steps_stay, Queues.front_issued, StaysSound.answers_stay_sound, Turns.answer_is}
 use Rattle.dma_commands.specs.Left.{view_after}
 use Rattle.dma_commands.proofs.ScriptsSound.{scripts_leave_sound}
-use Rattle.dma_why.specs.declared.waits.Wait.{Wait}
-use Rattle.dma_why.specs.Circles.{IsCircle, IsWay}
-use Rattle.dma_why.specs.Laws.{CirclesStay, CirclesStayAfter, IsStill}
-use Rattle.dma_why.specs.Waits.{waits_of}
+use Rattle.dma_why.specs.{declared.waits.Wait.Wait, Circles.IsCircle, Circles.IsWay, Laws.CirclesStay, Laws.CirclesStayAfter, Laws.IsStill, Waits.waits_of}
 use Rattle.dma_why.proofs.Members.{All-from_in, in_cases, in_find, in_first, in_none, in_rest}
-use Rattle.dma_why.proofs.StepChanges.{LeavesView, step_leaves}
-use Rattle.dma_why.proofs.TurnParts.{front_turned, held_front, waiting_front}
 use Rattle.dma_why.proofs.ViewWaits.{AwaitsEvent, IsHeld, WouldBy, holder_holds, wait_says, would_signaller}
+use Rattle.dma_why.proofs.{StepChanges.LeavesView, StepChanges.step_leaves, TurnParts.front_turned, TurnParts.held_front, TurnParts.waiting_front}
 
 -- ---- a channel that can't move before another does
 
@@ -124,7 +112,8 @@ stuck_idle v ch by less there (inl h) =
 stuck_idle v ch by less there (inr h) =
     let here : nat_le (channels v) ch ≡ false = lt-leb _ _ less in
     rw (here, h.goes, h.active, h.issued, h.runs)
-    (cond_both {A = Stepped} (v.steps == last_step) (Err StepsSpent, v) (insn_turn v ch h.transfer h.taken (member h.transfer h.taken)) (λ x. IsIdle x.0) (λ _. tt) (λ _. rw (h.next, h.clear) tt))
+    (cond_both {A = Stepped} (v.steps == last_step) (Err StepsSpent, v) (insn_turn v ch h.transfer h.taken (member h.transfer h.taken)) (λ x. IsIdle x.0)
+    (λ _. tt) (λ _. rw (h.next, h.clear) tt))
 
 -- ---- and it stays so when a third channel steps
 
@@ -132,14 +121,16 @@ stuck_still : (v w : View) (at ch by : ℕ) → at < channels v → LeavesView v
 stuck_still v w at ch by there l other third (inl h) =
     let c = l.object.others ch other in
     let s = l.schedules ch other in
-    let r : runs (object_of w) w.schedule by ≡ runs (object_of v) v.schedule by = ap (λ x. running_in by x (schedule_at w by).taken) (l.object.others by third) ∙ ap (λ (x : ChannelSchedule). running_in by (channel (object_of v) by) x.taken) (l.schedules by third) in
+    let r : runs (object_of w) w.schedule by ≡ runs (object_of v) v.schedule by = ap (λ x. running_in by x (schedule_at w by).taken) (l.object.others by third)
+    ∙ ap (λ (x : ChannelSchedule). running_in by (channel (object_of v) by) x.taken) (l.schedules by third) in
     inl (rw (c, s, r) h)
 stuck_still v w at ch by there l other third (inr h) =
     let c = l.object.others ch other in
     let s = l.schedules ch other in
     let before : (d number : ℕ) → WouldBy (channel (object_of w) d) h.event number → WouldBy (channel (object_of v) d) h.event number = λ d number would.
     elim (cases_eq d at) [
-      | inl same ↦ subst (λ k. WouldBy (channel (object_of v) k) h.event number) (sym same) (l.object.fewer h.event number (subst (λ k. WouldBy (channel (object_of w) k) h.event number) same would))
+      | inl same ↦ subst (λ k. WouldBy (channel (object_of v) k) h.event number) (sym same)
+          (l.object.fewer h.event number (subst (λ k. WouldBy (channel (object_of w) k) h.event number) same would))
       | inr differs ↦ subst (λ x. WouldBy x h.event number) (l.object.others d differs) would
     ] in
     inr (record {
@@ -165,7 +156,8 @@ record IsRing (circle : List Wait) : Type 0 where
 abbrev AreStuck : View → List Wait → Type 0
 AreStuck v circle = (x : Wait) → Contains circle x → (x.ch < channels v) × IsStuck v x.ch x.by.ch
 
-way_goes_on : (from to : ℕ) (path : List Wait) → IsWay from to path → (x : Wait) → Contains path x → ((y : Wait) × Contains path y × (y.ch ≡ x.by.ch)) ⊎ (x.by.ch ≡ to)
+way_goes_on : (from to : ℕ) (path : List Wait) → IsWay from to path → (x : Wait) → Contains path x → ((y : Wait) × Contains path y × (y.ch ≡ x.by.ch))
+    ⊎ (x.by.ch ≡ to)
 way_goes_on from to [] is x i = absurd (in_none x i)
 way_goes_on from to (w ∷ []) is x i = elim (in_cases w [] x i) [
   | inl same ↦ inr (ap (λ (y : Wait). y.by.ch) (sym same) ∙ is.1)
@@ -236,13 +228,15 @@ step_stays v at circle sound r h = by (find (λ x. x.ch == at) circle) refl wher
 stays_on : (u v w : View) (circle : List Wait) → Stays u v circle → Stays v w circle → Stays u w circle
 stays_on u v w circle a b = (b.0, λ x i. ((b.1 x i).0 ∙ (a.1 x i).0, (b.1 x i).1 ∙ (a.1 x i).1))
 
-answer_stays : (v w : View) (at : ℕ) (reply : Reply) (circle : List Wait) → IsSound v → IsRing circle → AreStuck v circle → CallAnswers v (Step at) reply w → Stays v w circle
+answer_stays : (v w : View) (at : ℕ) (reply : Reply) (circle : List Wait) → IsSound v → IsRing circle → AreStuck v circle → CallAnswers v (Step at) reply w
+    → Stays v w circle
 answer_stays v w at reply circle sound r h a = elim (answer_is v w (Step at) reply a) [
   | inl none ↦ stays_same v w circle none.1 h
   | inr is ↦ subst (λ u. Stays v u circle) (sym (ap (λ (y : Reply × View). y.1) is)) (step_stays v at circle sound r h)
 ]
 
-steps_stay : (circle : List Wait) → IsRing circle → (steps : List ℕ) (replies : List Reply) (v w : View) → IsSound v → AreStuck v circle → AreAnswers v (map Step steps) replies w → Stays v w circle
+steps_stay : (circle : List Wait) → IsRing circle → (steps : List ℕ) (replies : List Reply) (v w : View) → IsSound v → AreStuck v circle
+    → AreAnswers v (map Step steps) replies w → Stays v w circle
 steps_stay circle r [] [] v w sound h a = stays_same v w circle a h
 steps_stay circle r [] (reply ∷ replies) v w sound h a = absurd a
 steps_stay circle r (at ∷ steps) [] v w sound h a = absurd a

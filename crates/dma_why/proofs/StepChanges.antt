@@ -1,23 +1,18 @@
 -- What a step of one channel changes for the others: nothing of their states, no flag that it doesn't signal, and it
 -- adds no cookie that would signal.
-use Rattle.std.proofs.Common.{◌≡◌, ◌≢◌, ℕ, ◌+◌, ◌-◌, ◌<◌, List, [], ◌∷◌, ◌++◌, length, Some, Bool, true, false, refl, ap, sym, ◌∙◌, subst, arith, inl, inr, ◌⊎◌, length-append}
+use Rattle.std.proofs.Common.{◌≡◌, ◌≢◌, ℕ, ◌+◌, ◌-◌, ◌<◌, List, [], ◌∷◌, ◌++◌, length, Some, Bool, true, false, refl, ap, sym, ◌∙◌, subst, arith, inl, inr, ◌⊎◌}
+use Rattle.std.proofs.Common.{length-append}
 use Rattle.std.specs.Prelude.{◌==◌, ◌&&◌, ◌||◌, nat_le, not, slice_index_or, slice_set}
 use Rattle.std.proofs.lemmas.Bool.{and_parts, and_right, cases_eq, cases_lt, eq-eqb, lt-leb, ne_eqb, not-true, or_parts}
 use Rattle.std.proofs.lemmas.List.{get_or-set_other, get_or-set_same, get_or_past, length-set}
 use Rattle.dma_mem.specs.Places.{Descriptor}
-use Rattle.dma_engine.specs.declared.entry.Entry.{Entry}
 use Rattle.dma_engine.specs.declared.entry.Entry.TheVariants.{Finished, Passed, Signalled}
-use Rattle.dma_engine.specs.declared.entry.Signaller.TheVariants.{Channel}
-use Rattle.dma_engine.specs.declared.outcome.TransResult.{TransResult}
 use Rattle.dma_engine.specs.declared.outcome.TransResult.TheVariants.{Aborted, NoError, ReadFailed, WriteFailed}
-use Rattle.dma_engine.specs.History.{IsLegal, object_after}
 use Rattle.dma_engine.specs.Object.{Allows, ChannelState, Object, after, channel, empty_channel, finished, front, is_set, used, with_outcome}
-use Rattle.dma_engine.specs.Turn.{Stepped, turn}
 use Rattle.dma_engine.specs.View.{ChannelSchedule, IsSound, View, idle, object_of, schedule_at}
-use Rattle.dma_engine.proofs.Histories.{object_after_append}
-use Rattle.dma_engine.proofs.Queues.{front_where}
-use Rattle.dma_engine.proofs.StaysSound.{stepped_sound}
-use Rattle.dma_engine.proofs.Turns.{turn_cases}
+use Rattle.dma_engine.specs.{declared.entry.Entry.Entry, declared.entry.Signaller.TheVariants.Channel, declared.outcome.TransResult.TransResult}
+use Rattle.dma_engine.specs.{History.IsLegal, History.object_after, Turn.Stepped, Turn.turn}
+use Rattle.dma_engine.proofs.{Histories.object_after_append, Queues.front_where, StaysSound.stepped_sound, Turns.turn_cases}
 use Rattle.dma_why.specs.Waits.{signals}
 use Rattle.dma_why.proofs.ViewWaits.{WouldBy, transfer_in}
 
@@ -47,7 +42,8 @@ would_signalled c event number not_yet h =
     let goes = or_parts c.halted (number == finished c + 1) (not-true _ parts.0) in
     (h.0, h.1, rw (goes.0, not_yet) parts.1)
 
-would_finished : (c : ChannelState) (how : TransResult) (done event number : ℕ) → c.halted ≡ false → WouldBy (with_outcome c how done) event number → WouldBy c event number
+would_finished : (c : ChannelState) (how : TransResult) (done event number : ℕ) → c.halted ≡ false → WouldBy (with_outcome c how done) event number
+    → WouldBy c event number
 would_finished c how done event number goes h =
     let d = with_outcome c how done in
     let more : length d.outcomes ≡ length c.outcomes + 1 = length-append c.outcomes _ in
@@ -58,7 +54,8 @@ would_finished c how done event number goes h =
     (omega (arith, above), omega (arith, h.0, h.1, more), rw (goes, rest) later.1)
 
 -- a front that signals an event would signal it
-front_would : (c : ChannelState) (event : ℕ) (t : Descriptor) → c.halted ≡ false → c.signalled ≡ false → front c ≡ Some t → finished c < used c → t.signal ≡ Some event → WouldBy c event (finished c + 1)
+front_would : (c : ChannelState) (event : ℕ) (t : Descriptor) → c.halted ≡ false → c.signalled ≡ false → front c ≡ Some t → finished c < used c
+    → t.signal ≡ Some event → WouldBy c event (finished c + 1)
 front_would c event t goes not_yet is within signals_it =
     let here : nat_le (finished c + 1) c.forgotten ≡ false = lt-leb _ _ (omega arith) in
     let place : finished c + 1 - c.forgotten - 1 ≡ length c.outcomes = omega arith in
@@ -85,7 +82,8 @@ leaves_passed o ch event less =
       clear = λ e clear. inl (flag_cleared o.events event e clear);
     }
 
-leaves_signalled : (o : Object) (ch event : ℕ) → ch < length o.channels → Allows o (Signalled (Channel ch) event) → Leaves o (after o (Signalled (Channel ch) event)) ch
+leaves_signalled : (o : Object) (ch event : ℕ) → ch < length o.channels → Allows o (Signalled (Channel ch) event)
+    → Leaves o (after o (Signalled (Channel ch) event)) ch
 leaves_signalled o ch event less may =
     let c = channel o ch in
     let d : ChannelState = record c { signalled = true } in
@@ -101,7 +99,8 @@ leaves_signalled o ch event less may =
       ];
     }
 
-leaves_finished : (o : Object) (ch : ℕ) (how : TransResult) (done : ℕ) → ch < length o.channels → (channel o ch).halted ≡ false → Leaves o (after o (Finished ch how done)) ch
+leaves_finished : (o : Object) (ch : ℕ) (how : TransResult) (done : ℕ) → ch < length o.channels → (channel o ch).halted ≡ false
+    → Leaves o (after o (Finished ch how done)) ch
 leaves_finished o ch how done less goes =
     let c = channel o ch in
     let d = with_outcome c how done in
@@ -118,7 +117,8 @@ leaves_finished o ch how done less goes =
 leaves_all : (o : Object) (ch : ℕ) → Leaves o o ch
 leaves_all o ch = record { many = refl; others = λ d g. refl; fewer = λ e n h. h; clear = λ e clear. inl clear }
 
-leaves_scheduled : (v : View) (ch : ℕ) (x : ChannelSchedule) (history : List Entry) (steps : ℕ) → Leaves (object_of v) (object_after v.base history) ch → LeavesView v (record { base = v.base; history = history; steps = steps; schedule = slice_set v.schedule ch x }) ch
+leaves_scheduled : (v : View) (ch : ℕ) (x : ChannelSchedule) (history : List Entry) (steps : ℕ) → Leaves (object_of v) (object_after v.base history) ch
+    → LeavesView v (record { base = v.base; history = history; steps = steps; schedule = slice_set v.schedule ch x }) ch
 leaves_scheduled v ch x history steps l = record { object = l; schedules = λ d g. get_or-set_other v.schedule ch d x idle g }
 
 -- the last entry of a legal history is allowed
@@ -126,7 +126,8 @@ last_allowed : (o : Object) (h : List Entry) (e : Entry) → IsLegal o (h ++ e �
 last_allowed o [] e l = l.0
 last_allowed o (x ∷ xs) e l = last_allowed (after o x) xs e l.1
 
-leaves_entered : (v : View) (ch : ℕ) (x : ChannelSchedule) (e : Entry) (steps : ℕ) → Leaves (object_of v) (after (object_of v) e) ch → LeavesView v (record { base = v.base; history = v.history ++ e ∷ []; steps = steps; schedule = slice_set v.schedule ch x }) ch
+leaves_entered : (v : View) (ch : ℕ) (x : ChannelSchedule) (e : Entry) (steps : ℕ) → Leaves (object_of v) (after (object_of v) e) ch
+    → LeavesView v (record { base = v.base; history = v.history ++ e ∷ []; steps = steps; schedule = slice_set v.schedule ch x }) ch
 leaves_entered v ch x e steps l =
     leaves_scheduled v ch x (v.history ++ e ∷ []) steps (subst (λ p. Leaves (object_of v) p ch) (sym (object_after_append v.base v.history (e ∷ []))) l)
 
@@ -148,6 +149,8 @@ step_leaves v ch sound =
       starts = λ less none s. leaves_scheduled v ch _ v.history v.steps (leaves_all o ch);
       moves = λ less n s. leaves_scheduled v ch _ v.history (v.steps + 1) (leaves_all o ch);
       passes = λ less n event s. leaves_entered v ch _ (Passed ch event) (v.steps + 1) (leaves_passed o ch event less);
-      signals = λ less n event s. leaves_entered v ch _ (Signalled (Channel ch) event) (v.steps + 1) (leaves_signalled o ch event less (last_allowed v.base v.history _ s.legal));
-      ends = λ less n t how s. leaves_entered v ch _ (Finished ch how _) (v.steps + 1) (leaves_finished o ch how _ less (may_finish o ch how _ (last_allowed v.base v.history _ s.legal)));
+      signals = λ less n event s. leaves_entered v ch _ (Signalled (Channel ch) event) (v.steps + 1)
+          (leaves_signalled o ch event less (last_allowed v.base v.history _ s.legal));
+      ends = λ less n t how s. leaves_entered v ch _ (Finished ch how _) (v.steps + 1)
+          (leaves_finished o ch how _ less (may_finish o ch how _ (last_allowed v.base v.history _ s.legal)));
     }) (stepped_sound v ch (turn v ch) sound refl)

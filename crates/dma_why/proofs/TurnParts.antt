@@ -4,17 +4,13 @@ use Rattle.std.specs.Prelude.{◌==◌, if◌then◌else◌, nat_le, Result, Ok,
 use Rattle.std.proofs.lemmas.Bool.{cond_both, leb-false}
 use Rattle.dma_insn.specs.declared.chip.ChipInsn.{ChipInsn}
 use Rattle.dma_insn.specs.declared.chip.ChipInsn.TheVariants.{Ld, St, Wfe}
-use Rattle.dma_mem.specs.Places.{Descriptor}
-use Rattle.dma_mem.specs.Marking.{meets_mark}
-use Rattle.dma_mem.specs.declared.marks.MarkKind.TheVariants.{Reading, Writing}
+use Rattle.dma_mem.specs.{Places.Descriptor, Marking.meets_mark, declared.marks.MarkKind.TheVariants.Reading, declared.marks.MarkKind.TheVariants.Writing}
 use Rattle.dma_chan.specs.Traffic.{member, read_places, written_places}
-use Rattle.dma_engine.specs.declared.fault.EngineFault.{EngineFault}
-use Rattle.dma_engine.specs.declared.fault.EngineFault.TheVariants.{NoChannel, StepsSpent}
-use Rattle.dma_engine.specs.declared.turn.Turn.{Turn}
 use Rattle.dma_engine.specs.declared.turn.Turn.TheVariants.{Halted, Held, Paused, Waiting}
-use Rattle.dma_engine.specs.Object.{channel, is_set, issued_front}
 use Rattle.dma_engine.specs.Turn.{Stepped, first_conflicting, front_turn, insn_turn, last_step, start_turn, turn}
 use Rattle.dma_engine.specs.View.{RunningTransfer, View, channels, object_of, schedule_at}
+use Rattle.dma_engine.specs.{declared.fault.EngineFault.EngineFault, declared.fault.EngineFault.TheVariants.NoChannel}
+use Rattle.dma_engine.specs.{declared.fault.EngineFault.TheVariants.StepsSpent, declared.turn.Turn.Turn, Object.channel, Object.is_set, Object.issued_front}
 
 -- ---- the first tests
 
@@ -25,7 +21,8 @@ pub record IsFrontTurn (v : View) (ch : ℕ) (r : Result Turn EngineFault) : Typ
   pub active : (schedule_at v ch).paused ≡ false
   pub turned : (front_turn v ch (issued_front (channel (object_of v) ch)) (schedule_at v ch).taken).0 ≡ r
 
-pub front_turned : (v : View) (ch : ℕ) (r : Result Turn EngineFault) → (turn v ch).0 ≡ r → (Err NoChannel ≡ r → ⊥) → (Ok Halted ≡ r → ⊥) → (Ok Paused ≡ r → ⊥) → IsFrontTurn v ch r
+pub front_turned : (v : View) (ch : ℕ) (r : Result Turn EngineFault) → (turn v ch).0 ≡ r → (Err NoChannel ≡ r → ⊥) → (Ok Halted ≡ r → ⊥) → (Ok Paused ≡ r → ⊥)
+    → IsFrontTurn v ch r
 front_turned v ch r is not_none not_halted not_paused =
     let c = channel (object_of v) ch in
     let s = schedule_at v ch in
@@ -43,14 +40,17 @@ front_turned v ch r is not_none not_halted not_paused =
 
 insn_not_held : (v : View) (ch n : ℕ) (t : Descriptor) (i : ChipInsn) (other cookie : ℕ) → (insn_turn v ch t n i).0 ≡ Ok (Held other cookie) → ⊥
 insn_not_held v ch n t Ld other cookie =
-    cond_both {A = Stepped} (meets_mark Reading (object_of v).marks (read_places t n)) _ _ (λ x. x.0 ≡ Ok (Held other cookie) → ⊥) (λ _ e. absurd cc) (λ _ e. absurd cc)
+    cond_both {A = Stepped} (meets_mark Reading (object_of v).marks (read_places t n)) _ _ (λ x. x.0 ≡ Ok (Held other cookie) → ⊥) (λ _ e. absurd cc)
+    (λ _ e. absurd cc)
 insn_not_held v ch n t St other cookie =
-    cond_both {A = Stepped} (meets_mark Writing (object_of v).marks (written_places t n)) _ _ (λ x. x.0 ≡ Ok (Held other cookie) → ⊥) (λ _ e. absurd cc) (λ _ e. absurd cc)
+    cond_both {A = Stepped} (meets_mark Writing (object_of v).marks (written_places t n)) _ _ (λ x. x.0 ≡ Ok (Held other cookie) → ⊥) (λ _ e. absurd cc)
+    (λ _ e. absurd cc)
 insn_not_held v ch n t (Wfe event invalid) other cookie =
     cond_both {A = Stepped} (is_set (object_of v) event) _ (Ok (Waiting event), v) (λ x. x.0 ≡ Ok (Held other cookie) → ⊥) (λ _ e. absurd cc) (λ _ e. absurd cc)
 insn_not_held v ch n t i other cookie = λ e. absurd cc
 
-pub held_front : (v : View) (ch : ℕ) (x : Option Descriptor) (taken : Option ℕ) (other cookie : ℕ) → (front_turn v ch x taken).0 ≡ Ok (Held other cookie) → (t : Descriptor) × (x ≡ Some t) × (taken ≡ None)
+pub held_front : (v : View) (ch : ℕ) (x : Option Descriptor) (taken : Option ℕ) (other cookie : ℕ) → (front_turn v ch x taken).0 ≡ Ok (Held other cookie)
+    → (t : Descriptor) × (x ≡ Some t) × (taken ≡ None)
 held_front v ch None taken other cookie e = absurd cc
 held_front v ch (Some t) None other cookie e = (t, refl, refl)
 held_front v ch (Some t) (Some n) other cookie e =
@@ -69,17 +69,22 @@ Waits v event i = (invalid : Bool) × (i ≡ Wfe event invalid) × (is_set (obje
 
 insn_waits : (v : View) (ch n event : ℕ) (t : Descriptor) (i : ChipInsn) → (insn_turn v ch t n i).0 ≡ Ok (Waiting event) → Waits v event i
 insn_waits v ch n event t Ld =
-    cond_both {A = Stepped} (meets_mark Reading (object_of v).marks (read_places t n)) _ _ (λ x. x.0 ≡ Ok (Waiting event) → Waits v event Ld) (λ _ e. absurd cc) (λ _ e. absurd cc)
+    cond_both {A = Stepped} (meets_mark Reading (object_of v).marks (read_places t n)) _ _ (λ x. x.0 ≡ Ok (Waiting event) → Waits v event Ld) (λ _ e. absurd cc)
+    (λ _ e. absurd cc)
 insn_waits v ch n event t St =
-    cond_both {A = Stepped} (meets_mark Writing (object_of v).marks (written_places t n)) _ _ (λ x. x.0 ≡ Ok (Waiting event) → Waits v event St) (λ _ e. absurd cc) (λ _ e. absurd cc)
+    cond_both {A = Stepped} (meets_mark Writing (object_of v).marks (written_places t n)) _ _ (λ x. x.0 ≡ Ok (Waiting event) → Waits v event St)
+    (λ _ e. absurd cc) (λ _ e. absurd cc)
 insn_waits v ch n event t (Wfe other invalid) =
-    cond_both {A = Stepped} (is_set (object_of v) other) _ (Ok (Waiting other), v) (λ x. x.0 ≡ Ok (Waiting event) → Waits v event (Wfe other invalid)) (λ _ e. absurd cc)
+    cond_both {A = Stepped} (is_set (object_of v) other) _ (Ok (Waiting other), v) (λ x. x.0 ≡ Ok (Waiting event) → Waits v event (Wfe other invalid))
+    (λ _ e. absurd cc)
     (λ clear e. let same : other ≡ event = cc in (invalid, ap (λ k. Wfe k invalid) same, ap (is_set (object_of v)) (sym same) ∙ clear))
 insn_waits v ch n event t i = λ e. absurd cc
 
-pub waiting_front : (v : View) (ch event : ℕ) (x : Option Descriptor) (taken : Option ℕ) → (front_turn v ch x taken).0 ≡ Ok (Waiting event) → (t : Descriptor) × (n : ℕ) × (x ≡ Some t) × (taken ≡ Some n) × Waits v event (member t n)
+pub waiting_front : (v : View) (ch event : ℕ) (x : Option Descriptor) (taken : Option ℕ) → (front_turn v ch x taken).0 ≡ Ok (Waiting event) → (t : Descriptor)
+    × (n : ℕ) × (x ≡ Some t) × (taken ≡ Some n) × Waits v event (member t n)
 waiting_front v ch event None taken e = absurd cc
 waiting_front v ch event (Some t) None e = absurd (start_not_waiting v ch event (first_conflicting v t) e)
 waiting_front v ch event (Some t) (Some n) e =
-    cond_both {A = Stepped} (v.steps == last_step) (Err StepsSpent, v) (insn_turn v ch t n (member t n)) (λ x. x.0 ≡ Ok (Waiting event) → (u : Descriptor) × (m : ℕ) × (Some t ≡ Some u) × (Some n ≡ Some m) × Waits v event (member u m))
+    cond_both {A = Stepped} (v.steps == last_step) (Err StepsSpent, v) (insn_turn v ch t n (member t n))
+    (λ x. x.0 ≡ Ok (Waiting event) → (u : Descriptor) × (m : ℕ) × (Some t ≡ Some u) × (Some n ≡ Some m) × Waits v event (member u m))
     (λ _ f. absurd cc) (λ _ f. (t, n, refl, refl, insn_waits v ch n event t (member t n) f)) e

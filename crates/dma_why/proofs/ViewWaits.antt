@@ -1,22 +1,17 @@
 -- What each wait of a view says.
-use Rattle.std.proofs.Common.{◌≡◌, ℕ, ◌+◌, ◌<◌, ◌≤◌, List, [], ◌∷◌, length, map, Option, Some, None, Bool, true, false, refl, ap, sym, ◌∙◌, subst, arith, inl, inr, ◌⊎◌}
+use Rattle.std.proofs.Common.{◌≡◌, ℕ, ◌+◌, ◌<◌, ◌≤◌, List, [], ◌∷◌, length, map, Option, Some, None, Bool, true, false, refl, ap, sym, ◌∙◌, subst, arith, inl}
+use Rattle.std.proofs.Common.{inr, ◌⊎◌}
 use Rattle.std.specs.Prelude.{◌==◌, ◌-◌, ◌&&◌, ◌||◌, cond, if◌then◌else◌, nat_le, not, slice_get, Result, Ok}
-use Rattle.std.specs.List.{All, Contains, filter, list_all, range_with_len}
-use Rattle.std.specs.Option.{option_map}
-use Rattle.std.proofs.lemmas.Bool.{eqb-true}
-use Rattle.std.proofs.lemmas.List.Elements.{All-contains}
-use Rattle.std.proofs.lemmas.List.Sums.{AllPass-from_list_all}
+use Rattle.std.specs.{List.All, List.Contains, List.filter, List.list_all, List.range_with_len, Option.option_map}
+use Rattle.std.proofs.{lemmas.Bool.eqb-true, lemmas.List.Elements.All-contains, lemmas.List.Sums.AllPass-from_list_all}
 use Rattle.dma_mem.specs.Places.{Descriptor, is_free_of}
 use Rattle.dma_mem.proofs.SharedPlaces.{in_range, range_in}
-use Rattle.dma_engine.specs.declared.fault.EngineFault.{EngineFault}
-use Rattle.dma_engine.specs.declared.turn.Turn.{Turn}
 use Rattle.dma_engine.specs.declared.turn.Turn.TheVariants.{Held, Waiting}
 use Rattle.dma_engine.specs.Object.{ChannelState, Object, channel, finished, front, unfinished}
-use Rattle.dma_engine.specs.Turn.{turn}
 use Rattle.dma_engine.specs.View.{RunningTransfer, View, channels, object_of, running, running_in, runs, schedule_at}
-use Rattle.dma_why.specs.declared.waits.Cookie.{Cookie}
-use Rattle.dma_why.specs.declared.waits.Wait.{Wait}
+use Rattle.dma_engine.specs.{declared.fault.EngineFault.EngineFault, declared.turn.Turn.Turn, Turn.turn}
 use Rattle.dma_why.specs.Waits.{event_wait, holder, holders, holders_of, signallers, signallers_on, signals, signals_later, waits_by, waits_of, waits_on}
+use Rattle.dma_why.specs.{declared.waits.Cookie.Cookie, declared.waits.Wait.Wait}
 use Rattle.dma_why.proofs.Members.{All-from_in, filter_in, flat_map_in, in_cases, in_filter, in_filter_map, in_first, in_flat_map, in_map, in_none, map_in}
 
 -- ---- what a channel waits for
@@ -41,7 +36,9 @@ all_alike : (first : ℕ) (xs : List Cookie) → list_all (λ c. c.ch == first) 
 all_alike first xs h c i = eqb-true c.ch first (All-contains (λ c. (c.ch == first) ≡ true) xs c (AllPass-from_list_all (λ c. c.ch == first) xs h) i)
 
 -- the wait for an event, by whether all the cookies are on one channel
-says_one : (v : View) (ch event : ℕ) (x : Cookie) (xs : List Cookie) (b : Bool) (w : Wait) → signallers (object_of v) event ≡ x ∷ xs → list_all (λ c. c.ch == x.ch) (x ∷ xs) ≡ b → Contains (cond b (record { ch = ch; event = Some event; by = x } ∷ []) []) w → Says v ch (Ok (Waiting event)) w
+says_one : (v : View) (ch event : ℕ) (x : Cookie) (xs : List Cookie) (b : Bool) (w : Wait) → signallers (object_of v) event ≡ x ∷ xs
+    → list_all (λ c. c.ch == x.ch) (x ∷ xs) ≡ b → Contains (cond b (record { ch = ch; event = Some event; by = x } ∷ []) []) w
+    → Says v ch (Ok (Waiting event)) w
 says_one v ch event x xs false w is e i = absurd (in_none w i)
 says_one v ch event x xs true w is e i = elim (in_cases _ [] w i) [
   | inr none ↦ absurd (in_none w none)
@@ -57,11 +54,13 @@ says_one v ch event x xs true w is e i = elim (in_cases _ [] w i) [
       )
 ]
 
-says_event : (v : View) (ch event : ℕ) (found : List Cookie) (w : Wait) → signallers (object_of v) event ≡ found → Contains (event_wait ch event found) w → Says v ch (Ok (Waiting event)) w
+says_event : (v : View) (ch event : ℕ) (found : List Cookie) (w : Wait) → signallers (object_of v) event ≡ found → Contains (event_wait ch event found) w
+    → Says v ch (Ok (Waiting event)) w
 says_event v ch event [] w is i = absurd (in_none w i)
 says_event v ch event (x ∷ xs) w is i = says_one v ch event x xs (list_all (λ c. c.ch == x.ch) (x ∷ xs)) w is refl i
 
-says_held : (v : View) (ch other cookie : ℕ) (w : Wait) → Contains (map (λ by. record { ch = ch; event = None; by = by }) (holders v ch)) w → Says v ch (Ok (Held other cookie)) w
+says_held : (v : View) (ch other cookie : ℕ) (w : Wait) → Contains (map (λ by. record { ch = ch; event = None; by = by }) (holders v ch)) w
+    → Says v ch (Ok (Held other cookie)) w
 says_held v ch other cookie w i =
     let r = in_map (λ by. record { ch = ch; event = None; by = by }) (holders v ch) w i in (
       ap (λ (y : Wait). y.ch) (sym r.2),
@@ -103,17 +102,20 @@ pub record Holds (v : View) (ch by : ℕ) : Type 0 where
   pub less : by < channels v
 
 -- what runs on a channel names it, and is its front
-pub runs_named : (ch : ℕ) (c : ChannelState) (taken : Option ℕ) (r : RunningTransfer) → running_in ch c taken ≡ Some r → (r.ch ≡ ch) × (front c ≡ Some r.transfer)
+pub runs_named : (ch : ℕ) (c : ChannelState) (taken : Option ℕ) (r : RunningTransfer) → running_in ch c taken ≡ Some r → (r.ch ≡ ch)
+    × (front c ≡ Some r.transfer)
 runs_named ch c None r h = absurd cc
 runs_named ch c (Some n) r h = by (front c) h where
-  by : (o : Option Descriptor) → option_map (λ t. record { ch = ch; cookie = finished c + 1; transfer = t; taken = n }) o ≡ Some r → (r.ch ≡ ch) × (o ≡ Some r.transfer)
+  by : (o : Option Descriptor) → option_map (λ t. record { ch = ch; cookie = finished c + 1; transfer = t; taken = n }) o ≡ Some r → (r.ch ≡ ch)
+      × (o ≡ Some r.transfer)
   by None e = absurd cc
   by (Some t) e =
       let same : record { ch = ch; cookie = finished c + 1; transfer = t; taken = n } ≡ r = cc in
       (ap (λ (x : RunningTransfer). x.ch) (sym same), ap (λ (x : RunningTransfer). Some x.transfer) same)
 
 -- what runs is on a channel
-pub in_running : (v : View) (r : RunningTransfer) → Contains (running (object_of v) v.schedule) r → (r.ch < channels v) × (runs (object_of v) v.schedule r.ch ≡ Some r)
+pub in_running : (v : View) (r : RunningTransfer) → Contains (running (object_of v) v.schedule) r → (r.ch < channels v)
+    × (runs (object_of v) v.schedule r.ch ≡ Some r)
 unfolding running
 in_running v r i =
     let o = object_of v in
@@ -126,7 +128,8 @@ held_by : (t : Descriptor) (r : RunningTransfer) (c : Cookie) → holder t r ≡
 held_by t r c h = by (is_free_of t r.transfer) refl where
   by : (b : Bool) → is_free_of t r.transfer ≡ b → (is_free_of t r.transfer ≡ false) × (r.ch ≡ c.ch)
   by true e = let never : None ≡ Some c = rw e at h in absurd cc
-  by false e = let is : Some (record { ch = r.ch; number = r.cookie }) ≡ Some c = rw e at h in let same : record { ch = r.ch; number = r.cookie } ≡ c = cc in (e, ap (λ (y : Cookie). y.ch) same)
+  by false e = let is : Some (record { ch = r.ch; number = r.cookie }) ≡ Some c = rw e at h in let same : record { ch = r.ch; number = r.cookie } ≡ c = cc in
+      (e, ap (λ (y : Cookie). y.ch) same)
 
 holders_hold : (v : View) (ch : ℕ) (o : Option Descriptor) (c : Cookie) → front (channel (object_of v) ch) ≡ o → Contains (holders_of v o) c → Holds v ch c.ch
 holders_hold v ch None c is i = absurd (in_none c i)
@@ -158,7 +161,8 @@ WouldBy c event number =
     (finished c < number) × (number ≤ finished c + unfinished c)
     × ((not (c.halted || c.signalled && number == finished c + 1) && signals event (transfer_in c number)) ≡ true)
 
-pub signaller_would : (o : Object) (event : ℕ) (x : Cookie) → Contains (signallers o event) x → (x.ch < length o.channels) × WouldBy (channel o x.ch) event x.number
+pub signaller_would : (o : Object) (event : ℕ) (x : Cookie) → Contains (signallers o event) x → (x.ch < length o.channels)
+    × WouldBy (channel o x.ch) event x.number
 signaller_would o event x i =
     let f = in_flat_map (signallers_on o event) (range_with_len 0 (length o.channels)) x i in
     let ch = f.0 in
@@ -174,11 +178,13 @@ signaller_would o event x i =
       (omega (arith, span.0), omega (arith, span.1), k.1),
     )
 
-pub would_signaller : (o : Object) (event ch number : ℕ) → ch < length o.channels → WouldBy (channel o ch) event number → Contains (signallers o event) (record { ch = ch; number = number })
+pub would_signaller : (o : Object) (event ch number : ℕ) → ch < length o.channels → WouldBy (channel o ch) event number
+    → Contains (signallers o event) (record { ch = ch; number = number })
 would_signaller o event ch number less h =
     let c = channel o ch in
     let mk : ℕ → Cookie = λ number. record { ch = ch; number = number } in
     let numbers = range_with_len (finished c + 1) (unfinished c) in
     let here = in_range (finished c + 1) (unfinished c) number (omega (arith, h.0)) (omega (arith, h.1)) in
-    flat_map_in (signallers_on o event) (range_with_len 0 (length o.channels)) ch (mk number) (in_range 0 (length o.channels) ch (omega arith) (omega (arith, less)))
+    flat_map_in (signallers_on o event) (range_with_len 0 (length o.channels)) ch (mk number)
+    (in_range 0 (length o.channels) ch (omega arith) (omega (arith, less)))
     (map_in mk (filter (signals_later o event ch) numbers) number (filter_in (signals_later o event ch) numbers number here h.2))

@@ -1,25 +1,23 @@
 -- Lists of cookies, of waits and of channels, one more at a time.
-use Rattle.std.proofs.Common.{◌≡◌, ℕ, ◌+◌, List, [], ◌∷◌, ◌++◌, map, zero-add, Bool, true, false, refl, ap, sym, subst, ◌∙◌, append_assoc, append-nil, Option, Some, None}
-use Rattle.std.specs.Prelude.{◌==◌, slice_get}
+use Rattle.std.proofs.Common.{◌≡◌, ℕ, ◌+◌, List, [], ◌∷◌, ◌++◌, map, zero-add, Bool, true, false, refl, ap, sym, subst, ◌∙◌, append_assoc, append-nil, Option}
+use Rattle.std.proofs.Common.{Some, None}
 use Rattle.std.specs.List.{cons_option, filter, filter_map, flat_map, list_all, range_with_len}
-use Rattle.std.specs.Option.{option_and_then, option_to_list}
-use Rattle.std.proofs.lemmas.List.{flat_map_more, map-append}
-use Rattle.std.proofs.lemmas.List.Concat.{flat_map-append}
-use Rattle.std.proofs.lemmas.List.Elements.{filter-append, filter_map-append}
+use Rattle.std.specs.{Prelude.◌==◌, Prelude.slice_get, Option.option_and_then, Option.option_to_list}
+use Rattle.std.proofs.{lemmas.List.flat_map_more, lemmas.List.map-append, lemmas.List.Concat.flat_map-append, lemmas.List.Elements.filter-append}
+use Rattle.std.proofs.{lemmas.List.Elements.filter_map-append}
 use Rattle.dma_io.specs.Command.{text_of}
 use Rattle.dma_mem.specs.Places.{Descriptor}
-use Rattle.dma_engine.specs.Object.{Object}
-use Rattle.dma_engine.specs.View.{ChannelSchedule, RunningTransfer, View, channels, object_of, running, runs}
+use Rattle.dma_engine.specs.{Object.Object, View.ChannelSchedule, View.RunningTransfer, View.View, View.channels, View.object_of, View.running, View.runs}
 use Rattle.dma_engine.proofs.WhatRuns.{below, below_more_law, range_with_len_add}
-use Rattle.dma_why.specs.declared.waits.Cookie.{Cookie}
-use Rattle.dma_why.specs.Waits.{event_wait, holder, holders_of}
+use Rattle.dma_why.specs.{declared.waits.Cookie.Cookie, Waits.event_wait, Waits.holder, Waits.holders_of}
 
 -- one number more
 pub range_more : (a n : ℕ) → range_with_len a (n + 1) ≡ range_with_len a n ++ (a + n) ∷ []
 range_more a n = range_with_len_add a n 1
 
 -- the numbers of a range that pass a test, each as a value, and those of one more number
-pub kept_more : {X : Type 0} (mk : ℕ → X) (p : ℕ → Bool) (before : List X) (a n k : ℕ) → a + n ≡ k → (before ++ map mk (filter p (range_with_len a n))) ++ map mk (filter p (k ∷ [])) ≡ before ++ map mk (filter p (range_with_len a (n + 1)))
+pub kept_more : {X : Type 0} (mk : ℕ → X) (p : ℕ → Bool) (before : List X) (a n k : ℕ) → a + n ≡ k
+    → (before ++ map mk (filter p (range_with_len a n))) ++ map mk (filter p (k ∷ [])) ≡ before ++ map mk (filter p (range_with_len a (n + 1)))
 kept_more mk p before a n k is =
     let kept = filter p (range_with_len a n) in
     append_assoc before (map mk kept) (map mk (filter p (k ∷ [])))
@@ -29,21 +27,24 @@ kept_more mk p before a n k is =
     ∙ ap (λ l. before ++ map mk (filter p l)) (sym (range_more a n))
 
 -- what follows of one channel more
-pub channels_more : {X : Type 0} (f : ℕ → List X) (before : List X) (n : ℕ) → (before ++ flat_map f (range_with_len 0 n)) ++ f n ≡ before ++ flat_map f (range_with_len 0 (n + 1))
+pub channels_more : {X : Type 0} (f : ℕ → List X) (before : List X) (n : ℕ)
+    → (before ++ flat_map f (range_with_len 0 n)) ++ f n ≡ before ++ flat_map f (range_with_len 0 (n + 1))
 channels_more f before n =
     flat_map_more f before (range_with_len 0 n) n
     ∙ ap (λ k. before ++ flat_map f (range_with_len 0 n ++ k ∷ [])) (sym (zero-add n))
     ∙ ap (λ l. before ++ flat_map f l) (sym (range_more 0 n))
 
 -- the same where the number passes, and where it doesn't
-pub kept_pass : {X : Type 0} (mk : ℕ → X) (p : ℕ → Bool) (before found : List X) (a n k m : ℕ) → found ≡ before ++ map mk (filter p (range_with_len a n)) → a + n ≡ k → m ≡ n + 1 → p k ≡ true → found ++ mk k ∷ [] ≡ before ++ map mk (filter p (range_with_len a m))
+pub kept_pass : {X : Type 0} (mk : ℕ → X) (p : ℕ → Bool) (before found : List X) (a n k m : ℕ) → found ≡ before ++ map mk (filter p (range_with_len a n))
+    → a + n ≡ k → m ≡ n + 1 → p k ≡ true → found ++ mk k ∷ [] ≡ before ++ map mk (filter p (range_with_len a m))
 kept_pass mk p before found a n k m so_far is next pass =
     let one : filter p (k ∷ []) ≡ k ∷ [] = rw pass refl in
     ap (λ l. l ++ mk k ∷ []) so_far
     ∙ ap (λ l. (before ++ map mk (filter p (range_with_len a n))) ++ map mk l) (sym one)
     ∙ kept_more mk p before a n k is ∙ ap (λ j. before ++ map mk (filter p (range_with_len a j))) (sym next)
 
-pub kept_fail : {X : Type 0} (mk : ℕ → X) (p : ℕ → Bool) (before found : List X) (a n k m : ℕ) → found ≡ before ++ map mk (filter p (range_with_len a n)) → a + n ≡ k → m ≡ n + 1 → p k ≡ false → found ≡ before ++ map mk (filter p (range_with_len a m))
+pub kept_fail : {X : Type 0} (mk : ℕ → X) (p : ℕ → Bool) (before found : List X) (a n k m : ℕ) → found ≡ before ++ map mk (filter p (range_with_len a n))
+    → a + n ≡ k → m ≡ n + 1 → p k ≡ false → found ≡ before ++ map mk (filter p (range_with_len a m))
 kept_fail mk p before found a n k m so_far is next fail =
     let none : filter p (k ∷ []) ≡ [] = rw fail refl in
     so_far ∙ sym (append-nil _)
@@ -51,7 +52,8 @@ kept_fail mk p before found a n k m so_far is next fail =
     ∙ kept_more mk p before a n k is ∙ ap (λ j. before ++ map mk (filter p (range_with_len a j))) (sym next)
 
 -- the text of one channel more
-pub text_more : (f : ℕ → List (List ℕ)) (before now new : List ℕ) (n : ℕ) → now ≡ before ++ text_of (flat_map f (range_with_len 0 n)) → new ≡ now ++ text_of (f n) → new ≡ before ++ text_of (flat_map f (range_with_len 0 (n + 1)))
+pub text_more : (f : ℕ → List (List ℕ)) (before now new : List ℕ) (n : ℕ) → now ≡ before ++ text_of (flat_map f (range_with_len 0 n))
+    → new ≡ now ++ text_of (f n) → new ≡ before ++ text_of (flat_map f (range_with_len 0 (n + 1)))
 text_more f before now new n so_far more =
     more ∙ ap (λ l. l ++ text_of (f n)) so_far
     ∙ append_assoc before (text_of (flat_map f (range_with_len 0 n))) (text_of (f n))
@@ -59,20 +61,23 @@ text_more f before now new n so_far more =
     ∙ ap (λ l. before ++ text_of l) (channels_more f [] n)
 
 -- the items of one channel more, and the item of one channel more
-pub items_more : {X : Type 0} (f : ℕ → List X) (now new : List X) (n : ℕ) → now ≡ flat_map f (range_with_len 0 n) → new ≡ now ++ f n → new ≡ flat_map f (range_with_len 0 (n + 1))
+pub items_more : {X : Type 0} (f : ℕ → List X) (now new : List X) (n : ℕ) → now ≡ flat_map f (range_with_len 0 n) → new ≡ now ++ f n
+    → new ≡ flat_map f (range_with_len 0 (n + 1))
 items_more f now new n so_far more = more ∙ ap (λ l. l ++ f n) so_far ∙ channels_more f [] n
 
 -- ---- the wait for an event
 
 -- if all cookies that would signal it are on one channel, or not
-pub one_wait : (ch event : ℕ) (found : List Cookie) (by : Cookie) → Some by ≡ slice_get found 0 → list_all (λ c. c.ch == by.ch) found ≡ true → record { ch = ch; event = Some event; by = by } ∷ [] ≡ event_wait ch event found
+pub one_wait : (ch event : ℕ) (found : List Cookie) (by : Cookie) → Some by ≡ slice_get found 0 → list_all (λ c. c.ch == by.ch) found ≡ true
+    → record { ch = ch; event = Some event; by = by } ∷ [] ≡ event_wait ch event found
 one_wait ch event [] by first all = absurd cc
 one_wait ch event (x ∷ xs) by first all =
     let same : by ≡ x = cc in
     let one : list_all (λ c. c.ch == x.ch) (x ∷ xs) ≡ true = subst (λ y. list_all (λ c. c.ch == y.ch) (x ∷ xs) ≡ true) same all in
     rw (same, one) refl
 
-pub no_wait : (ch event : ℕ) (found : List Cookie) (by : Cookie) → Some by ≡ slice_get found 0 → list_all (λ c. c.ch == by.ch) found ≡ false → [] ≡ event_wait ch event found
+pub no_wait : (ch event : ℕ) (found : List Cookie) (by : Cookie) → Some by ≡ slice_get found 0 → list_all (λ c. c.ch == by.ch) found ≡ false
+    → [] ≡ event_wait ch event found
 no_wait ch event [] by first all = absurd cc
 no_wait ch event (x ∷ xs) by first all =
     let same : by ≡ x = cc in
@@ -89,7 +94,9 @@ held_here t (Some r) = by (holder t r) where
   by (Some c) = refl
 
 -- those on one channel more
-pub held_more : (t : Descriptor) (o : Object) (s : List ChannelSchedule) (ch : ℕ) (found : List Cookie) (x : Option Cookie) → found ≡ filter_map (holder t) (below o s ch) → x ≡ option_and_then (holder t) (runs o s ch) → found ++ option_to_list x ≡ filter_map (holder t) (below o s (ch + 1))
+pub held_more : (t : Descriptor) (o : Object) (s : List ChannelSchedule) (ch : ℕ) (found : List Cookie) (x : Option Cookie)
+    → found ≡ filter_map (holder t) (below o s ch) → x ≡ option_and_then (holder t) (runs o s ch)
+    → found ++ option_to_list x ≡ filter_map (holder t) (below o s (ch + 1))
 held_more t o s ch found x so_far here =
     ap (λ l. l ++ option_to_list x) so_far
     ∙ ap (λ y. filter_map (holder t) (below o s ch) ++ option_to_list y) here
@@ -98,6 +105,7 @@ held_more t o s ch found x so_far here =
     ∙ ap (filter_map (holder t)) (sym (below_more_law o s ch))
 
 -- those on all channels
-pub held_all : (v : View) (front : Option Descriptor) (t : Descriptor) (n : ℕ) (found : List Cookie) → front ≡ Some t → n ≡ channels v → found ≡ filter_map (holder t) (below (object_of v) v.schedule n) → found ≡ holders_of v front
+pub held_all : (v : View) (front : Option Descriptor) (t : Descriptor) (n : ℕ) (found : List Cookie) → front ≡ Some t → n ≡ channels v
+    → found ≡ filter_map (holder t) (below (object_of v) v.schedule n) → found ≡ holders_of v front
 unfolding running
 held_all v front t n found is many so_far = rw (is, ← many) so_far

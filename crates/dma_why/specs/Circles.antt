@@ -1,7 +1,6 @@
 -- Circles of channels each of which waits for the next.
 use Rattle.std.specs.Prelude.{◌≡◌, ◌<◌, ◌==◌, ◌&&◌, ℕ, ◌+◌, ◌-◌, suc, zero, Option, Some, None, List, [], ◌∷◌, ◌++◌, find}
-use Rattle.std.specs.List.{All, Contains}
-use Rattle.std.specs.Option.{option_map, option_or}
+use Rattle.std.specs.{List.All, List.Contains, Option.option_map, Option.option_or}
 use Rattle.dma_why.specs.declared.waits.Wait.{Wait}
 
 -- the wait of a channel for another, if it waits for it

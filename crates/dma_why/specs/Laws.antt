@@ -2,23 +2,14 @@
 use Rattle.std.specs.Prelude.{◌≡◌, ◌≢◌, ◌<◌, ◌⊎◌, ℕ, Some, IsSome, Result, Ok, Err, List, [], map}
 use Rattle.std.specs.List.{All, AllPairs, Contains}
 use Rattle.dma_mem.specs.declared.call.Call.TheVariants.{Step}
-use Rattle.dma_engine.specs.declared.call.Reply.{Reply}
-use Rattle.dma_engine.specs.declared.fault.EngineFault.{EngineFault}
-use Rattle.dma_engine.specs.declared.fault.EngineFault.TheVariants.{StepsSpent}
-use Rattle.dma_engine.specs.declared.turn.Turn.{Turn}
 use Rattle.dma_engine.specs.declared.turn.Turn.TheVariants.{Halted, Nothing, Paused, Waiting}
-use Rattle.dma_engine.specs.Answer.{AreAnswers}
-use Rattle.dma_engine.specs.Object.{channel, unfinished}
-use Rattle.dma_engine.specs.Room.{IsIdle}
-use Rattle.dma_engine.specs.Turn.{turn}
 use Rattle.dma_engine.specs.View.{View, channels, object_of, schedule_at}
-use Rattle.dma_script.specs.Statements.{run_script_of}
-use Rattle.dma_script.specs.declared.statements.RunScript.{RunScript}
+use Rattle.dma_engine.specs.{declared.call.Reply.Reply, declared.fault.EngineFault.EngineFault, declared.fault.EngineFault.TheVariants.StepsSpent}
+use Rattle.dma_engine.specs.{declared.turn.Turn.Turn, Answer.AreAnswers, Object.channel, Object.unfinished, Room.IsIdle, Turn.turn}
+use Rattle.dma_script.specs.{Statements.run_script_of, declared.statements.RunScript.RunScript}
 use Rattle.dma_commands.specs.Left.{view_after}
-use Rattle.dma_why.specs.declared.waits.Cookie.{Cookie}
-use Rattle.dma_why.specs.declared.waits.Wait.{Wait}
 use Rattle.dma_why.specs.Circles.{IsCircle, IsWay, circle_from}
-use Rattle.dma_why.specs.Waits.{signallers, waits_of}
+use Rattle.dma_why.specs.{declared.waits.Cookie.Cookie, declared.waits.Wait.Wait, Waits.signallers, Waits.waits_of}
 
 -- What is named as a circle is one, on which no channel is twice; and for each circle one with the same lowest channel
 -- is named.

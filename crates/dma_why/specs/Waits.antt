@@ -1,17 +1,11 @@
 -- What the channels of an engine wait for.
 use Rattle.std.specs.Prelude.{ℕ, ◌+◌, ◌==◌, ◌&&◌, ◌||◌, Bool, false, not, if◌then◌else◌, Option, Some, None, Result, Ok, List, [], ◌∷◌, length, map}
-use Rattle.std.specs.List.{filter, filter_map, flat_map, list_all, range_with_len}
-use Rattle.std.specs.Option.{option_and_then, option_map_or}
+use Rattle.std.specs.{List.filter, List.filter_map, List.flat_map, List.list_all, List.range_with_len, Option.option_and_then, Option.option_map_or}
 use Rattle.dma_mem.specs.Places.{Descriptor, is_free_of}
-use Rattle.dma_engine.specs.declared.fault.EngineFault.{EngineFault}
-use Rattle.dma_engine.specs.declared.turn.Turn.{Turn}
-use Rattle.dma_engine.specs.declared.turn.Turn.TheVariants.{Held, Waiting}
-use Rattle.dma_engine.specs.Cookies.{transfer_of}
-use Rattle.dma_engine.specs.Object.{Object, channel, finished, front, unfinished}
-use Rattle.dma_engine.specs.Turn.{turn}
-use Rattle.dma_engine.specs.View.{RunningTransfer, View, channels, object_of, running}
-use Rattle.dma_why.specs.declared.waits.Cookie.{Cookie}
-use Rattle.dma_why.specs.declared.waits.Wait.{Wait}
+use Rattle.dma_engine.specs.{declared.fault.EngineFault.EngineFault, declared.turn.Turn.Turn, declared.turn.Turn.TheVariants.Held}
+use Rattle.dma_engine.specs.{declared.turn.Turn.TheVariants.Waiting, Cookies.transfer_of, Object.Object, Object.channel, Object.finished, Object.front}
+use Rattle.dma_engine.specs.{Object.unfinished, Turn.turn, View.RunningTransfer, View.View, View.channels, View.object_of, View.running}
+use Rattle.dma_why.specs.{declared.waits.Cookie.Cookie, declared.waits.Wait.Wait}
 
 -- whether a transfer, if any, signals an event
 abbrev pub signals : ℕ → Option Descriptor → Bool

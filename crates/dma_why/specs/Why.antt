@@ -1,31 +1,18 @@
 -- What is printed of why each channel is where it is (profile).
-use Rattle.std.specs.Prelude.{ℕ, ◌+◌, ◌-◌, ◌==◌, ◌++◌, if◌then◌else◌, Option, Some, None, unwrap_or, Result, Ok, Err, List, [], ◌∷◌, codes, decimal, map, slice_get}
-use Rattle.std.specs.Option.{option_map, option_map_or, option_to_list}
-use Rattle.std.specs.List.{flat_map, range_with_len}
+use Rattle.std.specs.Prelude.{ℕ, ◌+◌, ◌-◌, ◌==◌, ◌++◌, if◌then◌else◌, Option, Some, None, unwrap_or, Result, Ok, Err, List, [], ◌∷◌, codes, decimal, map}
+use Rattle.std.specs.Prelude.{slice_get}
+use Rattle.std.specs.{Option.option_map, Option.option_map_or, Option.option_to_list, List.flat_map, List.range_with_len}
 use Rattle.dma_mem.specs.Places.{Descriptor, destinations, size_of, sources}
 use Rattle.dma_text.specs.Digits.{hex_digits}
-use Rattle.dma_engine.specs.declared.fault.EngineFault.{EngineFault}
-use Rattle.dma_engine.specs.declared.outcome.Outcome.{Outcome}
-use Rattle.dma_engine.specs.declared.outcome.TransResult.{TransResult}
-use Rattle.dma_engine.specs.declared.outcome.TransResult.TheVariants.{ReadFailed, WriteFailed}
-use Rattle.dma_engine.specs.declared.turn.Turn.{Turn}
 use Rattle.dma_engine.specs.declared.turn.Turn.TheVariants.{Nothing, Held, Started, Moved, Waiting, Paused, Halted, Finished}
-use Rattle.dma_engine.specs.Answer.{done_on, result_of}
-use Rattle.dma_engine.specs.Cookies.{transfer_of}
 use Rattle.dma_engine.specs.Object.{Object, channel, finished, no_transfer, unfinished}
-use Rattle.dma_engine.specs.Turn.{turn}
-use Rattle.dma_engine.specs.View.{View, channels, object_of}
+use Rattle.dma_engine.specs.{declared.fault.EngineFault.EngineFault, declared.outcome.Outcome.Outcome, declared.outcome.TransResult.TransResult}
+use Rattle.dma_engine.specs.{declared.outcome.TransResult.TheVariants.ReadFailed, declared.outcome.TransResult.TheVariants.WriteFailed, declared.turn.Turn.Turn}
+use Rattle.dma_engine.specs.{Answer.done_on, Answer.result_of, Cookies.transfer_of, Turn.turn, View.View, View.channels, View.object_of}
 use Rattle.dma_io.specs.Command.{Printed, refusal}
-use Rattle.dma_script.specs.Printing.{fault_line}
-use Rattle.dma_script.specs.Statements.{run_script_of}
-use Rattle.dma_script.specs.declared.fault.Fault.{Fault}
-use Rattle.dma_script.specs.declared.statements.RunScript.{RunScript}
-use Rattle.dma_commands.specs.Left.{view_after}
-use Rattle.dma_commands.specs.Printed.{residue_text}
-use Rattle.dma_why.specs.declared.waits.Cookie.{Cookie}
-use Rattle.dma_why.specs.declared.waits.Wait.{Wait}
-use Rattle.dma_why.specs.Circles.{circle_from}
-use Rattle.dma_why.specs.Waits.{holders, signallers, waits_of}
+use Rattle.dma_script.specs.{Printing.fault_line, Statements.run_script_of, declared.fault.Fault.Fault, declared.statements.RunScript.RunScript}
+use Rattle.dma_commands.specs.{Left.view_after, Printed.residue_text}
+use Rattle.dma_why.specs.{declared.waits.Cookie.Cookie, declared.waits.Wait.Wait, Circles.circle_from, Waits.holders, Waits.signallers, Waits.waits_of}
 
 -- ---- the front of a channel
 

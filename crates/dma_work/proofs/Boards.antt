@@ -1,12 +1,8 @@
 -- Boards of lists of ticks.
-use Rattle.std.proofs.Common.{◌≡◌, ℕ, ◌≤◌, ◌==◌, List, [], ◌∷◌, ◌++◌, length, true, false, refl, ap, ◌∙◌, arith, inl, inr}
-use Rattle.std.specs.Prelude.{nat_lt}
-use Rattle.std.proofs.lemmas.Bool.{cases_eq, eq-eqb, ne_eqb, lt-ltb}
-use Rattle.std.proofs.lemmas.List.{get_or_past, length-set, set_past}
-use Rattle.dma_engine.specs.Ticks.{Tick, Submitted, Finished, Board, Counts, board_after, counts, no_counts, ticked, status_of}
-use Rattle.dma_engine.specs.declared.turn.Status.TheVariants.{Unknown}
+use Rattle.std.proofs.Common.{◌≡◌, List, [], ◌∷◌, ◌++◌, length, refl, ◌∙◌}
+use Rattle.std.proofs.lemmas.List.{length-set}
+use Rattle.dma_engine.specs.Ticks.{Tick, Submitted, Finished, Board, board_after, ticked}
 use Rattle.dma_work.specs.Ticks.{board_from}
-use Rattle.dma_work.specs.inner.TickForms.{channel_of}
 
 -- one tick more
 pub board_push : (base : Board) (ts : List Tick) (t : Tick) → board_from base (ts ++ t ∷ []) ≡ ticked (board_from base ts) t

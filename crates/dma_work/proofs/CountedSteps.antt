@@ -3,21 +3,13 @@ use Rattle.std.proofs.Common.{◌≡◌, ℕ, ◌+◌, ◌<◌, List, [], ◌∷
 use Rattle.std.specs.Prelude.{Result}
 use Rattle.std.proofs.lemmas.List.Sums.{sum_by-cons}
 use Rattle.dma_mem.specs.declared.call.Call.TheVariants.{Step}
-use Rattle.dma_engine.specs.declared.call.Reply.TheVariants.{Turned}
-use Rattle.dma_engine.specs.declared.fault.EngineFault.{EngineFault}
-use Rattle.dma_engine.specs.declared.turn.Advanced.{Advanced}
-use Rattle.dma_engine.specs.declared.turn.Turn.{Turn}
-use Rattle.dma_engine.specs.Advance.{IsAdvance, steps_taken}
-use Rattle.dma_engine.specs.Answer.{StepAnswers, reply_of}
-use Rattle.dma_engine.specs.Turn.{finishes_in, steps_in}
-use Rattle.dma_engine.specs.View.{View}
+use Rattle.dma_engine.specs.{declared.call.Reply.TheVariants.Turned, declared.fault.EngineFault.EngineFault, declared.turn.Advanced.Advanced}
+use Rattle.dma_engine.specs.{declared.turn.Turn.Turn, Advance.IsAdvance, Advance.steps_taken, Answer.StepAnswers, Answer.reply_of, Turn.finishes_in}
+use Rattle.dma_engine.specs.{Turn.steps_in, View.View}
 use Rattle.dma_engine.proofs.AdvanceResults.{AreSteps, advance_count, advance_steps, results_finishes, results_length, results_of, results_steps}
-use Rattle.dma_engine.proofs.CallLists.{answers_extend}
-use Rattle.dma_engine.proofs.StaysSound.{answers_stay_sound}
-use Rattle.dma_work.specs.declared.worker.Totals.{Totals}
+use Rattle.dma_engine.proofs.{CallLists.answers_extend, StaysSound.answers_stay_sound}
 use Rattle.dma_work.specs.Desk.{CountsInTally, DeskState, IsSoundOf, TalliedDesk, TallyCounts, advanced_book, counted, counted_all, stepped_book}
-use Rattle.dma_work.specs.Rotation.{StepsInTurn}
-use Rattle.dma_work.specs.inner.Rows.{CountsOne}
+use Rattle.dma_work.specs.{declared.worker.Totals.Totals, Rotation.StepsInTurn, inner.Rows.CountsOne}
 use Rattle.dma_work.proofs.Desks.{same_many, same_size}
 
 abbrev Results : Type 0
@@ -30,7 +22,8 @@ tallied rs t = record t { turns = t.turns + length rs; steps = t.steps + sum_by 
 abbrev booked : Results → Totals → Totals
 booked rs b = record b { steps = b.steps + sum_by steps_in rs; finished = b.finished + sum_by finishes_in rs }
 
-same_tally : (t : TallyCounts) (a b c x y z : ℕ) → a ≡ x → b ≡ y → c ≡ z → record t { turns = a; steps = b; finishes = c } ≡ record t { turns = x; steps = y; finishes = z }
+same_tally : (t : TallyCounts) (a b c x y z : ℕ) → a ≡ x → b ≡ y → c ≡ z
+    → record t { turns = a; steps = b; finishes = c } ≡ record t { turns = x; steps = y; finishes = z }
 same_tally t a b c x y z p q r = rw (p, q, r) refl
 
 same_book : (b : Totals) (x y u v : ℕ) → x ≡ u → y ≡ v → record b { steps = x; finished = y } ≡ record b { steps = u; finished = v }
@@ -55,7 +48,9 @@ module _ (opening : View) where
       }
 
   -- one or more steps
-  in_tally : (r : Result Turn EngineFault) (rs : Results) (ch : ℕ) (t : TallyCounts) (d e : DeskState) → IsSoundOf opening d.engine.view → AreSteps d.engine.view ch (r ∷ rs) e.engine.view → e.book ≡ booked (r ∷ rs) d.book → e.before ≡ d.before → StepsInTurn (CountsInTally opening) (replicate (length (r ∷ rs)) ch) (record { tally = t; desk = d }) (record { tally = tallied (r ∷ rs) t; desk = e })
+  in_tally : (r : Result Turn EngineFault) (rs : Results) (ch : ℕ) (t : TallyCounts) (d e : DeskState) → IsSoundOf opening d.engine.view
+      → AreSteps d.engine.view ch (r ∷ rs) e.engine.view → e.book ≡ booked (r ∷ rs) d.book → e.before ≡ d.before
+      → StepsInTurn (CountsInTally opening) (replicate (length (r ∷ rs)) ch) (record { tally = t; desk = d }) (record { tally = tallied (r ∷ rs) t; desk = e })
   in_tally r [] ch t d e sound (next, first, same) book before = (
     record { tally = counted r t; desk = e },
     record {
@@ -80,15 +75,20 @@ module _ (opening : View) where
           before_history = refl;
           count = refl;
         },
-        subst (λ x. StepsInTurn (CountsInTally opening) (replicate (length (q ∷ rs)) ch) (record { tally = counted r t; desk = mid }) (record { tally = x; desk = e })) (tallied_first r (q ∷ rs) t) more,
+        subst (λ x. StepsInTurn (CountsInTally opening) (replicate (length (q ∷ rs)) ch) (record { tally = counted r t; desk = mid })
+            (record { tally = x; desk = e })) (tallied_first r (q ∷ rs) t) more,
       )
 
-  some_in_tally : (rs : Results) (ch : ℕ) (t : TallyCounts) (d e : DeskState) → 0 < length rs → IsSoundOf opening d.engine.view → AreSteps d.engine.view ch rs e.engine.view → e.book ≡ booked rs d.book → e.before ≡ d.before → StepsInTurn (CountsInTally opening) (replicate (length rs) ch) (record { tally = t; desk = d }) (record { tally = tallied rs t; desk = e })
+  some_in_tally : (rs : Results) (ch : ℕ) (t : TallyCounts) (d e : DeskState) → 0 < length rs → IsSoundOf opening d.engine.view
+      → AreSteps d.engine.view ch rs e.engine.view → e.book ≡ booked rs d.book → e.before ≡ d.before
+      → StepsInTurn (CountsInTally opening) (replicate (length rs) ch) (record { tally = t; desk = d }) (record { tally = tallied rs t; desk = e })
   some_in_tally [] ch t d e some sound steps book before = absurd (omega (arith, some))
   some_in_tally (r ∷ rs) ch t d e some sound steps book before = in_tally r rs ch t d e sound steps book before
 
   -- the steps that `advance` takes
-  pub advance_in_tally : (ch most : ℕ) (a : Advanced) (t u : TallyCounts) (d e : DeskState) → 0 < most → IsSoundOf opening d.engine.view → IsAdvance d.engine.view ch most a e.engine.view → e.book ≡ advanced_book d.book a → e.before ≡ d.before → u ≡ counted_all a t → StepsInTurn (CountsInTally opening) (replicate (steps_taken a) ch) (record { tally = t; desk = d }) (record { tally = u; desk = e })
+  pub advance_in_tally : (ch most : ℕ) (a : Advanced) (t u : TallyCounts) (d e : DeskState) → 0 < most → IsSoundOf opening d.engine.view
+      → IsAdvance d.engine.view ch most a e.engine.view → e.book ≡ advanced_book d.book a → e.before ≡ d.before → u ≡ counted_all a t
+      → StepsInTurn (CountsInTally opening) (replicate (steps_taken a) ch) (record { tally = t; desk = d }) (record { tally = u; desk = e })
   advance_in_tally ch most a t u d e some sound h book before count =
       let rs = results_of a in
       let n = results_length a in
@@ -97,7 +97,8 @@ module _ (opening : View) where
       let all : 0 < length rs = omega (arith, n, (advance_count d.engine.view e.engine.view ch most a h).1 some) in
       let chain = some_in_tally rs ch t d e all sound (advance_steps d.engine.view e.engine.view ch most a h)
       (book ∙ same_book d.book _ _ _ _ (ap (λ k. d.book.steps + k) (sym steps)) (ap (λ k. d.book.finished + k) (sym finishes))) before in
-      let tally : tallied rs t ≡ u = same_tally t _ _ _ _ _ _ (ap (λ k. t.turns + k) n) (ap (λ k. t.steps + k) steps) (ap (λ k. t.finishes + k) finishes) ∙ sym count in
+      let tally : tallied rs t ≡ u = same_tally t _ _ _ _ _ _ (ap (λ k. t.turns + k) n) (ap (λ k. t.steps + k) steps) (ap (λ k. t.finishes + k) finishes)
+      ∙ sym count in
       subst (λ x. StepsInTurn (CountsInTally opening) (replicate (steps_taken a) ch) (record { tally = t; desk = d }) (record { tally = x; desk = e })) tally
       (subst (λ k. StepsInTurn (CountsInTally opening) (replicate k ch) (record { tally = t; desk = d }) (record { tally = tallied rs t; desk = e })) n chain)
 

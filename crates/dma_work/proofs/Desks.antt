@@ -1,42 +1,28 @@
 -- What each call keeps of a desk.
-use Rattle.std.proofs.Common.{◌≡◌, ℕ, ◌+◌, ◌<◌, ◌≤◌, Option, None, Some, List, [], ◌∷◌, ◌++◌, length, true, false, refl, ap, sym, ◌∙◌, arith, append-nil, append_assoc, subst, inl, inr, zero-add}
-use Rattle.std.specs.Prelude.{if◌then◌else◌, slice_set, Result, Ok}
-use Rattle.std.specs.List.{All}
-use Rattle.std.proofs.lemmas.Bool.{cases_eq}
-use Rattle.std.proofs.lemmas.List.{ext_get_or, length-map, get_or-set_same, get_or-set_other}
-use Rattle.std.proofs.lemmas.List.FromFn.{get_or-map-range_with_len}
-use Rattle.std.proofs.lemmas.List.Elements.{All-head, All-tail}
-use Rattle.std.proofs.Math.ListN.{get_or-map}
+use Rattle.std.proofs.Common.{◌≡◌, ℕ, ◌+◌, ◌<◌, ◌≤◌, Option, None, Some, List, [], ◌∷◌, ◌++◌, length, refl, ap, sym, ◌∙◌, arith, append-nil, append_assoc}
+use Rattle.std.proofs.Common.{subst, inl, inr, zero-add}
+use Rattle.std.specs.{Prelude.slice_set, Prelude.Result, List.All}
+use Rattle.std.proofs.{lemmas.Bool.cases_eq, lemmas.List.ext_get_or, lemmas.List.length-map, lemmas.List.get_or-set_same, lemmas.List.get_or-set_other}
+use Rattle.std.proofs.{lemmas.List.FromFn.get_or-map-range_with_len, lemmas.List.Elements.All-head, lemmas.List.Elements.All-tail, Math.ListN.get_or-map}
 use Rattle.atomic_table.specs.Seated.{TableId}
-use Rattle.dma_mem.specs.Places.{Descriptor}
-use Rattle.dma_mem.specs.declared.call.Call.{Call}
 use Rattle.dma_mem.specs.declared.call.Call.TheVariants.{Checkpoint, Step, Submit, Terminate}
-use Rattle.dma_engine.specs.declared.call.Reply.{Reply}
+use Rattle.dma_mem.specs.{Places.Descriptor, declared.call.Call.Call}
 use Rattle.dma_engine.specs.declared.call.Reply.TheVariants.{Cookie, Count, Done, Refused, Turned}
-use Rattle.dma_engine.specs.declared.entry.Entry.{Entry}
-use Rattle.dma_engine.specs.declared.fault.EngineFault.{EngineFault}
-use Rattle.dma_engine.specs.declared.turn.Advanced.{Advanced}
-use Rattle.dma_engine.specs.declared.turn.Turn.{Turn}
 use Rattle.dma_engine.specs.Advance.{IsAdvance, finishes_counted, steps_counted, ticks_counted}
 use Rattle.dma_engine.specs.Answer.{CallAnswers, StepAnswers, checkpoint_fault, checkpointed, reply_of, submit_fault, unless}
-use Rattle.dma_engine.specs.Laws.{Adds, IsQuiet, ticks_in}
 use Rattle.dma_engine.specs.Object.{Object, channel, empty_channel, forget, used}
-use Rattle.dma_engine.specs.Ticks.{Tick, Submitted, Finished, Board, Counts, added_up, board_after, board_of, counts, counts_of, no_counts, tick_channel, ticked, ticks_of}
-use Rattle.dma_engine.specs.Turn.{ends, finishes_in, steps_in, turn}
+use Rattle.dma_engine.specs.Ticks.{Tick, Submitted, Finished, Board, Counts, added_up, board_after, board_of, counts, counts_of, no_counts, tick_channel}
+use Rattle.dma_engine.specs.Ticks.{ticked, ticks_of}
 use Rattle.dma_engine.specs.View.{EngineState, IsSound, View, channels, object_of, size}
-use Rattle.dma_engine.proofs.AdvanceResults.{advance_adds}
-use Rattle.dma_engine.proofs.Advances.{advance_keeps}
-use Rattle.dma_engine.proofs.CallLists.{answers_extend, quiet_extends}
-use Rattle.dma_engine.proofs.AnswerCounts.{quiet_calls_keep_counts, steps_add, ends_as_reported}
-use Rattle.dma_engine.proofs.Checkpoint.{accepted, checkpoints_keep}
-use Rattle.dma_engine.proofs.Sizes.{many_channels, size_object}
-use Rattle.dma_engine.proofs.Turns.{answer_is}
+use Rattle.dma_engine.specs.{declared.call.Reply.Reply, declared.entry.Entry.Entry, declared.fault.EngineFault.EngineFault, declared.turn.Advanced.Advanced}
+use Rattle.dma_engine.specs.{declared.turn.Turn.Turn, Laws.Adds, Laws.IsQuiet, Laws.ticks_in, Turn.finishes_in, Turn.steps_in}
 use Rattle.dma_engine.proofs.CookieCounts.{boards_count, base_counts_bounded, submits_add, terminates_add, ticks_name_channels}
-use Rattle.dma_work.specs.declared.worker.Totals.{Totals}
-use Rattle.dma_work.specs.Desk.{Names, advanced_book, stepped_book}
-use Rattle.dma_work.specs.inner.DeskKept.{IsKept}
+use Rattle.dma_engine.proofs.{AdvanceResults.advance_adds, Advances.advance_keeps, CallLists.answers_extend, CallLists.quiet_extends}
+use Rattle.dma_engine.proofs.{AnswerCounts.quiet_calls_keep_counts, AnswerCounts.steps_add, Checkpoint.accepted, Checkpoint.checkpoints_keep}
+use Rattle.dma_engine.proofs.{Sizes.many_channels, Sizes.size_object, Turns.answer_is}
 use Rattle.dma_work.specs.inner.Published.{PublishedList, HasActed, PublisherState, list_and, list_with}
 use Rattle.dma_work.specs.Ticks.{AreFinished, IsGiven, base_of, board_from, eight}
+use Rattle.dma_work.specs.{declared.worker.Totals.Totals, Desk.Names, Desk.advanced_book, Desk.stepped_book, inner.DeskKept.IsKept}
 use Rattle.dma_work.proofs.Boards.{after_length, board_append, ticked_length}
 
 -- ---- boards that agree at the channels 0 to 7
@@ -44,7 +30,8 @@ use Rattle.dma_work.proofs.Boards.{after_length, board_append, ticked_length}
 Alike : Board → Board → Type 0
 Alike a b = (ch : ℕ) → ch < 8 → counts a ch ≡ counts b ch
 
-set_alike : (f : Counts → Counts) (a b : Board) (c ch : ℕ) → c < length a → c < length b → counts a c ≡ counts b c → counts a ch ≡ counts b ch → counts (slice_set a c (f (counts a c))) ch ≡ counts (slice_set b c (f (counts b c))) ch
+set_alike : (f : Counts → Counts) (a b : Board) (c ch : ℕ) → c < length a → c < length b → counts a c ≡ counts b c → counts a ch ≡ counts b ch
+    → counts (slice_set a c (f (counts a c))) ch ≡ counts (slice_set b c (f (counts b c))) ch
 set_alike f a b c ch la lb here e = elim (cases_eq ch c) [
   | inl is ↦ rw is (get_or-set_same a c (f (counts a c)) no_counts la ∙ ap f here ∙ sym (get_or-set_same b c (f (counts b c)) no_counts lb))
   | inr apart ↦ get_or-set_other a c ch (f (counts a c)) no_counts apart ∙ e ∙ sym (get_or-set_other b c ch (f (counts b c)) no_counts apart)
@@ -52,10 +39,13 @@ set_alike f a b c ch la lb here e = elim (cases_eq ch c) [
 
 tick_alike : (a b : Board) (t : Tick) → length a ≡ 8 → length b ≤ 8 → tick_channel t < length b → Alike a b → Alike (ticked a t) (ticked b t)
 unfolding Alike
-tick_alike a b (Submitted c) la few less e ch in_8 = set_alike (λ x. record x { used = added_up x.used 1 }) a b c ch (omega arith) less (e c (omega arith)) (e ch in_8)
-tick_alike a b (Finished c n) la few less e ch in_8 = set_alike (λ x. record x { finished = added_up x.finished n }) a b c ch (omega arith) less (e c (omega arith)) (e ch in_8)
+tick_alike a b (Submitted c) la few less e ch in_8 =
+    set_alike (λ x. record x { used = added_up x.used 1 }) a b c ch (omega arith) less (e c (omega arith)) (e ch in_8)
+tick_alike a b (Finished c n) la few less e ch in_8 =
+    set_alike (λ x. record x { finished = added_up x.finished n }) a b c ch (omega arith) less (e c (omega arith)) (e ch in_8)
 
-boards_alike : (a b : Board) (ts : List Tick) → length a ≡ 8 → length b ≤ 8 → All (λ t. tick_channel t < length b) ts → Alike a b → Alike (board_after a ts) (board_after b ts)
+boards_alike : (a b : Board) (ts : List Tick) → length a ≡ 8 → length b ≤ 8 → All (λ t. tick_channel t < length b) ts → Alike a b
+    → Alike (board_after a ts) (board_after b ts)
 boards_alike a b [] la few below e = e
 boards_alike a b (t ∷ ts) la few below e =
     let n = ticked_length b t in
@@ -77,7 +67,8 @@ after_eight b ts few below =
 history_eight : (v : View) → IsSound v → board_after (base_of v) (ticks_of v.history) ≡ eight (board_after (board_of v.base) (ticks_of v.history))
 history_eight v h =
     let o = base_counts_bounded v h in
-    after_eight (board_of v.base) (ticks_of v.history) (omega (arith, o.0, o.1)) (subst (λ n. All (λ t. tick_channel t < n) (ticks_of v.history)) (sym o.0) (ticks_name_channels v h))
+    after_eight (board_of v.base) (ticks_of v.history) (omega (arith, o.0, o.1))
+    (subst (λ n. All (λ t. tick_channel t < n) (ticks_of v.history)) (sym o.0) (ticks_name_channels v h))
 
 -- ---- calls that are refused
 
@@ -94,7 +85,8 @@ submit_still v w ch t g h = elim (answer_is v w (Submit ch t) (Refused g) h) [
 -- ---- what is published after a call
 
 -- the engine has added one more tick
-pub acted_next : (p : PublisherState) (v w : View) (t u : Tick) → ticks_of w.history ≡ ticks_of v.history ++ u ∷ [] → t ≡ u → p.before ++ ticks_of v.history ≡ p.shown.ticks → HasActed p w t
+pub acted_next : (p : PublisherState) (v w : View) (t u : Tick) → ticks_of w.history ≡ ticks_of v.history ++ u ∷ [] → t ≡ u
+    → p.before ++ ticks_of v.history ≡ p.shown.ticks → HasActed p w t
 acted_next p v w t u more is shown =
     rw (is, more) (sym (append_assoc p.before (ticks_of v.history) (u ∷ [])) ∙ ap (λ x. x ++ u ∷ []) shown)
 
@@ -116,7 +108,9 @@ module _ (opening : View) (base : Board) (table : TableId) where
   board ticks = record { base = base; ticks = ticks; table = table }
 
   -- a call that adds ticks, which are published, and counts in the book as it does in the engine
-  kept_by : (old new : EngineState) (p q : PublisherState) (b e : Totals) (more : List Tick) (moves finishes : ℕ) → Adds old.view new.view more moves finishes → new.view.base ≡ old.view.base → q ≡ record p { shown = list_and p.shown more } → e.steps ≡ b.steps + moves → e.finished + e.terminated ≡ b.finished + b.terminated + finishes → IsKept opening base table old p b → IsKept opening base table new q e
+  kept_by : (old new : EngineState) (p q : PublisherState) (b e : Totals) (more : List Tick) (moves finishes : ℕ) → Adds old.view new.view more moves finishes
+      → new.view.base ≡ old.view.base → q ≡ record p { shown = list_and p.shown more } → e.steps ≡ b.steps + moves
+      → e.finished + e.terminated ≡ b.finished + b.terminated + finishes → IsKept opening base table old p b → IsKept opening base table new q e
   unfolding board
   kept_by old new p q b e more moves finishes a same is steps done k = rw is (record {
     shown = ap (λ (x : PublishedList). list_and x more) k.shown
@@ -132,7 +126,8 @@ module _ (opening : View) (base : Board) (table : TableId) where
   })
 
   -- a call that changes no view
-  pub kept_still : (old new : EngineState) (p : PublisherState) (b : Totals) → new.view ≡ old.view → IsKept opening base table old p b → IsKept opening base table new p b
+  pub kept_still : (old new : EngineState) (p : PublisherState) (b : Totals) → new.view ≡ old.view → IsKept opening base table old p b
+      → IsKept opening base table new p b
   kept_still old new p b same k = record {
     shown = rw same k.shown;
     opens = rw same k.opens;
@@ -143,7 +138,8 @@ module _ (opening : View) (base : Board) (table : TableId) where
   }
 
   -- a call that gives no cookie and finishes none
-  pub kept_quiet : (old new : EngineState) (p : PublisherState) (b : Totals) (call : Call) (reply : Reply) → IsQuiet call → CallAnswers old.view call reply new.view → IsKept opening base table old p b → IsKept opening base table new p b
+  pub kept_quiet : (old new : EngineState) (p : PublisherState) (b : Totals) (call : Call) (reply : Reply) → IsQuiet call
+      → CallAnswers old.view call reply new.view → IsKept opening base table old p b → IsKept opening base table new p b
   kept_quiet old new p b call reply q h k =
       let t = quiet_calls_keep_counts old.view new.view call reply q h in
       let a : Adds old.view new.view [] 0 0 = record {
@@ -154,22 +150,30 @@ module _ (opening : View) (base : Board) (table : TableId) where
       kept_by old new p p b b [] 0 0 a (answers_extend old.view new.view call reply (quiet_extends call reply q) h).0 (no_more p) (omega arith) (omega arith) k
 
   -- a step
-  pub kept_step : (old new : EngineState) (p q : PublisherState) (b : Totals) (ch : ℕ) (r : Result Turn EngineFault) → StepAnswers old.view ch r new.view → q ≡ record p { shown = list_and p.shown (ticks_in ch r) } → IsKept opening base table old p b → IsKept opening base table new q (stepped_book b r)
+  pub kept_step : (old new : EngineState) (p q : PublisherState) (b : Totals) (ch : ℕ) (r : Result Turn EngineFault) → StepAnswers old.view ch r new.view
+      → q ≡ record p { shown = list_and p.shown (ticks_in ch r) } → IsKept opening base table old p b → IsKept opening base table new q (stepped_book b r)
   kept_step old new p q b ch r h is k =
-      kept_by old new p q b (stepped_book b r) (ticks_in ch r) (steps_in r) (finishes_in r) (steps_add old.view new.view ch r h) (answers_extend old.view new.view (Step ch) (reply_of Turned r) refl h).0 is refl (omega arith) k
+      kept_by old new p q b (stepped_book b r) (ticks_in ch r) (steps_in r) (finishes_in r) (steps_add old.view new.view ch r h)
+      (answers_extend old.view new.view (Step ch) (reply_of Turned r) refl h).0 is refl (omega arith) k
 
   -- consecutive steps
-  pub kept_advance : (old new : EngineState) (p q : PublisherState) (b : Totals) (ch most : ℕ) (a : Advanced) → IsAdvance old.view ch most a new.view → q ≡ record p { shown = list_and p.shown (ticks_counted ch a) } → IsKept opening base table old p b → IsKept opening base table new q (advanced_book b a)
+  pub kept_advance : (old new : EngineState) (p q : PublisherState) (b : Totals) (ch most : ℕ) (a : Advanced) → IsAdvance old.view ch most a new.view
+      → q ≡ record p { shown = list_and p.shown (ticks_counted ch a) } → IsKept opening base table old p b → IsKept opening base table new q (advanced_book b a)
   kept_advance old new p q b ch most a h is k =
-      kept_by old new p q b (advanced_book b a) (ticks_counted ch a) (steps_counted a) (finishes_counted a) (advance_adds old.view new.view ch most a h) (advance_keeps old.view new.view ch most a h).0.0 is refl (omega arith) k
+      kept_by old new p q b (advanced_book b a) (ticks_counted ch a) (steps_counted a) (finishes_counted a) (advance_adds old.view new.view ch most a h)
+      (advance_keeps old.view new.view ch most a h).0.0 is refl (omega arith) k
 
   -- the engine added one more tick, and it was published
-  pub kept_next : (old new : EngineState) (p q : PublisherState) (b e : Totals) (t u : Tick) (moves finishes : ℕ) → Adds old.view new.view (u ∷ []) moves finishes → new.view.base ≡ old.view.base → t ≡ u → q ≡ record p { shown = list_with p.shown t } → e.steps ≡ b.steps + moves → e.finished + e.terminated ≡ b.finished + b.terminated + finishes → IsKept opening base table old p b → IsKept opening base table new q e
+  pub kept_next : (old new : EngineState) (p q : PublisherState) (b e : Totals) (t u : Tick) (moves finishes : ℕ)
+      → Adds old.view new.view (u ∷ []) moves finishes → new.view.base ≡ old.view.base → t ≡ u → q ≡ record p { shown = list_with p.shown t }
+      → e.steps ≡ b.steps + moves → e.finished + e.terminated ≡ b.finished + b.terminated + finishes → IsKept opening base table old p b
+      → IsKept opening base table new q e
   kept_next old new p q b e t u moves finishes a from is published steps done k =
       kept_by old new p q b e (u ∷ []) moves finishes a from (published ∙ ap (λ x. record p { shown = list_with p.shown x }) is) steps done k
 
   -- a checkpoint: what was published comes before the new history
-  pub kept_checkpoint : (old new : EngineState) (p q : PublisherState) (b : Totals) → IsSound old.view → CallAnswers old.view Checkpoint Done new.view → q ≡ record p { before = p.shown.ticks } → IsKept opening base table old p b → IsKept opening base table new q b
+  pub kept_checkpoint : (old new : EngineState) (p q : PublisherState) (b : Totals) → IsSound old.view → CallAnswers old.view Checkpoint Done new.view
+      → q ≡ record p { before = p.shown.ticks } → IsKept opening base table old p b → IsKept opening base table new q b
   unfolding board
   kept_checkpoint old new p q b sound h is k =
       let c = checkpoints_keep old.view new.view sound h in
@@ -188,7 +192,9 @@ module _ (opening : View) (base : Board) (table : TableId) where
       })
 
 -- The same desk under a new name, with an empty book.
-pub kept_anew : (opening opening_now : View) (base base_now : Board) (table table_now : TableId) (engine : EngineState) (p : PublisherState) (b e : Totals) → IsKept opening base table engine p b → Names opening_now base_now table_now (record { engine = engine; base = base; table = table }) → (e.steps ≡ 0) × (e.finished ≡ 0) × (e.terminated ≡ 0) → IsKept opening_now base_now table_now engine p e
+pub kept_anew : (opening opening_now : View) (base base_now : Board) (table table_now : TableId) (engine : EngineState) (p : PublisherState) (b e : Totals)
+    → IsKept opening base table engine p b → Names opening_now base_now table_now (record { engine = engine; base = base; table = table }) → (e.steps ≡ 0)
+    × (e.finished ≡ 0) × (e.terminated ≡ 0) → IsKept opening_now base_now table_now engine p e
 kept_anew opening opening_now base base_now table table_now engine p b e k names none = record {
   shown = rw (names.1, names.2) k.shown;
   opens = rw names.1 k.opens;
@@ -199,7 +205,8 @@ kept_anew opening opening_now base base_now table table_now engine p b e k names
 }
 
 -- The published board has the engine's own counts of each channel.
-pub board_counts : (base : Board) (before : List Tick) (v : View) → board_from base before ≡ base_of v → IsSound v → (ch : ℕ) → ch < channels v → counts (board_from base (before ++ ticks_of v.history)) ch ≡ counts_of (channel (object_of v) ch)
+pub board_counts : (base : Board) (before : List Tick) (v : View) → board_from base before ≡ base_of v → IsSound v → (ch : ℕ) → ch < channels v
+    → counts (board_from base (before ++ ticks_of v.history)) ch ≡ counts_of (channel (object_of v) ch)
 board_counts base before v opens h ch less =
     ap (λ b. counts b ch) (board_append base before (ticks_of v.history) ∙ ap (λ b. board_after b (ticks_of v.history)) opens ∙ history_eight v h)
     ∙ counts_eight (board_after (board_of v.base) (ticks_of v.history)) ch (omega (arith, less, (base_counts_bounded v h).1))
@@ -210,7 +217,9 @@ board_counts base before v opens h ch less =
 
 module _ (opening : View) (base : Board) (table : TableId) where
   -- the cookie of a submit is given in the list that is published then
-  pub given_in : (new : EngineState) (q : PublisherState) (b : Totals) (v : View) (ch cookie : ℕ) (t : Descriptor) (list : List Tick) → CallAnswers v (Submit ch t) (Cookie cookie) new.view → IsSound new.view → IsKept opening base table new q b → list ≡ q.shown.ticks → IsGiven base list ch cookie
+  pub given_in : (new : EngineState) (q : PublisherState) (b : Totals) (v : View) (ch cookie : ℕ) (t : Descriptor) (list : List Tick)
+      → CallAnswers v (Submit ch t) (Cookie cookie) new.view → IsSound new.view → IsKept opening base table new q b → list ≡ q.shown.ticks
+      → IsGiven base list ch cookie
   given_in new q b v ch cookie t list h sound k is =
       let s = submits_add v new.view ch cookie t h in
       let all = is ∙ ap (λ (x : PublishedList). x.ticks) k.shown in
@@ -219,7 +228,9 @@ module _ (opening : View) (base : Board) (table : TableId) where
       (s.2, omega (arith, at, s.3))
 
   -- and after a terminate all cookies of its channel are finished
-  pub finished_in : (new : EngineState) (q : PublisherState) (b : Totals) (v : View) (ch count through : ℕ) (list : List Tick) → CallAnswers v (Terminate ch) (Count count) new.view → IsSound new.view → IsKept opening base table new q b → list ≡ q.shown.ticks → through ≡ used (channel (object_of new.view) ch) → AreFinished base list ch through
+  pub finished_in : (new : EngineState) (q : PublisherState) (b : Totals) (v : View) (ch count through : ℕ) (list : List Tick)
+      → CallAnswers v (Terminate ch) (Count count) new.view → IsSound new.view → IsKept opening base table new q b → list ≡ q.shown.ticks
+      → through ≡ used (channel (object_of new.view) ch) → AreFinished base list ch through
   finished_in new q b v ch count through list h sound k is through_is =
       let s = terminates_add v new.view ch count h in
       let all = is ∙ ap (λ (x : PublishedList). x.ticks) k.shown in

@@ -1,28 +1,21 @@
 -- The turns that were taken on a shift.
 use Rattle.std.proofs.Common.{◌≡◌, ℕ, zero, suc, ◌+◌, ◌<◌, ◌≤◌, List, [], ◌∷◌, ◌++◌, length, sum_by, take, map, refl, sym, ap, ◌∙◌, subst, arith, add-one}
-use Rattle.std.specs.Prelude.{Result, slice_index_or, slice_set}
-use Rattle.std.specs.List.{All}
-use Rattle.std.proofs.Math.Seq.{map-set_same}
+use Rattle.std.specs.{Prelude.Result, Prelude.slice_index_or, Prelude.slice_set, List.All}
 use Rattle.std.proofs.lemmas.List.{get_or-map, get_or_default, length-map, map-append, map-set, take_more}
 use Rattle.std.proofs.lemmas.List.Elements.{All-head, All-push, All-tail}
-use Rattle.std.proofs.lemmas.List.Sums.{sum_by-append}
+use Rattle.std.proofs.{Math.Seq.map-set_same, lemmas.List.Sums.sum_by-append}
 use Rattle.dma_engine.specs.Interleaved.{Interleaves, JobTurn, channel_at, rotation, turns_taken}
-use Rattle.dma_engine.specs.Turn.{finishes_in, steps_in, turn}
-use Rattle.dma_engine.specs.View.{View}
-use Rattle.dma_engine.specs.declared.fault.EngineFault.{EngineFault}
-use Rattle.dma_engine.specs.declared.turn.Turn.{Turn}
+use Rattle.dma_engine.specs.{Turn.finishes_in, Turn.steps_in, Turn.turn, View.View, declared.fault.EngineFault.EngineFault, declared.turn.Turn.Turn}
 use Rattle.dma_engine.proofs.Interleavings.{interleaves_more, taken_append}
-use Rattle.dma_work.specs.declared.job.Job.{Job}
-use Rattle.dma_work.specs.declared.seat.Seat.{Seat}
-use Rattle.dma_work.specs.declared.worker.Totals.{Totals}
-use Rattle.dma_work.specs.Desk.{DeskState, stepped_book}
 use Rattle.dma_work.specs.Shift.{AreNewSeats, IsDone, TakesNext, TakesStep, TookAllTurns, TookTurnsOn, channels_of_job, jobs_of}
-use Rattle.dma_work.specs.inner.InTurn.{IsInTurn, channels_taken}
+use Rattle.dma_work.specs.{declared.job.Job.Job, declared.seat.Seat.Seat, declared.worker.Totals.Totals, Desk.DeskState, Desk.stepped_book}
+use Rattle.dma_work.specs.{inner.InTurn.IsInTurn, inner.InTurn.channels_taken}
 
 -- ---- one turn more
 
 -- A step of the channel that the seats want next.
-pub in_turn_more : (opening : View) (jobs : List Job) (old new : DeskState) (worker ch : ℕ) (seats now : List Seat) → TakesStep ch old new → TakesNext worker ch seats now → IsInTurn opening jobs old.engine.view old.book seats → IsInTurn opening jobs new.engine.view new.book now
+pub in_turn_more : (opening : View) (jobs : List Job) (old new : DeskState) (worker ch : ℕ) (seats now : List Seat) → TakesStep ch old new
+    → TakesNext worker ch seats now → IsInTurn opening jobs old.engine.view old.book seats → IsInTurn opening jobs new.engine.view new.book now
 in_turn_more opening jobs old new worker ch seats now step next h =
     let seat = next.seat in
     let was = slice_index_or seats worker seat in
@@ -41,11 +34,26 @@ in_turn_more opening jobs old new worker ch seats now step next h =
       ap jobs_of next.now ∙ map-set_same (λ (s : Seat). s.job) seats worker seat seat (next.job seat) ∙ h.0,
       record {
         turns = h.1.turns ++ t ∷ [];
-        interleaved = subst (λ l. Interleaves l (h.1.turns ++ t ∷ [])) (sym (ap (map channels_taken) next.now ∙ map-set channels_taken seats worker seat ∙ ap (slice_set (map channels_taken seats) worker) its))
+        interleaved = subst (λ l. Interleaves l (h.1.turns ++ t ∷ []))
+            (sym (ap (map channels_taken) next.now ∙ map-set channels_taken seats worker seat ∙ ap (slice_set (map channels_taken seats) worker) its))
             (interleaves_more (map channels_taken seats) h.1.turns t there h.1.interleaved);
         leads = step.view ∙ ap (λ v. (turn v ch).1) found ∙ sym (ap (λ (x : List (Result Turn EngineFault) × View). x.1) all);
-        steps = omega (arith, ap (λ (b : Totals). b.steps) book, h.1.steps, sum_by-append steps_in before.0 (r ∷ []), ap (λ (x : List (Result Turn EngineFault) × View). sum_by steps_in x.0) all);
-        finished = omega (arith, ap (λ (b : Totals). b.finished) book, h.1.finished, sum_by-append finishes_in before.0 (r ∷ []), ap (λ (x : List (Result Turn EngineFault) × View). sum_by finishes_in x.0) all);
+        steps = omega (
+          arith,
+          ap (λ (b : Totals). b.steps) book,
+          h.1.steps,
+          sum_by-append steps_in before.0 (r ∷ []),
+          ap
+              (λ (x : List (Result Turn EngineFault) × View). sum_by steps_in x.0) all,
+        );
+        finished = omega (
+          arith,
+          ap (λ (b : Totals). b.finished) book,
+          h.1.finished,
+          sum_by-append finishes_in before.0 (r ∷ []),
+          ap
+              (λ (x : List (Result Turn EngineFault) × View). sum_by finishes_in x.0) all,
+        );
       },
     )
 
@@ -56,14 +64,16 @@ none_taken [] fresh k = refl
 none_taken (s ∷ seats) fresh zero = sym (ap (rotation s.job.first s.job.last) (All-head (λ (s : Seat). s.taken ≡ 0) s seats fresh))
 none_taken (s ∷ seats) fresh (suc k) = none_taken seats (All-tail (λ (s : Seat). s.taken ≡ 0) s seats fresh) k
 
-pub in_turn_new : (opening : View) (jobs : List Job) (v : View) (book : Totals) (seats : List Seat) → opening ≡ v → book.steps ≡ 0 → book.finished ≡ 0 → AreNewSeats jobs seats → IsInTurn opening jobs v book seats
+pub in_turn_new : (opening : View) (jobs : List Job) (v : View) (book : Totals) (seats : List Seat) → opening ≡ v → book.steps ≡ 0 → book.finished ≡ 0
+    → AreNewSeats jobs seats → IsInTurn opening jobs v book seats
 in_turn_new opening jobs v book seats same steps finished new = (
   new.0,
   record { turns = []; interleaved = none_taken seats new.1; leads = sym same; steps = steps; finished = finished },
 )
 
 -- one more seat of it
-pub new_more : (jobs : List Job) (n : ℕ) (job : Job) (seats : List Seat) (seat : Seat) → n < length jobs → slice_index_or jobs n job ≡ job → seat.job ≡ job → seat.taken ≡ 0 → AreNewSeats (take n jobs) seats → AreNewSeats (take (n + 1) jobs) (seats ++ seat ∷ [])
+pub new_more : (jobs : List Job) (n : ℕ) (job : Job) (seats : List Seat) (seat : Seat) → n < length jobs → slice_index_or jobs n job ≡ job → seat.job ≡ job
+    → seat.taken ≡ 0 → AreNewSeats (take n jobs) seats → AreNewSeats (take (n + 1) jobs) (seats ++ seat ∷ [])
 new_more jobs n job seats seat less at is fresh new = (
   map-append (λ (s : Seat). s.job) seats (seat ∷ []) ∙ ap (λ l. l ++ seat.job ∷ []) new.0
       ∙ ap (λ j. take n jobs ++ j ∷ []) (is ∙ sym at) ∙ sym (take_more jobs n job less),
@@ -71,9 +81,11 @@ new_more jobs n job seats seat less at is fresh new = (
 )
 
 -- a turn on the channel that is next
-pub takes_next : (worker : ℕ) (seats now : List Seat) (was seat : Seat) → seats ≡ now → worker < length seats → was ≡ slice_index_or seats worker was → (seat.job ≡ was.job) × (seat.taken ≡ was.taken + 1) → TakesNext worker was.next now (slice_set now worker seat)
+pub takes_next : (worker : ℕ) (seats now : List Seat) (was seat : Seat) → seats ≡ now → worker < length seats → was ≡ slice_index_or seats worker was
+    → (seat.job ≡ was.job) × (seat.taken ≡ was.taken + 1) → TakesNext worker was.next now (slice_set now worker seat)
 takes_next worker seats now was seat same less at more =
-    let item : (s : Seat) → was ≡ slice_index_or now worker s = λ s. at ∙ get_or_default seats worker was s less ∙ ap (λ l. slice_index_or l worker s) same in record {
+    let item : (s : Seat) → was ≡ slice_index_or now worker s = λ s. at ∙ get_or_default seats worker was s less ∙ ap (λ l. slice_index_or l worker s) same in
+    record {
       seat = seat;
       there = subst (λ l. worker < length l) same less;
       now = refl;
@@ -86,7 +98,8 @@ takes_next worker seats now was seat same less at more =
 
 -- ---- all turns
 
-pub done_more : (seats : List Seat) (n : ℕ) (seat : Seat) → n < length seats → seat ≡ slice_index_or seats n seat → seat.job.turns ≤ seat.taken → All IsDone (take n seats) → All IsDone (take (n + 1) seats)
+pub done_more : (seats : List Seat) (n : ℕ) (seat : Seat) → n < length seats → seat ≡ slice_index_or seats n seat → seat.job.turns ≤ seat.taken
+    → All IsDone (take n seats) → All IsDone (take (n + 1) seats)
 done_more seats n seat less at past done =
     subst (All IsDone) (sym (take_more seats n seat less))
     (All-push IsDone (take n seats) (slice_index_or seats n seat) done (subst IsDone at (omega (arith, past, seat.within))))
@@ -97,6 +110,7 @@ all_channels (s ∷ seats) done =
     ap (λ c. c ∷ map channels_taken seats) (ap (rotation s.job.first s.job.last) (All-head IsDone s seats done))
     ∙ ap (λ l. channels_of_job s.job ∷ l) (all_channels seats (All-tail IsDone s seats done))
 
-pub all_taken : (opening : View) (jobs : List Job) (v : View) (book : Totals) (seats : List Seat) → All IsDone seats → IsInTurn opening jobs v book seats → TookAllTurns opening jobs v book
+pub all_taken : (opening : View) (jobs : List Job) (v : View) (book : Totals) (seats : List Seat) → All IsDone seats → IsInTurn opening jobs v book seats
+    → TookAllTurns opening jobs v book
 all_taken opening jobs v book seats done h =
     subst (λ l. TookTurnsOn opening l v book) (all_channels seats done ∙ ap (map channels_of_job) h.0) h.1

@@ -1,35 +1,27 @@
 -- Steps that keep the rule of what is published.
-use Rattle.std.proofs.Common.{◌≡◌, ◌≢◌, ℕ, zero, suc, ◌+◌, ◌%◌, ◌/◌, ◌<◌, ◌≤◌, min, ◌==◌, Bool, true, false, List, [], ◌∷◌, ◌++◌, length, refl, ap, sym, ◌∙◌, subst, arith, inl, inr, ⊎_elim}
-use Rattle.std.specs.Prelude.{if◌then◌else◌, nat_lt, slice_index, slice_set}
-use Rattle.std.proofs.lemmas.Bool.{cases_eq, cases_lt, false≢true}
-use Rattle.std.proofs.lemmas.List.{get_or-set_other, get_or-set_same, length-set}
+use Rattle.std.proofs.Common.{◌≡◌, ◌≢◌, ℕ, zero, suc, ◌%◌, ◌/◌, ◌<◌, ◌≤◌, min, ◌==◌, true, false, List, [], ◌∷◌, ◌++◌, length, refl, ap, sym, ◌∙◌, subst, arith}
+use Rattle.std.proofs.Common.{inl, inr, ⊎_elim}
+use Rattle.std.specs.Prelude.{if◌then◌else◌, slice_index, slice_set}
+use Rattle.std.proofs.lemmas.Bool.{cases_eq, cases_lt, false≢true, le-ltb}
+use Rattle.std.proofs.{lemmas.List.get_or-set_other, lemmas.List.get_or-set_same, lemmas.List.length-set, Math.Option.some-injective}
+use Rattle.atomic_table.specs.Table.{Allows, Joins, Me, Splits, State, keeps, opening, step, stepped}
+use Rattle.atomic_table.proofs.Lists.{at_set, at_snoc, exchanged}
+use Rattle.dma_engine.specs.Ticks.{Board, Counts, Tick, Submitted, Finished, counts, no_counts, ticked}
+use Rattle.dma_work.specs.inner.Published.{AreWords, IsKnown, Keeps, WasLooked, adds, first_sight, learns, longer, offered, packed, reads, new_sight, unpacked}
+use Rattle.dma_work.specs.inner.TickForms.{changed, channel_of, tick_of}
+use Rattle.dma_work.specs.{declared.board.Sight.Sight, declared.tick.Change.Change, Laws.AreCounts, Ticks.StartsWith, Ticks.board_from}
+use Rattle.dma_work.proofs.{Beginnings.prefix_shorter, Boards.after_length, Boards.board_push, StatusLaws.small_after}
 use mathlib.Core.Option.{none, some, some-ne-none}
-use Rattle.std.proofs.Math.Option.{some-injective}
-use mathlib.Core.List.{IsPrefix}
 use lib.ListN.{get_elem?}
 use base.Growing.{prefix_refl, prefix_trans}
 use prog.Atomic.{either}
-use Rattle.atomic_table.specs.Table.{Act, Allows, Joins, Me, Splits, State, keeps, opening, step, stepped}
-use Rattle.atomic_table.proofs.Lists.{at_set, at_snoc, exchanged}
-use Rattle.dma_engine.specs.Ticks.{Board, Counts, Tick, Submitted, Finished, counts, no_counts, ticked}
-use Rattle.dma_work.specs.declared.board.Sight.{Sight}
-use Rattle.dma_work.specs.inner.Published.{AreWords, IsKnown, Keeps, WasLearnt, WasLooked, adds, first_sight, learns, longer, looks, offered, packed, reads, stays, new_sight, unpacked}
-use Rattle.dma_work.specs.declared.tick.Change.{Change}
 use Rattle.dma_work.specs.declared.tick.Change.TheVariants.{Given, Finished as ChangeFinished}
-use Rattle.dma_work.specs.inner.TickForms.{changed, channel_of, tick_of}
-use Rattle.dma_work.specs.Laws.{AreCounts}
-use Rattle.dma_work.specs.Ticks.{StartsWith, board_from, status_after}
-use Rattle.dma_engine.specs.Answer.{status_by}
-use Rattle.dma_engine.specs.declared.turn.Status.{Status}
-use Rattle.dma_engine.specs.declared.turn.Status.TheVariants.{Unknown}
-use Rattle.dma_work.proofs.Beginnings.{prefix_shorter}
-use Rattle.dma_work.proofs.Boards.{after_length, board_push}
-use Rattle.dma_work.proofs.StatusLaws.{small_after}
 
 -- ---- words
 
 -- a word of a channel gets that channel's counts on another board, which has the other channels' counts still
-set_words : (old new : Board) (words : List ℕ) (i n : ℕ) → AreWords old words → i < length words → (i < 8 → n ≡ packed (counts new i)) → ((ch : ℕ) → ch < 8 → ch ≢ i → counts new ch ≡ counts old ch) → AreWords new (slice_set words i n)
+set_words : (old new : Board) (words : List ℕ) (i n : ℕ) → AreWords old words → i < length words → (i < 8 → n ≡ packed (counts new i))
+    → ((ch : ℕ) → ch < 8 → ch ≢ i → counts new ch ≡ counts old ch) → AreWords new (slice_set words i n)
 set_words old new words i n h inside is others ch less = elim (cases_eq ch i) [
   | inl e ↦ rw e (get_or-set_same words i n 0 inside ∙ is (omega (arith, less, e)))
   | inr apart ↦ get_or-set_other words i ch n 0 apart ∙ h ch less ∙ ap packed (sym (others ch less apart))
@@ -56,7 +48,8 @@ changed_counts b ch Given less = get_or-set_same b ch _ no_counts less
 changed_counts b ch (ChangeFinished count) less = get_or-set_same b ch _ no_counts less
 
 -- the word of a channel after a change
-pub new_word : (v : Sight) (i ch n new : ℕ) (c : Change) (t : Tick) → WasLooked i v n → t ≡ tick_of ch c → i ≡ min ch 8 → (i < 8 → new ≡ packed (changed (unpacked n) c)) → i < 8 → new ≡ packed (counts (ticked (board_from v.base v.seen) t) i)
+pub new_word : (v : Sight) (i ch n new : ℕ) (c : Change) (t : Tick) → WasLooked i v n → t ≡ tick_of ch c → i ≡ min ch 8
+    → (i < 8 → new ≡ packed (changed (unpacked n) c)) → i < 8 → new ≡ packed (counts (ticked (board_from v.base v.seen) t) i)
 new_word v i ch n new c t w is at new_is less =
     let b = board_from v.base v.seen in
     let here : i ≡ ch = omega (arith, at, less) in
@@ -68,20 +61,25 @@ new_word v i ch n new c t w is at new_is less =
 Known : Board → List Tick → List Sight → Type 0
 Known base ticks views = (seat : ℕ) (v : Sight) → get_elem? views seat ≡ some v → IsKnown base ticks seat v
 
-set_known : (base : Board) (ticks : List Tick) (views : List Sight) (id : ℕ) (w : Sight) → Known base ticks views → IsKnown base ticks id w → Known base ticks (slice_set views id w)
+set_known : (base : Board) (ticks : List Tick) (views : List Sight) (id : ℕ) (w : Sight) → Known base ticks views → IsKnown base ticks id w
+    → Known base ticks (slice_set views id w)
 unfolding Known
 set_known base ticks views id w h ok j v at =
-    ⊎_elim (λ (t : (j ≡ id) × (w ≡ v)). subst (IsKnown base ticks j) t.1 (subst (λ i. IsKnown base ticks i w) (sym t.0) ok)) (λ (t : (j ≢ id) × (get_elem? views j ≡ some v)). h j v t.1) (at_set views id j w v at)
+    ⊎_elim (λ (t : (j ≡ id) × (w ≡ v)). subst (IsKnown base ticks j) t.1 (subst (λ i. IsKnown base ticks i w) (sym t.0) ok))
+    (λ (t : (j ≢ id) × (get_elem? views j ≡ some v)). h j v t.1) (at_set views id j w v at)
 
 -- a seat that is not the writer's, with lists that are known
-reader_known : (base : Board) (ticks : List Tick) (seat : ℕ) (v : Sight) → v.writes ≡ false → v.base ≡ base → StartsWith ticks v.seen → StartsWith ticks v.learnt → StartsWith ticks v.offered → IsKnown base ticks seat v
-reader_known base ticks seat v is_reader is s l o = record { base_is = is; seen = s; learnt = l; offered = o; writer = λ writes. absurd (false≢true (sym is_reader ∙ writes)) }
+reader_known : (base : Board) (ticks : List Tick) (seat : ℕ) (v : Sight) → v.writes ≡ false → v.base ≡ base → StartsWith ticks v.seen
+    → StartsWith ticks v.learnt → StartsWith ticks v.offered → IsKnown base ticks seat v
+reader_known base ticks seat v is_reader is s l o =
+    record { base_is = is; seen = s; learnt = l; offered = o; writer = λ writes. absurd (false≢true (sym is_reader ∙ writes)) }
 
 -- ---- steps
 
 -- A seat's step that changes no tick. It keeps the rule, whatever the seat learns and whatever the step does to a word
 -- of no channel.
-step_kept : (base : Board) (s : State Tick Sight) (k : Keeps base s) (id i n : ℕ) (c : List (ℕ × Tick)) (w : Sight) → IsKnown base k.ticks id w → i < 10 → (i < 8 → n ≡ packed (counts (board_from base k.ticks) i)) → Keeps base (stepped s i n id c w keeps)
+step_kept : (base : Board) (s : State Tick Sight) (k : Keeps base s) (id i n : ℕ) (c : List (ℕ × Tick)) (w : Sight) → IsKnown base k.ticks id w → i < 10
+    → (i < 8 → n ≡ packed (counts (board_from base k.ticks) i)) → Keeps base (stepped s i n id c w keeps)
 unfolding Known
 step_kept base s k id i n c w ok inside is = record {
   ticks = k.ticks;
@@ -95,16 +93,6 @@ step_kept base s k id i n c w ok inside is = record {
 looked : (base : Board) (s : State Tick Sight) (k : Keeps base s) (i : ℕ) (v : Sight) → v.base ≡ base → v.seen ≡ k.ticks → WasLooked i v (slice_index s.words i)
 looked base s k i v of all =
     rw (of, all) (record { eight = after_length base k.ticks ∙ k.eight; small = small_after base k.ticks k.small; word = λ less. k.words i less })
-
-pub looks_kept : (base : Board) (slots id i : ℕ) (me : Me Tick Sight) → me.0.writes ≡ true → i < 10 → Allows (Keeps base) slots id me i (λ n. n) (looks (step slots i 0 0 none) me)
-looks_kept base slots id i me writes inside s k sized at few =
-    let o = k.known id me.0 at in (
-      me.0,
-      keeps,
-      tt,
-      step_kept base s k id i (slice_index s.words i) me.1 me.0 o inside (λ less. k.words i less),
-      (refl, looked base s k i me.0 o.base_is (o.writer writes).1),
-    )
 
 pub reads_kept : (base : Board) (slots id i : ℕ) (me : Me Tick Sight) → i < 10 → Allows (Keeps base) slots id me i (λ n. n) (reads (step slots i 0 0 none) me)
 reads_kept base slots id i me inside s k sized at few =
@@ -122,7 +110,16 @@ reads_kept base slots id i me inside s k sized at few =
       keeps,
       tt,
       step_kept base s k id i (slice_index s.words i) me.1 w ok inside (λ less. k.words i less),
-      (record { same = refl; later = o.seen; covers = o.learnt; read = looked base s k i w o.base_is refl }, refl),
+      (
+        record {
+          same = refl;
+          later = o.seen;
+          covers = o.learnt;
+          read = looked base s k i w o.base_is refl;
+          writer = λ writes. ap (λ l. record v { seen = l }) (sym (o.writer writes).1);
+        },
+        refl,
+      ),
     )
 
 -- of two beginnings of one list the longer begins with both
@@ -141,8 +138,10 @@ longer_begins xs ys zs p q = elim (cases_lt (length xs) (length ys)) [
       rw is (record { within = p; one = prefix_refl xs; other = prefix_shorter ys xs zs q p past })
 ]
 
-pub learns_kept : (base : Board) (slots id i : ℕ) (me : Me Tick Sight) → i < 10 → Allows (Keeps base) slots id me i (λ n. n) (learns (step slots i 0 0 none) me)
-learns_kept base slots id i me inside s k sized at few =
+-- a step on a word of no channel
+pub learns_kept : (base : Board) (slots id i : ℕ) (me : Me Tick Sight) (f : ℕ → ℕ) → i < 10 → 8 ≤ i
+    → Allows (Keeps base) slots id me i f (learns (step slots i 0 0 none) me)
+learns_kept base slots id i me f inside past s k sized at few =
     let v = me.0 in
     let o = k.known id v at in
     let l = longer_begins v.learnt v.offered k.ticks o.learnt o.offered in
@@ -152,23 +151,17 @@ learns_kept base slots id i me inside s k sized at few =
       w,
       keeps,
       tt,
-      step_kept base s k id i (slice_index s.words i) me.1 w ok inside (λ less. k.words i less),
+      step_kept base s k id i (f (slice_index s.words i)) me.1 w ok inside (λ less. absurd (omega (arith, less, past))),
       (record { is = refl; before = l.one; ticket = l.other }, refl),
     )
 
--- a step on a word of no channel
-pub stays_kept : (base : Board) (slots id i : ℕ) (me : Me Tick Sight) (f : ℕ → ℕ) → i < 10 → 8 ≤ i → Allows (Keeps base) slots id me i f (λ n m'. m' ≡ me)
-stays_kept base slots id i me f inside past s k sized at few = (
-  me.0,
-  keeps,
-  tt,
-  step_kept base s k id i (f (slice_index s.words i)) me.1 me.0 (k.known id me.0 at) inside (λ less. absurd (omega (arith, less, past))),
-  refl,
-)
+pub longer_none : (xs : List Tick) → longer xs [] ≡ xs
+longer_none xs = ap (λ b. if b then [] else xs) (le-ltb (length xs) 0 (omega arith))
 
 -- The writer adds a tick, whose channel has the word i, if it has one. The word had the counts before the tick, and
 -- gets those after it.
-pub adds_kept : (base : Board) (slots id i old new : ℕ) (me : Me Tick Sight) (t : Tick) → me.0.writes ≡ true → i < 10 → (channel_of t < 8 → i ≡ channel_of t) → (8 ≤ channel_of t → 8 ≤ i)
+pub adds_kept : (base : Board) (slots id i old new : ℕ) (me : Me Tick Sight) (t : Tick) → me.0.writes ≡ true → i < 10 → (channel_of t < 8 → i ≡ channel_of t)
+    → (8 ≤ channel_of t → 8 ≤ i)
     → (i < 8 → old ≡ packed (counts (board_from me.0.base me.0.seen) i)) → (i < 8 → new ≡ packed (counts (ticked (board_from me.0.base me.0.seen) t) i))
     → Allows (Keeps base) slots id me i (λ n. either (n == old) new n) (adds (step slots i old new (some t)) me)
 unfolding Known
@@ -183,7 +176,8 @@ adds_kept base slots id i old new me t writes inside low high old_is new_is s k 
     let more : StartsWith all k.ticks = (t ∷ [], refl) in
     let on : (front : List Tick) → StartsWith k.ticks front → StartsWith all front = λ front p. prefix_trans front k.ticks all p more in
     let b_is : board_from v.base v.seen ≡ b = ap (λ x. board_from x v.seen) o.base_is ∙ ap (board_from base) here.1 in
-    let word : i < 8 → either (n == old) new n ≡ packed (counts (ticked b t) i) = exchanged n old new (λ x. i < 8 → x ≡ packed (counts (ticked b t) i)) (λ same less. new_is less ∙ ap (λ x. packed (counts (ticked x t) i)) b_is)
+    let word : i < 8 → either (n == old) new n ≡ packed (counts (ticked b t) i) =
+    exchanged n old new (λ x. i < 8 → x ≡ packed (counts (ticked b t) i)) (λ same less. new_is less ∙ ap (λ x. packed (counts (ticked x t) i)) b_is)
     (λ apart less. absurd (apart (k.words i less ∙ sym (old_is less ∙ ap (λ x. packed (counts x i)) b_is)))) in
     let others : (j : ℕ) (u : Sight) → j ≢ id → get_elem? s.views j ≡ some u → IsKnown base all j u = λ j u apart there.
     let h = k.known j u there in
@@ -209,11 +203,13 @@ adds_kept base slots id i old new me t writes inside low high old_is new_is s k 
       record {
         ticks = all;
         known = λ j u there.
-            ⊎_elim (λ (x : (j ≡ id) × (w ≡ u)). subst (IsKnown base all j) x.1 (subst (λ y. IsKnown base all y w) (sym x.0) mine)) (λ (x : (j ≢ id) × (get_elem? s.views j ≡ some u)). others j u x.0 x.1) (at_set s.views id j w u there);
+            ⊎_elim (λ (x : (j ≡ id) × (w ≡ u)). subst (IsKnown base all j) x.1 (subst (λ y. IsKnown base all y w) (sym x.0) mine))
+            (λ (x : (j ≢ id) × (get_elem? s.views j ≡ some u)). others j u x.0 x.1) (at_set s.views id j w u there);
         eight = k.eight;
         small = k.small;
         many = length-set s.words i (either (n == old) new n) ∙ k.many;
-        words = set_words b (board_from base all) s.words i (either (n == old) new n) k.words (omega (arith, inside, k.many)) (λ less. word less ∙ ap (λ x. packed (counts x i)) (sym (board_push base k.ticks t))) apart;
+        words = set_words b (board_from base all) s.words i (either (n == old) new n) k.words (omega (arith, inside, k.many))
+            (λ less. word less ∙ ap (λ x. packed (counts x i)) (sym (board_push base k.ticks t))) apart;
       },
       λ u is. search (is),
     )
@@ -229,7 +225,9 @@ new_sight_kept base id v s k at =
     record {
       ticks = k.ticks;
       known = λ j u there.
-          ⊎_elim (same j u) (λ (is : new_sight v ≡ u). subst (IsKnown base k.ticks j) is (reader_known base k.ticks j (new_sight v) refl o.base_is o.seen o.seen (k.ticks, refl))) (at_snoc (slice_set s.views id v) (new_sight v) u j there);
+          ⊎_elim (same j u) (λ (is : new_sight v ≡ u). subst (IsKnown base k.ticks j) is
+          (reader_known base k.ticks j (new_sight v) refl o.base_is o.seen o.seen (k.ticks, refl)))
+          (at_snoc (slice_set s.views id v) (new_sight v) u j there);
       eight = k.eight;
       small = k.small;
       many = k.many;
@@ -237,19 +235,22 @@ new_sight_kept base id v s k at =
     }
 
 -- a reader is offered what another seat has seen, which is spent
-pub offers_kept : (base of : Board) (id : ℕ) (v : Sight) (other : ℕ) (w : Sight) → of ≡ v.base → Joins (Keeps base) id v other w (offered v w.seen) (record { writes = false; base = of; seen = []; learnt = []; offered = [] })
+pub offers_kept : (base of : Board) (id : ℕ) (v : Sight) (other : ℕ) (w : Sight) → of ≡ v.base
+    → Joins (Keeps base) id v other w (offered v w.seen) (record { writes = false; base = of; seen = []; learnt = []; offered = [] })
 unfolding Known
 offers_kept base of id v other w of_is s k at apart there =
     let o = k.known id v at in
     let both = offered v w.seen in
     let h : IsKnown base k.ticks other w =
-    ⊎_elim (λ (x : (other ≡ id) × (both ≡ w)). absurd (apart x.0)) (λ (x : (other ≢ id) × (get_elem? s.views other ≡ some w)). k.known other w x.1) (at_set s.views id other both w there) in
+    ⊎_elim (λ (x : (other ≡ id) × (both ≡ w)). absurd (apart x.0)) (λ (x : (other ≢ id) × (get_elem? s.views other ≡ some w)). k.known other w x.1)
+    (at_set s.views id other both w there) in
     let mine : IsKnown base k.ticks id both =
     record { base_is = o.base_is; seen = o.seen; learnt = o.learnt; offered = h.seen; writer = o.writer } in
     let start : StartsWith k.ticks [] = (k.ticks, refl) in
     record {
       ticks = k.ticks;
-      known = set_known base k.ticks (slice_set s.views id both) other _ (set_known base k.ticks s.views id both k.known mine) (reader_known base k.ticks other _ refl (of_is ∙ o.base_is) start start start);
+      known = set_known base k.ticks (slice_set s.views id both) other _ (set_known base k.ticks s.views id both k.known mine)
+          (reader_known base k.ticks other _ refl (of_is ∙ o.base_is) start start start);
       eight = k.eight;
       small = k.small;
       many = k.many;
@@ -263,6 +264,7 @@ opened base zero v e =
     subst (IsKnown base [] 0) (some-injective _ v e) (record { base_is = refl; seen = start; learnt = start; offered = start; writer = λ writes. (refl, refl) })
 opened base (suc n) v e = absurd (some-ne-none v (sym e))
 
-pub opens_kept : (base : Board) (words : List ℕ) → length base ≡ 8 → AreCounts base → length words ≡ 10 → AreWords base words → Keeps base (opening words [] (first_sight base))
+pub opens_kept : (base : Board) (words : List ℕ) → length base ≡ 8 → AreCounts base → length words ≡ 10 → AreWords base words
+    → Keeps base (opening words [] (first_sight base))
 opens_kept base words eight small many are =
     record { ticks = []; known = opened base; eight = eight; small = small; many = many; words = are }

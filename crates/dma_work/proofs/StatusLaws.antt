@@ -1,14 +1,11 @@
 -- The status of a cookie in longer lists of ticks.
 use Rattle.std.proofs.Common.{◌≡◌, ◌≢◌, ℕ, ◌<◌, ◌≤◌, List, [], ◌∷◌, length, ap, sym, ◌∙◌, subst, arith, inl, inr}
 use Rattle.std.specs.Prelude.{slice_set}
-use Rattle.std.proofs.lemmas.Grind.{common_steps}
-use Rattle.std.proofs.lemmas.Bool.{cases_eq, cases_lt}
 use Rattle.std.proofs.lemmas.List.{get_or-set_same, get_or-set_other, set_past}
+use Rattle.std.proofs.{lemmas.Grind.common_steps, lemmas.Bool.cases_eq, lemmas.Bool.cases_lt}
 use Rattle.dma_engine.specs.Ticks.{Tick, Submitted, Finished, Board, Counts, board_after, counts, no_counts, ticked}
-use Rattle.dma_engine.specs.Answer.{status_by}
-use Rattle.dma_engine.specs.declared.turn.Status.TheVariants.{Unknown, Complete}
-use Rattle.dma_work.specs.Laws.{AreCounts, StaysKnown, StaysComplete, ClosedIsComplete}
-use Rattle.dma_work.specs.Ticks.{StartsWith, board_from}
+use Rattle.dma_engine.specs.{Answer.status_by, declared.turn.Status.TheVariants.Unknown, declared.turn.Status.TheVariants.Complete}
+use Rattle.dma_work.specs.{Laws.AreCounts, Laws.StaysKnown, Laws.StaysComplete, Laws.ClosedIsComplete, Ticks.StartsWith, Ticks.board_from}
 use Rattle.dma_work.proofs.Boards.{board_append}
 
 -- the counts of a channel only grow, and stay numbers of 32 bits
@@ -48,17 +45,20 @@ pub small_after : (base : Board) (ts : List Tick) → AreCounts base → AreCoun
 small_after base ts h ch = (after_grows base ts h ch).small
 
 -- in a longer list they are no less
-longer : (base : Board) (front all : List Tick) (ch : ℕ) → AreCounts base → StartsWith all front → Grows (counts (board_from base front) ch) (counts (board_from base all) ch)
+longer : (base : Board) (front all : List Tick) (ch : ℕ) → AreCounts base → StartsWith all front
+    → Grows (counts (board_from base front) ch) (counts (board_from base all) ch)
 longer base front all ch h p =
     let is : board_from base all ≡ board_after (board_from base front) p.0 = ap (board_from base) (sym p.1) ∙ board_append base front p.0 in
-    subst (λ b. Grows (counts (board_from base front) ch) (counts b ch)) (sym is) (after_grows (board_from base front) p.0 (λ c. (after_grows base front h c).small) ch)
+    subst (λ b. Grows (counts (board_from base front) ch) (counts b ch)) (sym is)
+    (after_grows (board_from base front) p.0 (λ c. (after_grows base front h c).small) ch)
 
 -- ---- a status by its counts
 
 known : (c : Counts) (k : ℕ) → 0 < k → k ≤ c.used → status_by c.used c.finished k ≢ Unknown
 known c k pos le is = absurd (grind (arith, common_steps, is))
 
-complete : (c d : Counts) (k : ℕ) → c.used ≤ d.used → c.finished ≤ d.finished → status_by c.used c.finished k ≡ Complete → status_by d.used d.finished k ≡ Complete
+complete : (c d : Counts) (k : ℕ) → c.used ≤ d.used → c.finished ≤ d.finished → status_by c.used c.finished k ≡ Complete
+    → status_by d.used d.finished k ≡ Complete
 complete c d k more_used more_finished is = grind (arith, common_steps, is)
 
 closed : (c : Counts) (k : ℕ) → 0 < k → k ≤ c.used → k ≤ c.finished → status_by c.used c.finished k ≡ Complete

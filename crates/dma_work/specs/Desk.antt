@@ -1,18 +1,11 @@
 -- What contracts see of a desk.
-use Rattle.std.specs.Prelude.{◌≡◌, ◌≢◌, ◌⊎◌, ℕ, ◌+◌, List, ◌++◌, Result}
-use Rattle.std.specs.List.{sum_by}
+use Rattle.std.specs.{Prelude.◌≡◌, Prelude.◌≢◌, Prelude.◌⊎◌, Prelude.ℕ, Prelude.◌+◌, Prelude.List, Prelude.◌++◌, Prelude.Result, List.sum_by}
 use Rattle.atomic_table.specs.Seated.{TableId}
 use Rattle.dma_mem.specs.declared.call.Call.{Call}
-use Rattle.dma_engine.specs.Advance.{finishes_counted, steps_counted, steps_taken}
-use Rattle.dma_engine.specs.Answer.{CallAnswers, StepAnswers}
-use Rattle.dma_engine.specs.Object.{finished_all}
-use Rattle.dma_engine.specs.Ticks.{Board, Tick, ticks_of}
-use Rattle.dma_engine.specs.Turn.{finishes_in, steps_in}
 use Rattle.dma_engine.specs.View.{EngineState, IsSound, View, channels, memory_of, object_of, size}
-use Rattle.dma_engine.specs.declared.call.Reply.{Reply}
-use Rattle.dma_engine.specs.declared.fault.EngineFault.{EngineFault}
-use Rattle.dma_engine.specs.declared.turn.Advanced.{Advanced}
-use Rattle.dma_engine.specs.declared.turn.Turn.{Turn}
+use Rattle.dma_engine.specs.{Advance.finishes_counted, Advance.steps_counted, Advance.steps_taken, Answer.CallAnswers, Answer.StepAnswers, Object.finished_all}
+use Rattle.dma_engine.specs.{Ticks.Board, Ticks.Tick, Ticks.ticks_of, Turn.finishes_in, Turn.steps_in, declared.call.Reply.Reply}
+use Rattle.dma_engine.specs.{declared.fault.EngineFault.EngineFault, declared.turn.Advanced.Advanced, declared.turn.Turn.Turn}
 use Rattle.dma_work.specs.declared.worker.Totals.{Totals}
 
 -- The parts of a desk: an engine, the table at which its published list is read, and the counts with which the board of
@@ -53,8 +46,8 @@ abbrev pub SameBook : DeskState → DeskState → Type 0
 SameBook old new = (new.book ≡ old.book) × (new.before ≡ old.before)
 
 -- A call that publishes nothing: the engine's answer, and nothing else changes.
-abbrev pub Answers : DeskState → Call → Reply → DeskState → Type 0
-Answers old call reply new = CallAnswers old.engine.view call reply new.engine.view × SameBook old new
+abbrev pub DeskAnswers : DeskState → Call → Reply → DeskState → Type 0
+DeskAnswers old call reply new = CallAnswers old.engine.view call reply new.engine.view × SameBook old new
 
 -- an empty book
 abbrev pub no_totals : Totals

@@ -1,7 +1,6 @@
 -- What a reader can rely on between two statuses.
 use Rattle.std.specs.Prelude.{◌≡◌, ◌≢◌, ℕ, ◌<◌, ◌≤◌, List}
-use Rattle.dma_engine.specs.Ticks.{Board, Tick, counts}
-use Rattle.dma_engine.specs.declared.turn.Status.TheVariants.{Unknown, Complete}
+use Rattle.dma_engine.specs.{Ticks.Board, Ticks.Tick, Ticks.counts, declared.turn.Status.TheVariants.Unknown, declared.turn.Status.TheVariants.Complete}
 use Rattle.dma_work.specs.Ticks.{AreFinished, IsGiven, StartsWith, status_after}
 
 -- the counts of a board are numbers of 32 bits

@@ -2,12 +2,8 @@
 use Rattle.std.specs.Prelude.{◌≡◌, ℕ, ◌+◌, ◌<◌, ◌⊎◌, Bool, true, false, List, map, length, slice_index_or, slice_set}
 use Rattle.std.specs.List.{All, sum_by}
 use Rattle.dma_engine.specs.Interleaved.{Interleaves, JobTurn, channel_at, rotation, turns_taken}
-use Rattle.dma_engine.specs.Turn.{finishes_in, steps_in, turn}
-use Rattle.dma_engine.specs.View.{View}
-use Rattle.dma_work.specs.declared.job.Job.{Job}
-use Rattle.dma_work.specs.declared.seat.Seat.{Seat}
-use Rattle.dma_work.specs.declared.worker.Totals.{Totals}
-use Rattle.dma_work.specs.Desk.{DeskState, SameBook, stepped_book}
+use Rattle.dma_engine.specs.{Turn.finishes_in, Turn.steps_in, Turn.turn, View.View}
+use Rattle.dma_work.specs.{declared.job.Job.Job, declared.seat.Seat.Seat, declared.worker.Totals.Totals, Desk.DeskState, Desk.SameBook, Desk.stepped_book}
 
 -- A desk at work; a seat for each job: the job, and how many of its turns were taken; and whether a turn was out of
 -- memory.

@@ -1,10 +1,7 @@
 -- The tallies of jobs.
 use Rattle.std.specs.Prelude.{◌≡◌, ℕ, ◌<◌, length, slice_index_or, List}
-use Rattle.dma_engine.specs.Interleaved.{rotation}
-use Rattle.dma_engine.specs.View.{View}
-use Rattle.dma_work.specs.declared.job.Job.{Job}
-use Rattle.dma_work.specs.Desk.{DeskState, TakesAStep, TallyCounts, new_tally}
-use Rattle.dma_work.specs.Rotation.{StepsInTurn}
+use Rattle.dma_engine.specs.{Interleaved.rotation, View.View}
+use Rattle.dma_work.specs.{declared.job.Job.Job, Desk.DeskState, Desk.TakesAStep, Desk.TallyCounts, Desk.new_tally, Rotation.StepsInTurn}
 
 -- A new worker with this number took the turns of a job at a lender, one after another. Its tally and the lender
 -- afterwards are `tally` and `left`. In a turn the worker passes the gate, as `passes` says of the worker and the

@@ -1,9 +1,7 @@
 -- Published ticks, and the status of a cookie after them.
 use Rattle.std.specs.Prelude.{ℕ, ◌<◌, ◌≤◌, List, [], ◌∷◌}
+use Rattle.dma_engine.specs.{Ticks.Tick, Ticks.Board, Ticks.board_after, Ticks.board_of, Ticks.counts, Ticks.status_of, View.View, declared.turn.Status.Status}
 use mathlib.Core.List.{IsPrefix}
-use Rattle.dma_engine.specs.Ticks.{Tick, Board, board_after, board_of, counts, status_of}
-use Rattle.dma_engine.specs.View.{View}
-use Rattle.dma_engine.specs.declared.turn.Status.{Status}
 
 -- The list `ticks` begins with the list `front`.
 abbrev pub StartsWith : List Tick → List Tick → Type 0

@@ -196,16 +196,8 @@ impl<N: DeskName> Join<Sight> for Offer<N> {
     } };
 }
 
-// What a seat knows after a step at the table: the writer looks at a word, or adds a tick; a reader reads a word, or
-// learns a list; any other step changes nothing.
-struct Looks;
-
-impl Play<Tick, Sight> for Looks {
-    ghost use Rattle.dma_work.specs.inner.Published.{looks};
-
-    ghost then = { looks };
-}
-
+// What a seat knows after a step at the table: the writer adds a tick; a word is read; or a list is learnt, which is
+// empty at the steps that only count readers.
 struct Adds;
 
 impl Play<Tick, Sight> for Adds {
@@ -228,14 +220,6 @@ impl Play<Tick, Sight> for Learns {
     ghost use Rattle.dma_work.specs.inner.Published.{learns};
 
     ghost then = { learns };
-}
-
-struct Stays;
-
-impl Play<Tick, Sight> for Stays {
-    ghost use Rattle.dma_work.specs.inner.Published.{stays};
-
-    ghost then = { stays };
 }
 
 /// A seat at the table, with what it knows.
@@ -308,10 +292,10 @@ impl Place {
     {
         let table = &self.table.shared;
         let word = word_of(tick.ch);
-        let found = table.load::<Looks>(&mut self.seat, word);
-        let new = changed_word(word, found, tick.change);
-        // only the writer changes this word, so it still has what was found
-        table.compare_exchange_with::<Adds>(&mut self.seat, word, found, new, &tick);
+        let before = table.load::<Reads>(&mut self.seat, word);
+        let new = changed_word(word, before, tick.change);
+        // only the writer changes this word, so it still has what was read
+        table.compare_exchange_with::<Adds>(&mut self.seat, word, before, new, &tick);
     }
 
     /// Returns a seat that has seen and learnt the list.
@@ -338,7 +322,7 @@ impl Place {
         }
         let table = Arc::try_clone(&self.table).ok()?;
         let mut seat = self.new_seat();
-        table.shared.fetch_add::<Stays>(&mut seat, READERS, 1);
+        table.shared.fetch_add::<Learns>(&mut seat, READERS, 1);
         Some(Place { table, seat })
     }
 
@@ -378,12 +362,12 @@ impl Place {
     /// Ends a reader's place.
     pub fn leave(self) {
         let Place { table, mut seat } = self;
-        table.shared.fetch_sub::<Stays>(&mut seat, READERS, 1);
+        table.shared.fetch_sub::<Learns>(&mut seat, READERS, 1);
     }
 
     /// Ends the list. Readers see nothing from then on.
     pub fn end(self) {
         let Place { table, mut seat } = self;
-        table.shared.store::<Stays>(&mut seat, ENDED, 1);
+        table.shared.store::<Learns>(&mut seat, ENDED, 1);
     }
 }

@@ -71,9 +71,10 @@ impl DeskName for Brand {
 /// before those add up to the counts with which the history begins. The book has what the step count and the number of
 /// finished cookies have risen by since N's opening view. The engine has that view's size and number of channels.
 pub struct Desk<N: DeskName> {
+    // first, as each step writes it: it lies in the lock's line, as the engine's step count does
+    book: Totals,
     engine: Engine,
     publisher: Publisher,
-    book: Totals,
     of: PhantomData<N>,
 }
 

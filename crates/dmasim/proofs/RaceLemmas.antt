@@ -1,33 +1,23 @@
 -- What the lines of a race script may print.
-use Rattle.std.proofs.Common.{◌≡◌, ◌≢◌, ℕ, ◌<◌, List, [], ◌∷◌, ◌++◌, length, map, codes, suc, Result, Ok, Err, lit<, inl, refl, ap, sym, subst, ◌∙◌, arith, append_assoc}
-use Rattle.std.proofs.Math.Seq.{take-append_seam}
+use Rattle.std.proofs.Common.{◌≡◌, ◌≢◌, ℕ, ◌<◌, List, [], ◌∷◌, ◌++◌, length, map, codes, suc, Result, Ok, Err, lit<, inl, refl, ap, sym, subst, ◌∙◌, arith}
+use Rattle.std.proofs.Common.{append_assoc}
 use Rattle.std.proofs.lemmas.List.{length-append, take-append-le, take_all}
-use Rattle.std.proofs.lemmas.Simd.{map-map}
-use Rattle.std.proofs.lemmas.Result.{on_ok_weaker}
+use Rattle.std.proofs.{Math.Seq.take-append_seam, lemmas.Simd.map-map, lemmas.Result.on_ok_weaker}
 use Rattle.std.specs.Prelude.{IsErr, OnOk}
-use Rattle.dma_engine.specs.Interleaved.{Interleaves, rotation, turns_taken}
-use Rattle.dma_engine.specs.View.{View}
-use Rattle.dma_work.specs.Shift.{channels_of_job}
-use Rattle.dma_work.specs.declared.job.Job.{Job}
+use Rattle.dma_engine.specs.{Interleaved.Interleaves, Interleaved.rotation, Interleaved.turns_taken, View.View}
+use Rattle.dma_work.specs.{Shift.channels_of_job, declared.job.Job.Job}
 use Rattle.dma_io.specs.Command.{Answers, MayAnswer, Printed, printed_text, refusal}
-use Rattle.dma_script.specs.Interpreted.{ActsInTurn, PrintsLine, PrintsLines, StopsAtALine}
-use Rattle.dma_script.specs.Lines.{Gives}
-use Rattle.dma_script.specs.Printing.{error_line, fault_line}
-use Rattle.dma_script.specs.declared.fault.ReadError.{ReadError}
-use Rattle.dma_script.specs.declared.fault.ReadError.TheVariants as script_errors
-use Rattle.dma_script.specs.Race.{race_script_of}
-use Rattle.dma_script.specs.declared.fault.Fault.{Fault}
-use Rattle.dma_script.specs.declared.race.JobLine.{JobLine}
-use Rattle.dma_script.specs.declared.race.RaceScript.{RaceScript}
-use Rattle.dma_script.specs.declared.statements.Statement.{Statement}
-use Rattle.dma_commands.specs.Raced.{EarlyPrints, RacePrints, channels_of_line, first_view, from_go, go_line, no_reader, race_may_print, race_prints_of, raced_refused, raced_whole, whole}
-use Rattle.dma_commands.specs.Run.{Answered, line_answer, lines_answered}
-use Rattle.dma_commands.specs.inner.RunSteps.{AnswersLine, RunsLine}
+use Rattle.dma_script.specs.{Interpreted.ActsInTurn, Interpreted.PrintsLine, Interpreted.PrintsLines, Interpreted.StopsAtALine, Lines.Gives}
+use Rattle.dma_script.specs.{Printing.error_line, Printing.fault_line, declared.fault.ReadError.ReadError, Race.race_script_of, declared.fault.Fault.Fault}
+use Rattle.dma_script.specs.{declared.race.JobLine.JobLine, declared.race.RaceScript.RaceScript, declared.statements.Statement.Statement}
+use Rattle.dma_commands.specs.Raced.{EarlyPrints, RacePrints, channels_of_line, first_view, from_go, go_line, no_reader, race_may_print, race_prints_of}
+use Rattle.dma_commands.specs.Raced.{raced_refused, raced_whole, whole}
+use Rattle.dma_commands.specs.{Run.Answered, Run.line_answer, Run.lines_answered, inner.RunSteps.AnswersLine, inner.RunSteps.RunsLine}
 use Rattle.dmasim.specs.inner.RaceSteps.{AreJobs, PrintsFirst, PrintsGo}
 use Rattle.dmasim.proofs.SomeTurns.{some_turns}
 use Rattle.dma_script.proofs.InterpretedLemmas.{text_after}
-use Rattle.dma_commands.proofs.PlanLemmas.{nothing}
-use Rattle.dma_commands.proofs.RunLemmas.{answers_after, answers_none, answers_some}
+use Rattle.dma_commands.proofs.{PlanLemmas.nothing, RunLemmas.answers_after, RunLemmas.answers_none, RunLemmas.answers_some}
+use Rattle.dma_script.specs.declared.fault.ReadError.TheVariants as script_errors
 
 -- ---- what lines before `go` may print
 
@@ -37,7 +27,8 @@ each_some v (s ∷ rest) =
     let others = each_some (line_answer v s).1 rest in
     ((line_answer v s).0 ∷ others.0, others.1, ((line_answer v s).1, inl refl, others.2))
 
-each_append : (u v w : View) (xs ys : List Statement) (front back : List (List (List ℕ))) → ActsInTurn EarlyPrints xs u front v → ActsInTurn EarlyPrints ys v back w → ActsInTurn EarlyPrints (xs ++ ys) u (front ++ back) w
+each_append : (u v w : View) (xs ys : List Statement) (front back : List (List (List ℕ))) → ActsInTurn EarlyPrints xs u front v
+    → ActsInTurn EarlyPrints ys v back w → ActsInTurn EarlyPrints (xs ++ ys) u (front ++ back) w
 each_append u v w [] ys [] back first others = subst (λ x. ActsInTurn EarlyPrints ys x back w) first others
 each_append u v w [] ys (group ∷ front) back first others = absurd first
 each_append u v w (s ∷ xs) ys [] back first others = absurd first
@@ -45,7 +36,9 @@ each_append u v w (s ∷ xs) ys (group ∷ front) back (next, one, rest) others 
 
 module _ {S : Type 0} (seen : S → View) where
   -- a line that ran as it does in `run`
-  pub line_ran : {A E : Type 0} (found left : S) (s ran : Statement) (result : Result A E) (old new : List ℕ) → s ≡ ran → RunsLine (line_answer (seen found) ran) (seen left) result old new → OnOk result (PrintsLine (λ group x. EarlyPrints (seen found) s group (seen x)) left old new)
+  pub line_ran : {A E : Type 0} (found left : S) (s ran : Statement) (result : Result A E) (old new : List ℕ) → s ≡ ran
+      → RunsLine (line_answer (seen found) ran) (seen left) result old new
+      → OnOk result (PrintsLine (λ group x. EarlyPrints (seen found) s group (seen x)) left old new)
   line_ran found left s ran result old new is runs =
       let v = seen found in
       on_ok_weaker result
@@ -56,7 +49,9 @@ module _ {S : Type 0} (seen : S → View) where
       }) runs.ok
 
   -- a status line
-  pub status_ran : {A E : Type 0} (found left : S) (s status : Statement) (result : Result A E) (old new : List ℕ) → s ≡ status → seen left ≡ seen found → OnOk result (PrintsLine (EarlyPrints (seen found) status) (seen found) old new) → OnOk result (PrintsLine (λ group x. EarlyPrints (seen found) s group (seen x)) left old new)
+  pub status_ran : {A E : Type 0} (found left : S) (s status : Statement) (result : Result A E) (old new : List ℕ) → s ≡ status → seen left ≡ seen found
+      → OnOk result (PrintsLine (EarlyPrints (seen found) status) (seen found) old new)
+      → OnOk result (PrintsLine (λ group x. EarlyPrints (seen found) s group (seen x)) left old new)
   status_ran found left s status result old new is same prints =
       on_ok_weaker result
       (λ (one : PrintsLine (EarlyPrints (seen found) status) (seen found) old new). record {
@@ -66,19 +61,24 @@ module _ {S : Type 0} (seen : S → View) where
       }) prints
 
   -- lines that are executed one after another, by the views
-  seen_in_turn : (statements : List Statement) (found left : S) (groups : List (List (List ℕ))) → ActsInTurn (λ f s g x. EarlyPrints (seen f) s g (seen x)) statements found groups left → ActsInTurn EarlyPrints statements (seen found) groups (seen left)
+  seen_in_turn : (statements : List Statement) (found left : S) (groups : List (List (List ℕ)))
+      → ActsInTurn (λ f s g x. EarlyPrints (seen f) s g (seen x)) statements found groups left
+      → ActsInTurn EarlyPrints statements (seen found) groups (seen left)
   seen_in_turn [] found left [] done = ap seen done
   seen_in_turn [] found left (g ∷ groups) done = absurd done
   seen_in_turn (s ∷ statements) found left [] done = absurd done
   seen_in_turn (s ∷ statements) found left (g ∷ groups) (next, acted, rest) = (seen next, acted, seen_in_turn statements next left groups rest)
 
   -- All lines were executed.
-  pub all_early : (found left : S) (statements : List Statement) (old new : List ℕ) → PrintsLines (λ f s g x. EarlyPrints (seen f) s g (seen x)) found statements left old new → PrintsLines EarlyPrints (seen found) statements (seen left) old new
+  pub all_early : (found left : S) (statements : List Statement) (old new : List ℕ)
+      → PrintsLines (λ f s g x. EarlyPrints (seen f) s g (seen x)) found statements left old new
+      → PrintsLines EarlyPrints (seen found) statements (seen left) old new
   all_early found left statements old new done =
       record { groups = done.groups; acted = seen_in_turn statements found left done.groups done.acted; text = done.text }
 
   -- A line was out of memory: the lines before it printed what they may, and the others may print something.
-  pub first_early : (is_refused : S → Statement → S → Type 0) (found left : S) (statements : List Statement) (old new : List ℕ) → StopsAtALine (λ f s g x. EarlyPrints (seen f) s g (seen x)) is_refused found statements left old new → PrintsFirst (seen found) statements old new
+  pub first_early : (is_refused : S → Statement → S → Type 0) (found left : S) (statements : List Statement) (old new : List ℕ)
+      → StopsAtALine (λ f s g x. EarlyPrints (seen f) s g (seen x)) is_refused found statements left old new → PrintsFirst (seen found) statements old new
   first_early is_refused found left statements old new stop =
       let behind = stop.line ∷ stop.behind in
       let all = all_early found stop.between stop.before old new stop.printed in
@@ -86,13 +86,15 @@ module _ {S : Type 0} (seen : S → View) where
       record {
         early = all.groups ++ others.0;
         view = others.1;
-        each = subst (λ xs. ActsInTurn EarlyPrints xs (seen found) (all.groups ++ others.0) others.1) (sym stop.split) (each_append (seen found) (seen stop.between) others.1 stop.before behind all.groups others.0 all.acted others.2);
+        each = subst (λ xs. ActsInTurn EarlyPrints xs (seen found) (all.groups ++ others.0) others.1) (sym stop.split)
+            (each_append (seen found) (seen stop.between) others.1 stop.before behind all.groups others.0 all.acted others.2);
         count = length all.groups;
         within = omega (arith, length-append all.groups others.0);
         text = all.text ∙ ap (λ e. old ++ printed_text e) (sym (take-append_seam all.groups others.0));
       }
 
-pub all_then_none : (start : View) (statements : List Statement) (v : View) (old new : List ℕ) → PrintsLines EarlyPrints start statements v old new → PrintsFirst start statements old new
+pub all_then_none : (start : View) (statements : List Statement) (v : View) (old new : List ℕ) → PrintsLines EarlyPrints start statements v old new
+    → PrintsFirst start statements old new
 all_then_none start statements v old new all = record {
   early = all.groups;
   view = v;
@@ -120,7 +122,9 @@ race_some input = elim (race_script_of input) as (λ read. (printed : Printed) �
 ]
 
 -- A script that was not read.
-pub race_refused : {E : Type 0} (input : List ℕ) (error : ReadError Fault) (result : Result ℕ E) (old new : List ℕ) → Gives (λ (script : RaceScript). script) (Err error) (race_script_of input) → Answers (refusal (error_line error)) result old new → OnOk result (error ≢ script_errors.NoMemory) → MayAnswer (race_may_print input) result old new
+pub race_refused : {E : Type 0} (input : List ℕ) (error : ReadError Fault) (result : Result ℕ E) (old new : List ℕ)
+    → Gives (λ (script : RaceScript). script) (Err error) (race_script_of input) → Answers (refusal (error_line error)) result old new
+    → OnOk result (error ≢ script_errors.NoMemory) → MayAnswer (race_may_print input) result old new
 race_refused input (script_errors.Fault fault) result old new is answers printed =
     record { printed = refusal (fault_line fault); allowed = rw is refl; answers = answers }
 race_refused input script_errors.NoMemory (Ok status) old new is answers printed = absurd (printed refl)
@@ -154,7 +158,9 @@ module _ {E : Type 0} (script : RaceScript) (result : Result ℕ E) (old new : L
       }
 
   -- The lines after `go` were executed, or one was out of memory.
-  pub whole_answer : (jobs : List Job) (v : View) (mid : List ℕ) → AreJobs script.jobs jobs → PrintsGo (first_view script) script.before.statements jobs v old mid → Answers (record { groups = lines_answered v script.after; status = 0 }) result mid new → MayAnswer (RacePrints script) result old new
+  pub whole_answer : (jobs : List Job) (v : View) (mid : List ℕ) → AreJobs script.jobs jobs
+      → PrintsGo (first_view script) script.before.statements jobs v old mid
+      → Answers (record { groups = lines_answered v script.after; status = 0 }) result mid new → MayAnswer (RacePrints script) result old new
   whole_answer jobs v mid are go a =
       let early = go.lines.groups in
       let turns = go.totals.turns in
@@ -164,5 +170,7 @@ module _ {E : Type 0} (script : RaceScript) (result : Result ℕ E) (old new : L
       record {
         printed = raced_whole early go.between turns script.after;
         allowed = whole early go.between go.lines.acted turns (subst (λ l. Interleaves l turns) (channels_are script.jobs jobs are) go.totals.interleaved) refl;
-        answers = subst (λ g. Answers (record { groups = [] ∷ g; status = 0 }) result old new) (append_assoc early (line ∷ []) after ∙ ap (λ w. early ++ line ∷ lines_answered w script.after) go.totals.leads) (answers_after ([] ∷ early ++ line ∷ []) after 0 result old mid new text a);
+        answers = subst (λ g. Answers (record { groups = [] ∷ g; status = 0 }) result old new)
+            (append_assoc early (line ∷ []) after ∙ ap (λ w. early ++ line ∷ lines_answered w script.after) go.totals.leads)
+            (answers_after ([] ∷ early ++ line ∷ []) after 0 result old mid new text a);
       }

@@ -4,11 +4,7 @@ use Rattle.std.specs.Str.{bytes_eq}
 use Rattle.dma_io.specs.Command.{Ends, Failures, Printed, Wrote, may_print_within, printed_within, text_of}
 use Rattle.dmasim.specs.declared.command_line.Subcommand.{Subcommand}
 use Rattle.dmasim.specs.declared.command_line.Subcommand.TheVariants.{Asm, Dis, Plan, Run, Race}
-use Rattle.dma_commands.specs.Assembled.{asm_printed}
-use Rattle.dma_commands.specs.Disassembled.{dis_printed}
-use Rattle.dma_commands.specs.Planned.{plan_printed}
-use Rattle.dma_commands.specs.Raced.{race_may_print}
-use Rattle.dma_commands.specs.Run.{printed}
+use Rattle.dma_commands.specs.{Assembled.asm_printed, Disassembled.dis_printed, Planned.plan_printed, Raced.race_may_print, Run.printed}
 
 -- The command that a word names, if any.
 abbrev pub subcommand_of : List ℕ → Option Subcommand

@@ -26,8 +26,8 @@ This copies 4,096 bytes as a driver does:
 A refused call raises the exception of its code, such as `Busy` for DMA330_BUSY; all of these are `Error`. A number that
 has more bits than the library's argument, or is negative, raises OverflowError.
 
-The library is proved; this module isn't, and a test compares its declarations with dma330.h. It keeps the duties that
-docs/EMBEDDING.md lists: one call at a time, memory that stays where it is, no two regions of the same bytes. Two are
+The library is proved; this module isn't, and a test compares its declarations with dma330.h. It keeps the duties at the
+head of dma330.h: one call at a time, memory that stays where it is, no two regions of the same bytes. Two are
 yours: each thread has 32 KiB of stack, and while a call runs, nobody else writes what it reads, or reads what it
 writes. Python's other threads run during a call.
 

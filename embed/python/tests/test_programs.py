@@ -14,7 +14,7 @@ DMALPEND 0 2
 DMASEV 3
 DMAEND
 """
-# A row for each cause, as docs/EMBEDDING.md has an example of each: the bus, and the program.
+# A row for each cause, as docs/EXPLANATIONS.md has an example of each: the bus, and the program.
 MOVES = "BC 00 00 10 00 00 BC 02 00 20 00 00 "
 WORDS = "BC 01 05 40 01 00 "
 CAUSES = {Cause.UNDEF_INSTR: (64, "25 00"), Cause.OPERAND_INVALID: (64, "BC 01 F9 42 BE 00"),

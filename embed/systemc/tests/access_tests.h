@@ -150,7 +150,7 @@ struct access_tests : bench_tests {
     }
 
     // A program that has executed 2^32 - 1 instructions fails, and no step leads to that. Where its save has the number of
-    // the first channel's instructions is in docs/FORMATS.md.
+    // the first channel's instructions is in dma330.h.
     void last_instruction()
     {
         enum { HEAD = 40, CHANNEL = HEAD + 20, EXECUTED = CHANNEL + 26 };

@@ -1,9 +1,7 @@
 -- Definitions for the contracts of the compiler's parts.
 use Rattle.std.specs.Prelude.{◌≡◌, ℕ, ◌+◌, ◌^◌, ◌<◌, ◌≤◌, List, [], ◌∷◌, ◌++◌, length, not}
 use Rattle.dma_mem.specs.declared.segment.Segment.{Segment}
-use Rattle.dma_chan.specs.declared.compile.Beat.{Beat}
-use Rattle.dma_chan.specs.Compiled.{control_word}
-use Rattle.dma_chan.specs.Tree.{Tree, bytes_of, unrolled}
+use Rattle.dma_chan.specs.{declared.compile.Beat.Beat, Compiled.control_word, Tree.Tree, Tree.bytes_of, Tree.unrolled}
 
 -- how many bytes a list of segments has
 abbrev pub byte_count : List Segment → ℕ

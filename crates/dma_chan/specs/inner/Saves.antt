@@ -1,9 +1,7 @@
 -- The parts of a save, whose lengths are in its head.
 use Rattle.std.specs.Prelude.{◌≡◌, ℕ, ◌+◌, ◌*◌, ◌^◌, ◌<◌, ◌≤◌, Bool, true, false, if◌then◌else◌, List, take, drop, Some, None, IfSome}
 use Rattle.dma_insn.specs.AssemblyText.{most_program_bytes}
-use Rattle.dma_chan.specs.declared.save.head.Head.{Head}
-use Rattle.dma_chan.specs.Channel.{ChannelValue}
-use Rattle.dma_chan.specs.Saved.{HasRegisterRanges}
+use Rattle.dma_chan.specs.{declared.save.head.Head.Head, Channel.ChannelValue, Saved.HasRegisterRanges}
 
 -- the bytes of the buffer in a save with this head
 abbrev pub buffer_in : List ℕ → Head → List ℕ

@@ -1,16 +1,15 @@
 //! Stores of a channel: from its buffer to memory.
 
-ghost use Rattle.std.specs.Prelude.{◌≡◌, ◌+◌, ◌*◌, ◌≤◌, ◌<◌, ◌++◌, IsTrue, IsNone, Bool, List, length, take, drop};
+ghost use Rattle.std.specs.Prelude.{◌≡◌, ◌+◌, ◌≤◌, ◌<◌, IsTrue, IsNone, length, take, drop};
 ghost use Rattle.dma_insn.specs.declared.chip.ChipInsn.TheVariants.{St};
 ghost use Rattle.dma_insn.specs.AssemblyText.{most_program_bytes};
 ghost use Rattle.dma_mem.specs.Image.{put};
 ghost use Rattle.dma_mem.specs.Lent.{Avoids, with_gaps};
 ghost use Rattle.dma_chan.specs.Bursts.{burst_len, touched, writes_of, reaches, span_of};
-ghost use Rattle.dma_chan.specs.inner.Fifo.{fifo};
 ghost use Rattle.dma_chan.specs.inner.Spans.{LieIn, MovesSome};
-ghost use Rattle.dma_chan.specs.Exec.{destination_of, act, buffer_size, state};
+ghost use Rattle.dma_chan.specs.Exec.{destination_of, buffer_size};
 ghost use Rattle.dma_chan.specs.Ready.{none_missing};
-ghost use Rattle.dma_chan.specs.inner.Acts.{FaultsWith};
+ghost use Rattle.dma_chan.specs.inner.Acts.{Executes, FaultsWith};
 
 use crate::bursts::{Burst, destination_burst, may_touch};
 use crate::exec::Executor;
@@ -24,21 +23,20 @@ use dma_mem::ram::Ram;
 fn store_span<M: Ram>(burst: Burst, buffer: &mut Fifo, memory: &mut M)
     requires some { MovesSome burst }
     requires limit { (burst.size ≤ 16) × (burst.beats ≤ 16) }
-    requires bytes { burst_len burst ≤ length buffer.old.items }
+    requires bytes { burst_len burst ≤ length buffer.old }
     requires within { burst.addr + span_of burst ≤ length (M.paged memory.old).image }
     requires clear { Avoids (M.loan memory.old).gaps burst.addr (span_of burst) }
     requires ready { IsTrue (none_missing (M.paged memory.old) (touched burst)) }
     ensures written { (M.paged memory.new).image ≡ put (M.paged memory.old).image
-        (writes_of burst (take (burst_len burst) buffer.old.items)) }
+        (writes_of burst (take (burst_len burst) buffer.old)) }
     ensures pages { (M.paged memory.new).made ≡ (M.paged memory.old).made }
-    ensures taken { buffer.new
-        ≡ fifo (drop (burst_len burst) buffer.old.items) buffer.old.capacity }
+    ensures taken { buffer.new ≡ drop (burst_len burst) buffer.old }
     ensures loan { M.loan memory.new ≡ M.loan memory.old }
 {
     let len = burst.len() as usize;
     let overwritten = len - burst.span().len as usize;
     let bytes = &buffer.as_slice()[..len];
-    memory.write_parts(burst.addr, &bytes[overwritten..], &[]);
+    memory.put(burst.addr, &bytes[overwritten..]);
     buffer.drop_front(len);
 }
 
@@ -56,9 +54,9 @@ pub(crate) fn store_fault<M: Ram>(
     requires some { MovesSome burst }
     requires limit { (burst.size ≤ 16) × (burst.beats ≤ 16) }
     ensures fault { FaultsWith (with_gaps (M.loan memory.now) marks.now) St executor.now.registers
-        executor.now.buffer.items (M.paged memory.now).image result }
+        executor.now.buffer (M.paged memory.now).image result }
     ensures bytes { IsNone result
-        → burst_len (destination_of executor.now.registers) ≤ length executor.now.buffer.items }
+        → burst_len (destination_of executor.now.registers) ≤ length executor.now.buffer }
     ensures reaches { IsNone result → IsTrue (reaches MarkKind.Writing
         (with_gaps (M.loan memory.now) marks.now) (length (M.paged memory.now).image)
         (touched (destination_of executor.now.registers))) }
@@ -81,20 +79,15 @@ pub(crate) fn store_burst<M: Ram>(
     memory: &mut M,
     marks: &Marks,
 ) -> (ChanTurn, u32)
-    requires capacity { executor.old.buffer.capacity ≡ buffer_size }
     requires pc { executor.old.registers.pc < most_program_bytes }
     requires ready { IsTrue
         (none_missing (M.paged memory.old) (touched (destination_of executor.old.registers))) }
-    ensures exact { (flags : List Bool) → let before = (M.paged memory.old).image in
-        let after = (M.paged memory.new).image in
-        act (with_gaps (M.loan memory.old) marks.now) St
-        (state executor.old.registers executor.old.buffer.items before flags)
-        ≡ (result.0, state executor.new.registers executor.new.buffer.items after flags) }
+    ensures exact { Executes (with_gaps (M.loan memory.old) marks.now) St executor.old
+        (M.paged memory.old).image result.0 executor.new (M.paged memory.new).image }
     ensures stored { result.0 ≡ ChanTurn.Moved
         → result.1 ≡ burst_len (destination_of executor.old.registers) }
     ensures limit { result.1 ≤ buffer_size }
     ensures pages { (M.paged memory.new).made ≡ (M.paged memory.old).made }
-    ensures capacity { executor.new.buffer.capacity ≡ buffer_size }
     ensures block { executor.new.block.items ≡ executor.old.block.items }
     ensures pc { executor.new.registers.pc ≤ executor.old.registers.pc + 1 }
     ensures loan { M.loan memory.new ≡ M.loan memory.old }

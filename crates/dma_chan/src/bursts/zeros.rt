@@ -1,15 +1,15 @@
 //! Bursts of zeros.
 
-ghost use Rattle.std.specs.Prelude.{◌≡◌, ◌+◌, ◌≤◌, ◌<◌, IsTrue, IsNone, Bool, List, length};
+ghost use Rattle.std.specs.Prelude.{◌≡◌, ◌+◌, ◌≤◌, ◌<◌, IsTrue, IsNone, length};
 ghost use Rattle.dma_insn.specs.declared.chip.ChipInsn.TheVariants.{StoreZeros};
 ghost use Rattle.dma_insn.specs.AssemblyText.{most_program_bytes};
 ghost use Rattle.dma_mem.specs.Image.{put};
 ghost use Rattle.dma_mem.specs.Lent.{Avoids, with_gaps};
 ghost use Rattle.dma_chan.specs.Bursts.{burst_len, touched, zeros_of, reaches, span_of};
 ghost use Rattle.dma_chan.specs.inner.Spans.{LieIn, MovesSome};
-ghost use Rattle.dma_chan.specs.Exec.{destination_of, act, buffer_size, state};
+ghost use Rattle.dma_chan.specs.Exec.{destination_of, buffer_size};
 ghost use Rattle.dma_chan.specs.Ready.{none_missing};
-ghost use Rattle.dma_chan.specs.inner.Acts.{FaultsWith};
+ghost use Rattle.dma_chan.specs.inner.Acts.{Executes, FaultsWith};
 
 use crate::bursts::{Burst, destination_burst, may_touch};
 use crate::exec::Executor;
@@ -39,7 +39,7 @@ pub(crate) fn zero_fault<M: Ram>(
     marks: &Marks,
 ) -> Option<FaultKind>
     ensures fault { FaultsWith (with_gaps (M.loan memory.now) marks.now) StoreZeros
-        executor.now.registers executor.now.buffer.items (M.paged memory.now).image result }
+        executor.now.registers executor.now.buffer (M.paged memory.now).image result }
     ensures reaches { IsNone result → IsTrue (reaches MarkKind.Writing
         (with_gaps (M.loan memory.now) marks.now) (length (M.paged memory.now).image)
         (touched (destination_of executor.now.registers))) }
@@ -59,20 +59,15 @@ pub(crate) fn zero_burst<M: Ram>(
     memory: &mut M,
     marks: &Marks,
 ) -> (ChanTurn, u32)
-    requires capacity { executor.old.buffer.capacity ≡ buffer_size }
     requires pc { executor.old.registers.pc < most_program_bytes }
     requires ready { IsTrue
         (none_missing (M.paged memory.old) (touched (destination_of executor.old.registers))) }
-    ensures exact { (flags : List Bool) → let before = (M.paged memory.old).image in
-        let after = (M.paged memory.new).image in
-        act (with_gaps (M.loan memory.old) marks.now) StoreZeros
-        (state executor.old.registers executor.old.buffer.items before flags)
-        ≡ (result.0, state executor.new.registers executor.new.buffer.items after flags) }
+    ensures exact { Executes (with_gaps (M.loan memory.old) marks.now) StoreZeros executor.old
+        (M.paged memory.old).image result.0 executor.new (M.paged memory.new).image }
     ensures stored { result.0 ≡ ChanTurn.Moved
         → result.1 ≡ burst_len (destination_of executor.old.registers) }
     ensures limit { result.1 ≤ buffer_size }
     ensures pages { (M.paged memory.new).made ≡ (M.paged memory.old).made }
-    ensures capacity { executor.new.buffer.capacity ≡ buffer_size }
     ensures block { executor.new.block.items ≡ executor.old.block.items }
     ensures pc { executor.new.registers.pc ≤ executor.old.registers.pc + 1 }
     ensures loan { M.loan memory.new ≡ M.loan memory.old }

@@ -1,8 +1,7 @@
 //! The faults of instructions, before they are executed.
 
-ghost use Rattle.std.specs.Prelude.{◌≡◌, ◌≤◌, IsNone};
+ghost use Rattle.std.specs.Prelude.{◌≤◌, IsNone};
 ghost use Rattle.dma_insn.specs.declared.chip.ChipInsn.TheVariants.{Mov, LoopAgain};
-ghost use Rattle.dma_chan.specs.Exec.{buffer_size};
 ghost use Rattle.dma_chan.specs.inner.Acts.{FaultsAt, FaultsWith};
 ghost use Rattle.dma_mem.specs.Lent.{with_gaps};
 
@@ -50,9 +49,8 @@ pub(crate) fn fault_of<M: Ram>(
     memory: &M,
     marks: &Marks,
 ) -> Option<FaultKind>
-    requires capacity { executor.now.buffer.capacity ≡ buffer_size }
     ensures { FaultsWith (with_gaps (M.loan memory.now) marks.now) insn executor.now.registers
-        executor.now.buffer.items (M.paged memory.now).image result }
+        executor.now.buffer (M.paged memory.now).image result }
 {
     match insn {
         ChipInsn::Mov(reg, value) => set_fault(reg, value, &executor.registers),

@@ -3,8 +3,7 @@ use Rattle.std.specs.Prelude.{ℕ, ◌++◌, List, [], ◌∷◌, replicate}
 use Rattle.dma_engine.specs.declared.outcome.TransResult.TheVariants.{NoError}
 use Rattle.dma_engine.specs.declared.turn.Turn.TheVariants.{Started, Moved, Finished}
 use Rattle.dma_io.specs.Command.{text_of}
-use Rattle.dma_commands.specs.Printed.{turn_text}
-use Rattle.dma_commands.specs.Run.{step_line, step_lines}
+use Rattle.dma_commands.specs.{Printed.turn_text, Run.step_line, Run.step_lines}
 
 -- The text of a step line whose finished lines are `lines`, whose last answer was counted `count` times so far, and
 -- whose remaining answers are `rest`.

@@ -1,8 +1,6 @@
 -- The effect and the output of one script line.
 use Rattle.std.specs.Prelude.{◌≡◌, ℕ, ◌++◌, List, [], Option, OnErr, OnOk, Result, Some, slice_get}
-use Rattle.dma_engine.specs.declared.entry.Entry.{Entry}
-use Rattle.dma_engine.specs.declared.entry.Entry.TheVariants.{ReadBack}
-use Rattle.dma_engine.specs.View.{View}
+use Rattle.dma_engine.specs.{declared.entry.Entry.Entry, declared.entry.Entry.TheVariants.ReadBack, View.View}
 use Rattle.dma_io.specs.Command.{text_of}
 use Rattle.dma_commands.specs.Run.{Answered}
 

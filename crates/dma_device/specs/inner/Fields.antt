@@ -1,13 +1,8 @@
 -- The invariant of a device's fields, and the value that contracts see.
-use Rattle.std.specs.Prelude.{◌≡◌, true, List, [], length}
-use Rattle.std.specs.List.{All}
+use Rattle.std.specs.{Prelude.◌≡◌, Prelude.true, Prelude.List, Prelude.[], Prelude.length, List.All}
 use Rattle.dma_chan.specs.declared.bus.BusWidth.{BusWidth}
-use Rattle.dma_device.specs.declared.device.Device.TheInside.{Inside}
-use Rattle.dma_device.specs.declared.thread.Thread.{Thread}
-use Rattle.dma_device.specs.Config.{is_valid}
-use Rattle.dma_device.specs.Device.{DeviceValue}
-use Rattle.dma_device.specs.Idle.{IsSoundDevice}
-use Rattle.dma_device.specs.Thread.{IsOn}
+use Rattle.dma_device.specs.{declared.device.Device.TheInside.Inside, declared.thread.Thread.Thread, Config.is_valid, Device.DeviceValue, Idle.IsSoundDevice}
+use Rattle.dma_device.specs.{Thread.IsOn}
 
 -- the value of a device with these fields
 abbrev pub device_value : Inside → DeviceValue

@@ -12,6 +12,15 @@ use crate::offset;
 use crate::thread::{DBG_INSTR, DMAGO_ERR, OPERAND_INVALID, UNDEF_INSTR};
 use dma_mem::regions::Region;
 
+// The first bytes of the instructions that the debug registers give (DMA-330 manual, instruction set).
+const DMAKILL: u32 = 0x01;
+
+const DMASEV: u32 = 0x34;
+
+const DMAGO: u32 = 0xA0;
+
+const DMAGO_NONSECURE: u32 = 0xA2;
+
 impl Device {
     /// Writes the register at this offset for the guest. An offset that has no register ignores writes. A DMAGO reads
     /// its program from the regions.
@@ -51,18 +60,18 @@ impl Device {
         requires { byte < 2 ^ 8 }
         ensures { self.new ≡ by_manager (pieces_of regions.now) opcode byte self.old }
     {
-        if opcode == 0x01 {
+        if opcode == DMAKILL {
             self.manager.is_faulting = false;
         } else if self.manager.is_faulting {
             return;
-        } else if opcode == 0x34 {
+        } else if opcode == DMASEV {
             if self.is_event(byte) {
                 self.signal(byte / 8);
             } else {
                 self.fail_manager(OPERAND_INVALID);
             }
-        } else if opcode == 0xA0 || opcode == 0xA2 {
-            self.go(regions, opcode == 0xA2, byte as usize);
+        } else if opcode == DMAGO || opcode == DMAGO_NONSECURE {
+            self.go(regions, opcode == DMAGO_NONSECURE, byte as usize);
         } else {
             self.fail_manager(UNDEF_INSTR);
         }
@@ -142,11 +151,11 @@ impl Device {
             return;
         };
         let is_faulting = thread.is_faulting();
-        if opcode == 0x01 {
+        if opcode == DMAKILL {
             self.threads[n].kill();
         } else if is_faulting {
             return;
-        } else if opcode != 0x34 {
+        } else if opcode != DMASEV {
             self.threads[n].fail(UNDEF_INSTR + DBG_INSTR);
         } else if self.is_event(byte) {
             self.signal(byte / 8);

@@ -1,10 +1,7 @@
 -- Transfers in a base and in a history.
 use Rattle.std.specs.Prelude.{ℕ, ◌+◌, ◌-◌, drop, if◌then◌else◌, nat_lt, Option, Some, None, List, ◌++◌, length, map, slice_get, slice_index}
 use Rattle.dma_mem.specs.Places.{Descriptor}
-use Rattle.dma_engine.specs.declared.entry.Entry.{Entry}
-use Rattle.dma_engine.specs.declared.entry.Entry.TheVariants.{Submitted}
-use Rattle.dma_engine.specs.declared.queue.Queue.{Queue}
-use Rattle.dma_engine.specs.Object.{no_transfer}
+use Rattle.dma_engine.specs.{declared.entry.Entry.Entry, declared.entry.Entry.TheVariants.Submitted, declared.queue.Queue.Queue, Object.no_transfer}
 
 -- the transfer that an entry gives to a channel, or a transfer of nothing
 abbrev pub transfer_of : Option Entry → Descriptor

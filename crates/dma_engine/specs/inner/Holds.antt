@@ -1,20 +1,14 @@
 -- The invariant of an engine: its parts match its view.
-use Rattle.std.specs.Prelude.{◌≡◌, ℕ, ◌+◌, ◌-◌, ◌<◌, ◌++◌, ◌∷◌, Bool, false, Option, Some, None, List, [], length, map, take, slice_get, slice_index, slice_index_or, IfSome, IsSomeAnd}
+use Rattle.std.specs.Prelude.{◌≡◌, ℕ, ◌+◌, ◌-◌, ◌<◌, ◌++◌, ◌∷◌, Bool, false, Option, Some, None, List, [], length, map, take, slice_get, slice_index}
+use Rattle.std.specs.Prelude.{slice_index_or, IfSome, IsSomeAnd}
 use Rattle.std.specs.Option.{option_map}
-use Rattle.dma_chan.specs.Channel.{ChannelValue, loaded, unloaded as no_program}
-use Rattle.dma_chan.specs.Compiled.{compiled}
-use Rattle.dma_chan.specs.inner.At.{IsAt}
-use Rattle.dma_chan.specs.Ready.{OnPages}
-use Rattle.dma_mem.specs.Marking.{MarkList}
-use Rattle.dma_mem.specs.Places.{Descriptor, destinations}
-use Rattle.dma_engine.specs.declared.entry.Entry.{Entry}
-use Rattle.dma_engine.specs.declared.entry.Entry.TheVariants.{Submitted}
-use Rattle.dma_engine.specs.declared.outcome.Outcome.{Outcome}
-use Rattle.dma_engine.specs.declared.queue.Queue.{Queue}
-use Rattle.dma_engine.specs.declared.access.Ranges.{Ranges}
+use Rattle.dma_chan.specs.{Compiled.compiled, inner.At.IsAt, Ready.OnPages}
+use Rattle.dma_mem.specs.{Marking.MarkList, Places.Descriptor, Places.destinations}
 use Rattle.dma_engine.specs.Object.{Object, ChannelState, channel, front, no_transfer}
-use Rattle.dma_engine.specs.inner.Ranges.{AreOfRunning}
 use Rattle.dma_engine.specs.View.{View, ChannelSchedule, RunningTransfer, IsSound, object_of, memory_of, runs}
+use Rattle.dma_engine.specs.{declared.entry.Entry.Entry, declared.entry.Entry.TheVariants.Submitted, declared.outcome.Outcome.Outcome}
+use Rattle.dma_engine.specs.{declared.queue.Queue.Queue, declared.access.Ranges.Ranges, inner.Ranges.AreOfRunning}
+use Rattle.dma_chan.specs.Channel.{ChannelValue, loaded, unloaded as no_program}
 
 -- the parts of an engine; of its memory, the image and which pages are made
 pub record Parts : Type 0 where
@@ -77,12 +71,26 @@ queue_stopped q = record q { channel = record (q.channel) { program = None }; ra
 -- a queue whose front has finished with this outcome
 abbrev pub queue_finished : Queue → ℕ → Outcome → Bool → Queue
 queue_finished q spare outcome halted =
-    record q { outcomes = record { items = q.outcomes.items ++ outcome ∷ []; spare = spare }; halted = halted; channel = record (q.channel) { program = None }; ranges = None }
+    record q {
+      outcomes = record { items = q.outcomes.items ++ outcome ∷ []; spare = spare };
+      halted = halted;
+      channel =
+          record (q.channel) { program = None };
+      ranges = None;
+    }
 
 -- a queue whose unfinished cookies all have these outcomes
 abbrev pub queue_terminated : Queue → ℕ → List Outcome → ℕ → Queue
 queue_terminated q spare outcomes issued =
-    record q { outcomes = record { items = q.outcomes.items ++ outcomes; spare = spare }; issued = issued; paused = false; halted = false; channel = record (q.channel) { program = None }; ranges = None }
+    record q {
+      outcomes = record { items = q.outcomes.items ++ outcomes; spare = spare };
+      issued = issued;
+      paused = false;
+      halted = false;
+      channel =
+          record (q.channel) { program = None };
+      ranges = None;
+    }
 
 -- a queue with one more outcome, and this room for others
 abbrev pub queue_with_outcome : Queue → ℕ → Outcome → Queue
@@ -114,7 +122,8 @@ queue_forgotten q =
 -- A queue with these counts and indices has the cookies that its channel gave: `before` forgotten ones, then those with
 -- these transfers. First come the transfers that the base has of the channel, then those of the Submitted entries with
 -- these indices.
-pub record HasSubmitted (ch : ℕ) (kept : List Descriptor) (history : List Entry) (lost number : ℕ) (indices : List ℕ) (before : ℕ) (submitted : List Descriptor) : Type 0 where
+pub record HasSubmitted (ch : ℕ) (kept : List Descriptor) (history : List Entry) (lost number : ℕ) (indices : List ℕ) (before : ℕ)
+    (submitted : List Descriptor) : Type 0 where
   pub forgotten : lost ≡ before
   pub given : number ≡ before + length submitted
   pub many : length submitted ≡ length kept + length indices

@@ -1,9 +1,6 @@
 -- The parts of an engine and its room, from its fields.
 use Rattle.std.specs.Prelude.{◌-◌, map, vec_capacity, vec_len}
-use Rattle.dma_engine.specs.declared.queue.Queue.{Queue}
-use Rattle.dma_engine.specs.View.{QueueRoom, Room}
-use Rattle.dma_engine.specs.declared.engine.Engine.TheInside.{Inside}
-use Rattle.dma_engine.specs.inner.Holds.{Parts}
+use Rattle.dma_engine.specs.{declared.queue.Queue.Queue, View.QueueRoom, View.Room, declared.engine.Engine.TheInside.Inside, inner.Holds.Parts}
 
 -- the parts of an engine
 abbrev pub parts_of : Inside → Parts

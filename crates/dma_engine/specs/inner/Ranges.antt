@@ -1,9 +1,7 @@
 -- The addresses of running transfers, as ranges.
 use Rattle.std.specs.Prelude.{Option, Some, None}
-use Rattle.dma_mem.specs.Places.{Descriptor}
-use Rattle.dma_mem.specs.Ranges.{HasSources, SameAddresses}
-use Rattle.dma_engine.specs.declared.access.Ranges.{Ranges}
-use Rattle.dma_engine.specs.View.{RunningTransfer}
+use Rattle.dma_mem.specs.{Places.Descriptor, Ranges.HasSources, Ranges.SameAddresses}
+use Rattle.dma_engine.specs.{declared.access.Ranges.Ranges, View.RunningTransfer}
 
 -- The ranges have exactly the addresses that a transfer reads, and exactly those that it writes.
 pub record HasRangesOf (r : Ranges) (t : Descriptor) : Type 0 where

@@ -1,11 +1,10 @@
 -- The answer to a program that is explained, or not.
 use Rattle.std.specs.Prelude.{◌≡◌, ◌≢◌, ◌⊎◌, ℤ, Result, Ok, Err}
 use Rattle.dma_explain.specs.declared.explain.Cause.TheVariants.{TooLong, NoMemory}
-use Rattle.dma_explain.specs.declared.explain.Explained.{Explained}
-use Rattle.dma_explain.specs.declared.explain.Unexplained.{Unexplained}
+use Rattle.dma_explain.specs.{declared.explain.Explained.Explained, declared.explain.Unexplained.Unexplained}
 use Rattle.dma_device.specs.declared.device.explain.ExplainFault.{ExplainFault}
-use Rattle.dma_device.specs.declared.device.explain.ExplainFault.TheVariants as faults
 use Rattle.dma_ffi.specs.Codes.{no_channel, no_memory, no_program, program_too_long, unexplained}
+use Rattle.dma_device.specs.declared.device.explain.ExplainFault.TheVariants as faults
 
 -- What was found is written, or the cause, except of a program that is too long and if memory ran out; the code says
 -- which.

@@ -1,22 +1,18 @@
 -- What a value that C keeps is once a borrow of it has ended: it has the last value that was written.
-use Rattle.std.specs.Prelude.{Option, Some, true, refl}
-use Rattle.std.specs.Borrow.{Lends, LendsIf, MutBor, Fml}
-use denote.RattleType.{RattleType}
+use Rattle.std.specs.{Prelude.Option, Prelude.Some, Prelude.true, Prelude.refl, Borrow.Lends, Borrow.LendsIf, Borrow.MutBor, Borrow.Fml}
 use Rattle.dma_device.specs.Device.{DeviceValue}
-use Rattle.dma_device.specs.contracts.device.Device.{the_row as device_row}
 use Rattle.dma_engine.specs.View.{EngineState}
+use Rattle.dma_ffi.specs.{declared.heap_pointer.HeapPointer.HeapPointer, declared.kept.Kept.Kept, declared.controller.Controller.Controller}
+use Rattle.dma_ffi.specs.{declared.kept_channel.KeptChannel.KeptChannel, declared.kept_device.KeptDevice.KeptDevice}
+use Rattle.dma_ffi.specs.{declared.marked_channel.MarkedChannel.MarkedChannel}
+use denote.RattleType.{RattleType}
+use Rattle.dma_device.specs.contracts.device.Device.{the_row as device_row}
 use Rattle.dma_engine.specs.contracts.engine.Engine.{the_row as engine_row}
-use Rattle.dma_ffi.specs.declared.heap_pointer.HeapPointer.{HeapPointer}
 use Rattle.dma_ffi.specs.contracts.heap_pointer.HeapPointer.{the_row as heap_pointer_row}
-use Rattle.dma_ffi.specs.declared.kept.Kept.{Kept}
 use Rattle.dma_ffi.specs.contracts.kept.Kept.{the_row as kept_row}
-use Rattle.dma_ffi.specs.declared.controller.Controller.{Controller}
 use Rattle.dma_ffi.specs.contracts.controller.Controller.{the_row as controller_row}
-use Rattle.dma_ffi.specs.declared.kept_channel.KeptChannel.{KeptChannel}
 use Rattle.dma_ffi.specs.contracts.kept_channel.KeptChannel.{the_row as kept_channel_row}
-use Rattle.dma_ffi.specs.declared.kept_device.KeptDevice.{KeptDevice}
 use Rattle.dma_ffi.specs.contracts.kept_device.KeptDevice.{the_row as kept_device_row}
-use Rattle.dma_ffi.specs.declared.marked_channel.MarkedChannel.{MarkedChannel}
 use Rattle.dma_ffi.specs.contracts.marked_channel.MarkedChannel.{the_row as channel_row}
 
 -- a pointer lends its value, of the type R

@@ -1,9 +1,7 @@
 -- The load of a transfer that may not have been made.
 use Rattle.std.specs.Prelude.{◌≡◌, ◌⊎◌, ℤ, Result, Ok, Err}
-use Rattle.dma_mem.specs.Places.{Descriptor}
-use Rattle.dma_mem.specs.declared.transfer.TransferFault.{TransferFault}
-use Rattle.dma_chan.specs.Channel.{ChannelValue, loaded}
-use Rattle.dma_chan.specs.Compiled.{compiled}
+use Rattle.dma_mem.specs.{Places.Descriptor, declared.transfer.TransferFault.TransferFault}
+use Rattle.dma_chan.specs.{Channel.ChannelValue, Channel.loaded, Compiled.compiled}
 use Rattle.dma_ffi.specs.Codes.{no_memory, ok_code, transfer_code}
 
 -- A channel is given a transfer that was made, and becomes `loaded` with its program, or is unchanged if out of memory;

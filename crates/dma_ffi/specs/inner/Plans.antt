@@ -1,12 +1,9 @@
 -- The program of a transfer that may not have been made.
 use Rattle.std.specs.Prelude.{◌≡◌, ◌≤◌, ◌⊎◌, ℕ, ℤ, List, Result, Ok, Err, length}
-use Rattle.dma_mem.specs.Places.{Descriptor}
-use Rattle.dma_mem.specs.declared.transfer.TransferFault.{TransferFault}
+use Rattle.dma_mem.specs.{Places.Descriptor, declared.transfer.TransferFault.TransferFault}
 use Rattle.dma_insn.specs.AssemblyText.{most_program_bytes}
-use Rattle.dma_chan.specs.declared.bus.Bus.{Bus}
-use Rattle.dma_chan.specs.Compiled.{compiled_on}
-use Rattle.dma_ffi.specs.Codes.{no_memory, transfer_code}
-use Rattle.dma_ffi.specs.Programs.{Writes}
+use Rattle.dma_chan.specs.{declared.bus.Bus.Bus, Compiled.compiled_on}
+use Rattle.dma_ffi.specs.{Codes.no_memory, Codes.transfer_code, Programs.Writes}
 
 -- A buffer is given the program of a transfer that was made, for a bus, or is unchanged if out of memory; or no transfer
 -- was made because of a fault, and it is unchanged.

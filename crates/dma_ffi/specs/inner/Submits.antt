@@ -1,13 +1,8 @@
 -- The submit of a transfer that may not have been made.
 use Rattle.std.specs.Prelude.{◌≡◌, ℕ, ℤ, Result, Ok, Err}
-use Rattle.dma_mem.specs.Places.{Descriptor}
-use Rattle.dma_mem.specs.declared.transfer.TransferFault.{TransferFault}
-use Rattle.dma_mem.specs.declared.call.Call.TheVariants.{Submit}
-use Rattle.dma_engine.specs.declared.call.Reply.{Reply}
-use Rattle.dma_engine.specs.Answer.{CallAnswers}
-use Rattle.dma_engine.specs.View.{View}
-use Rattle.dma_ffi.specs.Codes.{reply_code, transfer_code}
-use Rattle.dma_ffi.specs.Requests.{number_in, replied}
+use Rattle.dma_mem.specs.{Places.Descriptor, declared.transfer.TransferFault.TransferFault, declared.call.Call.TheVariants.Submit}
+use Rattle.dma_engine.specs.{declared.call.Reply.Reply, Answer.CallAnswers, View.View}
+use Rattle.dma_ffi.specs.{Codes.reply_code, Codes.transfer_code, Requests.number_in, Requests.replied}
 
 -- An engine with the view `v` is given a transfer that was made, or none because of a fault; the code and the number
 -- before and after are those of its reply, or of the fault. Afterwards it has the view `w`.

@@ -1,7 +1,6 @@
 -- Blocks of bytes that are copied or filled.
 use Rattle.std.specs.Prelude.{◌≡◌, ℕ, ◌+◌, ◌≤◌, List, take, drop, replicate}
-use Rattle.dma_mem.specs.Image.{put, bytes_at}
-use Rattle.dma_mem.specs.inner.ChunkTable.{image_of}
+use Rattle.dma_mem.specs.{Image.put, Image.bytes_at, inner.ChunkTable.image_of}
 
 -- the bytes after `len` of them were copied from index `from` to index `to`
 abbrev pub copied : List ℕ → ℕ → ℕ → ℕ → List ℕ

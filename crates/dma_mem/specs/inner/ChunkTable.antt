@@ -1,9 +1,8 @@
 -- The chunks behind an image: groups of 256 chunks of 16,384 bytes, which is four pages each.
-use Rattle.std.specs.Prelude.{◌≡◌, ◌≢◌, ℕ, ◌*◌, ◌/◌, ◌%◌, ◌+◌, ◌<◌, ◌≤◌, Bool, true, false, nat_eq, nat_lt, ◌&&◌, if◌then◌else◌, List, [], length, map, replicate, slice_index, slice_index_or, unwrap_or}
-use Rattle.std.specs.List.{range_with_len}
-use Rattle.std.specs.Map.{lookup}
-use Rattle.dma_mem.specs.Image.{put, bytes_at}
-use Rattle.dma_mem.specs.Pages.{Paged, page_size}
+use Rattle.std.specs.Prelude.{◌≡◌, ◌≢◌, ℕ, ◌*◌, ◌/◌, ◌%◌, ◌+◌, ◌<◌, ◌≤◌, Bool, true, false, nat_eq, nat_lt, ◌&&◌, if◌then◌else◌, List, [], length, map}
+use Rattle.std.specs.Prelude.{replicate, slice_index, slice_index_or, unwrap_or}
+use Rattle.std.specs.{List.range_with_len, Map.lookup}
+use Rattle.dma_mem.specs.{Image.put, Image.bytes_at, Pages.Paged, Pages.page_size}
 
 -- how many bytes a chunk has
 abbrev pub chunk_size : ℕ

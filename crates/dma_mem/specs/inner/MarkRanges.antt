@@ -1,12 +1,7 @@
 -- The ranges in which marks are found by binary search.
-use Rattle.std.specs.Prelude.{ℕ, List, IsTrue, ◌↔◌}
-use Rattle.std.specs.List.{Contains}
-use Rattle.dma_mem.specs.declared.segment.Segment.{Segment}
-use Rattle.dma_mem.specs.declared.marks.MarkKind.{MarkKind}
-use Rattle.dma_mem.specs.declared.marks.MarkKind.TheVariants.{Reading, Writing}
-use Rattle.dma_mem.specs.Places.{places}
-use Rattle.dma_mem.specs.Marking.{MarkList, is_marked}
-use Rattle.dma_mem.specs.inner.RangesInOrder.{IsOrdered}
+use Rattle.std.specs.{Prelude.ℕ, Prelude.List, Prelude.IsTrue, Prelude.◌↔◌, List.Contains}
+use Rattle.dma_mem.specs.{declared.segment.Segment.Segment, declared.marks.MarkKind.MarkKind, declared.marks.MarkKind.TheVariants.Reading}
+use Rattle.dma_mem.specs.{declared.marks.MarkKind.TheVariants.Writing, Places.places, Marking.MarkList, Marking.is_marked, inner.RangesInOrder.IsOrdered}
 
 -- Ranges in order that have the addresses of the marks of a kind, and no others.
 pub record AreRangesOf (kind : MarkKind) (marks : MarkList) (ranges : List Segment) : Type 0 where

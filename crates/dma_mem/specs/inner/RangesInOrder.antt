@@ -1,9 +1,7 @@
 -- Ranges in the order that a binary search needs.
 use Rattle.std.specs.Prelude.{◌≡◌, ℕ, ◌+◌, ◌≤◌, ◌<◌, ◌↔◌, ◌⊎◌, min, max, nat_le, Bool, true, false, List, All}
-use Rattle.std.specs.List.{Contains}
-use Rattle.std.specs.List.Sorted.{IsNonDecreasingBy}
-use Rattle.dma_mem.specs.declared.segment.Segment.{Segment}
-use Rattle.dma_mem.specs.Places.{places, range_of}
+use Rattle.std.specs.{List.Contains, List.Sorted.IsNonDecreasingBy}
+use Rattle.dma_mem.specs.{declared.segment.Segment.Segment, Places.places, Places.range_of}
 
 -- Ranges in the order that a binary search needs: each has bytes, and neither the first addresses nor the ends decrease
 -- from one range to the next. They may meet.

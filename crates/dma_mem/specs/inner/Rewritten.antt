@@ -1,11 +1,8 @@
 -- Regions of a caller's memory, by index, and after a write to them.
 use Rattle.std.specs.Prelude.{◌≡◌, ℕ, ◌+◌, ◌-◌, ◌==◌, ◌≤◌, Bool, false, not, List, [], ◌∷◌, length, drop, slice_index_or, IsTrue, if◌then◌else◌}
-use Rattle.dma_mem.specs.declared.marks.MarkKind.{MarkKind}
-use Rattle.dma_mem.specs.declared.marks.MarkKind.TheVariants.{Reading, Writing}
-use Rattle.dma_mem.specs.declared.regions.Region.{Region}
-use Rattle.dma_mem.specs.Image.{put, bytes_at}
-use Rattle.dma_mem.specs.Lent.{Avoids}
 use Rattle.dma_mem.specs.Regions.{Piece, end_of, pieces_of, has, in_order, image_of, gaps_of, names_of, read_only_of}
+use Rattle.dma_mem.specs.{declared.marks.MarkKind.MarkKind, declared.marks.MarkKind.TheVariants.Reading, declared.marks.MarkKind.TheVariants.Writing}
+use Rattle.dma_mem.specs.{declared.regions.Region.Region, Image.put, Image.bytes_at, Lent.Avoids}
 
 -- the piece past the last one, which has no bytes
 abbrev pub nowhere : Piece

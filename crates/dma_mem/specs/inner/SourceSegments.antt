@@ -1,9 +1,7 @@
 -- How a transfer keeps its sources.
 use Rattle.std.specs.Prelude.{ℕ, List, [], ◌∷◌, Bool, true, false, Option}
-use Rattle.dma_mem.specs.declared.segment.Segment.{Segment}
-use Rattle.dma_mem.specs.declared.transfer.SourceSegments.{SourceSegments}
+use Rattle.dma_mem.specs.{declared.segment.Segment.Segment, declared.transfer.SourceSegments.SourceSegments, Places.Descriptor}
 use Rattle.dma_mem.specs.declared.transfer.SourceSegments.TheVariants as origins
-use Rattle.dma_mem.specs.Places.{Descriptor}
 
 -- the source segments: those of a list, or the one segment of a fill
 abbrev pub segments_of : SourceSegments → List Segment

@@ -1,10 +1,8 @@
 -- How lists are stored: a short one in the value itself.
 use Rattle.std.specs.Prelude.{ℕ, ◌≤◌, List, [], ◌∷◌, take}
-use Rattle.dma_mem.specs.declared.segment.Segment.{Segment}
-use Rattle.dma_mem.specs.declared.lists.StoredBytes.{StoredBytes}
 use Rattle.dma_mem.specs.declared.lists.StoredBytes.TheVariants.{Few, Long}
-use Rattle.dma_mem.specs.declared.lists.StoredSegments.{StoredSegments}
 use Rattle.dma_mem.specs.declared.lists.StoredSegments.TheVariants.{Empty, One, Many}
+use Rattle.dma_mem.specs.{declared.segment.Segment.Segment, declared.lists.StoredBytes.StoredBytes, declared.lists.StoredSegments.StoredSegments}
 
 -- the bytes of a list
 abbrev pub bytes_in : StoredBytes → List ℕ

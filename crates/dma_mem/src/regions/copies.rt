@@ -38,7 +38,7 @@ fn copy_block(regions: &mut [Region<'_>], from: u32, to: u32, len: usize)
     let mut block = [0; BLOCK_SIZE];
     let part = &mut block[..len];
     read_into(regions, from, part);
-    write(regions, to, part, &[]);
+    write(regions, to, part);
 }
 
 // Copies `len` bytes from `from` to `to`, a block at a time. The two ranges share no address.

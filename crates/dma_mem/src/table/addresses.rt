@@ -1,7 +1,7 @@
 //! Reads and writes a table by address, chunk after chunk of 16,384 bytes. The loops over chunks aren't inlined: a
 //! burst mostly lies in one chunk, and the instruction loop of a channel stays small without them.
 
-ghost use Rattle.std.specs.Prelude.{◌≡◌, ℕ, ◌+◌, ◌*◌, ◌%◌, ◌<◌, ◌≤◌, ◌++◌, ◌^◌, length, true, false, IfOk, IfSome, IsSome, OnOk, OnErr};
+ghost use Rattle.std.specs.Prelude.{◌≡◌, ℕ, ◌+◌, ◌*◌, ◌%◌, ◌<◌, ◌≤◌, ◌^◌, length, true, false, IfOk, IfSome, IsSome, OnOk, OnErr};
 ghost use Rattle.dma_mem.specs.inner.ChunkTable.{chunk_size, chunk_at, AreBytesFrom, PutsBytes, RangeMade, RangeMissing, SameBytes, SameLengths};
 
 use crate::table::{CHUNK_SIZE, Table, shown};
@@ -86,7 +86,7 @@ impl Table {
 
     // Writes the bytes from `start` on to chunks that are already made, with one look-up for each chunk.
     #[inline(never)]
-    fn put(&mut self, start: usize, bytes: &[u8])
+    fn put_in_turn(&mut self, start: usize, bytes: &[u8])
         requires limit { start + length bytes.now < 2 ^ 33 }
         requires made { RangeMade self.old start (start + length bytes.now) }
         ensures len { SameLengths self.old self.new }
@@ -98,28 +98,26 @@ impl Table {
             let at = start + done;
             let offset = at % CHUNK_SIZE;
             let count = (CHUNK_SIZE - offset).min(bytes.len() - done);
-            self.put_in_chunk(at / CHUNK_SIZE, offset, &bytes[done..done + count], &[]);
+            self.put_in_chunk(at / CHUNK_SIZE, offset, &bytes[done..done + count]);
             done += count;
         }
     }
 
-    /// Writes the bytes of `front` and then those of `back` from `start` on to chunks that are already made, with one
-    /// look-up if they lie in one chunk.
+    /// Writes the bytes from `start` on to chunks that are already made, with one look-up if they lie in one chunk.
     #[inline(always)]
-    pub(crate) fn put_parts(&mut self, start: usize, front: &[u8], back: &[u8])
-        requires limit { start + length front.now + length back.now < 2 ^ 33 }
-        requires made { RangeMade self.old start (start + length front.now + length back.now) }
+    pub(crate) fn put(&mut self, start: usize, bytes: &[u8])
+        requires limit { start + length bytes.now < 2 ^ 33 }
+        requires made { RangeMade self.old start (start + length bytes.now) }
         ensures len { SameLengths self.old self.new }
         ensures count { length self.new ≡ length self.old }
-        ensures image { PutsBytes self.old self.new start (front.now ++ back.now) }
+        ensures image { PutsBytes self.old self.new start bytes.now }
     {
         let offset = start % CHUNK_SIZE;
-        let len = front.len() + back.len();
+        let len = bytes.len();
         if len > 0 && offset + len <= CHUNK_SIZE {
-            self.put_in_chunk(start / CHUNK_SIZE, offset, front, back);
+            self.put_in_chunk(start / CHUNK_SIZE, offset, bytes);
         } else {
-            self.put(start, front);
-            self.put(start + front.len(), back);
+            self.put_in_turn(start, bytes);
         }
     }
 }

@@ -122,7 +122,7 @@ impl Table {
                 chunk.fill(offset, len, 0);
             } else {
                 let start = from % CHUNK_SIZE;
-                chunk.put(offset, &source[start..start + len], &[]);
+                chunk.put(offset, &source[start..start + len]);
             }
         }
         self.groups[number / GROUP_SIZE].replace(number % GROUP_SIZE, chunk);

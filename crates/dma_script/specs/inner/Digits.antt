@@ -1,14 +1,9 @@
 -- Bytes that were read before, and then those of the rest of a text.
 use Rattle.std.specs.Prelude.{ℕ, ◌==◌, nat_eq, if◌then◌else◌, List, [], ◌∷◌, ◌++◌, drop, Option, Some, None, Result, Ok, codes}
-use Rattle.std.specs.List.{starts_with}
-use Rattle.std.specs.Option.{option_map}
+use Rattle.std.specs.{List.starts_with, Option.option_map}
 use Rattle.dma_mem.specs.declared.segment.Segment.{Segment}
-use Rattle.dma_script.specs.Lines.{◌>>=◌}
-use Rattle.dma_script.specs.Arguments.{bytes_at}
-use Rattle.dma_script.specs.Pairs.{pairs_from}
-use Rattle.dma_script.specs.Words.{number_in, segment_of}
-use Rattle.dma_script.specs.declared.fault.Cause.{Cause}
-use Rattle.dma_script.specs.declared.fault.Fault.{Fault}
+use Rattle.dma_text.specs.Results.{◌>>=◌}
+use Rattle.dma_script.specs.{Arguments.bytes_at, Pairs.pairs_from, Words.number_in, Words.segment_of, declared.fault.Cause.Cause, declared.fault.Fault.Fault}
 
 -- the bytes before, and then those of hexadecimal words, joined; `Hex` if one of them is not
 abbrev pub bytes_after : List ℕ → List (List ℕ) → Result (List ℕ) Cause

@@ -1,11 +1,9 @@
 -- How the statements of a script are kept: the bytes of `write` lines, and the statements that have lists, are in lists
 -- of their own.
 use Rattle.std.specs.Prelude.{◌≡◌, ℕ, Bool, true, false, List, [], ◌∷◌, OnErr, OnOk, Result}
+use Rattle.dma_script.specs.{Interpreted.PrintsLine, declared.queue.Line.Line, declared.statements.Statement.Statement}
 use Rattle.dma_mem.specs.declared.call.Call.TheVariants as calls
-use Rattle.dma_script.specs.Interpreted.{PrintsLine}
-use Rattle.dma_script.specs.declared.queue.Line.{Line}
 use Rattle.dma_script.specs.declared.queue.Line.TheVariants as lines
-use Rattle.dma_script.specs.declared.statements.Statement.{Statement}
 use Rattle.dma_script.specs.declared.statements.Statement.TheVariants as statements
 
 -- the statement of a line that needs nothing from `bytes` or `long`; else `Step 0 0`, which `statements_in` doesn't use

@@ -1,37 +1,23 @@
 -- How the reader of a line goes through its words, one after another, for the contracts of private functions. Of each
 -- of the three tests of words (their count, their form, and the ranges of numbers), the first fault is kept until the
 -- end of the line. What a line means is in `Arguments`, `Plan`, `Statements` and `Race`.
-use Rattle.std.specs.Prelude.{◌≡◌, ◌<◌, ◌≤◌, slice_index, ℕ, ◌&&◌, ◌||◌, Bool, true, false, not, if◌then◌else◌, List, [], ◌∷◌, ◌++◌, Option, Some, None, Result, Ok, Err, is_some, unwrap_or, codes}
-use Rattle.std.specs.Option.{option_or}
-use Rattle.std.specs.Str.{bytes_eq}
-use Rattle.dma_mem.specs.declared.call.Call.TheVariants as calls
-use Rattle.dma_mem.specs.declared.marks.MarkKind.{MarkKind}
+use Rattle.std.specs.Prelude.{◌≡◌, ◌<◌, ◌≤◌, slice_index, ℕ, ◌&&◌, ◌||◌, Bool, true, false, not, if◌then◌else◌, List, [], ◌∷◌, ◌++◌, Option, Some, None, Result}
+use Rattle.std.specs.Prelude.{Ok, is_some, unwrap_or, codes}
+use Rattle.std.specs.{Option.option_or, Str.bytes_eq}
 use Rattle.dma_mem.specs.declared.marks.MarkKind.TheVariants.{Reading, Writing}
-use Rattle.dma_mem.specs.declared.segment.Segment.{Segment}
-use Rattle.dma_script.specs.Words.{is_blank, number_of, segment_of, list_of}
-use Rattle.dma_script.specs.Arguments.{bytes_at, lies_in}
-use Rattle.dma_script.specs.Lines.{◌>>=◌}
-use Rattle.dma_script.specs.Plan.{plain}
-use Rattle.dma_script.specs.Statements.{later_line, most_line_steps}
-use Rattle.dma_script.specs.Causes.{where_not, number_or_zero, cause_reported}
-use Rattle.dma_script.specs.declared.fault.Cause.{Cause}
+use Rattle.dma_mem.specs.{declared.marks.MarkKind.MarkKind, declared.segment.Segment.Segment}
+use Rattle.dma_text.specs.{Lines.is_blank, Results.◌>>=◌}
+use Rattle.dma_script.specs.Arguments.{bytes_at, is_between, most_line_steps, number_or_zero, or_empty, unless, where_not, Shape, makes, number, within}
+use Rattle.dma_script.specs.Arguments.{segment, list, steps, bytes, fixed, event, source, kind}
+use Rattle.dma_script.specs.{Words.number_of, Words.segment_of, Words.list_of, Plan.transfer, Statements.later_line, Statements.statement}
+use Rattle.dma_script.specs.{Causes.cause_reported, declared.fault.Cause.Cause, declared.transfer_line.Origin.Origin}
+use Rattle.dma_script.specs.{declared.transfer_line.TransferLine.TransferLine, declared.statements.Keyword.Keyword, declared.statements.Statement.Statement}
 use Rattle.dma_script.specs.declared.fault.Cause.TheVariants as causes
-use Rattle.dma_script.specs.declared.transfer_line.Origin.{Origin}
 use Rattle.dma_script.specs.declared.transfer_line.Origin.TheVariants as origins
-use Rattle.dma_script.specs.declared.transfer_line.TransferLine.{TransferLine}
-use Rattle.dma_script.specs.declared.statements.Keyword.{Keyword}
-use Rattle.dma_script.specs.declared.statements.Keyword.TheVariants as keywords
-use Rattle.dma_script.specs.declared.statements.Statement.{Statement}
-use Rattle.dma_script.specs.declared.statements.Statement.TheVariants as statements
 
 -- No byte is a blank from one place on up to another.
 abbrev pub NoBlank : List ℕ → ℕ → ℕ → Type 0
 NoBlank line start end = (k : ℕ) → start ≤ k → k < end → is_blank (slice_index line k) ≡ false
-
--- succeeds, unless there is a cause
-abbrev pub unless : Option Cause → Result (Unit {0}) Cause
-unless None = Ok tt
-unless (Some cause) = Err cause
 
 -- A line whose words are being read. `left`: the words not read yet. `misses`: a word is missing, or a fixed word is
 -- wrong. `form`: `Number` or `Hex`, for the first word that is not in its form. `range`: the cause of the first number
@@ -108,9 +94,9 @@ number_from line = (
 -- a number from `low` to `high`, or a cause
 abbrev pub within_from : ℕ → ℕ → Cause → LineRead → ℕ × LineRead
 within_from low high cause line =
-    let number = number_from line in
-    let fits = lies_in low high number.0 in
-    (if fits then number.0 else low, record number.1 { range = option_or number.1.range (where_not fits cause) })
+    let found = number_from line in
+    let fits = is_between low high found.0 in
+    (if fits then found.0 else low, record found.1 { range = option_or found.1.range (where_not fits cause) })
 
 -- a number of at most 255, such as that of a channel or an event
 abbrev pub byte_from : LineRead → ℕ × LineRead
@@ -123,8 +109,8 @@ count_from line = if no_words line.left then (1, line) else within_from 1 most_l
 -- the event after its name, or `None` if the name is not the next word
 abbrev pub event_from : List ℕ → LineRead → Option ℕ × LineRead
 event_from name line =
-    let event = byte_from (skipped line) in
-    if begins name line.left then (Some event.0, event.1) else (None, line)
+    let found = byte_from (skipped line) in
+    if begins name line.left then (Some found.0, found.1) else (None, line)
 
 -- a segment
 abbrev pub segment_from : LineRead → Segment × LineRead
@@ -144,11 +130,6 @@ list_from line = (
 abbrev pub to_list_from : LineRead → List Segment × LineRead
 to_list_from line = list_from (fixed_from (codes "to") line)
 
--- the value of a result, or an empty list
-abbrev pub or_empty : Result (List ℕ) Cause → List ℕ
-or_empty (Ok bytes) = bytes
-or_empty (Err cause) = []
-
 -- the joined bytes of all words that are left, at least one
 abbrev pub bytes_from : LineRead → List ℕ × LineRead
 bytes_from line = (
@@ -159,18 +140,9 @@ bytes_from line = (
 -- the source of a transfer: `fill ADDR`, or a list
 abbrev pub source_from : LineRead → Origin × LineRead
 source_from line =
-    let place = number_from (skipped line) in
-    let list = list_from line in
-    if begins (codes "fill") line.left then (origins.Place place.0, place.1) else (origins.List list.0, list.1)
-
--- `LIST to LIST [wait E] [signal E]` or `fill ADDR to LIST [wait E] [signal E]`
-abbrev pub transfer_from : LineRead → TransferLine × LineRead
-transfer_from line =
-    let src = source_from line in
-    let dst = to_list_from src.1 in
-    let wait = event_from (codes "wait") dst.1 in
-    let signal = event_from (codes "signal") wait.1 in
-    (record { src = src.0; dst = dst.0; wait = wait.0; signal = signal.0 }, signal.1)
+    let addr = number_from (skipped line) in
+    let places = list_from line in
+    if begins (codes "fill") line.left then (origins.Place addr.0, addr.1) else (origins.List places.0, places.1)
 
 -- the kind of a mark: loads fail at a `read` mark, stores at a `write` mark
 abbrev pub kind_from : LineRead → MarkKind × LineRead
@@ -178,39 +150,29 @@ kind_from line =
     if begins (codes "read") line.left then (Reading, skipped line)
     else (Writing, fixed_from (codes "write") line)
 
--- a statement made of two values that are read one after the other
-abbrev pub both_from : {A B : Type 0} → (LineRead → A × LineRead) → (LineRead → B × LineRead) → (A → B → Statement) → LineRead → Result (Statement × LineRead) Cause
-both_from first second make line =
-    let a = first line in
-    let b = second a.1 in
-    Ok (make a.0 b.0, b.1)
+-- what a shape makes of a line's words, one after another, and the line after them
+abbrev pub read : {A : Type 0} → Shape A → LineRead → A × LineRead
+read (makes a) line = (a, line)
+read (number next) line = let found = number_from line in read (next found.0) found.1
+read (within low high cause next) line = let found = within_from low high cause line in read (next found.0) found.1
+read (segment next) line = let found = segment_from line in read (next found.0) found.1
+read (list next) line = let found = list_from line in read (next found.0) found.1
+read (steps next) line = let found = count_from line in read (next found.0) found.1
+read (bytes next) line = let found = bytes_from line in read (next found.0) found.1
+read (fixed text rest) line = read rest (fixed_from text line)
+read (event name next) line = let found = event_from name line in read (next found.0) found.1
+read (source next) line = let found = source_from line in read (next found.0) found.1
+read (kind next) line = let found = kind_from line in read (next found.0) found.1
 
--- a statement made of one value
-abbrev pub one_from : {A : Type 0} → (LineRead → A × LineRead) → (A → Statement) → LineRead → Result (Statement × LineRead) Cause
-one_from first make line = let a = first line in Ok (make a.0, a.1)
+-- `LIST to LIST [wait E] [signal E]` or `fill ADDR to LIST [wait E] [signal E]`
+abbrev pub transfer_from : LineRead → TransferLine × LineRead
+transfer_from line = read (transfer makes) line
 
 -- The statement that a keyword and the words after it spell, and the line after them: `First` for the memory line.
 abbrev pub statement_from : Keyword → LineRead → Result (Statement × LineRead) Cause
-statement_from keywords.Memory line = Err causes.First
-statement_from keywords.Write line = both_from number_from bytes_from (λ addr bytes. statements.Call (calls.Write addr bytes)) line
-statement_from keywords.Read line = one_from segment_from (λ s. statements.Call (calls.Read s.addr s.len)) line
-statement_from keywords.Copy line =
-    both_from list_from to_list_from (λ src dst. statements.Copy (plain (origins.List src) dst)) line
-statement_from keywords.Fill line = both_from number_from to_list_from (λ src dst. statements.Copy (plain (origins.Place src) dst)) line
-statement_from keywords.Submit line =
-    both_from byte_from transfer_from (λ ch transfer. statements.Submit ch transfer) line
-statement_from keywords.Issue line = one_from byte_from (λ ch. statements.Call (calls.Issue ch)) line
-statement_from keywords.Pause line = one_from byte_from (λ ch. statements.Call (calls.Pause ch)) line
-statement_from keywords.Resume line = one_from byte_from (λ ch. statements.Call (calls.Resume ch)) line
-statement_from keywords.Terminate line = one_from byte_from (λ ch. statements.Call (calls.Terminate ch)) line
-statement_from keywords.Step line = both_from byte_from count_from (λ ch count. statements.Step ch count) line
-statement_from keywords.Status line = both_from byte_from number_from (λ ch cookie. statements.Call (calls.Status ch cookie)) line
-statement_from keywords.Result line = both_from byte_from number_from (λ ch cookie. statements.Call (calls.Result ch cookie)) line
-statement_from keywords.Mark line = both_from kind_from segment_from (λ kind segment. statements.Call (calls.Mark kind segment)) line
-statement_from keywords.Unmark line = Ok (statements.Call calls.Unmark, line)
-statement_from keywords.Raise line = one_from byte_from (λ event. statements.Call (calls.Raise event)) line
-statement_from keywords.Checkpoint line = Ok (statements.Call calls.Checkpoint, line)
-statement_from keywords.Totals line = Ok (statements.Totals, line)
+statement_from keyword line = do
+  shape ← statement keyword
+  Ok (read shape line)
 
 -- statements and one more, and the line after it
 abbrev pub added_to : List Statement → Statement × LineRead → Result (List Statement × LineRead) Cause

@@ -1,9 +1,6 @@
 -- How outputs and verdicts are counted, one after another.
-use Rattle.std.specs.Prelude.{ℕ, ◌+◌, not, if◌then◌else◌, List, [], ◌∷◌}
-use Rattle.std.specs.Str.{bytes_eq}
-use Rattle.dma_seeds.specs.Expect.{is_good}
-use Rattle.dma_seeds.specs.declared.expect.Verdict.{Verdict}
-use Rattle.dma_seeds.specs.declared.outputs.Output.{Output}
+use Rattle.std.specs.{Prelude.ℕ, Prelude.◌+◌, Prelude.not, Prelude.if◌then◌else◌, Prelude.List, Prelude.[], Prelude.◌∷◌, Str.bytes_eq}
+use Rattle.dma_seeds.specs.{Expect.is_good, declared.expect.Verdict.Verdict, declared.outputs.Output.Output}
 
 -- an output with one more seed
 abbrev pub one_more : Output → Output

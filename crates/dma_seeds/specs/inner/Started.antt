@@ -1,9 +1,7 @@
 -- A race between the lines before `go` and its turns.
 use Rattle.std.specs.Prelude.{◌≡◌, ℕ, List}
-use Rattle.dma_engine.specs.Interleaved.{JobTurn}
-use Rattle.dma_engine.specs.View.{View}
-use Rattle.dma_script.specs.declared.race.RaceScript.{RaceScript}
-use Rattle.dma_script.specs.declared.statements.Statement.{Statement}
+use Rattle.dma_engine.specs.{Interleaved.JobTurn, View.View}
+use Rattle.dma_script.specs.{declared.race.RaceScript.RaceScript, declared.statements.Statement.Statement}
 use Rattle.dma_commands.specs.Left.{view_after}
 use Rattle.dma_seeds.specs.Turns.{turns_of_seed}
 

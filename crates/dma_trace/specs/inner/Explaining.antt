@@ -1,29 +1,15 @@
 -- How an explanation is begun.
-use Rattle.std.specs.Prelude.{◌≡◌, ℕ, ◌-◌, ◌++◌, Bool, false, List, [], All, Option, Some, None, map, if◌then◌else◌}
-use Rattle.dma_chan.specs.declared.bus.Bus.{Bus}
-use Rattle.dma_explain.specs.declared.explain.Explained.{Explained}
-use Rattle.dma_chan.specs.Exec.{start_on}
-use Rattle.dma_explain.specs.Explains.{Finds, bursts_in}
-use Rattle.dma_mem.specs.declared.regions.Region.{Region}
-use Rattle.dma_mem.specs.declared.segment.Segment.{Segment}
-use Rattle.dma_mem.specs.Regions.{pieces_of}
-use Rattle.dma_trace.specs.declared.options.TraceOptions.{TraceOptions}
-use Rattle.dma_trace.specs.Explained.{Prints}
-use Rattle.dma_trace.specs.Found.{zero_piece}
-use Rattle.dma_trace.specs.Traced.{Shows}
+use Rattle.std.specs.Prelude.{◌≡◌, ℕ, ◌-◌, ◌++◌, Bool, false, List, All, Option, Some, None, map}
+use Rattle.dma_chan.specs.{declared.bus.Bus.Bus, Exec.start_on}
+use Rattle.dma_explain.specs.{declared.explain.Explained.Explained, Explains.Finds, Explains.bursts_in}
+use Rattle.dma_mem.specs.{declared.regions.Region.Region, declared.segment.Segment.Segment, Regions.pieces_of}
+use Rattle.dma_trace.specs.{declared.options.TraceOptions.TraceOptions, Explained.Prints, Found.zero_piece, Traced.Shows}
 
 -- what is found of a program, or what is printed if nothing explains it
 abbrev pub Found : Bus → List ℕ → ℕ → Option Explained → List ℕ → List ℕ → Type 0
 Found bus program most (Some x) err new_err =
     Finds (start_on bus) program most x × (x.bursts ≡ bursts_in (start_on bus) program (x.steps - 1)) × (new_err ≡ err)
 Found bus program most None err new_err = (printed : List ℕ) × Prints bus program most false printed × (new_err ≡ err ++ printed)
-
--- what is printed is appended, without warnings
-pub record Works (bus : Bus) (program : List ℕ) (most : ℕ) (copies : Bool) (out err new_out new_err : List ℕ) : Type 0 where
-  pub printed : List ℕ
-  pub prints : Prints bus program most copies printed
-  pub to_out : new_out ≡ out ++ (if copies then printed else [])
-  pub to_err : new_err ≡ err ++ (if copies then [] else printed)
 
 -- a trace over RAM at these ranges
 pub record ShowsOver (o : TraceOptions) (program : List ℕ) (ranges : List Segment) (good : Bool) (out err wave new_out new_err new_wave : List ℕ) : Type 0 where

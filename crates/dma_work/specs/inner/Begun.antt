@@ -1,10 +1,8 @@
 -- Jobs that were begun, and whose they are.
 use Rattle.std.specs.Prelude.{◌≡◌, ℕ}
 use Rattle.dma_engine.specs.View.{View}
-use Rattle.dma_work.specs.declared.shared.Begun.{Begun}
 use Rattle.dma_work.specs.declared.shared.Begun.TheVariants.{InThread, Here}
-use Rattle.dma_work.specs.declared.job.Job.{Job}
-use Rattle.dma_work.specs.Tallies.{TookTurns}
+use Rattle.dma_work.specs.{declared.shared.Begun.Begun, declared.job.Job.Job, Tallies.TookTurns}
 
 -- A job of this worker is in a thread or done.
 abbrev pub IsOf : {N G : Type 0} → View → (ℕ → ℕ → Type 0) → Begun N G → ℕ → Job → Type 0

@@ -1,13 +1,8 @@
 -- The invariant of a desk.
 use Rattle.std.specs.Prelude.{◌≡◌, ◌++◌}
 use Rattle.atomic_table.specs.Seated.{TableId}
-use Rattle.dma_engine.specs.Ticks.{Board, ticks_of}
-use Rattle.dma_engine.specs.View.{EngineState, View, channels, size}
-use Rattle.dma_work.specs.declared.worker.Totals.{Totals}
-use Rattle.dma_work.specs.Desk.{CountsSince}
-use Rattle.dma_work.specs.inner.Published.{PublisherState}
-use Rattle.dma_work.specs.Laws.{AreCounts}
-use Rattle.dma_work.specs.Ticks.{base_of, board_from}
+use Rattle.dma_engine.specs.{Ticks.Board, Ticks.ticks_of, View.EngineState, View.View, View.channels, View.size}
+use Rattle.dma_work.specs.{declared.worker.Totals.Totals, Desk.CountsSince, inner.Published.PublisherState, Laws.AreCounts, Ticks.base_of, Ticks.board_from}
 
 -- The invariant of a desk, for the opening view, the base and the table that its name has. The published list ends with
 -- the ticks of the history. The published ticks before those add up to the counts with which the history begins. The

@@ -1,11 +1,7 @@
 -- The turns that were taken on a shift so far.
 use Rattle.std.specs.Prelude.{◌≡◌, ℕ, List, map}
-use Rattle.dma_engine.specs.Interleaved.{rotation}
-use Rattle.dma_engine.specs.View.{View}
-use Rattle.dma_work.specs.declared.job.Job.{Job}
-use Rattle.dma_work.specs.declared.seat.Seat.{Seat}
-use Rattle.dma_work.specs.declared.worker.Totals.{Totals}
-use Rattle.dma_work.specs.Shift.{TookTurnsOn, jobs_of}
+use Rattle.dma_engine.specs.{Interleaved.rotation, View.View}
+use Rattle.dma_work.specs.{declared.job.Job.Job, declared.seat.Seat.Seat, declared.worker.Totals.Totals, Shift.TookTurnsOn, Shift.jobs_of}
 
 -- the channels of a seat's turns that were taken, in order
 abbrev pub channels_taken : Seat → List ℕ

@@ -1,16 +1,10 @@
 -- The published list of ticks, the table at which it is read, and what readers know of it.
 use Rattle.std.specs.Prelude.{ℕ, ◌≡◌, ◌+◌, ◌*◌, ◌/◌, ◌%◌, ◌<◌, true, if◌then◌else◌, nat_lt, false, List, [], ◌∷◌, ◌++◌, length, slice_index}
+use Rattle.atomic_table.specs.{Seated.TableId, Table.Me, Table.State, Table.Step, declared.shared.Seat.Seat}
+use Rattle.dma_engine.specs.{Ticks.Board, Ticks.Counts, Ticks.Tick, Ticks.counts, Ticks.ticks_of, View.View}
+use Rattle.dma_work.specs.{declared.board.Sight.Sight, Known.Known, Laws.AreCounts, Ticks.StartsWith, Ticks.board_from}
 use mathlib.Core.Option.{some}
 use lib.ListN.{get_elem?}
-use Rattle.atomic_table.specs.Seated.{TableId}
-use Rattle.atomic_table.specs.Table.{Me, State, Step}
-use Rattle.atomic_table.specs.declared.shared.Seat.{Seat}
-use Rattle.dma_engine.specs.Ticks.{Board, Counts, Tick, counts, ticks_of}
-use Rattle.dma_engine.specs.View.{View}
-use Rattle.dma_work.specs.declared.board.Sight.{Sight}
-use Rattle.dma_work.specs.Known.{Known}
-use Rattle.dma_work.specs.Laws.{AreCounts}
-use Rattle.dma_work.specs.Ticks.{StartsWith, board_from}
 
 -- ---- the published list
 
@@ -87,23 +81,20 @@ pub record WasLooked (ch : ℕ) (v : Sight) (n : ℕ) : Type 0 where
   pub small : AreCounts (board_from v.base v.seen)
   pub word : ch < 8 → n ≡ packed (counts (board_from v.base v.seen) ch)
 
--- The writer has read a word, and knows what it knew.
-abbrev pub looks : Step Tick → Sat → ℕ → Sat → Type 0
-looks st m n m' = (m' ≡ m) × WasLooked st.word m.0 n
-
 -- A tick was added to the list.
 abbrev pub adds : Step Tick → Sat → ℕ → Sat → Type 0
 adds st m n m' = (t : Tick) → st.said ≡ some t → m' ≡ (record (m.0) { seen = m.0.seen ++ t ∷ [] }, m.1)
 
--- A word was read by a reader, which has then seen a list that begins with all that it has seen or learnt. The word has
--- the counts of that list.
+-- A word was read by a seat, which has then seen a list that begins with all that it has seen or learnt. The word has
+-- the counts of that list. The writer knows what it knew.
 pub record WasRead (ch : ℕ) (old : Sight) (n : ℕ) (new : Sight) : Type 0 where
   pub same : new ≡ record old { seen = new.seen }
   pub later : StartsWith new.seen old.seen
   pub covers : StartsWith new.seen old.learnt
   pub read : WasLooked ch new n
+  pub writer : old.writes ≡ true → new ≡ old
 
--- A reader has read a word.
+-- A word was read.
 abbrev pub reads : Step Tick → Sat → ℕ → Sat → Type 0
 reads st m n m' = WasRead st.word m.0 n m'.0 × (m'.1 ≡ m.1)
 
@@ -118,13 +109,10 @@ pub record WasLearnt (old new : Sight) : Type 0 where
   pub before : StartsWith (longer old.learnt old.offered) old.learnt
   pub ticket : StartsWith (longer old.learnt old.offered) old.offered
 
--- A reader has learnt the list that it was offered, or had learnt a longer one.
+-- A reader has learnt the list that it was offered, or had learnt a longer one. At a step that offers none, nothing
+-- changes.
 abbrev pub learns : Step Tick → Sat → ℕ → Sat → Type 0
 learns st m n m' = WasLearnt m.0 m'.0 × (m'.1 ≡ m.1)
-
--- Nothing changes at the seat.
-abbrev pub stays : Step Tick → Sat → ℕ → Sat → Type 0
-stays st m n m' = m' ≡ m
 
 -- ---- seats
 

@@ -1,10 +1,7 @@
 -- Rows of a worker's turns. A row is taken under one lock.
 use Rattle.std.specs.Prelude.{◌≡◌, ◌<◌, ◌≤◌, ℕ, ◌+◌}
-use Rattle.dma_engine.specs.Interleaved.{channel_at, rotation}
-use Rattle.dma_engine.specs.View.{View}
-use Rattle.dma_work.specs.declared.job.Job.{Job}
-use Rattle.dma_work.specs.Desk.{CountsAStep, DeskState, TallyCounts, new_tally}
-use Rattle.dma_work.specs.Rotation.{StepsInTurn}
+use Rattle.dma_engine.specs.{Interleaved.channel_at, Interleaved.rotation, View.View}
+use Rattle.dma_work.specs.{declared.job.Job.Job, Desk.CountsAStep, Desk.DeskState, Desk.TallyCounts, Desk.new_tally, Rotation.StepsInTurn}
 
 -- A worker's job, and the tally of the turns of it that were taken.
 pub record TurnsState : Type 0 where

@@ -1,8 +1,7 @@
 -- Ticks as the code stores them.
 use Rattle.std.specs.Prelude.{ℕ, Option, Some, None, List, [], ◌∷◌}
+use Rattle.dma_work.specs.{declared.tick.Change.Change, declared.tick.Change.TheVariants.Given, declared.tick.Change.TheVariants.Finished}
 use Rattle.dma_engine.specs.Ticks.{Counts, Tick, Submitted, Finished as TickFinished, added_up}
-use Rattle.dma_work.specs.declared.tick.Change.{Change}
-use Rattle.dma_work.specs.declared.tick.Change.TheVariants.{Given, Finished}
 
 -- the tick of a change on a channel
 abbrev pub tick_of : ℕ → Change → Tick

@@ -1,13 +1,9 @@
 -- What the parts of a race script print.
 use Rattle.std.specs.Prelude.{◌≡◌, ℕ, ◌≤◌, List, [], ◌∷◌, ◌++◌, take, length, map}
-use Rattle.dma_engine.specs.Interleaved.{Interleaves, JobTurn, turns_taken}
-use Rattle.dma_engine.specs.View.{View}
-use Rattle.dma_work.specs.Shift.{channels_of_job}
-use Rattle.dma_work.specs.declared.job.Job.{Job}
+use Rattle.dma_engine.specs.{Interleaved.Interleaves, Interleaved.JobTurn, Interleaved.turns_taken, View.View}
+use Rattle.dma_work.specs.{Shift.channels_of_job, declared.job.Job.Job}
 use Rattle.dma_io.specs.Command.{printed_text, text_of}
-use Rattle.dma_script.specs.Interpreted.{ActsInTurn, PrintsLines}
-use Rattle.dma_script.specs.declared.race.JobLine.{JobLine}
-use Rattle.dma_script.specs.declared.statements.Statement.{Statement}
+use Rattle.dma_script.specs.{Interpreted.ActsInTurn, Interpreted.PrintsLines, declared.race.JobLine.JobLine, declared.statements.Statement.Statement}
 use Rattle.dma_commands.specs.Raced.{EarlyPrints, go_line}
 
 -- The jobs of job lines: one for each line, with its channels and turns.

@@ -27,7 +27,7 @@
 //! - No two regions of a call have a byte of the process in common: of two that do, the one at the higher address is
 //!   left out.
 //!
-//! The proofs of the library are about calls beside which nobody else uses the bytes. `docs/EMBEDDING.md` has what is
+//! The proofs of the library are about calls beside which nobody else uses the bytes. `docs/DEVICES.md` has what is
 //! true otherwise ("Beside running processors"). If a page of a file is mapped twice, the library takes it for two
 //! pages, as if somebody else wrote the one whenever a call writes the other, and only the one that a call writes is
 //! marked as dirty.

@@ -15,7 +15,8 @@ pub returns-then-end-size-clause-lie : goal.returns-then-end-size-clause-lie
 returns-then-end-size-clause-lie g c = λ hit. record {
   within = omega (arith, c.end.ensures, c.size.ensures.value, c.span-span.ensures);
   clear = barred_gaps c.args.kind (g.M.Ram.loan c.args.memory.now) c.args.burst.addr (span_of c.args.burst)
-      (λ a low high. c.clear.ensures.none a (omega (arith, low, c.span-span.ensures.addr)) (omega (arith, high, c.span-span.ensures.addr, c.span-span.ensures.len)));
+      (λ a low high. c.clear.ensures.none a (omega (arith, low, c.span-span.ensures.addr))
+      (omega (arith, high, c.span-span.ensures.addr, c.span-span.ensures.len)));
 }
 
 pub returns-then-clear-span-clause-lie : goal.returns-then-clear-span-clause-lie

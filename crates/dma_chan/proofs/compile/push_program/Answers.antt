@@ -1,7 +1,6 @@
 use Rattle.std.proofs.Common.{◌≡◌, ◌∙◌, ◌+◌, ◌++◌, List, ℕ, ap, arith, append_assoc, length, map}
-use Rattle.dma_chan.specs.declared.pieces.Piece.{Piece}
 use Rattle.dma_chan.specs.Compiled.{piece_tree, pieces_of, signal_tree, wait_tree}
-use Rattle.dma_chan.specs.Tree.{bytes_of, in_order}
+use Rattle.dma_chan.specs.{declared.pieces.Piece.Piece, Tree.bytes_of, Tree.in_order}
 use Rattle.dma_chan.proofs.PieceCode.{all_small, cut_well, piece_more, pieces_few}
 use Rattle.dma_chan.proofs.TreeCosts.{cost_counted, cost_of_tree, counted}
 use Rattle.dma_chan.proofs.compile.push_program.Goals as goal
@@ -39,4 +38,5 @@ loop-piece-preserved c =
     }
 
 pub returns-clause-most : goal.returns-clause-most
-returns-clause-most c = omega (arith, c.loop-piece.invariant.most, c.push_signal.ensures.most, c.push.ensures.len, pieces_few c.args.transfer.now c.of-pieces.ensures.rules)
+returns-clause-most c = omega
+    (arith, c.loop-piece.invariant.most, c.push_signal.ensures.most, c.push.ensures.len, pieces_few c.args.transfer.now c.of-pieces.ensures.rules)

@@ -1,5 +1,4 @@
-use Rattle.dma_chan.proofs.Pace.{order_is, stays_in_step, gets_to_end}
-use Rattle.dma_chan.proofs.ShapeLaws.{stored_is}
+use Rattle.dma_chan.proofs.{Pace.order_is, Pace.stays_in_step, Pace.gets_to_end, ShapeLaws.stored_is}
 use Rattle.dma_chan.proofs.laws.pace.Goals as goal
 
 pub returns : goal.returns

@@ -1,6 +1,5 @@
 use Rattle.std.proofs.Common.{◌∙◌, ap, refl, length, min}
-use Rattle.dma_chan.specs.Bursts.{touched}
-use Rattle.dma_chan.specs.Ready.{none_missing}
+use Rattle.dma_chan.specs.{Bursts.touched, Ready.none_missing}
 use Rattle.dma_chan.proofs.ReadyLaws.{part_made}
 use Rattle.dma_chan.proofs.pages.store_is_ready.Goals as goal
 

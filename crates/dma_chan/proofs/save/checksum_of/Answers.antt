@@ -8,7 +8,9 @@ unfolding adler
 loop-byte-preserved c = record {
   low_sum = omega arith;
   high_sum = omega arith;
-  others = rw (add-one, c.from.ensures) (ap (adler c.loop-byte.low c.loop-byte.high) (sym (drop-cons c.args.bytes.now c.loop-byte.byte-index 0 c.loop-byte-test.true)) ∙ c.loop-byte.invariant.others);
+  others = rw (add-one, c.from.ensures)
+      (ap (adler c.loop-byte.low c.loop-byte.high) (sym (drop-cons c.args.bytes.now c.loop-byte.byte-index 0 c.loop-byte-test.true))
+      ∙ c.loop-byte.invariant.others);
 }
 
 pub returns : goal.returns

@@ -1,7 +1,6 @@
 use Rattle.std.proofs.Common.{◌≡◌, [], ◌++◌, ◌∙◌, List, ℕ, ap, rules, sym, subst}
 use Rattle.std.specs.Vec.{vec_len}
-use Rattle.std.proofs.lemmas.Bool.{eqb-true}
-use Rattle.std.proofs.lemmas.List.{nil_from_length}
+use Rattle.std.proofs.{lemmas.Bool.eqb-true, lemmas.List.nil_from_length}
 use Rattle.dma_io.specs.Command.{Answers, Printed}
 use Rattle.dma_commands.proofs.DisLemmas.{printed_stops, text_answered}
 use Rattle.dma_commands.proofs.dis.print_text.Goals as goal

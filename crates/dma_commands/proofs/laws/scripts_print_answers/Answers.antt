@@ -1,5 +1,4 @@
-use Rattle.dma_commands.proofs.CopyEnds.{copies_end}
-use Rattle.dma_commands.proofs.ScriptCopies.{copies_are_whole}
+use Rattle.dma_commands.proofs.{CopyEnds.copies_end, ScriptCopies.copies_are_whole}
 use Rattle.dma_commands.proofs.ScriptReplies as script
 use Rattle.dma_commands.proofs.laws.scripts_print_answers.Goals as goal
 

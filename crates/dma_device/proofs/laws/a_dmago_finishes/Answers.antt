@@ -1,5 +1,4 @@
-use Rattle.dma_device.proofs.Progress.{dmago_finishes}
-use Rattle.dma_device.proofs.Vain.{the_loop_finishes, vain_turns_wait}
+use Rattle.dma_device.proofs.{Progress.dmago_finishes, Vain.the_loop_finishes, Vain.vain_turns_wait}
 use Rattle.dma_device.proofs.laws.a_dmago_finishes.Goals as goal
 
 pub returns : goal.returns

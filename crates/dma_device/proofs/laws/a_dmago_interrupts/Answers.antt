@@ -1,6 +1,4 @@
-use Rattle.dma_device.proofs.Copies.{dmago_interrupts}
-use Rattle.dma_device.proofs.Signalled.{dmago_signals}
-use Rattle.dma_device.proofs.Signals.{dmago_interrupts_each}
+use Rattle.dma_device.proofs.{Copies.dmago_interrupts, Signalled.dmago_signals, Signals.dmago_interrupts_each}
 use Rattle.dma_device.proofs.laws.a_dmago_interrupts.Goals as goal
 
 pub returns : goal.returns

@@ -1,6 +1,4 @@
-use Rattle.dma_device.proofs.Idle.{nothing_happens, stay_sound}
-use Rattle.dma_device.proofs.TurnChanges.{turn_changes}
-use Rattle.dma_device.proofs.Waits.{waits_in_vain}
+use Rattle.dma_device.proofs.{Idle.nothing_happens, Idle.stay_sound, TurnChanges.turn_changes, Waits.waits_in_vain}
 use Rattle.dma_device.proofs.laws.nothing_happens.Goals as goal
 
 pub returns : goal.returns

@@ -1,7 +1,6 @@
 use Rattle.std.proofs.Common.{◌∙◌, ap, ◌++◌, ◌∷◌, [], List}
 use Rattle.std.specs.Prelude.{replicate}
-use Rattle.dma_engine.specs.inner.Holds.{new_queue}
-use Rattle.dma_engine.specs.declared.queue.Queue.{Queue}
+use Rattle.dma_engine.specs.{inner.Holds.new_queue, declared.queue.Queue.Queue}
 use Rattle.std.proofs.lemmas.List.{replicate_more}
 use Rattle.dma_engine.proofs.engine.new_queues.Goals as goal
 

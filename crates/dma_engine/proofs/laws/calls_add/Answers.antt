@@ -1,9 +1,6 @@
 use Rattle.dma_engine.proofs.laws.calls_add.Goals as goal
-use Rattle.dma_engine.proofs.AnswerCounts.{ends_as_reported, quiet_calls_keep_counts, steps_add}
-use Rattle.dma_engine.proofs.CallLists.{answers_extend, chain_extends}
-use Rattle.dma_engine.proofs.Checkpoint.{checkpoints_keep}
-use Rattle.dma_engine.proofs.CookieCounts.{submits_add, terminates_add}
-use Rattle.dma_engine.proofs.OutcomesStay.{kept}
+use Rattle.dma_engine.proofs.{AnswerCounts.ends_as_reported, AnswerCounts.quiet_calls_keep_counts, AnswerCounts.steps_add, CallLists.answers_extend}
+use Rattle.dma_engine.proofs.{CallLists.chain_extends, Checkpoint.checkpoints_keep, CookieCounts.submits_add, CookieCounts.terminates_add, OutcomesStay.kept}
 
 pub returns : goal.returns
 returns c =

@@ -1,9 +1,6 @@
-use Rattle.std.proofs.lemmas.Grind.{common_steps}
 use Rattle.std.proofs.Common.{◌≡◌, ◌+◌, ◌∙◌, ◌++◌, ◌∷◌, [], ap, sym, take, arith}
-use Rattle.std.proofs.lemmas.List.{take_more, take_all}
-use Rattle.dma_engine.proofs.CallLists.{AreAnswers_push, chain_extends}
-use Rattle.dma_engine.proofs.OutcomesStay.{kept, chain_remembers}
-use Rattle.dma_engine.proofs.StaysSound.{sound_push}
+use Rattle.std.proofs.{lemmas.Grind.common_steps, lemmas.List.take_more, lemmas.List.take_all}
+use Rattle.dma_engine.proofs.{CallLists.AreAnswers_push, CallLists.chain_extends, OutcomesStay.kept, OutcomesStay.chain_remembers, StaysSound.sound_push}
 use Rattle.dma_engine.proofs.run.run.Goals as goal
 
 pub loop-call-preserved : goal.loop-call-preserved
@@ -12,10 +9,13 @@ loop-call-preserved c =
     let i = c.loop-call.call-index in
     let call = c.call-item.result in
     let inv = c.loop-call.invariant in
-    let next : take (i + 1) calls ≡ take i calls ++ call ∷ [] = take_more calls i call (omega (arith, c.loop-call-test.true)) ∙ ap (λ x. take i calls ++ x ∷ []) (sym c.call-item.is) in
+    let next : take (i + 1) calls ≡ take i calls ++ call ∷ [] = take_more calls i call (omega (arith, c.loop-call-test.true))
+    ∙ ap (λ x. take i calls ++ x ∷ []) (sym c.call-item.is) in
     rw (next, c.push_reserved.ensures.items) (record {
-      answers = AreAnswers_push c.args.engine.now.view c.loop-call.engine.view c.carry_out.new.self.view (take i calls) c.loop-call.replies.items call c.carry_out.result inv.answers c.carry_out.ensures;
-      views = sound_push c.args.engine.now.view c.loop-call.engine.view c.carry_out.new.self.view (take i calls) c.loop-call.replies.items call c.carry_out.result inv.views c.carry_out.ensures c.facts-in-loop-call.ensures.sound;
+      answers = AreAnswers_push c.args.engine.now.view c.loop-call.engine.view c.carry_out.new.self.view (take i calls) c.loop-call.replies.items call
+          c.carry_out.result inv.answers c.carry_out.ensures;
+      views = sound_push c.args.engine.now.view c.loop-call.engine.view c.carry_out.new.self.view (take i calls) c.loop-call.replies.items call
+          c.carry_out.result inv.views c.carry_out.ensures c.facts-in-loop-call.ensures.sound;
       sound = c.facts-in-loop-call.ensures.sound;
       memory = c.facts-in-loop-call.ensures.memory;
       len = omega (arith, c.push_reserved.ensures.len, inv.len);
@@ -33,7 +33,8 @@ returns-clause-kept c = λ none. kept c.args.engine.now.view c.loop-call.engine.
 
 pub returns-clause-remembers : goal.returns-clause-remembers
 returns-clause-remembers c =
-    chain_remembers c.args.engine.now.view c.loop-call.engine.view (take c.loop-call.call-index c.args.calls.now) c.loop-call.replies.items c.loop-call.invariant.answers
+    chain_remembers c.args.engine.now.view c.loop-call.engine.view (take c.loop-call.call-index c.args.calls.now) c.loop-call.replies.items
+    c.loop-call.invariant.answers
 
 pub returns-in_err-replies-clause-remembers : goal.returns-in_err-replies-clause-remembers
 returns-in_err-replies-clause-remembers c = grind (arith, common_steps)

@@ -1,8 +1,6 @@
 use Rattle.std.proofs.Common.{◌≡◌, ◌≤◌, length, take, vec_len}
 use Rattle.std.specs.Vec.{vec_capacity}
-use Rattle.dma_engine.specs.Answer.{AreAnswers}
-use Rattle.dma_engine.specs.Laws.{AreSoundAnswers}
-use Rattle.dma_engine.specs.View.{IsSound, memory_of}
+use Rattle.dma_engine.specs.{Answer.AreAnswers, Laws.AreSoundAnswers, View.IsSound, View.memory_of}
 use Rattle.dma_engine.proofs.run.run.Given as goal
 
 abbrev pub invariant-loop-call : goal.invariant-loop-call

@@ -2,16 +2,20 @@ use Rattle.std.proofs.Common.{◌≡◌, ℕ, ◌+◌, arith, inr, refl, ap, sym
 use Rattle.dma_insn.specs.declared.chip.ChipInsn.TheVariants.{End}
 use Rattle.dma_mem.specs.Places.{places}
 use Rattle.dma_explain.specs.declared.explain.Cause.TheVariants.{Fails, NoEnd, NoMemory, TooLong}
-use Rattle.dma_explain.specs.Explains.{unrolled, written_in}
-use Rattle.dma_explain.specs.inner.Tracing.{Follows, trace_of}
+use Rattle.dma_explain.specs.{Explains.unrolled, Explains.written_in, inner.Tracing.Follows, inner.Tracing.trace_of}
 use Rattle.dma_explain.proofs.Explaining.{counts_bursts, finds, follows_new, has_none, never_long, refuses, stops_here}
 use Rattle.dma_explain.proofs.explain.explain.Goals as goal
 
 pub returns-in-Ok-finish-clause-ok : goal.returns-in-Ok-finish-clause-ok
-returns-in-Ok-finish-clause-ok c = finds c.args.start c.args.program.now c.loop-steps.steps (c.loop-steps.steps + 1) c.loop-steps.tracer c.in-Ok-finish.explained c.loop-steps.invariant.follows (ap Ok c.in-End.ensures ∙ c.in-Ok.ensures) (omega (arith, c.loop-steps-test.true, c.ranges.most.fits)) c.args.most c.loop-steps-test.true refl c.in-Ok-finish.ensures.ok
+returns-in-Ok-finish-clause-ok c =
+    finds c.args.start c.args.program.now c.loop-steps.steps (c.loop-steps.steps + 1) c.loop-steps.tracer c.in-Ok-finish.explained
+    c.loop-steps.invariant.follows (ap Ok c.in-End.ensures ∙ c.in-Ok.ensures) (omega (arith, c.loop-steps-test.true, c.ranges.most.fits)) c.args.most
+    c.loop-steps-test.true refl c.in-Ok-finish.ensures.ok
 
 pub returns-in-Ok-finish-clause-bursts : goal.returns-in-Ok-finish-clause-bursts
-returns-in-Ok-finish-clause-bursts c = counts_bursts c.args.start c.args.program.now c.loop-steps.steps (c.loop-steps.steps + 1) c.loop-steps.tracer c.in-Ok-finish.explained c.loop-steps.invariant.follows refl c.in-Ok-finish.ensures.ok
+returns-in-Ok-finish-clause-bursts c =
+    counts_bursts c.args.start c.args.program.now c.loop-steps.steps (c.loop-steps.steps + 1) c.loop-steps.tracer c.in-Ok-finish.explained
+    c.loop-steps.invariant.follows refl c.in-Ok-finish.ensures.ok
 
 pub run-requires : goal.run-requires
 run-requires c = record {
@@ -43,7 +47,8 @@ returns-in-Err-clause-err c = λ _ _.
     let program = c.args.program.now in
     let now = c.loop-steps in
     let cause = Fails c.in-Err.kind in
-    let stops = stops_here start program c.args.most now.steps now.tracer (Err c.in-Err.kind) cause now.invariant.follows c.in-Err.ensures c.loop-steps-test.true refl in
+    let stops = stops_here start program c.args.most now.steps now.tracer (Err c.in-Err.kind) cause now.invariant.follows c.in-Err.ensures
+    c.loop-steps-test.true refl in
     refuses start program c.args.most now.steps now.tracer cause 0 c.stored.result now.invariant.follows stops refl c.stored.ensures
 
 pub returns-in-Err-finish-clause-err : goal.returns-in-Err-finish-clause-err
@@ -52,8 +57,10 @@ returns-in-Err-finish-clause-err c = λ memory _.
     let program = c.args.program.now in
     let now = c.loop-steps in
     let stop = c.in-Err-finish.stop in
-    let stops = stops_here start program c.args.most now.steps now.tracer (Ok End) stop.cause now.invariant.follows (ap Ok c.in-End.ensures ∙ c.in-Ok.ensures) c.loop-steps-test.true (c.in-Err-finish.ensures.err memory) in
-    refuses start program c.args.most now.steps now.tracer stop.cause stop.addr c.stored.result now.invariant.follows stops c.in-Err-finish.ensures.addr c.stored.ensures
+    let stops = stops_here start program c.args.most now.steps now.tracer (Ok End) stop.cause now.invariant.follows (ap Ok c.in-End.ensures ∙ c.in-Ok.ensures)
+    c.loop-steps-test.true (c.in-Err-finish.ensures.err memory) in
+    refuses start program c.args.most now.steps now.tracer stop.cause stop.addr c.stored.result now.invariant.follows stops c.in-Err-finish.ensures.addr
+    c.stored.ensures
 
 pub returns-in-Err-run-clause-err : goal.returns-in-Err-run-clause-err
 returns-in-Err-run-clause-err c = λ memory _.
@@ -64,7 +71,8 @@ returns-in-Err-run-clause-err c = λ memory _.
     let cause = c.in-Err-run.cause in
     let stop = c.in-Err-run.ensures.err memory in
     let stops = stops_here start program c.args.most now.steps x (Ok c.in-Ok.next) cause now.invariant.follows c.in-Ok.ensures c.loop-steps-test.true stop in
-    let none = has_none c.in-Ok.next (trace_of x) (λ e. c.in_default.not-End (c.insn.ensures ∙ e)) cause (places (unrolled x.src.items)) (written_in (trace_of x)) stop in
+    let none = has_none c.in-Ok.next (trace_of x) (λ e. c.in_default.not-End (c.insn.ensures ∙ e)) cause (places (unrolled x.src.items))
+    (written_in (trace_of x)) stop in
     refuses start program c.args.most now.steps x cause 0 c.stored.result now.invariant.follows stops none c.stored.ensures
 
 pub returns-clause-err : goal.returns-clause-err

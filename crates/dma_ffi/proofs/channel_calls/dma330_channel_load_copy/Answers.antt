@@ -1,8 +1,7 @@
 use Rattle.std.proofs.Common.{◌∙◌, ℕ, ℤ, Option, ap, subst, sym, w32, to_z, of_z}
 use Rattle.std.proofs.lemmas.Int.{to_z-of_z}
-use Rattle.dma_ffi.specs.Codes.{event_of}
+use Rattle.dma_ffi.specs.{Codes.event_of, inner.Loads.LoadsMade}
 use Rattle.dma_mem.specs.Places.{copying}
-use Rattle.dma_ffi.specs.inner.Loads.{LoadsMade}
 use Rattle.dma_ffi.proofs.OnChannels.{loads_transfer}
 use Rattle.dma_ffi.proofs.channel_calls.dma330_channel_load_copy.Goals as goal
 
@@ -16,7 +15,8 @@ returns c =
     let code = c.load.result in
     let wait = c.event_of.ensures ∙ ap event_of (to_z-of_z w32 c.args.wait c.ranges.wait) in
     let signal = c.event_of-2.ensures ∙ ap event_of (to_z-of_z w32 c.args.signal c.ranges.signal) in
-    loads_transfer c.args.kept.now.channel.value (to_z w32 (of_z w32 code)) m d (copying src dst c.event_of.result c.event_of-2.result) (copying src dst (event_of c.args.wait) (event_of c.args.signal)) c.new-made.result
+    loads_transfer c.args.kept.now.channel.value (to_z w32 (of_z w32 code)) m d (copying src dst c.event_of.result c.event_of-2.result)
+    (copying src dst (event_of c.args.wait) (event_of c.args.signal)) c.new-made.result
     (ap (λ (w : Option ℕ). copying src dst w c.event_of-2.result) wait ∙ ap (copying src dst (event_of c.args.wait)) signal)
     c.new-made.ensures.ok c.new-made.ensures.accepted c.new-made.ensures.err held
     (subst (λ (z : ℤ). LoadsMade c.new-made.result m.channel z d) (sym (to_z-of_z w32 code (record { sfits = c.load.type_inv }))) c.load.ensures)

@@ -1,12 +1,8 @@
 -- The steps were taken over the caller's regions and flags.
 use Rattle.std.proofs.Common.{◌≡◌, ◌∙◌, ℕ, Bool, List, Some, ap, inr, refl, subst, sym}
-use Rattle.dma_mem.specs.Flags.{flags_of}
-use Rattle.dma_mem.specs.Regions.{image_of, pieces_of}
-use Rattle.dma_mem.specs.declared.regions.Region.{Region}
-use Rattle.dma_chan.specs.Channel.{ChannelValue}
-use Rattle.dma_chan.specs.Stepping.{Machine, TakesSteps, signal_after, written_after}
-use Rattle.dma_ffi.specs.declared.marked_channel.MarkedChannel.{MarkedChannel}
-use Rattle.dma_ffi.specs.Channels.{Lent, StepsOver, marks_over, channel_report}
+use Rattle.dma_mem.specs.{Flags.flags_of, Regions.image_of, Regions.pieces_of, declared.regions.Region.Region}
+use Rattle.dma_chan.specs.{Channel.ChannelValue, Stepping.Machine, Stepping.TakesSteps, Stepping.signal_after, Stepping.written_after}
+use Rattle.dma_ffi.specs.{declared.marked_channel.MarkedChannel.MarkedChannel, Channels.Lent, Channels.StepsOver, Channels.marks_over, Channels.channel_report}
 use Rattle.dma_ffi.proofs.channel_steps.dma330_channel_step.Goals as goal
 
 abbrev at : ChannelValue → List Region → List Bool → Machine
@@ -31,12 +27,15 @@ returns c =
       marks = refl;
       usable = sym c.are_usable.ensures ∙ c.if-not-are_usable.false;
       is_loaded = sym c.is_loaded.ensures ∙ c.if-not-is_loaded.false;
-      steps = subst (λ (f : List Bool). TakesSteps marks (at m.channel regions f) most taken.result.count taken.result.last (after (flags_of c.bits.result))) flags
-          (subst (λ (f : List Bool). TakesSteps marks (at m.channel regions c.from_bits-events.result) most taken.result.count taken.result.last (after f)) (sym c.bits.ensures) taken.ensures.steps);
+      steps = subst (λ (f : List Bool). TakesSteps marks (at m.channel regions f) most taken.result.count taken.result.last (after (flags_of c.bits.result)))
+          flags
+          (subst (λ (f : List Bool). TakesSteps marks (at m.channel regions c.from_bits-events.result) most taken.result.count taken.result.last (after f))
+          (sym c.bits.ensures) taken.ensures.steps);
       signal = subst (λ (f : List Bool). taken.result.signal ≡ signal_after marks (at m.channel regions f) taken.result.count) flags taken.ensures.signal;
       written = subst (λ (f : List Bool). taken.result.written ≡ written_after marks (at m.channel regions f) taken.result.count) flags taken.ensures.written;
       kept = taken.ensures.kept;
-      reported = c.channel_report.ensures ∙ ap (λ (p : ℕ). channel_report taken.result.count p taken.result.written taken.result.last taken.result.signal) c.pc.ensures;
+      reported = c.channel_report.ensures
+          ∙ ap (λ (p : ℕ). channel_report taken.result.count p taken.result.written taken.result.last taken.result.signal) c.pc.ensures;
       regions = record { places = taken.ensures.places; read_only = taken.ensures.read_only; names = taken.ensures.names };
     } in
     inr (inr (inr (refl, (m, n, taken.result, over))))

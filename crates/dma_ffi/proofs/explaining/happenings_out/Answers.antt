@@ -1,7 +1,6 @@
 use Rattle.std.proofs.Common.{◌∙◌, ◌<◌, ap, add-one, length, arith, List}
 use Rattle.std.specs.Prelude.{slice_set}
-use Rattle.dma_ffi.specs.declared.explaining.DmaHappening.{DmaHappening}
-use Rattle.dma_ffi.specs.Explaining.{happening_of}
+use Rattle.dma_ffi.specs.{declared.explaining.DmaHappening.DmaHappening, Explaining.happening_of}
 use Rattle.dma_ffi.proofs.ProgramCalls.{set_next}
 use Rattle.dma_ffi.proofs.explaining.happenings_out.Goals as goal
 
@@ -11,4 +10,5 @@ loop-n-preserved c =
     let i = c.loop-n.n in
     let q = c.happening_of.result in
     let less : i < length xs = omega (arith, c.loop-n-test.true, c.loop-n.auto.n-end) in
-    rw add-one (ap (λ (l : List DmaHappening). slice_set l i q) c.loop-n.invariant ∙ set_next happening_of xs c.args.out.now i _ q less c.requires c.happening_of.ensures)
+    rw add-one (ap (λ (l : List DmaHappening). slice_set l i q) c.loop-n.invariant
+    ∙ set_next happening_of xs c.args.out.now i _ q less c.requires c.happening_of.ensures)

@@ -1,9 +1,7 @@
 use Rattle.std.proofs.Common.{◌∙◌, List, inl, inr, ap, drop, take, ℕ, arith}
-use Rattle.dma_device.specs.Snapshot.{IsOfOther, identity}
-use Rattle.dma_device.specs.declared.config.Config.{Config}
+use Rattle.dma_device.specs.{Snapshot.IsOfOther, Snapshot.identity, declared.config.Config.Config, Device.DeviceValue}
 use Rattle.dma_device.proofs.SavedDevices.{old_identity, own_identity}
 use Rattle.dma_ffi.specs.Devices.{IsSaveOf}
-use Rattle.dma_device.specs.Device.{DeviceValue}
 use Rattle.dma_ffi.proofs.laws.device_calls_are_accesses.Goals as goal
 
 -- the save of a device doesn't begin as that of another configuration

@@ -1,11 +1,8 @@
 use Rattle.std.proofs.Common.{◌≡◌, ◌∙◌, Some, Result, Ok, Err, Bool, true, false, ap, sym, if◌then◌else◌}
 use Rattle.std.specs.Prelude.{◌==◌}
 use Rattle.std.proofs.lemmas.Bool.{eq-eqb, ne_eqb}
-use Rattle.dma_engine.specs.Advance.{steps_before}
-use Rattle.dma_engine.specs.declared.fault.EngineFault.{EngineFault}
-use Rattle.dma_engine.specs.declared.call.Reply.TheVariants.{Refused}
-use Rattle.dma_engine.specs.declared.turn.Advanced.{Advanced}
-use Rattle.dma_engine.specs.declared.turn.Turn.{Turn}
+use Rattle.dma_engine.specs.{Advance.steps_before, declared.fault.EngineFault.EngineFault, declared.call.Reply.TheVariants.Refused}
+use Rattle.dma_engine.specs.{declared.turn.Advanced.Advanced, declared.turn.Turn.Turn}
 use Rattle.dma_ffi.specs.Requests.{advance_answer, replied, stepped, turn_before}
 use Rattle.dma_ffi.proofs.steps.take_steps.Goals as goal
 
@@ -23,7 +20,8 @@ returns-in-Some-Ok c =
     rw c.steps_before-count.ensures (a, c.advance-steps.ensures.answers, sym (ap (advance_answer a) is))
 
 -- a refusal, of the first step or of a later one
-refused : (a : Advanced) (fault : EngineFault) (first : Bool) → a.last ≡ Some (Err fault) → (steps_before a == 0) ≡ first → advance_answer a a.last ≡ (if first then replied (Refused fault) else stepped (steps_before a) (turn_before a.started a.moved))
+refused : (a : Advanced) (fault : EngineFault) (first : Bool) → a.last ≡ Some (Err fault) → (steps_before a == 0) ≡ first
+    → advance_answer a a.last ≡ (if first then replied (Refused fault) else stepped (steps_before a) (turn_before a.started a.moved))
 refused a fault first is none =
     ap (advance_answer a) is ∙ ap (λ (b : Bool). if b then replied (Refused fault) else stepped (steps_before a) (turn_before a.started a.moved)) none
 
@@ -42,4 +40,5 @@ returns-in-Some-Err-2 c =
     let what : c.in-Some-Err.field-0 ≡ Err fault = rw c.in-Some-Err.is at c.in-Some-Err.field-0-is in
     let is : a.last ≡ Some (Err fault) = c.in-Some-Err.is ∙ ap (λ (x : Result Turn EngineFault). Some x) what in
     let count = c.steps_before-count.ensures in
-    rw (count, c.turn_before-last.ensures) (a, c.advance-steps.ensures.answers, sym (refused a fault false is (ne_eqb (steps_before a) 0 (λ zero. c.if-count-eq0.false (count ∙ zero)))))
+    rw (count, c.turn_before-last.ensures)
+    (a, c.advance-steps.ensures.answers, sym (refused a fault false is (ne_eqb (steps_before a) 0 (λ zero. c.if-count-eq0.false (count ∙ zero)))))

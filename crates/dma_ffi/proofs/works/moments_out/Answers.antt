@@ -1,7 +1,6 @@
 use Rattle.std.proofs.Common.{◌∙◌, ◌<◌, ap, add-one, length, arith, List}
 use Rattle.std.specs.Prelude.{slice_set}
-use Rattle.dma_ffi.specs.declared.works.Moment.{Moment}
-use Rattle.dma_ffi.specs.Explaining.{moment_of}
+use Rattle.dma_ffi.specs.{declared.works.Moment.Moment, Explaining.moment_of}
 use Rattle.dma_ffi.proofs.ProgramCalls.{set_next}
 use Rattle.dma_ffi.proofs.works.moments_out.Goals as goal
 

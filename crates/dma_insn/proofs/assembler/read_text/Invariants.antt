@@ -1,6 +1,6 @@
 -- Reading the rest after the program so far gives the result of reading the whole text.
 use Rattle.std.proofs.Common.{◌≡◌, ◌+◌, ◌≤◌, length}
-use Rattle.dma_insn.specs.AssemblyText.{text_lines}
+use Rattle.dma_text.specs.Lines.{text_lines}
 use Rattle.dma_insn.specs.LineReading.{after_lines, assembled}
 use Rattle.dma_insn.proofs.assembler.read_text.Given as goal
 

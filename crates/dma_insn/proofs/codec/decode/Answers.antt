@@ -18,4 +18,5 @@ returns-clause-refused c =
 
 pub returns-clause-within : goal.returns-clause-within
 returns-clause-within c =
-    within_ok c.args.bytes.now c.read.result (rw c.read.ensures (right_ok c.args.bytes.now _ (decoded_right c.args.bytes.now (λ i. omega (arith, c.type_inv.bytes i)))))
+    within_ok c.args.bytes.now c.read.result
+    (rw c.read.ensures (right_ok c.args.bytes.now _ (decoded_right c.args.bytes.now (λ i. omega (arith, c.type_inv.bytes i)))))

@@ -8,7 +8,8 @@ pub returns-in-None-clause-fault : goal.returns-in-None-clause-fault
 returns-in-None-clause-fault c = has_text c.args.bytes.now c.in-None.ensures
 
 pub returns-in-Err-Some-clause-only : goal.returns-in-Err-Some-clause-only
-returns-in-Err-Some-clause-only c text h = absurd (stops_none c.args.bytes.now text c.in-Err-Some.offset c.in-Err-Some.fault (rw c.in-Err-Some.field-0-is at c.in-Err-Some.ensures.stops) h)
+returns-in-Err-Some-clause-only c text h =
+    absurd (stops_none c.args.bytes.now text c.in-Err-Some.offset c.in-Err-Some.fault (rw c.in-Err-Some.field-0-is at c.in-Err-Some.ensures.stops) h)
 
 pub returns-in-Some-clause-only : goal.returns-in-Some-clause-only
 returns-in-Some-clause-only c text h = absurd (stops_none c.args.bytes.now text c.in-Some.offset c.in-Some.fault c.in-Some.ensures h)

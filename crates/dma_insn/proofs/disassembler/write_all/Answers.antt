@@ -3,12 +3,14 @@ use Rattle.dma_insn.proofs.Fronts.{written_step, written_all, stops}
 use Rattle.dma_insn.proofs.disassembler.write_all.Goals as goal
 
 pub loop-offset-init : goal.loop-offset-init
-loop-offset-init c = record { within = omega arith; front = record { front = record { insns = []; in_range = tt; bytes_are = refl; offset_is = refl }; text_is = search rules } }
+loop-offset-init c = record
+    { within = omega arith; front = record { front = record { insns = []; in_range = tt; bytes_are = refl; offset_is = refl }; text_is = search rules } }
 
 pub loop-offset-preserved : goal.loop-offset-preserved
 loop-offset-preserved c = record {
   within = omega (arith, c.in-Ok.ensures.within);
-  front = written_step c.args.bytes.now _ _ c.loop-offset.offset c.in-Ok.insn c.in-Ok.count c.loop-offset.invariant.front c.in-Ok.ensures.found c.in-Ok-push.ensures.ok;
+  front = written_step c.args.bytes.now _ _ c.loop-offset.offset c.in-Ok.insn c.in-Ok.count c.loop-offset.invariant.front c.in-Ok.ensures.found
+      c.in-Ok-push.ensures.ok;
 }
 
 pub returns-clause-text : goal.returns-clause-text
@@ -16,4 +18,5 @@ returns-clause-text c = written_all c.args.bytes.now _ c.loop-offset.offset (ome
 
 pub returns-in-Err-clause-stops : goal.returns-in-Err-clause-stops
 returns-in-Err-clause-stops c =
-    stops c.args.bytes.now c.loop-offset.offset c.in-Err.fault c.loop-offset-test.true c.loop-offset.invariant.front.front c.in-Err.ensures.exact c.in-Err.ensures.refused c.in-Err.ensures.none
+    stops c.args.bytes.now c.loop-offset.offset c.in-Err.fault c.loop-offset-test.true c.loop-offset.invariant.front.front c.in-Err.ensures.exact
+    c.in-Err.ensures.refused c.in-Err.ensures.none

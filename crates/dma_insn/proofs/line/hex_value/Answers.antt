@@ -1,6 +1,5 @@
 use Rattle.std.proofs.Common.{ℕ, ◌<◌, ◌≤◌, ◌+◌, ◌*◌, ◌^◌, arith}
-use Rattle.std.proofs.Math.Nat.{pow-le-pow_right}
-use Rattle.std.proofs.lemmas.Grind.{common_steps}
+use Rattle.std.proofs.{Math.Nat.pow-le-pow_right, lemmas.Grind.common_steps}
 use Rattle.dma_insn.proofs.line.hex_value.Goals as goal
 
 -- one more digit after at most seven

@@ -1,4 +1,4 @@
-use Rattle.dma_insn.proofs.TextLines.{words_at, words_none}
+use Rattle.dma_insn.proofs.FirstWords.{words_at, words_none}
 use Rattle.dma_insn.proofs.line.split_word.Goals as goal
 
 pub returns-in-Some : goal.returns-in-Some

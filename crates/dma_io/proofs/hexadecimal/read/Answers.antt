@@ -9,7 +9,8 @@ loop-at-preserved c =
     let text = c.args.text.now in
     let at = c.loop-at.at in
     ap (λ bytes. followed bytes (read_from c.args.notation c.in-Some.next (at + 1) (drop (at + 1) text))) c.in_ok-push_number.ensures
-    ∙ read_step c.args.notation c.loop-at.reading c.in-Some.next c.in-Some.number at text c.loop-at.bytes.items c.loop-at-test.true (sym c.next.ensures ∙ c.in-Some.is)
+    ∙ read_step c.args.notation c.loop-at.reading c.in-Some.next c.in-Some.number at text c.loop-at.bytes.items c.loop-at-test.true
+    (sym c.next.ensures ∙ c.in-Some.is)
     ∙ c.loop-at.invariant
 
 pub loop-at-init : goal.loop-at-init

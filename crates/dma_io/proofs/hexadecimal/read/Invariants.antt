@@ -1,8 +1,7 @@
 -- The bytes so far and those of the rest are those of the text.
 use Rattle.std.proofs.Common.{◌≡◌, drop}
 use Rattle.dma_io.proofs.HexadecimalLemmas.{followed}
-use Rattle.dma_io.specs.Hexadecimal.{read_from}
-use Rattle.dma_io.specs.declared.hexadecimal.Reading.TheVariants.{Between}
+use Rattle.dma_io.specs.{Hexadecimal.read_from, declared.hexadecimal.Reading.TheVariants.Between}
 use Rattle.dma_io.proofs.hexadecimal.read.Given as goal
 
 abbrev pub invariant-loop-at : goal.invariant-loop-at

@@ -1,6 +1,6 @@
 -- The lines so far and those of the rest give what all lines give.
 use Rattle.std.proofs.Common.{◌≡◌, ◌+◌, ◌≤◌, length}
-use Rattle.dma_insn.specs.AssemblyText.{text_lines}
+use Rattle.dma_text.specs.Lines.{text_lines}
 use Rattle.dma_manual.specs.Assembled.{draft_view, empty, take_lines}
 use Rattle.dma_manual.proofs.assembler.draft_of.Given as goal
 

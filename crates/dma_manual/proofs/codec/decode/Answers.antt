@@ -8,7 +8,8 @@ returns-clause-found c =
 
 pub returns-clause-within : goal.returns-clause-within
 returns-clause-within c =
-    within_ok c.args.bytes.now c.read.result (rw c.read.ensures (right_ok c.args.bytes.now _ (decoded_right c.args.bytes.now (λ i. omega (arith, c.type_inv.bytes i)))))
+    within_ok c.args.bytes.now c.read.result
+    (rw c.read.ensures (right_ok c.args.bytes.now _ (decoded_right c.args.bytes.now (λ i. omega (arith, c.type_inv.bytes i)))))
 
 pub returns-clause-only : goal.returns-clause-only
 returns-clause-only c i n h = c.read.ensures ∙ decoded_at c.args.bytes.now i n h

@@ -1,6 +1,6 @@
 -- The wanted line is that of the rest.
 use Rattle.std.proofs.Common.{◌≡◌, length}
-use Rattle.dma_insn.specs.AssemblyText.{text_lines}
+use Rattle.dma_text.specs.Lines.{text_lines}
 use Rattle.dma_manual.specs.Errors.{line_of}
 use Rattle.dma_manual.proofs.errors.line_of.Given as goal
 

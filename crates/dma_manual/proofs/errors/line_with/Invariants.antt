@@ -1,6 +1,6 @@
 -- The first line with the label is that of the rest.
 use Rattle.std.proofs.Common.{◌≡◌, ◌+◌, ◌≤◌, length}
-use Rattle.dma_insn.specs.AssemblyText.{text_lines}
+use Rattle.dma_text.specs.Lines.{text_lines}
 use Rattle.dma_manual.specs.Errors.{line_with}
 use Rattle.dma_manual.proofs.errors.line_with.Given as goal
 

@@ -8,9 +8,11 @@ use Rattle.dma_manual.proofs.listing.list.Goals as goal
 pub loop-rest-preserved : goal.loop-rest-preserved
 loop-rest-preserved c =
     let step =
-    listed_step c.args.at c.loop-rest.labels.items c.loop-rest.offset c.in-Ok.count c.loop-rest.rest.now c.in-Ok.insn c.loop-rest.out.items c.push_line.new.out.items
+    listed_step c.args.at c.loop-rest.labels.items c.loop-rest.offset c.in-Ok.count c.loop-rest.rest.now c.in-Ok.insn c.loop-rest.out.items
+    c.push_line.new.out.items
     c.push_label.new.out.items c.split_at.result.1.now c.push_label.new.labels.items (sym c.in-Ok.ensures.exact) c.in-Ok.ensures.within.0
-    c.in-Ok.ensures.within.1 (sym c.if-is_end.ensures) c.deref.result.now c.deref.ensures.value c.in_ok-push_line-in-Ok.ensures.ok c.in_ok-push_label-in-Ok.ensures.ok
+    c.in-Ok.ensures.within.1 (sym c.if-is_end.ensures) c.deref.result.now c.deref.ensures.value c.in_ok-push_line-in-Ok.ensures.ok
+    c.in_ok-push_label-in-Ok.ensures.ok
     c.in_ok-push_label-in-Ok.ensures.labels c.split_at.ensures.back in
     record {
       counted = omega arith;
@@ -27,19 +29,22 @@ pub returns-in_err-push_line-in-Ok-clause-err_begins : goal.returns-in_err-push_
 returns-in_err-push_line-in-Ok-clause-err_begins c = begins_same _ _ c.loop-rest.invariant.err
 
 pub returns-in_err-push_rest-in-Ok-clause-out_begins : goal.returns-in_err-push_rest-in-Ok-clause-out_begins
-returns-in_err-push_rest-in-Ok-clause-out_begins c = begins_more _ _ _ (begins_more _ _ _ c.loop-rest.invariant.begins c.push_line.ensures.begins) c.push_rest.ensures.begins
+returns-in_err-push_rest-in-Ok-clause-out_begins c =
+    begins_more _ _ _ (begins_more _ _ _ c.loop-rest.invariant.begins c.push_line.ensures.begins) c.push_rest.ensures.begins
 
 pub returns-in_err-push_rest-in-Ok-clause-err_begins : goal.returns-in_err-push_rest-in-Ok-clause-err_begins
 returns-in_err-push_rest-in-Ok-clause-err_begins c = begins_same _ _ c.loop-rest.invariant.err
 
 pub returns-in_err-push_label-in-Ok-clause-out_begins : goal.returns-in_err-push_label-in-Ok-clause-out_begins
-returns-in_err-push_label-in-Ok-clause-out_begins c = begins_more _ _ _ (begins_more _ _ _ c.loop-rest.invariant.begins c.push_line.ensures.begins) c.push_label.ensures.begins
+returns-in_err-push_label-in-Ok-clause-out_begins c =
+    begins_more _ _ _ (begins_more _ _ _ c.loop-rest.invariant.begins c.push_line.ensures.begins) c.push_label.ensures.begins
 
 pub returns-in_err-push_label-in-Ok-clause-err_begins : goal.returns-in_err-push_label-in-Ok-clause-err_begins
 returns-in_err-push_label-in-Ok-clause-err_begins c = begins_same _ _ c.loop-rest.invariant.err
 
 pub returns-then-is_end-clause-out_begins : goal.returns-then-is_end-clause-out_begins
-returns-then-is_end-clause-out_begins c = begins_more _ _ _ (begins_more _ _ _ c.loop-rest.invariant.begins c.push_line.ensures.begins) c.push_rest.ensures.begins
+returns-then-is_end-clause-out_begins c =
+    begins_more _ _ _ (begins_more _ _ _ c.loop-rest.invariant.begins c.push_line.ensures.begins) c.push_rest.ensures.begins
 
 pub returns-then-is_end-clause-err_begins : goal.returns-then-is_end-clause-err_begins
 returns-then-is_end-clause-err_begins c = begins_same _ _ c.loop-rest.invariant.err
@@ -88,7 +93,10 @@ returns-clause-whole c = grind (arith, common_steps)
 
 pub returns-then-is_end-clause-out : goal.returns-then-is_end-clause-out
 returns-then-is_end-clause-out c =
-    listed_last c.args.at c.loop-rest.labels.items c.loop-rest.offset c.in-Ok.count c.loop-rest.rest.now c.in-Ok.insn c.loop-rest.out.items c.push_line.new.out.items
-    c.push_rest.new.out.items c.args.out.now.items (listed c.args.at c.args.program.now) (length c.split_at.result.1.now) (sym c.in-Ok.ensures.exact) c.in-Ok.ensures.within.0
-    c.in-Ok.ensures.within.1 (sym c.if-is_end.ensures) c.deref.result.now c.deref.ensures.value c.in_ok-push_line-in-Ok.ensures.ok (omega (arith, c.split_at.ensures.back_len))
+    listed_last c.args.at c.loop-rest.labels.items c.loop-rest.offset c.in-Ok.count c.loop-rest.rest.now c.in-Ok.insn c.loop-rest.out.items
+    c.push_line.new.out.items
+    c.push_rest.new.out.items c.args.out.now.items (listed c.args.at c.args.program.now) (length c.split_at.result.1.now) (sym c.in-Ok.ensures.exact)
+    c.in-Ok.ensures.within.0
+    c.in-Ok.ensures.within.1 (sym c.if-is_end.ensures) c.deref.result.now c.deref.ensures.value c.in_ok-push_line-in-Ok.ensures.ok
+    (omega (arith, c.split_at.ensures.back_len))
     c.in_ok-push_rest-in-Ok.ensures.ok c.loop-rest.invariant.text c.loop-rest.invariant.ending

@@ -1,9 +1,6 @@
 use Rattle.std.proofs.Common.{◌≡◌, ◌∙◌, sym, ap, subst, IfOk, MatchResult, ℕ, List, [], Bool, Result, Ok, Err, length, drop, arith}
 use Rattle.std.proofs.lemmas.List.{at_drop_all}
-use Rattle.dma_manual.specs.Pasted.{read_as, read_from}
-use Rattle.dma_manual.specs.declared.dump.Scan.{Scan}
-use Rattle.dma_manual.specs.declared.forms.Form.{Form}
-use Rattle.dma_manual.specs.declared.pasted.Fault.{Fault}
+use Rattle.dma_manual.specs.{Pasted.read_as, Pasted.read_from, declared.dump.Scan.Scan, declared.forms.Form.Form, declared.pasted.Fault.Fault}
 use Rattle.dma_manual.proofs.pasted.read_as.Goals as goal
 
 at_end : (form : Form) (s : Scan) (bytes text : List ℕ) (at : ℕ) (r : Result (List ℕ × Bool) Fault) → at ≡ length text →

@@ -1,8 +1,7 @@
 use Rattle.std.proofs.Common.{length, ap, subst, arith}
 use Rattle.dma_mem.proofs.RangeReplaced.{Found, added, adds_inner, adds_empty}
-use Rattle.dma_mem.proofs.RangeSets.{BeginBelow, EndBy}
+use Rattle.dma_mem.proofs.{RangeSets.BeginBelow, RangeSets.EndBy, ordered.add_in_order.Goals.After-ended_by-past}
 use Rattle.dma_mem.proofs.ordered.add_in_order.Goals as goal
-use Rattle.dma_mem.proofs.ordered.add_in_order.Goals.{After-ended_by-past}
 
 found : (c : After-ended_by-past) → Found c.args.ranges.now.items c.begun_below-first.result c.ended_by-past.result c.args.segment
 found c = record {
@@ -18,7 +17,8 @@ returns-then-segment-eq0-clause-ok c = adds_empty c.args.ranges.now.items c.args
 
 pub returns-then-past-first-clause-ok : goal.returns-then-past-first-clause-ok
 returns-then-past-first-clause-ok c =
-    adds_inner c.args.ranges.now.items _ _ c.args.segment (omega (arith, c.if-past-first.true)) (found (goal.at.returns-then-past-first-clause-ok c).After-ended_by-past)
+    adds_inner c.args.ranges.now.items _ _ c.args.segment (omega (arith, c.if-past-first.true))
+    (found (goal.at.returns-then-past-first-clause-ok c).After-ended_by-past)
 
 pub returns-clause-ordered : goal.returns-clause-ordered
 returns-clause-ordered c =

@@ -10,9 +10,11 @@ returns-then-first-ranges-clause-clear c =
 pub returns-clause-clear : goal.returns-clause-clear
 returns-clause-clear c =
     let first = subst (λ end. EndBy end c.args.ranges.now c.ended_by-first.result) c.from.ensures c.ended_by-first.ensures.first in
-    clear_before c.args.ranges.now _ c.args.segment.addr _ c.requires first (omega (arith, c.if-first-ranges.false)) (omega (arith, c.saturating_sub.ensures, c.min.ensures))
+    clear_before c.args.ranges.now _ c.args.segment.addr _ c.requires first (omega (arith, c.if-first-ranges.false))
+    (omega (arith, c.saturating_sub.ensures, c.min.ensures))
 
 pub returns-clause-next : goal.returns-clause-next
 returns-clause-next c = λ less.
     let first = subst (λ end. EndBy end c.args.ranges.now c.ended_by-first.result) c.from.ensures c.ended_by-first.ensures.first in
-    next_in c.args.ranges.now _ c.args.segment.addr c.min.result c.requires first (omega (arith, c.if-first-ranges.false)) (omega (arith, less, c.saturating_sub.ensures, c.min.ensures))
+    next_in c.args.ranges.now _ c.args.segment.addr c.min.result c.requires first (omega (arith, c.if-first-ranges.false))
+    (omega (arith, less, c.saturating_sub.ensures, c.min.ensures))

@@ -10,4 +10,5 @@ pub returns-then-end-from : goal.returns-then-end-from
 returns-then-end-from c = λ _. below_all c.args.ranges.now c.args.segment c.requires (omega (arith, c.if-end-from.true, c.end.ensures, c.from.ensures))
 
 pub returns-else-end-from : goal.returns-else-end-from
-returns-else-end-from c = λ h. above_all c.args.ranges.now c.args.segment c.requires (omega (arith, leb-true _ _ h, c.end-else-end-from.ensures, c.from-else-end-from.ensures))
+returns-else-end-from c =
+    λ h. above_all c.args.ranges.now c.args.segment c.requires (omega (arith, leb-true _ _ h, c.end-else-end-from.ensures, c.from-else-end-from.ensures))

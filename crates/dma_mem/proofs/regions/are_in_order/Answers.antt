@@ -14,7 +14,8 @@ returns-then-from-end c =
       | then-from-end-via-then-from-end w ↦ inl (omega (arith, c.from.ensures, c.end-past.ensures))
       | then-from-end-via-else-from-end+then-past-gt-LARGEST_END w ↦ inr (omega (arith, c.from.ensures, c.end-past.ensures))
     ] in
-    sym (c.loop-region.invariant.rest ∙ rises_not (pieces_of rs) (piece_of c.region-item.result) i c.loop-region.end (omega (arith, length-map rs piece_of)) is bad)
+    sym (c.loop-region.invariant.rest
+    ∙ rises_not (pieces_of rs) (piece_of c.region-item.result) i c.loop-region.end (omega (arith, length-map rs piece_of)) is bad)
 
 pub loop-region-preserved : goal.loop-region-preserved
 loop-region-preserved c =

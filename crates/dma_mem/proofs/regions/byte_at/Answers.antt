@@ -1,6 +1,5 @@
 use Rattle.std.proofs.Common.{◌≡◌, ℕ, List, arith, ap, sym, ◌∙◌, get_or, length}
-use Rattle.std.proofs.lemmas.Bool.{eqb-true}
-use Rattle.std.proofs.lemmas.List.{get_or_past}
+use Rattle.std.proofs.{lemmas.Bool.eqb-true, lemmas.List.get_or_past}
 use Rattle.dma_mem.specs.Regions.{pieces_of}
 use Rattle.dma_mem.proofs.PieceWrites.{byte_shown}
 use Rattle.dma_mem.proofs.regions.byte_at.Goals as goal

@@ -1,12 +1,9 @@
 use Rattle.std.proofs.Common.{◌≡◌, ℕ, ◌+◌, ◌-◌, ◌≤◌, ◌++◌, ◌∷◌, List, Vec, Global, vec_capacity, length, min, take, drop, true, false, arith, ap, sym, ◌∙◌}
-use Rattle.std.proofs.lemmas.List.{length-append, length-take-le}
-use Rattle.std.proofs.lemmas.Grind.{common_steps}
-use Rattle.dma_mem.specs.declared.regions.Region.{Region}
-use Rattle.dma_mem.specs.Regions.{pieces_of, piece_of, has, run_from}
-use Rattle.dma_mem.proofs.RegionSearch.{drop_item}
-use Rattle.dma_mem.proofs.RunsCopied.{run_copied, run_past}
+use Rattle.std.proofs.{lemmas.List.length-append, lemmas.List.length-take-le, lemmas.Grind.common_steps}
+use Rattle.dma_mem.specs.{declared.regions.Region.Region, Regions.pieces_of, Regions.piece_of, Regions.has, Regions.run_from}
+use Rattle.dma_mem.proofs.{RegionSearch.drop_item, RunsCopied.run_copied, RunsCopied.run_past, regions.copy_run.Goals.then-has+in-Ok}
+use Rattle.dma_mem.proofs.{regions.copy_run.Goals.else-has}
 use Rattle.dma_mem.proofs.regions.copy_run.Goals as goal
-use Rattle.dma_mem.proofs.regions.copy_run.Goals.{then-has+in-Ok, else-has}
 
 pub loop-region-preserved : goal.loop-region-preserved
 loop-region-preserved c =
@@ -19,7 +16,8 @@ loop-region-preserved c =
     let most = c.args.most in
     let all = take most (run_from (pieces_of rs) c.args.addr) in
     let so_far : bytes ++ take (most - length bytes) (run_from (piece_of r ∷ pieces_of rest) at) ≡ all =
-    sym (ap (λ (qs : List Region). bytes ++ take (most - length bytes) (run_from (pieces_of qs) at)) (drop_item rs i r (omega arith) c.region-item.is)) ∙ c.loop-region.invariant.copied in
+    sym (ap (λ (qs : List Region). bytes ++ take (most - length bytes) (run_from (pieces_of qs) at)) (drop_item rs i r (omega arith) c.region-item.is))
+    ∙ c.loop-region.invariant.copied in
     elim c.if-has.branch [
       | then-has+in-Ok w ↦
           let found = w.rest_from-rest.result.now in
@@ -28,8 +26,10 @@ loop-region-preserved c =
           let here : has at (piece_of r) ≡ true = sym c.has.ensures ∙ w.if-has.true in
           let cut : w.min.result ≡ min (length found) (most - length bytes) = omega (arith, w.min.ensures, w.len.ensures, c.loop-region.bytes.ok) in
           let both : c.if-has.bytes.items ≡ bytes ++ part = ap (λ (v : Vec ℕ Global). v.items) w.bytes-is ∙ w.in-Ok.ensures.items in
-          let size : length c.if-has.bytes.items ≡ length bytes + w.min.result = ap length both ∙ length-append bytes part ∙ ap (λ (n : ℕ). length bytes + n) long in
-          let larger : vec_capacity c.loop-region.bytes ≤ vec_capacity c.if-has.bytes = omega (arith, ap (λ (v : Vec ℕ Global). vec_capacity v) w.bytes-is, w.in-Ok.ensures.capacity) in
+          let size : length c.if-has.bytes.items ≡ length bytes + w.min.result = ap length both ∙ length-append bytes part
+          ∙ ap (λ (n : ℕ). length bytes + n) long in
+          let larger : vec_capacity c.loop-region.bytes ≤ vec_capacity c.if-has.bytes =
+          omega (arith, ap (λ (v : Vec ℕ Global). vec_capacity v) w.bytes-is, w.in-Ok.ensures.capacity) in
           record {
             few = omega (arith, size, cut, c.loop-region.invariant.few);
             room = omega (arith, larger, c.loop-region.invariant.room);

@@ -7,5 +7,6 @@ invariant-loop-region l = record {
   few : length l.bytes.items ≤ l.most;
   room : l.most ≤ vec_capacity l.bytes;
   keeps : vec_capacity l.fn.bytes ≤ vec_capacity l.bytes;
-  copied : l.bytes.items ++ take (l.most - length l.bytes.items) (run_from (pieces_of (drop l.region-index l.regions)) l.at) ≡ take l.most (run_from (pieces_of l.regions) l.addr);
+  copied : l.bytes.items ++ take (l.most - length l.bytes.items) (run_from (pieces_of (drop l.region-index l.regions)) l.at) ≡ take l.most
+      (run_from (pieces_of l.regions) l.addr);
 }

@@ -16,7 +16,8 @@ put_byte-requires c =
     let now = c.loop-i.regions in
     let addr = c.args.addr in
     let len = c.args.len in
-    writable_part now addr len (addr + c.loop-i.i) 1 (writable_after old now addr len addr (replicate c.loop-i.i c.args.byte) c.requires c.loop-i.invariant) (omega arith) (omega arith)
+    writable_part now addr len (addr + c.loop-i.i) 1 (writable_after old now addr len addr (replicate c.loop-i.i c.args.byte) c.requires c.loop-i.invariant)
+    (omega arith) (omega arith)
 
 pub loop-i-preserved : goal.loop-i-preserved
 loop-i-preserved c =
@@ -26,4 +27,5 @@ loop-i-preserved c =
     let byte = c.args.byte in
     let i = c.loop-i.i in
     subst (λ (xs : List ℕ). Rewritten old new addr xs) (replicate-append-replicate i 1 byte)
-    (rewritten_more old c.loop-i.regions new addr (addr + i) (replicate i byte) (byte ∷ []) c.loop-i.invariant c.put_byte.ensures (omega (arith, length-replicate i byte)))
+    (rewritten_more old c.loop-i.regions new addr (addr + i) (replicate i byte) (byte ∷ []) c.loop-i.invariant c.put_byte.ensures
+    (omega (arith, length-replicate i byte)))

@@ -19,7 +19,8 @@ put_byte-requires c =
     let now = c.loop-i.regions in
     let addr = c.args.addr in
     let len = length c.args.bytes.now in
-    writable_part now addr len (addr + c.loop-i.i) 1 (writable_after old now addr len addr (take c.loop-i.i c.args.bytes.now) c.requires c.loop-i.invariant) (omega arith) (omega arith)
+    writable_part now addr len (addr + c.loop-i.i) 1 (writable_after old now addr len addr (take c.loop-i.i c.args.bytes.now) c.requires c.loop-i.invariant)
+    (omega arith) (omega arith)
 
 pub loop-i-preserved : goal.loop-i-preserved
 loop-i-preserved c =
@@ -31,4 +32,5 @@ loop-i-preserved c =
     let next = get_or bytes i 0 in
     let e = take_more bytes i 0 (omega arith) in
     subst (λ (xs : List ℕ). Rewritten old new addr xs) (sym e)
-    (rewritten_more old c.loop-i.regions new addr (addr + i) (take i bytes) (next ∷ []) c.loop-i.invariant c.put_byte.ensures (omega (arith, length-take-le i bytes (omega arith))))
+    (rewritten_more old c.loop-i.regions new addr (addr + i) (take i bytes) (next ∷ []) c.loop-i.invariant c.put_byte.ensures
+    (omega (arith, length-take-le i bytes (omega arith))))

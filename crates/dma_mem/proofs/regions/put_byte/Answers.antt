@@ -1,8 +1,6 @@
 use Rattle.std.proofs.Common.{◌<◌, length, arith}
-use Rattle.dma_mem.specs.Regions.{pieces_of}
-use Rattle.dma_mem.specs.inner.Rewritten.{piece_at}
-use Rattle.dma_mem.proofs.Pieces.{has_parts}
-use Rattle.dma_mem.proofs.PieceWrites.{place_found}
+use Rattle.dma_mem.specs.{Regions.pieces_of, inner.Rewritten.piece_at}
+use Rattle.dma_mem.proofs.{Pieces.has_parts, PieceWrites.place_found}
 use Rattle.dma_mem.proofs.regions.put_byte.Goals as goal
 
 pub put_in_region-requires-clause-index : goal.put_in_region-requires-clause-index

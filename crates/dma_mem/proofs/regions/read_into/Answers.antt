@@ -1,6 +1,5 @@
 use Rattle.std.proofs.Common.{◌≡◌, List, ℕ, length, take, arith, ap, ◌∙◌}
-use Rattle.dma_mem.specs.Regions.{pieces_of}
-use Rattle.dma_mem.specs.inner.Rewritten.{rest_from}
+use Rattle.dma_mem.specs.{Regions.pieces_of, inner.Rewritten.rest_from}
 use Rattle.dma_mem.proofs.PieceWrites.{rest_shown}
 use Rattle.dma_mem.proofs.regions.read_into.Goals as goal
 

@@ -1,8 +1,6 @@
 -- Reading the rest behind the bytes so far is reading the whole line, and there is room for a byte for each two.
 use Rattle.std.proofs.Common.{◌≡◌, ◌+◌, ◌*◌, ◌/◌, ◌≤◌, length}
-use Rattle.dma_script.specs.Words.{words_of}
-use Rattle.dma_script.specs.Arguments.{bytes_at}
-use Rattle.dma_script.specs.inner.Digits.{bytes_after}
+use Rattle.dma_script.specs.{Words.words_of, Arguments.bytes_at, inner.Digits.bytes_after}
 use Rattle.dma_script.proofs.arguments.read_hex.Given as goal
 
 abbrev pub invariant-loop-rest : goal.invariant-loop-rest

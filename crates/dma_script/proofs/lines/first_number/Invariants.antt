@@ -1,9 +1,7 @@
 -- Each line so far is skipped.
 use Rattle.std.proofs.Common.{◌≡◌, ◌+◌, ◌≤◌, length, not}
-use Rattle.std.specs.List.{position_or_len}
-use Rattle.std.specs.Str.Lines.{lines}
-use Rattle.dma_script.specs.Words.{words_of}
-use Rattle.dma_script.specs.Lines.{first_number, is_skipped}
+use Rattle.std.specs.{List.position_or_len, Str.Lines.lines}
+use Rattle.dma_script.specs.{Words.words_of, Lines.first_number, Lines.is_skipped}
 use Rattle.dma_script.proofs.lines.first_number.Given as goal
 
 abbrev pub invariant-loop-rest : goal.invariant-loop-rest

@@ -1,7 +1,6 @@
 -- Reading the rest behind the bytes so far is reading the whole input, and there is room for a byte for each two.
 use Rattle.std.proofs.Common.{◌≡◌, ◌+◌, ◌*◌, ◌/◌, ◌≤◌, length}
-use Rattle.dma_script.specs.Pairs.{pairs_of}
-use Rattle.dma_script.specs.inner.Digits.{pairs_after}
+use Rattle.dma_script.specs.{Pairs.pairs_of, inner.Digits.pairs_after}
 use Rattle.dma_script.proofs.pairs.read_pairs.Given as goal
 
 abbrev pub invariant-loop-rest : goal.invariant-loop-rest

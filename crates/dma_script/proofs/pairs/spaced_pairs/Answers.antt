@@ -1,10 +1,9 @@
 use Rattle.std.proofs.Common.{◌≡◌, ◌∙◌, ◌∷◌, ◌++◌, ◌<◌, ◌≤◌, [], ap, sym, ◌-◌, get_or, take, drop, length, arith, length-drop, drop-drop}
 use Rattle.std.proofs.lemmas.List.{length_push, take_rest, get_or-drop}
-use Rattle.dma_script.specs.Words.{is_blank, words_of}
-use Rattle.dma_script.specs.inner.Digits.{bytes_after, pairs_after}
-use Rattle.dma_script.proofs.HexLemmas.{bytes_after_pair}
+use Rattle.dma_text.specs.Lines.{is_blank}
+use Rattle.dma_script.specs.{Words.words_of, inner.Digits.bytes_after, inner.Digits.pairs_after}
 use Rattle.dma_script.proofs.PairLemmas.{pairs_after_pair, pairs_after_same, pairs_past_space}
-use Rattle.dma_script.proofs.WordLemmas.{words_past_blank}
+use Rattle.dma_script.proofs.{HexLemmas.bytes_after_pair, WordLemmas.words_past_blank}
 use Rattle.dma_script.proofs.pairs.spaced_pairs.Goals as goal
 
 pub loop-rest-preserved : goal.loop-rest-preserved
@@ -21,9 +20,11 @@ loop-rest-preserved c =
     let positive : 0 < length (drop 2 rest) = omega (arith, length-drop 2 rest) in
     let space : get_or (drop 2 rest) 0 0 ≡ 32 = get_or-drop 2 rest 0 0 ∙ c.if-gap-eq32.true in
     record {
-      words = ap (λ b. bytes_after b (words_of after)) c.push_reserved.ensures.items ∙ ap (λ t. bytes_after bytes (words_of t)) tail ∙ ap (bytes_after bytes) (words_past_blank (drop 2 rest) positive (ap is_blank space))
+      words = ap (λ b. bytes_after b (words_of after)) c.push_reserved.ensures.items ∙ ap (λ t. bytes_after bytes (words_of t)) tail
+          ∙ ap (bytes_after bytes) (words_past_blank (drop 2 rest) positive (ap is_blank space))
           ∙ bytes_after_pair read rest c.in-Some.byte two (sym c.in-Some.ensures) ∙ c.loop-rest.invariant.words;
-      pairs = λ line. ap (λ b. pairs_after b line after) c.push_reserved.ensures.items ∙ ap (pairs_after bytes line) tail ∙ pairs_after_same bytes line (drop 2 rest) (drop 1 (drop 2 rest)) (pairs_past_space line (drop 2 rest) some space)
+      pairs = λ line. ap (λ b. pairs_after b line after) c.push_reserved.ensures.items ∙ ap (pairs_after bytes line) tail
+          ∙ pairs_after_same bytes line (drop 2 rest) (drop 1 (drop 2 rest)) (pairs_past_space line (drop 2 rest) some space)
           ∙ pairs_after_pair read line c.in-Some.byte rest two (sym c.in-Some.ensures) ∙ c.loop-rest.invariant.pairs line;
       room = omega (arith, shorter, c.loop-rest.invariant.room, three, ap length c.push_reserved.ensures.items, length_push read c.in-Some.byte);
       within = omega (arith, shorter, c.loop-rest.invariant.within);

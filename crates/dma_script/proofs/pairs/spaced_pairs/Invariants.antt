@@ -1,7 +1,6 @@
 -- Reading the rest behind the bytes so far is reading the whole text, and there is room for a byte for each two.
 use Rattle.std.proofs.Common.{◌≡◌, ℕ, ◌+◌, ◌*◌, ◌≤◌, length}
-use Rattle.dma_script.specs.Words.{words_of}
-use Rattle.dma_script.specs.inner.Digits.{bytes_after, pairs_after}
+use Rattle.dma_script.specs.{Words.words_of, inner.Digits.bytes_after, inner.Digits.pairs_after}
 use Rattle.dma_script.proofs.pairs.spaced_pairs.Given as goal
 
 abbrev pub invariant-loop-rest : goal.invariant-loop-rest

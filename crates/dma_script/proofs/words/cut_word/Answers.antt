@@ -13,13 +13,17 @@ returns-then-is_blank c =
 pub returns-in-Some : goal.returns-in-Some
 returns-in-Some c =
     let line = c.args.line.now in
-    let none = no_blank_joined line c.min-near.result c.in-Some.end (λ k after below. c.loop-end.invariant k after (omega (arith, c.loop-end-test.false))) c.in-Some.ensures.1 in
+    let none = no_blank_joined line c.min-near.result c.in-Some.end (λ k after below. c.loop-end.invariant k after (omega (arith, c.loop-end-test.false)))
+    c.in-Some.ensures.1 in
     word_at line c.in-Some.end c.requires.first c.in-Some.ensures.0 none c.in-Some.ensures.2
 
 pub returns-in-None : goal.returns-in-None
 returns-in-None c =
     let line = c.args.line.now in
-    word_alone line c.requires.some (no_blank_joined line c.min-near.result (length line) (λ k after below. c.loop-end.invariant k after (omega (arith, c.loop-end-test.false))) c.in-None.ensures)
+    word_alone line c.requires.some
+    (no_blank_joined line c.min-near.result (length line) (λ k after below. c.loop-end.invariant k after (omega (arith, c.loop-end-test.false)))
+    c.in-None.ensures)
 
 pub returns-then-near-line : goal.returns-then-near-line
-returns-then-near-line c = word_alone c.args.line.now c.requires.some (λ k after below. c.loop-end.invariant k after (omega (arith, c.loop-end-test.false, c.if-near-line.true)))
+returns-then-near-line c =
+    word_alone c.args.line.now c.requires.some (λ k after below. c.loop-end.invariant k after (omega (arith, c.loop-end-test.false, c.if-near-line.true)))

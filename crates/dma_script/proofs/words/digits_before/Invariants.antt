@@ -1,8 +1,6 @@
 -- The digits so far are digits, and spell the value.
 use Rattle.std.proofs.Common.{◌≡◌, ◌<◌, ◌^◌, true, nat_lt, take}
-use Rattle.std.specs.List.{list_all}
-use Rattle.std.specs.Char.{digit_value}
-use Rattle.std.specs.Str.Parse.{digits_value}
+use Rattle.std.specs.{List.list_all, Char.digit_value, Str.Parse.digits_value}
 use Rattle.dma_script.proofs.SegmentLemmas.{NoStop}
 use Rattle.dma_script.proofs.words.digits_before.Given as goal
 

@@ -19,4 +19,5 @@ returns-in_err-len c =
 pub returns : goal.returns
 returns c =
     let addr = rw c.in_ok-rest.was at c.in_ok-addr.ensures in
-    parts_by_numbers c.args.list.now c.in_ok-rest.field-0.now c.in_ok-addr.addr (Some (c.in_ok-len.len, option_map (λ rest. rest.now) c.in_ok-len.after)) addr c.in_ok-len.ensures
+    parts_by_numbers c.args.list.now c.in_ok-rest.field-0.now c.in_ok-addr.addr (Some (c.in_ok-len.len, option_map (λ rest. rest.now) c.in_ok-len.after)) addr
+    c.in_ok-len.ensures

@@ -1,8 +1,6 @@
 -- No line so far is an expect line.
 use Rattle.std.proofs.Common.{◌≡◌, length}
-use Rattle.std.specs.Prelude.{is_some}
-use Rattle.std.specs.List.{list_any}
-use Rattle.std.specs.Str.Lines.{lines}
+use Rattle.std.specs.{Prelude.is_some, List.list_any, Str.Lines.lines}
 use Rattle.dma_script.specs.Words.{words_of}
 use Rattle.dma_seeds.specs.Expect.{expected_in, has_expects}
 use Rattle.dma_seeds.proofs.expect.has_expects.Given as goal

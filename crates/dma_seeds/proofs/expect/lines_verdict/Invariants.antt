@@ -1,8 +1,7 @@
 -- The expect lines so far hold.
 use Rattle.std.proofs.Common.{◌≡◌, ◌+◌, ◌≤◌, [], length}
 use Rattle.std.specs.Str.Lines.{lines}
-use Rattle.dma_seeds.specs.Expect.{after_lines}
-use Rattle.dma_seeds.specs.inner.Measured.{pieces}
+use Rattle.dma_seeds.specs.{Expect.after_lines, inner.Measured.pieces}
 use Rattle.dma_seeds.proofs.expect.lines_verdict.Given as goal
 
 abbrev pub invariant-loop-printed : goal.invariant-loop-printed

@@ -1,7 +1,6 @@
 -- The line is the one behind `before` lines of the rest.
 use Rattle.std.proofs.Common.{◌≡◌, ◌-◌, [], length}
-use Rattle.std.specs.Prelude.{slice_index_or}
-use Rattle.std.specs.Str.Lines.{lines}
+use Rattle.std.specs.{Prelude.slice_index_or, Str.Lines.lines}
 use Rattle.dma_seeds.proofs.faults.line_at.Given as goal
 
 abbrev pub invariant-loop-rest : goal.invariant-loop-rest

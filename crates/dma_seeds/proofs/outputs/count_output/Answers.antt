@@ -1,8 +1,6 @@
 use Rattle.std.proofs.Common.{◌≡◌, ◌∙◌, Some, None, ap, sym, subst}
-use Rattle.std.specs.Prelude.{position, slice_set}
-use Rattle.std.specs.Str.{bytes_eq}
-use Rattle.dma_seeds.specs.declared.outputs.Output.{Output}
-use Rattle.dma_seeds.specs.inner.Counted.{one_more}
+use Rattle.std.specs.{Prelude.position, Prelude.slice_set, Str.bytes_eq}
+use Rattle.dma_seeds.specs.{declared.outputs.Output.Output, inner.Counted.one_more}
 use Rattle.dma_seeds.proofs.OutputLemmas.{counted_None, counted_Some}
 use Rattle.dma_seeds.proofs.outputs.count_output.Goals as goal
 

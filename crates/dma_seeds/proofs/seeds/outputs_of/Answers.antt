@@ -1,7 +1,6 @@
 use Rattle.std.proofs.Common.{◌≡◌, ◌∙◌, ◌+◌, ◌-◌, ap, arith}
 use Rattle.dma_script.specs.Race.{race_script_of}
-use Rattle.dma_seeds.specs.Seeds.{outputs_of, text_from_go}
-use Rattle.dma_seeds.specs.declared.outputs.Output.{Output}
+use Rattle.dma_seeds.specs.{Seeds.outputs_of, Seeds.text_from_go, declared.outputs.Output.Output}
 use Rattle.dma_seeds.proofs.OutputLemmas.{outputs_next, outputs_room}
 use Rattle.dma_seeds.proofs.seeds.outputs_of.Goals as goal
 
@@ -16,7 +15,8 @@ loop-seed-init g c =
 pub count_output-requires : goal.count_output-requires
 count_output-requires g c =
     let l = c.loop-seed in
-    outputs_room (text_from_go (race_script_of c.args.script.now)) c.args.seeds.first (l.seed - c.args.seeds.first) l.outputs.items (omega arith) l.invariant.same
+    outputs_room (text_from_go (race_script_of c.args.script.now)) c.args.seeds.first (l.seed - c.args.seeds.first) l.outputs.items (omega arith)
+    l.invariant.same
 
 pub loop-seed-preserved : goal.loop-seed-preserved
 loop-seed-preserved g c =

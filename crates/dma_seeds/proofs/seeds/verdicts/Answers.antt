@@ -8,7 +8,8 @@ loop-seed-init g c = counted_none (verdict c.args.script.now) c.args.seeds.first
 
 pub loop-seed-preserved : goal.loop-seed-preserved
 loop-seed-preserved g c =
-    counted_more (verdict c.args.script.now) c.args.seeds.first (c.args.seeds.last + 1) c.loop-seed.seed c.loop-seed.found _ _ (omega arith) c.loop-seed.invariant c.in_ok-verdict.ensures.verdict c.count.ensures.first c.count.ensures.failing
+    counted_more (verdict c.args.script.now) c.args.seeds.first (c.args.seeds.last + 1) c.loop-seed.seed c.loop-seed.found _ _ (omega arith)
+    c.loop-seed.invariant c.in_ok-verdict.ensures.verdict c.count.ensures.first c.count.ensures.failing
 
 pub returns : goal.returns
 returns g c =
@@ -16,4 +17,5 @@ returns g c =
 
 pub returns-then-not-has_expects : goal.returns-then-not-has_expects
 returns-then-not-has_expects g c =
-    sym (all_seeds_hold c.args.script.now c.args.seeds.first (c.args.seeds.last + 1 - c.args.seeds.first) c.requires (sym c.has_expects.ensures ∙ c.if-not-has_expects.true))
+    sym (all_seeds_hold c.args.script.now c.args.seeds.first (c.args.seeds.last + 1 - c.args.seeds.first) c.requires
+    (sym c.has_expects.ensures ∙ c.if-not-has_expects.true))

@@ -1,6 +1,5 @@
 use Rattle.std.proofs.Common.{ℕ, ◌+◌, ◌*◌, ◌/◌, [], ◌∷◌, true, ap, ◌∙◌}
-use Rattle.std.specs.Prelude.{slice_index_or}
-use Rattle.std.specs.Fmt.{digit_glyph}
+use Rattle.std.specs.{Prelude.slice_index_or, Fmt.digit_glyph}
 use Rattle.dma_text.specs.declared.digits.TheConstants.{PAIRS}
 use Rattle.dma_text.proofs.PairTable.{first_digit, second_digit}
 use Rattle.dma_text.proofs.digits.hex_pair.Goals as goal

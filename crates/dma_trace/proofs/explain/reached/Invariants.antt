@@ -2,8 +2,7 @@
 use Rattle.std.proofs.Common.{◌≡◌}
 use Rattle.dma_chan.specs.Exec.{start_on}
 use Rattle.dma_explain.specs.Explains.{traced}
-use Rattle.dma_trace.specs.Front.{front_at}
-use Rattle.dma_trace.specs.Touches.{touches_in}
+use Rattle.dma_trace.specs.{Front.front_at, Touches.touches_in}
 use Rattle.dma_trace.proofs.Fronts.{Within}
 use Rattle.dma_trace.proofs.explain.reached.Given as goal
 

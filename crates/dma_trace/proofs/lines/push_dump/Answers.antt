@@ -1,6 +1,5 @@
 use Rattle.std.proofs.Common.{◌≡◌, ℕ, zero, suc, ◌+◌, List, ◌++◌, sym, ap, ◌∙◌, arith, append_assoc, append-nil}
-use Rattle.std.specs.Prelude.{flat_map}
-use Rattle.std.specs.List.{range_with_len}
+use Rattle.std.specs.{Prelude.flat_map, List.range_with_len}
 use Rattle.dma_text.proofs.Begun.{begins_appended, begins_more}
 use Rattle.dma_mem.specs.Regions.{pieces_of}
 use Rattle.dma_trace.specs.Traced.{row_text}

@@ -1,7 +1,6 @@
 -- The rows so far are appended.
 use Rattle.std.proofs.Common.{◌≡◌, ◌++◌}
-use Rattle.std.specs.Prelude.{flat_map}
-use Rattle.std.specs.List.{range_with_len}
+use Rattle.std.specs.{Prelude.flat_map, List.range_with_len}
 use Rattle.dma_mem.specs.Regions.{pieces_of}
 use Rattle.dma_trace.specs.Traced.{row_text}
 use Rattle.dma_trace.proofs.lines.push_dump.Given as goal

@@ -14,4 +14,5 @@ returns-in-Some-clause-order c =
 
 pub returns-clause-order : goal.returns-clause-order
 returns-clause-order c =
-    rw c.in_ok-push-2.ensures.items (rises_cut c.args.ranges.now.items c.args.last c.args.next _ c.requires.order refl (omega (arith, c.requires.rises)) c.requires.within)
+    rw c.in_ok-push-2.ensures.items
+    (rises_cut c.args.ranges.now.items c.args.last c.args.next _ c.requires.order refl (omega (arith, c.requires.rises)) c.requires.within)

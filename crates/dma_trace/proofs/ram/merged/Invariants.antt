@@ -2,9 +2,7 @@
 -- begins no higher than those that are left.
 use Rattle.std.proofs.Common.{◌≡◌, ℕ, ◌+◌, ◌<◌, ◌≤◌, [], ◌∷◌, ◌++◌, length, get_or, map, take}
 use Rattle.std.specs.Prelude.{IsTrue}
-use Rattle.dma_mem.specs.Lent.{lies_in_any}
-use Rattle.dma_mem.specs.Places.{end_of_addresses}
-use Rattle.dma_mem.specs.Regions.{in_order}
+use Rattle.dma_mem.specs.{Lent.lies_in_any, Places.end_of_addresses, Regions.in_order}
 use Rattle.dma_trace.specs.Found.{zero_piece}
 use Rattle.dma_trace.proofs.Regions.{no_range}
 use Rattle.dma_trace.proofs.ram.merged.Given as goal

@@ -1,9 +1,7 @@
 -- The first regions are made, and the rest has the bytes of the others.
 use Rattle.std.proofs.Common.{◌≡◌, drop, map, replicate, take}
 use Rattle.std.specs.Prelude.{All}
-use Rattle.dma_mem.specs.declared.regions.Region.{Region}
-use Rattle.dma_mem.specs.Refusals.{total}
-use Rattle.dma_mem.specs.Regions.{pieces_of}
+use Rattle.dma_mem.specs.{declared.regions.Region.Region, Refusals.total, Regions.pieces_of}
 use Rattle.dma_trace.specs.Found.{zero_piece}
 use Rattle.dma_trace.proofs.ram.regions_over.Given as goal
 

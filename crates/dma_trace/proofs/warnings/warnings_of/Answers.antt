@@ -1,7 +1,6 @@
 use Rattle.std.proofs.Common.{◌∙◌, ◌++◌, Option, ap, sym, refl, arith}
 use Rattle.dma_insn.specs.declared.insn.Counter.{Counter}
-use Rattle.dma_trace.specs.declared.warnings.Doubt.{Doubt}
-use Rattle.dma_trace.specs.Warnings.{warning_at}
+use Rattle.dma_trace.specs.{declared.warnings.Doubt.Doubt, Warnings.warning_at}
 use Rattle.dma_trace.proofs.Warned.{warned_step}
 use Rattle.dma_trace.proofs.warnings.warnings_of.Goals as goal
 
@@ -16,7 +15,8 @@ loop-rest-preserved c =
       lc0 = omega (arith, within.0, c.add.ensures.lc0);
       lc1 = omega (arith, within.0, c.add.ensures.lc1);
       all =
-          warned_step c.loop-rest.nest c.add.new.self pc _ c.in-Ok.count c.loop-rest.rest.now _ c.in-Ok.insn found _ (sym c.in-Ok.ensures.exact) within.0 within.1
+          warned_step c.loop-rest.nest c.add.new.self pc _ c.in-Ok.count c.loop-rest.rest.now _ c.in-Ok.insn found _ (sym c.in-Ok.ensures.exact) within.0
+          within.1
           (sym c.if-ends_text.ensures) c.add.ensures.nest refl c.split_at.ensures.back more
           ∙ c.loop-rest.invariant.all;
     }

@@ -1,8 +1,6 @@
 use Rattle.std.proofs.Common.{◌≡◌, ◌++◌, ℕ, List, OnOk, refl, subst}
 use Rattle.std.specs.Prelude.{codes}
-use Rattle.dma_insn.specs.declared.chip.ChipInsn.{ChipInsn}
-use Rattle.dma_insn.specs.declared.chip.ChipInsn.TheVariants.{Mov}
-use Rattle.dma_insn.specs.declared.insn.Reg.{Reg}
+use Rattle.dma_insn.specs.{declared.chip.ChipInsn.ChipInsn, declared.chip.ChipInsn.TheVariants.Mov, declared.insn.Reg.Reg}
 use Rattle.dma_chan.specs.declared.bus.Bus.{Bus}
 use Rattle.dma_trace.specs.Words.{operand_words}
 use Rattle.dma_trace.proofs.words.push_operand.Goals as goal
@@ -13,6 +11,7 @@ other i bus no_mov = refl
 
 pub returns-in_default : goal.returns-in_default
 returns-in_default c = record {
-  ok = subst (λ (xs : List ℕ). OnOk c.push.result (c.push.new.out.items ≡ c.args.out.now.items ++ xs)) (other c.args.insn c.args.bus (λ reg v e. c.in_default.not-Mov reg v e)) c.push.ensures.ok;
+  ok = subst (λ (xs : List ℕ). OnOk c.push.result (c.push.new.out.items ≡ c.args.out.now.items ++ xs))
+      (other c.args.insn c.args.bus (λ reg v e. c.in_default.not-Mov reg v e)) c.push.ensures.ok;
   begins = c.push.ensures.begins;
 }

@@ -2,8 +2,7 @@ use Rattle.std.proofs.Common.{ap}
 use Rattle.std.specs.Prelude.{is_some}
 use Rattle.dma_engine.specs.View.{channels}
 use Rattle.dma_why.specs.Waits.{waits_of}
-use Rattle.dma_why.proofs.CircleLemmas.{circle_found, circle_is}
-use Rattle.dma_why.proofs.ViewWaits.{waits_below}
+use Rattle.dma_why.proofs.{CircleLemmas.circle_found, CircleLemmas.circle_is, ViewWaits.waits_below}
 use Rattle.dma_why.proofs.laws.circles_are_named.Goals as goal
 
 pub returns : goal.returns

@@ -1,9 +1,8 @@
 use Rattle.std.proofs.Common.{◌≡◌, ◌∙◌, None, Some, sym, append-nil, arith}
-use Rattle.dma_engine.specs.Object.{channel, front}
-use Rattle.dma_engine.specs.View.{channels, object_of}
+use Rattle.dma_engine.specs.{Object.channel, Object.front, View.channels, View.object_of}
 use Rattle.dma_why.proofs.WaitLemmas.{held_all, held_more}
-use Rattle.dma_why.proofs.waits.holders.Goals as goal
 use Rattle.dma_why.proofs.waits.holders.Goals.{in-Some-holder_on+in_ok-push, in_default-holder_on}
+use Rattle.dma_why.proofs.waits.holders.Goals as goal
 
 pub loop-other-preserved : goal.loop-other-preserved
 loop-other-preserved c =
@@ -13,13 +12,17 @@ loop-other-preserved c =
     let so_far = c.loop-other.invariant in
     elim c.match-holder_on.branch [
       | in-Some-holder_on+in_ok-push w ↦
-          rw (w.found-is, w.in_ok-push.ensures.items) (held_more c.in-Some.transfer.now (object_of v) v.schedule ch found (Some w.in-Some-holder_on.cookie) so_far (sym w.in-Some-holder_on.is ∙ c.holder_on.ensures))
+          rw (w.found-is, w.in_ok-push.ensures.items)
+          (held_more c.in-Some.transfer.now (object_of v) v.schedule ch found (Some w.in-Some-holder_on.cookie) so_far
+          (sym w.in-Some-holder_on.is ∙ c.holder_on.ensures))
       | in_default-holder_on w ↦
-          rw w.found-is (sym (append-nil found) ∙ held_more c.in-Some.transfer.now (object_of v) v.schedule ch found None so_far (sym w.in_default-holder_on.is ∙ c.holder_on.ensures))
+          rw w.found-is (sym (append-nil found)
+          ∙ held_more c.in-Some.transfer.now (object_of v) v.schedule ch found None so_far (sym w.in_default-holder_on.is ∙ c.holder_on.ensures))
     ]
 
 pub returns : goal.returns
 returns c =
     let v = c.args.engine.now.view in
     let many : c.loop-other.other ≡ channels v = omega (arith, c.loop-other-test.false, c.channels-other-end.ensures, c.loop-other.auto.other-end) in
-    held_all v (front (channel (object_of v) c.args.ch)) c.in-Some.transfer.now c.loop-other.other c.loop-other.found.items (sym c.in-Some.ensures) many c.loop-other.invariant
+    held_all v (front (channel (object_of v) c.args.ch)) c.in-Some.transfer.now c.loop-other.other c.loop-other.found.items (sym c.in-Some.ensures) many
+    c.loop-other.invariant

@@ -1,9 +1,7 @@
 use Rattle.std.proofs.Common.{◌≡◌, ℕ, ◌+◌, ◌-◌, ◌≤◌, ◌++◌, map}
 use Rattle.std.specs.List.{filter, range_with_len}
-use Rattle.dma_engine.specs.Object.{channel, finished, unfinished}
-use Rattle.dma_engine.specs.View.{object_of}
-use Rattle.dma_why.specs.declared.waits.Cookie.{Cookie}
-use Rattle.dma_why.specs.Waits.{signals_later}
+use Rattle.dma_engine.specs.{Object.channel, Object.finished, Object.unfinished, View.object_of}
+use Rattle.dma_why.specs.{declared.waits.Cookie.Cookie, Waits.signals_later}
 use Rattle.dma_why.proofs.waits.push_signallers.Given as goal
 
 abbrev pub invariant-loop-before : goal.invariant-loop-before

@@ -15,5 +15,6 @@ loop-index-preserved c =
     ticks_more history n entry c.loop-index-test.true ∙ ap (λ e. ticks_of (take n history) ++ ticks_of (e ∷ [])) (sym c.index-history-index.is) in
     record {
       id = c.add_one.ensures.id ∙ i.id;
-      sight = c.add_one.ensures.sight ∙ ap (λ (v : Sight). record v { seen = v.seen ++ one }) i.sight ∙ ap (λ l. record (c.args.place.now.seat.me.0) { seen = l }) (sym all);
+      sight = c.add_one.ensures.sight ∙ ap (λ (v : Sight). record v { seen = v.seen ++ one }) i.sight
+          ∙ ap (λ l. record (c.args.place.now.seat.me.0) { seen = l }) (sym all);
     }

@@ -1,7 +1,6 @@
 use Rattle.std.proofs.Common.{◌≡◌, ◌∙◌, ap, arith}
 use Rattle.std.proofs.lemmas.List.Elements.{All-push}
-use Rattle.dma_work.specs.Known.{Known, knows}
-use Rattle.dma_work.specs.inner.Published.{PublisherState}
+use Rattle.dma_work.specs.{Known.Known, Known.knows, inner.Published.PublisherState}
 use Rattle.dma_work.proofs.publisher.published.Goals as goal
 
 pub loop-made-preserved : goal.loop-made-preserved

@@ -1,6 +1,5 @@
 use Rattle.std.proofs.Common.{◌≡◌, ◌≤◌}
-use Rattle.std.specs.Prelude.{vec_len, vec_capacity}
-use Rattle.std.specs.List.{All}
+use Rattle.std.specs.{Prelude.vec_len, Prelude.vec_capacity, List.All}
 use Rattle.dma_work.specs.Known.{Known, knows}
 use Rattle.dma_work.proofs.publisher.published.Given as goal
 

@@ -1,9 +1,7 @@
 use Rattle.std.proofs.Common.{◌≡◌, ◌+◌, ◌-◌, ◌∙◌, ap, arith, subst}
 use Rattle.dma_engine.specs.Interleaved.{rotation}
-use Rattle.dma_work.specs.declared.job.Job.{Job}
-use Rattle.dma_work.specs.Desk.{TallyCounts, new_tally}
-use Rattle.dma_work.specs.Rotation.{StepsInTurn}
 use Rattle.dma_work.specs.inner.Rows.{CountsOne, HasPassed, TurnsState}
+use Rattle.dma_work.specs.{declared.job.Job.Job, Desk.TallyCounts, Desk.new_tally, Rotation.StepsInTurn}
 use Rattle.dma_work.proofs.InRows.{all_turns, passed_none, passed_then}
 use Rattle.dma_work.proofs.rows.work_in_rows.Goals as goal
 
@@ -50,5 +48,6 @@ returns g c =
     let taken = c.loop-left.turns.tally.turns in
     let left : taken ≡ job.turns = omega (arith, i.taken, c.loop-left-test.false) in
     let all : tally.turns ≡ job.turns = ap (λ (t : TallyCounts). t.turns) is ∙ left in
-    let steps = subst (λ (j : Job). StepsInTurn (CountsOne opening) (rotation j.first j.last tally.turns) (new_tally tally.worker) tally) i.job c.into_tally.ensures.steps in
+    let steps = subst (λ (j : Job). StepsInTurn (CountsOne opening) (rotation j.first j.last tally.turns) (new_tally tally.worker) tally) i.job
+    c.into_tally.ensures.steps in
     all_turns opening g.G.Gate.passes c.args.worker job tally number all (subst (HasPassed g.G.Gate.passes c.args.worker 0) left i.passed) steps

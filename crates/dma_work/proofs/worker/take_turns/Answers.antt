@@ -1,9 +1,8 @@
 use Rattle.std.proofs.Common.{◌≡◌, ◌+◌, ◌∙◌, arith, subst, sym, add-one}
 use Rattle.dma_engine.specs.Interleaved.{channel_at, rotation}
 use Rattle.dma_engine.proofs.Interleavings.{channel_again, channel_next}
-use Rattle.dma_work.proofs.Rotations.{one_more}
+use Rattle.dma_work.proofs.{Rotations.one_more, worker.take_turns.Goals.then-ch-job, worker.take_turns.Goals.else-ch-job}
 use Rattle.dma_work.proofs.worker.take_turns.Goals as goal
-use Rattle.dma_work.proofs.worker.take_turns.Goals.{then-ch-job, else-ch-job}
 
 pub turn-requires-in-loop-n-clause-passed : goal.turn-requires-in-loop-n-clause-passed
 turn-requires-in-loop-n-clause-passed g c =
@@ -27,6 +26,7 @@ loop-n-preserved g c =
         | then-ch-job w ↦ w.ch-is ∙ channel_next first last n c.loop-n.ch i.there (omega (arith, w.if-ch-job.true))
         | else-ch-job w ↦ w.ch-is ∙ channel_again first last n c.loop-n.ch i.there (omega (arith, w.if-ch-job.false))
       ];
-      acts = rw add-one (one_more Acts (rotation first last n) (channel_at first last n) c.args.stepper.now c.loop-n.stepper c.turn-in-loop-n.new.self i.acts here);
+      acts = rw add-one (one_more Acts (rotation first last n) (channel_at first last n) c.args.stepper.now c.loop-n.stepper c.turn-in-loop-n.new.self i.acts
+          here);
       taken = omega (arith, c.turn-in-loop-n.ensures.taken, i.taken);
     }

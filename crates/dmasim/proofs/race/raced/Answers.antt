@@ -10,7 +10,8 @@ use Rattle.dmasim.proofs.race.raced.Goals as goal
 pub returns-in-Err-clause-err : goal.returns-in-Err-clause-err
 returns-in-Err-clause-err g c =
     let early = c.run_early_statements-desk in
-    subst (λ (d : DeskState). PrintsFirst d.engine.view c.args.lines c.args.out.now.items early.new.out.items) c.new.ensures (rw c.in-Err.is at early.ensures.err)
+    subst (λ (d : DeskState). PrintsFirst d.engine.view c.args.lines c.args.out.now.items early.new.out.items) c.new.ensures
+    (rw c.in-Err.is at early.ensures.err)
 
 pub returns-clause-ok : goal.returns-clause-ok
 returns-clause-ok g c =
@@ -18,7 +19,8 @@ returns-clause-ok g c =
     let early = c.run_early_statements-desk in
     let mid = early.new.out.items in
     let left = early.result.0.engine.view in
-    let lines = subst (λ (d : DeskState). PrintsLines EarlyPrints d.engine.view c.args.lines left old mid) c.new.ensures (rw c.in_default.is at early.ensures.ok) in
+    let lines = subst (λ (d : DeskState). PrintsLines EarlyPrints d.engine.view c.args.lines left old mid) c.new.ensures
+    (rw c.in_default.is at early.ensures.ok) in
     IfOk-weaker c.go.result _ _ (λ engine totals. record { between = left; text = mid; lines = lines; totals = totals }) c.go.ensures.ok
 
 pub returns-clause-err : goal.returns-clause-err

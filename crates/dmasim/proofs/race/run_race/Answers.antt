@@ -21,7 +21,8 @@ returns-in_err-engine g c =
     let old = c.args.out.now.items in
     let new = c.raced.new.out.items in
     let is : c.in-Some.parts.engine.view ≡ first_view script = search rules in
-    first_answer script c.from_residual-in_err-engine.result old new c.from_residual-in_err-engine.ensures.0 (subst (λ v. PrintsFirst v script.before.statements old new) is c.in_err-engine.ensures.err)
+    first_answer script c.from_residual-in_err-engine.result old new c.from_residual-in_err-engine.ensures.0
+    (subst (λ v. PrintsFirst v script.before.statements old new) is c.in_err-engine.ensures.err)
 
 pub returns : goal.returns
 returns g c =
@@ -30,4 +31,6 @@ returns g c =
     let mid = c.raced.new.out.items in
     let jobs : AreJobs script.jobs c.in_ok-rota.rota = search rules in
     let is : c.in-Some.parts.engine.view ≡ first_view script = search rules in
-    whole_answer script c.run_statements.result old c.run_statements.new.out.items c.in_ok-rota.rota c.in_ok-engine.engine.view mid jobs (subst (λ u. PrintsGo u script.before.statements c.in_ok-rota.rota c.in_ok-engine.engine.view old mid) is c.in_ok-engine.ensures.ok) c.run_statements.ensures
+    whole_answer script c.run_statements.result old c.run_statements.new.out.items c.in_ok-rota.rota c.in_ok-engine.engine.view mid jobs
+    (subst (λ u. PrintsGo u script.before.statements c.in_ok-rota.rota c.in_ok-engine.engine.view old mid) is c.in_ok-engine.ensures.ok)
+    c.run_statements.ensures

@@ -1,18 +1,17 @@
 use Rattle.std.proofs.Common.{◌≡◌, ◌∙◌, ◌≢◌, ◌*◌, ◌≤◌, None, refl, ap, length, subst, arith}
-use Rattle.dma_chan.specs.Channel.{ChannelValue, bytes_of_program, code_of}
-use Rattle.dma_chan.specs.Saved.{AreBytes, saved}
+use Rattle.dma_chan.specs.{Channel.ChannelValue, Channel.bytes_of_program, Channel.code_of, Saved.AreBytes, Saved.saved}
 use Rattle.dma_chan.proofs.SavedParts.{loaded_at}
 use Rattle.dma_chan.proofs.channel.Channel.saved_bytes.Goals as goal
 
 pub write-requires-clause-buffer : goal.write-requires-clause-buffer
 write-requires-clause-buffer c =
-    let buffer : c.self.inside.executor.buffer.items ≡ c.args.self.now.buffer = ap (λ (x : ChannelValue). x.buffer) c.self.view_is in
+    let buffer : c.self.inside.executor.buffer ≡ c.args.self.now.buffer = ap (λ (x : ChannelValue). x.buffer) c.self.view_is in
     omega (arith, c.head-head.ensures.buffer, ap length c.as_slice-buffer.ensures, ap length buffer)
 
 pub returns-clause-bytes : goal.returns-clause-bytes
 unfolding saved
 returns-clause-bytes c =
-    let buffer : c.self.inside.executor.buffer.items ≡ c.args.self.now.buffer = ap (λ (x : ChannelValue). x.buffer) c.self.view_is in
+    let buffer : c.self.inside.executor.buffer ≡ c.args.self.now.buffer = ap (λ (x : ChannelValue). x.buffer) c.self.view_is in
     let program : c.bytes.result.now ≡ code_of c.args.self.now = c.bytes.ensures.value ∙ ap code_of c.self.view_is in
     rw (c.write.ensures.bytes, c.head-head.ensures.head, c.as_slice-buffer.ensures, program, buffer) refl
 

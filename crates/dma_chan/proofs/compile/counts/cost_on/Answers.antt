@@ -1,7 +1,6 @@
 use Rattle.std.proofs.Common.{arith}
 use Rattle.dma_chan.specs.Compiled.{pieces_of, signal_tree, wait_tree}
-use Rattle.dma_chan.proofs.PieceCode.{all_small, cut_well}
-use Rattle.dma_chan.proofs.TreeCosts.{cost_counted, cost_of_tree}
+use Rattle.dma_chan.proofs.{PieceCode.all_small, PieceCode.cut_well, TreeCosts.cost_counted, TreeCosts.cost_of_tree}
 use Rattle.dma_chan.proofs.compile.counts.cost_on.Goals as goal
 
 pub loop-piece-init : goal.loop-piece-init

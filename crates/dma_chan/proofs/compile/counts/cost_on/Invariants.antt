@@ -1,7 +1,6 @@
 use Rattle.std.proofs.Common.{◌≡◌, ◌+◌, ◌^◌, ◌≤◌, length, map}
 use Rattle.std.specs.List.{AllByRecursion}
-use Rattle.dma_chan.specs.Compiled.{cost_on, piece_tree}
-use Rattle.dma_chan.specs.Tree.{in_order}
+use Rattle.dma_chan.specs.{Compiled.cost_on, Compiled.piece_tree, Tree.in_order}
 use Rattle.dma_chan.proofs.TreeCosts.{counted}
 use Rattle.dma_chan.proofs.compile.counts.cost_on.Given as goal
 

@@ -16,7 +16,9 @@ returns-in_ok-engine-in-Ok c =
       printed = printed c.args.input.now;
       allowed = refl;
       answers = rw c.in-Ok.ensures.script
-          (subst (λ (v : View). Answers (record { groups = [] ∷ lines_answered v script.statements; status = 0 }) result old new) (c.reserve_for.ensures.view ∙ c.in_ok-engine-in-Ok.ensures)
-          (subst (λ (o : List ℕ). Answers (record { groups = [] ∷ lines_answered c.reserve_for.new.engine.view script.statements; status = 0 }) result o new) c.reserve_for.ensures.printed
+          (subst (λ (v : View). Answers (record { groups = [] ∷ lines_answered v script.statements; status = 0 }) result old new)
+          (c.reserve_for.ensures.view ∙ c.in_ok-engine-in-Ok.ensures)
+          (subst (λ (o : List ℕ). Answers (record { groups = [] ∷ lines_answered c.reserve_for.new.engine.view script.statements; status = 0 }) result o new)
+          c.reserve_for.ensures.printed
           (answers_memory _ 0 result room new c.run_statements.ensures)));
     }

@@ -18,4 +18,5 @@ returns-in-Ok c =
     c.read_at.ensures ∙ ap (λ (h : List Entry). read_at h (length c.history-place.result.now)) c.history.ensures.entries
     ∙ ap (λ (h : List Entry). read_at w.history (length h)) c.history-place.ensures.entries in
     read_runs v w addr c.args.len _ c.print_line.result out c.print_line.new.out.items c.in-Ok.ensures.answer
-    (on_ok_weaker c.print_line.result (λ p. p ∙ ap (λ (b : List ℕ). out ++ text_of ((codes "read 0x" ++ hex_digits addr ++ spaced_bytes b) ∷ [])) bytes) print.ok) print.err
+    (on_ok_weaker c.print_line.result (λ p. p ∙ ap (λ (b : List ℕ). out ++ text_of ((codes "read 0x" ++ hex_digits addr ++ spaced_bytes b) ∷ [])) bytes)
+    print.ok) print.err

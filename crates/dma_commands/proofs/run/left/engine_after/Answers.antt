@@ -1,6 +1,5 @@
 use Rattle.std.proofs.Common.{◌∙◌, ap}
-use Rattle.dma_commands.specs.Left.{lines_left}
-use Rattle.dma_commands.specs.declared.run.LinesOnEngine.{LinesOnEngine}
+use Rattle.dma_commands.specs.{Left.lines_left, declared.run.LinesOnEngine.LinesOnEngine}
 use Rattle.dma_commands.proofs.RunLemmas.{answered_in_turn}
 use Rattle.dma_commands.proofs.run.left.engine_after.Goals as goal
 

@@ -1,15 +1,11 @@
 use Rattle.std.proofs.Common.{◌≡◌, ◌≤◌, ◌+◌, ◌-◌, ◌++◌, [], ◌∙◌, List, ℕ, ap, map, arith, refl}
 use Rattle.std.specs.Prelude.{replicate}
-use Rattle.std.proofs.lemmas.List.{append-nil}
-use Rattle.std.proofs.lemmas.Result.{on_ok_weaker}
+use Rattle.std.proofs.{lemmas.List.append-nil, lemmas.Result.on_ok_weaker}
 use Rattle.dma_mem.specs.declared.call.Call.TheVariants.{Step}
 use Rattle.dma_engine.specs.Answer.{answers}
 use Rattle.dma_io.specs.Command.{text_of}
-use Rattle.dma_commands.specs.Printed.{reply_text}
-use Rattle.dma_commands.specs.Run.{step_answer, step_lines}
-use Rattle.dma_commands.proofs.RunLemmas.{printed_runs}
-use Rattle.dma_commands.proofs.StepLemmas.{ended, more_view, more_texts}
-use Rattle.dma_commands.proofs.Advances.{whole_runs}
+use Rattle.dma_commands.specs.{Printed.reply_text, Run.step_answer, Run.step_lines}
+use Rattle.dma_commands.proofs.{RunLemmas.printed_runs, StepLemmas.ended, StepLemmas.more_view, StepLemmas.more_texts, Advances.whole_runs}
 use Rattle.dma_commands.proofs.run.steps.answer_steps.Goals as goal
 
 pub loop-left-init : goal.loop-left-init
@@ -52,7 +48,8 @@ loop-left-preserved c =
 
 pub returns : goal.returns
 returns c =
-    whole_runs c.args.engine.now.view c.advance-first.new.self.view c.args.ch c.args.count c.advance-first.result (c.in-Some.started, c.in-Some.finished) c.print_transfer.result c.args.out.now.items c.print_transfer.new.out.items
+    whole_runs c.args.engine.now.view c.advance-first.new.self.view c.args.ch c.args.count c.advance-first.result (c.in-Some.started, c.in-Some.finished)
+    c.print_transfer.result c.args.out.now.items c.print_transfer.new.out.items
     c.advance-first.ensures.answers c.in-Some.ensures c.if-first-gt0.true c.if-count-first-eq2.true c.print_transfer.ensures.ok c.print_transfer.ensures.err
 
 pub returns-2 : goal.returns-2

@@ -3,9 +3,7 @@ use Rattle.std.specs.Prelude.{replicate}
 use Rattle.dma_mem.specs.declared.call.Call.TheVariants.{Step}
 use Rattle.dma_engine.specs.Answer.{answers}
 use Rattle.dma_io.specs.Command.{text_of}
-use Rattle.dma_commands.specs.Printed.{reply_text}
-use Rattle.dma_commands.specs.inner.Counting.{text_with}
-use Rattle.dma_commands.specs.Run.{step_lines}
+use Rattle.dma_commands.specs.{Printed.reply_text, inner.Counting.text_with, Run.step_lines}
 use Rattle.dma_commands.proofs.run.steps.answer_steps.Given as goal
 
 abbrev pub decreases-loop-left : goal.decreases-loop-left
@@ -18,5 +16,6 @@ invariant-loop-left l =
       left : l.left ≤ l.count;
       counted : l.steps.count ≤ l.count - l.left;
       view : l.engine.view ≡ so_far.1;
-      text : (rest : List (List ℕ)) → text_with l.ch l.steps.lines.items l.steps.last.items l.steps.count rest ≡ text_of (step_lines l.ch (map reply_text so_far.0 ++ rest));
+      text : (rest : List (List ℕ))
+          → text_with l.ch l.steps.lines.items l.steps.last.items l.steps.count rest ≡ text_of (step_lines l.ch (map reply_text so_far.0 ++ rest));
     }

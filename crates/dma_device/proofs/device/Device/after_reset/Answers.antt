@@ -1,7 +1,5 @@
 use Rattle.std.proofs.Common.{arith}
-use Rattle.std.proofs.lemmas.Grind.{common_steps}
-use Rattle.std.proofs.lemmas.List.{length-replicate}
-use Rattle.std.proofs.lemmas.Nat.{pow_pos}
+use Rattle.std.proofs.{lemmas.Grind.common_steps, lemmas.List.length-replicate, lemmas.Nat.pow_pos}
 use Rattle.dma_device.proofs.Sound.{all_reset, few_events, reset_on}
 use Rattle.dma_device.proofs.device.Device.after_reset.Goals as goal
 

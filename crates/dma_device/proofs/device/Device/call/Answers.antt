@@ -2,20 +2,11 @@ use Rattle.std.proofs.Common.{◌≡◌, ◌∙◌, ℕ, ◌+◌, ◌%◌, ◌^�
 use Rattle.std.specs.Prelude.{slice_get}
 use Rattle.dma_mem.specs.Flags.{flags_of}
 use Rattle.dma_mem.proofs.Steps.{taken_few}
-use Rattle.dma_chan.specs.declared.bus.Bus.TheVariants.{Chip}
-use Rattle.dma_chan.specs.Bus.{fits}
-use Rattle.dma_chan.specs.Channel.{ChannelValue}
-use Rattle.dma_chan.specs.Stepping.{Machine}
+use Rattle.dma_chan.specs.{declared.bus.Bus.TheVariants.Chip, Bus.fits, Channel.ChannelValue, Stepping.Machine}
 use Rattle.dma_chan.proofs.BusKept.{steps_bus}
-use Rattle.dma_device.specs.Device.{DeviceValue, with_thread}
-use Rattle.dma_device.specs.Thread.{IsOn, IsSound, answered}
-use Rattle.dma_device.specs.Turns.{visible_events, with_flags}
-use Rattle.dma_device.specs.declared.thread.Thread.{Thread}
-use Rattle.dma_device.specs.inner.Fields.{device_value}
-use Rattle.dma_device.proofs.Answered.{answer_channel}
-use Rattle.dma_device.proofs.Calls.{called_is}
-use Rattle.dma_device.proofs.Found.{found_running}
-use Rattle.dma_device.proofs.Sound.{steps_fit, answered_sound, with_new}
+use Rattle.dma_device.specs.{Device.DeviceValue, Device.with_thread, Thread.IsOn, Thread.IsSound, Thread.answered, Turns.visible_events, Turns.with_flags}
+use Rattle.dma_device.specs.{declared.thread.Thread.Thread, inner.Fields.device_value}
+use Rattle.dma_device.proofs.{Answered.answer_channel, Calls.called_is, Found.found_running, Sound.steps_fit, Sound.answered_sound, Sound.with_new}
 use Rattle.dma_device.proofs.device.Device.call.Goals as goal
 
 pub invariant_of-self : goal.invariant_of-self
@@ -27,7 +18,8 @@ invariant_of-self c =
     let steps = c.step_regions-taken.ensures.steps in
     let same : new.channel ≡ channel =
     ap (λ (x : Thread). x.channel) c.answer.ensures
-    ∙ (answer_channel d.config.events (record t { channel = channel; pc = (t.base + channel.registers.pc) % 2 ^ 32 }) c.step_regions-taken.result.last c.step_regions-taken.result.signal) in
+    ∙ (answer_channel d.config.events (record t { channel = channel; pc = (t.base + channel.registers.pc) % 2 ^ 32 }) c.step_regions-taken.result.last
+    c.step_regions-taken.result.signal) in
     let after = same ∙ ap (λ (m : Machine). m.channel) steps.ends_at in
     let kept : IsOn d.config.bus t → IsOn d.config.bus new = λ on. record {
       width = ap (λ (x : ChannelValue). x.registers.bus) after ∙ steps_bus _ _ c.step_regions-taken.result.count ∙ on.width;
@@ -51,8 +43,13 @@ returns-clause-calls c =
     let taken = c.step_regions-taken in
     let n = c.args.n in
     let view : device_value c.self.inside ≡ d = c.self.view_is in
-    let found : slice_get d.threads n ≡ Some t = ap (λ (v : DeviceValue). slice_get v.threads n) (sym view) ∙ found_running d (device_value c.self.inside) n t view c.requires.runs c.index_mut-thread.ensures.value in
+    let found : slice_get d.threads n ≡ Some t = ap (λ (v : DeviceValue). slice_get v.threads n) (sym view)
+    ∙ found_running d (device_value c.self.inside) n t view c.requires.runs c.index_mut-thread.ensures.value in
     let seen : c.from_bits-events.result ≡ flags_of (visible_events d) = c.from_bits-events.ensures ∙ ap flags_of c.visible_events.ensures in
     let few : c.bits.result < 2 ^ 32 = omega arith in
-    let device : c.set_flags.new.self ≡ with_thread c.args.n (answered d.config.events (record t { channel = taken.new.channel }) taken.result.last taken.result.signal) (with_flags c.bits.result d) = search rules in
-    called_is d c.set_flags.new.self c.args.regions.now taken.new.regions c.args.n c.args.most t c.self.inside.marks c.from_bits-events.result taken.new.events taken.new.channel c.bits.result taken.result found c.self.invariant.marks seen c.bits.ensures few taken.ensures.steps taken.ensures.signal taken.ensures.written device
+    let device : c.set_flags.new.self ≡ with_thread c.args.n
+    (answered d.config.events (record t { channel = taken.new.channel }) taken.result.last taken.result.signal) (with_flags c.bits.result d) =
+    search rules in
+    called_is d c.set_flags.new.self c.args.regions.now taken.new.regions c.args.n c.args.most t c.self.inside.marks c.from_bits-events.result taken.new.events
+    taken.new.channel c.bits.result taken.result found c.self.invariant.marks seen c.bits.ensures few taken.ensures.steps taken.ensures.signal
+    taken.ensures.written device

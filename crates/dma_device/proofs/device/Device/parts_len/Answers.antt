@@ -1,13 +1,9 @@
 use Rattle.std.proofs.Common.{◌≡◌, ◌∙◌, ◌+◌, ℕ, List, ap, arith, length, subst, sym}
 use Rattle.std.proofs.lemmas.Grind.{common_steps}
 use Rattle.std.specs.List.{All, flat_map}
-use Rattle.dma_device.specs.Device.{DeviceValue}
 use Rattle.dma_device.specs.Snapshot.{IsDeviceValue, IsThreadValue, head_of, parts_in, saved_thread}
-use Rattle.dma_device.specs.declared.thread.Thread.{Thread}
-use Rattle.dma_device.specs.inner.Fields.{device_value}
-use Rattle.dma_device.specs.inner.Saves.{HasHeadRanges}
-use Rattle.dma_device.proofs.SavedDevices.{device_length, device_value_is}
-use Rattle.dma_device.proofs.Sound.{few_channels, on_of}
+use Rattle.dma_device.specs.{Device.DeviceValue, declared.thread.Thread.Thread, inner.Fields.device_value, inner.Saves.HasHeadRanges}
+use Rattle.dma_device.proofs.{SavedDevices.device_length, SavedDevices.device_value_is, Sound.few_channels, Sound.on_of}
 use Rattle.dma_device.proofs.device.Device.parts_len.Goals as goal
 
 -- the length of a device's parts, by that of its threads
@@ -22,7 +18,9 @@ returns-clause-device c =
     let d = device_value c.self.inside in
     let h = c.self.invariant in
     let ranges = subst HasHeadRanges (c.head.ensures ∙ ap head_of (sym c.self.view_is)) c.bytes-head.ensures.ranges in
-    subst IsDeviceValue c.self.view_is (device_value_is d h.config h.sound.known ranges h.count (subst (All (IsThreadValue d.config.events)) c.deref.ensures.value c.threads_len.ensures.values) (on_of d.config.bus d.threads h.on))
+    subst IsDeviceValue c.self.view_is
+    (device_value_is d h.config h.sound.known ranges h.count
+    (subst (All (IsThreadValue d.config.events)) c.deref.ensures.value c.threads_len.ensures.values) (on_of d.config.bus d.threads h.on))
 
 pub returns-clause-len : goal.returns-clause-len
 returns-clause-len c = grind (arith, common_steps, whole)

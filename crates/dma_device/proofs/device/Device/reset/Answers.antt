@@ -1,6 +1,5 @@
 use Rattle.std.proofs.Common.{arith}
-use Rattle.std.proofs.lemmas.Grind.{common_steps}
-use Rattle.std.proofs.lemmas.Nat.{pow_pos}
+use Rattle.std.proofs.{lemmas.Grind.common_steps, lemmas.Nat.pow_pos}
 use Rattle.dma_device.proofs.Sound.{all_reset, reset_on, with_parts}
 use Rattle.dma_device.proofs.device.Device.reset.Goals as goal
 

@@ -1,18 +1,12 @@
 use Rattle.std.proofs.Common.{◌≡◌, ◌∙◌, List, ap, arith, drop, length, refl, subst, sym, true≢false, true}
 use Rattle.std.proofs.lemmas.List.{take-append-drop, with_items_is}
-use Rattle.std.specs.List.{All, flat_map}
-use Rattle.std.specs.Vec.{with_items}
-use Rattle.dma_device.specs.Device.{DeviceValue}
+use Rattle.std.specs.{List.All, List.flat_map, Vec.with_items}
 use Rattle.dma_device.specs.Snapshot.{HasKnownEvents, IsDeviceValue, IsThreadValue, head_in, head_of, parts_in, saved_thread}
-use Rattle.dma_device.specs.Thread.{IsOn, IsSound}
-use Rattle.dma_device.specs.declared.config.Config.{Config}
-use Rattle.dma_device.specs.declared.save.head.Head.{Head}
-use Rattle.dma_device.specs.declared.thread.Thread.{Thread}
+use Rattle.dma_device.specs.{Device.DeviceValue, Thread.IsOn, Thread.IsSound, declared.config.Config.Config, declared.save.head.Head.Head}
+use Rattle.dma_device.specs.{declared.thread.Thread.Thread, inner.Saves.HasHeadRanges}
 use Rattle.dma_device.proofs.SavedDevices.{tail_is, device_ranges_in, device_value_is, from_head, known_in, threads_behind}
-use Rattle.dma_device.specs.inner.Saves.{HasHeadRanges}
-use Rattle.dma_device.proofs.Sound.{are_on, on_of, with_parts}
+use Rattle.dma_device.proofs.{Sound.are_on, Sound.on_of, Sound.with_parts, device.Device.restore_parts.Goals.After-restore_threads}
 use Rattle.dma_device.proofs.device.Device.restore_parts.Goals as goal
-use Rattle.dma_device.proofs.device.Device.restore_parts.Goals.{After-restore_threads}
 
 -- a head's events are known to a device of its configuration
 known_on : (h : Head) (g : Config) → h.config ≡ g → HasKnownEvents h → HasKnownEvents (record h { config = g })
@@ -22,7 +16,8 @@ pub returns-in_default-clause-all : goal.returns-in_default-clause-all
 unfolding parts_in
 returns-in_default-clause-all c d v config e =
     let same = config ∙ sym (ap (λ (x : DeviceValue). x.config) c.self.view_is) in
-    let found = c.in_default.ensures.only (head_in c.args.version d) (flat_map saved_thread d.threads) (device_ranges_in c.args.version d v) (known_in c.args.version d v) refl same e in
+    let found = c.in_default.ensures.only (head_in c.args.version d) (flat_map saved_thread d.threads) (device_ranges_in c.args.version d v)
+    (known_in c.args.version d v) refl same e in
     absurd (cc found)
 
 pub restore_threads-requires-clause-sound : goal.restore_threads-requires-clause-sound
@@ -43,10 +38,13 @@ invariant_of-self c =
     let d = c.self.inside in
     let new = c.restore_threads.new.threads in
     let known = c.self.invariant.sound.known in
-    with_parts d new d.manager _ _ _ d.dbginst0 d.dbginst1 c.self.invariant (same_length (goal.at.invariant_of-self c).After-restore_threads) (c.restore_threads.auto.threads ∙ ap length c.deref_mut.ensures.value) c.restore_threads.ensures.sound (are_on d.config.bus new c.restore_threads.ensures.on) known.events known.interrupts known.inten
+    with_parts d new d.manager _ _ _ d.dbginst0 d.dbginst1 c.self.invariant (same_length (goal.at.invariant_of-self c).After-restore_threads)
+    (c.restore_threads.auto.threads ∙ ap length c.deref_mut.ensures.value) c.restore_threads.ensures.sound
+    (are_on d.config.bus new c.restore_threads.ensures.on) known.events known.interrupts known.inten
 
 -- the threads of the device whose parts these are
-restored : (c : After-restore_threads) (d : DeviceValue) → IsDeviceValue d → d.config ≡ c.args.self.now.config → c.args.save.now ≡ parts_in c.args.version d → (c.restore_threads.result ≡ true) × (c.restore_threads.new.threads ≡ d.threads)
+restored : (c : After-restore_threads) (d : DeviceValue) → IsDeviceValue d → d.config ≡ c.args.self.now.config → c.args.save.now ≡ parts_in c.args.version d
+    → (c.restore_threads.result ≡ true) × (c.restore_threads.new.threads ≡ d.threads)
 restored c d v config e =
     let same = config ∙ sym (ap (λ (x : DeviceValue). x.config) c.self.view_is) in
     let count = v.count ∙ ap (λ (g : Config). g.channels) same ∙ sym c.self.invariant.count ∙ ap length (sym c.deref_mut.ensures.value) in
@@ -56,7 +54,8 @@ restored c d v config e =
 
 pub returns-then-not-restore_threads-clause-all : goal.returns-then-not-restore_threads-clause-all
 returns-then-not-restore_threads-clause-all c d v config e =
-    absurd (true≢false (sym (restored (goal.at.returns-then-not-restore_threads-clause-all c).After-restore_threads d v config e).0 ∙ c.if-not-restore_threads.true))
+    absurd (true≢false (sym (restored (goal.at.returns-then-not-restore_threads-clause-all c).After-restore_threads d v config e).0
+    ∙ c.if-not-restore_threads.true))
 
 pub invariant_of-self-2 : goal.invariant_of-self-2
 invariant_of-self-2 c =
@@ -64,7 +63,8 @@ invariant_of-self-2 c =
     let new = c.restore_threads.new.threads in
     let len : length new ≡ d.threads.len = omega (arith, c.restore_threads.auto.threads, c.deref_mut.ensures.len) in
     let known = known_on c.in-Some.head d.config c.in-Some.ensures.config c.in-Some.ensures.known in
-    with_parts d new _ _ _ _ _ _ c.self.invariant len (c.restore_threads.auto.threads ∙ ap length c.deref_mut.ensures.value) c.restore_threads.ensures.sound (are_on d.config.bus new c.restore_threads.ensures.on) known.events known.interrupts known.inten
+    with_parts d new _ _ _ _ _ _ c.self.invariant len (c.restore_threads.auto.threads ∙ ap length c.deref_mut.ensures.value) c.restore_threads.ensures.sound
+    (are_on d.config.bus new c.restore_threads.ensures.on) known.events known.interrupts known.inten
 
 pub returns-clause-ok : goal.returns-clause-ok
 unfolding parts_in
@@ -75,7 +75,8 @@ returns-clause-ok c =
     let new = c.restore_threads.new.threads in
     let len : length new ≡ d.threads.len = omega (arith, c.restore_threads.auto.threads, c.deref_mut.ensures.len) in
     let back : drop 40 save ≡ flat_map saved_thread new = sym (tail_is 40 save) ∙ c.restore_threads.ensures.ok c.if-not-restore_threads.false in
-    sym (take-append-drop 40 save) ∙ simp (c.in-Some.ensures.found, back, sym c.in-Some.ensures.config, sym c.in-Some.ensures.version, with_items_is d.threads new len))
+    sym (take-append-drop 40 save)
+    ∙ simp (c.in-Some.ensures.found, back, sym c.in-Some.ensures.config, sym c.in-Some.ensures.version, with_items_is d.threads new len))
 
 pub returns-clause-all : goal.returns-clause-all
 unfolding parts_in
@@ -86,7 +87,8 @@ returns-clause-all c e v config is =
     let new = c.restore_threads.new.threads in
     let len : length new ≡ d.threads.len = omega (arith, c.restore_threads.auto.threads, c.deref_mut.ensures.len) in
     let same = config ∙ sym (ap (λ (x : DeviceValue). x.config) c.self.view_is) in
-    let found = c.in-Some.ensures.only (head_in c.args.version e) (flat_map saved_thread e.threads) (device_ranges_in c.args.version e v) (known_in c.args.version e v) refl same is in
+    let found = c.in-Some.ensures.only (head_in c.args.version e) (flat_map saved_thread e.threads) (device_ranges_in c.args.version e v)
+    (known_in c.args.version e v) refl same is in
     let head : h ≡ head_in c.args.version e = cc found in
     let w = restored (goal.at.returns-clause-all c).After-restore_threads e v config is in (
       refl,
@@ -103,8 +105,12 @@ returns-clause-value c =
     let len : length new ≡ d.threads.len = omega (arith, c.restore_threads.auto.threads, c.deref_mut.ensures.len) in
     let r = c.in-Some.ensures.ranges in
     let known = known_on h d.config c.in-Some.ensures.config c.in-Some.ensures.known in
-    let all = with_parts d new h.manager h.events h.interrupts h.inten h.dbginst0 h.dbginst1 c.self.invariant len (c.restore_threads.auto.threads ∙ ap length c.deref_mut.ensures.value) c.restore_threads.ensures.sound (are_on d.config.bus new c.restore_threads.ensures.on) known.events known.interrupts known.inten in
+    let all = with_parts d new h.manager h.events h.interrupts h.inten h.dbginst0 h.dbginst1 c.self.invariant len
+    (c.restore_threads.auto.threads ∙ ap length c.deref_mut.ensures.value) c.restore_threads.ensures.sound
+    (are_on d.config.bus new c.restore_threads.ensures.on) known.events known.interrupts known.inten in
     let e = from_head d.config h (with_items d.threads new).items in
-    let ranges : HasHeadRanges (head_of e) = record { fault = r.fault; events = r.events; interrupts = r.interrupts; inten = r.inten; dbginst0 = r.dbginst0; dbginst1 = r.dbginst1 } in
-    let values = subst (All (IsThreadValue d.config.events)) (sym (with_items_is d.threads new len)) (c.restore_threads.ensures.values c.if-not-restore_threads.false) in
+    let ranges : HasHeadRanges (head_of e) =
+    record { fault = r.fault; events = r.events; interrupts = r.interrupts; inten = r.inten; dbginst0 = r.dbginst0; dbginst1 = r.dbginst1 } in
+    let values = subst (All (IsThreadValue d.config.events)) (sym (with_items_is d.threads new len))
+    (c.restore_threads.ensures.values c.if-not-restore_threads.false) in
     device_value_is e all.config all.sound.known ranges all.count values (on_of d.config.bus _ all.on))

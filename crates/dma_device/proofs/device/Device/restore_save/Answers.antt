@@ -1,10 +1,8 @@
 use Rattle.std.proofs.Common.{◌≡◌, ◌-◌, ◌≤◌, List, arith, drop, length, take, ℕ}
-use Rattle.std.proofs.lemmas.Grind.{common_steps}
+use Rattle.std.proofs.{lemmas.Grind.common_steps, lemmas.List.drop_at, lemmas.List.take-append-drop, lemmas.List.take_at}
 use Rattle.std.specs.Int.{w32, to_le_bytes}
-use Rattle.std.proofs.lemmas.List.{drop_at, take-append-drop, take_at}
 use Rattle.dma_chan.specs.Saved.{checksum}
-use Rattle.dma_device.specs.Device.{DeviceValue}
-use Rattle.dma_device.specs.Snapshot.{IsSavedAs, parts_in, saved_device}
+use Rattle.dma_device.specs.{Device.DeviceValue, Snapshot.IsSavedAs, Snapshot.parts_in, Snapshot.saved_device}
 use Rattle.dma_device.proofs.SavedDevices.{device_length, old_version, own_length, own_parts, own_version}
 use Rattle.dma_device.proofs.device.Device.restore_save.Goals as goal
 

@@ -1,7 +1,5 @@
 use Rattle.std.proofs.Common.{◌≡◌, ◌∙◌, ◌+◌, ◌++◌, ap, arith, drop, length, sym, take}
-use Rattle.std.proofs.lemmas.Grind.{common_steps}
-use Rattle.std.proofs.lemmas.Bool.{le-leb, lt-leb}
-use Rattle.std.proofs.lemmas.List.{drop-drop, drop_at, take_at}
+use Rattle.std.proofs.{lemmas.Grind.common_steps, lemmas.Bool.le-leb, lemmas.Bool.lt-leb, lemmas.List.drop-drop, lemmas.List.drop_at, lemmas.List.take_at}
 use Rattle.dma_device.specs.Snapshot.{parts_in, saved_device}
 use Rattle.dma_device.proofs.SavedDevices.{own_length}
 use Rattle.dma_device.proofs.device.Device.save.Goals as goal

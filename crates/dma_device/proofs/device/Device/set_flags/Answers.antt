@@ -1,6 +1,5 @@
 use Rattle.std.proofs.Common.{arith}
-use Rattle.std.proofs.lemmas.Grind.{common_steps}
-use Rattle.std.proofs.lemmas.Nat.{or_lt}
+use Rattle.std.proofs.{lemmas.Grind.common_steps, lemmas.Nat.or_lt}
 use Rattle.dma_device.proofs.Sound.{and_fewer, and_known, with_events}
 use Rattle.dma_device.proofs.device.Device.set_flags.Goals as goal
 

@@ -1,15 +1,11 @@
 use Rattle.std.proofs.Common.{◌≡◌, ◌≢◌, ◌∙◌, ℕ, ◌+◌, Bool, true, [], refl, subst, sym, arith}
 use Rattle.std.specs.Prelude.{◌==◌, not}
 use Rattle.std.proofs.lemmas.Bool.{eq-eqb, ne_eqb}
-use mathlib.Core.Bool.{beq}
 use Rattle.dma_insn.specs.ControlWord.{flag}
-use Rattle.dma_chan.specs.LentRegions.{with_gaps_of}
-use Rattle.dma_chan.specs.Written.{adjoins}
-use Rattle.dma_device.specs.Device.{DeviceValue, irq_abort, irqs}
-use Rattle.dma_device.specs.Turns.{Outcome, lines_differ, outcome_of}
-use Rattle.dma_device.proofs.Calls.{turn_is}
-use Rattle.dma_device.proofs.InOrder.{in_order_kept}
-use Rattle.dma_device.proofs.Writes.{second_beside}
+use Rattle.dma_chan.specs.{LentRegions.with_gaps_of, Written.adjoins}
+use Rattle.dma_device.specs.{Device.DeviceValue, Device.irq_abort, Device.irqs, Turns.Outcome, Turns.lines_differ, Turns.outcome_of}
+use Rattle.dma_device.proofs.{Calls.turn_is, InOrder.in_order_kept, Writes.second_beside}
+use mathlib.Core.Bool.{beq}
 use Rattle.dma_device.proofs.device.Device.step.Goals as goal
 
 pub call_if-second-requires-clause-order : goal.call_if-second-requires-clause-order
@@ -36,7 +32,11 @@ returns-then-before-irqs-clause-turn c =
     let one = c.call_if-first in
     let two = c.call_if-second in
     let lines = other_lines c.args.self.now two.new.self c.irqs.result c.irqs-2.result c.irqs.ensures c.irqs-2.ensures c.if-before-irqs.true in
-    turn_is c.args.self.now one.new.self two.new.self c.args.regions.now one.new.regions two.new.regions c.args.n c.args.most one.result two.result c.joined.result (not (c.irqs.result == c.irqs-2.result)) (c.from.result + c.from-2.result) (rw (c.begins.ensures.value, c.from-n.ensures) at one.ensures.calls) one.ensures.kept (rw (c.follows.ensures.value, c.from-n.ensures) at two.ensures.calls) two.ensures.kept c.joined.ensures.range lines (omega (arith, c.from.ensures, c.from-2.ensures))
+    turn_is c.args.self.now one.new.self two.new.self c.args.regions.now one.new.regions two.new.regions c.args.n c.args.most one.result two.result
+    c.joined.result (not (c.irqs.result == c.irqs-2.result)) (c.from.result + c.from-2.result)
+    (rw (c.begins.ensures.value, c.from-n.ensures) at one.ensures.calls) one.ensures.kept
+    (rw (c.follows.ensures.value, c.from-n.ensures) at two.ensures.calls) two.ensures.kept c.joined.ensures.range lines
+    (omega (arith, c.from.ensures, c.from-2.ensures))
 
 pub returns-else-before-irqs-clause-turn : goal.returns-else-before-irqs-clause-turn
 returns-else-before-irqs-clause-turn c =
@@ -44,5 +44,10 @@ returns-else-before-irqs-clause-turn c =
     let two = c.call_if-second in
     let before = c.irq_abort in
     let after = c.irq_abort-else-before-irqs in
-    let lines = same_lines c.args.self.now two.new.self c.irqs.result c.irqs-2.result before.result after.result c.irqs.ensures c.irqs-2.ensures c.if-before-irqs.false before.ensures after.ensures in
-    turn_is c.args.self.now one.new.self two.new.self c.args.regions.now one.new.regions two.new.regions c.args.n c.args.most one.result two.result c.joined.result (not (beq before.result after.result)) (c.from.result + c.from-2.result) (rw (c.begins.ensures.value, c.from-n.ensures) at one.ensures.calls) one.ensures.kept (rw (c.follows.ensures.value, c.from-n.ensures) at two.ensures.calls) two.ensures.kept c.joined.ensures.range lines (omega (arith, c.from.ensures, c.from-2.ensures))
+    let lines = same_lines c.args.self.now two.new.self c.irqs.result c.irqs-2.result before.result after.result c.irqs.ensures c.irqs-2.ensures
+    c.if-before-irqs.false before.ensures after.ensures in
+    turn_is c.args.self.now one.new.self two.new.self c.args.regions.now one.new.regions two.new.regions c.args.n c.args.most one.result two.result
+    c.joined.result (not (beq before.result after.result)) (c.from.result + c.from-2.result)
+    (rw (c.begins.ensures.value, c.from-n.ensures) at one.ensures.calls) one.ensures.kept
+    (rw (c.follows.ensures.value, c.from-n.ensures) at two.ensures.calls) two.ensures.kept c.joined.ensures.range lines
+    (omega (arith, c.from.ensures, c.from-2.ensures))

@@ -1,13 +1,11 @@
 use Rattle.std.proofs.Common.{◌≡◌, ◌∙◌, ℕ, suc, ◌+◌, ◌-◌, ◌*◌, ◌^◌, ◌<◌, ◌≤◌, List, length, drop, get_or, ap, arith, sym}
-use Rattle.std.proofs.lemmas.Grind.{common_steps}
-use Rattle.std.proofs.Math.Seq.{drop-cons}
+use Rattle.std.proofs.{lemmas.Grind.common_steps, Math.Seq.drop-cons}
 use Rattle.dma_insn.specs.ControlWord.{flag}
-use Rattle.dma_device.specs.declared.thread.Thread.{Thread}
-use Rattle.dma_device.specs.Device.{faulting_bits}
-use Rattle.dma_device.specs.Thread.{is_faulting}
+use Rattle.dma_device.specs.{declared.thread.Thread.Thread, Device.faulting_bits, Thread.is_faulting}
 use Rattle.dma_device.proofs.device.registers.faulting_bits.Goals as goal
 
-bits_more : (ts : List Thread) (n : ℕ) (t : Thread) → 0 < n → n ≤ length ts → get_or ts (n - 1) t ≡ t → faulting_bits (drop (n - 1) ts) ≡ flag (is_faulting t) + 2 * faulting_bits (drop n ts)
+bits_more : (ts : List Thread) (n : ℕ) (t : Thread) → 0 < n → n ≤ length ts → get_or ts (n - 1) t ≡ t
+    → faulting_bits (drop (n - 1) ts) ≡ flag (is_faulting t) + 2 * faulting_bits (drop n ts)
 bits_more ts n t some within is = grind (arith, common_steps, drop-cons)
 
 room_more : (length n bits flag : ℕ) → 0 < n → n ≤ length → flag ≤ 1 → bits < 2 ^ (length - n) → flag + 2 * bits < 2 ^ (length - (n - 1))

@@ -1,7 +1,6 @@
 use Rattle.std.proofs.Common.{◌∙◌, ◌+◌, ◌++◌, ℕ, List, ap, arith, drop, length, sym, take}
-use Rattle.std.proofs.lemmas.Grind.{common_steps}
 use Rattle.std.proofs.lemmas.List.{length-append, length-drop, take_all}
-use Rattle.std.proofs.lemmas.List.Folds.{length-flat_map-take}
+use Rattle.std.proofs.{lemmas.Grind.common_steps, lemmas.List.Folds.length-flat_map-take}
 use Rattle.std.specs.List.{flat_map}
 use Rattle.dma_device.specs.Snapshot.{saved_thread}
 use Rattle.dma_device.proofs.SavedDevices.{one_more, tail_is, written_more}

@@ -1,7 +1,5 @@
 use Rattle.std.proofs.Common.{◌≡◌, ◌∙◌, ℕ, ap, arith, get_or, inl, inr, length, subst, sym, take}
-use Rattle.std.proofs.lemmas.Grind.{common_steps}
-use Rattle.std.proofs.lemmas.Bool.{cases_lt}
-use Rattle.std.proofs.lemmas.List.{length-append, take_all, get_or_default}
+use Rattle.std.proofs.{lemmas.Grind.common_steps, lemmas.Bool.cases_lt, lemmas.List.length-append, lemmas.List.take_all, lemmas.List.get_or_default}
 use Rattle.std.specs.List.{flat_map}
 use Rattle.dma_device.specs.Snapshot.{IsThreadValue, saved_thread}
 use Rattle.dma_device.proofs.SavedDevices.{one_more}
@@ -19,7 +17,13 @@ loop-n-preserved c =
     let n = c.loop-n.n in
     let t = c.index-threads-n.result in
     record {
-      len = omega (arith, c.loop-n.invariant.len, c.save_len-len.ensures.len, ap length (one_more saved_thread ts n t (omega arith) c.index-threads-n.is), length-append (flat_map saved_thread (take n ts)) (saved_thread t));
+      len = omega (
+        arith,
+        c.loop-n.invariant.len,
+        c.save_len-len.ensures.len,
+        ap length (one_more saved_thread ts n t (omega arith) c.index-threads-n.is),
+        length-append (flat_map saved_thread (take n ts)) (saved_thread t),
+      );
       limit = omega (arith, c.loop-n.invariant.limit, c.save_len-len.ensures.limit);
       values = λ k d below. elim (cases_lt k n) [
         | inl early ↦ c.loop-n.invariant.values k d early

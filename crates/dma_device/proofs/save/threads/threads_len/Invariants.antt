@@ -1,7 +1,6 @@
 use Rattle.std.proofs.Common.{◌≡◌, ℕ, ◌*◌, ◌<◌, ◌≤◌, get_or, length, take}
 use Rattle.std.specs.List.{flat_map}
-use Rattle.dma_device.specs.Snapshot.{IsThreadValue, saved_thread}
-use Rattle.dma_device.specs.declared.thread.Thread.{Thread}
+use Rattle.dma_device.specs.{Snapshot.IsThreadValue, Snapshot.saved_thread, declared.thread.Thread.Thread}
 use Rattle.dma_device.proofs.save.threads.threads_len.Given as goal
 
 abbrev pub invariant-loop-n : goal.invariant-loop-n

@@ -1,24 +1,15 @@
 use Rattle.std.proofs.Common.{◌≡◌, ◌∙◌, ◌+◌, ◌-◌, ◌/◌, ◌%◌, ◌^◌, ◌++◌, ℕ, List, Some, ap, arith, drop, length, subst, sym, take, true≢false}
-use Rattle.std.proofs.lemmas.Grind.{common_steps}
-use Rattle.std.specs.Prelude.{nat_eq}
-use Rattle.std.proofs.Math.Seq.{take-add}
-use Rattle.std.proofs.lemmas.Bool.Decides.{Decides-eqb}
 use Rattle.std.proofs.lemmas.List.{length-drop, length-take}
-use Rattle.std.proofs.lemmas.Slice.Eq.{slice_eq-Decides}
+use Rattle.std.proofs.{lemmas.Grind.common_steps, Math.Seq.take-add, lemmas.Bool.Decides.Decides-eqb, lemmas.Slice.Eq.slice_eq-Decides}
+use Rattle.std.specs.Prelude.{nat_eq}
 use Rattle.dma_insn.specs.ControlWord.{flag}
-use Rattle.dma_chan.specs.declared.bus.Bus.{Bus}
-use Rattle.dma_chan.specs.declared.bus.Bus.TheVariants.{Chip}
-use Rattle.dma_chan.specs.declared.bus.BusWidth.{BusWidth}
 use Rattle.dma_chan.specs.Channel.{ChannelValue, on_bus}
-use Rattle.dma_chan.specs.Saved.{saved}
+use Rattle.dma_chan.specs.{declared.bus.Bus.Bus, declared.bus.Bus.TheVariants.Chip, declared.bus.BusWidth.BusWidth, Saved.saved}
 use Rattle.dma_device.specs.Snapshot.{IsThreadValue, saved_thread, thread_bytes}
-use Rattle.dma_device.specs.Thread.{IsOn, IsSound}
-use Rattle.dma_device.specs.declared.thread.Status.{Status}
-use Rattle.dma_device.specs.declared.thread.Thread.{Thread}
-use Rattle.dma_device.proofs.Sound.{reset_is_on}
+use Rattle.dma_device.specs.{Thread.IsOn, Thread.IsSound, declared.thread.Status.Status, declared.thread.Thread.Thread}
 use Rattle.dma_device.proofs.SavedDevices.{bit_back, tail_is, thread_found, thread_length}
+use Rattle.dma_device.proofs.{Sound.reset_is_on, thread.Thread.restore.Goals.After-is_possible}
 use Rattle.dma_device.proofs.thread.Thread.restore.Goals as goal
-use Rattle.dma_device.proofs.thread.Thread.restore.Goals.{After-is_possible}
 
 -- a thread of what is read
 abbrev read : ChannelValue → Status → ℕ → ℕ → ℕ → ℕ → Thread
@@ -31,7 +22,8 @@ read channel status fault word base pc = record {
   pc = pc;
 }
 
-read_is : (t : Thread) (channel : ChannelValue) (status : Status) (fault word base pc : ℕ) → channel ≡ t.channel → status ≡ t.status → fault ≡ t.fault → word / 2 ^ 21 % 2 ≡ flag t.nonsecure → base ≡ t.base → pc ≡ t.pc → read channel status fault word base pc ≡ t
+read_is : (t : Thread) (channel : ChannelValue) (status : Status) (fault word base pc : ℕ) → channel ≡ t.channel → status ≡ t.status → fault ≡ t.fault
+    → word / 2 ^ 21 % 2 ≡ flag t.nonsecure → base ≡ t.base → pc ≡ t.pc → read channel status fault word base pc ≡ t
 read_is t channel status fault word base pc a b d n e f = grind (arith, common_steps, bit_back)
 
 -- a channel on this bus already
@@ -59,21 +51,26 @@ returns-in_default-restore-clause-all c t rest v on e =
     let bytes = c.args.bytes.now in
     let found = thread_found c.args.config.events t rest bytes c.requires.few v e in
     let len = c.u32_at-len.ensures ∙ found.fields.len in
-    let channel = c.in_default-restore.ensures.all t.channel v.channel (ap (λ (n : ℕ). take n (take (length bytes - 20) (drop 20 bytes))) len ∙ ap (take (length (saved t.channel))) (tail_is 20 bytes) ∙ found.channel) in
+    let channel = c.in_default-restore.ensures.all t.channel v.channel
+    (ap (λ (n : ℕ). take n (take (length bytes - 20) (drop 20 bytes))) len ∙ ap (take (length (saved t.channel))) (tail_is 20 bytes) ∙ found.channel) in
     absurd (true≢false (sym channel.0))
 
 -- the thread that is read is the saved one
-was_saved : (c : After-is_possible) (t : Thread) (rest : List ℕ) → IsThreadValue c.args.config.events t → IsOn c.args.config.bus t → c.args.bytes.now ≡ saved_thread t ++ rest → (c.u32_at-len.result ≡ length (saved t.channel)) × (read c.restore.new.self c.in-Some.status c.u32_at-self.result c.u32_at-csr.result c.u32_at-self-2.result c.u32_at-self-3.result ≡ t)
+was_saved : (c : After-is_possible) (t : Thread) (rest : List ℕ) → IsThreadValue c.args.config.events t → IsOn c.args.config.bus t
+    → c.args.bytes.now ≡ saved_thread t ++ rest → (c.u32_at-len.result ≡ length (saved t.channel))
+    × (read c.restore.new.self c.in-Some.status c.u32_at-self.result c.u32_at-csr.result c.u32_at-self-2.result c.u32_at-self-3.result ≡ t)
 was_saved c t rest v on e =
     let bytes = c.args.bytes.now in
     let found = thread_found c.args.config.events t rest bytes c.requires.few v e in
     let len = c.u32_at-len.ensures ∙ found.fields.len in
-    let channel = c.in-Ok.ensures.all t.channel v.channel (ap (λ (n : ℕ). take n (take (length bytes - 20) (drop 20 bytes))) len ∙ ap (take (length (saved t.channel))) (tail_is 20 bytes) ∙ found.channel) in
+    let channel = c.in-Ok.ensures.all t.channel v.channel
+    (ap (λ (n : ℕ). take n (take (length bytes - 20) (drop 20 bytes))) len ∙ ap (take (length (saved t.channel))) (tail_is 20 bytes) ∙ found.channel) in
     let status : c.in-Some.status ≡ t.status = cc (c.in-Some.ensures t.status (ap (λ (n : ℕ). n % 512) c.u32_at-csr.ensures ∙ found.fields.status)) in
     let word = ap (λ (n : ℕ). n / 2 ^ 21 % 2) c.u32_at-csr.ensures ∙ found.fields.nonsecure in (
       len,
       read_is t c.restore.new.self c.in-Some.status c.u32_at-self.result c.u32_at-csr.result c.u32_at-self-2.result c.u32_at-self-3.result
-          (channel.1 ∙ on_bus_same c.args.config.bus t on) status (c.u32_at-self.ensures ∙ found.fields.fault) word (c.u32_at-self-2.ensures ∙ found.fields.base) (c.u32_at-self-3.ensures ∙ found.fields.pc),
+          (channel.1 ∙ on_bus_same c.args.config.bus t on) status (c.u32_at-self.ensures ∙ found.fields.fault) word
+          (c.u32_at-self-2.ensures ∙ found.fields.base) (c.u32_at-self-3.ensures ∙ found.fields.pc),
     )
 
 pub returns-then-not-is_possible-clause-all : goal.returns-then-not-is_possible-clause-all
@@ -94,7 +91,8 @@ returns-then-eq-clause-found c =
     let new = read c.restore.new.self c.in-Some.status c.u32_at-self.result c.u32_at-csr.result c.u32_at-self-2.result c.u32_at-self-3.result in
     let same = (slice_eq-Decides Decides-eqb _ _ _ c.eq.ensures).0 c.if-eq.true in
     let head : take 20 bytes ≡ thread_bytes new len = sym same ∙ c.as_slice.ensures.value ∙ c.head_bytes-again.ensures.bytes in
-    let count : len ≡ length (saved new.channel) = omega (arith, ap length channel, length-take len (drop 20 bytes), ap length (tail_is 20 bytes), c.if-rest-len.false) in
+    let count : len ≡ length (saved new.channel) =
+    omega (arith, ap length channel, length-take len (drop 20 bytes), ap length (tail_is 20 bytes), c.if-rest-len.false) in
     take-add 20 len bytes ∙ ap (λ (l : List ℕ). l ++ take len (drop 20 bytes)) head
     ∙ ap (λ (l : List ℕ). thread_bytes new len ++ l) channel
     ∙ ap (λ (n : ℕ). thread_bytes new n ++ saved new.channel) count

@@ -26,10 +26,14 @@ pub returns-then-meets_any-2 : goal.returns-then-meets_any-2
 returns-then-meets_any-2 c =
     let r = c.args.ranges.now in
     let other = c.in-Start.transfer.now in
-    let first : c.meets_any.result ≡ share (destinations other) (places r.destinations) = c.meets_any.ensures ∙ ap (λ l. share (places l) (places r.destinations)) c.dst.ensures.segments in
-    let writes : c.if-meets_any.value ≡ (share (destinations other) (places r.destinations) || share (destinations other) (places r.sources)) = elim c.if-meets_any.branch [
+    let first : c.meets_any.result ≡ share (destinations other) (places r.destinations) = c.meets_any.ensures
+    ∙ ap (λ l. share (places l) (places r.destinations)) c.dst.ensures.segments in
+    let writes : c.if-meets_any.value ≡ (share (destinations other) (places r.destinations) || share (destinations other) (places r.sources)) =
+    elim c.if-meets_any.branch [
       | then-meets_any w ↦ w.value-is ∙ or_first c.meets_any.result _ _ first w.if-meets_any.true
-      | else-meets_any w ↦ w.value-is ∙ or_second c.meets_any.result _ _ _ first w.if-meets_any.false (w.meets_any-else-meets_any.ensures ∙ ap (λ l. share (places l) (places r.sources)) w.dst-else-meets_any.ensures.segments)
+      | else-meets_any w ↦ w.value-is
+          ∙ or_second c.meets_any.result _ _ _ first w.if-meets_any.false
+          (w.meets_any-else-meets_any.ensures ∙ ap (λ l. share (places l) (places r.sources)) w.dst-else-meets_any.ensures.segments)
     ] in
     let is = or_first c.if-meets_any.value _ (share (sources other) (places r.destinations)) writes c.if-meets_any-2.true in
     rw c.in-Start.is (λ t h. start_way r t other c.if-meets_any.value h is)
@@ -38,12 +42,18 @@ pub returns-else-meets_any-2 : goal.returns-else-meets_any-2
 returns-else-meets_any-2 c =
     let r = c.args.ranges.now in
     let other = c.in-Start.transfer.now in
-    let first : c.meets_any.result ≡ share (destinations other) (places r.destinations) = c.meets_any.ensures ∙ ap (λ l. share (places l) (places r.destinations)) c.dst.ensures.segments in
-    let writes : c.if-meets_any.value ≡ (share (destinations other) (places r.destinations) || share (destinations other) (places r.sources)) = elim c.if-meets_any.branch [
+    let first : c.meets_any.result ≡ share (destinations other) (places r.destinations) = c.meets_any.ensures
+    ∙ ap (λ l. share (places l) (places r.destinations)) c.dst.ensures.segments in
+    let writes : c.if-meets_any.value ≡ (share (destinations other) (places r.destinations) || share (destinations other) (places r.sources)) =
+    elim c.if-meets_any.branch [
       | then-meets_any w ↦ w.value-is ∙ or_first c.meets_any.result _ _ first w.if-meets_any.true
-      | else-meets_any w ↦ w.value-is ∙ or_second c.meets_any.result _ _ _ first w.if-meets_any.false (w.meets_any-else-meets_any.ensures ∙ ap (λ l. share (places l) (places r.sources)) w.dst-else-meets_any.ensures.segments)
+      | else-meets_any w ↦ w.value-is
+          ∙ or_second c.meets_any.result _ _ _ first w.if-meets_any.false
+          (w.meets_any-else-meets_any.ensures ∙ ap (λ l. share (places l) (places r.sources)) w.dst-else-meets_any.ensures.segments)
     ] in
-    let listed : c.meets_any-else-meets_any-2.result ≡ share (places other.src) (places r.destinations) = rw (← c.src.ensures.segments) (search (rules, c.meets_any-else-meets_any-2.ensures)) in
-    let reads : c.meets_any-else-meets_any-2.result ≡ share (sources other) (places r.destinations) = listed ∙ sym (sources_share other (places r.destinations) c.src.ensures.rules) in
+    let listed : c.meets_any-else-meets_any-2.result ≡ share (places other.src) (places r.destinations) =
+    rw (← c.src.ensures.segments) (search (rules, c.meets_any-else-meets_any-2.ensures)) in
+    let reads : c.meets_any-else-meets_any-2.result ≡ share (sources other) (places r.destinations) = listed
+    ∙ sym (sources_share other (places r.destinations) c.src.ensures.rules) in
     let is = or_second c.if-meets_any.value c.meets_any-else-meets_any-2.result _ _ writes c.if-meets_any-2.false reads in
     rw c.in-Start.is (λ t h. start_way r t other c.meets_any-else-meets_any-2.result h is)

@@ -1,18 +1,11 @@
 use Rattle.std.proofs.Common.{◌≡◌, ◌<◌, ◌∙◌, ap, length, map, arith, List, true}
-use Rattle.std.specs.Vec.{with_items}
+use Rattle.std.specs.{Vec.with_items, Prelude.slice_index_or}
 use Rattle.std.proofs.lemmas.List.{with_items_is, length-map, get_or_default}
-use Rattle.std.specs.Prelude.{slice_index_or}
-use Rattle.dma_engine.specs.Answer.{first_running}
-use Rattle.dma_engine.specs.inner.Holds.{view_of, queue_forgotten}
+use Rattle.dma_engine.specs.{Answer.first_running, inner.Holds.view_of, inner.Holds.queue_forgotten, declared.call.Reply.TheVariants.Done}
+use Rattle.dma_engine.specs.{declared.fault.EngineFault.TheVariants.NoMemory, declared.queue.Queue.Queue, inner.Inside.parts_of}
 use Rattle.dma_mem.specs.declared.call.Call.TheVariants.{Checkpoint}
-use Rattle.dma_engine.specs.declared.call.Reply.TheVariants.{Done}
-use Rattle.dma_engine.specs.declared.fault.EngineFault.TheVariants.{NoMemory}
-use Rattle.dma_engine.specs.declared.queue.Queue.{Queue}
-use Rattle.dma_engine.specs.inner.Inside.{parts_of}
-use Rattle.dma_engine.proofs.Boards.{queue_small}
 use Rattle.dma_engine.proofs.CallCases.{checkpoint_done, checkpoint_refused, checkpoint_starved, named_none, refusal}
-use Rattle.dma_engine.proofs.Checkpoint.{holds_next, no_room_next, view_next}
-use Rattle.dma_engine.proofs.Queues.{holds_at}
+use Rattle.dma_engine.proofs.{Boards.queue_small, Checkpoint.holds_next, Checkpoint.no_room_next, Checkpoint.view_next, Queues.holds_at}
 use Rattle.dma_engine.proofs.engine.Engine.checkpoint.Goals as goal
 
 pub returns-in-Some-clause-answer : goal.returns-in-Some-clause-answer
@@ -41,7 +34,8 @@ invariant_of-self c =
     let base = rw (← c.self.view_is) at c.in_ok-base.ensures in
     let none = named_none (first_running (view_of p) (λ _. true)) (rw (← c.self.view_is) at c.in_default.ensures) in
     let vec = c.self.inside.queues in
-    let forgotten : c.forget_all.new.queues ≡ map queue_forgotten vec.items = c.forget_all.ensures ∙ ap (λ (l : List Queue). map queue_forgotten l) c.deref_mut.ensures.value in
+    let forgotten : c.forget_all.new.queues ≡ map queue_forgotten vec.items = c.forget_all.ensures
+    ∙ ap (λ (l : List Queue). map queue_forgotten l) c.deref_mut.ensures.value in
     let many : length c.forget_all.new.queues ≡ vec.len = omega (arith, ap length forgotten, length-map vec.items queue_forgotten, vec.ok.0) in
     let all : (with_items vec c.forget_all.new.queues).items ≡ map queue_forgotten vec.items = with_items_is vec c.forget_all.new.queues many ∙ forgotten in
     rw (all, base, c.new.ensures.items) (holds_next p c.self.invariant none)
@@ -52,7 +46,8 @@ returns-clause-answer c =
     let base = rw (← c.self.view_is) at c.in_ok-base.ensures in
     let none = named_none (first_running (view_of p) (λ _. true)) (rw (← c.self.view_is) at c.in_default.ensures) in
     let vec = c.self.inside.queues in
-    let forgotten : c.forget_all.new.queues ≡ map queue_forgotten vec.items = c.forget_all.ensures ∙ ap (λ (l : List Queue). map queue_forgotten l) c.deref_mut.ensures.value in
+    let forgotten : c.forget_all.new.queues ≡ map queue_forgotten vec.items = c.forget_all.ensures
+    ∙ ap (λ (l : List Queue). map queue_forgotten l) c.deref_mut.ensures.value in
     let many : length c.forget_all.new.queues ≡ vec.len = omega (arith, ap length forgotten, length-map vec.items queue_forgotten, vec.ok.0) in
     let all : (with_items vec c.forget_all.new.queues).items ≡ map queue_forgotten vec.items = with_items_is vec c.forget_all.new.queues many ∙ forgotten in
     rw (← c.self.view_is, all, base, c.new.ensures.items)
@@ -61,7 +56,8 @@ returns-clause-answer c =
 pub returns-clause-room : goal.returns-clause-room
 returns-clause-room c =
     let vec = c.self.inside.queues in
-    let forgotten : c.forget_all.new.queues ≡ map queue_forgotten vec.items = c.forget_all.ensures ∙ ap (λ (l : List Queue). map queue_forgotten l) c.deref_mut.ensures.value in
+    let forgotten : c.forget_all.new.queues ≡ map queue_forgotten vec.items = c.forget_all.ensures
+    ∙ ap (λ (l : List Queue). map queue_forgotten l) c.deref_mut.ensures.value in
     let many : length c.forget_all.new.queues ≡ vec.len = omega (arith, ap length forgotten, length-map vec.items queue_forgotten, vec.ok.0) in
     let all : (with_items vec c.forget_all.new.queues).items ≡ map queue_forgotten vec.items = with_items_is vec c.forget_all.new.queues many ∙ forgotten in
     (omega (arith, c.new.ensures.capacity, c.new.ensures.len), λ ch. rw all (no_room_next vec.items ch))

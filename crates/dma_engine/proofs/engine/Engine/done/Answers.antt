@@ -1,7 +1,6 @@
 use Rattle.std.proofs.Common.{◌<◌, arith, length, sym}
 use Rattle.dma_engine.specs.inner.Inside.{parts_of}
-use Rattle.dma_engine.proofs.StartsAndEnds.{stored_small}
-use Rattle.dma_engine.proofs.Queues.{holds_at, many_queues}
+use Rattle.dma_engine.proofs.{StartsAndEnds.stored_small, Queues.holds_at, Queues.many_queues}
 use Rattle.dma_engine.proofs.engine.Engine.done.Goals as goal
 
 pub overflow_cast-result : goal.overflow_cast-result

@@ -1,11 +1,8 @@
-use Rattle.std.proofs.lemmas.Grind.{common_steps}
 use Rattle.std.proofs.Common.{◌<◌, ◌∙◌, sym, arith, length}
+use Rattle.std.proofs.lemmas.Grind.{common_steps}
 use Rattle.dma_chan.proofs.LayerLaws.{ahead_is}
-use Rattle.dma_engine.specs.inner.Due.{IsNext}
-use Rattle.dma_engine.specs.inner.Inside.{parts_of}
-use Rattle.dma_engine.proofs.Fronts.{running}
-use Rattle.dma_engine.proofs.Queues.{holds_at}
-use Rattle.dma_engine.proofs.StepCases.{ahead_member, make_due}
+use Rattle.dma_engine.specs.{inner.Due.IsNext, inner.Inside.parts_of}
+use Rattle.dma_engine.proofs.{Fronts.running, Queues.holds_at, StepCases.ahead_member, StepCases.make_due}
 use Rattle.dma_engine.proofs.engine.Engine.due.Goals as goal
 
 pub unreachable-requires : goal.unreachable-requires

@@ -1,17 +1,9 @@
 use Rattle.std.proofs.Common.{rules, ◌≢◌, ◌∙◌, ap, sym}
 use Rattle.std.specs.Prelude.{is_some}
 use Rattle.dma_insn.specs.declared.chip.ChipInsn.TheVariants.{End}
-use Rattle.dma_chan.specs.Exec.{fault_in}
-use Rattle.dma_chan.specs.Layer.{effect_of}
-use Rattle.dma_chan.specs.Traffic.{member, read_places, written_places}
-use Rattle.dma_engine.specs.inner.Due.{IsNext}
-use Rattle.dma_engine.specs.inner.Holds.{view_of}
-use Rattle.dma_engine.specs.inner.Inside.{parts_of}
-use Rattle.dma_engine.specs.Turn.{Stepped, ends, turn}
-use Rattle.dma_engine.specs.View.{EngineState}
-use Rattle.dma_engine.proofs.Instructions.{shared, the_step}
-use Rattle.dma_engine.proofs.Rooms.{ends_insn}
-use Rattle.dma_engine.proofs.StepCases.{due, due_ahead}
+use Rattle.dma_chan.specs.{Exec.fault_in, Layer.effect_of, Traffic.member, Traffic.read_places, Traffic.written_places}
+use Rattle.dma_engine.specs.{inner.Due.IsNext, inner.Holds.view_of, inner.Inside.parts_of, Turn.Stepped, Turn.ends, Turn.turn, View.EngineState}
+use Rattle.dma_engine.proofs.{Instructions.shared, Instructions.the_step, Rooms.ends_insn, StepCases.due, StepCases.due_ahead}
 use Rattle.dma_engine.proofs.engine.Engine.ending.Goals as goal
 
 pub failing_at-requires : goal.failing_at-requires

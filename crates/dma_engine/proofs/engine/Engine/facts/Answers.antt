@@ -1,6 +1,5 @@
 use Rattle.std.proofs.Common.{◌<◌, ◌^◌, subst}
-use Rattle.dma_engine.specs.Object.{finished_all}
-use Rattle.dma_engine.specs.View.{EngineState, object_of}
+use Rattle.dma_engine.specs.{Object.finished_all, View.EngineState, View.object_of}
 use Rattle.dma_engine.proofs.CookieCounts.{finished_bounded}
 use Rattle.dma_engine.proofs.engine.Engine.facts.Goals as goal
 

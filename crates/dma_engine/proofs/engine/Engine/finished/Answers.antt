@@ -1,8 +1,7 @@
 use Rattle.std.proofs.Common.{◌<◌, arith, length, sym}
 use Rattle.std.proofs.lemmas.Bool.{ltb-true}
 use Rattle.dma_engine.specs.inner.Inside.{parts_of}
-use Rattle.dma_engine.proofs.Boards.{queue_small}
-use Rattle.dma_engine.proofs.Queues.{holds_at}
+use Rattle.dma_engine.proofs.{Boards.queue_small, Queues.holds_at}
 use Rattle.dma_engine.proofs.engine.Engine.finished.Goals as goal
 
 pub finished-requires : goal.finished-requires

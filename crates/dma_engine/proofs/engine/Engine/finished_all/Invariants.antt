@@ -1,7 +1,6 @@
 use Rattle.std.proofs.Common.{◌≡◌, ◌≤◌, ◌*◌, take}
 use Rattle.std.specs.List.{sum_by}
-use Rattle.dma_engine.specs.Object.{finished}
-use Rattle.dma_engine.specs.View.{object_of}
+use Rattle.dma_engine.specs.{Object.finished, View.object_of}
 use Rattle.dma_engine.proofs.engine.Engine.finished_all.Given as goal
 
 abbrev pub invariant-loop-ch : goal.invariant-loop-ch

@@ -1,18 +1,11 @@
 use Rattle.std.proofs.Common.{rules, ◌≡◌, ◌<◌, ◌+◌, ap, sym, ◌∙◌, subst, arith, length, Option}
-use Rattle.dma_engine.specs.declared.access.Ranges.{Ranges}
-use Rattle.dma_engine.specs.inner.Holds.{view_of}
-use Rattle.dma_engine.specs.inner.Inside.{parts_of}
-use Rattle.dma_engine.specs.Object.{channel, finished}
-use Rattle.dma_engine.specs.inner.Ranges.{AreOfRunning}
 use Rattle.dma_engine.specs.View.{EngineState, object_of, channels, runs}
-use Rattle.dma_engine.specs.inner.Accesses.{named, conflicts}
-use Rattle.dma_engine.proofs.Boards.{queue_small}
+use Rattle.dma_engine.specs.{declared.access.Ranges.Ranges, inner.Holds.view_of, inner.Inside.parts_of, Object.channel, Object.finished}
+use Rattle.dma_engine.specs.{inner.Ranges.AreOfRunning, inner.Accesses.named, inner.Accesses.conflicts}
 use Rattle.dma_engine.proofs.Conflicts.{nothing_there, passed_over, way_here}
-use Rattle.dma_engine.proofs.Queues.{holds_at, many_queues}
-use Rattle.dma_engine.proofs.Sizes.{few_queues}
-use Rattle.dma_engine.proofs.WhatRuns.{find_all, find_none_more}
+use Rattle.dma_engine.proofs.{Boards.queue_small, Queues.holds_at, Queues.many_queues, Sizes.few_queues, WhatRuns.find_all, WhatRuns.find_none_more}
+use Rattle.dma_engine.proofs.{engine.Engine.first_conflict.Goals.in-Some+else-conflicts_with, engine.Engine.first_conflict.Goals.in_default}
 use Rattle.dma_engine.proofs.engine.Engine.first_conflict.Goals as goal
-use Rattle.dma_engine.proofs.engine.Engine.first_conflict.Goals.{in-Some+else-conflicts_with, in_default}
 
 pub overflow_cast-result : goal.overflow_cast-result
 overflow_cast-result c =
@@ -43,11 +36,17 @@ returns-then-conflicts_with c =
     let many = many_queues p c.self.invariant ∙ ap (λ (s : EngineState). channels s.view) c.self.view_is in
     let less : i < length (object_of v).channels = omega (arith, many, inside) in
     let at = holds_at p c.self.invariant i q inside c.index-queue.ensures in
-    let done : c.finished-cookie.result ≡ finished (channel (object_of (view_of p)) i) = omega (arith, c.finished-cookie.ensures, at.tied.forgotten, ap length at.tied.outcomes) in
-    let number : c.finished-cookie.result + 1 ≡ finished (channel (object_of v) i) + 1 = ap (λ n. n + 1) (done ∙ ap (λ (s : EngineState). finished (channel (object_of s.view) i)) c.self.view_is) in
+    let done : c.finished-cookie.result ≡ finished (channel (object_of (view_of p)) i) =
+    omega (arith, c.finished-cookie.ensures, at.tied.forgotten, ap length at.tied.outcomes) in
+    let number : c.finished-cookie.result + 1 ≡ finished (channel (object_of v) i) + 1 =
+    ap (λ n. n + 1) (done ∙ ap (λ (s : EngineState). finished (channel (object_of s.view) i)) c.self.view_is) in
     let kept = subst (λ (s : EngineState). AreOfRunning q.ranges (runs (object_of s.view) s.view.schedule i)) c.self.view_is at.ranges in
     let there = subst (λ (o : Option Ranges). AreOfRunning o (runs (object_of v) v.schedule i)) (sym c.in-Some.ensures) kept in
-    search (rules, way_here (conflicts c.args.access.now) (object_of v) v.schedule i (c.finished-cookie.result + 1) c.in-Some.ranges.now less c.loop-index.invariant there number c.if-conflicts_with.ensures)
+    search (
+      rules,
+      way_here (conflicts c.args.access.now) (object_of v) v.schedule i (c.finished-cookie.result + 1) c.in-Some.ranges.now less
+          c.loop-index.invariant there number c.if-conflicts_with.ensures,
+    )
 
 pub loop-index-preserved : goal.loop-index-preserved
 loop-index-preserved c =
@@ -62,7 +61,8 @@ loop-index-preserved c =
     let kept = subst (λ (s : EngineState). AreOfRunning q.ranges (runs (object_of s.view) s.view.schedule i)) c.self.view_is at.ranges in
     find_none_more (λ r. test r.transfer) (object_of v) v.schedule i c.loop-index.invariant
     (elim c.match-ranges.branch [
-      | in-Some+else-conflicts_with w ↦ passed_over test x w.in-Some.ranges.now (subst (λ (o : Option Ranges). AreOfRunning o x) (sym w.in-Some.ensures) kept) w.if-conflicts_with.ensures
+      | in-Some+else-conflicts_with w ↦
+          passed_over test x w.in-Some.ranges.now (subst (λ (o : Option Ranges). AreOfRunning o x) (sym w.in-Some.ensures) kept) w.if-conflicts_with.ensures
       | in_default w ↦ nothing_there test x (subst (λ (o : Option Ranges). AreOfRunning o x) (sym w.in_default.ensures) kept)
     ])
 
@@ -71,5 +71,6 @@ returns c =
     let v = c.args.self.now.view in
     let test = conflicts c.args.access.now in
     let many = many_queues (parts_of c.self.inside) c.self.invariant ∙ ap (λ (s : EngineState). channels s.view) c.self.view_is in
-    let all : length (object_of v).channels ≡ c.loop-index.index = omega (arith, many, c.loop-index-test.false, c.len-index-end.ensures, c.self.inside.queues.ok.0) in
+    let all : length (object_of v).channels ≡ c.loop-index.index =
+    omega (arith, many, c.loop-index-test.false, c.len-index-end.ensures, c.self.inside.queues.ok.0) in
     sym (ap named (find_all (λ r. test r.transfer) (object_of v) v.schedule c.loop-index.index all c.loop-index.invariant))

@@ -1,6 +1,5 @@
 use Rattle.std.proofs.Common.{◌≡◌, None, find}
-use Rattle.dma_engine.specs.View.{object_of}
-use Rattle.dma_engine.specs.inner.Accesses.{conflicts}
+use Rattle.dma_engine.specs.{View.object_of, inner.Accesses.conflicts}
 use Rattle.dma_engine.proofs.WhatRuns.{below}
 use Rattle.dma_engine.proofs.engine.Engine.first_conflict.Given as goal
 

@@ -1,14 +1,8 @@
 use Rattle.std.proofs.Common.{◌≡◌, ◌<◌, ◌≤◌, ◌∙◌, ap, arith, length, sym}
-use Rattle.std.proofs.lemmas.Bool.{ltb-true}
-use Rattle.std.proofs.lemmas.List.{get_or_past}
-use Rattle.dma_engine.specs.inner.Inside.{parts_of}
-use Rattle.dma_engine.specs.Object.{channel, empty_channel, finished}
-use Rattle.dma_engine.specs.Ticks.{Counts, board_of, counts}
-use Rattle.dma_engine.specs.View.{EngineState}
-use Rattle.dma_engine.proofs.Boards.{counts_at}
-use Rattle.dma_engine.proofs.OutcomesStay.{forgotten_stays}
-use Rattle.dma_engine.proofs.Queues.{holds_at, many_queues}
-use Rattle.dma_engine.proofs.Sizes.{many_channels}
+use Rattle.std.proofs.{lemmas.Bool.ltb-true, lemmas.List.get_or_past}
+use Rattle.dma_engine.specs.{inner.Inside.parts_of, Object.channel, Object.empty_channel, Object.finished, Ticks.Counts, Ticks.board_of, Ticks.counts}
+use Rattle.dma_engine.specs.{View.EngineState}
+use Rattle.dma_engine.proofs.{Boards.counts_at, OutcomesStay.forgotten_stays, Queues.holds_at, Queues.many_queues, Sizes.many_channels}
 use Rattle.dma_engine.proofs.engine.Engine.forgotten.Goals as goal
 
 pub returns-in-Some-clause-base : goal.returns-in-Some-clause-base
@@ -20,7 +14,8 @@ returns-in-Some-clause-base c =
     let less : i < length queues = ltb-true i (length queues) (sym found.0) in
     let at = holds_at p c.self.invariant i c.in-Some.queue.now less found.1 in
     let none : length (channel p.base i).outcomes ≡ 0 = ap length (c.self.invariant.sound.opens.each i).outcomes in
-    let same : c.forgotten.result ≡ finished (channel p.base i) = omega (arith, c.forgotten.ensures, at.tied.forgotten, forgotten_stays p.base p.history i, none) in
+    let same : c.forgotten.result ≡ finished (channel p.base i) =
+    omega (arith, c.forgotten.ensures, at.tied.forgotten, forgotten_stays p.base p.history i, none) in
     same ∙ sym (ap (λ (x : Counts). x.finished) (counts_at p.base i))
     ∙ ap (λ n. (counts (board_of p.base) n).finished) c.from.ensures
     ∙ ap (λ (s : EngineState). (counts (board_of s.view.base) c.args.ch).finished) c.self.view_is

@@ -1,25 +1,18 @@
 use Rattle.std.proofs.Common.{◌≡◌, ◌-◌, ◌∙◌, ap, arith, refl}
 use Rattle.dma_mem.specs.declared.call.Call.TheVariants.{Issue}
-use Rattle.dma_engine.specs.declared.call.Reply.TheVariants.{Count}
-use Rattle.dma_engine.specs.declared.fault.EngineFault.TheVariants.{NoMemory}
-use Rattle.dma_engine.specs.declared.entry.Entry.TheVariants.{Issued}
-use Rattle.dma_engine.specs.inner.Holds.{view_of}
-use Rattle.dma_engine.specs.inner.Inside.{parts_of}
-use Rattle.dma_engine.specs.Object.{channel, used}
-use Rattle.dma_engine.specs.Turn.{with_entry}
-use Rattle.dma_engine.specs.View.{EngineState, object_of}
-use Rattle.dma_engine.proofs.Boards.{counted_at}
-use Rattle.dma_engine.proofs.CallCases.{issue_answer, issue_done, refusal, starved}
-use Rattle.dma_engine.proofs.QueueCalls.{holds_issued, view_entered}
-use Rattle.dma_engine.proofs.Queues.{HoldsAt, holds_at, queue_there}
+use Rattle.dma_engine.specs.{declared.call.Reply.TheVariants.Count, declared.fault.EngineFault.TheVariants.NoMemory, declared.entry.Entry.TheVariants.Issued}
+use Rattle.dma_engine.specs.{inner.Holds.view_of, inner.Inside.parts_of, Object.channel, Object.used, Turn.with_entry, View.EngineState, View.object_of}
+use Rattle.dma_engine.proofs.{Boards.counted_at, CallCases.issue_answer, CallCases.issue_done, CallCases.refusal, CallCases.starved, QueueCalls.holds_issued}
+use Rattle.dma_engine.proofs.{QueueCalls.view_entered, Queues.HoldsAt, Queues.holds_at, Queues.queue_there, engine.Engine.issue.Goals.After-index_mut-queue}
 use Rattle.dma_engine.proofs.engine.Engine.issue.Goals as goal
-use Rattle.dma_engine.proofs.engine.Engine.issue.Goals.{After-index_mut-queue}
 
 -- the queue that is read
 read : (c : After-index_mut-queue) → HoldsAt (parts_of c.self.inside) c.in_ok-index.index c.index_mut-queue.result.now
 read c =
     let p = parts_of c.self.inside in
-    holds_at p c.self.invariant c.in_ok-index.index c.index_mut-queue.result.now (queue_there p c.args.self.now.view c.args.ch c.in_ok-index.index c.self.invariant (ap (λ (s : EngineState). s.view) c.self.view_is) c.in_ok-index.ensures.there) c.index_mut-queue.ensures.value
+    holds_at p c.self.invariant c.in_ok-index.index c.index_mut-queue.result.now
+    (queue_there p c.args.self.now.view c.args.ch c.in_ok-index.index c.self.invariant (ap (λ (s : EngineState). s.view) c.self.view_is)
+    c.in_ok-index.ensures.there) c.index_mut-queue.ensures.value
 
 pub issue-requires : goal.issue-requires
 issue-requires c =
@@ -37,13 +30,20 @@ returns-clause-answer c =
     let i = c.in_ok-index.index in
     let q = c.index_mut-queue.result.now in
     let at = read (goal.at.returns-clause-answer c).After-index_mut-queue in
-    let counted : q.given - q.issued ≡ used (channel (object_of (view_of p)) i) - (channel (object_of (view_of p)) i).issued = omega (arith, at.tied.issued, at.tied.given) in
+    let counted : q.given - q.issued ≡ used (channel (object_of (view_of p)) i) - (channel (object_of (view_of p)) i).issued =
+    omega (arith, at.tied.issued, at.tied.given) in
     rw (← c.self.view_is, c.issue.ensures.issued, c.push_reserved.ensures.items, c.reserve.ensures.items, ← c.in_ok-index.ensures.there.0)
-    (issue_done (view_of p) _ i _ at.there (c.issue.ensures.count ∙ counted) (view_entered at (record q { issued = q.given }) p.memory p.events (Issued i) refl))
+    (issue_done (view_of p) _ i _ at.there (c.issue.ensures.count ∙ counted)
+    (view_entered at (record q { issued = q.given }) p.memory p.events (Issued i) refl))
 
 pub index_mut-queue-requires : goal.index_mut-queue-requires
 index_mut-queue-requires c =
-    omega (arith, queue_there (parts_of c.self.inside) c.args.self.now.view c.args.ch c.in_ok-index.index c.self.invariant (ap (λ (s : EngineState). s.view) c.self.view_is) c.in_ok-index.ensures.there, c.self.inside.queues.ok.0)
+    omega (
+      arith,
+      queue_there (parts_of c.self.inside) c.args.self.now.view c.args.ch c.in_ok-index.index c.self.invariant
+          (ap (λ (s : EngineState). s.view) c.self.view_is) c.in_ok-index.ensures.there,
+      c.self.inside.queues.ok.0,
+    )
 
 pub invariant_of-self : goal.invariant_of-self
 invariant_of-self c = rw c.reserve.ensures.items c.self.invariant

@@ -1,7 +1,6 @@
 use Rattle.std.proofs.Common.{◌<◌, arith, length}
 use Rattle.dma_engine.specs.inner.Inside.{parts_of}
-use Rattle.dma_engine.proofs.Boards.{queue_small}
-use Rattle.dma_engine.proofs.Queues.{holds_at, many_queues}
+use Rattle.dma_engine.proofs.{Boards.queue_small, Queues.holds_at, Queues.many_queues}
 use Rattle.dma_engine.proofs.engine.Engine.next_channel.Goals as goal
 
 pub finished-requires : goal.finished-requires

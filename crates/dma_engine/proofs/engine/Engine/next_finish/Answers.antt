@@ -1,14 +1,9 @@
 use Rattle.std.proofs.Common.{◌≡◌, Option, ◌+◌, ◌∙◌, None, ap, sym}
 use Rattle.std.specs.Option.{option_map}
 use Rattle.dma_mem.specs.Places.{Descriptor}
-use Rattle.dma_engine.specs.Object.{channel, finished}
-use Rattle.dma_engine.specs.View.{object_of}
-use Rattle.dma_engine.specs.inner.Due.{Finishes, front_with_cookie}
-use Rattle.dma_engine.specs.inner.Holds.{view_of}
-use Rattle.dma_engine.specs.inner.Inside.{parts_of}
-use Rattle.dma_engine.proofs.StartsAndEnds.{finish_is, finish_left, front_with_cookie_law}
-use Rattle.dma_engine.proofs.StepCases.{due_there}
-use Rattle.dma_engine.specs.Turn.{Stepped}
+use Rattle.dma_engine.specs.{Object.channel, Object.finished, View.object_of, inner.Due.Finishes, inner.Due.front_with_cookie, inner.Holds.view_of}
+use Rattle.dma_engine.specs.{inner.Inside.parts_of, Turn.Stepped}
+use Rattle.dma_engine.proofs.{StartsAndEnds.finish_is, StartsAndEnds.finish_left, StartsAndEnds.front_with_cookie_law, StepCases.due_there}
 use Rattle.dma_engine.proofs.engine.Engine.next_finish.Goals as goal
 
 pub unreachable-requires : goal.unreachable-requires

@@ -1,15 +1,9 @@
 use Rattle.std.proofs.Common.{◌≡◌, ◌∙◌, ap, arith}
-use Rattle.dma_engine.specs.declared.entry.Entry.TheVariants.{ReadBack}
+use Rattle.dma_engine.specs.{declared.entry.Entry.TheVariants.ReadBack, declared.fault.EngineFault.TheVariants.NoMemory, declared.call.Reply.TheVariants.Bytes}
+use Rattle.dma_engine.specs.{inner.Holds.view_of, inner.Inside.parts_of, Turn.with_entry, View.View, View.EngineState, View.size}
 use Rattle.dma_mem.specs.declared.call.Call.TheVariants.{Read}
-use Rattle.dma_engine.specs.declared.fault.EngineFault.TheVariants.{NoMemory}
-use Rattle.dma_engine.specs.declared.call.Reply.TheVariants.{Bytes}
-use Rattle.dma_engine.specs.inner.Holds.{view_of}
-use Rattle.dma_engine.specs.inner.Inside.{parts_of}
-use Rattle.dma_engine.specs.Turn.{with_entry}
-use Rattle.dma_engine.specs.View.{View, EngineState, size}
 use Rattle.dma_engine.proofs.CallCases.{read_done, read_starved, refusal}
-use Rattle.dma_engine.proofs.Entries.{holds_read, read_seen}
-use Rattle.dma_engine.proofs.Sizes.{memory_size, size_is}
+use Rattle.dma_engine.proofs.{Entries.holds_read, Entries.read_seen, Sizes.memory_size, Sizes.size_is}
 use Rattle.dma_engine.proofs.engine.Engine.read.Goals as goal
 
 pub bytes_of-requires : goal.bytes_of-requires
@@ -40,7 +34,8 @@ pub invariant_of-self-2 : goal.invariant_of-self-2
 invariant_of-self-2 c =
     let same = c.in_ok-kept.ensures ∙ c.as_slice.ensures in
     rw (c.push_reserved.ensures.items, c.reserve.ensures.items, same)
-    (holds_read (parts_of c.self.inside) c.args.self.now.view c.args.addr c.args.len c.in_ok-answer.answer c.self.invariant (ap (λ (s : EngineState). s.view) c.self.view_is) c.in_ok-check_read.ensures.free c.in_ok-answer.ensures)
+    (holds_read (parts_of c.self.inside) c.args.self.now.view c.args.addr c.args.len c.in_ok-answer.answer c.self.invariant
+    (ap (λ (s : EngineState). s.view) c.self.view_is) c.in_ok-check_read.ensures.free c.in_ok-answer.ensures)
 
 pub returns-clause-answer : goal.returns-clause-answer
 returns-clause-answer c =

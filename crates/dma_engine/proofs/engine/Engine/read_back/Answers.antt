@@ -1,15 +1,9 @@
 use Rattle.std.proofs.Common.{◌≡◌, refl, ◌∙◌, ap, take, drop, arith}
-use Rattle.dma_engine.specs.declared.entry.Entry.TheVariants.{ReadBack}
+use Rattle.dma_engine.specs.{declared.entry.Entry.TheVariants.ReadBack, declared.fault.EngineFault.TheVariants.NoMemory, declared.call.Reply.TheVariants.Bytes}
+use Rattle.dma_engine.specs.{inner.Holds.view_of, inner.Inside.parts_of, Turn.with_entry, View.View, View.EngineState, View.size, View.object_of}
 use Rattle.dma_mem.specs.declared.call.Call.TheVariants.{Read}
-use Rattle.dma_engine.specs.declared.fault.EngineFault.TheVariants.{NoMemory}
-use Rattle.dma_engine.specs.declared.call.Reply.TheVariants.{Bytes}
-use Rattle.dma_engine.specs.inner.Holds.{view_of}
-use Rattle.dma_engine.specs.inner.Inside.{parts_of}
-use Rattle.dma_engine.specs.Turn.{with_entry}
-use Rattle.dma_engine.specs.View.{View, EngineState, size, object_of}
 use Rattle.dma_engine.proofs.CallCases.{read_done, read_starved, refusal}
-use Rattle.dma_engine.proofs.Entries.{holds_read, read_seen}
-use Rattle.dma_engine.proofs.Sizes.{memory_size, size_is}
+use Rattle.dma_engine.proofs.{Entries.holds_read, Entries.read_seen, Sizes.memory_size, Sizes.size_is}
 use Rattle.dma_engine.proofs.engine.Engine.read_back.Goals as goal
 
 pub bytes_of-requires : goal.bytes_of-requires
@@ -23,14 +17,17 @@ returns-in_err-reserve c =
     let v = c.args.self.now.view in
     record {
       answer =
-          refusal (λ _. Bytes (take c.args.len (drop c.args.addr (object_of v).image))) v _ (Read c.args.addr c.args.len) NoMemory c.from_residual-in_err-reserve.result c.from_residual-in_err-reserve.ensures.1
-          (rw c.reserve.ensures.items ((read_starved v c.args.addr c.args.len c.in_ok-check_read.ensures.free).0, ap (λ (s : EngineState). s.view) c.self.view_is));
+          refusal (λ _. Bytes (take c.args.len (drop c.args.addr (object_of v).image))) v _ (Read c.args.addr c.args.len) NoMemory
+          c.from_residual-in_err-reserve.result c.from_residual-in_err-reserve.ensures.1
+          (rw c.reserve.ensures.items
+          ((read_starved v c.args.addr c.args.len c.in_ok-check_read.ensures.free).0, ap (λ (s : EngineState). s.view) c.self.view_is));
     }
 
 pub invariant_of-self-2 : goal.invariant_of-self-2
 invariant_of-self-2 c =
     rw (c.push_reserved.ensures.items, c.reserve.ensures.items)
-    (holds_read (parts_of c.self.inside) c.args.self.now.view c.args.addr c.args.len c.in_ok-bytes.bytes c.self.invariant (ap (λ (s : EngineState). s.view) c.self.view_is) c.in_ok-check_read.ensures.free c.in_ok-bytes.ensures)
+    (holds_read (parts_of c.self.inside) c.args.self.now.view c.args.addr c.args.len c.in_ok-bytes.bytes c.self.invariant
+    (ap (λ (s : EngineState). s.view) c.self.view_is) c.in_ok-check_read.ensures.free c.in_ok-bytes.ensures)
 
 pub returns : goal.returns
 returns c =

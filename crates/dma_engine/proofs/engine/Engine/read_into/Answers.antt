@@ -1,17 +1,10 @@
-use Rattle.dma_mem.specs.Places.{writes}
 use Rattle.std.proofs.Common.{◌≡◌, length, ◌∙◌, ap, drop, arith, refl}
-use Rattle.dma_engine.specs.declared.entry.Entry.TheVariants.{ReadBack}
-use Rattle.dma_mem.specs.declared.call.Call.TheVariants.{Read}
-use Rattle.dma_engine.specs.declared.fault.EngineFault.TheVariants.{NoMemory}
-use Rattle.dma_engine.specs.declared.call.Reply.TheVariants.{Bytes}
-use Rattle.dma_engine.specs.inner.Holds.{view_of}
-use Rattle.dma_engine.specs.inner.Inside.{parts_of}
-use Rattle.dma_engine.specs.Turn.{with_entry}
-use Rattle.dma_engine.specs.View.{View, EngineState, size}
+use Rattle.dma_mem.specs.{Places.writes, declared.call.Call.TheVariants.Read}
+use Rattle.dma_engine.specs.{declared.entry.Entry.TheVariants.ReadBack, declared.fault.EngineFault.TheVariants.NoMemory, declared.call.Reply.TheVariants.Bytes}
+use Rattle.dma_engine.specs.{inner.Holds.view_of, inner.Inside.parts_of, Turn.with_entry, View.View, View.EngineState, View.size}
 use Rattle.std.proofs.lemmas.List.{length-take, length-drop}
 use Rattle.dma_engine.proofs.CallCases.{read_done, range_out, read_starved, refusal}
-use Rattle.dma_engine.proofs.Entries.{holds_read, read_seen}
-use Rattle.dma_engine.proofs.Sizes.{memory_size, size_is}
+use Rattle.dma_engine.proofs.{Entries.holds_read, Entries.read_seen, Sizes.memory_size, Sizes.size_is}
 use Rattle.dma_engine.proofs.engine.Engine.read_into.Goals as goal
 
 pub bytes_of-requires : goal.bytes_of-requires
@@ -31,24 +24,37 @@ copy_from_slice-requires c =
     let p = parts_of c.self.inside in
     let end = size_is p c.self.invariant ∙ ap (λ (s : EngineState). size s.view) c.self.view_is in
     let long = ap length (c.as_slice.ensures ∙ c.in_ok-bytes.ensures) in
-    omega (arith, long, length-take (length c.args.out.now) (drop c.args.addr c.self.inside.memory.image), length-drop c.args.addr c.self.inside.memory.image, memory_size p c.self.invariant, size_is p c.self.invariant, end, c.in_ok-check_read.ensures.within)
+    omega (
+      arith,
+      long,
+      length-take (length c.args.out.now) (drop c.args.addr c.self.inside.memory.image),
+      length-drop c.args.addr c.self.inside.memory.image,
+      memory_size p c.self.invariant,
+      size_is p c.self.invariant,
+      end,
+      c.in_ok-check_read.ensures.within,
+    )
 
 pub returns-in_err-bytes-clause-answer : goal.returns-in_err-bytes-clause-answer
 returns-in_err-bytes-clause-answer c =
     let v = c.args.self.now.view in
-    refusal (λ _. Bytes c.args.out.now) v v (Read c.args.addr (length c.args.out.now)) NoMemory c.from_residual-in_err-bytes.result c.from_residual-in_err-bytes.ensures.1
+    refusal (λ _. Bytes c.args.out.now) v v (Read c.args.addr (length c.args.out.now)) NoMemory c.from_residual-in_err-bytes.result
+    c.from_residual-in_err-bytes.ensures.1
     (read_starved v c.args.addr (length c.args.out.now) c.in_ok-check_read.ensures.free)
 
 pub returns-in_err-reserve-clause-answer : goal.returns-in_err-reserve-clause-answer
 returns-in_err-reserve-clause-answer c =
     let v = c.args.self.now.view in
-    refusal (λ _. Bytes c.args.out.now) v _ (Read c.args.addr (length c.args.out.now)) NoMemory c.from_residual-in_err-reserve.result c.from_residual-in_err-reserve.ensures.1
-    (rw c.reserve.ensures.items ((read_starved v c.args.addr (length c.args.out.now) c.in_ok-check_read.ensures.free).0, ap (λ (s : EngineState). s.view) c.self.view_is))
+    refusal (λ _. Bytes c.args.out.now) v _ (Read c.args.addr (length c.args.out.now)) NoMemory c.from_residual-in_err-reserve.result
+    c.from_residual-in_err-reserve.ensures.1
+    (rw c.reserve.ensures.items
+    ((read_starved v c.args.addr (length c.args.out.now) c.in_ok-check_read.ensures.free).0, ap (λ (s : EngineState). s.view) c.self.view_is))
 
 pub invariant_of-self-2 : goal.invariant_of-self-2
 invariant_of-self-2 c =
     rw (c.push_reserved.ensures.items, c.reserve.ensures.items)
-    (holds_read (parts_of c.self.inside) c.args.self.now.view c.args.addr (length c.args.out.now) c.in_ok-bytes.bytes c.self.invariant (ap (λ (s : EngineState). s.view) c.self.view_is) c.in_ok-check_read.ensures.free c.in_ok-bytes.ensures)
+    (holds_read (parts_of c.self.inside) c.args.self.now.view c.args.addr (length c.args.out.now) c.in_ok-bytes.bytes c.self.invariant
+    (ap (λ (s : EngineState). s.view) c.self.view_is) c.in_ok-check_read.ensures.free c.in_ok-bytes.ensures)
 
 pub returns-clause-answer : goal.returns-clause-answer
 returns-clause-answer c =

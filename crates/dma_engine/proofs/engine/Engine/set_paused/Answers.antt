@@ -1,16 +1,10 @@
 use Rattle.std.proofs.Common.{ap, arith, refl}
 use Rattle.std.specs.Prelude.{if◌then◌else◌}
 use Rattle.dma_mem.specs.declared.call.Call.TheVariants.{Pause, Resume}
-use Rattle.dma_engine.specs.declared.call.Reply.TheVariants.{Done}
-use Rattle.dma_engine.specs.inner.Holds.{view_of}
-use Rattle.dma_engine.specs.inner.Inside.{parts_of}
-use Rattle.dma_engine.specs.View.{EngineState, object_of}
-use Rattle.dma_engine.proofs.CallCases.{paused_done, paused_gone, refusal}
-use Rattle.dma_engine.proofs.QueueCalls.{holds_paused, view_paused}
-use Rattle.dma_engine.proofs.Queues.{HoldsAt, holds_at, queue_there}
-use Rattle.dma_engine.proofs.Rooms.{keeps_room}
+use Rattle.dma_engine.specs.{declared.call.Reply.TheVariants.Done, inner.Holds.view_of, inner.Inside.parts_of, View.EngineState, View.object_of}
+use Rattle.dma_engine.proofs.{CallCases.paused_done, CallCases.paused_gone, CallCases.refusal, QueueCalls.holds_paused, QueueCalls.view_paused, Queues.HoldsAt}
+use Rattle.dma_engine.proofs.{Queues.holds_at, Queues.queue_there, Rooms.keeps_room, engine.Engine.set_paused.Goals.After-index_mut-queue}
 use Rattle.dma_engine.proofs.engine.Engine.set_paused.Goals as goal
-use Rattle.dma_engine.proofs.engine.Engine.set_paused.Goals.{After-index_mut-queue}
 
 pub returns-in_err-index-clause-answer : goal.returns-in_err-index-clause-answer
 returns-in_err-index-clause-answer c =
@@ -22,7 +16,9 @@ returns-in_err-index-clause-answer c =
 read : (c : After-index_mut-queue) → HoldsAt (parts_of c.self.inside) c.in_ok-index.index c.index_mut-queue.result.now
 read c =
     let p = parts_of c.self.inside in
-    holds_at p c.self.invariant c.in_ok-index.index c.index_mut-queue.result.now (queue_there p c.args.self.now.view c.args.ch c.in_ok-index.index c.self.invariant (ap (λ (s : EngineState). s.view) c.self.view_is) c.in_ok-index.ensures.there) c.index_mut-queue.ensures.value
+    holds_at p c.self.invariant c.in_ok-index.index c.index_mut-queue.result.now
+    (queue_there p c.args.self.now.view c.args.ch c.in_ok-index.index c.self.invariant (ap (λ (s : EngineState). s.view) c.self.view_is)
+    c.in_ok-index.ensures.there) c.index_mut-queue.ensures.value
 
 pub invariant_of-self : goal.invariant_of-self
 invariant_of-self c =
@@ -33,14 +29,22 @@ pub returns-clause-answer : goal.returns-clause-answer
 returns-clause-answer c =
     let q = c.index_mut-queue.result.now in
     let at = read (goal.at.returns-clause-answer c).After-index_mut-queue in
-    rw (← c.self.view_is, c.set_paused.ensures, ← c.in_ok-index.ensures.there.0) (paused_done (view_of (parts_of c.self.inside)) _ c.in_ok-index.index c.args.paused at.there (view_paused at q.indices.spare q.outcomes.spare c.args.paused))
+    rw (← c.self.view_is, c.set_paused.ensures, ← c.in_ok-index.ensures.there.0)
+    (paused_done (view_of (parts_of c.self.inside)) _ c.in_ok-index.index c.args.paused at.there
+    (view_paused at q.indices.spare q.outcomes.spare c.args.paused))
 
 pub returns-clause-kept : goal.returns-clause-kept
 returns-clause-kept c =
     let q = c.index_mut-queue.result.now in
     let at = read (goal.at.returns-clause-kept c).After-index_mut-queue in
-    rw c.set_paused.ensures (keeps_room at (record q { paused = c.args.paused }) _ _ _ c.self.view_is (ap object_of (view_paused at q.indices.spare q.outcomes.spare c.args.paused)) (omega arith) refl (omega arith) (omega arith))
+    rw c.set_paused.ensures (keeps_room at (record q { paused = c.args.paused }) _ _ _ c.self.view_is
+    (ap object_of (view_paused at q.indices.spare q.outcomes.spare c.args.paused)) (omega arith) refl (omega arith) (omega arith))
 
 pub index_mut-queue-requires : goal.index_mut-queue-requires
 index_mut-queue-requires c =
-    omega (arith, queue_there (parts_of c.self.inside) c.args.self.now.view c.args.ch c.in_ok-index.index c.self.invariant (ap (λ (s : EngineState). s.view) c.self.view_is) c.in_ok-index.ensures.there, c.self.inside.queues.ok.0)
+    omega (
+      arith,
+      queue_there (parts_of c.self.inside) c.args.self.now.view c.args.ch c.in_ok-index.index c.self.invariant
+          (ap (λ (s : EngineState). s.view) c.self.view_is) c.in_ok-index.ensures.there,
+      c.self.inside.queues.ok.0,
+    )

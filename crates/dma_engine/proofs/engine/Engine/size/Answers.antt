@@ -1,6 +1,5 @@
 use Rattle.std.proofs.Common.{◌∙◌, ap}
-use Rattle.dma_engine.specs.inner.Inside.{parts_of}
-use Rattle.dma_engine.specs.View.{EngineState, size}
+use Rattle.dma_engine.specs.{inner.Inside.parts_of, View.EngineState, View.size}
 use Rattle.dma_engine.proofs.Sizes.{size_is}
 use Rattle.dma_engine.proofs.engine.Engine.size.Goals as goal
 

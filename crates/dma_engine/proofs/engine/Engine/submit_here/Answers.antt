@@ -1,21 +1,19 @@
 use Rattle.std.proofs.Common.{◌≡◌, ap, length, arith, refl, None}
-use Rattle.dma_engine.specs.declared.entry.Entry.TheVariants.{Submitted}
-use Rattle.dma_engine.specs.Answer.{submit_fault}
-use Rattle.dma_engine.specs.inner.Holds.{queue_submitted, view_of}
-use Rattle.dma_engine.specs.inner.Inside.{parts_of}
-use Rattle.dma_engine.specs.View.{EngineState, channels}
+use Rattle.dma_engine.specs.{declared.entry.Entry.TheVariants.Submitted, Answer.submit_fault, inner.Holds.queue_submitted, inner.Holds.view_of}
+use Rattle.dma_engine.specs.{inner.Inside.parts_of, View.EngineState, View.channels}
 use Rattle.dma_engine.proofs.CallCases.{checked_cookie, checked_none, submit_done, submit_open}
-use Rattle.dma_engine.proofs.QueueCalls.{holds_submitted, view_entered}
 use Rattle.dma_engine.proofs.Queues.{HoldsAt, holds_at, many_queues}
+use Rattle.dma_engine.proofs.{QueueCalls.holds_submitted, QueueCalls.view_entered, engine.Engine.submit_here.Goals.After-index_mut-queue}
 use Rattle.dma_engine.proofs.engine.Engine.submit_here.Goals as goal
-use Rattle.dma_engine.proofs.engine.Engine.submit_here.Goals.{After-index_mut-queue}
 
 -- the queue that is read, and what the check says of its channel
 read : (c : After-index_mut-queue) → HoldsAt (parts_of c.self.inside) c.from.result c.index_mut-queue.result.now
 read c =
     let p = parts_of c.self.inside in
-    let none : submit_fault (view_of p) c.from.result c.args.transfer ≡ None = checked_none _ _ _ (rw (← c.self.view_is, ← c.from.ensures) at c.requires.checked) in
-    holds_at p c.self.invariant c.from.result c.index_mut-queue.result.now (omega (arith, many_queues p c.self.invariant, (submit_open (view_of p) c.from.result c.args.transfer none).0)) c.index_mut-queue.ensures.value
+    let none : submit_fault (view_of p) c.from.result c.args.transfer ≡ None =
+    checked_none _ _ _ (rw (← c.self.view_is, ← c.from.ensures) at c.requires.checked) in
+    holds_at p c.self.invariant c.from.result c.index_mut-queue.result.now
+    (omega (arith, many_queues p c.self.invariant, (submit_open (view_of p) c.from.result c.args.transfer none).0)) c.index_mut-queue.ensures.value
 
 pub invariant_of-self-2 : goal.invariant_of-self-2
 invariant_of-self-2 c =
@@ -35,7 +33,8 @@ returns-clause-answer c =
     let at = read (goal.at.returns-clause-answer c).After-index_mut-queue in
     let queue = queue_submitted c.index_mut-queue.result.now c.submit.new.self.indices.spare c.len-index.result c.args.cookie in
     rw (← c.self.view_is, c.push_reserved.ensures.items, c.in-Ok-submit.ensures.submitted, c.reserve.ensures.items, ← c.from.ensures)
-    (submit_done (view_of p) _ i c.args.cookie t (checked_none _ _ _ checked) (checked_cookie _ _ _ checked) (view_entered at queue p.memory p.events (Submitted i t c.args.cookie) refl))
+    (submit_done (view_of p) _ i c.args.cookie t (checked_none _ _ _ checked) (checked_cookie _ _ _ checked)
+    (view_entered at queue p.memory p.events (Submitted i t c.args.cookie) refl))
 
 pub invariant_of-self : goal.invariant_of-self
 invariant_of-self c = rw c.reserve.ensures.items c.self.invariant

@@ -1,29 +1,22 @@
-use Rattle.std.proofs.lemmas.Grind.{common_steps}
 use Rattle.std.proofs.Common.{◌≡◌, ◌∙◌, ap, arith, refl}
+use Rattle.std.proofs.{lemmas.Grind.common_steps, lemmas.List.set-get_or}
 use Rattle.std.specs.Prelude.{slice_set}
-use Rattle.std.proofs.lemmas.List.{set-get_or}
 use Rattle.dma_mem.specs.declared.call.Call.TheVariants.{Terminate}
-use Rattle.dma_engine.specs.declared.call.Reply.TheVariants.{Count}
-use Rattle.dma_engine.specs.declared.entry.Entry.TheVariants.{Terminated}
-use Rattle.dma_engine.specs.declared.fault.EngineFault.TheVariants.{NoMemory}
-use Rattle.dma_engine.specs.inner.Holds.{view_of}
-use Rattle.dma_engine.specs.inner.Inside.{parts_of}
-use Rattle.dma_engine.specs.Object.{channel, unfinished}
-use Rattle.dma_engine.specs.Answer.{done_on, terminated}
-use Rattle.dma_engine.specs.View.{EngineState, object_of}
+use Rattle.dma_engine.specs.{declared.call.Reply.TheVariants.Count, declared.entry.Entry.TheVariants.Terminated}
+use Rattle.dma_engine.specs.{declared.fault.EngineFault.TheVariants.NoMemory, inner.Holds.view_of, inner.Inside.parts_of, Object.channel, Object.unfinished}
+use Rattle.dma_engine.specs.{Answer.done_on, Answer.terminated, View.EngineState, View.object_of}
 use Rattle.dma_engine.proofs.CallCases.{refusal, starved, terminate_answer, terminate_done}
-use Rattle.dma_engine.proofs.StartsAndEnds.{holds_terminated, view_terminated}
-use Rattle.dma_engine.proofs.Queues.{HoldsAt, holds_at, queue_there}
-use Rattle.dma_engine.proofs.Rooms.{unfinished_found}
-use Rattle.dma_engine.proofs.Sizes.{many_channels}
+use Rattle.dma_engine.proofs.{StartsAndEnds.holds_terminated, StartsAndEnds.view_terminated, Queues.HoldsAt, Queues.holds_at, Queues.queue_there}
+use Rattle.dma_engine.proofs.{Rooms.unfinished_found, Sizes.many_channels, engine.Engine.terminate.Goals.After-index_mut-queue}
 use Rattle.dma_engine.proofs.engine.Engine.terminate.Goals as goal
-use Rattle.dma_engine.proofs.engine.Engine.terminate.Goals.{After-index_mut-queue}
 
 -- the queue that is read
 read : (c : After-index_mut-queue) → HoldsAt (parts_of c.self.inside) c.in_ok-index.index c.index_mut-queue.result.now
 read c =
     let p = parts_of c.self.inside in
-    holds_at p c.self.invariant c.in_ok-index.index c.index_mut-queue.result.now (queue_there p c.args.self.now.view c.args.ch c.in_ok-index.index c.self.invariant (ap (λ (s : EngineState). s.view) c.self.view_is) c.in_ok-index.ensures.there) c.index_mut-queue.ensures.value
+    holds_at p c.self.invariant c.in_ok-index.index c.index_mut-queue.result.now
+    (queue_there p c.args.self.now.view c.args.ch c.in_ok-index.index c.self.invariant (ap (λ (s : EngineState). s.view) c.self.view_is)
+    c.in_ok-index.ensures.there) c.index_mut-queue.ensures.value
 
 pub kept-requires : goal.kept-requires
 kept-requires c =
@@ -40,7 +33,17 @@ invariant_of-self-2 c =
     let at = read (goal.at.invariant_of-self-2 c).After-index_mut-queue in
     let done = rw (← c.self.view_is) at c.done-done.ensures in
     let count = rw (← c.in_ok-index.ensures.there.0, ← c.self.view_is) at c.unfinished-count.ensures in
-    rw (c.push_reserved.ensures.items, c.in_ok-terminate.ensures.ended, c.kept.ensures, c.deref.ensures.value, c.reserve.ensures.items, done, count, unfinished_found at, ← c.in_ok-index.ensures.there.0)
+    rw (
+      c.push_reserved.ensures.items,
+      c.in_ok-terminate.ensures.ended,
+      c.kept.ensures,
+      c.deref.ensures.value,
+      c.reserve.ensures.items,
+      done,
+      count,
+      unfinished_found at,
+      ← c.in_ok-index.ensures.there.0,
+    )
     (holds_terminated at c.terminate.new.self.outcomes.spare)
 
 pub returns-clause-answer : goal.returns-clause-answer
@@ -50,12 +53,28 @@ returns-clause-answer c =
     let at = read (goal.at.returns-clause-answer c).After-index_mut-queue in
     let done = rw (← c.self.view_is) at c.done-done.ensures in
     let count = rw (← c.in_ok-index.ensures.there.0, ← c.self.view_is) at c.unfinished-count.ensures in
-    rw (← c.self.view_is, c.push_reserved.ensures.items, c.in_ok-terminate.ensures.ended, c.kept.ensures, c.deref.ensures.value, c.reserve.ensures.items, done, count, ← c.in_ok-index.ensures.there.0)
-    (terminate_done (view_of p) _ i _ at.there refl (view_terminated p i c.terminate.new.self.outcomes.spare c.index_mut-queue.result.now _ c.index_mut-queue.result.now.given))
+    rw (
+      ← c.self.view_is,
+      c.push_reserved.ensures.items,
+      c.in_ok-terminate.ensures.ended,
+      c.kept.ensures,
+      c.deref.ensures.value,
+      c.reserve.ensures.items,
+      done,
+      count,
+      ← c.in_ok-index.ensures.there.0,
+    )
+    (terminate_done (view_of p) _ i _ at.there refl
+    (view_terminated p i c.terminate.new.self.outcomes.spare c.index_mut-queue.result.now _ c.index_mut-queue.result.now.given))
 
 pub index_mut-queue-requires : goal.index_mut-queue-requires
 index_mut-queue-requires c =
-    omega (arith, queue_there (parts_of c.self.inside) c.args.self.now.view c.args.ch c.in_ok-index.index c.self.invariant (ap (λ (s : EngineState). s.view) c.self.view_is) c.in_ok-index.ensures.there, c.self.inside.queues.ok.0)
+    omega (
+      arith,
+      queue_there (parts_of c.self.inside) c.args.self.now.view c.args.ch c.in_ok-index.index c.self.invariant
+          (ap (λ (s : EngineState). s.view) c.self.view_is) c.in_ok-index.ensures.there,
+      c.self.inside.queues.ok.0,
+    )
 
 pub push_reserved-requires : goal.push_reserved-requires
 push_reserved-requires c = omega (arith, c.in_ok-reserve.ensures.ok)
@@ -85,7 +104,8 @@ returns-in_err-terminate-clause-answer c =
     let q = c.index_mut-queue.result.now in
     let there = rw (← c.self.view_is) at c.in_ok-index.ensures.there in
     let count = unfinished (channel (object_of v) ch) in
-    let same : slice_set p.queues i c.terminate.new.self ≡ p.queues = ap (slice_set p.queues i) (c.in_err-terminate.ensures.refused ∙ c.index_mut-queue.ensures.value) ∙ set-get_or p.queues i q in
+    let same : slice_set p.queues i c.terminate.new.self ≡ p.queues =
+    ap (slice_set p.queues i) (c.in_err-terminate.ensures.refused ∙ c.index_mut-queue.ensures.value) ∙ set-get_or p.queues i q in
     rw (same, c.reserve.ensures.items, ← c.self.view_is)
     (refusal (λ n. Count n) v v (Terminate ch) NoMemory c.from_residual-in_err-terminate.result c.from_residual-in_err-terminate.ensures.1
     (starved v (Terminate ch) (Count count) (terminated v ch) (Terminated ch (done_on v ch) count) (terminate_answer v ch there.1) refl))

@@ -1,12 +1,8 @@
 use Rattle.std.proofs.Common.{◌≡◌, ◌<◌, ◌∙◌, Some, None, ap, sym, arith, length}
 use Rattle.std.specs.Prelude.{slice_index_or, unwrap_or}
-use Rattle.dma_engine.specs.inner.Found.{transfer_at}
-use Rattle.dma_engine.specs.inner.Holds.{view_of}
-use Rattle.dma_engine.specs.inner.Inside.{parts_of}
-use Rattle.dma_engine.specs.Object.{channel, no_transfer}
-use Rattle.dma_engine.specs.View.{EngineState, object_of}
-use Rattle.dma_engine.proofs.Queues.{holds_at, many_queues, transfer_found}
-use Rattle.dma_engine.proofs.Sizes.{many_channels}
+use Rattle.dma_engine.specs.{inner.Found.transfer_at, inner.Holds.view_of, inner.Inside.parts_of, Object.channel, Object.no_transfer, View.EngineState}
+use Rattle.dma_engine.specs.{View.object_of}
+use Rattle.dma_engine.proofs.{Queues.holds_at, Queues.many_queues, Queues.transfer_found, Sizes.many_channels}
 use Rattle.dma_engine.proofs.engine.Engine.transfer.Goals as goal
 
 pub kept-kept-requires : goal.kept-kept-requires
@@ -35,7 +31,8 @@ unreachable-requires c =
     let less : i < length p.queues = omega (arith, there, many_queues p c.self.invariant) in
     let at = holds_at p c.self.invariant i q less c.index-queue.ensures in
     let found = transfer_found i (channel p.base i).submitted p.history p.memory q (channel (object_of (view_of p)) i) c.args.n at.tied given in
-    let none : transfer_at (channel p.base i).submitted p.history q.indices.items c.args.n ≡ None = rw (c.kept-kept.ensures, c.deref.ensures.value) at (sym c.in_default.ensures) in
+    let none : transfer_at (channel p.base i).submitted p.history q.indices.items c.args.n ≡ None =
+    rw (c.kept-kept.ensures, c.deref.ensures.value) at (sym c.in_default.ensures) in
     absurd (cc (none, found))
 
 pub returns : goal.returns
@@ -49,5 +46,7 @@ returns c =
     let at = holds_at p c.self.invariant i q less c.index-queue.ensures in
     let t = c.in-Some.transfer.now in
     let found = transfer_found i (channel p.base i).submitted p.history p.memory q (channel (object_of (view_of p)) i) c.args.n at.tied given in
-    let listed : Some t ≡ transfer_at (channel p.base i).submitted p.history q.indices.items c.args.n = rw (c.kept-kept.ensures, c.deref.ensures.value) at c.in-Some.ensures in
-    ap (λ o. unwrap_or o t) (listed ∙ found) ∙ ap (λ (s : EngineState). slice_index_or (channel (object_of s.view) i).submitted c.args.n no_transfer) c.self.view_is
+    let listed : Some t ≡ transfer_at (channel p.base i).submitted p.history q.indices.items c.args.n =
+    rw (c.kept-kept.ensures, c.deref.ensures.value) at c.in-Some.ensures in
+    ap (λ o. unwrap_or o t) (listed ∙ found)
+    ∙ ap (λ (s : EngineState). slice_index_or (channel (object_of s.view) i).submitted c.args.n no_transfer) c.self.view_is

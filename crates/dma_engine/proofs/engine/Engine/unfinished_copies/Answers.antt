@@ -1,10 +1,7 @@
 use Rattle.std.proofs.Common.{◌≡◌, ◌-◌, ◌+◌, ◌<◌, ◌∙◌, ap, sym, arith, length, take, drop, ◌++◌, ◌∷◌, []}
 use Rattle.std.specs.Prelude.{slice_index_or}
 use Rattle.std.proofs.lemmas.List.{take_more, get_or-drop, length-drop}
-use Rattle.dma_engine.specs.inner.Holds.{view_of}
-use Rattle.dma_engine.specs.inner.Inside.{parts_of}
-use Rattle.dma_engine.specs.Object.{channel, no_transfer}
-use Rattle.dma_engine.specs.View.{object_of}
+use Rattle.dma_engine.specs.{inner.Holds.view_of, inner.Inside.parts_of, Object.channel, Object.no_transfer, View.object_of}
 use Rattle.dma_engine.proofs.Queues.{holds_at, many_queues}
 use Rattle.dma_engine.proofs.engine.Engine.unfinished_copies.Goals as goal
 
@@ -20,7 +17,10 @@ loop-n-preserved c =
     let found = rw (← c.self.view_is) at c.transfer.ensures in
     let back : first + (n - first) ≡ n = omega (arith, c.loop-n.auto.n) in
     let next : n + 1 - first ≡ (n - first) + 1 = omega (arith, c.loop-n.auto.n) in
-    let within : n - first < length (drop first ts) = omega (arith, c.loop-n-test.true, c.loop-n.auto.n, at.tied.given, at.tied.forgotten, length-drop first ts) in
-    let here : slice_index_or (drop first ts) (n - first) no_transfer ≡ c.transfer.result.now = get_or-drop first ts (n - first) no_transfer ∙ ap (λ i. slice_index_or ts i no_transfer) back ∙ sym found in
+    let within : n - first < length (drop first ts) =
+    omega (arith, c.loop-n-test.true, c.loop-n.auto.n, at.tied.given, at.tied.forgotten, length-drop first ts) in
+    let here : slice_index_or (drop first ts) (n - first) no_transfer ≡ c.transfer.result.now = get_or-drop first ts (n - first) no_transfer
+    ∙ ap (λ i. slice_index_or ts i no_transfer) back ∙ sym found in
     rw (← c.self.view_is, next)
-    (rw (c.in_ok-push.ensures.items, c.in_ok-try_copy.ensures, so_far) (sym (take_more (drop first ts) (n - first) no_transfer within ∙ ap (λ x. take (n - first) (drop first ts) ++ x ∷ []) here)))
+    (rw (c.in_ok-push.ensures.items, c.in_ok-try_copy.ensures, so_far)
+    (sym (take_more (drop first ts) (n - first) no_transfer within ∙ ap (λ x. take (n - first) (drop first ts) ++ x ∷ []) here)))

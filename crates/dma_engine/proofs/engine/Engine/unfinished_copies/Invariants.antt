@@ -1,6 +1,5 @@
 use Rattle.std.proofs.Common.{◌≡◌, ◌-◌, take, drop}
-use Rattle.dma_engine.specs.Object.{channel}
-use Rattle.dma_engine.specs.View.{object_of}
+use Rattle.dma_engine.specs.{Object.channel, View.object_of}
 use Rattle.dma_engine.proofs.engine.Engine.unfinished_copies.Given as goal
 
 abbrev pub invariant-loop-n : goal.invariant-loop-n

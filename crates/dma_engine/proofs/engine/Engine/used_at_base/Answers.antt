@@ -1,7 +1,5 @@
 use Rattle.std.proofs.Common.{◌∙◌, ap, arith, sym}
-use Rattle.dma_engine.specs.inner.Inside.{parts_of}
-use Rattle.dma_engine.specs.Ticks.{Counts, board_of, counts}
-use Rattle.dma_engine.specs.View.{EngineState}
+use Rattle.dma_engine.specs.{inner.Inside.parts_of, Ticks.Counts, Ticks.board_of, Ticks.counts, View.EngineState}
 use Rattle.dma_engine.proofs.Boards.{counts_at}
 use Rattle.dma_engine.proofs.engine.Engine.used_at_base.Goals as goal
 

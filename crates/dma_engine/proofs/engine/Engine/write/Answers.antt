@@ -1,6 +1,5 @@
 use Rattle.dma_mem.specs.declared.call.Call.TheVariants.{Write}
-use Rattle.dma_engine.specs.declared.fault.EngineFault.TheVariants.{NoMemory}
-use Rattle.dma_engine.specs.declared.call.Reply.TheVariants.{Done}
+use Rattle.dma_engine.specs.{declared.fault.EngineFault.TheVariants.NoMemory, declared.call.Reply.TheVariants.Done}
 use Rattle.dma_engine.proofs.CallCases.{refusal, write_starved}
 use Rattle.dma_engine.proofs.engine.Engine.write.Goals as goal
 

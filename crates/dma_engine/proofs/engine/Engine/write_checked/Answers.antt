@@ -1,16 +1,8 @@
 use Rattle.std.proofs.Common.{◌≡◌, sym, ap, subst, length, None}
-use Rattle.dma_engine.specs.declared.entry.Entry.TheVariants.{Wrote}
+use Rattle.dma_engine.specs.{declared.entry.Entry.TheVariants.Wrote, declared.fault.EngineFault.TheVariants.NoMemory, declared.call.Reply.TheVariants.Done}
+use Rattle.dma_engine.specs.{Answer.write_fault, inner.Holds.view_of, inner.Inside.parts_of, Turn.with_entry, View.View, View.EngineState}
 use Rattle.dma_mem.specs.declared.call.Call.TheVariants.{Write}
-use Rattle.dma_engine.specs.declared.fault.EngineFault.TheVariants.{NoMemory}
-use Rattle.dma_engine.specs.declared.call.Reply.TheVariants.{Done}
-use Rattle.dma_engine.specs.Answer.{write_fault}
-use Rattle.dma_engine.specs.inner.Holds.{view_of}
-use Rattle.dma_engine.specs.inner.Inside.{parts_of}
-use Rattle.dma_engine.specs.Turn.{with_entry}
-use Rattle.dma_engine.specs.View.{View, EngineState}
-use Rattle.dma_engine.proofs.CallCases.{refusal, write_done, write_starved}
-use Rattle.dma_engine.proofs.Changes.{holds_pages}
-use Rattle.dma_engine.proofs.Entries.{holds_wrote}
+use Rattle.dma_engine.proofs.{CallCases.refusal, CallCases.write_done, CallCases.write_starved, Changes.holds_pages, Entries.holds_wrote}
 use Rattle.dma_engine.proofs.engine.Engine.write_checked.Goals as goal
 
 pub returns-in_err-reserve-clause-answer : goal.returns-in_err-reserve-clause-answer
@@ -27,7 +19,8 @@ pub invariant_of-self-2 : goal.invariant_of-self-2
 invariant_of-self-2 c =
     let p = parts_of c.self.inside in
     let is : view_of p ≡ c.args.self.now.view = ap (λ (s : EngineState). s.view) c.self.view_is in
-    let free : write_fault (view_of p) c.args.addr (length c.args.bytes) ≡ None = subst (λ (w : View). write_fault w c.args.addr (length c.args.bytes) ≡ None) (sym is) c.requires in
+    let free : write_fault (view_of p) c.args.addr (length c.args.bytes) ≡ None =
+    subst (λ (w : View). write_fault w c.args.addr (length c.args.bytes) ≡ None) (sym is) c.requires in
     let paged = record p { made = c.write.new.self.made } in
     let holds = holds_pages p c.write.new.self.made c.self.invariant c.write.ensures.keeps.made in
     rw (c.push_reserved.ensures.items, c.reserve.ensures.items, c.in-Ok.ensures.ok, c.as_slice.ensures) (holds_wrote paged c.args.addr c.args.bytes holds free)

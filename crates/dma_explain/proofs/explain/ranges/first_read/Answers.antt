@@ -1,8 +1,7 @@
 use Rattle.std.proofs.Common.{ℕ, ◌+◌, ◌<◌, ap, arith, inl, inr, subst}
 use Rattle.std.specs.List.{Contains}
 use Rattle.std.proofs.lemmas.Bool.{cases_lt}
-use Rattle.dma_mem.specs.declared.segment.Segment.{Segment}
-use Rattle.dma_mem.specs.Places.{places}
+use Rattle.dma_mem.specs.{declared.segment.Segment.Segment, Places.places}
 use Rattle.dma_mem.proofs.SharedPlaces.{in_range, range_in}
 use Rattle.dma_explain.proofs.explain.ranges.first_read.Goals as goal
 
@@ -28,5 +27,8 @@ returns-clause-found c = λ _.
     let addr = ap (λ (s : Segment). s.addr) c.segment.ensures in
     let len = ap (λ (s : Segment). s.len) c.segment.ensures in
     let less : clear < item.len = omega (arith, len, c.clear_of_ordered-clear.ensures.few, c.if-clear-item.false) in
-    let there = c.clear_of_ordered-clear.ensures.next (omega (arith, less, len)) in
-    (in_range item.addr item.len (item.addr + clear) (omega arith) (omega (arith, less)), subst (λ (a : ℕ). Contains (places c.args.ranges.now) (a + clear)) addr there)
+    let there = c.clear_of_ordered-clear.ensures.next (omega (arith, less, len)) in (
+      in_range item.addr item.len (item.addr + clear) (omega arith) (omega (arith, less)),
+      subst (λ (a : ℕ). Contains (places c.args.ranges.now) (a + clear))
+          addr there,
+    )

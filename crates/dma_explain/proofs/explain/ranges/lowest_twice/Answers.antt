@@ -1,7 +1,6 @@
 use Rattle.std.proofs.Common.{◌≡◌, ◌+◌, ◌-◌, get_or, ap, sym, inl, inr, arith}
 use Rattle.std.proofs.lemmas.Bool.{cases_lt}
-use Rattle.dma_mem.proofs.RangeSets.{nowhere}
-use Rattle.dma_mem.proofs.NeighboursMeet.{none_overlap, some_overlap}
+use Rattle.dma_mem.proofs.{RangeSets.nowhere, NeighboursMeet.none_overlap, NeighboursMeet.some_overlap}
 use Rattle.dma_explain.proofs.LowestPlaces.{lowest_begins}
 use Rattle.dma_explain.proofs.explain.ranges.lowest_twice.Goals as goal
 
@@ -30,7 +29,15 @@ loop-next-preserved c = λ k h.
       | inr high ↦
           let at : n ≡ k + 1 = omega arith in
           let before : n - 1 ≡ k = omega arith in
-          omega (arith, c.if-from-end.false, c.end.ensures, c.from.ensures, ap (λ i. (get_or sorted i nowhere).addr) at, ap (λ i. (get_or sorted i nowhere).addr + (get_or sorted i nowhere).len) before)
+          omega (
+            arith,
+            c.if-from-end.false,
+            c.end.ensures,
+            c.from.ensures,
+            ap (λ i. (get_or sorted i nowhere).addr) at,
+            ap
+                (λ i. (get_or sorted i nowhere).addr + (get_or sorted i nowhere).len) before,
+          )
     ]
 
 pub returns-clause-meets : goal.returns-clause-meets

@@ -1,16 +1,11 @@
 use Rattle.std.proofs.Common.{◌≡◌, ℕ, ◌<◌, List, ◌++◌, All, ap, subst, sym, ◌∙◌}
-use Rattle.std.proofs.lemmas.Grind.{flat_map-append}
-use Rattle.std.proofs.lemmas.List.Elements.{All-append}
-use Rattle.std.proofs.lemmas.List.Sorted.{All-permutation}
-use Rattle.dma_mem.specs.declared.segment.Segment.{Segment}
-use Rattle.dma_mem.specs.Places.{places, range_of}
-use Rattle.dma_mem.specs.Refusals.{some_meet}
-use Rattle.dma_mem.specs.inner.RangesInOrder.{IsOrdered}
+use Rattle.std.proofs.{lemmas.Grind.flat_map-append, lemmas.List.Elements.All-append, lemmas.List.Sorted.All-permutation}
+use Rattle.dma_mem.specs.{declared.segment.Segment.Segment, Places.places, Places.range_of, Refusals.some_meet, inner.RangesInOrder.IsOrdered}
 use Rattle.dma_mem.proofs.NeighboursMeet.{ordered_apart}
 use Rattle.dma_explain.specs.Explains.{IsLowest, IsShared, IsTwice, stop_of_lists, unrolled}
 use Rattle.dma_explain.proofs.LowestPlaces.{shared_permuted, stores_source, stores_twice, stores_well, twice_permuted}
-use Rattle.dma_explain.proofs.explain.ranges.overlap.Goals as goal
 use Rattle.dma_explain.proofs.explain.ranges.overlap.Goals.{After-deref}
+use Rattle.dma_explain.proofs.explain.ranges.overlap.Goals as goal
 
 -- the addresses of the ranges of both lists
 both : (dst zeros : List Segment) → places (dst ++ zeros) ≡ places dst ++ places zeros
@@ -32,7 +27,8 @@ returns-in-Some-clause-err c = λ _.
     let dst = c.args.dst.now in
     let zeros = c.args.zeros.now in
     ap (stop_of_lists (places (unrolled c.args.src.now))) (sym (both dst zeros))
-    ∙ stores_twice c.args.src.now (dst ++ zeros) c.in-Ok.ranges.items c.requires.items c.in-Ok.ensures.same (ap some_meet (sym c.deref.ensures.value) ∙ sym c.in-Some.ensures.meets)
+    ∙ stores_twice c.args.src.now (dst ++ zeros) c.in-Ok.ranges.items c.requires.items c.in-Ok.ensures.same
+    (ap some_meet (sym c.deref.ensures.value) ∙ sym c.in-Some.ensures.meets)
 
 pub returns-in-Some-clause-addr : goal.returns-in-Some-clause-addr
 returns-in-Some-clause-addr c =
@@ -45,19 +41,22 @@ returns-in-Some-clause-addr c =
 pub any_reads-requires : goal.any_reads-requires
 any_reads-requires c =
     subst IsOrdered (sym c.deref-2.ensures.value)
-    (ordered_apart c.in-Ok.ranges.items (filled (goal.at.any_reads-requires c).After-deref) c.in-Ok.ensures.rising (ap some_meet (sym c.deref.ensures.value) ∙ sym c.in_default-lowest_twice.ensures.meets))
+    (ordered_apart c.in-Ok.ranges.items (filled (goal.at.any_reads-requires c).After-deref) c.in-Ok.ensures.rising
+    (ap some_meet (sym c.deref.ensures.value) ∙ sym c.in_default-lowest_twice.ensures.meets))
 
 pub returns-then-any_reads-clause-err : goal.returns-then-any_reads-clause-err
 returns-then-any_reads-clause-err c = λ _.
     let dst = c.args.dst.now in
     let zeros = c.args.zeros.now in
     ap (stop_of_lists (places (unrolled c.args.src.now))) (sym (both dst zeros))
-    ∙ stores_source c.args.src.now (dst ++ zeros) c.in-Ok.ranges.items c.requires.items c.in-Ok.ensures.same (ap some_meet (sym c.deref.ensures.value) ∙ sym c.in_default-lowest_twice.ensures.meets) (rw (← c.deref-2.ensures.value) (sym c.if-any_reads.ensures))
+    ∙ stores_source c.args.src.now (dst ++ zeros) c.in-Ok.ranges.items c.requires.items c.in-Ok.ensures.same
+    (ap some_meet (sym c.deref.ensures.value) ∙ sym c.in_default-lowest_twice.ensures.meets) (rw (← c.deref-2.ensures.value) (sym c.if-any_reads.ensures))
 
 pub lowest_read-requires-clause-ranges : goal.lowest_read-requires-clause-ranges
 lowest_read-requires-clause-ranges c =
     subst IsOrdered (sym c.deref-then-any_reads.ensures.value)
-    (ordered_apart c.in-Ok.ranges.items (filled (goal.at.lowest_read-requires-clause-ranges c).After-deref) c.in-Ok.ensures.rising (ap some_meet (sym c.deref.ensures.value) ∙ sym c.in_default-lowest_twice.ensures.meets))
+    (ordered_apart c.in-Ok.ranges.items (filled (goal.at.lowest_read-requires-clause-ranges c).After-deref) c.in-Ok.ensures.rising
+    (ap some_meet (sym c.deref.ensures.value) ∙ sym c.in_default-lowest_twice.ensures.meets))
 
 pub lowest_read-requires-clause-some : goal.lowest_read-requires-clause-some
 lowest_read-requires-clause-some c =
@@ -78,4 +77,5 @@ returns-clause-ok c =
     let dst = c.args.dst.now in
     let zeros = c.args.zeros.now in
     ap (stop_of_lists (places (unrolled c.args.src.now))) (sym (both dst zeros))
-    ∙ stores_well c.args.src.now (dst ++ zeros) c.in-Ok.ranges.items c.requires.items c.in-Ok.ensures.same (ap some_meet (sym c.deref.ensures.value) ∙ sym c.in_default-lowest_twice.ensures.meets) (rw (← c.deref-2.ensures.value) (sym c.if-any_reads.ensures))
+    ∙ stores_well c.args.src.now (dst ++ zeros) c.in-Ok.ranges.items c.requires.items c.in-Ok.ensures.same
+    (ap some_meet (sym c.deref.ensures.value) ∙ sym c.in_default-lowest_twice.ensures.meets) (rw (← c.deref-2.ensures.value) (sym c.if-any_reads.ensures))

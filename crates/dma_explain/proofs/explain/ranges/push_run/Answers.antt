@@ -18,6 +18,7 @@ returns c = elim c.if-n-gt0.branch [
       let i = c.len-n.result - 1 in
       let last : i + 1 ≡ length xs = omega (arith, c.len-n.ensures, w.if-n-gt0.true) in
       c.in_ok-push.ensures.items
-      ∙ run_added xs i w.index.result.now c.args.run last (ap (λ s. join_run s c.args.run) (sym w.index.ensures) ∙ sym w.joined.ensures ∙ w.in_default.is) c.requires
+      ∙ run_added xs i w.index.result.now c.args.run last (ap (λ s. join_run s c.args.run) (sym w.index.ensures) ∙ sym w.joined.ensures ∙ w.in_default.is)
+      c.requires
   | else-n-gt0 w ↦ c.in_ok-push.ensures.items ∙ first_item join_run c.args.list.now.items c.args.run (omega (arith, c.len-n.ensures, w.if-n-gt0.false))
 ]

@@ -1,7 +1,6 @@
 use Rattle.std.proofs.Common.{◌≡◌, ℕ, ◌<◌, ◌-◌, ◌++◌, ◌∷◌, [], List, suc, length, take, ap, sym, ◌∙◌, arith}
 use Rattle.std.proofs.lemmas.List.{take_all}
-use Rattle.dma_explain.specs.declared.explain.Repeated.{Repeated}
-use Rattle.dma_explain.specs.Items.{join_read, with_item}
+use Rattle.dma_explain.specs.{declared.explain.Repeated.Repeated, Items.join_read, Items.with_item}
 use Rattle.dma_explain.proofs.Items.{ends_at, joins_at}
 use Rattle.dma_explain.proofs.explain.ranges.settled.Goals as goal
 

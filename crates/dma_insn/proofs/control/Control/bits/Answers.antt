@@ -1,6 +1,5 @@
 use Rattle.std.proofs.Common.{◌≡◌, ℕ, ◌+◌, ◌*◌, ◌%◌, ◌^◌, ◌<◌, ap, ◌∙◌, arith}
-use Rattle.dma_insn.specs.declared.control.Control.{Control}
-use Rattle.dma_insn.specs.ControlWord.{control_of, bits_of, end_bits}
+use Rattle.dma_insn.specs.{declared.control.Control.Control, ControlWord.control_of, ControlWord.bits_of, ControlWord.end_bits}
 use Rattle.dma_insn.proofs.ControlLaws.{fields_of_bits, control_of_again}
 use Rattle.dma_insn.proofs.control.Control.bits.Goals as goal
 

@@ -1,7 +1,6 @@
 use Rattle.std.proofs.Common.{◌≡◌, ◌∷◌, [], ◌+◌, ◌*◌, ◌++◌, ◌∙◌, min, length, drop, sym, ap, refl, append_assoc, length-drop, arith, rules}
 use Rattle.dma_text.proofs.Begun.{begins_appended, begins_more}
-use Rattle.dma_io.specs.Command.{text_of}
-use Rattle.dma_io.specs.Printing.{row_line}
+use Rattle.dma_io.specs.{Command.text_of, Printing.row_line}
 use Rattle.dma_io.proofs.RowLemmas.{first_row, rest_after, front_text, front_text_more}
 use Rattle.dma_io.proofs.printing.ProgramLinesText.push.Goals as goal
 

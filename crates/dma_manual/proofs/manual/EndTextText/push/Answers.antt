@@ -10,10 +10,14 @@ pub returns-in_err-push-3-clause-begins : goal.returns-in_err-push-3-clause-begi
 returns-in_err-push-3-clause-begins c = begins_more _ _ _ (begins_more _ _ _ c.push.ensures.begins c.push-2.ensures.begins) c.push-3.ensures.begins
 
 pub returns-in_err-push_unless_zero-clause-begins : goal.returns-in_err-push_unless_zero-clause-begins
-returns-in_err-push_unless_zero-clause-begins c = begins_more _ _ _ (begins_more _ _ _ (begins_more _ _ _ c.push.ensures.begins c.push-2.ensures.begins) c.push-3.ensures.begins) c.push_unless_zero.ensures.begins
+returns-in_err-push_unless_zero-clause-begins c =
+    begins_more _ _ _ (begins_more _ _ _ (begins_more _ _ _ c.push.ensures.begins c.push-2.ensures.begins) c.push-3.ensures.begins)
+    c.push_unless_zero.ensures.begins
 
 pub returns-clause-begins : goal.returns-clause-begins
-returns-clause-begins c = begins_more _ _ _ (begins_more _ _ _ (begins_more _ _ _ (begins_more _ _ _ c.push.ensures.begins c.push-2.ensures.begins) c.push-3.ensures.begins) c.push_unless_zero.ensures.begins) c.push_unless_zero-2.ensures.begins
+returns-clause-begins c =
+    begins_more _ _ _ (begins_more _ _ _ (begins_more _ _ _ (begins_more _ _ _ c.push.ensures.begins c.push-2.ensures.begins) c.push-3.ensures.begins)
+    c.push_unless_zero.ensures.begins) c.push_unless_zero-2.ensures.begins
 
 pub returns-clause-ok : goal.returns-clause-ok
 returns-clause-ok c = grind (arith, common_steps)

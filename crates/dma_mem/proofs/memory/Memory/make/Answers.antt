@@ -13,7 +13,8 @@ pub returns-in_err-make_room-clause-short : goal.returns-in_err-make_room-clause
 returns-in_err-make_room-clause-short c =
     let p = err_from_is_err_and c.from_residual.result c.from_residual.ensures.1 in
     let m : Paged = paged c.self.inside.size c.self.inside.table c.make_room.new.self in
-    rw p.1 (short_of_flag m c.args.segment.addr c.args.segment.len c.div_ceil-page_end.result c.requires.some (omega (arith, c.div_ceil-page_end.ensures)) (omega (arith, ap length c.in_err-make_room.ensures.err, c.in_err-make_room.ensures.short)))
+    rw p.1 (short_of_flag m c.args.segment.addr c.args.segment.len c.div_ceil-page_end.result c.requires.some (omega (arith, c.div_ceil-page_end.ensures))
+    (omega (arith, ap length c.in_err-make_room.ensures.err, c.in_err-make_room.ensures.short)))
 
 pub returns-in_err-make-clause-short : goal.returns-in_err-make-clause-short
 returns-in_err-make-clause-short c =
@@ -30,8 +31,10 @@ returns-in_err-make-clause-image c =
 
 pub returns-in_err-make-clause-keeps : goal.returns-in_err-make-clause-keeps
 returns-in_err-make-clause-keeps c =
-    let image : image_of c.self.inside.size c.make.new.self ≡ c.args.self.now.image = image_seen c.self.inside.size c.self.inside.table c.make.new.self c.self.inside.flags c.args.self.now c.self.view_is c.make.ensures.bytes in
-    Keeps_same c.args.self.now (paged c.self.inside.size c.make.new.self c.make_room.new.self) (ap length image) (λ p. c.make_room.ensures.flags p ∙ ap (λ (m : Paged). has_page m p) c.self.view_is)
+    let image : image_of c.self.inside.size c.make.new.self ≡ c.args.self.now.image =
+    image_seen c.self.inside.size c.self.inside.table c.make.new.self c.self.inside.flags c.args.self.now c.self.view_is c.make.ensures.bytes in
+    Keeps_same c.args.self.now (paged c.self.inside.size c.make.new.self c.make_room.new.self) (ap length image)
+    (λ p. c.make_room.ensures.flags p ∙ ap (λ (m : Paged). has_page m p) c.self.view_is)
 
 pub returns : goal.returns
 returns c =
@@ -40,7 +43,8 @@ returns c =
     let addr = c.args.segment.addr in
     let len = c.args.segment.len in
     let end = c.div_ceil-page_end.result in
-    let image : image_of c.self.inside.size c.make.new.self ≡ old.image = image_seen c.self.inside.size c.self.inside.table c.make.new.self c.self.inside.flags old c.self.view_is c.make.ensures.bytes in
+    let image : image_of c.self.inside.size c.make.new.self ≡ old.image =
+    image_seen c.self.inside.size c.self.inside.table c.make.new.self c.self.inside.flags old c.self.view_is c.make.ensures.bytes in
     let long : length new.image ≡ length old.image = ap length image in
     let flagged : Flagged old.made new.made (addr / 4096) end = record {
       inside = c.set.ensures.inside;

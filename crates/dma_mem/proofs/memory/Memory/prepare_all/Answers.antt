@@ -1,9 +1,6 @@
 use Rattle.std.proofs.Common.{◌≡◌, ◌+◌, true, ◌∙◌, ap, arith, refl, length, take, get_or, subst, List}
-use Rattle.std.proofs.lemmas.List.{take_all}
-use Rattle.std.proofs.lemmas.Bool.{le-ltb}
-use Rattle.dma_mem.specs.declared.segment.Segment.{Segment}
-use Rattle.dma_mem.specs.Pages.{AllMade}
-use Rattle.dma_mem.specs.Places.{places, all_below}
+use Rattle.std.proofs.{lemmas.List.take_all, lemmas.Bool.le-ltb}
+use Rattle.dma_mem.specs.{declared.segment.Segment.Segment, Pages.AllMade, Places.places, Places.all_below}
 use Rattle.dma_mem.proofs.PrepareAll.{in_places, below_more, made_more, keeps_made, Keeps_trans, Keeps_refl}
 use Rattle.dma_mem.proofs.SharedPlaces.{ends_below}
 use Rattle.dma_mem.proofs.memory.Memory.prepare_all.Goals as goal
@@ -21,7 +18,8 @@ loop-s-preserved c =
       image = c.prepare.ensures.image ∙ inv.image;
       keeps = Keeps_trans c.args.self.now c.loop-s.self c.prepare.new.self inv.keeps c.prepare.ensures.keeps;
       within = below_more list i d (length c.args.self.now.image) c.loop-s-test.true inv.within (omega (arith, c.in-Ok.ensures.within, ap length inv.image));
-      made = made_more c.prepare.new.self list i d c.loop-s-test.true (keeps_made c.loop-s.self c.prepare.new.self (places (take i list)) c.prepare.ensures.keeps inv.made) c.in-Ok.ensures.ok;
+      made = made_more c.prepare.new.self list i d c.loop-s-test.true
+          (keeps_made c.loop-s.self c.prepare.new.self (places (take i list)) c.prepare.ensures.keeps inv.made) c.in-Ok.ensures.ok;
       others = λ p off. c.prepare.ensures.others p (λ a here. off a (in_places list i d a c.loop-s-test.true here)) ∙ inv.others p off;
     }
 
@@ -41,10 +39,13 @@ returns-in-Err-clause-short c = λ below all.
     c.in-Err.ensures.short (omega (arith, fits, ap length c.loop-s.invariant.image)) (λ a here. all a (in_places list i d a c.loop-s-test.true here))
 
 pub returns-clause-ok : goal.returns-clause-ok
-returns-clause-ok c = subst (λ (xs : List Segment). AllMade c.loop-s.self (places xs)) (take_all c.loop-s.s-index c.args.list.now c.loop-s-test.false) c.loop-s.invariant.made
+returns-clause-ok c = subst (λ (xs : List Segment). AllMade c.loop-s.self (places xs)) (take_all c.loop-s.s-index c.args.list.now c.loop-s-test.false)
+    c.loop-s.invariant.made
 
 pub returns-clause-within : goal.returns-clause-within
-returns-clause-within c = subst (λ (xs : List Segment). all_below xs (length c.args.self.now.image) ≡ true) (take_all c.loop-s.s-index c.args.list.now c.loop-s-test.false) c.loop-s.invariant.within
+returns-clause-within c =
+    subst (λ (xs : List Segment). all_below xs (length c.args.self.now.image) ≡ true) (take_all c.loop-s.s-index c.args.list.now c.loop-s-test.false)
+    c.loop-s.invariant.within
 
 pub returns-in-Err-clause-others : goal.returns-in-Err-clause-others
 returns-in-Err-clause-others c = λ p off.

@@ -1,6 +1,5 @@
 use Rattle.std.proofs.Common.{◌≡◌, true, length, take}
-use Rattle.dma_mem.specs.Pages.{Keeps, AllMade, MakesNoOther}
-use Rattle.dma_mem.specs.Places.{places, all_below}
+use Rattle.dma_mem.specs.{Pages.Keeps, Pages.AllMade, Pages.MakesNoOther, Places.places, Places.all_below}
 use Rattle.dma_mem.proofs.memory.Memory.prepare_all.Given as goal
 
 abbrev pub invariant-loop-s : goal.invariant-loop-s

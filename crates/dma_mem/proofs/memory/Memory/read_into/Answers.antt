@@ -28,9 +28,11 @@ pub returns-in-Some-clause-ok : goal.returns-in-Some-clause-ok
 returns-in-Some-clause-ok c =
     let long = size_seen c.self.inside.size c.self.inside.table c.self.inside.flags c.args.self.now c.self.view_is in
     c.copy_from_slice.ensures.after
-    ∙ read_seen c.self.inside.size c.self.inside.table c.self.inside.flags c.args.self.now c.self.view_is c.args.addr (length c.args.buf.now) c.in-Some.part.now c.in-Some.ensures.bytes.0 (omega (arith, long, c.if-addr-buf.false)) c.in-Some.ensures.bytes.1
+    ∙ read_seen c.self.inside.size c.self.inside.table c.self.inside.flags c.args.self.now c.self.view_is c.args.addr (length c.args.buf.now) c.in-Some.part.now
+    c.in-Some.ensures.bytes.0 (omega (arith, long, c.if-addr-buf.false)) c.in-Some.ensures.bytes.1
 
 pub returns-in-None-clause-ok : goal.returns-in-None-clause-ok
 returns-in-None-clause-ok c =
     let long = size_seen c.self.inside.size c.self.inside.table c.self.inside.flags c.args.self.now c.self.view_is in
-    read_seen c.self.inside.size c.self.inside.table c.self.inside.flags c.args.self.now c.self.view_is c.args.addr (length c.args.buf.now) c.read.new.buf (omega (arith, c.read.auto.buf)) (omega (arith, long, c.if-addr-buf.false)) c.read.ensures
+    read_seen c.self.inside.size c.self.inside.table c.self.inside.flags c.args.self.now c.self.view_is c.args.addr (length c.args.buf.now) c.read.new.buf
+    (omega (arith, c.read.auto.buf)) (omega (arith, long, c.if-addr-buf.false)) c.read.ensures

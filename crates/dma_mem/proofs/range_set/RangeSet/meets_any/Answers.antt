@@ -1,8 +1,6 @@
 use Rattle.std.proofs.Common.{ap, sym, subst, ◌∙◌}
-use Rattle.dma_mem.specs.Places.{places, share}
-use Rattle.dma_mem.specs.inner.RangesInOrder.{IsOrdered}
-use Rattle.dma_mem.proofs.RangeSets.{ordered_from}
-use Rattle.dma_mem.proofs.SharedPlaces.{share_each}
+use Rattle.dma_mem.specs.{Places.places, Places.share, inner.RangesInOrder.IsOrdered}
+use Rattle.dma_mem.proofs.{RangeSets.ordered_from, SharedPlaces.share_each}
 use Rattle.dma_mem.proofs.range_set.RangeSet.meets_any.Goals as goal
 
 pub any_meets_ordered-requires : goal.any_meets_ordered-requires

@@ -1,6 +1,5 @@
 use Rattle.std.proofs.Common.{◌≡◌, List, length, true, arith, rules, ap}
-use Rattle.dma_mem.specs.declared.regions.Region.{Region}
-use Rattle.dma_mem.specs.Regions.{pieces_of, image_of, in_order}
+use Rattle.dma_mem.specs.{declared.regions.Region.Region, Regions.pieces_of, Regions.image_of, Regions.in_order}
 use Rattle.dma_mem.proofs.Pieces.{image_of_most}
 use Rattle.dma_mem.proofs.regions.LentRegionsRam.size.Goals as goal
 

@@ -1,6 +1,5 @@
 use Rattle.std.proofs.Common.{◌-◌, ◌≤◌, take, drop}
-use Rattle.dma_mem.specs.Regions.{pieces_of, image_of}
-use Rattle.dma_mem.specs.inner.Rewritten.{Rewritten}
+use Rattle.dma_mem.specs.{Regions.pieces_of, Regions.image_of, inner.Rewritten.Rewritten}
 use Rattle.dma_mem.proofs.regions.copies.copy_by_blocks.Given as goal
 
 abbrev pub invariant-loop-done : goal.invariant-loop-done

@@ -1,10 +1,7 @@
 use Rattle.std.proofs.Common.{◌≡◌, ◌-◌, List, ℕ, length, take, drop, refl, arith, get_or, ap, ◌∙◌}
 use Rattle.std.proofs.lemmas.Grind.{common_steps}
-use Rattle.dma_mem.specs.Regions.{pieces_of, image_of}
-use Rattle.dma_mem.specs.inner.Rewritten.{Holds}
-use Rattle.dma_mem.specs.Image.{put, bytes_at}
-use Rattle.dma_mem.proofs.Pieces.{no_region}
-use Rattle.dma_mem.proofs.PieceWrites.{rewritten_at, region_shown, ends_in}
+use Rattle.dma_mem.specs.{Regions.pieces_of, Regions.image_of, inner.Rewritten.Holds, Image.put, Image.bytes_at}
+use Rattle.dma_mem.proofs.{Pieces.no_region, PieceWrites.rewritten_at, PieceWrites.region_shown, PieceWrites.ends_in}
 use Rattle.dma_mem.proofs.regions.copies.copy_in_region.Goals as goal
 
 pub returns : goal.returns
@@ -16,8 +13,10 @@ returns c =
     let bytes = take n (drop c.args.from (image_of (pieces_of rs))) in
     let shown = region_shown rs i c.args.from n c.requires.order c.requires.index c.requires.reads in
     let long : length bytes ≡ n = ends_in rs i c.args.from n c.requires.order c.requires.index c.requires.reads in
-    let holds : Holds (pieces_of rs) i c.args.to (length bytes) = record { first = c.requires.writes.first; last = omega (arith, c.requires.writes.last, long) } in
-    rewritten_at rs i c.args.to _ bytes c.requires.order c.requires.index holds refl refl refl (c.copy_bytes_apart.ensures ∙ ap (λ (xs : List ℕ). put r.bytes.now (bytes_at (c.args.to - r.addr) xs)) shown)
+    let holds : Holds (pieces_of rs) i c.args.to (length bytes) =
+    record { first = c.requires.writes.first; last = omega (arith, c.requires.writes.last, long) } in
+    rewritten_at rs i c.args.to _ bytes c.requires.order c.requires.index holds refl refl refl
+    (c.copy_bytes_apart.ensures ∙ ap (λ (xs : List ℕ). put r.bytes.now (bytes_at (c.args.to - r.addr) xs)) shown)
 
 pub copy_bytes_apart-requires-clause-within : goal.copy_bytes_apart-requires-clause-within
 copy_bytes_apart-requires-clause-within c = grind (arith, common_steps)

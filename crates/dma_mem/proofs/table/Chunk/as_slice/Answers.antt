@@ -9,4 +9,5 @@ returns-then-is_blank-clause-bytes c =
 
 pub returns-then-is_blank-clause-whole : goal.returns-then-is_blank-clause-whole
 returns-then-is_blank-clause-whole c = λ some.
-    ap length (sym c.self.view_is ∙ shown_blank (vec_capacity c.self.inside.bytes) c.self.inside.bytes.items (sym c.is_blank.ensures ∙ c.if-is_blank.true)) ∙ length_blank
+    ap length (sym c.self.view_is ∙ shown_blank (vec_capacity c.self.inside.bytes) c.self.inside.bytes.items (sym c.is_blank.ensures ∙ c.if-is_blank.true))
+    ∙ length_blank

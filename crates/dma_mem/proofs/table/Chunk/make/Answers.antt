@@ -1,6 +1,5 @@
 use Rattle.std.proofs.Common.{◌≡◌, ◌∙◌, ap, arith, get_or, length, sym}
-use Rattle.std.proofs.lemmas.Grind.{common_steps}
-use Rattle.std.proofs.lemmas.List.{get_or_past}
+use Rattle.std.proofs.{lemmas.Grind.common_steps, lemmas.List.get_or_past}
 use Rattle.std.specs.Prelude.{vec_capacity}
 use Rattle.dma_mem.proofs.BlankChunks.{blank_at, length_blank, length_with_memory, shown_new}
 use Rattle.dma_mem.proofs.table.Chunk.make.Goals as goal
@@ -19,4 +18,5 @@ returns-in_ok-self-inside-clause-bytes c = λ k.
 
 pub returns-else-capacity-eq0-clause-whole : goal.returns-else-capacity-eq0-clause-whole
 returns-else-capacity-eq0-clause-whole c =
-    ap length (sym c.self.view_is) ∙ length_with_memory (vec_capacity c.self.inside.bytes) c.self.inside.bytes.items c.self.invariant.0 c.self.invariant.1 (omega arith)
+    ap length (sym c.self.view_is)
+    ∙ length_with_memory (vec_capacity c.self.inside.bytes) c.self.inside.bytes.items c.self.invariant.0 c.self.invariant.1 (omega arith)

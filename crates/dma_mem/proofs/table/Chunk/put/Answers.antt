@@ -1,43 +1,31 @@
-use Rattle.std.proofs.Common.{◌≡◌, ◌∙◌, ◌++◌, ap, arith, drop, length, take}
-use Rattle.std.specs.Prelude.{vec_capacity}
-use Rattle.std.specs.Vec.{with_items}
+use Rattle.std.proofs.Common.{◌≡◌, ap, arith, length}
+use Rattle.std.specs.{Prelude.vec_capacity, Vec.with_items}
 use Rattle.std.proofs.lemmas.Grind.{common_steps}
-use Rattle.dma_mem.specs.Image.{bytes_at, put}
-use Rattle.dma_mem.proofs.ImagePut.{length_put}
-use Rattle.dma_mem.proofs.BlankChunks.{length_with_zeros, replaced_all, shown_replaced}
+use Rattle.dma_mem.specs.Image.{bytes_at}
+use Rattle.dma_mem.proofs.BlankChunks.{HasPut, has_put, length_with_zeros}
 use Rattle.dma_mem.proofs.table.Chunk.put.Goals as goal
 
--- The list has 16,384 items before it is changed.
-whole : (c : goal.After-self-1) → length c.add_zeros.new.bytes.items ≡ 16384
-whole c =
-    let v = c.self.inside.bytes in
-    length_with_zeros (vec_capacity v) v.items _ _ c.add_zeros.ensures.bytes c.self.view_is c.self.invariant.0 c.self.invariant.1 c.requires.made
+-- the list after the call
+written : (c : goal.After-self-1) → HasPut (with_items c.add_zeros.new.bytes c.put_bytes.new.all) c.args.self.now (bytes_at c.args.offset c.args.bytes.now)
+written c =
+    has_put c.self.inside.bytes c.add_zeros.new.bytes _ _ _ _ c.add_zeros.ensures.bytes c.self.view_is c.self.invariant.0 c.self.invariant.1 c.requires.made
+    c.deref_mut.ensures.value c.put_bytes.ensures
 
-all : (c : goal.After-self-1) → length c.put_parts.new.all ≡ length c.add_zeros.new.bytes.items
-all c = ap length c.put_parts.ensures ∙ length_put _ _ ∙ ap length c.deref_mut.ensures.value
-
-pub put_parts-requires : goal.put_parts-requires
-put_parts-requires c =
+pub put_bytes-requires : goal.put_bytes-requires
+put_bytes-requires c =
     let v = c.self.inside.bytes in
-    let whole : length c.add_zeros.new.bytes.items ≡ 16384 = length_with_zeros (vec_capacity v) v.items _ _ c.add_zeros.ensures.bytes c.self.view_is c.self.invariant.0 c.self.invariant.1 c.requires.made in
+    let whole : length c.add_zeros.new.bytes.items ≡ 16384 =
+    length_with_zeros (vec_capacity v) v.items _ _ c.add_zeros.ensures.bytes c.self.view_is c.self.invariant.0 c.self.invariant.1 c.requires.made in
     omega (arith, ap length c.deref_mut.ensures.value, c.requires.fits)
 
 pub invariant_of-self : goal.invariant_of-self
-invariant_of-self c =
-    let b = c.add_zeros.new.bytes in
-    let n : length (take b.len (c.put_parts.new.all ++ drop (length c.put_parts.new.all) b.items)) ≡ 16384 = ap length (replaced_all b.len c.put_parts.new.all b.items (omega arith) (all c)) ∙ all c ∙ whole c in
-    (λ some. omega (arith, n), omega (arith, n), λ some. omega (arith, whole c))
+invariant_of-self c = let w = written c in (λ some. omega (arith, w.whole), omega (arith, w.whole), λ some. w.room)
 
 pub returns-clause-whole : goal.returns-clause-whole
-returns-clause-whole c =
-    let b = c.add_zeros.new.bytes in
-    ap length (shown_replaced (vec_capacity (with_items b c.put_parts.new.all)) b.len c.put_parts.new.all b.items (omega arith) (all c) (omega (arith, whole c))) ∙ all c ∙ whole c
+returns-clause-whole c = (written c).all
 
 pub returns-clause-bytes : goal.returns-clause-bytes
-returns-clause-bytes c =
-    let b = c.add_zeros.new.bytes in
-    shown_replaced (vec_capacity (with_items b c.put_parts.new.all)) b.len c.put_parts.new.all b.items (omega arith) (all c) (omega (arith, whole c)) ∙ c.put_parts.ensures
-    ∙ ap (λ xs. put xs (bytes_at c.args.offset (c.args.front.now ++ c.args.back.now))) (c.deref_mut.ensures.value ∙ c.add_zeros.ensures.bytes ∙ c.self.view_is)
+returns-clause-bytes c = (written c).shows
 
 pub returns-clause-len : goal.returns-clause-len
 returns-clause-len c = grind (arith, common_steps)

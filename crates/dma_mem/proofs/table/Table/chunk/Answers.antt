@@ -11,7 +11,8 @@ returns-in-Some-clause-bytes c =
     let l = c.in-Some.ensures.lookup in
     let n = c.args.number in
     let within : n / 256 < length groups = rw c.deref.ensures.value at (ltb-true (n / 256) (length c.deref.result.now) (sym l.0)) in
-    let is : c.in-Some.group.now ≡ get_or groups (n / 256) c.in-Some.group.now = l.1 ∙ ap (λ xs. get_or xs (n / 256) c.in-Some.group.now) c.deref.ensures.value in
+    let is : c.in-Some.group.now ≡ get_or groups (n / 256) c.in-Some.group.now = l.1
+    ∙ ap (λ xs. get_or xs (n / 256) c.in-Some.group.now) c.deref.ensures.value in
     c.chunk.ensures.bytes ∙ chunk_found groups c.args.self.now n n c.in-Some.group.now v is within refl
 
 pub returns-in-None-clause-bytes : goal.returns-in-None-clause-bytes

@@ -1,6 +1,5 @@
 use Rattle.std.proofs.Common.{◌≡◌, ℕ, ◌-◌, ◌≤◌, length}
-use Rattle.dma_mem.specs.inner.Blocks.{CopiesBlock}
-use Rattle.dma_mem.specs.inner.ChunkTable.{chunk_at}
+use Rattle.dma_mem.specs.{inner.Blocks.CopiesBlock, inner.ChunkTable.chunk_at}
 use Rattle.dma_mem.proofs.table.Table.copy_apart.Given as goal
 
 abbrev pub invariant-loop-done : goal.invariant-loop-done

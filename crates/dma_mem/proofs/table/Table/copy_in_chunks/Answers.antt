@@ -1,4 +1,4 @@
-use Rattle.std.proofs.Common.{◌≡◌, ◌/◌, ◌%◌, ◌+◌, List, [], ◌++◌, ℕ, length, get_or, take, drop, append-nil, replicate, ◌-◌, ◌<◌, ap, sym, ◌∙◌, arith, inl, inr}
+use Rattle.std.proofs.Common.{◌≡◌, ◌/◌, ◌%◌, ◌+◌, List, ℕ, length, get_or, take, drop, replicate, ◌-◌, ◌<◌, ap, sym, ◌∙◌, arith, inl, inr}
 use Rattle.std.proofs.lemmas.Bool.{eqb-false, eqb-true}
 use Rattle.std.proofs.lemmas.List.{drop-replicate, get_or_past, length-replicate, take-replicate}
 use Rattle.dma_mem.specs.Image.{put, bytes_at}
@@ -19,7 +19,11 @@ replace-chunk-requires c =
 
 pub copy_apart-requires-clause-made : goal.copy_apart-requires-clause-made
 copy_apart-requires-clause-made c =
-    rw (c.replace-chunk.ensures.old, chunk_in_group c.self.inside.groups.items c.args.self.now (c.args.to / 16384) c.index_mut.result.now c.self.view_is c.requires.made c.index_mut.ensures.value) c.requires.made
+    rw (
+      c.replace-chunk.ensures.old,
+      chunk_in_group c.self.inside.groups.items c.args.self.now (c.args.to / 16384) c.index_mut.result.now c.self.view_is
+          c.requires.made c.index_mut.ensures.value,
+    ) c.requires.made
 
 pub copy_apart-requires-clause-apart : goal.copy_apart-requires-clause-apart
 copy_apart-requires-clause-apart c = elim c.requires.apart [
@@ -29,11 +33,19 @@ copy_apart-requires-clause-apart c = elim c.requires.apart [
 
 pub fill-requires-clause-made : goal.fill-requires-clause-made
 fill-requires-clause-made c =
-    rw (c.replace-chunk.ensures.old, chunk_in_group c.self.inside.groups.items c.args.self.now (c.args.to / 16384) c.index_mut.result.now c.self.view_is c.requires.made c.index_mut.ensures.value) c.requires.made
+    rw (
+      c.replace-chunk.ensures.old,
+      chunk_in_group c.self.inside.groups.items c.args.self.now (c.args.to / 16384) c.index_mut.result.now c.self.view_is
+          c.requires.made c.index_mut.ensures.value,
+    ) c.requires.made
 
 pub put-requires-clause-made : goal.put-requires-clause-made
 put-requires-clause-made c =
-    rw (c.replace-chunk.ensures.old, chunk_in_group c.self.inside.groups.items c.args.self.now (c.args.to / 16384) c.index_mut.result.now c.self.view_is c.requires.made c.index_mut.ensures.value) c.requires.made
+    rw (
+      c.replace-chunk.ensures.old,
+      chunk_in_group c.self.inside.groups.items c.args.self.now (c.args.to / 16384) c.index_mut.result.now c.self.view_is
+          c.requires.made c.index_mut.ensures.value,
+    ) c.requires.made
 
 pub index_mut-requires-2 : goal.index_mut-requires-2
 index_mut-requires-2 c =
@@ -42,7 +54,8 @@ index_mut-requires-2 c =
 
 pub replace-requires : goal.replace-requires
 replace-requires c =
-    within_taken c.self.inside.groups.items c.args.self.now (c.args.to / 16384) c.index_mut.result.now c.replace-chunk.new.self c.index_mut-2.result.now c.new-empty.result c.self.view_is c.requires.made c.index_mut.ensures.value c.replace-chunk.ensures.new c.index_mut-2.ensures.value
+    within_taken c.self.inside.groups.items c.args.self.now (c.args.to / 16384) c.index_mut.result.now c.replace-chunk.new.self c.index_mut-2.result.now
+    c.new-empty.result c.self.view_is c.requires.made c.index_mut.ensures.value c.replace-chunk.ensures.new c.index_mut-2.ensures.value
 
 pub returns : goal.returns
 returns c =
@@ -53,31 +66,45 @@ returns c =
     let n = c.args.to / 16384 in
     let offset = c.args.to % 16384 in
     let chunk = c.if-from-number.chunk in
-    let found : c.replace-chunk.result ≡ chunk_at old n = c.replace-chunk.ensures.old ∙ chunk_in_group groups old n c.index_mut.result.now c.self.view_is c.requires.made c.index_mut.ensures.value in
-    let change = put_back groups old n c.index_mut.result.now c.replace-chunk.new.self c.index_mut-2.result.now c.replace.new.self c.new-empty.result chunk c.self.view_is c.requires.made c.index_mut.ensures.value c.replace-chunk.ensures.new c.index_mut-2.ensures.value c.replace.ensures.new in
+    let found : c.replace-chunk.result ≡ chunk_at old n = c.replace-chunk.ensures.old
+    ∙ chunk_in_group groups old n c.index_mut.result.now c.self.view_is c.requires.made c.index_mut.ensures.value in
+    let change = put_back groups old n c.index_mut.result.now c.replace-chunk.new.self c.index_mut-2.result.now c.replace.new.self c.new-empty.result chunk
+    c.self.view_is c.requires.made c.index_mut.ensures.value c.replace-chunk.ensures.new c.index_mut-2.ensures.value c.replace.ensures.new in
     let copy : HasCopy old from c.args.to len chunk = elim c.if-from-number.branch [
       | then-from-number w ↦
           let whole = w.copy_apart.ensures.whole in
           let kept = w.copy_apart.ensures.len ∙ ap length found in
           let is = w.copy_apart.ensures.bytes ∙ ap (λ x. put x (bytes_at offset (take len (drop (from % 16384) x)))) found in
-          rw w.chunk-is (has_copy old from c.args.to len (chunk_at old n) w.copy_apart.new.self (sym kept ∙ whole) (λ k. ap (λ p. get_or (chunk_at old p) k 0) (sym w.if-from-number.true)) c.requires.source whole kept is)
+          rw w.chunk-is (has_copy old from c.args.to len (chunk_at old n) w.copy_apart.new.self (sym kept ∙ whole)
+          (λ k. ap (λ p. get_or (chunk_at old p) k 0) (sym w.if-from-number.true)) c.requires.source whole kept is)
       | else-from-number+then-is_empty w ↦
-          let rest = replaced groups old n c.index_mut.result.now c.replace-chunk.new.self c.new-empty.result c.self.view_is c.requires.made c.index_mut.ensures.value c.replace-chunk.ensures.new in
-          let none : length (chunk_at old (from / 16384)) ≡ 0 = ap length (sym (w.chunk-source.ensures.bytes ∙ rest.others (from / 16384) w.if-from-number.false)) ∙ eqb-true (length w.chunk-source.result.now) 0 (sym w.is_empty.ensures ∙ w.if-is_empty.true) in
-          let bytes : (k : ℕ) → get_or (replicate 16384 0) k 0 ≡ get_or (chunk_at old (from / 16384)) k 0 = λ k. zero_at 16384 k ∙ sym (get_or_past (chunk_at old (from / 16384)) k 0 (omega (arith, none))) in
-          let part : replicate len 0 ≡ take len (drop (from % 16384) (replicate 16384 0)) = sym (ap (take len) (drop-replicate (from % 16384) 16384 0) ∙ take-replicate len (16384 - from % 16384) 0 (omega (arith, c.requires.source))) in
-          let is = w.fill.ensures.bytes ∙ ap (λ x. put x (bytes_at offset (replicate len 0))) found ∙ ap (λ bs. put (chunk_at old n) (bytes_at offset bs)) part in
-          rw w.chunk-is (has_copy old from c.args.to len (replicate 16384 0) w.fill.new.self (length-replicate {A = ℕ} 16384 0) bytes c.requires.source w.fill.ensures.whole (w.fill.ensures.len ∙ ap length found) is)
+          let rest = replaced groups old n c.index_mut.result.now c.replace-chunk.new.self c.new-empty.result c.self.view_is c.requires.made
+          c.index_mut.ensures.value c.replace-chunk.ensures.new in
+          let none : length (chunk_at old (from / 16384)) ≡ 0 =
+          ap length (sym (w.chunk-source.ensures.bytes ∙ rest.others (from / 16384) w.if-from-number.false))
+          ∙ eqb-true (length w.chunk-source.result.now) 0 (sym w.is_empty.ensures ∙ w.if-is_empty.true) in
+          let bytes : (k : ℕ) → get_or (replicate 16384 0) k 0 ≡ get_or (chunk_at old (from / 16384)) k 0 = λ k. zero_at 16384 k
+          ∙ sym (get_or_past (chunk_at old (from / 16384)) k 0 (omega (arith, none))) in
+          let part : replicate len 0 ≡ take len (drop (from % 16384) (replicate 16384 0)) =
+          sym (ap (take len) (drop-replicate (from % 16384) 16384 0) ∙ take-replicate len (16384 - from % 16384) 0 (omega (arith, c.requires.source))) in
+          let is = w.fill.ensures.bytes ∙ ap (λ x. put x (bytes_at offset (replicate len 0))) found
+          ∙ ap (λ bs. put (chunk_at old n) (bytes_at offset bs)) part in
+          rw w.chunk-is (has_copy old from c.args.to len (replicate 16384 0) w.fill.new.self (length-replicate {A = ℕ} 16384 0) bytes c.requires.source
+          w.fill.ensures.whole (w.fill.ensures.len ∙ ap length found) is)
       | else-from-number+else-is_empty w ↦
           let source = w.chunk-source.result.now in
           let not_none = eqb-false (length source) 0 (sym w.is_empty.ensures ∙ w.if-is_empty.false) in
           let some : 0 < length source = omega (arith, not_none) in
-          let rest = replaced groups old n c.index_mut.result.now c.replace-chunk.new.self c.new-empty.result c.self.view_is c.requires.made c.index_mut.ensures.value c.replace-chunk.ensures.new in
-          let bytes : (k : ℕ) → get_or source k 0 ≡ get_or (chunk_at old (from / 16384)) k 0 = λ k. ap (λ (xs : List ℕ). get_or xs k 0) (w.chunk-source.ensures.bytes ∙ rest.others (from / 16384) w.if-from-number.false) in
+          let rest = replaced groups old n c.index_mut.result.now c.replace-chunk.new.self c.new-empty.result c.self.view_is c.requires.made
+          c.index_mut.ensures.value c.replace-chunk.ensures.new in
+          let bytes : (k : ℕ) → get_or source k 0 ≡ get_or (chunk_at old (from / 16384)) k 0 =
+          λ k. ap (λ (xs : List ℕ). get_or xs k 0) (w.chunk-source.ensures.bytes ∙ rest.others (from / 16384) w.if-from-number.false) in
           let count : (from % 16384 + len) - from % 16384 ≡ len = omega arith in
-          let part = append-nil _ ∙ ap (λ i. take i (drop (from % 16384) source)) count in
-          let is = w.put.ensures.bytes ∙ ap (λ x. put x (bytes_at offset (take ((from % 16384 + len) - from % 16384) (drop (from % 16384) source) ++ []))) found ∙ ap (λ bs. put (chunk_at old n) (bytes_at offset bs)) part in
-          rw w.chunk-is (has_copy old from c.args.to len source w.put.new.self (w.chunk-source.ensures.whole some) bytes c.requires.source w.put.ensures.whole (w.put.ensures.len ∙ ap length found) is)
+          let part = ap (λ i. take i (drop (from % 16384) source)) count in
+          let is = w.put.ensures.bytes ∙ ap (λ x. put x (bytes_at offset (take ((from % 16384 + len) - from % 16384) (drop (from % 16384) source)))) found
+          ∙ ap (λ bs. put (chunk_at old n) (bytes_at offset bs)) part in
+          rw w.chunk-is (has_copy old from c.args.to len source w.put.new.self (w.chunk-source.ensures.whole some) bytes c.requires.source w.put.ensures.whole
+          (w.put.ensures.len ∙ ap length found) is)
     ] in
     record {
       len = lengths_kept old _ n chunk change copy.kept;

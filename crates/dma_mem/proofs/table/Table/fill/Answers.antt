@@ -1,7 +1,6 @@
 use Rattle.std.proofs.Common.{refl, sym, ◌∙◌, arith}
 use Rattle.dma_mem.specs.inner.ChunkTable.{image_of}
-use Rattle.dma_mem.proofs.PageImages.{put_none}
-use Rattle.dma_mem.proofs.BlockCopies.{filled_more}
+use Rattle.dma_mem.proofs.{PageImages.put_none, BlockCopies.filled_more}
 use Rattle.dma_mem.proofs.table.Table.fill.Goals as goal
 
 pub loop-done-init : goal.loop-done-init
@@ -16,5 +15,6 @@ loop-done-preserved c =
       count = c.fill_in_chunk.ensures.count ∙ inv.count;
       len = λ p. c.fill_in_chunk.ensures.len p ∙ inv.len p;
       image = λ size.
-          filled_more (image_of size c.args.self.now) (image_of size c.loop-done.self) (image_of size c.fill_in_chunk.new.self) c.args.start c.args.byte c.loop-done.done count (inv.image size) (c.fill_in_chunk.ensures.image size);
+          filled_more (image_of size c.args.self.now) (image_of size c.loop-done.self) (image_of size c.fill_in_chunk.new.self) c.args.start c.args.byte
+          c.loop-done.done count (inv.image size) (c.fill_in_chunk.ensures.image size);
     }

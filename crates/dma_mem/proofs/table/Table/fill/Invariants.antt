@@ -1,6 +1,5 @@
 use Rattle.std.proofs.Common.{◌≡◌, ℕ, ◌-◌, ◌≤◌, length}
-use Rattle.dma_mem.specs.inner.Blocks.{FillsBlock}
-use Rattle.dma_mem.specs.inner.ChunkTable.{chunk_at}
+use Rattle.dma_mem.specs.{inner.Blocks.FillsBlock, inner.ChunkTable.chunk_at}
 use Rattle.dma_mem.proofs.table.Table.fill.Given as goal
 
 abbrev pub invariant-loop-done : goal.invariant-loop-done

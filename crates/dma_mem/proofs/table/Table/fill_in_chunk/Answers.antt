@@ -1,8 +1,6 @@
 use Rattle.std.proofs.Common.{◌≡◌, ◌/◌, ◌%◌, length, replicate, set, refl, ap, sym, ◌∙◌, arith}
 use Rattle.std.proofs.lemmas.List.{length-replicate}
-use Rattle.dma_mem.specs.Image.{bytes_at}
-use Rattle.dma_mem.specs.inner.Blocks.{filled}
-use Rattle.dma_mem.specs.inner.ChunkTable.{chunk_at, flat}
+use Rattle.dma_mem.specs.{Image.bytes_at, inner.Blocks.filled, inner.ChunkTable.chunk_at, inner.ChunkTable.flat}
 use Rattle.dma_mem.proofs.ImagePut.{length_put}
 use Rattle.dma_mem.proofs.ChunkChanges.{group_found, chunk_in_group, replaced, lengths_kept, image_changed}
 use Rattle.dma_mem.proofs.table.Table.fill_in_chunk.Goals as goal
@@ -14,7 +12,8 @@ index_mut-group-requires c =
 
 pub fill-requires-clause-made : goal.fill-requires-clause-made
 fill-requires-clause-made c =
-    rw (chunk_in_group c.self.inside.groups.items c.args.self.now (c.args.start / 16384) c.index_mut-group.result.now c.self.view_is c.requires.made c.index_mut-group.ensures.value) c.requires.made
+    rw (chunk_in_group c.self.inside.groups.items c.args.self.now (c.args.start / 16384) c.index_mut-group.result.now c.self.view_is c.requires.made
+    c.index_mut-group.ensures.value) c.requires.made
 
 pub returns : goal.returns
 returns c =
@@ -30,5 +29,6 @@ returns c =
     record {
       len = lengths_kept old _ n chunk change (length_put (chunk_at old n) (bytes_at offset (replicate c.args.len c.args.byte)));
       count = change.count;
-      image = λ size. image_changed size old _ c.args.start chunk (replicate c.args.len c.args.byte) change refl (ap length (sym found) ∙ c.fill.ensures.whole) (omega (arith, length-replicate c.args.len c.args.byte, c.requires.within));
+      image = λ size. image_changed size old _ c.args.start chunk (replicate c.args.len c.args.byte) change refl (ap length (sym found) ∙ c.fill.ensures.whole)
+          (omega (arith, length-replicate c.args.len c.args.byte, c.requires.within));
     }

@@ -16,24 +16,30 @@ within c = group_within c.self.inside.groups.items c.args.self.now c.args.number
 -- the chunk, before the call in its group and in the table
 found : (c : After-make) → chunk_at c.index_mut-group.result.now (c.args.number % 256) ≡ chunk_at c.args.self.now c.args.number
 found c =
-    chunk_found c.self.inside.groups.items c.args.self.now c.args.number c.args.number c.index_mut-group.result.now c.self.view_is c.index_mut-group.ensures.value (within c) refl
+    chunk_found c.self.inside.groups.items c.args.self.now c.args.number c.args.number c.index_mut-group.result.now c.self.view_is
+    c.index_mut-group.ensures.value (within c) refl
 
 -- the chunk, after the call in the table and in its group
-stored : (c : After-make) → chunk_at (flat (set c.self.inside.groups.items (c.args.number / 256) c.make.new.self)) c.args.number ≡ chunk_at c.make.new.self (c.args.number % 256)
+stored : (c : After-make)
+    → chunk_at (flat (set c.self.inside.groups.items (c.args.number / 256) c.make.new.self)) c.args.number ≡ chunk_at c.make.new.self (c.args.number % 256)
 stored c = chunk_at_flat_same c.self.inside.groups.items (c.args.number / 256) c.args.number c.make.new.self (within c) refl
 
 pub returns-clause-count : goal.returns-clause-count
 returns-clause-count c =
-    length_flat_set c.self.inside.groups.items (c.args.number / 256) c.make.new.self ∙ ap length (let v : flat c.self.inside.groups.items ≡ c.args.self.now = c.self.view_is in v)
+    length_flat_set c.self.inside.groups.items (c.args.number / 256) c.make.new.self
+    ∙ ap length (let v : flat c.self.inside.groups.items ≡ c.args.self.now = c.self.view_is in v)
 
 pub returns-clause-others : goal.returns-clause-others
 returns-clause-others c =
     let here = (goal.at.returns-clause-others c).After-make in
-    others_kept c.self.inside.groups.items c.args.self.now c.args.number c.index_mut-group.result.now c.make.new.self c.self.view_is c.index_mut-group.ensures.value (within here) c.make.ensures.others
+    others_kept c.self.inside.groups.items c.args.self.now c.args.number c.index_mut-group.result.now c.make.new.self c.self.view_is
+    c.index_mut-group.ensures.value (within here) c.make.ensures.others
 
 -- where the group has the same chunks, the table has
-back : (c : After-make) → ((p : ℕ) → chunk_at c.make.new.self p ≡ chunk_at c.index_mut-group.result.now p) → flat (set c.self.inside.groups.items (c.args.number / 256) c.make.new.self) ≡ c.args.self.now
-back c = put_back c.self.inside.groups.items c.args.self.now c.args.number c.index_mut-group.result.now c.make.new.self c.self.view_is c.index_mut-group.ensures.value (within c)
+back : (c : After-make) → ((p : ℕ) → chunk_at c.make.new.self p ≡ chunk_at c.index_mut-group.result.now p)
+    → flat (set c.self.inside.groups.items (c.args.number / 256) c.make.new.self) ≡ c.args.self.now
+back c = put_back c.self.inside.groups.items c.args.self.now c.args.number c.index_mut-group.result.now c.make.new.self c.self.view_is
+    c.index_mut-group.ensures.value (within c)
 
 pub returns-clause-whole : goal.returns-clause-whole
 returns-clause-whole c =

@@ -1,6 +1,5 @@
 use Rattle.std.proofs.Common.{◌≡◌, ℕ, ◌+◌, ◌-◌, ◌∙◌, ap, arith, get_or, length, take}
-use Rattle.std.proofs.lemmas.List.{length-append, length-drop, length-take}
-use Rattle.std.proofs.lemmas.Slice.{take-put_mid}
+use Rattle.std.proofs.{lemmas.List.length-append, lemmas.List.length-drop, lemmas.List.length-take, lemmas.Slice.take-put_mid}
 use Rattle.dma_mem.proofs.ChunkImages.{bytes_more, part_from}
 use Rattle.dma_mem.proofs.table.Table.read.Goals as goal
 

@@ -1,18 +1,18 @@
 use Rattle.std.proofs.Common.{◌≡◌, ◌+◌, ◌-◌, ◌≤◌, ◌++◌, List, ℕ, [], length, take, drop, arith, ap, sym, ◌∙◌, append-nil, inl, inr}
-use Rattle.std.proofs.Math.Seq.{drop-append_seam}
-use Rattle.std.proofs.lemmas.List.{length-take-le, length-drop, take-append-le, drop-append-le}
-use Rattle.dma_mem.specs.Image.{put, bytes_at}
-use Rattle.dma_mem.specs.inner.Blocks.{copied}
+use Rattle.std.proofs.{Math.Seq.drop-append_seam, lemmas.List.length-take-le, lemmas.List.length-drop, lemmas.List.take-append-le, lemmas.List.drop-append-le}
+use Rattle.dma_mem.specs.{Image.put, Image.bytes_at, inner.Blocks.copied}
 use Rattle.dma_mem.proofs.PieceWrites.{put_middle}
 use Rattle.dma_mem.proofs.table.blocks.copy_bytes_apart.Goals as goal
 
 -- from the first of two parts to the second
-copied_up : (all front back : List ℕ) (from to len : ℕ) → all ≡ front ++ back → length front ≡ to → from + len ≤ to → to + len ≤ length front + length back → front ++ put back (bytes_at 0 (take len (drop from front))) ≡ copied all from to len
+copied_up : (all front back : List ℕ) (from to len : ℕ) → all ≡ front ++ back → length front ≡ to → from + len ≤ to → to + len ≤ length front + length back
+    → front ++ put back (bytes_at 0 (take len (drop from front))) ≡ copied all from to len
 copied_up all front back from to len is long before within =
     let part = take len (drop from front) in
     let some : len ≤ length (drop from front) = omega (arith, length-drop from front) in
     let size : length part ≡ len = length-take-le len (drop from front) some in
-    let read : take len (drop from (front ++ back)) ≡ part = ap (take len) (drop-append-le from front back (omega arith)) ∙ take-append-le len (drop from front) back some in
+    let read : take len (drop from (front ++ back)) ≡ part = ap (take len) (drop-append-le from front back (omega arith))
+    ∙ take-append-le len (drop from front) back some in
     let place : length front + 0 ≡ to = omega arith in
     ap (λ (xs : List ℕ). front ++ xs) (sym (append-nil (put back (bytes_at 0 part))))
     ∙ put_middle front back [] 0 part (omega (arith, size))
@@ -22,7 +22,8 @@ copied_up all front back from to len is long before within =
     ∙ ap (λ (xs : List ℕ). copied xs from to len) (sym is)
 
 -- from the second to the first
-copied_down : (all front back : List ℕ) (from to len : ℕ) → all ≡ front ++ back → length front ≡ from → to + len ≤ from → len ≤ length back → put front (bytes_at to (take len back)) ++ back ≡ copied all from to len
+copied_down : (all front back : List ℕ) (from to len : ℕ) → all ≡ front ++ back → length front ≡ from → to + len ≤ from → len ≤ length back
+    → put front (bytes_at to (take len back)) ++ back ≡ copied all from to len
 copied_down all front back from to len is long after within =
     let part = take len back in
     let size : length part ≡ len = length-take-le len back within in
@@ -42,7 +43,8 @@ returns-then-from-len c =
     let len = c.args.len in
     let n : (from + len) - from ≡ len = omega arith in
     ap (λ (xs : List ℕ). front ++ xs) (c.put_bytes.ensures ∙ ap (λ (k : ℕ). put back (bytes_at 0 (take k (drop from front)))) n)
-    ∙ copied_up c.args.all.now front back from c.args.to len cut.ensures.value cut.ensures.front_len (omega arith) (omega (arith, cut.ensures.front_len, cut.ensures.back_len))
+    ∙ copied_up c.args.all.now front back from c.args.to len cut.ensures.value cut.ensures.front_len (omega arith)
+    (omega (arith, cut.ensures.front_len, cut.ensures.back_len))
 
 pub returns-else-from-len : goal.returns-else-from-len
 returns-else-from-len c =
@@ -51,4 +53,5 @@ returns-else-from-len c =
     let back = cut.result.1.now in
     let apart : c.args.to + c.args.len ≤ c.args.from = elim c.requires.apart [ inl before ↦ absurd (omega (arith, before)) | inr past ↦ past ] in
     ap (λ (xs : List ℕ). xs ++ back) c.put_bytes-else-from-len.ensures
-    ∙ copied_down c.args.all.now front back c.args.from c.args.to c.args.len cut.ensures.value cut.ensures.front_len apart (omega (arith, cut.ensures.front_len, cut.ensures.back_len))
+    ∙ copied_down c.args.all.now front back c.args.from c.args.to c.args.len cut.ensures.value cut.ensures.front_len apart
+    (omega (arith, cut.ensures.front_len, cut.ensures.back_len))

@@ -9,7 +9,8 @@ returns c =
     let len = c.args.len in
     let part = replicate len c.args.byte in
     let n : (c.args.start + len) - c.args.start ≡ len = omega arith in
-    let old : length (take ((c.args.start + len) - c.args.start) (drop c.args.start all)) ≡ len = rw n (length-take-le len (drop c.args.start all) (omega (arith, length-drop c.args.start all))) in
+    let old : length (take ((c.args.start + len) - c.args.start) (drop c.args.start all)) ≡ len =
+    rw n (length-take-le len (drop c.args.start all) (omega (arith, length-drop c.args.start all))) in
     let filled : c.fill.new.self ≡ part = c.fill.ensures.after (λ y e. e) ∙ ap (λ (k : ℕ). replicate k c.args.byte) old in
     let long : length part ≡ len = length-replicate len c.args.byte in
     rw (put_bytes_at all c.args.start part (omega (arith, long)), n, filled, long, drop-drop) refl

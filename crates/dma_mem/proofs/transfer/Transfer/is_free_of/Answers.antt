@@ -1,8 +1,7 @@
 use Rattle.std.proofs.Common.{rules, sym, ◌∙◌, ◌≡◌, ◌||◌}
 use Rattle.std.specs.Prelude.{not}
 use Rattle.dma_mem.specs.Refusals.{meets_any}
-use Rattle.dma_mem.proofs.SharedPlaces.{is_free_of_iff}
-use Rattle.dma_mem.proofs.TransferRules.{is_free_of_lists}
+use Rattle.dma_mem.proofs.{SharedPlaces.is_free_of_iff, TransferRules.is_free_of_lists}
 use Rattle.dma_mem.proofs.transfer.Transfer.is_free_of.Goals as goal
 
 pub returns-then-not-meets_any-2-clause-value : goal.returns-then-not-meets_any-2-clause-value

@@ -10,4 +10,5 @@ returns-clause-rules c = copy_from_no_refusal _ _ _ _ (returns-clause-accepted c
 
 pub invariant_of-result : goal.invariant_of-result
 invariant_of-result c =
-    rw (c.in_ok-src.ensures, c.in_ok-dst.ensures) (copy_from_no_refusal _ _ _ _ c.in_ok-len.ensures.0, c.in_ok-len.ensures.1 ∙ sym (length_places c.args.dst.now))
+    rw (c.in_ok-src.ensures, c.in_ok-dst.ensures)
+    (copy_from_no_refusal _ _ _ _ c.in_ok-len.ensures.0, c.in_ok-len.ensures.1 ∙ sym (length_places c.args.dst.now))

@@ -1,7 +1,6 @@
 use Rattle.std.proofs.Common.{◌≡◌, ◌∙◌, [], ◌∷◌, ap, true, rules, nat_lt}
 use Rattle.std.specs.Bool.{then_some}
-use Rattle.dma_mem.specs.Places.{size_of}
-use Rattle.dma_mem.specs.Rules.{IsTransfer}
+use Rattle.dma_mem.specs.{Places.size_of, Rules.IsTransfer}
 use Rattle.dma_mem.proofs.TransferRules.{place_of_fill}
 use Rattle.dma_mem.proofs.transfer.Transfer.src_place.Goals as goal
 

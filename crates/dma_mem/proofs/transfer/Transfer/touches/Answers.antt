@@ -1,7 +1,6 @@
 use Rattle.std.proofs.Common.{sym, ◌∙◌, ◌≡◌, ◌||◌, rules}
 use Rattle.std.specs.List.{list_any, range_with_len}
-use Rattle.dma_mem.specs.Meeting.{meets}
-use Rattle.dma_mem.specs.Places.{share, destinations}
+use Rattle.dma_mem.specs.{Meeting.meets, Places.share, Places.destinations}
 use Rattle.dma_mem.proofs.TransferRules.{touches_lists}
 use Rattle.dma_mem.proofs.transfer.Transfer.touches.Goals as goal
 

@@ -7,10 +7,12 @@ use Rattle.dma_script.proofs.queue.Statements.push_write.Goals as goal
 pub invariant_of-self-2 : goal.invariant_of-self-2
 invariant_of-self-2 c =
     let s = c.self.inside in
-    rw (c.push_reserved.ensures.items, c.reserve.ensures.items, c.in_ok-push.ensures.items) (write_whole s.lines.items s.bytes.items s.long.items c.args.addr c.args.bytes c.self.invariant)
+    rw (c.push_reserved.ensures.items, c.reserve.ensures.items, c.in_ok-push.ensures.items)
+    (write_whole s.lines.items s.bytes.items s.long.items c.args.addr c.args.bytes c.self.invariant)
 
 pub returns : goal.returns
 returns c =
     let s = c.self.inside in
-    rw (c.push_reserved.ensures.items, c.reserve.ensures.items, c.in_ok-push.ensures.items) (write_added s.lines.items s.bytes.items s.long.items c.args.addr c.args.bytes c.self.invariant
+    rw (c.push_reserved.ensures.items, c.reserve.ensures.items, c.in_ok-push.ensures.items)
+    (write_added s.lines.items s.bytes.items s.long.items c.args.addr c.args.bytes c.self.invariant
     ∙ ap (λ before. before ++ statements.Call (calls.Write c.args.addr c.args.bytes) ∷ []) c.self.view_is)

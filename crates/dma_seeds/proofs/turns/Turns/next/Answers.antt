@@ -20,4 +20,5 @@ returns c =
     let taken = c.index-taken.result.now in
     let here : taken ≡ slice_index_or t.jobs.items k no_turns = get_or_read t.jobs.items k taken there c.index-taken.ensures no_turns in
     sym c.self.view_is
-    ∙ drawn_next t.left t.rng c.next_word.result c.next_word.new.self t.jobs.items k taken c.after_turn.result (omega arith) c.next_word.ensures at here c.after_turn.ensures
+    ∙ drawn_next t.left t.rng c.next_word.result c.next_word.new.self t.jobs.items k taken c.after_turn.result (omega arith) c.next_word.ensures at here
+    c.after_turn.ensures

@@ -4,7 +4,8 @@ use Rattle.dma_trace.specs.Vcd.{bits_text}
 use Rattle.dma_trace.proofs.vcd.BitsText.push.Goals as goal
 
 -- one more bit
-one_more : (mid : List ℕ) (width done n : ℕ) (all : List ℕ) → done < width → mid ++ bits_text (width - done) n ≡ all → (mid ++ (48 + n / 2 ^ (width - done - 1) % 2) ∷ []) ++ bits_text (width - (done + 1)) n ≡ all
+one_more : (mid : List ℕ) (width done n : ℕ) (all : List ℕ) → done < width → mid ++ bits_text (width - done) n ≡ all
+    → (mid ++ (48 + n / 2 ^ (width - done - 1) % 2) ∷ []) ++ bits_text (width - (done + 1)) n ≡ all
 unfolding bits_text
 one_more mid width done n all less e =
     let left : width - done ≡ suc (width - (done + 1)) = omega arith in

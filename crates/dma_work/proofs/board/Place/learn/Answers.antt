@@ -1,4 +1,4 @@
-use Rattle.std.proofs.Common.{◌≡◌, ◌<◌, ◌∙◌, ap, sym, arith}
+use Rattle.std.proofs.Common.{◌∙◌, ap, sym, arith}
 use Rattle.atomic_table.specs.Seated.{TableId}
 use Rattle.dma_work.proofs.PublishedRule.{learns_kept, offers_kept}
 use Rattle.dma_work.proofs.board.Place.learn.Goals as goal
@@ -15,4 +15,4 @@ load-requires g c =
     let place = c.args.self.now in
     let at = place.seated ∙ ap (λ t. t.shared.table_id) (sym c.deref.ensures) in
     let many = ap (λ (z : TableId). z.words) (sym at) ∙ place.many in
-    (c.join_seat.ensures.0 ∙ at, omega (arith, many), learns_kept _ _ _ _ c.join_seat.new.seat.me (omega arith))
+    (c.join_seat.ensures.0 ∙ at, omega (arith, many), learns_kept _ _ _ 8 c.join_seat.new.seat.me (λ n. n) (omega arith) (omega arith))

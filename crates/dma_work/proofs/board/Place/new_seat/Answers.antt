@@ -1,4 +1,4 @@
-use Rattle.std.proofs.Common.{◌≡◌, ◌<◌, ◌∙◌, ap, sym, arith}
+use Rattle.std.proofs.Common.{◌∙◌, ap, sym, arith}
 use Rattle.atomic_table.specs.Seated.{TableId}
 use Rattle.dma_work.proofs.PublishedRule.{new_sight_kept}
 use Rattle.dma_work.proofs.board.Place.new_seat.Goals as goal

@@ -1,5 +1,4 @@
-use Rattle.std.proofs.Common.{◌≡◌, ◌<◌, ◌∙◌, ap, sym, arith}
-use Rattle.std.specs.Prelude.{min}
+use Rattle.std.proofs.Common.{◌∙◌, ap, sym, arith}
 use Rattle.atomic_table.specs.Seated.{TableId}
 use Rattle.dma_work.proofs.PublishedRule.{reads_kept}
 use Rattle.dma_work.proofs.board.Place.status.Goals as goal

@@ -1,24 +1,27 @@
 use Rattle.std.proofs.Common.{arith, ap, replicate, sym, subst}
-use Rattle.dma_work.proofs.CountedSteps.{advance_in_tally}
-use Rattle.dma_work.proofs.Desks.{kept_advance}
-use Rattle.dma_work.specs.Desk.{CountsInTally, DeskState, IsSoundOf}
-use Rattle.dma_work.specs.Rotation.{StepsInTurn}
-use Rattle.dma_work.specs.inner.Published.{PublisherState}
+use Rattle.dma_work.proofs.{CountedSteps.advance_in_tally, Desks.kept_advance}
+use Rattle.dma_work.specs.{Desk.CountsInTally, Desk.DeskState, Desk.IsSoundOf, Rotation.StepsInTurn, inner.Published.PublisherState}
 use Rattle.dma_work.proofs.desk.Desk.advance.Goals as goal
 
 pub count_all-requires-clause-steps : goal.count_all-requires-clause-steps
 count_all-requires-clause-steps g c =
-    let k = kept_advance g.N.DeskName.opening g.N.DeskName.base g.N.DeskName.table c.self.inside.engine c.advance-advanced.new.engine c.self.inside.publisher c.advance-advanced.new.self c.self.inside.book c.args.ch c.args.most c.advance-advanced.result c.advance-advanced.ensures.answers c.advance-advanced.ensures.published c.self.invariant in
+    let k = kept_advance g.N.DeskName.opening g.N.DeskName.base g.N.DeskName.table c.self.inside.engine c.advance-advanced.new.engine c.self.inside.publisher
+    c.advance-advanced.new.self c.self.inside.book c.args.ch c.args.most c.advance-advanced.result c.advance-advanced.ensures.answers
+    c.advance-advanced.ensures.published c.self.invariant in
     omega (arith, k.counts.steps, c.facts-2.ensures.steps)
 
 pub count_all-requires-clause-finished : goal.count_all-requires-clause-finished
 count_all-requires-clause-finished g c =
-    let k = kept_advance g.N.DeskName.opening g.N.DeskName.base g.N.DeskName.table c.self.inside.engine c.advance-advanced.new.engine c.self.inside.publisher c.advance-advanced.new.self c.self.inside.book c.args.ch c.args.most c.advance-advanced.result c.advance-advanced.ensures.answers c.advance-advanced.ensures.published c.self.invariant in
+    let k = kept_advance g.N.DeskName.opening g.N.DeskName.base g.N.DeskName.table c.self.inside.engine c.advance-advanced.new.engine c.self.inside.publisher
+    c.advance-advanced.new.self c.self.inside.book c.args.ch c.args.most c.advance-advanced.result c.advance-advanced.ensures.answers
+    c.advance-advanced.ensures.published c.self.invariant in
     omega (arith, k.counts.finished, c.facts-2.ensures.finished)
 
 pub invariant_of-self : goal.invariant_of-self
 invariant_of-self g c =
-    rw c.count_all.ensures (kept_advance _ _ _ c.self.inside.engine c.advance-advanced.new.engine c.self.inside.publisher c.advance-advanced.new.self c.self.inside.book c.args.ch c.args.most c.advance-advanced.result c.advance-advanced.ensures.answers c.advance-advanced.ensures.published c.self.invariant)
+    rw c.count_all.ensures (kept_advance _ _ _ c.self.inside.engine c.advance-advanced.new.engine c.self.inside.publisher c.advance-advanced.new.self
+    c.self.inside.book c.args.ch c.args.most c.advance-advanced.result c.advance-advanced.ensures.answers c.advance-advanced.ensures.published
+    c.self.invariant)
 
 pub returns-clause-steps : goal.returns-clause-steps
 returns-clause-steps g c =
@@ -28,7 +31,11 @@ returns-clause-steps g c =
     let u = c.count_all-2.new.self in
     let d : DeskState = record { engine = c.self.inside.engine; book = c.self.inside.book; before = c.self.inside.publisher.before } in
     let e : DeskState = record { engine = c.advance-advanced.new.engine; book = c.count_all.new.self; before = c.advance-advanced.new.self.before } in
-    let sound : IsSoundOf opening d.engine.view = record { sound = c.facts.ensures.sound; bytes_are = c.self.invariant.bytes_are; many_are = c.self.invariant.many_are } in
-    let chain = advance_in_tally opening ch c.args.most c.advance-advanced.result t u d e c.requires.some sound c.advance-advanced.ensures.answers c.count_all.ensures (ap (λ (p : PublisherState). p.before) c.advance-advanced.ensures.published) c.count_all-2.ensures in
-    subst (λ (x : DeskState). StepsInTurn (CountsInTally opening) (replicate c.steps_taken.result ch) (record { tally = t; desk = x }) (record { tally = u; desk = e })) c.self.view_is
-    (subst (λ n. StepsInTurn (CountsInTally opening) (replicate n ch) (record { tally = t; desk = d }) (record { tally = u; desk = e })) (sym c.steps_taken.ensures) chain)
+    let sound : IsSoundOf opening d.engine.view =
+    record { sound = c.facts.ensures.sound; bytes_are = c.self.invariant.bytes_are; many_are = c.self.invariant.many_are } in
+    let chain = advance_in_tally opening ch c.args.most c.advance-advanced.result t u d e c.requires.some sound c.advance-advanced.ensures.answers
+    c.count_all.ensures (ap (λ (p : PublisherState). p.before) c.advance-advanced.ensures.published) c.count_all-2.ensures in
+    subst (λ (x : DeskState). StepsInTurn (CountsInTally opening) (replicate c.steps_taken.result ch) (record { tally = t; desk = x })
+    (record { tally = u; desk = e })) c.self.view_is
+    (subst (λ n. StepsInTurn (CountsInTally opening) (replicate n ch) (record { tally = t; desk = d }) (record { tally = u; desk = e }))
+    (sym c.steps_taken.ensures) chain)

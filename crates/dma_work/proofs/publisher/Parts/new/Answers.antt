@@ -1,7 +1,6 @@
 use Rattle.std.proofs.Common.{◌≡◌, subst, sym}
 use Rattle.std.specs.List.{All}
-use Rattle.dma_work.specs.Known.{Known, knows}
-use Rattle.dma_work.specs.Laws.{AreCounts}
+use Rattle.dma_work.specs.{Known.Known, Known.knows, Laws.AreCounts}
 use Rattle.dma_work.proofs.publisher.Parts.new.Goals as goal
 
 pub returns-in-Ok-clause-readers : goal.returns-in-Ok-clause-readers

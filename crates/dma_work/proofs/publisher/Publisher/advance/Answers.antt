@@ -1,7 +1,6 @@
-use Rattle.std.proofs.lemmas.Grind.{common_steps}
 use Rattle.std.proofs.Common.{◌≡◌, ◌∙◌, ◌∷◌, ◌++◌, [], ap, arith}
-use Rattle.dma_engine.specs.Ticks.{Finished, ticks_of}
-use Rattle.dma_engine.specs.Advance.{ticks_counted}
+use Rattle.std.proofs.lemmas.Grind.{common_steps}
+use Rattle.dma_engine.specs.{Ticks.Finished, Ticks.ticks_of, Advance.ticks_counted}
 use Rattle.dma_engine.proofs.AdvanceResults.{advance_adds}
 use Rattle.dma_work.proofs.Desks.{acted_next}
 use Rattle.dma_work.proofs.publisher.Publisher.advance.Goals as goal

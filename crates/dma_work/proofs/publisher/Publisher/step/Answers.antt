@@ -1,8 +1,7 @@
-use Rattle.std.proofs.lemmas.Grind.{common_steps}
 use Rattle.std.proofs.Common.{◌≡◌, ◌∙◌, ◌∷◌, ◌++◌, [], ap, true, arith}
+use Rattle.std.proofs.lemmas.Grind.{common_steps}
 use Rattle.std.specs.Prelude.{if◌then◌else◌}
-use Rattle.dma_engine.specs.Ticks.{Finished, ticks_of}
-use Rattle.dma_engine.specs.Turn.{ends}
+use Rattle.dma_engine.specs.{Ticks.Finished, Ticks.ticks_of, Turn.ends}
 use Rattle.dma_engine.proofs.AnswerCounts.{steps_add}
 use Rattle.dma_work.proofs.Desks.{acted_next}
 use Rattle.dma_work.proofs.publisher.Publisher.step.Goals as goal

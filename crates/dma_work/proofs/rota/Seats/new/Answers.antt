@@ -18,7 +18,8 @@ loop-at-preserved c =
       room = search rules;
       new =
           subst (AreNewSeats (take (c.loop-at.at + 1) c.args.jobs.now)) (sym c.push_reserved.ensures.items)
-          (new_more c.args.jobs.now c.loop-at.at c.index-jobs-at.result c.loop-at.seats.items c.new.result c.loop-at-test.true (sym c.index-jobs-at.is) c.new.ensures.0 c.new.ensures.1 i.new);
+          (new_more c.args.jobs.now c.loop-at.at c.index-jobs-at.result c.loop-at.seats.items c.new.result c.loop-at-test.true (sym c.index-jobs-at.is)
+          c.new.ensures.0 c.new.ensures.1 i.new);
     }
 
 pub returns : goal.returns

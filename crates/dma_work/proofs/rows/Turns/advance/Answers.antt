@@ -1,12 +1,8 @@
 use Rattle.std.proofs.Common.{◌≡◌, ◌+◌, ◌∙◌, arith, refl, replicate, subst, sym}
 use Rattle.std.proofs.lemmas.List.{length-replicate}
 use Rattle.dma_engine.specs.Interleaved.{rotation}
-use Rattle.dma_work.specs.Desk.{new_tally}
-use Rattle.dma_work.specs.Rotation.{StepsInTurn}
-use Rattle.dma_work.specs.inner.Rows.{AreMore, CountsOne, TurnsState}
-use Rattle.dma_work.proofs.CountedSteps.{of_some_desk}
-use Rattle.dma_work.proofs.InRows.{grown}
-use Rattle.dma_work.proofs.Rotations.{more_steps, one_channel, rotation_more}
+use Rattle.dma_work.specs.{Desk.new_tally, Rotation.StepsInTurn, inner.Rows.AreMore, inner.Rows.CountsOne, inner.Rows.TurnsState}
+use Rattle.dma_work.proofs.{CountedSteps.of_some_desk, InRows.grown, Rotations.more_steps, Rotations.one_channel, Rotations.rotation_more}
 use Rattle.dma_work.proofs.rows.Turns.advance.Goals as goal
 
 pub invariant_of-self : goal.invariant_of-self

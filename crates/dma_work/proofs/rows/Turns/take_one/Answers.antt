@@ -1,12 +1,9 @@
 use Rattle.std.proofs.Common.{◌≡◌, ◌+◌, ◌∙◌, ap, arith, add-one, subst, sym}
 use Rattle.dma_engine.specs.Interleaved.{channel_at, rotation}
 use Rattle.dma_engine.proofs.Interleavings.{channel_again, channel_next}
-use Rattle.dma_work.specs.Desk.{TallyCounts, new_tally}
-use Rattle.dma_work.specs.Rotation.{StepsInTurn}
-use Rattle.dma_work.specs.inner.Rows.{CountsOne}
-use Rattle.dma_work.proofs.Rotations.{one_more}
+use Rattle.dma_work.specs.{Desk.TallyCounts, Desk.new_tally, Rotation.StepsInTurn, inner.Rows.CountsOne}
+use Rattle.dma_work.proofs.{Rotations.one_more, rows.Turns.take_one.Goals.then-self, rows.Turns.take_one.Goals.else-self}
 use Rattle.dma_work.proofs.rows.Turns.take_one.Goals as goal
-use Rattle.dma_work.proofs.rows.Turns.take_one.Goals.{then-self, else-self}
 
 pub invariant_of-self : goal.invariant_of-self
 invariant_of-self g c =
@@ -33,7 +30,8 @@ invariant_of-self g c =
       },
     ) in
     let more : StepsInTurn (CountsOne opening) (rotation first last (t.turns + 1)) (new_tally t.worker) u =
-    rw add-one (one_more (CountsOne opening) (rotation first last t.turns) (channel_at first last t.turns) (new_tally t.worker) t u i.steps (subst (λ ch. CountsOne opening t ch u) i.there one)) in
+    rw add-one (one_more (CountsOne opening) (rotation first last t.turns) (channel_at first last t.turns) (new_tally t.worker) t u i.steps
+    (subst (λ ch. CountsOne opening t ch u) i.there one)) in
     let next : c.if-self.self ≡ channel_at first last (t.turns + 1) = elim c.if-self.branch [
       | then-self w ↦ w.self-is ∙ channel_next first last t.turns c.self.inside.ch i.there (omega (arith, w.if-self.true))
       | else-self w ↦ w.self-is ∙ channel_again first last t.turns c.self.inside.ch i.there (omega (arith, w.if-self.false))

@@ -1,11 +1,7 @@
 use Rattle.std.proofs.Common.{◌≡◌, ◌≢◌, ◌<◌, ℕ, length, arith, sym, subst}
 use Rattle.std.specs.Prelude.{slice_index_or}
 use Rattle.std.proofs.lemmas.List.{get_or-set_other}
-use Rattle.dma_work.specs.declared.job.Job.{Job}
-use Rattle.dma_work.specs.declared.shared.Begun.{Begun}
-use Rattle.dma_work.specs.inner.Begun.{IsOf}
-use Rattle.dma_work.specs.Desk.{TallyCounts}
-use Rattle.dma_work.specs.Tallies.{TookTurns}
+use Rattle.dma_work.specs.{declared.job.Job.Job, declared.shared.Begun.Begun, inner.Begun.IsOf, Desk.TallyCounts, Tallies.TookTurns}
 use Rattle.dma_work.proofs.ItemsOfLists.{pushed}
 use Rattle.dma_work.proofs.shared.Crew.work_all.Goals as goal
 
@@ -21,7 +17,8 @@ loop-last-preserved g c =
     let q = c.index_mut-in-loop-last.result.now in
     let tally : Q n c.end.result = λ j.
     let job = slice_index_or jobs n j in
-    c.end.ensures n job (subst (λ (b : Begun g.row.N.Denot g.row.G.Denot). IsOf opening passes b n job) (sym c.index_mut-in-loop-last.ensures.value) (i.owed n q j less (omega arith))) in
+    c.end.ensures n job (subst (λ (b : Begun g.row.N.Denot g.row.G.Denot). IsOf opening passes b n job) (sym c.index_mut-in-loop-last.ensures.value)
+    (i.owed n q j less (omega arith))) in
     let all : length c.loop-last.tallies.items ≡ n = omega (arith, i.ended, c.loop-last.tallies.ok.0) in
     record {
       count = i.count;
@@ -29,8 +26,10 @@ loop-last-preserved g c =
       room = omega (arith, c.push_reserved-in-loop-last.ensures.capacity, i.room);
       owed = λ k b j l past.
           let apart : k ≢ n = omega (arith, past) in
-          subst (λ (x : Begun g.row.N.Denot g.row.G.Denot). IsOf opening passes x k (slice_index_or jobs k j)) (sym (get_or-set_other c.loop-last.begun.items n k c.end.new.self b apart)) (i.owed k b j l (omega (arith, past)));
-      tallies = λ k t j l. rw c.push_reserved-in-loop-last.ensures.items (pushed c.loop-last.tallies.items c.end.result Q n all (λ k t l j. i.tallies k t j l) tally k t l j);
+          subst (λ (x : Begun g.row.N.Denot g.row.G.Denot). IsOf opening passes x k (slice_index_or jobs k j))
+          (sym (get_or-set_other c.loop-last.begun.items n k c.end.new.self b apart)) (i.owed k b j l (omega (arith, past)));
+      tallies = λ k t j l. rw c.push_reserved-in-loop-last.ensures.items
+          (pushed c.loop-last.tallies.items c.end.result Q n all (λ k t l j. i.tallies k t j l) tally k t l j);
     }
 
 pub returns-clause-each : goal.returns-clause-each

@@ -7,4 +7,5 @@ use Rattle.dma_work.proofs.shift.Shift.end.Goals as goal
 pub returns-in-Ok : goal.returns-in-Ok
 returns-in-Ok g c =
     let inside = c.self.inside in
-    all_taken g.N.DeskName.opening g.N.DeskName.jobs inside.desk.engine.view inside.desk.book inside.seats (subst (λ (s : ShiftState). All IsDone s.seats) (sym c.self.view_is) c.in-Ok.ensures) c.self.invariant
+    all_taken g.N.DeskName.opening g.N.DeskName.jobs inside.desk.engine.view inside.desk.book inside.seats
+    (subst (λ (s : ShiftState). All IsDone s.seats) (sym c.self.view_is) c.in-Ok.ensures) c.self.invariant

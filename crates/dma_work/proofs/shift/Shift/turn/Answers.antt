@@ -6,12 +6,14 @@ use Rattle.dma_work.proofs.shift.Shift.turn.Goals as goal
 pub invariant_of-self : goal.invariant_of-self
 invariant_of-self g c =
     let inside = c.self.inside in
-    in_turn_more g.N.DeskName.opening g.N.DeskName.jobs inside.desk c.take_step.new.desk c.args.worker c.in-Some.ch inside.seats c.set.new.self c.in-Ok.ensures.ok
+    in_turn_more g.N.DeskName.opening g.N.DeskName.jobs inside.desk c.take_step.new.desk c.args.worker c.in-Some.ch inside.seats c.set.new.self
+    c.in-Ok.ensures.ok
     (subst (TakesNext c.args.worker c.in-Some.ch inside.seats) (sym c.set.ensures) c.in-Some.ensures.some) c.self.invariant
 
 pub returns-in-Ok : goal.returns-in-Ok
 returns-in-Ok g c =
-    subst (λ (s : ShiftState). TakesATurn c.args.worker s (record { desk = c.take_step.new.desk; seats = c.set.new.self; is_starved = c.self.inside.is_starved })) c.self.view_is (record {
+    subst (λ (s : ShiftState). TakesATurn c.args.worker s
+    (record { desk = c.take_step.new.desk; seats = c.set.new.self; is_starved = c.self.inside.is_starved })) c.self.view_is (record {
       not_starved = (c.if-self.false, c.if-self.false);
       channel = c.in-Some.ch;
       next = subst (TakesNext c.args.worker c.in-Some.ch c.self.inside.seats) (sym c.set.ensures) c.in-Some.ensures.some;

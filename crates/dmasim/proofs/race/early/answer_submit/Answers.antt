@@ -1,10 +1,8 @@
 use Rattle.std.proofs.lemmas.Result.{on_ok_weaker}
-use Rattle.dma_mem.specs.Places.{Descriptor}
-use Rattle.dma_mem.specs.declared.call.Call.TheVariants.{Submit}
+use Rattle.dma_mem.specs.{Places.Descriptor, declared.call.Call.TheVariants.Submit}
 use Rattle.dma_engine.specs.declared.call.Reply.TheVariants.{Cookie, Refused}
 use Rattle.dma_commands.specs.Run.{call_answer}
-use Rattle.dma_commands.proofs.RunLemmas.{call_runs, fit_runs}
-use Rattle.dma_commands.proofs.Served.{refused_served}
+use Rattle.dma_commands.proofs.{RunLemmas.call_runs, RunLemmas.fit_runs, Served.refused_served}
 use Rattle.dmasim.proofs.race.early.answer_submit.Goals as goal
 
 pub returns-in-Ok-submit-clause-line : goal.returns-in-Ok-submit-clause-line
@@ -12,7 +10,8 @@ returns-in-Ok-submit-clause-line g c =
     let v = c.args.desk.now.engine.view in
     let print = c.print_line-in-Ok-submit.ensures in
     fit_runs (λ (t : Descriptor). call_answer v (Submit c.args.ch t)) v _ _ _ _ _ _ c.in-Ok.ensures.ok c.in-Ok.ensures.accepted
-    (call_runs v _ (Submit c.args.ch c.in-Ok.transfer) (Cookie c.in-Ok-submit.receipt.cookie) _ _ _ c.in-Ok-submit.ensures.ok.1 (on_ok_weaker c.print_line-in-Ok-submit.result (λ _ e. cc) print.ok) print.ok print.err)
+    (call_runs v _ (Submit c.args.ch c.in-Ok.transfer) (Cookie c.in-Ok-submit.receipt.cookie) _ _ _ c.in-Ok-submit.ensures.ok.1
+    (on_ok_weaker c.print_line-in-Ok-submit.result (λ _ e. cc) print.ok) print.ok print.err)
 
 pub returns-in-Err-submit-clause-line : goal.returns-in-Err-submit-clause-line
 returns-in-Err-submit-clause-line g c =
@@ -20,4 +19,5 @@ returns-in-Err-submit-clause-line g c =
     let fault = c.in-Err-submit.refused.fault in
     let print = c.print_line-in-Err-submit.ensures in
     fit_runs (λ (t : Descriptor). call_answer v (Submit c.args.ch t)) v _ _ _ _ _ _ c.in-Ok.ensures.ok c.in-Ok.ensures.accepted
-    (call_runs v _ (Submit c.args.ch c.in-Ok.transfer) (Refused fault) _ _ _ c.in-Err-submit.ensures.err (on_ok_weaker c.print_line-in-Err-submit.result (λ p. refused_served fault p.1) print.printed) print.ok print.err)
+    (call_runs v _ (Submit c.args.ch c.in-Ok.transfer) (Refused fault) _ _ _ c.in-Err-submit.ensures.err
+    (on_ok_weaker c.print_line-in-Err-submit.result (λ p. refused_served fault p.1) print.printed) print.ok print.err)

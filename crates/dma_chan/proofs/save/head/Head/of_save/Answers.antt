@@ -1,9 +1,6 @@
 use Rattle.std.proofs.Common.{◌≡◌, ◌++◌, true, sym, refl, ◌∙◌, arith}
-use Rattle.std.proofs.lemmas.Slice.Eq.{slice_eq-Decides}
-use Rattle.std.proofs.lemmas.Bool.Decides.{Decides-eqb}
-use Rattle.dma_chan.specs.Channel.{on_bus}
-use Rattle.dma_chan.specs.Saved.{head_of, head_bytes, sealed}
-use Rattle.dma_chan.specs.inner.Saves.{buffer_in, program_in}
+use Rattle.std.proofs.{lemmas.Slice.Eq.slice_eq-Decides, lemmas.Bool.Decides.Decides-eqb}
+use Rattle.dma_chan.specs.{Channel.on_bus, Saved.head_of, Saved.head_bytes, Saved.sealed, inner.Saves.buffer_in, inner.Saves.program_in}
 use Rattle.dma_chan.proofs.SavedParts.{parts_make_channel, rest_of, saved_parts_on, sealed_is_saved}
 use Rattle.dma_chan.proofs.save.head.Head.of_save.Goals as goal
 
@@ -59,5 +56,6 @@ returns-else-eq-clause-only c b w f =
     let parts = saved_parts_on c.args.bus b save w f in
     let found = c.in-Some.ensures.read (head_of d) (rest_of d) refl parts.ranges parts.rest in
     let head : c.in-Some.head ≡ head_of d = cc found in
-    let same : c.as_slice.result.now ≡ save = rw (c.as_slice.ensures.value, c.write-again.ensures.bytes, c.buffer_of.ensures, c.program_of.ensures, head) parts.again in
+    let same : c.as_slice.result.now ≡ save =
+    rw (c.as_slice.ensures.value, c.write-again.ensures.bytes, c.buffer_of.ensures, c.program_of.ensures, head) parts.again in
     cc ((slice_eq-Decides Decides-eqb _ _ _ c.eq.ensures).1 same, c.if-eq.false)

@@ -8,4 +8,17 @@ returns-clause-read c h rest b r e =
     let some = c.in-Some.ensures.read h rest b r e in
     let registers : c.in-Some.registers ≡ h.registers = cc some in
     let cost = c.cost_of.ensures h.cost f.has_cost (c.u32_at-2.ensures ∙ f.cost) in
-    rw (registers, c.u32_at.ensures, f.taken, c.u64_at.ensures, f.stored, f.is_loaded, flag_back h.is_loaded, cost, c.u16_at.ensures, f.buffer_len, c.u16_at-2.ensures, f.program_len) refl
+    rw (
+      registers,
+      c.u32_at.ensures,
+      f.taken,
+      c.u64_at.ensures,
+      f.stored,
+      f.is_loaded,
+      flag_back h.is_loaded,
+      cost,
+      c.u16_at.ensures,
+      f.buffer_len,
+      c.u16_at-2.ensures,
+      f.program_len,
+    ) refl

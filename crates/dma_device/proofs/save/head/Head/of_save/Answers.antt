@@ -1,8 +1,6 @@
 use Rattle.std.proofs.Common.{◌≡◌, arith, sym, take}
-use Rattle.std.proofs.lemmas.Grind.{common_steps}
-use Rattle.std.proofs.lemmas.Bool.Decides.{Decides-eqb}
 use Rattle.std.proofs.lemmas.List.{length-append, take_at}
-use Rattle.std.proofs.lemmas.Slice.Eq.{slice_eq-Decides}
+use Rattle.std.proofs.{lemmas.Grind.common_steps, lemmas.Bool.Decides.Decides-eqb, lemmas.Slice.Eq.slice_eq-Decides}
 use Rattle.dma_device.specs.Snapshot.{head_bytes}
 use Rattle.dma_device.proofs.SavedDevices.{head_length}
 use Rattle.dma_device.proofs.save.head.Head.of_save.Goals as goal

@@ -10,11 +10,13 @@ returns-in-Submit-clause-ok g c =
 
 pub returns-in-Call-Terminate-clause-ok : goal.returns-in-Call-Terminate-clause-ok
 returns-in-Call-Terminate-clause-ok g c =
-    line_ran (λ lines. lines.desk.engine.view) c.args.self.now _ c.args.line _ c.answer_terminate.result _ _ (c.in-Call-Terminate.is ∙ ap (λ call. Call call) c.in-Call-Terminate.field-0-is) c.answer_terminate.ensures.line
+    line_ran (λ lines. lines.desk.engine.view) c.args.self.now _ c.args.line _ c.answer_terminate.result _ _
+    (c.in-Call-Terminate.is ∙ ap (λ call. Call call) c.in-Call-Terminate.field-0-is) c.answer_terminate.ensures.line
 
 pub returns-in-Call-Status-clause-ok : goal.returns-in-Call-Status-clause-ok
 returns-in-Call-Status-clause-ok g c =
-    status_ran (λ lines. lines.desk.engine.view) c.args.self.now _ c.args.line _ c.answer_status.result _ _ (c.in-Call-Status.is ∙ ap (λ call. Call call) c.in-Call-Status.field-0-is) refl c.answer_status.ensures.line
+    status_ran (λ lines. lines.desk.engine.view) c.args.self.now _ c.args.line _ c.answer_status.result _ _
+    (c.in-Call-Status.is ∙ ap (λ call. Call call) c.in-Call-Status.field-0-is) refl c.answer_status.ensures.line
 
 pub returns-in-Call : goal.returns-in-Call
 returns-in-Call g c =

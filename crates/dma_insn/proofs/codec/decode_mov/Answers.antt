@@ -1,6 +1,6 @@
 use Rattle.std.proofs.Common.{arith}
 use Rattle.std.proofs.lemmas.Grind.{common_steps}
-use Rattle.dma_insn.proofs.codec.set_register.Goals as goal
+use Rattle.dma_insn.proofs.codec.decode_mov.Goals as goal
 
 pub returns-in-0 : goal.returns-in-0
 returns-in-0 c = grind (arith, common_steps)

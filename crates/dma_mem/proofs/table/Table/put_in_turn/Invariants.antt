@@ -1,7 +1,6 @@
 use Rattle.std.proofs.Common.{◌≡◌, ℕ, ◌-◌, ◌≤◌, length, take}
-use Rattle.dma_mem.specs.inner.ChunkTable.{chunk_at, image_of}
-use Rattle.dma_mem.specs.Image.{put, bytes_at}
-use Rattle.dma_mem.proofs.table.Table.put.Given as goal
+use Rattle.dma_mem.specs.{inner.ChunkTable.chunk_at, inner.ChunkTable.image_of, Image.put, Image.bytes_at}
+use Rattle.dma_mem.proofs.table.Table.put_in_turn.Given as goal
 
 abbrev pub invariant-loop-done : goal.invariant-loop-done
 invariant-loop-done l = record {

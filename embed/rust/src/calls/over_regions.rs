@@ -1,0 +1,249 @@
+//! The calls of channels and devices, which are lent the caller's memory. The head of `calls` says why they are sound.
+
+use super::programs::RawExplained;
+use super::{checked, value_unless, Region};
+use crate::sys::*;
+use crate::{Error, Segment};
+use std::cell::UnsafeCell;
+use std::ptr;
+
+/// A channel that is open, and is closed when it is dropped.
+pub struct ChannelHandle {
+    raw: UnsafeCell<RawChannel>,
+}
+
+// SAFETY: Nothing else has the pointer to what the channel holds, whose type the prover has shown to be `Send`.
+unsafe impl Send for ChannelHandle {}
+
+impl ChannelHandle {
+    pub fn open() -> Result<ChannelHandle, Error> {
+        let closed = RawChannel { channel: ptr::null_mut(), is_open: 0 };
+        let mut handle = ChannelHandle { raw: UnsafeCell::new(closed) };
+        // SAFETY: The channel is zeroed, and nobody else has it.
+        let code = unsafe { dma330_channel_open(handle.raw.get_mut()) };
+        checked(code, handle)
+    }
+
+    pub fn load_copy(&mut self, src: &[Segment], dst: &[Segment], wait: i32, signal: i32) -> Result<(), Error> {
+        let (from, to) = (src.as_ptr(), dst.as_ptr());
+        let raw = self.raw.get_mut();
+        // SAFETY: Nobody else uses the channel. The lists come with their lengths.
+        checked(unsafe { dma330_channel_load_copy(raw, from, src.len(), to, dst.len(), wait, signal) }, ())
+    }
+
+    pub fn load_fill(&mut self, src: u32, dst: &[Segment], wait: i32, signal: i32) -> Result<(), Error> {
+        let raw = self.raw.get_mut();
+        // SAFETY: Nobody else uses the channel. The list comes with its length.
+        checked(unsafe { dma330_channel_load_fill(raw, src, dst.as_ptr(), dst.len(), wait, signal) }, ())
+    }
+
+    pub fn load_program(&mut self, program: &[u8]) -> Result<(), Error> {
+        // SAFETY: Nobody else uses the channel. The program comes with its length.
+        checked(unsafe { dma330_channel_load_program(self.raw.get_mut(), program.as_ptr(), program.len()) }, ())
+    }
+
+    pub fn load_from(&mut self, regions: &[Region<'_>], addr: u32) -> Result<(), Error> {
+        let (lent, count) = (regions.as_ptr(), regions.len());
+        // SAFETY: Nobody else uses the channel. The list comes with its length, and its regions are only read.
+        checked(unsafe { dma330_channel_load_from(self.raw.get_mut(), lent, count, addr) }, ())
+    }
+
+    pub fn step(&mut self, regions: &mut [Region<'_>], flags: &mut u32, most: u32) -> Result<RawChannelReport, Error> {
+        let mut report = RawChannelReport::default();
+        let (lent, count) = (regions.as_ptr(), regions.len());
+        // SAFETY: Nobody else uses the channel, the regions or `flags`. The list comes with its length.
+        let code = unsafe { dma330_channel_step(self.raw.get_mut(), lent, count, flags, most, &mut report) };
+        checked(code, report)
+    }
+
+    pub fn stop(&mut self) {
+        // SAFETY: Nobody else uses the channel.
+        let code = unsafe { dma330_channel_stop(self.raw.get_mut()) };
+        assert_eq!(code, OK);
+    }
+
+    pub fn registers(&self) -> RawRegisters {
+        let mut registers = RawRegisters::default();
+        // SAFETY: No other call uses the channel, and `registers` is a local.
+        let code = unsafe { dma330_channel_registers(self.raw.get(), &mut registers) };
+        assert_eq!(code, OK);
+        registers
+    }
+
+    pub fn mark(&mut self, kind: u32, range: Segment) -> Result<(), Error> {
+        // SAFETY: Nobody else uses the channel.
+        checked(unsafe { dma330_channel_mark(self.raw.get_mut(), kind, range) }, ())
+    }
+
+    pub fn unmark(&mut self) {
+        // SAFETY: Nobody else uses the channel.
+        let code = unsafe { dma330_channel_unmark(self.raw.get_mut()) };
+        assert_eq!(code, OK);
+    }
+
+    /// Writes a save of the channel, and returns its length; `None` if it doesn't fit.
+    pub fn save(&self, out: &mut [u8]) -> Option<usize> {
+        let mut len = 0;
+        // SAFETY: No other call uses the channel, and nobody else uses `out`, which comes with its length. `len` is a
+        // local.
+        let code = unsafe { dma330_channel_save(self.raw.get(), out.as_mut_ptr(), out.len(), &mut len) };
+        value_unless(BUFFER_TOO_SMALL, code, len)
+    }
+
+    pub fn restore(&mut self, save: &[u8]) -> Result<(), Error> {
+        // SAFETY: Nobody else uses the channel. The save comes with its length.
+        checked(unsafe { dma330_channel_restore(self.raw.get_mut(), save.as_ptr(), save.len()) }, ())
+    }
+}
+
+impl Drop for ChannelHandle {
+    fn drop(&mut self) {
+        // SAFETY: Nobody else uses the channel. It may be one that an open has refused.
+        unsafe { dma330_channel_close(self.raw.get_mut()) }
+    }
+}
+
+/// A device that is open, and is closed when it is dropped.
+pub struct DeviceHandle {
+    raw: UnsafeCell<RawDevice>,
+}
+
+// SAFETY: Nothing else has the pointer to what the device holds, whose type the prover has shown to be `Send`.
+unsafe impl Send for DeviceHandle {}
+
+impl DeviceHandle {
+    pub fn open(config: &RawDeviceConfig) -> Result<DeviceHandle, Error> {
+        let closed = RawDevice { device: ptr::null_mut(), is_open: 0 };
+        let mut handle = DeviceHandle { raw: UnsafeCell::new(closed) };
+        // SAFETY: The device is zeroed, and nobody else has it. `config` is only read.
+        let code = unsafe { dma330_device_open(handle.raw.get_mut(), config) };
+        checked(code, handle)
+    }
+
+    pub fn reset(&mut self) {
+        // SAFETY: Nobody else uses the device.
+        let code = unsafe { dma330_device_reset(self.raw.get_mut()) };
+        assert_eq!(code, OK);
+    }
+
+    // Returns the number that a call writes.
+    fn number(&self, call: unsafe extern "C" fn(*mut RawDevice, *mut u32) -> i32) -> u32 {
+        let mut number = 0;
+        // SAFETY: `call` reads the device, which no other call uses, and writes `number`, a local.
+        let code = unsafe { call(self.raw.get(), &mut number) };
+        assert_eq!(code, OK);
+        number
+    }
+
+    pub fn read(&self, offset: u32) -> u32 {
+        let mut value = 0;
+        // SAFETY: No other call uses the device, and `value` is a local.
+        let code = unsafe { dma330_device_read(self.raw.get(), offset, &mut value) };
+        assert_eq!(code, OK);
+        value
+    }
+
+    pub fn write(&mut self, offset: u32, value: u32, regions: &[Region<'_>]) -> Result<(), Error> {
+        let (lent, count) = (regions.as_ptr(), regions.len());
+        // SAFETY: Nobody else uses the device. The list comes with its length, and its regions are only read.
+        checked(unsafe { dma330_device_write(self.raw.get_mut(), offset, value, lent, count) }, ())
+    }
+
+    pub fn step(&mut self, channel: u8, most: u32, regions: &mut [Region<'_>]) -> Result<RawDeviceTurn, Error> {
+        let mut turn = RawDeviceTurn::default();
+        let (lent, count) = (regions.as_ptr(), regions.len());
+        // SAFETY: Nobody else uses the device or the regions. The list comes with its length, and `turn` is a local.
+        let code = unsafe { dma330_device_step(self.raw.get_mut(), channel, most, lent, count, &mut turn) };
+        checked(code, turn)
+    }
+
+    pub fn registers(&self, channel: u8) -> Result<RawRegisters, Error> {
+        let mut registers = RawRegisters::default();
+        // SAFETY: No other call uses the device, and `registers` is a local.
+        let code = unsafe { dma330_device_registers(self.raw.get(), channel, &mut registers) };
+        checked(code, registers)
+    }
+
+    pub fn step_rows(&mut self, channel: u8, most: u32, regions: &mut [Region<'_>]) -> Result<RawDeviceRows, Error> {
+        let mut rows = RawDeviceRows::default();
+        let (lent, count) = (regions.as_ptr(), regions.len());
+        // SAFETY: Nobody else uses the device or the regions. The list comes with its length, and `rows` is a local.
+        let code = unsafe { dma330_device_step_rows(self.raw.get_mut(), channel, most, lent, count, &mut rows) };
+        checked(code, rows)
+    }
+
+    pub fn explain(&self, channel: u8, most: u32) -> Result<RawExplained<RawExplanation>, Error> {
+        // SAFETY: No other call uses the device, and nobody else uses the lists or `explanation`. The lists come with
+        // their lengths.
+        RawExplained::by(|src, dst, _, happenings, explanation| unsafe {
+            let raw = self.raw.get();
+            dma330_device_explain(
+                raw,
+                channel,
+                most,
+                src.as_mut_ptr(),
+                src.len(),
+                dst.as_mut_ptr(),
+                dst.len(),
+                happenings.as_mut_ptr(),
+                happenings.len(),
+                explanation,
+            )
+        })
+    }
+
+    pub fn explain_work(&self, channel: u8, most: u32) -> Result<RawExplained<RawWork>, Error> {
+        // SAFETY: No other call uses the device, and nobody else uses the lists or `work`. The lists come with their
+        // lengths.
+        RawExplained::by(|src, dst, zeros, moments, work| unsafe {
+            let raw = self.raw.get();
+            dma330_device_explain_work(
+                raw,
+                channel,
+                most,
+                src.as_mut_ptr(),
+                src.len(),
+                dst.as_mut_ptr(),
+                dst.len(),
+                zeros.as_mut_ptr(),
+                zeros.len(),
+                moments.as_mut_ptr(),
+                moments.len(),
+                work,
+            )
+        })
+    }
+
+    pub fn irqs(&self) -> u32 {
+        self.number(dma330_device_irqs)
+    }
+
+    pub fn irq_abort(&self) -> bool {
+        self.number(dma330_device_irq_abort) != 0
+    }
+
+    pub fn can_step(&self) -> bool {
+        self.number(dma330_device_can_step) != 0
+    }
+
+    /// Writes a save of the device, and returns its length; `None` if it doesn't fit.
+    pub fn save(&self, out: &mut [u8]) -> Option<usize> {
+        let mut len = 0;
+        // SAFETY: No other call uses the device, and nobody else uses `out`, which comes with its length. `len` is a
+        // local.
+        let code = unsafe { dma330_device_save(self.raw.get(), out.as_mut_ptr(), out.len(), &mut len) };
+        value_unless(BUFFER_TOO_SMALL, code, len)
+    }
+
+    pub fn restore(&mut self, save: &[u8]) -> Result<(), Error> {
+        // SAFETY: Nobody else uses the device. The save comes with its length.
+        checked(unsafe { dma330_device_restore(self.raw.get_mut(), save.as_ptr(), save.len()) }, ())
+    }
+}
+
+impl Drop for DeviceHandle {
+    fn drop(&mut self) {
+        // SAFETY: Nobody else uses the device. It may be one that an open has refused.
+        unsafe { dma330_device_close(self.raw.get_mut()) }
+    }
+}
