@@ -10,17 +10,18 @@ kit's crates aren't followed. Nor are PARAMETERS, which a law describes: only th
 Those that are met are printed last, with their law and the numbers of lines to which it leads.
 
     bench/trusted_lines.py [FILE FUNCTION [CLAUSE..]]     without a name: the headline, crates/dma_engine/src/run.rt run
-    bench/trusted_lines.py --check                        checks that docs/TRUST.md and README.md have these numbers:
-                                                          the table of the headline, its totals, those of its clauses,
-                                                          and of the commands and of an export; that each law of
-                                                          PARAMETERS describes all its names; that each file and
-                                                          name in the table of rules in docs/ARCHITECTURE.md exists;
-                                                          and that the table of crates in docs/TRUST.md has each file
-                                                          of specs/ that a crate's contracts lead to
+    bench/trusted_lines.py --write                        writes the reading lists into docs/PROOFS.md, between MARKERS:
+                                                          those of the headline, of its clauses, of FUNCTIONS, and of
+                                                          each crate
+    bench/trusted_lines.py --check                        checks that docs/PROOFS.md has them as --write writes them;
+                                                          that contracts lead to each file of specs/, apart from inner/;
+                                                          that each law of PARAMETERS describes all its names; and that
+                                                          each file in the list of rules of docs/ARCHITECTURE.md exists
 """
 
 import re
 import sys
+import textwrap
 from pathlib import Path
 
 TOP = Path(__file__).resolve().parent.parent
@@ -33,13 +34,52 @@ PARAMETERS = {
         {"Compiled": ("cost",), "Traffic": ("member", "burst", "stored_after")},
     ),
 }
+# What the table of the headline says of a file; of another it has the first sentence of the file.
+SAYS = {
+    "dma_mem/specs/Limits.antt": "the limits",
+    "dma_mem/specs/Places.antt": "what a transfer reads and writes; when two are free of each other",
+    "dma_mem/specs/Rules.antt": "what holds of every transfer",
+    "dma_mem/specs/Image.antt": "an image, and copies laid over it; sizes of memories",
+    "dma_mem/specs/Marking.antt": "marks, and what they meet",
+    "dma_chan/specs/Traffic.antt": "what an instruction of a transfer reads and writes",
+    "dma_engine/specs/Object.antt": "the object; entries, and what they change; bases",
+    "dma_engine/specs/History.antt": "legal histories, and the object after one",
+    "dma_engine/specs/View.antt": "how an engine is seen; its memory; sound views",
+    "dma_engine/specs/Turn.antt": "what a step answers, and the view after it",
+    "dma_engine/specs/Answer.antt": "what each call answers, and the view after it; lists of calls",
+    "dma_engine/specs/Laws.antt": "answers with a sound view before and after each",
+}
+# Other functions whose numbers of lines are written: the file that has one, its name, and the command that it is.
+FUNCTIONS = [
+    ("dma_commands/src/run.rt", "run_script", "dmasim run"),
+    ("dma_commands/src/asm.rt", "asm_main", "dmasim asm"),
+    ("dma_commands/src/dis.rt", "dis_main", "dmasim dis"),
+    ("dma330/src/replies.rt", "listing", "dma330 dis"),
+    ("dma330/src/replies.rt", "assembly", "dma330 asm"),
+    ("dma330/src/replies.rt", "explanation", "dma330 explain"),
+    ("dma330/src/replies.rt", "tracing", "dma330 trace"),
+    ("dma330/src/replies.rt", "racing", "dma330 race"),
+    ("dma330/src/replies.rt", "racing_seeds", "dma330 race --seeds"),
+    ("dma330/src/replies.rt", "reasons", "dma330 why"),
+    ("dma_ffi/src/controller_calls.rt", "dma330_step", ""),
+    ("dma_ffi/src/device_calls.rt", "dma330_device_step", ""),
+    ("dma_explain/src/explain.rt", "explain", ""),
+    ("dma_explain/src/laws.rt", "copies_since_load", ""),
+    ("dma_device/src/laws.rt", "a_dmago_copies", ""),
+    ("dma_device/src/laws.rt", "a_dmago_finishes", ""),
+    ("dma_device/src/laws.rt", "turns_stay_in", ""),
+]
+CLAUSES = ("begins", "kept", "remembers", "memory", "sound", "views", "answers")
+# The document with the reading lists, and the lines between which they are.
+LISTS = "docs/PROOFS.md"
+MARKERS = ("<!-- written by bench/trusted_lines.py --write -->", "<!-- end of what it writes -->")
 WORD = re.compile(r"[A-Za-z_][\w']*")
 SPECS_IMPORT = re.compile(r"use Rattle\.((?:\w+\.)*\w+)\.\{([^}]*)\}")
 CODE_IMPORT = re.compile(r"^(?:pub )?use ((?:\w+::)*)(?:(\w+)|\{([^}]*)\});", re.M)
 DEFINITION = re.compile(r"(?:(?:abbrev|unfoldable|data|record|pub) )+([A-Za-z_][\w']*|◌\S+◌)")
+WHOLE_IMPORT = re.compile(r"^use Rattle\.(\S+) as \w+$", re.M)
 LABEL = re.compile(r"(?<=ensures |equires )\w+(?= \{)")
 PUBLIC = re.compile(r"^ *pub (?:extern \"C\" |unsafe )*fn \w+(.*?\n *\{\}?)$", re.M | re.S)
-RULE = re.compile(r"(?:(dma\w+) )?([\w/.]+)(?: \((\w+)\))?")
 DECLARATION = re.compile(r"pub(?:\(crate\))? (?:enum|struct|const|trait) (\w+)")
 
 
@@ -69,7 +109,8 @@ class Source:
         for path, names in SPECS_IMPORT.findall(self.text):
             for name in filter(None, (part.strip() for part in names.split(","))):
                 declared, _, local = name.partition(" as ")
-                self.imports[local or declared] = (path, declared)
+                below, _, declared = declared.rpartition(".")
+                self.imports[local or declared] = (".".join(filter(None, (path, below))), declared)
         if file.suffix == ".antt":
             self.definitions()
         else:
@@ -206,17 +247,6 @@ def laws_of(found, met):
             yield law, names, more, lines, files
 
 
-def rows_that_differ(found):
-    """Returns the rows in which the table in docs/TRUST.md and the headline differ."""
-    wanted = {}
-    for at, (blocks, size) in part(found, "specs").items():
-        wanted[str(at.relative_to(CRATES))] = f"{sum(code for code, _ in blocks.values())} of {size}"
-    rows = re.findall(r"^\| \d+ \| `(\S+)` \| (\d+) \| (\d+) \|", (TOP / "docs/TRUST.md").read_text(), re.M)
-    counted = {at: f"{code} of {size}" for at, code, size in rows}
-    differ = (at for at in {**wanted, **counted} if wanted.get(at) != counted.get(at))
-    return [f"{at}: {counted.get(at)} in the table, {wanted.get(at)} in the tree" for at in differ]
-
-
 def laws_astray():
     """Yields what a law of PARAMETERS lacks: a name to which its contract doesn't lead, by all or by its plain clauses.
     These lead to no other definition in the names' files."""
@@ -231,38 +261,163 @@ def laws_astray():
 
 
 def rules_astray():
-    """Yields what the table of rules in docs/ARCHITECTURE.md names and the tree lacks, each with its row."""
-    table = (TOP / "docs/ARCHITECTURE.md").read_text().split("## Where each rule is\n")[1].split("\n## ")[0]
-    head, *rows = (row for row in table.splitlines() if row.startswith("    "))
-    specs, code = head.index("Definition"), head.index("Code")
+    """Yields what the list of rules in docs/ARCHITECTURE.md names and the tree lacks, each with its crate."""
+    rules = (TOP / "docs/ARCHITECTURE.md").read_text().split("## Where each rule is\n")[1].split("\n## ")[0]
+    for rule in rules.split("\n- ")[1:]:
+        crate, *named = re.findall(r"`([^`]+)`", rule)
+        for name in named:
+            is_code = name.endswith((".rt", "/"))
+            if not (CRATES / crate / ("src" if is_code else "specs") / (name if is_code else f"{name}.antt")).exists():
+                yield f"docs/ARCHITECTURE.md: {crate} has no {name}"
+
+
+def said_of(file):
+    """Returns what a file of specs/ says."""
+    name = str(file.relative_to(CRATES))
+    head = " ".join(row[3:] for row in file.read_text().split("\nuse ")[0].splitlines() if row.startswith("-- "))
+    return SAYS.get(name, re.split(r"\.(?: |$)", head)[0])
+
+
+def in_order(files):
+    """Returns files of specs/ in an order to read them: each after those that it imports."""
+    found = []
+
+    def visit(file):
+        if file not in found and file in files:
+            for path, _ in dict.fromkeys(Source(file).imports.values()):
+                if place_of(path)[0] not in (None, file):
+                    visit(place_of(path)[0])
+            found.append(file)
+
+    for file in sorted(files):
+        visit(file)
+    return found
+
+
+def table(rows):
+    """Yields the lines of a table, indented: numbers to the right, words to the left, in columns."""
+    widths = [max(len(str(cell)) for cell in column) for column in zip(*rows)]
     for row in rows:
-        crate = ""
-        for named in RULE.finditer(row, specs):
-            crate, name, definition = named[1] or crate, named[2], named[3]
-            if named.start() < code:
-                file = CRATES / crate / "specs" / f"{name}.antt"
-                is_there = file.exists() and (definition is None or definition in Source(file).blocks)
-            else:
-                is_there = (CRATES / crate / "src" / name).exists()
-            if not is_there:
-                yield f"docs/ARCHITECTURE.md, {row[:specs].strip()}: {crate} has no {named[0]}"
+        cells = (str(it).rjust(n) if isinstance(last, int) else it.ljust(n) for it, n, last in zip(row, widths, rows[-1]))
+        yield "    " + "  ".join(cells).rstrip()
 
 
-def crates_astray():
-    """Yields the specs files that the contracts of a crate's public functions cite and the table of crates in
-    docs/TRUST.md doesn't have, and those in the table that no file imports."""
-    everything = "".join(file.read_text() for file in CRATES.rglob("*") if file.suffix in (".rt", ".antt") and "out" not in file.parts)
-    table = (TOP / "docs/TRUST.md").read_text().split("## Crate by crate\n")[1].split("\n## ")[0]
-    for crate, row in re.findall(r"^\| `(\w+)` \| (.*) \|$", table, re.M):
-        specs = CRATES / crate / "specs"
-        files = {file: Source(file) for file in (CRATES / crate / "src").rglob("*.rt")}
-        todo = [(file, word) for file in files for head in PUBLIC.findall(files[file].text) for word in cited_in(files[file], head)]
-        wanted = {str(file.relative_to(specs).with_suffix("")) for file in followed(files, todo) if specs in file.parents}
-        named = {name for name in re.findall(r"`([\w/]+)`", row) if (specs / name).with_suffix(".antt").exists()}
-        if crate != "dma_engine":
-            yield from (f"docs/TRUST.md, {crate}: lacks {name}" for name in sorted(wanted - named))
-        used = {name for name in named if f"Rattle.{crate}.specs.{name.replace('/', '.')}" in everything}
-        yield from (f"docs/TRUST.md, {crate}: nothing uses {name}" for name in sorted(named - used))
+def wrapped(text, first="", rest=""):
+    """Returns the lines of a text, of at most 120 columns."""
+    return textwrap.wrap(text, 120, initial_indent=first, subsequent_indent=rest, break_on_hyphens=False)
+
+
+def cited_by_all():
+    """Returns the files of specs/ to which the contracts of all crates' public functions and traits lead."""
+    files = {file: Source(file) for file in CRATES.glob("*/src/**/*.rt")}
+    todo = []
+    for file, source in files.items():
+        heads = PUBLIC.findall(source.text)
+        todo += [(file, word) for head in heads for word in cited_in(source, head)]
+        todo += [(file, name) for name in re.findall(r"^pub trait (\w+)", source.text, re.M)]
+    found = {file for file in followed(files, todo) if file.suffix == ".antt"}
+    modules = (place_of(path)[0] for file in found for path in WHOLE_IMPORT.findall(file.read_text()))
+    return found | {file for file in modules if file and file.suffix == ".antt"}
+
+
+def rows_of_headline(specs):
+    """Returns the rows of the table of the headline, of the files to which it leads."""
+    rows = [("LINES", "OF", "FILE", "WHAT IT SAYS")]
+    for at in in_order(specs):
+        blocks, size = specs[at]
+        rows.append((sum(code for code, _ in blocks.values()), size, str(at.relative_to(CRATES)), said_of(at)))
+    return rows
+
+
+def rows_of_functions():
+    """Returns the rows of the table of the headline's clauses and of FUNCTIONS."""
+    rows = [("LINES", "FILES", "CONTRACT", "OF")]
+    for clause in CLAUSES:
+        lines, _, files = total(cited(HEADLINE, "run", [clause]), "specs")
+        rows.append((lines, files, "run." + clause, ""))
+    for file, name, command in FUNCTIONS:
+        lines, _, files = total(cited(CRATES / file, name, []), "specs")
+        rows.append((tens(lines), files, name, command))
+    return rows
+
+
+def files_of_crates():
+    """Returns for each crate with specs/ its files there, those of inner/, and those of both to which contracts lead."""
+    led, found = cited_by_all(), {}
+    for specs in sorted(CRATES.glob("*/specs")):
+        files = {file for file in specs.rglob("*.antt") if file.stem not in ("Lib", "inner")}
+        inner = {file for file in files if file.parent != specs}
+        found[specs.parent.name] = (files - inner, inner, files & led)
+    return found
+
+
+def rows_of_crates():
+    """Returns the rows of the table of crates. The files of inner/ that only connect the engine's fields with its view
+    are left out."""
+    rows, crates = [("FILES", "CRATE", "OF specs/inner/")], files_of_crates()
+    for crate in filter(crates.get, crates_by_layer()):
+        files, inner, led = crates[crate]
+        inner = set() if crate == HEADLINE.relative_to(CRATES).parts[0] else inner & led
+        rows.append((len(files | inner), crate, ", ".join(sorted(file.stem for file in inner))))
+    return rows
+
+
+def lists_of(found, met):
+    """Yields the lines of the reading lists."""
+    lines, _, files = total(found, "specs")
+    declared, _, sources = total(found, "src")
+    yield from wrapped(
+        f"The headline's definitions are {lines} lines in {files} files, and {declared} lines of types in {sources} "
+        "files of `src/`, without imports, blank lines and comments (OF: all lines):"
+    )
+    yield ""
+    yield from table(rows_of_headline(part(found, "specs")))
+    yield from ("", "Its clauses, and other contracts (rounded):", "")
+    yield from table(rows_of_functions())
+    yield ""
+    for law, names, more, lines, files in laws_of(found, met):
+        *first, last = (f"`{name}`" for name in names)
+        crate, _, at = law[0].partition("/")
+        plain = " and ".join(f"`{it}`" for it in PARAMETERS[law][0])
+        yield from wrapped(
+            f"No list follows {', '.join(first)} and {last} of `{crate}`. The law `{law[1]}` in its `{at}` describes "
+            f"them: {plain} in plain terms ({more} more lines), all clauses exactly ({lines} lines in "
+            f"{files} files)."
+        )
+        yield ""
+    yield from ("All contracts lead to every file of `specs/`, and some of `inner/`:", "")
+    yield from table(rows_of_crates())
+
+
+def crates_by_layer():
+    """Returns the crates, each after those that it uses."""
+    text = (TOP / "crates.txt").read_text()
+    uses = {row.split()[0].rstrip(":"): row.partition(":")[2].split() for row in text.splitlines() if row and row[0] != "#"}
+    found = []
+
+    def visit(crate):
+        if crate in uses and crate not in found:
+            for other in uses[crate]:
+                visit(other)
+            found.append(crate)
+
+    for crate in uses:
+        visit(crate)
+    return found
+
+
+def around_lists():
+    """Returns the text of the document before the reading lists, the lists, and the text after them."""
+    text = (TOP / LISTS).read_text()
+    before, _, rest = text.partition(MARKERS[0] + "\n")
+    written, found, after = rest.partition(MARKERS[1])
+    return (before, written, after) if found else sys.exit(f"{LISTS} lacks the lines {MARKERS}")
+
+
+def unused():
+    """Yields the files of specs/ to which no contract leads."""
+    for crate, (files, _, led) in files_of_crates().items():
+        yield from (f"no contract leads to {file.relative_to(CRATES)}" for file in sorted(files - led))
 
 
 def tens(lines):
@@ -270,47 +425,23 @@ def tens(lines):
     return (lines + 5) // 10 * 10
 
 
-def file_of(command):
-    """Returns the file that has the function of a command, or an export."""
-    head = re.compile(rf"^pub (?:extern \"C\" )?fn {command}[<(]", re.M)
-    return next(file for file in sorted(CRATES.glob("*/src/*.rt")) if head.search(file.read_text()))
-
-
-def sentences_of(found, met):
-    """Yields the sentences about the totals that the documents must have, each with its document."""
-    trust = "docs/TRUST.md"
-    lines, said, files = total(found, "specs")
-    declared, _, sources = total(found, "src")
-    yield trust, f"That is {lines} lines in {files} files (with the sentences {lines + said})."
-    yield trust, f"Besides, {declared} lines declare the types of the values in {sources} files of `src/`"
-    counts = [lines] + [total(cited(file_of(it), it, []), "specs")[0] for it in ("run_script", "dma330_step")]
-    yield "README.md", "some {} lines for `run`, {} for `dmasim run`, {} for `dma330_step`".format(*map(tens, counts))
-    for _, names, more, lines, files in laws_of(found, met):
-        yield trust, f"{more} more lines), and exactly by all its clauses ({lines} lines in {files} files)"
-        yield from ((trust, f"`{name}`") for name in names)
-    for clause in ("begins", "kept", "remembers", "memory", "sound", "views", "answers"):
-        lines, _, files = total(cited(HEADLINE, "run", [clause]), "specs")
-        yield trust, f"| `{clause}` | {lines} lines in {files} files |"
-    explaining = ("copies_since_load", "a_dmago_copies", "a_dmago_finishes", "turns_stay_in")
-    for command in ("run_script", "asm_main", "dis_main", "dma330_device_step", *explaining):
-        lines, _, files = total(cited(file_of(command), command, []), "specs")
-        yield trust, f"of `{command}` some {tens(lines)} lines in {files} files"
-    functions = ("listing", "assembly", "explanation", "tracing", "racing", "racing_seeds", "reasons")
-    replies = [(CRATES / "dma330/src/replies.rt", it) for it in functions]
-    for file, function in (CRATES / "dma_explain/src/explain.rt", "explain"), *replies:
-        lines, _, files = total(cited(file, function, []), "specs")
-        yield trust, f"of `{function}` some {tens(lines)} lines in {files} files"
-
-
 def differences(found, met):
     """Yields the differences between the documents and the tree."""
-    yield from rows_that_differ(found)
     yield from laws_astray()
     yield from rules_astray()
-    yield from crates_astray()
-    for file, sentence in sentences_of(found, met):
-        if sentence not in " ".join((TOP / file).read_text().split()):
-            yield f"{file} lacks: {sentence}"
+    yield from unused()
+    there, wanted = around_lists()[1].strip("\n").splitlines(), list(lists_of(found, met))
+    yield from (f"{LISTS} has: {row}" for row in there if row not in wanted)
+    yield from (f"{LISTS} lacks: {row}" for row in wanted if row not in there)
+    if sorted(there) == sorted(wanted) and there != wanted:
+        yield f"{LISTS}: the order of lines"
+
+
+def write(found, met):
+    """Writes the reading lists into their document."""
+    before, _, after = around_lists()
+    lists = "\n".join(lists_of(found, met))
+    (TOP / LISTS).write_text(f"{before}{MARKERS[0]}\n\n{lists}\n\n{MARKERS[1]}{after}")
 
 
 def show(found, met):
@@ -329,6 +460,8 @@ def show(found, met):
 def main():
     if {"-h", "--help"} & {*sys.argv}:
         sys.exit(print(__doc__))
+    if sys.argv[1:] == ["--write"]:
+        return write(*cited_up_to(HEADLINE, "run", []))
     if sys.argv[1:] == ["--check"]:
         wrong = list(differences(*cited_up_to(HEADLINE, "run", [])))
         print("\n".join(wrong + [f"{int(not wrong)} passed, {len(wrong)} failed"]))

@@ -95,10 +95,10 @@ find_archive() {
     fi
 }
 
-# put_page NAME SECTION DOCUMENT ABOUT: installs a document as a manual page
+# put_page NAME SECTION 'DOCUMENT ..' ABOUT: installs documents as one manual page
 put_page() {
-    awk -v name="$1" -v section="$2" -v about="$4" -v version="$version" -f "$here/doc/roff.awk" \
-        -f "$here/doc/document.awk" "$top/docs/$3.md" >"$room/page"
+    (cd "$top/docs" && awk -v name="$1" -v section="$2" -v about="$4" -v version="$version" -f "$here/doc/roff.awk" \
+        -f "$here/doc/document.awk" $(printf '%s.md ' $3)) >"$room/page"
     put 644 "$room/page" "share/man/man$2/$1.$2"
 }
 
@@ -122,14 +122,14 @@ install_library() {
     awk -v version="$version" -v folder="$room/calls" -f "$here/doc/roff.awk" -f "$here/doc/page.awk" \
         "$here/include/dma330.h" >"$room/dma330.3"
     put_into share/man/man3 "$room/dma330.3" "$room"/calls/*
-    put_page dma330 7 EMBEDDING 'how to embed a software DMA controller, and to test drivers'
+    put_page dma330 7 'DEVICES CONTROLLERS EXPLANATIONS' 'how to use a software DMA controller in an emulator'
 }
 
 # install_share: installs documents, examples, and what has the library's calls in other languages, in folders named as
 # in this tree. In the place of embed/include and embed/out there are links: the crate in Rust has the archive in its
 # own folder, as a package of it has.
 install_share() {
-    put_into $share "$top/README.md" "$top/CHANGES.md" "$top/SECURITY.md"
+    put_into $share "$top/README.md" "$top/CHANGES.md" "$top/CONTRIBUTING.md" "$top/SECURITY.md"
     for it in docs examples; do
         put_into "$share/$it" "$top/$it"/*.*
     done
@@ -167,7 +167,8 @@ install_programs() {
         case $it in
             dmasim)
                 put 644 "$top/docs/man/dmasim.1" share/man/man1/dmasim.1
-                put_page dmasim 5 FORMATS 'inputs and outputs of dmasim, channel programs, saves'
+                put_page dmasim 5 SCRIPTS 'scripts of dmasim, and what they print'
+                put_page dma330 5 PROGRAMS 'channel programs: their texts, bytes and instructions'
                 ;;
             dma330) put_page dma330 1 DMA330 'a workbench for channel programs of the DMA-330' ;;
         esac

@@ -1,4 +1,4 @@
-# Prints a document of docs/ as a manual page:
+# Prints documents of docs/ as a manual page, with a section for each if there are several:
 #
 #     awk -v name=dma330 -v section=1 -v about=.. -v version=1.6.0 -f roff.awk -f document.awk DMA330.md
 #
@@ -77,11 +77,11 @@ function end_code() {
     in_code = 0
 }
 
-/^# / {next}
-/^##+ / {
+/^# / && ARGC == 2 {next}
+/^#+ / {
     end_paragraph()
     end_code()
-    put((/^## / ? ".SH " : ".SS ") inline(substr($0, index($0, " ") + 1)))
+    put((/^# / || /^## / && ARGC == 2 ? ".SH " : ".SS ") inline(substr($0, index($0, " ") + 1)))
     next
 }
 /^$/ {
@@ -115,7 +115,7 @@ END {
     if (synopsis != "")
         printf ".SH SYNOPSIS\n.nf\n%s.fi\n", synopsis
     printf ".SH DESCRIPTION\n.ad l\n%s", page
-    print ".SH SEE ALSO\n.BR dmasim (1),\n.BR dmasim (5),\n.BR dma330 (1),\n.BR dma330 (3),\n.BR dma330 (7)\n.PP"
+    print ".SH SEE ALSO\n.BR dmasim (1),\n.BR dmasim (5),\n.BR dma330 (1),\n.BR dma330 (3),\n.BR dma330 (5),\n.BR dma330 (7)\n.PP"
     print "The documents, and the examples that they name, are in"
     print ".IR share/dma330 ,\nbeside\n.IR share/man ,\nwhich has this page."
 }

@@ -2,7 +2,8 @@
 #
 #     awk -v version=1.6.0 -v folder=man3 -f roff.awk -f page.awk dma330.h
 #
-# It has the comment at the head, the codes, and from the first section on each declaration with the comment above it.
+# It has the comment at the head, the codes with the comment above them, and from the first section on each declaration
+# with the comment above it.
 
 # text_of COMMENT: its lines. An empty line and an item of a list begin a paragraph; a line that is indented by four
 # spaces, or more, is kept as it is
@@ -94,7 +95,7 @@ BEGIN {
     next
 }
 
-/^enum dma330_code / {in_codes = 1; print ".SH CODES"; next}
+/^enum dma330_code / {in_codes = 1; printf ".SH CODES\n%s", text_of(comment); next}
 in_codes && /^}/ {code(entry); in_codes = 0; next}
 in_codes && / = / {if (entry != "") code(entry); entry = ""}
 in_codes {sub(/^ *(\* )?/, ""); entry = entry " " $0; sub(/^ /, "", entry); next}
