@@ -22,6 +22,7 @@ mod desk;
 mod gate;
 mod job;
 pub mod laws;
+mod lock;
 mod publisher;
 mod reader;
 mod rota;

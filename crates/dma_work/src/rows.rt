@@ -10,7 +10,7 @@ ghost use Rattle.dma_work.specs.inner.Rows.{AreMore, CountsOne, HasPassed};
 use crate::desk::{Desk, DeskName};
 use crate::gate::Gate;
 use crate::job::Job;
-use crate::shared::locked;
+use crate::lock::locked;
 use crate::worker::Tally;
 use std::marker::Model;
 use std::sync::{Mutex, MutexGuard, Wait};

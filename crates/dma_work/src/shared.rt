@@ -16,17 +16,8 @@ use core::mem::replace;
 use dma_engine::{Engine, NoMemory};
 use std::alloc::Global;
 use std::marker::PhantomData;
-use std::sync::{Mutex, MutexGuard, Wait};
+use std::sync::{Mutex, Wait};
 use std::thread::{self, Promise, PromisedHandle, Scope, Threads};
-
-// Takes a lock. A free one is taken inline, without a call.
-#[inline(always)]
-pub(crate) fn locked<'a, D, R: Wait>(rt: &R, mutex: &'a Mutex<D>) -> MutexGuard<'a, D> {
-    match mutex.try_lock() {
-        Some(guard) => guard,
-        None => mutex.lock(rt),
-    }
-}
 
 /// A desk that threads share. A thread that has the lock uses the desk's methods; the desk's invariant holds each time.
 ///

@@ -11,7 +11,7 @@ ghost use Rattle.dma_work.specs.Tallies.{TookTurnsAt};
 use crate::desk::{Desk, DeskName};
 use crate::gate::Gate;
 use crate::job::Job;
-use crate::shared::locked;
+use crate::lock::locked;
 use dma_engine::{Advanced, EngineFault, Turn};
 use std::marker::{Model, PhantomData};
 use std::sync::{Mutex, MutexGuard, Wait};
